@@ -1,0 +1,24 @@
+-- Tokens, and the tokens of a packet.
+use Rattle.std.specs.Prelude.{ℕ, Bool, true, false}
+pub use Rattle.c104_token.specs.declared.tokens.Mark.{Mark}
+pub use Rattle.c104_token.specs.declared.tokens.Token.{Token}
+pub use Rattle.c104_token.specs.declared.tokens.Token.TheVariants.{Byte}
+use Rattle.c104_token.specs.declared.tokens.Token.TheVariants as token
+use Rattle.c104_token.specs.declared.tokens.Mark.TheVariants as mark
+
+-- the token that ends a packet with this mark
+abbrev pub end_token : Mark → Token
+end_token mark.Eop = token.Eop
+end_token mark.Eom = token.Eom
+
+-- whether a token ends a packet
+abbrev pub is_end : Token → Bool
+is_end (Byte b) = false
+is_end token.Eop = true
+is_end token.Eom = true
+
+-- the number that a byte stands for
+abbrev pub byte_of : Token → ℕ
+byte_of (Byte b) = b
+byte_of token.Eop = 0
+byte_of token.Eom = 0

@@ -1,0 +1,58 @@
+ghost use Rattle.std.specs.Prelude.{◌≡◌};
+ghost use Rattle.c104_token.specs.declared.faults.TokenFault.TheVariants as fault;
+
+use std::alloc::{AllocError, AllocFailed};
+use thiserror::Error;
+
+/// Memory was wanted and refused. What was lent is as it was.
+#[derive(Clone, Copy, Debug, PartialEq, Eq, Error)]
+#[error("no memory")]
+pub struct NoMemory;
+
+impl From<AllocError> for NoMemory {
+    fn from(_error: AllocError) -> NoMemory {
+        NoMemory
+    }
+}
+
+impl<T: Drop> From<AllocFailed<T>> for NoMemory {
+    fn from(_error: AllocFailed<T>) -> NoMemory {
+        NoMemory
+    }
+}
+
+/// Why a packet's text was refused: the first fault from the left.
+#[derive(Clone, Copy, Debug, PartialEq, Eq, Error)]
+pub enum TokenFault {
+    /// A word is neither two hexadecimal digits nor a terminator.
+    #[error("a word is neither two hexadecimal digits nor `eop` or `eom`")]
+    BadHex,
+    /// The text ends before a terminator.
+    #[error("the packet has no end: `eop` or `eom` is wanted")]
+    NoEnd,
+    /// A word follows the terminator.
+    #[error("a word follows the packet's end")]
+    AfterEnd,
+    /// There is a 4,097th byte.
+    #[error("the packet has more than 4096 bytes")]
+    TooLong,
+    /// Memory was wanted and refused.
+    #[error("no memory")]
+    NoMemory,
+}
+
+impl From<AllocError> for TokenFault {
+    ghost from_gives = { λ _ e. e ≡ fault.NoMemory };
+
+    fn from(_error: AllocError) -> TokenFault {
+        TokenFault::NoMemory
+    }
+}
+
+impl<T: Drop> From<AllocFailed<T>> for TokenFault {
+    ghost from_gives = { λ _ e. e ≡ fault.NoMemory };
+
+    fn from(_error: AllocFailed<T>) -> TokenFault {
+        TokenFault::NoMemory
+    }
+}
