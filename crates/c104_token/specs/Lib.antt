@@ -1,2 +1,5 @@
 pub mod Tokens
 pub mod Kinds
+pub mod Packets
+pub mod Cut
+pub mod Text

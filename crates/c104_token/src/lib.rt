@@ -3,8 +3,14 @@
 
 mod faults;
 mod kinds;
+mod list;
+mod packets;
+mod text;
 mod tokens;
 
 pub use faults::{NoMemory, TokenFault};
 pub use kinds::TokenKind;
+pub use list::{Bytes, Items};
+pub use packets::{Packet, cut_packets, packet_tokens};
+pub use text::{MAX_PACKET, parse_packet, parse_words, print_packet};
 pub use tokens::{Mark, Token};

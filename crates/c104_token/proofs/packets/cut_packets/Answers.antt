@@ -1,0 +1,22 @@
+use Rattle.std.proofs.Common.{◌≡◌, ◌++◌, [], List, map, length, drop, sym, ◌∙◌, ap, append-nil, arith, vec_len}
+use Rattle.std.proofs.lemmas.List.{length-map}
+use Rattle.std.proofs.lemmas.List.{drop_all}
+use Rattle.c104_token.specs.Tokens.{Token, Byte}
+use Rattle.c104_token.specs.Packets.{tokens}
+use Rattle.c104_token.specs.Cut.{whole_pieces, unfinished_piece}
+use Rattle.c104_token.proofs.Cutting.{packets_joined}
+use Rattle.c104_token.proofs.packets.cut_packets.Goals as goal
+
+-- after the loop no token is left to read
+pub returns : goal.returns
+returns c =
+    let at = c.loop-token.invariant in
+    let none : drop c.loop-token.token-index c.args.list.now ≡ [] = drop_all c.loop-token.token-index c.args.list.now (omega arith) in
+    let whole : map tokens c.loop-token.packets.items ≡ whole_pieces (λ x. x) [] c.args.list.now = sym (append-nil (map tokens c.loop-token.packets.items)) ∙ (rw none at at.whole) in
+    let unfinished : map Byte c.loop-token.bytes.items ≡ unfinished_piece (λ x. x) [] c.args.list.now = rw none at at.unfinished in
+    let left : c.len.result ≡ length (unfinished_piece (λ x. x) [] c.args.list.now) = omega (arith, c.len.ensures, length-map c.loop-token.bytes.items Byte, ap length unfinished) in
+    record {
+      whole = whole;
+      unfinished = left;
+      joined = packets_joined c.args.list.now c.loop-token.packets.items c.len.result whole left;
+    }

@@ -1,0 +1,24 @@
+-- The cut of a list of tokens into packets: each piece goes up to the next mark, and is one packet.
+use Rattle.std.specs.Prelude.{ℕ, ◌-◌, ◌≡◌, Bool, List, [], ◌∷◌, ◌++◌, length, drop, flat_map, map, if◌then◌else◌}
+use Rattle.c104_token.specs.Tokens.{Token, is_end}
+use Rattle.c104_token.specs.Packets.{Packet, tokens}
+
+-- the whole pieces of a list of any kind of tokens, each with its mark; front is what was read of the first
+abbrev pub whole_pieces : {A : Type 0} → (A → Token) → List A → List A → List (List A)
+whole_pieces plain front [] = []
+whole_pieces plain front (x ∷ xs) =
+    if is_end (plain x) then (front ++ x ∷ []) ∷ whole_pieces plain [] xs else whole_pieces plain (front ++ x ∷ []) xs
+
+-- what follows the last mark
+abbrev pub unfinished_piece : {A : Type 0} → (A → Token) → List A → List A → List A
+unfinished_piece plain front [] = front
+unfinished_piece plain front (x ∷ xs) =
+    if is_end (plain x) then unfinished_piece plain [] xs else unfinished_piece plain (front ++ x ∷ []) xs
+
+-- the tokens of a list are cut into these packets, and so many at its end are left
+pub record IsCut (list : List Token) (packets : List Packet) (left : ℕ) : Type 0 where
+  -- the packets are the whole pieces, in order
+  pub whole : map tokens packets ≡ whole_pieces (λ x. x) [] list
+  pub unfinished : left ≡ length (unfinished_piece (λ x. x) [] list)
+  -- nothing is lost: the packets' tokens, and then the tokens that are left, are the list
+  pub joined : flat_map tokens packets ++ drop (length list - left) list ≡ list

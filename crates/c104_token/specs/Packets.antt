@@ -1,0 +1,8 @@
+-- Packets, and the tokens of a packet.
+use Rattle.std.specs.Prelude.{List, [], ◌∷◌, ◌++◌, map}
+pub use Rattle.c104_token.specs.declared.packets.Packet.{Packet}
+use Rattle.c104_token.specs.Tokens.{Token, Byte, end_token}
+
+-- one token for each byte, and then the mark
+abbrev pub tokens : Packet → List Token
+tokens packet = map Byte packet.bytes ++ end_token packet.mark ∷ []

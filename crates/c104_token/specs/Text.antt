@@ -1,0 +1,99 @@
+-- The text of a packet: how its words are cut and read, and how it is printed.
+use Rattle.std.specs.Prelude.{ℕ, ◌+◌, ◌-◌, ◌*◌, ◌/◌, ◌%◌, ◌≡◌, ◌<◌, ◌≤◌, ◌⊎◌, ◌==◌, ◌&&◌, not, List, [], ◌∷◌, ◌++◌, length, map, filter, flat_map, nat_lt, nat_le, if◌then◌else◌, Option, Some, None, Result, Ok, Err}
+use Rattle.std.specs.List.{slice_split}
+pub use Rattle.c104_token.specs.declared.faults.TokenFault.{TokenFault}
+use Rattle.c104_token.specs.declared.faults.TokenFault.TheVariants as fault
+use Rattle.c104_token.specs.declared.text.Word.{Word}
+use Rattle.c104_token.specs.declared.text.Word.TheVariants as word
+use Rattle.c104_token.specs.declared.tokens.Mark.TheVariants as mark
+use Rattle.c104_token.specs.Tokens.{Mark}
+use Rattle.c104_token.specs.Packets.{Packet}
+
+-- the words of a text: the pieces between spaces that aren't empty
+abbrev pub words : List ℕ → List (List ℕ)
+words text = filter (λ piece. not (length piece == 0)) (slice_split (λ byte. byte == 32) text)
+
+-- the value of a hexadecimal digit, of either case
+abbrev pub hex_value : ℕ → Option ℕ
+hex_value c =
+    if nat_le 48 c && nat_le c 57 then Some (c - 48)
+    else (if nat_le 65 c && nat_le c 70 then Some (c - 55)
+    else (if nat_le 97 c && nat_le c 102 then Some (c - 87)
+    else None))
+
+-- the byte of two digits
+abbrev pub byte_word : Option ℕ → Option ℕ → Word
+byte_word None low = word.Other
+byte_word (Some x) None = word.Other
+byte_word (Some x) (Some y) = word.Byte (16 * x + y)
+
+-- what a word says: `eop`, `eom`, a byte, or nothing that a packet has
+abbrev pub word_of : List ℕ → Word
+word_of [] = word.Other
+word_of (a ∷ []) = word.Other
+word_of (a ∷ b ∷ []) = byte_word (hex_value a) (hex_value b)
+word_of (a ∷ b ∷ c ∷ []) =
+    if a == 101 && (b == 111 && c == 112) then word.End mark.Eop
+    else (if a == 101 && (b == 111 && c == 109) then word.End mark.Eom
+    else word.Other)
+word_of (a ∷ b ∷ c ∷ d ∷ more) = word.Other
+
+-- the packet that words say after these bytes, or the first fault from the left
+abbrev pub read : List Word → List ℕ → Result Packet TokenFault
+read [] bytes = Err fault.NoEnd
+read (word.Byte b ∷ more) bytes = if nat_lt (length bytes) 4096 then read more (bytes ++ b ∷ []) else Err fault.TooLong
+read (word.End m ∷ []) bytes = Ok (record { bytes = bytes; mark = m })
+read (word.End m ∷ next ∷ more) bytes = Err fault.AfterEnd
+read (word.Other ∷ more) bytes = Err fault.BadHex
+
+abbrev pub parsed_words : List (List ℕ) → Result Packet TokenFault
+parsed_words list = read (map word_of list) []
+
+abbrev pub parsed : List ℕ → Result Packet TokenFault
+parsed text = parsed_words (words text)
+
+-- what is due, or that memory was wanted and refused
+abbrev pub GivesOrNoMemory : Result Packet TokenFault → Result Packet TokenFault → Type 0
+GivesOrNoMemory result due = (result ≡ due) ⊎ (result ≡ Err fault.NoMemory)
+
+-- c is a digit, of either case, and v is its value
+abbrev pub IsHexDigit : ℕ → ℕ → Type 0
+IsHexDigit c v = ((c ≡ 48 + v) × (v < 10)) ⊎ (((c ≡ 55 + v) ⊎ (c ≡ 87 + v)) × (10 ≤ v) × (v < 16))
+
+-- a word of two digits, the high one first
+pub record SpellsByte (spelling : List ℕ) (byte : ℕ) : Type 0 where
+  pub high : ℕ
+  pub low : ℕ
+  pub high_value : ℕ
+  pub low_value : ℕ
+  pub is_high : IsHexDigit high high_value
+  pub is_low : IsHexDigit low low_value
+  pub spelled : spelling ≡ high ∷ low ∷ []
+  pub valued : byte ≡ 16 * high_value + low_value
+
+-- each word spells the byte at its place
+abbrev pub SpellBytes : List (List ℕ) → List ℕ → Type 0
+SpellBytes [] [] = Unit {0}
+SpellBytes [] (b ∷ bytes) = ⊥
+SpellBytes (w ∷ list) [] = ⊥
+SpellBytes (w ∷ list) (b ∷ bytes) = SpellsByte w b × SpellBytes list bytes
+
+-- the word of a terminator: `eop`, `eom`
+abbrev pub mark_word : Mark → List ℕ
+mark_word mark.Eop = 101 ∷ 111 ∷ 112 ∷ []
+mark_word mark.Eom = 101 ∷ 111 ∷ 109 ∷ []
+
+-- a text that spells a packet: a word for each byte, of which there are at most 4,096, and then its mark
+pub record IsPacketText (text : List ℕ) (packet : Packet) : Type 0 where
+  pub spelling : List (List ℕ)
+  pub cut : words text ≡ spelling ++ mark_word packet.mark ∷ []
+  pub bytes : SpellBytes spelling packet.bytes
+  pub short : length packet.bytes ≤ 4096
+
+-- the digit of a value below 16, in lower case
+abbrev pub hex_digit : ℕ → ℕ
+hex_digit v = if nat_lt v 10 then 48 + v else 97 + (v - 10)
+
+-- the text of a packet in lower case, one space between words
+abbrev pub printed : Packet → List ℕ
+printed packet = flat_map (λ b. hex_digit (b / 16) ∷ hex_digit (b % 16) ∷ 32 ∷ []) packet.bytes ++ mark_word packet.mark

@@ -1,0 +1,128 @@
+ghost use Rattle.std.specs.Prelude.{◌≡◌, ◌≤◌, ◌<◌, ◌+◌, ◌*◌, ◌∷◌, ℕ, [], length, map, IfOk, IfSome};
+ghost use Rattle.std.specs.String.{string_bytes};
+ghost use Rattle.c104_token.specs.Packets.{Packet as ThePacket};
+ghost use Rattle.c104_token.specs.Text.{words, word_of, hex_value, parsed, parsed_words, printed, hex_digit, IsPacketText, GivesOrNoMemory};
+
+use crate::faults::{NoMemory, TokenFault};
+use crate::list::Items;
+use crate::packets::Packet;
+use crate::tokens::Mark;
+use std::alloc::{AllocError, Global};
+
+/// The most bytes of a packet, header included.
+pub const MAX_PACKET: usize = 4096;
+
+/// What a word of a packet's text says.
+#[derive(Clone, Copy)]
+enum Word {
+    Byte(u8),
+    End(Mark),
+    Other,
+}
+
+/// Reads a packet: words parted by spaces, two hexadecimal digits of either case for each byte,
+/// and then `eop` or `eom`. A refusal is the first fault from the left.
+pub fn parse_packet(alloc: Global, text: &str) -> Result<Packet, TokenFault>
+    ensures value { GivesOrNoMemory result (parsed text.now) }
+    ensures accepted { IfOk result (λ packet. IsPacketText text.now packet) }
+    ensures complete { (packet : ThePacket) → IsPacketText text.now packet → GivesOrNoMemory result (Ok packet) }
+{
+    let words = cut_words(alloc, text.as_bytes())?;
+    parse_words(alloc, words.as_slice())
+}
+
+/// Reads a packet whose words are cut already, as `parse_packet` does.
+pub fn parse_words(alloc: Global, words: &[&[u8]]) -> Result<Packet, TokenFault>
+    ensures { GivesOrNoMemory result (parsed_words (map (λ word. word.now) words.now)) }
+{
+    let mut bytes = Vec::new(alloc);
+    for (place, word) in words.iter().enumerate() {
+        match read_word(word) {
+            Word::Byte(byte) => {
+                if bytes.len() >= MAX_PACKET {
+                    return Err(TokenFault::TooLong);
+                }
+                bytes.push(byte)?;
+            }
+            Word::End(mark) => {
+                if place + 1 < words.len() {
+                    return Err(TokenFault::AfterEnd);
+                }
+                return Ok(Packet {
+                    bytes: Items::new(bytes),
+                    mark,
+                });
+            }
+            Word::Other => return Err(TokenFault::BadHex),
+        }
+    }
+    Err(TokenFault::NoEnd)
+}
+
+/// The words of a text that spaces part.
+fn cut_words<'a>(alloc: Global, text: &'a [u8]) -> Result<Vec<&'a [u8]>, AllocError>
+    ensures { IfOk result (λ list. map (λ word. word.now) list.items ≡ words text.now) }
+{
+    text.split(|byte| *byte == b' ')
+        .filter(|word| !word.is_empty())
+        .collect(alloc)
+}
+
+fn read_word(word: &[u8]) -> Word
+    ensures { result ≡ word_of word.now }
+{
+    match word {
+        [b'e', b'o', b'p'] => Word::End(Mark::Eop),
+        [b'e', b'o', b'm'] => Word::End(Mark::Eom),
+        [high, low] => match (read_digit(*high), read_digit(*low)) {
+            (Some(high), Some(low)) => Word::Byte(16 * high + low),
+            _ => Word::Other,
+        },
+        _ => Word::Other,
+    }
+}
+
+/// The value of a hexadecimal digit.
+fn read_digit(digit: u8) -> Option<u8>
+    ensures value { result ≡ hex_value digit }
+    ensures range { IfSome result (λ value. value < 16) }
+{
+    match digit {
+        b'0'..=b'9' => Some(digit - b'0'),
+        b'A'..=b'F' => Some(digit - b'A' + 10),
+        b'a'..=b'f' => Some(digit - b'a' + 10),
+        _ => None,
+    }
+}
+
+/// Writes a packet in lower case, one space between words. `parse_packet` reads it back where it
+/// has at most 4,096 bytes.
+pub fn print_packet(alloc: Global, packet: &Packet) -> Result<String, NoMemory>
+    ensures text { IfOk result (λ text. string_bytes text ≡ printed packet.now) }
+    ensures reads_back { IfOk result (λ text. length packet.now.bytes ≤ 4096 → parsed (string_bytes text) ≡ Ok packet.now) }
+{
+    let mut text = String::new(alloc);
+    for byte in packet.bytes.as_bytes() {
+        text.push(digit_of(byte / 16))?;
+        text.push(digit_of(byte % 16))?;
+        text.push(' ')?;
+    }
+    text.push_str(match packet.mark {
+        Mark::Eop => "eop",
+        Mark::Eom => "eom",
+    })?;
+    Ok(text)
+}
+
+/// The hexadecimal digit of a value, in lower case.
+fn digit_of(value: u8) -> char
+    requires { value < 16 }
+    ensures digit { result ≡ hex_digit value }
+    ensures ascii { result < 128 }
+{
+    if value < 10 {
+        char::from(b'0' + value)
+    } else {
+        char::from(b'a' + (value - 10))
+    }
+}
