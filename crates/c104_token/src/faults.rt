@@ -26,19 +26,19 @@ impl<T: Drop> From<AllocFailed<T>> for NoMemory {
 pub enum TokenFault {
     /// A word is neither two hexadecimal digits nor a terminator.
     #[error("a word is neither two hexadecimal digits nor `eop` or `eom`")]
-    BadHex,
+    BadHex = 1,
     /// The text ends before a terminator.
     #[error("the packet has no end: `eop` or `eom` is wanted")]
-    NoEnd,
+    NoEnd = 2,
     /// A word follows the terminator.
     #[error("a word follows the packet's end")]
-    AfterEnd,
+    AfterEnd = 3,
     /// There is a 4,097th byte.
     #[error("the packet has more than 4096 bytes")]
-    TooLong,
+    TooLong = 4,
     /// Memory was wanted and refused.
     #[error("no memory")]
-    NoMemory,
+    NoMemory = 5,
 }
 
 impl From<AllocError> for TokenFault {

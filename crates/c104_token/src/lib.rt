@@ -14,3 +14,6 @@ pub use list::{Bytes, Items};
 pub use packets::{Packet, cut_packets, packet_tokens};
 pub use text::{MAX_PACKET, parse_packet, parse_words, print_packet};
 pub use tokens::{Mark, Token};
+
+#[cfg(test)]
+mod tests;
