@@ -1,11 +1,7 @@
 -- What a digit and a word say, both ways.
-use Rattle.std.proofs.Common.{◌≡◌, ◌<◌, ◌≤◌, ◌⊎◌, inl, inr, ℕ, ◌+◌, ◌-◌, ◌*◌, ◌/◌, ◌%◌, ◌&&◌, ◌==◌, Bool, true, false, nat_le, nat_lt, List, [], ◌∷◌, Option, Some, None, if◌then◌else◌, sym, ◌∙◌, ap, arith, refl}
-use Rattle.std.specs.Option.{IfSome}
+use Rattle.std.proofs.Common.{◌≡◌, ◌<◌, ℕ, ◌==◌, false, Some, arith}
 use Rattle.std.proofs.lemmas.Bool.Decides.{nat_tests}
-use Rattle.c104_token.specs.Text.{word_of, byte_word, hex_value, hex_digit, IsHexDigit, SpellsByte, mark_word}
-use Rattle.c104_token.specs.declared.text.Word.{Word}
-use Rattle.c104_token.specs.declared.text.Word.TheVariants as word
-use Rattle.c104_token.specs.declared.tokens.Mark.TheVariants as mark
+use Rattle.c104_token.specs.Text.{hex_value, hex_digit, IsHexDigit}
 
 -- the value that is read is that of the digit
 pub digit_read : (c v : ℕ) → hex_value c ≡ Some v → IsHexDigit c v

@@ -1,11 +1,8 @@
 -- What is printed spells the packet.
-use Rattle.std.proofs.Common.{◌≡◌, ◌<◌, ◌≤◌, ℕ, ◌+◌, ◌*◌, ◌/◌, ◌%◌, ◌==◌, Bool, true, false, not, List, [], ◌∷◌, ◌++◌, length, map, filter, flat_map, All, Ok, Result, sym, ◌∙◌, ap, arith, refl, suc}
-use Rattle.std.specs.List.{slice_split, onto_first}
-use Rattle.std.proofs.lemmas.List.Splits.{slice_split-cons_no}
-use Rattle.std.proofs.lemmas.Bool.Decides.{nat_tests}
+use Rattle.std.proofs.Common.{◌≡◌, ◌<◌, ◌≤◌, ℕ, ◌/◌, ◌%◌, ◌==◌, false, List, [], ◌∷◌, ◌++◌, length, map, flat_map, All, Ok, ◌∙◌, ap, arith, refl, suc}
 use Rattle.c104_token.specs.Packets.{Packet}
 use Rattle.c104_token.specs.Tokens.{Mark}
-use Rattle.c104_token.specs.Text.{TokenFault, words, hex_digit, printed, parsed, SpellsByte, SpellBytes, IsPacketText, mark_word}
+use Rattle.c104_token.specs.Text.{words, hex_digit, printed, parsed, SpellsByte, SpellBytes, mark_word}
 use Rattle.c104_token.specs.declared.tokens.Mark.TheVariants as mark
 use Rattle.c104_token.proofs.Digits.{digit_written, digit_no_space}
 use Rattle.c104_token.proofs.Spelling.{text_complete}

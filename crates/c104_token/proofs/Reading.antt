@@ -1,10 +1,9 @@
 -- One word read: what the rest says after it is what was due before it.
-use Rattle.std.proofs.Common.{◌≡◌, ◌<◌, ◌≤◌, ℕ, ◌+◌, List, [], ◌∷◌, ◌++◌, length, map, drop, get_or, Bor, Err, Ok, Result, sym, ◌∙◌, ap, add-one, arith, refl}
+use Rattle.std.proofs.Common.{◌≡◌, ◌<◌, ◌≤◌, ℕ, ◌+◌, List, [], ◌∷◌, ◌++◌, length, map, drop, get_or, Bor, Err, sym, ◌∙◌, ap, add-one, arith}
 use Rattle.std.proofs.Math.Seq.{drop-cons}
 use Rattle.std.proofs.lemmas.List.{get_or-map, length-map}
 use Rattle.std.proofs.lemmas.Bool.Decides.{nat_tests}
-use Rattle.c104_token.specs.Packets.{Packet}
-use Rattle.c104_token.specs.Text.{TokenFault, read, word_of, parsed_words}
+use Rattle.c104_token.specs.Text.{read, word_of, parsed_words}
 use Rattle.c104_token.specs.declared.faults.TokenFault.TheVariants as fault
 use Rattle.c104_token.specs.declared.text.Word.{Word}
 use Rattle.c104_token.specs.declared.text.Word.TheVariants as word

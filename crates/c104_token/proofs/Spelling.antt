@@ -1,10 +1,10 @@
 -- A packet is accepted exactly where the words spell it.
-use Rattle.std.proofs.Common.{◌≡◌, ◌<◌, ◌≤◌, ◌⊎◌, inl, inr, ℕ, ◌+◌, ◌*◌, ◌&&◌, ◌==◌, Bool, true, false, nat_lt, List, [], ◌∷◌, ◌++◌, length, map, Option, Some, None, Result, Ok, Err, if◌then◌else◌, sym, ◌∙◌, ap, subst, arith, refl, append-nil, append_assoc, length-append, lit≤}
+use Rattle.std.proofs.Common.{◌≡◌, ◌≤◌, inl, inr, ℕ, ◌&&◌, ◌==◌, Bool, true, false, nat_lt, List, [], ◌∷◌, ◌++◌, length, map, Option, Some, None, Result, Ok, Err, if◌then◌else◌, sym, ◌∙◌, ap, subst, arith, refl, append-nil, append_assoc, length-append, lit≤}
 use Rattle.std.specs.Result.{IfOk}
 use Rattle.std.proofs.lemmas.Bool.Decides.{nat_tests}
 use Rattle.c104_token.specs.Packets.{Packet}
 use Rattle.c104_token.specs.Tokens.{Mark}
-use Rattle.c104_token.specs.Text.{TokenFault, read, word_of, byte_word, hex_value, IsHexDigit, SpellsByte, SpellBytes, mark_word, words, parsed, IsPacketText, GivesOrNoMemory}
+use Rattle.c104_token.specs.Text.{TokenFault, read, word_of, byte_word, hex_value, SpellsByte, SpellBytes, mark_word, words, parsed, IsPacketText, GivesOrNoMemory}
 use Rattle.c104_token.specs.declared.faults.TokenFault.TheVariants as fault
 use Rattle.c104_token.specs.declared.text.Word.{Word}
 use Rattle.c104_token.specs.declared.text.Word.TheVariants as word

@@ -1,5 +1,5 @@
 -- The cut of a list of tokens into packets: each piece goes up to the next mark, and is one packet.
-use Rattle.std.specs.Prelude.{ℕ, ◌-◌, ◌≡◌, Bool, List, [], ◌∷◌, ◌++◌, length, drop, flat_map, map, if◌then◌else◌}
+use Rattle.std.specs.Prelude.{ℕ, ◌-◌, ◌≡◌, List, [], ◌∷◌, ◌++◌, length, drop, flat_map, map, if◌then◌else◌}
 use Rattle.c104_token.specs.Tokens.{Token, is_end}
 use Rattle.c104_token.specs.Packets.{Packet, tokens}
 

@@ -1,7 +1,7 @@
-use Rattle.std.proofs.Common.{◌≡◌, ◌++◌, [], List, map, length, drop, sym, ◌∙◌, ap, append-nil, arith, vec_len}
+use Rattle.std.proofs.Common.{◌≡◌, [], map, length, drop, sym, ◌∙◌, ap, append-nil, arith}
 use Rattle.std.proofs.lemmas.List.{length-map}
 use Rattle.std.proofs.lemmas.List.{drop_all}
-use Rattle.c104_token.specs.Tokens.{Token, Byte}
+use Rattle.c104_token.specs.Tokens.{Byte}
 use Rattle.c104_token.specs.Packets.{tokens}
 use Rattle.c104_token.specs.Cut.{whole_pieces, unfinished_piece}
 use Rattle.c104_token.proofs.Cutting.{packets_joined}

@@ -1,4 +1,4 @@
-use Rattle.std.proofs.Common.{inl, sym, ap, ◌∙◌, List, ℕ, map, drop, ◌+◌, arith, Bor, []}
+use Rattle.std.proofs.Common.{inl, ap, ◌∙◌, List, ℕ, map, drop, ◌+◌, arith, Bor}
 use Rattle.c104_token.specs.Text.{read, word_of}
 use Rattle.c104_token.proofs.Reading.{after_byte, at_full, at_other, at_early_end}
 use Rattle.c104_token.proofs.text.parse_words.Goals as goal

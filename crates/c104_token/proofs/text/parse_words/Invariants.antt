@@ -1,4 +1,4 @@
-use Rattle.std.proofs.Common.{◌≡◌, [], map, drop}
+use Rattle.std.proofs.Common.{◌≡◌, map, drop}
 use Rattle.c104_token.specs.Text.{read, word_of, parsed_words}
 use Rattle.c104_token.proofs.text.parse_words.Given as goal
 

@@ -1,4 +1,4 @@
-use Rattle.std.proofs.Common.{ℕ, ◌<◌, ◌∙◌, length, slice_index_or, List, subst, sym, rules, arith}
+use Rattle.std.proofs.Common.{ℕ, ◌<◌, ◌∙◌, length, slice_index_or, List, subst, arith}
 use Rattle.std.proofs.lemmas.Grind.{get_or_default_zero}
 use Rattle.c104_token.proofs.list.Items+u8.as_bytes.Goals as goal
 

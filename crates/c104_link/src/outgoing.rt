@@ -1,0 +1,128 @@
+//! The output buffer of a link.
+ghost use Rattle.std.specs.Prelude.{◌≡◌, ◌↔◌, [], length, IsTrue, IfOk};
+ghost use Rattle.c104_link.specs.Steps.{tried, taken, offered};
+ghost use Rattle.c104_link.specs.Buffers.{IsWithinLimits, empty_out, put, put_all, leave, credited, cleared_out};
+
+use crate::TOKENS_OF_A_GRANT;
+use c104_token::{NoMemory, Token, TokenKind};
+use circular_buffer::HeapCircularBuffer;
+use std::alloc::Global;
+use std::marker::Model;
+
+/// The tokens that an output buffer has room for in this profile.
+const OUTPUT_CAP: usize = 8;
+
+/// The most tokens that the other end of a wire can have granted in this profile, where no input
+/// buffer has room for more.
+const CREDIT_LIMIT: usize = 64;
+
+/// The output buffer of a link, which holds tokens in the order in which they joined.
+///
+/// It sends a token over its wire only against a credit that the other end has granted, so the
+/// other end has room for it.
+#[derive(Drop)]
+pub struct OutBufferOf<T: TokenKind> {
+    ring: HeapCircularBuffer<T>,
+    credit: usize,
+}
+
+/// An output buffer of plain tokens.
+pub type OutBuffer = OutBufferOf<Token>;
+
+impl<T: TokenKind> Model for OutBufferOf<T> {
+    ghost use Rattle.std.specs.Prelude.{◌≡◌};
+    ghost use Rattle.c104_link.specs.Buffers.{Outgoing, IsWithinLimits};
+
+    ghost Value = { Outgoing T };
+
+    ghost view = { λ q. record { items = q.ring.items; credit = q.credit } };
+
+    ghost invariant = { λ q. (q.ring.capacity ≡ 8)
+        × IsWithinLimits (record { items = q.ring.items; credit = q.credit }) };
+}
+
+impl<T: TokenKind> OutBufferOf<T> {
+    /// An empty buffer, with no credit. Only want of memory is refused.
+    pub fn new(alloc: Global) -> Result<Self, NoMemory>
+        ensures { IfOk result (λ q. q ≡ empty_out) }
+    {
+        let ring = HeapCircularBuffer::with_capacity(alloc, OUTPUT_CAP)?;
+        Ok(OutBufferOf { ring, credit: 0 })
+    }
+
+    /// How many tokens the buffer holds: at most 8.
+    pub fn len(&self) -> usize
+        ensures len { result ≡ length self.now.items }
+        ensures within { IsWithinLimits self.now }
+    {
+        self.ring.len()
+    }
+
+    /// Whether the buffer holds no token.
+    pub fn is_empty(&self) -> bool
+        ensures { IsTrue result ↔ (self.now.items ≡ []) }
+    {
+        self.ring.is_empty()
+    }
+
+    /// How many tokens the buffer may send, which the other end of the wire has granted: at most
+    /// 64.
+    pub fn credit(&self) -> usize
+        ensures credit { result ≡ self.now.credit }
+        ensures within { IsWithinLimits self.now }
+    {
+        self.credit
+    }
+
+    /// Appends a token. Where the buffer holds eight, hands the token back and changes nothing.
+    pub fn put(&mut self, token: T) -> Result<(), T>
+        ensures { (result, self.new) ≡ offered token (put token self.old) self.old }
+    {
+        self.ring.try_push_back(token)
+    }
+
+    /// Appends several tokens as a whole. False, and nothing changes, where the buffer would then
+    /// hold more than eight.
+    pub fn put_all(&mut self, tokens: &[T]) -> bool
+        ensures { (result, self.new) ≡ tried (put_all tokens.now self.old) self.old }
+    {
+        if tokens.len() > OUTPUT_CAP - self.ring.len() {
+            return false;
+        }
+        self.ring.fill_from_slice(tokens);
+        true
+    }
+
+    /// Takes out the first token to send it, which spends one credit. None, and nothing changes,
+    /// where the buffer is empty or has no credit.
+    pub fn emit(&mut self) -> Option<T>
+        ensures { (result, self.new) ≡ taken (leave self.old) self.old }
+    {
+        if self.credit == 0 {
+            return None;
+        }
+        let token = self.ring.pop_front()?;
+        self.credit -= 1;
+        Some(token)
+    }
+
+    /// Adds the eight credits of a flow-control token that came over the wire. False, and nothing
+    /// changes, where the credit would then pass 64.
+    pub fn credited(&mut self) -> bool
+        ensures { (result, self.new) ≡ tried (credited self.old) self.old }
+    {
+        if self.credit + TOKENS_OF_A_GRANT > CREDIT_LIMIT {
+            return false;
+        }
+        self.credit += TOKENS_OF_A_GRANT;
+        true
+    }
+
+    /// Throws the tokens away. The credit stays, since the other end of the wire keeps room for
+    /// it.
+    pub fn clear(&mut self)
+        ensures { self.new ≡ cleared_out self.old }
+    {
+        self.ring.clear();
+    }
+}
