@@ -1,0 +1,34 @@
+-- A claim: an input that wants a group gets one output of it, until its packet's terminator has passed.
+use Rattle.std.specs.Prelude.{ℕ, ◌&&◌, not, Bool, true, false, List, Option, Some, None, if◌then◌else◌, slice_get}
+use Rattle.c104_link.specs.Steps.{◌>>=◌, ◌>>◌, require, at_place, with_place}
+use Rattle.c104_link.specs.Buffers as buffer
+use Rattle.c104_link.specs.Buffers.{Outgoing}
+use Rattle.c104_switch.specs.Settings.{Settings}
+use Rattle.c104_switch.specs.Group.{in_group}
+use Rattle.c104_switch.specs.Switch.{Phase, Fresh, Head, Want, Stream, Sinking, Input, Switch, is_owned, with_sides}
+
+abbrev pub streaming : {A : Type 0} → Input A → ℕ → Input A
+streaming p o = record p { phase = Stream o }
+
+-- the header joins the output as a whole, or the output's link deletes it
+abbrev pub put_header : {A : Type 0} → Settings → List A → Outgoing A → Option (Outgoing A)
+put_header s b q = if s.delete_header then Some q else buffer.put_all b q
+
+-- the header goes to output o of the group that is wanted, and the rest will follow
+abbrev pub claimed : {A : Type 0} → List Settings → Input A → List (Outgoing A) → ℕ → Phase A → Option (Input A × List (Outgoing A))
+claimed settings p qs o (Want b g) = do
+  require (in_group settings g o)
+  t ← slice_get settings o
+  rs ← at_place qs o (put_header t b)
+  Some (streaming p o, rs)
+claimed settings p qs o Fresh = None
+claimed settings p qs o (Head b) = None
+claimed settings p qs o (Stream q) = None
+claimed settings p qs o Sinking = None
+
+-- input i of a switch that is started claims output o, which no input owns
+abbrev pub claim : {A : Type 0} → Switch A → ℕ → ℕ → Option (Switch A)
+claim s i o = do
+  require (s.started && not (is_owned s.inputs o))
+  r ← with_place s.inputs i (λ p. claimed s.settings p s.outputs o p.phase)
+  Some (with_sides s r)

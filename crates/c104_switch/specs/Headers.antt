@@ -1,0 +1,57 @@
+-- Headers: their number, what follows one that is complete, and random ones.
+use Rattle.std.specs.Prelude.{ℕ, suc, ◌+◌, ◌*◌, ◌/◌, ◌%◌, ◌==◌, Bool, true, false, List, [], ◌∷◌, length, map, nat_le, if◌then◌else◌}
+use Rattle.c104_token.specs.Tokens.{byte_of}
+use Rattle.c104_token.specs.declared.tokens.Token.TheVariants.{Byte}
+use Rattle.c104_token.specs.Kinds.{Kind}
+use Rattle.c104_interval.specs.Selection.{select}
+use Rattle.c104_interval.specs.declared.intervals.Select.{Select}
+use Rattle.c104_interval.specs.declared.intervals.Select.TheVariants.{Link, Discard, Sink}
+use Rattle.c104_switch.specs.Settings.{Settings, header_length}
+use Rattle.c104_switch.specs.Switch.{Phase, Head, Want, Sinking}
+
+-- the number of a header, low byte first
+abbrev pub value : List ℕ → ℕ
+value [] = 0
+value (b ∷ bytes) = b + 256 * value bytes
+
+-- what follows a header that is complete: it wants the selected link's group, it is thrown away and
+-- the next bytes are the header, or the packet is dropped
+abbrev pub decided : {A : Type 0} → List A → Select → Phase A
+decided b (Link g) = Want b g
+decided b Discard = Head []
+decided b Sink = Sinking
+
+abbrev pub is_sink : Select → Bool
+is_sink (Link g) = false
+is_sink Discard = false
+is_sink Sink = true
+
+-- the number of the random header that a word gives: within the range from the base on
+abbrev pub random_number : Settings → ℕ → ℕ
+random_number s word = s.random_base + (if s.random_range == 0 then 0 else word % s.random_range)
+
+-- its bytes, as many as the headers of the link have, low byte first
+abbrev pub random_bytes : Settings → ℕ → List ℕ
+random_bytes s word =
+    if s.two_byte then random_number s word % 256 ∷ (random_number s word / 256) % 256 ∷ []
+    else random_number s word % 256 ∷ []
+
+module _ {A : Type 0} (kind : Kind A) where
+  -- the number that the tokens of a header say
+  abbrev pub header_value : List A → ℕ
+  header_value b = value (map (λ x. byte_of (kind.plain x)) b)
+
+  -- the phase after these tokens of a header, and whether the packet is dropped
+  abbrev pub read : Settings → List A → Phase A × Bool
+  read s b =
+      if nat_le (header_length s) (length b)
+      then (let selected = select s.table (header_value b) in (decided b selected, is_sink selected))
+      else (Head b, false)
+
+  abbrev pub random_from : ℕ → List ℕ → List A
+  random_from place [] = []
+  random_from place (b ∷ bytes) = kind.random place (Byte b) ∷ random_from (suc place) bytes
+
+  -- the tokens of the random header that a word gives
+  abbrev pub random_header : Settings → ℕ → List A
+  random_header s word = random_from 0 (random_bytes s word)

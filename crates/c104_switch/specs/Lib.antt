@@ -1,0 +1,10 @@
+pub mod Settings
+pub mod Group
+pub mod Switch
+pub mod Headers
+pub mod Turns
+pub mod Claims
+pub mod Stages
+pub mod Actions
+pub mod Views
+pub mod Soundness

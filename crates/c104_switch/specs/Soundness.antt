@@ -1,0 +1,18 @@
+-- What every switch keeps: 32 links, buffers within their bounds, and no output with two owners.
+use Rattle.std.specs.Prelude.{ℕ, ◌≡◌, List, Some, All, length, slice_get}
+use Rattle.c104_link.specs.Buffers.{IsWithinCap, IsWithinLimits}
+use Rattle.c104_switch.specs.Switch.{Input, Stream, Switch}
+
+-- no two inputs stream to one output
+abbrev pub IsExclusive : {A : Type 0} → List (Input A) → Type 0
+IsExclusive {A} inputs = (i j o : ℕ) (p q : Input A) → slice_get inputs i ≡ Some p → slice_get inputs j ≡ Some q → p.phase ≡ Stream o → q.phase ≡ Stream o → i ≡ j
+
+pub record IsSound {A : Type 0} (s : Switch A) : Type 0 where
+  pub settings : length s.settings ≡ 32
+  pub inputs : length s.inputs ≡ 32
+  pub outputs : length s.outputs ≡ 32
+  -- tokens and granted are at most the buffer's capacity
+  pub within_cap : All (λ (p : Input A). IsWithinCap p.buffer) s.inputs
+  -- at most eight tokens, and at most 64 credits
+  pub within_limits : All IsWithinLimits s.outputs
+  pub exclusive : IsExclusive s.inputs

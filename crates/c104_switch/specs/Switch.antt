@@ -1,0 +1,107 @@
+-- The state of one switch, over any kind of token, and the actions on one side of one link.
+-- A step answers None where it is not ready.
+use Rattle.std.specs.Prelude.{ℕ, ◌+◌, ◌==◌, ◌||◌, Bool, true, false, List, [], ◌∷◌, Option, Some, None, min, replicate, slice_get}
+use Rattle.c104_link.specs.Steps.{◌>>=◌, ◌>>◌, require, at_place, from_place}
+use Rattle.c104_link.specs.Buffers as buffer
+use Rattle.c104_link.specs.Buffers.{Incoming, Outgoing, empty_in, empty_out}
+use Rattle.c104_switch.specs.Settings.{Settings, reset_settings}
+
+-- what an input does with its next token: it waits for a packet, reads a header of which it has these
+-- tokens, wants an output of a link's group for this header, streams to an output, or drops the packet
+pub data Phase (A : Type 0) : Type 0 where
+  Fresh : Phase A
+  Head : List A → Phase A
+  Want : List A → ℕ → Phase A
+  Stream : ℕ → Phase A
+  Sinking : Phase A
+
+-- the input side of a link: its buffer, its phase, and how many packets it dropped and found too short
+pub record Input (A : Type 0) : Type 0 where
+  pub buffer : Incoming A
+  pub phase : Phase A
+  pub sunk : ℕ
+  pub short : ℕ
+
+-- a switch: what is set at each link, and the two sides of each link
+pub record Switch (A : Type 0) : Type 0 where
+  pub started : Bool
+  pub settings : List Settings
+  pub inputs : List (Input A)
+  pub outputs : List (Outgoing A)
+
+-- a count that stays at its largest value
+abbrev pub counted : ℕ → Bool → ℕ
+counted n false = n
+counted n true = min (n + 1) 4294967295
+
+-- whether this phase streams to output o
+abbrev pub is_stream : {A : Type 0} → ℕ → Phase A → Bool
+is_stream o (Stream p) = p == o
+is_stream o Fresh = false
+is_stream o (Head b) = false
+is_stream o (Want b g) = false
+is_stream o Sinking = false
+
+-- whether some input streams to output o, and so owns it
+abbrev pub is_owned : {A : Type 0} → List (Input A) → ℕ → Bool
+is_owned [] o = false
+is_owned (p ∷ inputs) o = is_stream o p.phase || is_owned inputs o
+
+abbrev pub with_buffer : {A : Type 0} → Input A → Incoming A → Input A
+with_buffer p b = record p { buffer = b }
+
+abbrev pub with_inputs : {A : Type 0} → Switch A → List (Input A) → Switch A
+with_inputs s ps = record s { inputs = ps }
+
+abbrev pub with_outputs : {A : Type 0} → Switch A → List (Outgoing A) → Switch A
+with_outputs s qs = record s { outputs = qs }
+
+abbrev pub with_sides : {A : Type 0} → Switch A → List (Input A) × List (Outgoing A) → Switch A
+with_sides s r = record s { inputs = r.0; outputs = r.1 }
+
+-- a token comes in from the wire
+abbrev pub accepted : {A : Type 0} → A → Input A → Option (Input A)
+accepted x p = do
+  b ← buffer.enter x p.buffer
+  Some (with_buffer p b)
+
+abbrev pub enter : {A : Type 0} → Switch A → ℕ → A → Option (Switch A)
+enter s l x = do
+  ps ← at_place s.inputs l (accepted x)
+  Some (with_inputs s ps)
+
+-- the first token of an output goes out to the wire
+abbrev pub leave : {A : Type 0} → Switch A → ℕ → Option (A × Switch A)
+leave s l = do
+  r ← from_place s.outputs l buffer.leave
+  Some (r.0, with_outputs s r.1)
+
+-- an input grants eight more tokens, once the switch is started
+abbrev pub granted : {A : Type 0} → Input A → Option (Input A)
+granted p = do
+  b ← buffer.grant p.buffer
+  Some (with_buffer p b)
+
+abbrev pub credit_out : {A : Type 0} → Switch A → ℕ → Option (Switch A)
+credit_out s l = do
+  require s.started
+  ps ← at_place s.inputs l granted
+  Some (with_inputs s ps)
+
+-- an output may send eight more tokens
+abbrev pub credit_in : {A : Type 0} → Switch A → ℕ → Option (Switch A)
+credit_in s l = do
+  qs ← at_place s.outputs l buffer.credited
+  Some (with_outputs s qs)
+
+-- an input at first: nothing came, and nothing is granted
+abbrev pub first_input : {A : Type 0} → ℕ → Input A
+first_input cap = record { buffer = empty_in cap; phase = Fresh; sunk = 0; short = 0 }
+
+-- a switch at first, with these settings: nothing anywhere
+abbrev pub first_with : {A : Type 0} → ℕ → List Settings → Bool → Switch A
+first_with cap settings started = record { started = started; settings = settings; inputs = replicate 32 (first_input cap); outputs = replicate 32 empty_out }
+
+-- a new switch: reset, and not started
+abbrev pub first_state : {A : Type 0} → ℕ → Switch A
+first_state cap = first_with cap (replicate 32 reset_settings) false

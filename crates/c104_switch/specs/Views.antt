@@ -1,0 +1,47 @@
+-- What can be seen of a switch.
+use Rattle.std.specs.Prelude.{ℕ, suc, List, [], ◌∷◌, Option, Some, None, length, map, if◌then◌else◌, slice_get}
+use Rattle.c104_token.specs.Tokens.{byte_of}
+use Rattle.c104_token.specs.Kinds.{Kind}
+use Rattle.c104_link.specs.Steps.{◌>>=◌}
+use Rattle.c104_link.specs.Buffers.{Outgoing}
+use Rattle.c104_switch.specs.Switch as state
+use Rattle.c104_switch.specs.Switch.{Input, Switch, is_stream}
+use Rattle.c104_switch.specs.declared.actions.Phase.{Phase}
+use Rattle.c104_switch.specs.declared.actions.Phase.TheVariants as shown
+use Rattle.c104_switch.specs.declared.actions.LinkView.{LinkView}
+
+-- the first input, counted from n, that streams to output o
+abbrev pub owner_from : {A : Type 0} → ℕ → List (Input A) → ℕ → Option ℕ
+owner_from n [] o = None
+owner_from n (p ∷ inputs) o = if is_stream o p.phase then Some n else owner_from (suc n) inputs o
+
+module _ {A : Type 0} (kind : Kind A) where
+  -- the bytes of a header's tokens
+  abbrev pub bytes_of : List A → List ℕ
+  bytes_of header = map (λ x. byte_of (kind.plain x)) header
+
+  -- a phase, with the header's bytes
+  abbrev pub phase_shown : state.Phase A → Phase
+  phase_shown state.Fresh = shown.Fresh
+  phase_shown (state.Head b) = shown.Head (bytes_of b)
+  phase_shown (state.Want b g) = shown.Want (bytes_of b) g
+  phase_shown (state.Stream o) = shown.Stream o
+  phase_shown state.Sinking = shown.Sinking
+
+  -- what is seen of a link by its two sides
+  abbrev pub sides_shown : List (Input A) → ℕ → Input A → Outgoing A → LinkView
+  sides_shown inputs l p q = record {
+    input_level = length p.buffer.items;
+    output_level = length q.items;
+    credit = q.credit;
+    granted = p.buffer.granted;
+    owner = owner_from 0 inputs l;
+    phase = phase_shown p.phase;
+  }
+
+  -- what is seen of link l, where there is one
+  abbrev pub link_shown : Switch A → ℕ → Option LinkView
+  link_shown s l = do
+    p ← slice_get s.inputs l
+    q ← slice_get s.outputs l
+    Some (sides_shown s.inputs l p q)

@@ -1,0 +1,67 @@
+//! What is asked of a switch, what it answers, and what can be seen of a link.
+ghost use Rattle.std.specs.Prelude.{◌≡◌};
+
+use crate::header::HeaderBytes;
+use c104_token::Token;
+
+/// What is asked of a switch. Links, inputs and outputs are numbered from 0; a number of 32 or more
+/// is never ready.
+#[derive(Clone, Copy, Debug, PartialEq, Eq)]
+pub enum Action {
+    /// A token comes in over this link's wire.
+    Enter(usize, Token),
+    /// The first token of this link's output goes out over its wire.
+    Leave(usize),
+    /// This link grants eight more tokens to the other end of its wire.
+    CreditOut(usize),
+    /// The other end of this link's wire has granted eight more tokens.
+    CreditIn(usize),
+    /// This input takes a turn with its first token. The word picks a random header, where the
+    /// input puts one before its packets.
+    Input(usize, u32),
+    /// This input claims this output, which is of the group that it wants.
+    Claim(usize, usize),
+}
+
+/// What a switch answers.
+#[derive(Clone, Copy, Debug, PartialEq, Eq)]
+pub enum Reply {
+    /// It is done.
+    Done,
+    /// A condition of the action doesn't hold. Nothing has changed.
+    NotReady,
+    /// It is done, and this token went out.
+    Token(Token),
+}
+
+/// What an input does with its next token.
+#[derive(Debug, Drop)]
+pub enum Phase {
+    /// It waits for a packet.
+    Fresh,
+    /// It reads a header, of which it has these bytes.
+    Head(HeaderBytes),
+    /// It wants an output of this link's group for the header.
+    Want(HeaderBytes, u8),
+    /// It streams to this output.
+    Stream(usize),
+    /// It drops the packet.
+    Sinking,
+}
+
+/// What can be seen of one link.
+#[derive(Debug, Drop)]
+pub struct LinkView {
+    /// How many tokens the input buffer holds, 0 to 64.
+    pub input_level: usize,
+    /// How many tokens the output buffer holds, 0 to 8.
+    pub output_level: usize,
+    /// How many tokens the output may send, 0 to 64.
+    pub credit: usize,
+    /// How many more tokens may come in, 0 to 64.
+    pub granted: usize,
+    /// The input that streams to this output, if one does.
+    pub owner: Option<usize>,
+    /// What the input does with its next token.
+    pub phase: Phase,
+}

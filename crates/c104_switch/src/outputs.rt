@@ -1,0 +1,175 @@
+//! The output sides of all links.
+ghost use Rattle.std.specs.Prelude.{◌≡◌, replicate, slice_get, IfOk, is_some};
+ghost use Rattle.std.specs.Option.{option_copied};
+ghost use Rattle.c104_link.specs.Buffers as buffer;
+ghost use Rattle.c104_link.specs.Buffers.{Outgoing, empty_out};
+ghost use Rattle.c104_link.specs.Steps.{tried, taken, at_place, from_place};
+ghost use Rattle.c104_switch.specs.Claims.{put_header};
+
+use crate::LINKS;
+use crate::settings::Settings;
+use c104_link::OutBufferOf;
+use c104_token::{NoMemory, TokenKind};
+use std::alloc::Global;
+use std::marker::Model;
+
+/// The output sides of all links, in order.
+#[derive(Drop)]
+pub struct OutputsOf<T: TokenKind> {
+    list: Vec<OutBufferOf<T>>,
+}
+
+impl<T: TokenKind> Model for OutputsOf<T> {
+    ghost use Rattle.std.specs.Prelude.{List};
+    ghost use Rattle.c104_link.specs.Buffers.{Outgoing};
+
+    ghost Value = { List (Outgoing T) };
+
+    ghost view = { λ outputs. outputs.list.items };
+}
+
+impl<T: TokenKind> OutputsOf<T> {
+    /// The outputs at first.
+    pub fn new(alloc: Global) -> Result<Self, NoMemory>
+        ensures { IfOk result (λ qs. qs ≡ replicate 32 empty_out) }
+    {
+        let mut list = Vec::with_capacity(alloc, LINKS)?;
+        for _ in 0..LINKS {
+            list.push(OutBufferOf::new(alloc)?)?;
+        }
+        Ok(OutputsOf { list })
+    }
+
+    /// The first token of an output goes out.
+    pub fn leave(&mut self, link: usize) -> Option<T>
+        ensures { (result, self.new) ≡ taken (from_place self.old link buffer.leave) self.old }
+    {
+        let list = &mut self.list;
+        if link >= list.len() {
+            return None;
+        }
+        let output = &mut list[link];
+        output.emit()
+    }
+
+    /// An output may send eight more tokens.
+    pub fn credited(&mut self, link: usize) -> bool
+        ensures { (result, self.new) ≡ tried (at_place self.old link buffer.credited) self.old }
+    {
+        let list = &mut self.list;
+        if link >= list.len() {
+            return false;
+        }
+        let output = &mut list[link];
+        output.credited()
+    }
+
+    /// A token joins an output.
+    pub fn put(&mut self, link: usize, token: T) -> bool
+        ensures { (result, self.new) ≡ tried (at_place self.old link (buffer.put token)) self.old }
+    {
+        let list = &mut self.list;
+        if link >= list.len() {
+            return false;
+        }
+        let output = &mut list[link];
+        put(output, token)
+    }
+
+    /// A header joins an output, or is deleted there.
+    pub fn put_header(&mut self, link: usize, settings: &Settings, header: &[T]) -> bool
+        ensures { (result, self.new) ≡ tried (at_place self.old link (put_header settings.now header.now)) self.old }
+    {
+        let list = &mut self.list;
+        if link >= list.len() {
+            return false;
+        }
+        let output = &mut list[link];
+        put_header(output, settings, header)
+    }
+
+    /// The output of a link.
+    pub fn get(&self, link: usize) -> Option<&OutBufferOf<T>>
+        ensures { option_copied result ≡ slice_get self.now link }
+    {
+        self.list.get(link)
+    }
+
+    /// Whether `leave` would give a token.
+    pub fn can_leave(&self, link: usize) -> bool
+        ensures { result ≡ is_some (from_place self.now link buffer.leave) }
+    {
+        match self.list.get(link) {
+            Some(output) => can_leave(output),
+            None => false,
+        }
+    }
+
+    /// Whether `credited` would add the credit.
+    pub fn can_be_credited(&self, link: usize) -> bool
+        ensures { result ≡ is_some (at_place self.now link buffer.credited) }
+    {
+        match self.list.get(link) {
+            Some(output) => can_be_credited(output),
+            None => false,
+        }
+    }
+
+    /// Whether `put` would append a token.
+    pub fn can_put(&self, link: usize) -> bool
+        ensures { (token : T) → result ≡ is_some (at_place self.now link (buffer.put token)) }
+    {
+        match self.list.get(link) {
+            Some(output) => can_put(output),
+            None => false,
+        }
+    }
+
+    /// Whether `put_header` would append or delete this header.
+    pub fn can_put_header(&self, link: usize, settings: &Settings, header: &[T]) -> bool
+        ensures { result ≡ is_some (at_place self.now link (put_header settings.now header.now)) }
+    {
+        match self.list.get(link) {
+            Some(output) => can_put_header(output, settings, header),
+            None => false,
+        }
+    }
+}
+
+fn can_leave<T: TokenKind>(output: &OutBufferOf<T>) -> bool
+    ensures { result ≡ is_some (buffer.leave output.now) }
+{
+    output.len() > 0 && output.credit() > 0
+}
+
+fn can_be_credited<T: TokenKind>(output: &OutBufferOf<T>) -> bool
+    ensures { result ≡ is_some (buffer.credited output.now) }
+{
+    output.credit() + 8 <= 64
+}
+
+fn can_put<T: TokenKind>(output: &OutBufferOf<T>) -> bool
+    ensures { (token : T) → result ≡ is_some (buffer.put token output.now) }
+{
+    output.len() < 8
+}
+
+fn can_put_header<T: TokenKind>(output: &OutBufferOf<T>, settings: &Settings, header: &[T]) -> bool
+    ensures { result ≡ is_some (put_header settings.now header.now output.now) }
+{
+    settings.delete_header || header.len() <= 8 - output.len()
+}
+
+/// A token joins an output buffer, where there is room for it.
+fn put<T: TokenKind>(output: &mut OutBufferOf<T>, token: T) -> bool
+    ensures { (result, output.new) ≡ tried (buffer.put token output.old) output.old }
+{
+    output.put(token).is_ok()
+}
+
+/// A header joins an output buffer as a whole, or its link deletes it.
+fn put_header<T: TokenKind>(output: &mut OutBufferOf<T>, settings: &Settings, header: &[T]) -> bool
+    ensures { (result, output.new) ≡ tried (put_header settings.now header.now output.old) output.old }
+{
+    settings.delete_header || output.put_all(header)
+}

@@ -1,0 +1,56 @@
+ghost use Rattle.std.specs.Prelude.{◌≡◌};
+
+use c104_interval::Table;
+
+/// What is set at one link. The header length, random headers and the table belong to the input
+/// side of the link, deletion and the group to the output side.
+#[derive(Clone, Copy, Debug, PartialEq, Eq)]
+pub struct Settings {
+    /// Headers have two bytes, low byte first, and not one.
+    pub two_byte: bool,
+    /// The header of each packet that leaves by this link is deleted.
+    pub delete_header: bool,
+    /// A random header is put before each packet that comes in by this link.
+    pub randomize: bool,
+    /// This link continues the group of the link before it.
+    pub continue_group: bool,
+    /// The least random header, 0 to 65535.
+    pub random_base: u32,
+    /// How many random headers there are, 0 to 65536; at 0 there is the base alone.
+    pub random_range: u32,
+    /// Which output a header selects.
+    pub table: Table,
+}
+
+impl Settings {
+    ghost use Rattle.c104_switch.specs.Settings.{reset_settings, plain_settings, header_length};
+
+    /// The settings after a reset.
+    pub fn reset() -> Self
+        ensures { result ≡ reset_settings }
+    {
+        Settings::plain(Table::reset())
+    }
+
+    /// One-byte headers, nothing deleted, no random headers, a group by itself, and this table.
+    pub fn plain(table: Table) -> Self
+        ensures { result ≡ plain_settings table }
+    {
+        Settings {
+            two_byte: false,
+            delete_header: false,
+            randomize: false,
+            continue_group: false,
+            random_base: 0,
+            random_range: 0,
+            table,
+        }
+    }
+
+    /// How many bytes the headers at this link have: 1 or 2.
+    pub fn header_length(&self) -> usize
+        ensures { result ≡ header_length self.now }
+    {
+        if self.two_byte { 2 } else { 1 }
+    }
+}

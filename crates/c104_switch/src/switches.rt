@@ -1,0 +1,212 @@
+//! The switch: what is set at each link, and the two sides of each link.
+ghost use Rattle.std.specs.Prelude.{◌≡◌, ℕ, true, length, map, is_some, IfOk};
+ghost use Rattle.c104_link.specs.Buffers.{IsValidCap};
+ghost use Rattle.c104_link.specs.Steps.{tried, taken};
+ghost use Rattle.c104_switch.specs.Settings.{plain_settings};
+ghost use Rattle.c104_switch.specs.Switch.{Switch as State, first_state, first_with, enter, leave, credit_out, credit_in};
+ghost use Rattle.c104_switch.specs.Turns.{input};
+ghost use Rattle.c104_switch.specs.Claims.{claim};
+ghost use Rattle.c104_switch.specs.Views.{link_shown};
+
+use crate::LINKS;
+use crate::actions::LinkView;
+use crate::inputs::InputsOf;
+use crate::outputs::OutputsOf;
+use crate::settings::Settings;
+use c104_interval::Table;
+use c104_token::{NoMemory, Token, TokenKind};
+use std::alloc::{AllocError, Global};
+use std::marker::Model;
+
+/// One IMS C104, over any kind of token.
+///
+/// An action that isn't ready changes nothing, and no action takes memory.
+#[derive(Drop)]
+pub struct SwitchOf<T: TokenKind> {
+    started: bool,
+    settings: Vec<Settings>,
+    inputs: InputsOf<T>,
+    outputs: OutputsOf<T>,
+}
+
+/// A switch of plain tokens.
+pub type Switch = SwitchOf<Token>;
+
+impl<T: TokenKind> Model for SwitchOf<T> {
+    ghost use Rattle.c104_switch.specs.Switch.{Switch};
+
+    ghost Value = { Switch T };
+
+    ghost view = { λ s. record { started = s.started; settings = s.settings.items; inputs = s.inputs; outputs = s.outputs } };
+}
+
+impl<T: TokenKind> SwitchOf<T> {
+    /// A switch at first: reset, not started, and no token anywhere. Its input buffers have room for
+    /// `cap` tokens, which is one of 8, 16, .. 64.
+    pub fn new(alloc: Global, cap: usize) -> Result<Self, NoMemory>
+        requires { IsValidCap cap }
+        ensures { IfOk result (λ s. s ≡ first_state cap) }
+    {
+        let settings = vec![in alloc; Settings::reset(); LINKS]?;
+        Ok(SwitchOf {
+            started: false,
+            settings,
+            inputs: InputsOf::new(alloc, cap)?,
+            outputs: OutputsOf::new(alloc)?,
+        })
+    }
+
+    /// A switch that is started, with these tables at its 32 links, and no token anywhere. All else
+    /// is as after a reset: one-byte headers, no deletion, and each link a group by itself.
+    pub fn placed(alloc: Global, cap: usize, tables: &[Table]) -> Result<Self, NoMemory>
+        requires cap { IsValidCap cap }
+        requires links { length tables.now ≡ 32 }
+        ensures { IfOk result (λ s. s ≡ first_with cap (map plain_settings tables.now) true) }
+    {
+        let settings = plain_settings(alloc, tables)?;
+        Ok(SwitchOf {
+            started: true,
+            settings,
+            inputs: InputsOf::new(alloc, cap)?,
+            outputs: OutputsOf::new(alloc)?,
+        })
+    }
+
+    /// Whether the switch was started. Until then it grants nothing and moves no token inside.
+    pub fn started(&self) -> bool
+        ensures { result ≡ self.now.started }
+    {
+        self.started
+    }
+
+    /// What can be seen of a link: None where its number is 32 or more.
+    pub fn view(&self, link: usize) -> Option<LinkView>
+        ensures { result ≡ link_shown T.kind self.now link }
+    {
+        let input = self.inputs.get(link)?;
+        let output = self.outputs.get(link)?;
+        Some(LinkView {
+            input_level: input.level(),
+            output_level: output.len(),
+            credit: output.credit(),
+            granted: input.granted(),
+            owner: self.inputs.owner(link),
+            phase: input.phase(),
+        })
+    }
+
+    /// A token comes in over a link's wire, where one is granted.
+    pub fn enter(&mut self, link: usize, token: T) -> bool
+        ensures { (result, self.new) ≡ tried (enter self.old link token) self.old }
+    {
+        self.inputs.accept(link, token)
+    }
+
+    /// The first token of a link's output goes out over its wire, where there are a token and a
+    /// credit.
+    pub fn leave(&mut self, link: usize) -> Option<T>
+        ensures { (result, self.new) ≡ taken (leave self.old link) self.old }
+    {
+        self.outputs.leave(link)
+    }
+
+    /// A link grants eight more tokens to the other end of its wire, where the switch is started and
+    /// its buffer has room for all that would then be granted.
+    pub fn credit_out(&mut self, link: usize) -> bool
+        ensures { (result, self.new) ≡ tried (credit_out self.old link) self.old }
+    {
+        self.started && self.inputs.grant(link)
+    }
+
+    /// The other end of a link's wire has granted eight more tokens, where there are then at most 64.
+    pub fn credit_in(&mut self, link: usize) -> bool
+        ensures { (result, self.new) ≡ tried (credit_in self.old link) self.old }
+    {
+        self.outputs.credited(link)
+    }
+
+    /// An input takes a turn with its first token, where the switch is started. The word picks a
+    /// random header, where the input puts one before its packets.
+    pub fn input(&mut self, link: usize, word: u32) -> bool
+        ensures { (result, self.new) ≡ tried (input T.kind self.old link word) self.old }
+    {
+        if !self.started {
+            return false;
+        }
+        let Some(settings) = self.settings.get(link) else {
+            return false;
+        };
+        self.inputs.turn(link, settings, word, &mut self.outputs)
+    }
+
+    /// An input claims an output of the group that it wants, where the switch is started, no input
+    /// owns the output, and it has room for the header or deletes it.
+    pub fn claim(&mut self, link: usize, output: usize) -> bool
+        ensures { (result, self.new) ≡ tried (claim self.old link output) self.old }
+    {
+        if !self.started || self.inputs.is_owned(output) {
+            return false;
+        }
+        self.inputs
+            .claim(link, self.settings.as_slice(), output, &mut self.outputs)
+    }
+
+    /// Whether `enter` would take a token in.
+    pub fn can_enter(&self, link: usize) -> bool
+        ensures { (token : T) → result ≡ is_some (enter self.now link token) }
+    {
+        self.inputs.can_accept(link)
+    }
+
+    /// Whether `leave` would give a token.
+    pub fn can_leave(&self, link: usize) -> bool
+        ensures { result ≡ is_some (leave self.now link) }
+    {
+        self.outputs.can_leave(link)
+    }
+
+    /// Whether `credit_out` would grant.
+    pub fn can_credit_out(&self, link: usize) -> bool
+        ensures { result ≡ is_some (credit_out self.now link) }
+    {
+        self.started && self.inputs.can_grant(link)
+    }
+
+    /// Whether `credit_in` would add the credit.
+    pub fn can_credit_in(&self, link: usize) -> bool
+        ensures { result ≡ is_some (credit_in self.now link) }
+    {
+        self.outputs.can_be_credited(link)
+    }
+
+    /// Whether `input` would do something, which no word decides.
+    pub fn can_input(&self, link: usize) -> bool
+        ensures { (word : ℕ) → result ≡ is_some (input T.kind self.now link word) }
+    {
+        match self.settings.get(link) {
+            Some(_) => self.started && self.inputs.can_turn(link, &self.outputs),
+            None => false,
+        }
+    }
+
+    /// Whether `claim` would claim the output.
+    pub fn can_claim(&self, link: usize, output: usize) -> bool
+        ensures { result ≡ is_some (claim self.now link output) }
+    {
+        self.started
+            && !self.inputs.is_owned(output)
+            && self
+                .inputs
+                .can_claim(link, self.settings.as_slice(), output, &self.outputs)
+    }
+}
+
+/// The settings of links with these tables.
+fn plain_settings(alloc: Global, tables: &[Table]) -> Result<Vec<Settings>, AllocError>
+    ensures { IfOk result (λ settings. settings.items ≡ map plain_settings tables.now) }
+{
+    tables
+        .iter()
+        .map(|table| Settings::plain(*table))
+        .collect(alloc)
+}
