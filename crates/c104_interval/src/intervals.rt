@@ -12,9 +12,9 @@ pub const ROWS: usize = 36;
 /// What becomes of a packet, by the interval that its header falls into.
 #[derive(Clone, Copy, Debug, PartialEq, Eq)]
 pub enum Select {
-    /// The packet leaves through the link of this number, 0 to 31.
+    /// The packet leaves by the group of the link of this number, 0 to 31.
     Link(u8),
-    /// The header alone is dropped, and the packet's next header decides.
+    /// The header alone is dropped: it was a random one, and the packet's own header follows.
     Discard,
     /// The packet is taken in and goes nowhere: no output was meant for this header.
     Sink,

@@ -1,3 +1,9 @@
 pub mod Lifts
 pub mod Groups
 pub mod Readiness
+pub mod SoundnessSteps
+pub mod SoundnessBuffers
+pub mod SoundnessInputs
+pub mod SoundnessTurns
+pub mod Soundness
+pub mod SoundnessMethods

@@ -1,5 +1,6 @@
--- Groups of links: a group is a run of consecutive links, in which each link after the first says
--- that it continues the group. Any link of it stands for the whole group.
+-- Groups of links: a group is the largest run of consecutive links in which each link after the first
+-- says that it continues the group. Any link of it stands for the whole group. Numbers of 32 or more are
+-- no links; each is a group by itself, of which no output can be claimed.
 use Rattle.std.specs.Prelude.{ℕ, zero, suc, ◌+◌, ◌-◌, ◌&&◌, Bool, true, false, List, Option, Some, None, nat_le, if◌then◌else◌, slice_get}
 use Rattle.c104_switch.specs.Settings.{Settings}
 

@@ -26,7 +26,8 @@ is_sink (Link g) = false
 is_sink Discard = false
 is_sink Sink = true
 
--- the number of the random header that a word gives: within the range from the base on
+-- the number that a word picks, within the range from the base on; the random header is this number
+-- modulo 256 or 65536
 abbrev pub random_number : Settings → ℕ → ℕ
 random_number s word = s.random_base + (if s.random_range == 0 then 0 else word % s.random_range)
 

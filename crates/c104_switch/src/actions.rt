@@ -19,7 +19,7 @@ pub enum Action {
     /// This input takes a turn with its first token. The word picks a random header, where the
     /// input puts one before its packets.
     Input(usize, u32),
-    /// This input claims this output, which is of the group that it wants.
+    /// This input claims this output, one of the group that it wants.
     Claim(usize, usize),
 }
 
@@ -39,7 +39,7 @@ pub enum Reply {
 pub enum Phase {
     /// It waits for a packet.
     Fresh,
-    /// It reads a header, of which it has these bytes.
+    /// It reads a header, of which it has these bytes: none yet after a discarded one.
     Head(HeaderBytes),
     /// It wants an output of this link's group for the header.
     Want(HeaderBytes, u8),

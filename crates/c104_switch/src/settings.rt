@@ -10,15 +10,16 @@ pub struct Settings {
     pub two_byte: bool,
     /// The header of each packet that leaves by this link is deleted.
     pub delete_header: bool,
-    /// A random header is put before each packet that comes in by this link.
+    /// A random header is put before each packet that comes in by this link and begins with a byte.
     pub randomize: bool,
-    /// This link continues the group of the link before it.
+    /// This link continues the group of the link before it. At link 0 it has no effect.
     pub continue_group: bool,
-    /// The least random header, 0 to 65535.
+    /// Where the random headers begin, 0 to 65535. They are taken modulo 256 or 65536, by the header
+    /// length.
     pub random_base: u32,
-    /// How many random headers there are, 0 to 65536; at 0 there is the base alone.
+    /// How many numbers from the base on a word can pick, 0 to 65536; at 0 the base alone.
     pub random_range: u32,
-    /// Which output a header selects.
+    /// What a header selects.
     pub table: Table,
 }
 

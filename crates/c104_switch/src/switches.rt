@@ -1,12 +1,13 @@
 //! The switch: what is set at each link, and the two sides of each link.
-ghost use Rattle.std.specs.Prelude.{◌≡◌, ℕ, true, length, map, is_some, IfOk};
+ghost use Rattle.std.specs.Prelude.{◌≡◌, ◌&&◌, ℕ, true, not, length, map, is_some, IfOk};
 ghost use Rattle.c104_link.specs.Buffers.{IsValidCap};
 ghost use Rattle.c104_link.specs.Steps.{tried, taken};
 ghost use Rattle.c104_switch.specs.Settings.{plain_settings};
-ghost use Rattle.c104_switch.specs.Switch.{Switch as State, first_state, first_with, enter, leave, credit_out, credit_in};
+ghost use Rattle.c104_switch.specs.Switch.{Switch as State, first_state, first_with, is_owned, enter, leave, credit_out, credit_in};
 ghost use Rattle.c104_switch.specs.Turns.{input};
 ghost use Rattle.c104_switch.specs.Claims.{claim};
 ghost use Rattle.c104_switch.specs.Views.{link_shown};
+ghost use Rattle.c104_switch.specs.Soundness.{IsSound};
 
 use crate::LINKS;
 use crate::actions::LinkView;
@@ -20,7 +21,8 @@ use std::marker::Model;
 
 /// One IMS C104, over any kind of token.
 ///
-/// An action that isn't ready changes nothing, and no action takes memory.
+/// An action answers false or None where it isn't ready, and then nothing has changed. No action takes
+/// memory.
 #[derive(Drop)]
 pub struct SwitchOf<T: TokenKind> {
     started: bool,
@@ -34,15 +36,19 @@ pub type Switch = SwitchOf<Token>;
 
 impl<T: TokenKind> Model for SwitchOf<T> {
     ghost use Rattle.c104_switch.specs.Switch.{Switch};
+    ghost use Rattle.c104_switch.specs.Soundness.{IsSound};
 
     ghost Value = { Switch T };
 
     ghost view = { λ s. record { started = s.started; settings = s.settings.items; inputs = s.inputs; outputs = s.outputs } };
+
+    ghost invariant = { λ s. IsSound (record { started = s.started; settings = s.settings.items; inputs = s.inputs; outputs = s.outputs }) };
 }
 
 impl<T: TokenKind> SwitchOf<T> {
     /// A switch at first: reset, not started, and no token anywhere. Its input buffers have room for
-    /// `cap` tokens, which is one of 8, 16, .. 64.
+    /// `cap` tokens, which is one of 8, 16, .. 64. No credit and no grant is there yet. Only want of
+    /// memory is refused.
     pub fn new(alloc: Global, cap: usize) -> Result<Self, NoMemory>
         requires { IsValidCap cap }
         ensures { IfOk result (λ s. s ≡ first_state cap) }
@@ -57,7 +63,8 @@ impl<T: TokenKind> SwitchOf<T> {
     }
 
     /// A switch that is started, with these tables at its 32 links, and no token anywhere. All else
-    /// is as after a reset: one-byte headers, no deletion, and each link a group by itself.
+    /// is as after a reset: one-byte headers, no deletion, and each link a group by itself. Only want
+    /// of memory is refused.
     pub fn placed(alloc: Global, cap: usize, tables: &[Table]) -> Result<Self, NoMemory>
         requires cap { IsValidCap cap }
         requires links { length tables.now ≡ 32 }
@@ -74,7 +81,8 @@ impl<T: TokenKind> SwitchOf<T> {
 
     /// Whether the switch was started. Until then it grants nothing and moves no token inside.
     pub fn started(&self) -> bool
-        ensures { result ≡ self.now.started }
+        ensures value { result ≡ self.now.started }
+        ensures sound { IsSound self.now }
     {
         self.started
     }
@@ -118,15 +126,16 @@ impl<T: TokenKind> SwitchOf<T> {
         self.started && self.inputs.grant(link)
     }
 
-    /// The other end of a link's wire has granted eight more tokens, where there are then at most 64.
+    /// The other end of a link's wire has granted eight more tokens, where its credit is then at most 64.
     pub fn credit_in(&mut self, link: usize) -> bool
         ensures { (result, self.new) ≡ tried (credit_in self.old link) self.old }
     {
         self.outputs.credited(link)
     }
 
-    /// An input takes a turn with its first token, where the switch is started. The word picks a
-    /// random header, where the input puts one before its packets.
+    /// An input takes a turn with its first token, where the switch is started. It isn't ready
+    /// without a token, while it wants an output, or where the output that it streams to is full.
+    /// The word picks a random header, where the input puts one before its packets.
     pub fn input(&mut self, link: usize, word: u32) -> bool
         ensures { (result, self.new) ≡ tried (input T.kind self.old link word) self.old }
     {
@@ -141,14 +150,14 @@ impl<T: TokenKind> SwitchOf<T> {
 
     /// An input claims an output of the group that it wants, where the switch is started, no input
     /// owns the output, and it has room for the header or deletes it.
-    pub fn claim(&mut self, link: usize, output: usize) -> bool
-        ensures { (result, self.new) ≡ tried (claim self.old link output) self.old }
+    pub fn claim(&mut self, input: usize, output: usize) -> bool
+        ensures { (result, self.new) ≡ tried (claim self.old input output) self.old }
     {
-        if !self.started || self.inputs.is_owned(output) {
+        if !self.may_claim(output) {
             return false;
         }
         self.inputs
-            .claim(link, self.settings.as_slice(), output, &mut self.outputs)
+            .claim(input, self.settings.as_slice(), output, &mut self.outputs)
     }
 
     /// Whether `enter` would take a token in.
@@ -190,14 +199,20 @@ impl<T: TokenKind> SwitchOf<T> {
     }
 
     /// Whether `claim` would claim the output.
-    pub fn can_claim(&self, link: usize, output: usize) -> bool
-        ensures { result ≡ is_some (claim self.now link output) }
+    pub fn can_claim(&self, input: usize, output: usize) -> bool
+        ensures { result ≡ is_some (claim self.now input output) }
     {
-        self.started
-            && !self.inputs.is_owned(output)
+        self.may_claim(output)
             && self
                 .inputs
-                .can_claim(link, self.settings.as_slice(), output, &self.outputs)
+                .can_claim(input, self.settings.as_slice(), output, &self.outputs)
+    }
+
+    /// Whether an output can be claimed at all: the switch is started, and no input owns it.
+    fn may_claim(&self, output: usize) -> bool
+        ensures { result ≡ (self.now.started && not (is_owned self.now.inputs output)) }
+    {
+        self.started && !self.inputs.is_owned(output)
     }
 }
 

@@ -1,0 +1,70 @@
+-- Inputs that stay within their capacity, no two of which stream to one output, where one of them changes.
+use Rattle.std.proofs.Common.{◌≡◌, ◌==◌, ℕ, zero, suc, true, false, List, [], ◌∷◌, Some, slice_get, slice_set, sym, ◌∙◌, ap, subst, inl, inr, arith}
+use Rattle.std.proofs.lemmas.Bool.{or_parts}
+use Rattle.std.proofs.lemmas.Bool.Decides.{nat_tests}
+use Rattle.c104_link.specs.Buffers.{IsWithinCap, enter, grant}
+use Rattle.c104_switch.specs.Switch.{Phase, Stream, Input, is_stream, is_owned, with_buffer, accepted, granted}
+use Rattle.c104_switch.specs.Soundness.{IsExclusive}
+use Rattle.c104_switch.proofs.SoundnessSteps.{given, place_after_set}
+use Rattle.c104_switch.proofs.SoundnessBuffers.{within_enter, within_grant}
+
+module _ {A : Type 0} where
+  -- no input but that at place i streams to output o
+  abbrev pub IsAlone : List (Input A) → ℕ → ℕ → Type 0
+  IsAlone inputs i o = (j : ℕ) (q : Input A) → slice_get inputs j ≡ Some q → q.phase ≡ Stream o → i ≡ j
+
+  -- an input that came of another: within its capacity as that was, and with no new stream
+  pub record KeepsInput (p r : Input A) : Type 0 where
+    pub within : IsWithinCap p.buffer → IsWithinCap r.buffer
+    pub streams : (o : ℕ) → r.phase ≡ Stream o → p.phase ≡ Stream o
+
+  -- inputs stay exclusive where the one that changes is alone in what it streams to
+  pub exclusive_set : (inputs : List (Input A)) (i : ℕ) (p : Input A) → ((o : ℕ) → p.phase ≡ Stream o → IsAlone inputs i o) → IsExclusive inputs → IsExclusive (slice_set inputs i p)
+  exclusive_set inputs i p alone exclusive j k o q r at_j at_k to_q to_r =
+      elim (place_after_set inputs i j p q at_j) [
+        | inl h ↦ elim (place_after_set inputs i k p r at_k) [
+          | inl l ↦ sym h.0 ∙ l.0
+          | inr l ↦ sym h.0 ∙ alone o (ap (λ (s : Input A). s.phase) h.1 ∙ to_q) k r l to_r
+        ]
+        | inr h ↦ elim (place_after_set inputs i k p r at_k) [
+          | inl l ↦ sym (sym l.0 ∙ alone o (ap (λ (s : Input A). s.phase) l.1 ∙ to_r) j q h to_q)
+          | inr l ↦ exclusive j k o q r h l to_q to_r
+        ]
+      ]
+
+  -- an input is alone in what it streams to
+  pub alone_at : (inputs : List (Input A)) (i : ℕ) (p : Input A) → slice_get inputs i ≡ Some p → IsExclusive inputs → (o : ℕ) → p.phase ≡ Stream o → IsAlone inputs i o
+  alone_at inputs i p here exclusive o to_p j q at_j to_q = exclusive i j o p q here at_j to_p to_q
+
+  -- an input that streams to an output owns it
+  stream_owns : (o : ℕ) (phase : Phase A) → phase ≡ Stream o → is_stream o phase ≡ true
+  stream_owns o phase is = rw is (let same : (o == o) ≡ true = grind (arith, nat_tests) in same)
+
+  -- no input streams to an output that is not owned
+  pub unowned : (inputs : List (Input A)) (o : ℕ) → is_owned inputs o ≡ false → (j : ℕ) (q : Input A) → slice_get inputs j ≡ Some q → q.phase ≡ Stream o → ⊥
+  unowned [] o free j q at_j to_q = cc
+  unowned (p ∷ inputs) o free zero q at_j to_q =
+      let parts = or_parts (is_stream o p.phase) (is_owned inputs o) free in
+      let same : p ≡ q = cc in
+      let owns = stream_owns o p.phase (ap (λ (s : Input A). s.phase) same ∙ to_q) in
+      cc (parts.0, owns)
+  unowned (p ∷ inputs) o free (suc j) q at_j to_q =
+      unowned inputs o (or_parts (is_stream o p.phase) (is_owned inputs o) free).1 j q at_j to_q
+
+  -- a token that comes in
+  pub keeps_accepted : (x : A) (p r : Input A) → accepted x p ≡ Some r → KeepsInput p r
+  keeps_accepted x p r is = given (enter x p.buffer) _ r is (λ b made last.
+      let same : with_buffer p b ≡ r = cc in
+      subst (KeepsInput p) same (record {
+        within = within_enter x p.buffer b made;
+        streams = λ o to. to;
+      }))
+
+  -- a grant of eight more tokens
+  pub keeps_granted : (p r : Input A) → granted p ≡ Some r → KeepsInput p r
+  keeps_granted p r is = given (grant p.buffer) _ r is (λ b made last.
+      let same : with_buffer p b ≡ r = cc in
+      subst (KeepsInput p) same (record {
+        within = within_grant p.buffer b made;
+        streams = λ o to. to;
+      }))
