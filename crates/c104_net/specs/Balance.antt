@@ -1,0 +1,29 @@
+-- What every network keeps: at the two ends of each wire the credit of the one is what the other has
+-- granted.
+use Rattle.std.specs.Prelude.{ℕ, ◌≡◌, List, Option, Some, None, slice_get}
+use Rattle.c104_link.specs.Steps.{◌>>=◌}
+use Rattle.c104_net.specs.declared.node.NodeOf.TheVariants.{Switch, Terminal}
+use Rattle.c104_net.specs.declared.events.Port.{Port}
+use Rattle.c104_net.specs.declared.nodes.End.{End}
+use Rattle.c104_net.specs.Nodes.{Node}
+use Rattle.c104_net.specs.Wiring.{peer, end_of}
+use Rattle.c104_net.specs.Network.{Network}
+
+-- how many tokens a node may send over a link
+abbrev pub credit_of : {A : Type 0} → ℕ → Node A → Option ℕ
+credit_of l (Switch s) = slice_get s.outputs l >>= (λ q. Some q.credit)
+credit_of l (Terminal t) = Some t.output.credit
+
+-- how many tokens a node has granted to the other end of a link's wire
+abbrev pub granted_of : {A : Type 0} → ℕ → Node A → Option ℕ
+granted_of l (Switch s) = slice_get s.inputs l >>= (λ p. Some p.buffer.granted)
+granted_of l (Terminal t) = Some t.input.granted
+
+abbrev pub credit_at : {A : Type 0} → List (Node A) → End → Option ℕ
+credit_at nodes end = slice_get nodes end.node >>= credit_of end.link
+
+abbrev pub granted_at : {A : Type 0} → List (Node A) → End → Option ℕ
+granted_at nodes end = slice_get nodes end.node >>= granted_of end.link
+
+abbrev pub IsBalanced : {A : Type 0} → Network A → Type 0
+IsBalanced net = (p q : Port) → peer net.plan p ≡ Some q → credit_at net.nodes (end_of net.plan p) ≡ granted_at net.nodes (end_of net.plan q)

@@ -1,0 +1,14 @@
+pub mod TextCut
+pub mod TextWords
+pub mod PlanFaults
+pub mod Plans
+pub mod PlanLists
+pub mod PlanLines
+pub mod PlanText
+pub mod PlanImage
+pub mod Terminals
+pub mod Nodes
+pub mod Wires
+pub mod Wiring
+pub mod Network
+pub mod Balance

@@ -1,0 +1,87 @@
+-- The nodes of a network, switches and terminals, and what each does in an event. A terminal has one
+-- link, whatever its number. None is not ready.
+use Rattle.std.specs.Prelude.{ℕ, List, [], length, slice_get, Option, Some, None}
+use Rattle.c104_token.specs.declared.packets.Packet.{Packet}
+use Rattle.c104_token.specs.Kinds.{Kind}
+use Rattle.c104_link.specs.Steps.{◌>>=◌}
+use Rattle.c104_switch.specs.Switch as switch
+use Rattle.c104_switch.specs.Turns as turns
+use Rattle.c104_switch.specs.Claims as claims
+use Rattle.c104_net.specs.Terminals as terminal
+use Rattle.c104_net.specs.declared.node.NodeOf.{NodeOf}
+use Rattle.c104_net.specs.declared.node.NodeOf.TheVariants.{Switch, Terminal}
+
+-- a node is a switch or a terminal
+abbrev pub Node : Type 0 → Type 0
+Node A = NodeOf A
+
+abbrev pub as_switch : {A : Type 0} → switch.Switch A → Option (Node A)
+as_switch s = Some (Switch s)
+
+abbrev pub as_terminal : {A : Type 0} → terminal.Terminal A → Option (Node A)
+as_terminal t = Some (Terminal t)
+
+-- a token comes in over a link's wire
+abbrev pub enter : {A : Type 0} → A → ℕ → Node A → Option (Node A)
+enter x l (Switch s) = switch.enter s l x >>= as_switch
+enter x l (Terminal t) = terminal.enter x t >>= as_terminal
+
+-- a token goes out over a link's wire
+abbrev pub leave : {A : Type 0} → ℕ → Node A → Option (A × Node A)
+leave l (Switch s) = switch.leave s l >>= (λ r. Some (r.0, Switch r.1))
+leave l (Terminal t) = terminal.leave t >>= (λ r. Some (r.0, Terminal r.1))
+
+-- a link grants eight more tokens
+abbrev pub credit_out : {A : Type 0} → ℕ → Node A → Option (Node A)
+credit_out l (Switch s) = switch.credit_out s l >>= as_switch
+credit_out l (Terminal t) = terminal.credit_out t >>= as_terminal
+
+-- a link may send eight more tokens
+abbrev pub credit_in : {A : Type 0} → ℕ → Node A → Option (Node A)
+credit_in l (Switch s) = switch.credit_in s l >>= as_switch
+credit_in l (Terminal t) = terminal.credit_in t >>= as_terminal
+
+-- a turn of an input, which only a switch has
+abbrev pub input : {A : Type 0} → Kind A → ℕ → ℕ → Node A → Option (Node A)
+input kind i word (Switch s) = turns.input kind s i word >>= as_switch
+input kind i word (Terminal t) = None
+
+-- a claim, which only a switch has
+abbrev pub claim : {A : Type 0} → ℕ → ℕ → Node A → Option (Node A)
+claim i o (Switch s) = claims.claim s i o >>= as_switch
+claim i o (Terminal t) = None
+
+-- the terminal of this number sends a packet
+abbrev pub send : {A : Type 0} → Kind A → ℕ → Packet → Node A → Option (Node A)
+send kind number packet (Switch s) = None
+send kind number packet (Terminal t) = Some (Terminal (terminal.send kind number packet t))
+
+-- a token arrives at a terminal
+abbrev pub drain : {A : Type 0} → Node A → Option (A × Node A)
+drain (Switch s) = None
+drain (Terminal t) = terminal.drain t >>= (λ r. Some (r.0, Terminal r.1))
+
+-- what waits to go out of a terminal, and what arrived there
+abbrev pub waiting : {A : Type 0} → Node A → List A
+waiting (Switch s) = []
+waiting (Terminal t) = t.output.items
+
+abbrev pub arrived : {A : Type 0} → Node A → List A
+arrived (Switch s) = []
+arrived (Terminal t) = t.arrived
+
+-- how many tokens wait at a node, and what arrived there, if it is a terminal
+abbrev pub waiting_count : {A : Type 0} → Node A → Option ℕ
+waiting_count (Switch s) = None
+waiting_count (Terminal t) = Some (length t.output.items)
+
+abbrev pub arrived_list : {A : Type 0} → Node A → Option (List A)
+arrived_list (Switch s) = None
+arrived_list (Terminal t) = Some t.arrived
+
+-- the same at a place of the network's nodes
+abbrev pub waiting_at : {A : Type 0} → List (Node A) → ℕ → Option ℕ
+waiting_at nodes place = slice_get nodes place >>= waiting_count
+
+abbrev pub arrived_at : {A : Type 0} → List (Node A) → ℕ → Option (List A)
+arrived_at nodes place = slice_get nodes place >>= arrived_list

@@ -1,0 +1,75 @@
+-- Plans: the network that a description gives.
+use Rattle.std.specs.Prelude.{◌≡◌, ◌≢◌, ℕ, ◌+◌, ◌<◌, ◌≤◌, ◌==◌, ◌&&◌, Bool, List, ◌++◌, length, map, filter, position, bytes_eq, All, AllPairs, IsTrue, Option}
+use Rattle.std.specs.List.{list_any}
+use Rattle.c104_interval.specs.declared.intervals.Select.{Select}
+use Rattle.c104_interval.specs.declared.intervals.Select.TheVariants.{Link, Discard, Sink}
+use Rattle.c104_net.specs.TextWords.{is_name}
+pub use Rattle.c104_net.specs.declared.plan.plans.Terminal.{Terminal}
+pub use Rattle.c104_net.specs.declared.plan.plans.PlanRow.{PlanRow}
+
+-- a plan's lists, each in the order of the description; a switch is its name
+pub record Plan : Type 0 where
+  pub switches : List (List ℕ)
+  pub terminals : List Terminal
+  pub rows : List PlanRow
+
+-- the number of the switch of this name
+unfoldable pub switch_number : Plan → List ℕ → Option ℕ
+switch_number plan name = position (λ switch. bytes_eq switch name) plan.switches
+
+-- the number of the terminal of this name
+unfoldable pub terminal_number : Plan → List ℕ → Option ℕ
+terminal_number plan name = position (λ (t : Terminal). bytes_eq t.name name) plan.terminals
+
+-- the names of all switches and terminals, which share one name space
+abbrev pub names : Plan → List (List ℕ)
+names plan = plan.switches ++ map (λ (t : Terminal). t.name) plan.terminals
+
+-- whether a switch or a terminal has this name
+unfoldable pub is_taken : Plan → List ℕ → Bool
+is_taken plan name = list_any (λ other. bytes_eq other name) (names plan)
+
+-- whether a switch's link has a terminal
+unfoldable pub is_linked : Plan → ℕ → ℕ → Bool
+is_linked plan switch link = list_any (λ (t : Terminal). t.switch == switch && t.link == link) plan.terminals
+
+-- the rows of an input, in order
+unfoldable pub rows_of : Plan → ℕ → ℕ → List PlanRow
+rows_of plan switch link = filter (λ (r : PlanRow). r.switch == switch && r.link == link) plan.rows
+
+-- how many switches and terminals a plan may have, and how many rows an input
+abbrev pub most_switches : ℕ
+most_switches = 1
+
+abbrev pub most_terminals : ℕ
+most_terminals = 256
+
+abbrev pub most_rows : ℕ
+most_rows = 36
+
+-- a row may select a link, 0 to 31, or the sink
+abbrev pub IsSelectable : Select → Type 0
+IsSelectable (Link link) = link < 32
+IsSelectable Discard = ⊥
+IsSelectable Sink = Unit {0}
+
+-- a switch of the plan, and one of its links
+abbrev pub IsPort : Plan → ℕ → ℕ → Type 0
+IsPort plan switch link = (switch < length plan.switches) × (link < 32)
+
+-- a range of labels, by its first and how many they are
+abbrev pub IsRange : ℕ → ℕ → Type 0
+IsRange first count = (0 < count) × (first + count ≤ 65536)
+
+-- what the type of a plan keeps
+pub record IsPlan (plan : Plan) : Type 0 where
+  pub few_switches : length plan.switches ≤ most_switches
+  pub few_terminals : length plan.terminals ≤ most_terminals
+  pub few_rows : (switch link : ℕ) → length (rows_of plan switch link) ≤ most_rows
+  pub names_are : All (λ name. IsTrue (is_name name)) (names plan)
+  pub names_differ : AllPairs (λ name other. name ≢ other) (names plan)
+  pub ports : All (λ (t : Terminal). IsPort plan t.switch t.link) plan.terminals
+  pub links_differ : AllPairs (λ (t u : Terminal). t.switch ≡ u.switch → t.link ≢ u.link) plan.terminals
+  pub ranges : All (λ (t : Terminal). IsRange t.first t.count) plan.terminals
+  pub inputs : All (λ (r : PlanRow). IsPort plan r.switch r.link) plan.rows
+  pub rows_are : All (λ (r : PlanRow). (r.limit ≤ 65536) × IsSelectable r.select) plan.rows

@@ -1,0 +1,75 @@
+-- A terminal: what it has sent and what arrived, and the two ends of its wire. A terminal needs no start.
+use Rattle.std.specs.Prelude.{ℕ, suc, List, [], ◌∷◌, ◌++◌, length, Option, Some, None, slice_get}
+use Rattle.c104_token.specs.declared.tokens.Token.{Token}
+use Rattle.c104_token.specs.declared.packets.Packet.{Packet}
+use Rattle.c104_token.specs.Kinds.{Kind}
+use Rattle.c104_token.specs.Packets.{tokens}
+use Rattle.c104_link.specs.Steps.{◌>>=◌}
+use Rattle.c104_link.specs.Buffers as buffer
+use Rattle.c104_link.specs.Buffers.{Incoming, Outgoing, without_first, empty_in, empty_out}
+
+pub record Terminal (A : Type 0) : Type 0 where
+  pub input : Incoming A
+  -- what waits to go out, and the credit
+  pub output : Outgoing A
+  -- the packets that it sent, in order
+  pub sent : List Packet
+  -- the tokens that arrived, in order
+  pub arrived : List A
+
+-- a terminal at first: nothing was sent, and nothing came
+abbrev pub first_terminal : {A : Type 0} → ℕ → Terminal A
+first_terminal cap = record { input = empty_in cap; output = empty_out; sent = []; arrived = [] }
+
+abbrev pub with_input : {A : Type 0} → Terminal A → Incoming A → Terminal A
+with_input t b = record t { input = b }
+
+abbrev pub with_output : {A : Type 0} → Terminal A → Outgoing A → Terminal A
+with_output t q = record t { output = q }
+
+-- a token comes in from the wire
+abbrev pub enter : {A : Type 0} → A → Terminal A → Option (Terminal A)
+enter x t = do
+  b ← buffer.enter x t.input
+  Some (with_input t b)
+
+-- the first token that waits goes out to the wire
+abbrev pub leave : {A : Type 0} → Terminal A → Option (A × Terminal A)
+leave t = do
+  r ← buffer.leave t.output
+  Some (r.0, with_output t r.1)
+
+-- the terminal grants eight more tokens
+abbrev pub credit_out : {A : Type 0} → Terminal A → Option (Terminal A)
+credit_out t = do
+  b ← buffer.grant t.input
+  Some (with_input t b)
+
+-- the terminal may send eight more tokens
+abbrev pub credit_in : {A : Type 0} → Terminal A → Option (Terminal A)
+credit_in t = do
+  q ← buffer.credited t.output
+  Some (with_output t q)
+
+-- the first token that came in arrives
+abbrev pub drain : {A : Type 0} → Terminal A → Option (A × Terminal A)
+drain t = do
+  x ← slice_get t.input.items 0
+  Some (x, record t { input = without_first t.input; arrived = t.arrived ++ x ∷ [] })
+
+module _ {A : Type 0} (kind : Kind A) where
+  -- these tokens of a packet from a place on, as a terminal sends them
+  abbrev pub sent_from : ℕ → ℕ → ℕ → List Token → List A
+  sent_from terminal number place [] = []
+  sent_from terminal number place (x ∷ xs) = kind.sent terminal number place x ∷ sent_from terminal number (suc place) xs
+
+  -- the tokens of a terminal's packet of this number
+  abbrev pub sent_tokens : ℕ → ℕ → Packet → List A
+  sent_tokens terminal number packet = sent_from terminal number 0 (tokens packet)
+
+  -- a packet's tokens join those that wait to go out; packets are numbered from 0 as they are sent
+  abbrev pub send : ℕ → Packet → Terminal A → Terminal A
+  send terminal packet t = record t {
+    output = record { items = t.output.items ++ sent_tokens terminal (length t.sent) packet; credit = t.output.credit };
+    sent = t.sent ++ packet ∷ [];
+  }

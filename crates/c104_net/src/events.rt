@@ -1,0 +1,119 @@
+//! What can happen in a network, and why it is refused.
+ghost use Rattle.std.specs.Prelude.{◌≡◌};
+ghost use Rattle.c104_net.specs.declared.events.EventFault.TheVariants as fault;
+ghost use Rattle.c104_net.specs.declared.events.PlaceFault.TheVariants as place;
+
+use c104_token::{NoMemory as WantOfMemory, Packet};
+use std::alloc::{AllocError, AllocFailed};
+use thiserror::Error;
+
+/// One end of a wire. Switches and terminals are numbered from 0 in the order of the plan, links
+/// from 0 to 31.
+#[derive(Clone, Copy, Debug, PartialEq, Eq)]
+pub enum Port {
+    /// A switch's link.
+    Switch(usize, usize),
+    /// A terminal's only link.
+    Terminal(usize),
+}
+
+/// What can happen in a network.
+#[derive(Debug, Drop)]
+pub enum Event {
+    /// The first token that waits at this port crosses its wire.
+    Cross(Port),
+    /// This port grants eight more tokens to the other end of its wire.
+    Credit(Port),
+    /// An input takes a turn with its first token. The word picks a random header, where the input
+    /// puts one before its packets.
+    Input {
+        switch: usize,
+        link: usize,
+        word: u32,
+    },
+    /// An input claims an output of the group that it wants.
+    Claim {
+        switch: usize,
+        input: usize,
+        output: usize,
+    },
+    /// A terminal sends a packet.
+    Send {
+        terminal: usize,
+        packet: Packet,
+    },
+    /// The first token that came in at a terminal arrives.
+    Drain {
+        terminal: usize,
+    },
+}
+
+/// Why an event was refused. Nothing has changed. Of several reasons the one of the least number is
+/// answered; an event that isn't ready is refused for one of the first four alone.
+#[derive(Clone, Copy, Debug, PartialEq, Eq, Error)]
+pub enum EventFault {
+    /// The plan has no such switch or terminal.
+    #[error("there is no such node")]
+    NoNode = 1,
+    /// A link, an input or an output is 32 or more.
+    #[error("a switch has links 0 to 31 alone")]
+    NoLink = 2,
+    /// The port of a Cross or a Credit has no wire.
+    #[error("the link has no wire")]
+    NotWired = 3,
+    /// The packet to be sent has more than 4,096 bytes.
+    #[error("the packet has more than 4096 bytes")]
+    TooLong = 4,
+    /// More than 65,536 tokens would wait at the terminal.
+    #[error("the terminal has no room for the packet among the tokens that wait")]
+    OutboxFull = 5,
+    /// 262,144 tokens have arrived at the terminal.
+    #[error("the terminal has no room for one more token that arrives")]
+    InboxFull = 6,
+    /// Memory was wanted and refused.
+    #[error("no memory")]
+    NoMemory = 8,
+}
+
+impl From<WantOfMemory> for EventFault {
+    ghost from_gives = { λ _ e. e ≡ fault.NoMemory };
+
+    fn from(_error: WantOfMemory) -> EventFault {
+        EventFault::NoMemory
+    }
+}
+
+/// Why a network was not made.
+#[derive(Clone, Copy, Debug, PartialEq, Eq, Error)]
+pub enum PlaceFault {
+    /// The image has other counts of switches or terminals than the plan.
+    #[error("the image doesn't fit the plan")]
+    NotFitting = 1,
+    /// Memory was wanted and refused.
+    #[error("no memory")]
+    NoMemory = 2,
+}
+
+impl From<WantOfMemory> for PlaceFault {
+    ghost from_gives = { λ _ e. e ≡ place.NoMemory };
+
+    fn from(_error: WantOfMemory) -> PlaceFault {
+        PlaceFault::NoMemory
+    }
+}
+
+impl From<AllocError> for PlaceFault {
+    ghost from_gives = { λ _ e. e ≡ place.NoMemory };
+
+    fn from(_error: AllocError) -> PlaceFault {
+        PlaceFault::NoMemory
+    }
+}
+
+impl<T: Drop> From<AllocFailed<T>> for PlaceFault {
+    ghost from_gives = { λ _ e. e ≡ place.NoMemory };
+
+    fn from(_error: AllocFailed<T>) -> PlaceFault {
+        PlaceFault::NoMemory
+    }
+}

@@ -1,0 +1,288 @@
+//! A network of switches and terminals.
+ghost use Rattle.std.specs.Prelude.{◌≡◌, ◌≤◌, length, slice_get, option_map, MatchResult, IfOk, OnOk, IsErrOf, IfSome, Some, None};
+ghost use Rattle.std.specs.Option.{option_copied};
+ghost use Rattle.c104_net.specs.Plans.{Terminal as ThePlanTerminal};
+ghost use Rattle.c104_net.specs.Wiring.{peer, end_of, other_end, terminal_wires, IsInPlan};
+ghost use Rattle.c104_net.specs.declared.events.Event.TheVariants as event;
+ghost use Rattle.c104_switch.specs.Actions.{reply_of, reply_with};
+ghost use Rattle.c104_net.specs.PlanImage.{Fits};
+ghost use Rattle.c104_net.specs.Network.{placed, arrived_of, Answers, Runs, event_fault, port_fault, wire_fault, terminal_place};
+
+use crate::events::{Event, EventFault, PlaceFault, Port};
+use crate::nodes::{End, NodesOf};
+use crate::placing::{add_terminals, placed_switches};
+use crate::plan::{Image, Plan, Terminal};
+use c104_switch::{LINKS, Reply};
+use c104_token::{Packet, Token, TokenKind};
+use std::alloc::{AllocError, Global};
+use std::marker::Model;
+
+/// The most tokens that may wait at a terminal.
+const OUTBOX_LIMIT: usize = 65_536;
+
+/// The most tokens that may arrive at a terminal.
+const INBOX_LIMIT: usize = 262_144;
+
+/// The most bytes of a packet.
+const MAX_PACKET: usize = 4096;
+
+/// A network over any kind of token.
+///
+/// Each event is done as a whole, or refused with nothing changed.
+#[derive(Drop)]
+pub struct NetOf<T: TokenKind> {
+    plan: Plan,
+    nodes: NodesOf<T>,
+}
+
+/// A network of plain tokens.
+pub type Net = NetOf<Token>;
+
+impl<T: TokenKind> Model for NetOf<T> {
+    ghost use Rattle.c104_net.specs.declared.events.Event.TheVariants as event;
+    ghost use Rattle.c104_switch.specs.Actions.{reply_of, reply_with};
+    ghost use Rattle.c104_net.specs.PlanImage.{Fits};
+    ghost use Rattle.c104_net.specs.Network.{placed, arrived_of, Network};
+
+    ghost Value = { Network T };
+
+    ghost view = { λ net. record { plan = net.plan; nodes = net.nodes } };
+}
+
+impl<T: TokenKind> NetOf<T> {
+    /// A network of this plan, each switch of which is started with the image's tables, and no
+    /// token anywhere. NotFitting exactly where the image doesn't fit the plan.
+    pub fn placed(alloc: Global, plan: &Plan, image: &Image) -> Result<Self, PlaceFault>
+        ensures placed { IfOk result (λ net. net ≡ placed plan.now image.now) }
+        ensures fits { OnOk result (Fits image.now plan.now) }
+        ensures not_fitting { IsErrOf result PlaceFault.NotFitting → Fits image.now plan.now → ⊥ }
+        ensures no_memory { IsErrOf result PlaceFault.NoMemory → Fits image.now plan.now }
+    {
+        if !image.fits(plan) {
+            return Err(PlaceFault::NotFitting);
+        }
+        let plan = plan.clone()?;
+        let mut list = placed_switches(alloc, image.all_tables())?;
+        add_terminals(alloc, plan.terminals(), &mut list)?;
+        Ok(NetOf {
+            plan,
+            nodes: NodesOf::new(list),
+        })
+    }
+
+    /// The tokens that arrived at a terminal since the start, in order. None where the plan has no
+    /// such terminal.
+    pub fn arrived(&self, terminal: usize) -> Option<&[T]>
+        ensures { option_copied result ≡ arrived_of self.now terminal }
+    {
+        if terminal >= self.plan.terminals().len() {
+            return None;
+        }
+        self.nodes.arrived(self.plan.switches().len() + terminal)
+    }
+
+    /// Does an event, and answers what came of it, or NotReady where one of its conditions doesn't
+    /// hold; or refuses it. Where it isn't done nothing has changed.
+    pub fn apply(&mut self, event: &Event) -> Result<Reply, EventFault>
+        ensures { Answers T.kind self.old event.now result self.new }
+    {
+        match event {
+            Event::Cross(port) => self.cross(*port),
+            Event::Credit(port) => self.credit(*port),
+            Event::Input { switch, link, word } => self.input(*switch, *link, *word),
+            Event::Claim {
+                switch,
+                input,
+                output,
+            } => self.claim(*switch, *input, *output),
+            Event::Send { terminal, packet } => self.send(*terminal, packet),
+            Event::Drain { terminal } => self.drain(*terminal),
+        }
+    }
+
+    /// Applies events in turn, and gives their answers. Where there is no memory for the answers,
+    /// nothing has changed.
+    pub fn apply_all(
+        &mut self,
+        alloc: Global,
+        events: &[Event],
+    ) -> Result<Vec<Result<Reply, EventFault>>, AllocError>
+        ensures { MatchResult result (λ answers. Runs T.kind self.old events.now answers.items self.new) (λ _. self.new ≡ self.old) }
+    {
+        let mut answers = Vec::with_capacity(alloc, events.len())?;
+        for event in events {
+            let answer = self.apply(event);
+            let Ok(()) = answers.push(answer) else {
+                unreachable!();
+            };
+        }
+        Ok(answers)
+    }
+
+    fn cross(&mut self, port: Port) -> Result<Reply, EventFault>
+        ensures { Answers T.kind self.old (event.Cross port) result self.new }
+    {
+        let ends = wired_ends(&self.plan, port)?;
+        Ok(gave(self.nodes.cross(ends.near, ends.far)))
+    }
+
+    fn credit(&mut self, port: Port) -> Result<Reply, EventFault>
+        ensures { Answers T.kind self.old (event.Credit port) result self.new }
+    {
+        let ends = wired_ends(&self.plan, port)?;
+        Ok(done(self.nodes.credit(ends.near, ends.far)))
+    }
+
+    fn send(&mut self, terminal: usize, packet: &Packet) -> Result<Reply, EventFault>
+        ensures { Answers T.kind self.old (event.Send terminal packet.now) result self.new }
+    {
+        if terminal >= self.plan.terminals().len() {
+            return Err(EventFault::NoNode);
+        }
+        let length = packet.bytes.as_slice().len();
+        if length > MAX_PACKET {
+            return Err(EventFault::TooLong);
+        }
+        let place = self.plan.switches().len() + terminal;
+        let Some(waiting) = self.nodes.waiting(place) else {
+            return Ok(Reply::NotReady);
+        };
+        if waiting > OUTBOX_LIMIT - (length + 1) {
+            return Err(EventFault::OutboxFull);
+        }
+        Ok(done(self.nodes.send(place, terminal, packet)?))
+    }
+
+    fn drain(&mut self, terminal: usize) -> Result<Reply, EventFault>
+        ensures { Answers T.kind self.old (event.Drain terminal) result self.new }
+    {
+        if terminal >= self.plan.terminals().len() {
+            return Err(EventFault::NoNode);
+        }
+        let place = self.plan.switches().len() + terminal;
+        if !self.nodes.can_drain(place) {
+            return Ok(Reply::NotReady);
+        }
+        let Some(arrived) = self.nodes.arrived(place) else {
+            return Ok(Reply::NotReady);
+        };
+        if arrived.len() >= INBOX_LIMIT {
+            return Err(EventFault::InboxFull);
+        }
+        Ok(gave(self.nodes.drain(place)?))
+    }
+
+    fn input(&mut self, switch: usize, link: usize, word: u32) -> Result<Reply, EventFault>
+        ensures { Answers T.kind self.old (event.Input switch link word) result self.new }
+    {
+        if switch >= self.plan.switches().len() {
+            return Err(EventFault::NoNode);
+        }
+        if link >= LINKS {
+            return Err(EventFault::NoLink);
+        }
+        Ok(done(self.nodes.input(switch, link, word)))
+    }
+
+    fn claim(&mut self, switch: usize, input: usize, output: usize) -> Result<Reply, EventFault>
+        ensures { Answers T.kind self.old (event.Claim switch input output) result self.new }
+    {
+        if switch >= self.plan.switches().len() {
+            return Err(EventFault::NoNode);
+        }
+        if input >= LINKS || output >= LINKS {
+            return Err(EventFault::NoLink);
+        }
+        Ok(done(self.nodes.claim(switch, input, output)))
+    }
+}
+
+fn done(made: bool) -> Reply
+    ensures { result ≡ reply_of made }
+{
+    if made { Reply::Done } else { Reply::NotReady }
+}
+
+fn gave<T: TokenKind>(token: Option<T>) -> Reply
+    ensures { result ≡ reply_with (option_map T.kind.plain token) }
+{
+    match token {
+        Some(token) => Reply::Token(token.plain()),
+        None => Reply::NotReady,
+    }
+}
+
+/// The ends of a wire: that of the port that was named, and the other.
+#[derive(Clone, Copy)]
+struct Ends {
+    near: End,
+    far: End,
+}
+
+/// The ends of the wire at a port.
+fn wired_ends(plan: &Plan, port: Port) -> Result<Ends, EventFault>
+    ensures fault { MatchResult result (λ ends. port_fault plan.now port None ≡ None) (λ fault. port_fault plan.now port (wire_fault (peer plan.now port)) ≡ Some fault) }
+    ensures near { IfOk result (λ ends. ends.near ≡ end_of plan.now port) }
+    ensures far { IfOk result (λ ends. option_map (end_of plan.now) (peer plan.now port) ≡ Some ends.far) }
+{
+    match port {
+        Port::Switch(switch, _) if switch >= plan.switches().len() => return Err(
+            EventFault::NoNode,
+        ),
+        Port::Switch(_, link) if link >= LINKS => return Err(EventFault::NoLink),
+        Port::Terminal(terminal) if terminal >= plan.terminals().len() => {
+            return Err(EventFault::NoNode);
+        }
+        _ => (),
+    }
+    let Some(other) = peer(plan, port) else {
+        return Err(EventFault::NotWired);
+    };
+    Ok(Ends {
+        near: end_of(plan, port),
+        far: end_of(plan, other),
+    })
+}
+
+/// The port that a port is wired to.
+fn peer(plan: &Plan, port: Port) -> Option<Port>
+    ensures value { result ≡ peer plan.now port }
+    ensures inside { IfSome result (IsInPlan plan.now.terminals) }
+{
+    peer_among(plan.terminals(), port)
+}
+
+fn peer_among(terminals: &[Terminal], port: Port) -> Option<Port>
+    ensures value { result ≡ other_end (terminal_wires 0 terminals.now) port }
+    ensures inside { IfSome result (IsInPlan terminals.now) }
+{
+    for (number, terminal) in terminals.iter().enumerate() {
+        let own = Port::Switch(terminal.switch, terminal.link);
+        if port == Port::Terminal(number) {
+            return Some(own);
+        }
+        if port == own {
+            return Some(Port::Terminal(number));
+        }
+    }
+    None
+}
+
+/// Where a port is among the nodes.
+fn end_of(plan: &Plan, port: Port) -> End
+    requires { IsInPlan plan.now.terminals port }
+    ensures { result ≡ end_of plan.now port }
+{
+    let terminals = plan.terminals().len();
+    let switches = plan.switches().len();
+    match port {
+        Port::Switch(switch, link) => End { node: switch, link },
+        Port::Terminal(terminal) => {
+            prove!(terminal < terminals);
+            End {
+                node: switches + terminal,
+                link: 0,
+            }
+        }
+    }
+}

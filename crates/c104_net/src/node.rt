@@ -1,0 +1,152 @@
+//! A node of a network: a switch or a terminal.
+ghost use Rattle.std.specs.Prelude.{◌≡◌, ◌≤◌, length, is_some, MatchResult};
+ghost use Rattle.std.specs.Option.{option_copied};
+ghost use Rattle.c104_link.specs.Steps.{tried, taken};
+ghost use Rattle.c104_net.specs.Nodes.{Node, enter, leave, credit_out, credit_in, input, claim, send, drain, waiting_count, arrived_list};
+
+use crate::terminal::TerminalOf;
+use c104_switch::SwitchOf;
+use c104_token::{NoMemory, Packet, TokenKind};
+
+/// A node of a network.
+#[derive(Drop)]
+pub enum NodeOf<T: TokenKind> {
+    Switch(SwitchOf<T>),
+    Terminal(TerminalOf<T>),
+}
+
+impl<T: TokenKind> NodeOf<T> {
+    /// A token comes in over a link's wire.
+    pub fn enter(&mut self, link: usize, token: T) -> bool
+        ensures { (result, self.new) ≡ tried (enter token link self.old) self.old }
+    {
+        match self {
+            NodeOf::Switch(switch) => switch.enter(link, token),
+            NodeOf::Terminal(terminal) => terminal.enter(token),
+        }
+    }
+
+    /// A token goes out over a link's wire.
+    pub fn leave(&mut self, link: usize) -> Option<T>
+        ensures { (result, self.new) ≡ taken (leave link self.old) self.old }
+    {
+        match self {
+            NodeOf::Switch(switch) => switch.leave(link),
+            NodeOf::Terminal(terminal) => terminal.leave(),
+        }
+    }
+
+    /// A link grants eight more tokens.
+    pub fn credit_out(&mut self, link: usize) -> bool
+        ensures { (result, self.new) ≡ tried (credit_out link self.old) self.old }
+    {
+        match self {
+            NodeOf::Switch(switch) => switch.credit_out(link),
+            NodeOf::Terminal(terminal) => terminal.credit_out(),
+        }
+    }
+
+    /// A link may send eight more tokens.
+    pub fn credit_in(&mut self, link: usize) -> bool
+        ensures { (result, self.new) ≡ tried (credit_in link self.old) self.old }
+    {
+        match self {
+            NodeOf::Switch(switch) => switch.credit_in(link),
+            NodeOf::Terminal(terminal) => terminal.credit_in(),
+        }
+    }
+
+    /// Whether `enter` would take a token in.
+    pub fn can_enter(&self, link: usize) -> bool
+        ensures { (token : T) → result ≡ is_some (enter token link self.now) }
+    {
+        match self {
+            NodeOf::Switch(switch) => switch.can_enter(link),
+            NodeOf::Terminal(terminal) => terminal.can_enter(),
+        }
+    }
+
+    /// Whether `credit_in` would add the credit.
+    pub fn can_credit_in(&self, link: usize) -> bool
+        ensures { result ≡ is_some (credit_in link self.now) }
+    {
+        match self {
+            NodeOf::Switch(switch) => switch.can_credit_in(link),
+            NodeOf::Terminal(terminal) => terminal.can_credit_in(),
+        }
+    }
+
+    /// A turn of an input.
+    pub fn input(&mut self, link: usize, word: u32) -> bool
+        ensures { (result, self.new) ≡ tried (input T.kind link word self.old) self.old }
+    {
+        match self {
+            NodeOf::Switch(switch) => switch.input(link, word),
+            NodeOf::Terminal(_) => false,
+        }
+    }
+
+    /// An input claims an output.
+    pub fn claim(&mut self, link: usize, output: usize) -> bool
+        ensures { (result, self.new) ≡ tried (claim link output self.old) self.old }
+    {
+        match self {
+            NodeOf::Switch(switch) => switch.claim(link, output),
+            NodeOf::Terminal(_) => false,
+        }
+    }
+
+    /// The terminal of this number sends a packet. False where the node is no terminal.
+    pub fn send(&mut self, number: usize, packet: &Packet) -> Result<bool, NoMemory>
+        requires { length packet.now.bytes ≤ 4096 }
+        ensures { MatchResult result (λ sent. (sent, self.new) ≡ tried (send T.kind number packet.now self.old) self.old) (λ _. self.new ≡ self.old) }
+    {
+        match self {
+            NodeOf::Switch(_) => Ok(false),
+            NodeOf::Terminal(terminal) => {
+                terminal.send(number, packet)?;
+                Ok(true)
+            }
+        }
+    }
+
+    /// A token arrives. None where the node is no terminal, or nothing came in.
+    pub fn drain(&mut self) -> Result<Option<T>, NoMemory>
+        ensures { MatchResult result (λ token. (token, self.new) ≡ taken (drain self.old) self.old) (λ _. self.new ≡ self.old) }
+    {
+        match self {
+            NodeOf::Switch(_) => Ok(None),
+            NodeOf::Terminal(terminal) => terminal.drain(),
+        }
+    }
+
+    /// Whether a token can arrive.
+    pub fn can_drain(&self) -> bool
+        ensures { result ≡ is_some (drain self.now) }
+    {
+        match self {
+            NodeOf::Switch(_) => false,
+            NodeOf::Terminal(terminal) => terminal.can_drain(),
+        }
+    }
+
+    /// How many tokens wait to go out, if the node is a terminal.
+    pub fn waiting(&self) -> Option<usize>
+        ensures { result ≡ waiting_count self.now }
+    {
+        match self {
+            NodeOf::Switch(_) => None,
+            NodeOf::Terminal(terminal) => Some(terminal.waiting()),
+        }
+    }
+
+    /// The tokens that arrived, if the node is a terminal.
+    pub fn arrived(&self) -> Option<&[T]>
+        ensures { option_copied result ≡ arrived_list self.now }
+    {
+        match self {
+            NodeOf::Switch(_) => None,
+            NodeOf::Terminal(terminal) => Some(terminal.arrived()),
+        }
+    }
+}

@@ -1,0 +1,203 @@
+//! The nodes of a network, in order: the switches, and then the terminals.
+ghost use Rattle.std.specs.Prelude.{◌≡◌, ◌≤◌, length, is_some, MatchResult};
+ghost use Rattle.std.specs.Option.{option_copied};
+ghost use Rattle.c104_link.specs.Steps.{tried, taken, at_place, from_place};
+ghost use Rattle.c104_net.specs.Nodes.{enter, leave, credit_out, credit_in, input, claim, send, drain, waiting_at, arrived_at};
+ghost use Rattle.c104_net.specs.Wires.{crossed, credited};
+
+use crate::node::NodeOf;
+use c104_token::{NoMemory, Packet, TokenKind};
+use std::marker::Model;
+
+/// One end of a wire: a node, and a link of it.
+#[derive(Clone, Copy, Debug, PartialEq, Eq)]
+pub struct End {
+    pub node: usize,
+    pub link: usize,
+}
+
+/// The nodes of a network.
+#[derive(Drop)]
+pub struct NodesOf<T: TokenKind> {
+    list: Vec<NodeOf<T>>,
+}
+
+impl<T: TokenKind> Model for NodesOf<T> {
+    ghost use Rattle.std.specs.Prelude.{List};
+    ghost use Rattle.c104_net.specs.Nodes.{Node};
+
+    ghost Value = { List (Node T) };
+
+    ghost view = { λ nodes. nodes.list.items };
+}
+
+impl<T: TokenKind> NodesOf<T> {
+    /// These nodes.
+    pub fn new(list: Vec<NodeOf<T>>) -> Self
+        ensures { result ≡ list.items }
+    {
+        NodesOf { list }
+    }
+
+    /// A token comes in at an end of a wire.
+    pub fn enter(&mut self, end: End, token: T) -> bool
+        ensures { (result, self.new) ≡ tried (at_place self.old end.node (enter token end.link)) self.old }
+    {
+        let list = &mut self.list;
+        if end.node >= list.len() {
+            return false;
+        }
+        let node = &mut list[end.node];
+        node.enter(end.link, token)
+    }
+
+    /// A token goes out at an end of a wire.
+    pub fn leave(&mut self, end: End) -> Option<T>
+        ensures { (result, self.new) ≡ taken (from_place self.old end.node (leave end.link)) self.old }
+    {
+        let list = &mut self.list;
+        if end.node >= list.len() {
+            return None;
+        }
+        let node = &mut list[end.node];
+        node.leave(end.link)
+    }
+
+    /// An end of a wire grants eight more tokens.
+    pub fn credit_out(&mut self, end: End) -> bool
+        ensures { (result, self.new) ≡ tried (at_place self.old end.node (credit_out end.link)) self.old }
+    {
+        let list = &mut self.list;
+        if end.node >= list.len() {
+            return false;
+        }
+        let node = &mut list[end.node];
+        node.credit_out(end.link)
+    }
+
+    /// An end of a wire may send eight more tokens.
+    pub fn credit_in(&mut self, end: End) -> bool
+        ensures { (result, self.new) ≡ tried (at_place self.old end.node (credit_in end.link)) self.old }
+    {
+        let list = &mut self.list;
+        if end.node >= list.len() {
+            return false;
+        }
+        let node = &mut list[end.node];
+        node.credit_in(end.link)
+    }
+
+    /// A turn of an input of a switch.
+    pub fn input(&mut self, place: usize, link: usize, word: u32) -> bool
+        ensures { (result, self.new) ≡ tried (at_place self.old place (input T.kind link word)) self.old }
+    {
+        let list = &mut self.list;
+        if place >= list.len() {
+            return false;
+        }
+        let node = &mut list[place];
+        node.input(link, word)
+    }
+
+    /// An input of a switch claims an output.
+    pub fn claim(&mut self, place: usize, link: usize, output: usize) -> bool
+        ensures { (result, self.new) ≡ tried (at_place self.old place (claim link output)) self.old }
+    {
+        let list = &mut self.list;
+        if place >= list.len() {
+            return false;
+        }
+        let node = &mut list[place];
+        node.claim(link, output)
+    }
+
+    /// Whether a token can come in at an end of a wire.
+    pub fn can_enter(&self, end: End) -> bool
+        ensures { (token : T) → result ≡ is_some (at_place self.now end.node (enter token end.link)) }
+    {
+        match self.list.get(end.node) {
+            Some(node) => node.can_enter(end.link),
+            None => false,
+        }
+    }
+
+    /// Whether an end of a wire can take eight more credits.
+    pub fn can_credit_in(&self, end: End) -> bool
+        ensures { result ≡ is_some (at_place self.now end.node (credit_in end.link)) }
+    {
+        match self.list.get(end.node) {
+            Some(node) => node.can_credit_in(end.link),
+            None => false,
+        }
+    }
+
+    /// The terminal at this place, which has this number, sends a packet.
+    pub fn send(&mut self, place: usize, number: usize, packet: &Packet) -> Result<bool, NoMemory>
+        requires { length packet.now.bytes ≤ 4096 }
+        ensures { MatchResult result (λ sent. (sent, self.new) ≡ tried (at_place self.old place (send T.kind number packet.now)) self.old) (λ _. self.new ≡ self.old) }
+    {
+        let list = &mut self.list;
+        if place >= list.len() {
+            return Ok(false);
+        }
+        let node = &mut list[place];
+        let sent = node.send(number, packet)?;
+        Ok(sent)
+    }
+
+    /// A token arrives at the terminal at this place.
+    pub fn drain(&mut self, place: usize) -> Result<Option<T>, NoMemory>
+        ensures { MatchResult result (λ token. (token, self.new) ≡ taken (from_place self.old place drain) self.old) (λ _. self.new ≡ self.old) }
+    {
+        let list = &mut self.list;
+        if place >= list.len() {
+            return Ok(None);
+        }
+        let node = &mut list[place];
+        let token = node.drain()?;
+        Ok(token)
+    }
+
+    /// Whether a token can arrive at the node at this place.
+    pub fn can_drain(&self, place: usize) -> bool
+        ensures { result ≡ is_some (from_place self.now place drain) }
+    {
+        match self.list.get(place) {
+            Some(node) => node.can_drain(),
+            None => false,
+        }
+    }
+
+    /// How many tokens wait to go out of the terminal at this place. None where there is no terminal.
+    pub fn waiting(&self, place: usize) -> Option<usize>
+        ensures { result ≡ waiting_at self.now place }
+    {
+        self.list.get(place)?.waiting()
+    }
+
+    /// The tokens that arrived at the terminal at this place.
+    pub fn arrived(&self, place: usize) -> Option<&[T]>
+        ensures { option_copied result ≡ arrived_at self.now place }
+    {
+        self.list.get(place)?.arrived()
+    }
+
+    /// A token goes out at one end of a wire and comes in at the other, or nothing changes.
+    pub fn cross(&mut self, from: End, to: End) -> Option<T>
+        ensures { (result, self.new) ≡ taken (crossed self.old from to) self.old }
+    {
+        if !self.can_enter(to) {
+            return None;
+        }
+        let token = self.leave(from)?;
+        self.enter(to, token);
+        Some(token)
+    }
+
+    /// One end of a wire grants eight more tokens and the other may send them, or nothing changes.
+    pub fn credit(&mut self, from: End, to: End) -> bool
+        ensures { (result, self.new) ≡ tried (credited self.old from to) self.old }
+    {
+        self.can_credit_in(to) && self.credit_out(from) && self.credit_in(to)
+    }
+}

@@ -1,0 +1,18 @@
+//! The description of a network, and the plan that it gives.
+mod description;
+mod faults;
+mod hand;
+mod image;
+mod lines;
+mod plans;
+mod text;
+mod words;
+
+pub use description::{MAX_DESCRIPTION, read_description};
+pub use faults::{PlanFault, PlanFaultKind};
+pub use hand::hand_image;
+pub use image::Image;
+pub use plans::{Name, Plan, PlanRow, Terminal};
+pub use text::{
+    Dots, cut_lines, cut_words, find_dots, is_name, is_plain, read_number, uncommented,
+};

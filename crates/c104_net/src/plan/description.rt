@@ -1,0 +1,56 @@
+//! Descriptions: whole texts.
+ghost use Rattle.std.specs.Prelude.{◌≡◌, ◌⊎◌, map, Err, Ok, MatchResult, IfOk};
+ghost use Rattle.c104_net.specs.PlanFaults.{fault_at, no_memory};
+ghost use Rattle.c104_net.specs.PlanLists.{plan_of};
+ghost use Rattle.c104_net.specs.PlanText.{described, empty_plan, read_lines, GivesOrNoMemory};
+ghost use Rattle.c104_net.specs.Plans.{IsPlan};
+
+use super::faults::{PlanFault, PlanFaultKind};
+use super::lines::read_line;
+use super::plans::{Lists, Plan};
+use super::text::cut_lines;
+use std::alloc::Global;
+
+/// The most bytes of a description: 1 MiB.
+pub const MAX_DESCRIPTION: usize = 1_048_576;
+
+/// Reads the description of a network, by this profile's grammar.
+///
+/// Its lines are `switch N`, `terminal N S.l` and `row S.l limit select`; `#` begins a comment.
+/// Refused is the first faulty line, with the least of its faults; before any line a text of more
+/// than 1 MiB; and, whatever the text says, want of memory.
+pub fn read_description(alloc: Global, text: &[u8]) -> Result<Plan, PlanFault>
+    ensures described { GivesOrNoMemory result (described text.now) }
+    ensures kept { IfOk result IsPlan }
+{
+    if text.len() > MAX_DESCRIPTION {
+        return Err(fault_at(0, PlanFaultKind::TooLong));
+    }
+    let lines = cut_lines(alloc, text)?;
+    let lists = read_lines(alloc, lines.as_slice())?;
+    Ok(Plan { lists })
+}
+
+/// Reads the lines of a description, the first of which is line 1.
+fn read_lines(alloc: Global, lines: &[&[u8]]) -> Result<Lists, PlanFault>
+    ensures { let due = read_lines 1 (map (λ line. line.now) lines.now) empty_plan in MatchResult result (λ lists. due ≡ Ok (plan_of lists)) (λ fault. (due ≡ Err fault) ⊎ (fault ≡ no_memory)) }
+{
+    let mut lists = Lists::new(alloc);
+    for (index, line) in lines.iter().enumerate() {
+        match read_line(alloc, &mut lists, line) {
+            Ok(()) => {}
+            Err(kind) => return Err(fault_at(index + 1, kind)),
+        }
+    }
+    Ok(lists)
+}
+
+/// A fault of a line. Want of memory belongs to no line.
+fn fault_at(line: usize, kind: PlanFaultKind) -> PlanFault
+    ensures { result ≡ fault_at line kind }
+{
+    match kind {
+        PlanFaultKind::NoMemory => PlanFault { line: 0, kind },
+        _ => PlanFault { line, kind },
+    }
+}

@@ -1,0 +1,292 @@
+//! Plans: the network that a description gives.
+ghost use Rattle.std.specs.Prelude.{◌≡◌, IfOk, IsTrue};
+ghost use Rattle.c104_net.specs.TextWords.{is_name};
+
+use c104_interval::Select;
+use c104_token::{Bytes, Items};
+use std::alloc::{AllocError, Global};
+use std::marker::Model;
+
+/// The name of a switch or a terminal: a letter, and then letters, digits, `_` and `-`, at most
+/// 32 bytes.
+#[derive(Debug, Drop)]
+pub struct Name {
+    bytes: Bytes,
+}
+
+impl Model for Name {
+    ghost use Rattle.std.specs.Prelude.{ℕ, List, IsTrue};
+    ghost use Rattle.c104_net.specs.TextWords.{is_name};
+
+    ghost Value = { List ℕ };
+
+    ghost view = { λ name. name.bytes };
+
+    ghost invariant = { λ name. IsTrue (is_name name.bytes) };
+}
+
+impl Name {
+    /// The name that a word is. Only want of memory is refused.
+    pub fn new(alloc: Global, word: &[u8]) -> Result<Name, AllocError>
+        requires { IsTrue (is_name word.now) }
+        ensures { IfOk result (λ name. name ≡ word.now) }
+    {
+        let bytes = word.to_vec(alloc)?;
+        Ok(Name {
+            bytes: Items::new(bytes),
+        })
+    }
+
+    /// The name's bytes, all of them ASCII.
+    pub fn as_bytes(&self) -> &[u8]
+        ensures bytes { result.now ≡ self.now }
+        ensures named { IsTrue (is_name self.now) }
+    {
+        self.bytes.as_slice()
+    }
+}
+
+/// A terminal of a plan.
+#[derive(Debug, Drop)]
+pub struct Terminal {
+    /// Its name, which no switch and no other terminal has.
+    pub name: Name,
+    /// The number of the switch that it is on, in the order of the description, from 0.
+    pub switch: usize,
+    /// The link of that switch, 0 to 31.
+    pub link: usize,
+    /// The first label of its range.
+    pub first: u32,
+    /// How many labels its range has, at least one.
+    pub count: u32,
+}
+
+/// A row that a plan gives an input's interval table.
+#[derive(Clone, Copy, Debug)]
+pub struct PlanRow {
+    /// The number of the switch, from 0.
+    pub switch: usize,
+    /// The input's link, 0 to 31.
+    pub link: usize,
+    /// The first header past the row's interval, 0 to 65536.
+    pub limit: u32,
+    /// What a header inside the interval selects.
+    pub select: Select,
+}
+
+/// The lists of a plan, each in the order of the description.
+#[derive(Debug, Drop)]
+pub(super) struct Lists {
+    pub(super) switches: Vec<Name>,
+    pub(super) terminals: Vec<Terminal>,
+    pub(super) rows: Vec<PlanRow>,
+}
+
+impl Lists {
+    ghost use Rattle.std.specs.Prelude.{◌≡◌, ◌<◌, [], length, bytes_eq, IfSome};
+    ghost use Rattle.std.specs.List.{list_any};
+    ghost use Rattle.c104_net.specs.Plans.{Terminal as TheTerminal, switch_number, terminal_number, is_taken, is_linked, rows_of};
+    ghost use Rattle.c104_net.specs.PlanLists.{plan_of};
+
+    /// No switch, no terminal and no row.
+    pub(super) fn new(alloc: Global) -> Self
+        ensures { plan_of result ≡ record { switches = []; terminals = []; rows = [] } }
+    {
+        Lists {
+            switches: Vec::new(alloc),
+            terminals: Vec::new(alloc),
+            rows: Vec::new(alloc),
+        }
+    }
+
+    /// The number of the switch of this name.
+    #[tactic(auto, unfolding(crate::specs::Plans::switch_number))]
+    pub(super) fn switch_number(&self, name: &[u8]) -> Option<usize>
+        ensures number { result ≡ switch_number (plan_of self.now) name.now }
+        ensures inside { IfSome result (λ number. number < length (plan_of self.now).switches) }
+    {
+        self.switches
+            .iter()
+            .position(|switch| switch.as_bytes() == name)
+    }
+
+    /// The number of the terminal of this name.
+    #[tactic(auto, unfolding(crate::specs::Plans::terminal_number))]
+    pub(super) fn terminal_number(&self, name: &[u8]) -> Option<usize>
+        ensures number { result ≡ terminal_number (plan_of self.now) name.now }
+        ensures inside { IfSome result (λ number. number < length (plan_of self.now).terminals) }
+    {
+        self.terminals
+            .iter()
+            .position(|terminal| terminal.name.as_bytes() == name)
+    }
+
+    /// Whether a switch or a terminal has this name.
+    #[tactic(auto, using(crate::proofs::PlanNames::taken_either))]
+    pub(super) fn is_taken(&self, name: &[u8]) -> bool
+        ensures { result ≡ is_taken (plan_of self.now) name.now }
+    {
+        self.has_switch(name) || self.has_terminal(name)
+    }
+
+    fn has_switch(&self, name: &[u8]) -> bool
+        ensures { result ≡ list_any (λ other. bytes_eq other name.now) (plan_of self.now).switches }
+    {
+        self.switches.iter().any(|other| other.as_bytes() == name)
+    }
+
+    fn has_terminal(&self, name: &[u8]) -> bool
+        ensures { result ≡ list_any (λ (t : TheTerminal). bytes_eq t.name name.now) (plan_of self.now).terminals }
+    {
+        self.terminals
+            .iter()
+            .any(|terminal| terminal.name.as_bytes() == name)
+    }
+
+    /// Whether a switch's link has a terminal.
+    #[tactic(auto, unfolding(crate::specs::Plans::is_linked))]
+    pub(super) fn is_linked(&self, switch: usize, link: usize) -> bool
+        ensures { result ≡ is_linked (plan_of self.now) switch link }
+    {
+        self.terminals.iter().any(|terminal| terminal.switch == switch && terminal.link == link)
+    }
+
+    /// How many rows an input has.
+    #[tactic(auto, unfolding(crate::specs::Plans::rows_of))]
+    pub(super) fn row_count(&self, switch: usize, link: usize) -> usize
+        ensures { result ≡ length (rows_of (plan_of self.now) switch link) }
+    {
+        self.rows
+            .iter()
+            .filter(|row| row.switch == switch && row.link == link)
+            .count()
+    }
+}
+
+/// The network that a description gives: its switches, its terminals and the rows of its
+/// switches' interval tables. Only `read_description` makes one.
+///
+/// What each plan keeps is that names differ, that each port exists and no link is taken twice,
+/// and that every number is in its range.
+#[derive(Debug, Drop)]
+pub struct Plan {
+    pub(super) lists: Lists,
+}
+
+impl Model for Plan {
+    ghost use Rattle.c104_net.specs.Plans.{Plan as Described, IsPlan};
+    ghost use Rattle.c104_net.specs.PlanLists.{plan_of};
+
+    ghost Value = { Described };
+
+    ghost view = { λ plan. plan_of plan.lists };
+
+    ghost invariant = { λ plan. IsPlan (plan_of plan.lists) };
+}
+
+impl Plan {
+    ghost use Rattle.std.specs.Prelude.{◌≡◌, ◌<◌, length, IfSome};
+    ghost use Rattle.c104_net.specs.Plans.{IsPlan, switch_number, terminal_number};
+
+    /// The names of the switches, by number.
+    pub fn switches(&self) -> &[Name]
+        ensures switches { result.now ≡ self.now.switches }
+        ensures kept { IsPlan self.now }
+    {
+        self.lists.switches.as_slice()
+    }
+
+    /// The terminals, by number.
+    pub fn terminals(&self) -> &[Terminal]
+        ensures terminals { result.now ≡ self.now.terminals }
+        ensures kept { IsPlan self.now }
+    {
+        self.lists.terminals.as_slice()
+    }
+
+    /// The rows of the inputs' tables. Those of one input are its rows from 0 on, in this order.
+    pub fn rows(&self) -> &[PlanRow]
+        ensures rows { result.now ≡ self.now.rows }
+        ensures kept { IsPlan self.now }
+    {
+        self.lists.rows.as_slice()
+    }
+
+    /// The number of the switch of this name.
+    pub fn switch_number(&self, name: &[u8]) -> Option<usize>
+        ensures number { result ≡ switch_number self.now name.now }
+        ensures inside { IfSome result (λ number. number < length self.now.switches) }
+    {
+        self.lists.switch_number(name)
+    }
+
+    /// The number of the terminal of this name.
+    pub fn terminal_number(&self, name: &[u8]) -> Option<usize>
+        ensures number { result ≡ terminal_number self.now name.now }
+        ensures inside { IfSome result (λ number. number < length self.now.terminals) }
+    {
+        self.lists.terminal_number(name)
+    }
+}
+
+impl Clone for Name {
+    ghost is_clone = { λ name copy. copy ≡ name };
+
+    fn clone(&self) -> Result<Self, AllocError> {
+        let bytes = self.bytes.clone()?;
+        Ok(Name { bytes })
+    }
+}
+
+impl Clone for Terminal {
+    ghost is_clone = { λ terminal copy. copy ≡ terminal };
+
+    fn clone(&self) -> Result<Self, AllocError> {
+        let name = self.name.clone()?;
+        Ok(Terminal {
+            name,
+            switch: self.switch,
+            link: self.link,
+            first: self.first,
+            count: self.count,
+        })
+    }
+}
+
+impl Clone for Plan {
+    ghost is_clone = { λ plan copy. copy ≡ plan };
+
+    fn clone(&self) -> Result<Self, AllocError> {
+        let alloc = *self.lists.switches.allocator();
+        let switches = copied_names(alloc, self.lists.switches.as_slice())?;
+        let terminals = copied_terminals(alloc, self.lists.terminals.as_slice())?;
+        let rows = Vec::from_slice(alloc, self.lists.rows.as_slice())?;
+        Ok(Plan {
+            lists: Lists {
+                switches,
+                terminals,
+                rows,
+            },
+        })
+    }
+}
+
+fn copied_names(alloc: Global, names: &[Name]) -> Result<Vec<Name>, AllocError>
+    ensures { IfOk result (λ copies. copies.items ≡ names.now) }
+{
+    let mut copies = Vec::new(alloc);
+    for name in names {
+        copies.push(name.clone()?)?;
+    }
+    Ok(copies)
+}
+
+fn copied_terminals(alloc: Global, terminals: &[Terminal]) -> Result<Vec<Terminal>, AllocError>
+    ensures { IfOk result (λ copies. copies.items ≡ terminals.now) }
+{
+    let mut copies = Vec::new(alloc);
+    for terminal in terminals {
+        copies.push(terminal.clone()?)?;
+    }
+    Ok(copies)
+}
