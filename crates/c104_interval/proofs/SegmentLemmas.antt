@@ -8,7 +8,7 @@ use Rattle.std.specs.List.Sorted.{IsStrictlyIncreasing}
 use Rattle.c104_interval.specs.declared.intervals.Row.{Row}
 use Rattle.c104_interval.specs.declared.intervals.Select.{Select}
 use Rattle.c104_interval.specs.declared.intervals.Table.{Table}
-use Rattle.c104_interval.specs.Segments.{AreSeparatorsBelow, IsConstantBetween, IsGreatestUpTo, IsSeparator, SelectsBySegment, limits, separators}
+use Rattle.c104_interval.specs.Segments.{AreSegmentsBelow, IsConstantBetween, IsGreatestUpTo, IsSegmentStart, SelectsBySegment, limits, separators}
 use Rattle.c104_interval.specs.Selection.{select_from}
 
 Contains-here : (x : ℕ) (xs : List ℕ) → Contains (x ∷ xs) x
@@ -74,7 +74,7 @@ select_from-same g h low (r ∷ rs) up none =
     let test = same_test g h low r.limit up (none low (Contains-here low (r.limit ∷ rest))) (none r.limit (Contains-later low (r.limit ∷ rest) r.limit (Contains-here r.limit rest))) in
     rw test (ap (λ (s : Select). cond (nat_le low g && nat_lt g r.limit) r.select s) (select_from-same g h r.limit rs up (λ s here. none s (Contains-later low (r.limit ∷ rest) s here))))
 
-Contains-separators : (t : Table) (h : ℕ) → Contains (separators t) h ↔ IsSeparator t h
+Contains-separators : (t : Table) (h : ℕ) → Contains (separators t) h ↔ IsSegmentStart t h
 Contains-separators t h = (
   (λ here. elim (Contains-cases 0 (t.base ∷ limits t) h here) [ inl is ↦ inl is | inr later ↦ inr (Contains-cases t.base (limits t) h later) ]),
   (λ is. elim is [
@@ -87,8 +87,8 @@ Contains-separators t h = (
 )
 
 -- gs has what the filtered separators have
-pub AreSeparatorsBelow-from : (t : Table) (size : ℕ) (gs : List ℕ) → ((h : ℕ) → Contains gs h ↔ Contains (filter (λ s. nat_lt s size) (separators t)) h) → AreSeparatorsBelow t size gs
-AreSeparatorsBelow-from t size gs same h =
+pub AreSegmentsBelow-from : (t : Table) (size : ℕ) (gs : List ℕ) → ((h : ℕ) → Contains gs h ↔ Contains (filter (λ s. nat_lt s size) (separators t)) h) → AreSegmentsBelow t size gs
+AreSegmentsBelow-from t size gs same h =
     let below : ℕ → Bool = λ s. nat_lt s size in (
       (λ here.
           let kept = (same h).0 here in (
@@ -98,11 +98,11 @@ AreSeparatorsBelow-from t size gs same h =
       (λ is. (same h).1 (Contains-filter below (separators t) h (lt-ltb h size is.0) ((Contains-separators t h).1 is.1))),
     )
 
-pub IsConstantBetween-from : (t : Table) (size : ℕ) (gs : List ℕ) → AreSeparatorsBelow t size gs → IsConstantBetween t size gs
+pub IsConstantBetween-from : (t : Table) (size : ℕ) (gs : List ℕ) → AreSegmentsBelow t size gs → IsConstantBetween t size gs
 IsConstantBetween-from t size gs are g h up below none =
     select_from-same g h t.base t.rows up (λ s here low. none s ((are s).1 (omega arith, inr (Contains-cases t.base (limits t) s here))) low)
 
-pub SelectsBySegment-from : (t : Table) (size : ℕ) (gs : List ℕ) → 0 < size → AreSeparatorsBelow t size gs → SelectsBySegment t size gs
+pub SelectsBySegment-from : (t : Table) (size : ℕ) (gs : List ℕ) → 0 < size → AreSegmentsBelow t size gs → SelectsBySegment t size gs
 SelectsBySegment-from t size gs some are h below =
     let found = greatest_up_to gs ((are 0).1 (some, inl refl)) h in
     (found.0, found.1, IsConstantBetween-from t size gs are found.0 h found.1.not_above below found.1.is_greatest)
@@ -112,5 +112,5 @@ starts_with_zero [] up (k, below, is) = absurd (omega arith)
 starts_with_zero (x ∷ xs) up (zero, below, is) = ap Some is
 starts_with_zero (x ∷ xs) up (suc k, below, is) = let rises = rw add-one at (up k (omega arith)) in absurd (omega (arith, is))
 
-pub starts_with_zero_from : (t : Table) (size : ℕ) (gs : List ℕ) → 0 < size → IsStrictlyIncreasing gs → AreSeparatorsBelow t size gs → slice_get gs 0 ≡ Some 0
+pub starts_with_zero_from : (t : Table) (size : ℕ) (gs : List ℕ) → 0 < size → IsStrictlyIncreasing gs → AreSegmentsBelow t size gs → slice_get gs 0 ≡ Some 0
 starts_with_zero_from t size gs some up are = starts_with_zero gs up ((are 0).1 (some, inl refl))

@@ -14,12 +14,12 @@ abbrev pub separators : Table → List ℕ
 separators t = (0 ∷ []) ++ (t.base ∷ []) ++ limits t
 
 -- h is 0, the base or a row's limit
-abbrev pub IsSeparator : Table → ℕ → Type 0
-IsSeparator t h = (h ≡ 0) ⊎ ((h ≡ t.base) ⊎ Contains (limits t) h)
+abbrev pub IsSegmentStart : Table → ℕ → Type 0
+IsSegmentStart t h = (h ≡ 0) ⊎ ((h ≡ t.base) ⊎ Contains (limits t) h)
 
 -- the numbers of gs are the separators below size
-abbrev pub AreSeparatorsBelow : Table → ℕ → List ℕ → Type 0
-AreSeparatorsBelow t size gs = (h : ℕ) → Contains gs h ↔ ((h < size) × IsSeparator t h)
+abbrev pub AreSegmentsBelow : Table → ℕ → List ℕ → Type 0
+AreSegmentsBelow t size gs = (h : ℕ) → Contains gs h ↔ ((h < size) × IsSegmentStart t h)
 
 -- g is the greatest of gs that is not above h
 pub record IsGreatestUpTo (gs : List ℕ) (h g : ℕ) : Type 0 where

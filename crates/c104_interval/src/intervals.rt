@@ -1,20 +1,21 @@
 ghost use Rattle.std.specs.Prelude.{◌≡◌, ℕ, ◌<◌, IfOk, Some, filter, nat_lt, slice_get};
 ghost use Rattle.std.specs.List.Sorted.{IsStrictlyIncreasing};
-ghost use Rattle.c104_interval.specs.Segments.{AreSeparatorsBelow, IsConstantBetween, SelectsBySegment, separators};
+ghost use Rattle.c104_interval.specs.Segments.{AreSegmentsBelow, IsConstantBetween, SelectsBySegment, separators};
 ghost use Rattle.c104_interval.specs.Selection.{IsSelected, reset_table, select};
 
+use c104_token::NoMemory;
 use std::alloc::{AllocError, Global};
 use std::iter::once;
 
-/// How many rows a table has, by the profile that this switch follows.
+/// How many rows a table has in this emulator.
 pub const ROWS: usize = 36;
 
 /// What becomes of a packet, by the interval that its header falls into.
 #[derive(Clone, Copy, Debug, PartialEq, Eq)]
 pub enum Select {
-    /// The packet leaves by the group of the link of this number, 0 to 31.
+    /// The packet leaves by the group of the link of this number, 0 to 31; a switch has no others.
     Link(u8),
-    /// The header alone is dropped: it was a random one, and the packet's own header follows.
+    /// The header alone is dropped, and the next one decides: meant for random headers.
     Discard,
     /// The packet is taken in and goes nowhere: no output was meant for this header.
     Sink,
@@ -26,7 +27,7 @@ pub enum Select {
 /// row's begins at the table's base.
 #[derive(Clone, Copy, Debug, PartialEq, Eq)]
 pub struct Row {
-    /// The first header past the interval, 0 to 65536.
+    /// The first header past the interval: 0 to 65536 in a switch's registers, any number here.
     pub limit: u32,
     /// What a header inside the interval selects.
     pub select: Select,
@@ -43,11 +44,11 @@ impl Row {
 /// The interval table of one input link.
 ///
 /// The data sheet's rule is that a header lies in an interval from its base up to and without its
-/// limit (`base <= header < limit`), and that neighbours share a separator. The profile's is that
+/// limit (`base <= header < limit`), and that neighbours share a separator. This emulator's is that
 /// a table has one base and 36 rows. Limits may fall, so that intervals may be empty or overlap.
 #[derive(Clone, Copy, Debug, PartialEq, Eq)]
 pub struct Table {
-    /// Where the first row's interval begins, 0 to 65535.
+    /// Where the first row's interval begins: 0 to 65535 in a switch's registers, any number here.
     pub base: u32,
     /// The rows, in the order in which they are tried.
     pub rows: [Row; ROWS],
@@ -82,15 +83,16 @@ impl Table {
     }
 
     /// The headers at which the selection may change, ascending: the distinct values among 0, the
-    /// base and the limits that lie below `size`, the number of headers, 256 or 65536.
+    /// base and the limits that lie below `size`, the number of headers, which is at
+    /// least 1: 256 or 65536 on a switch.
     ///
     /// From each of these to the next all headers select alike, so what holds of the selection at
     /// each of these holds of it at every header below `size`. The only error is want of memory.
-    pub fn segments(&self, alloc: Global, size: u32) -> Result<Vec<u32>, AllocError>
+    pub fn segments(&self, alloc: Global, size: u32) -> Result<Vec<u32>, NoMemory>
         requires { 0 < size }
         ensures ascending { IfOk result (λ v. IsStrictlyIncreasing v.items) }
         ensures first { IfOk result (λ v. slice_get v.items 0 ≡ Some 0) }
-        ensures members { IfOk result (λ v. AreSeparatorsBelow self.now size v.items) }
+        ensures members { IfOk result (λ v. AreSegmentsBelow self.now size v.items) }
 
         // The law that a check of all headers by their segments alone stands on.
         ensures located { IfOk result (λ v. SelectsBySegment self.now size v.items) }

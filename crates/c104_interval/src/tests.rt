@@ -86,12 +86,12 @@ fn all_rows_count(rt: HostRuntime) -> Result<(), Fail> {
 #[test]
 fn segments_are_distinct_and_below_size(rt: HostRuntime) -> Result<(), Fail> {
     let alloc = rt.alloc();
-    let worked = table(1, &[(2, Select::Link(0)), (5, Select::Link(1))]);
+    let adjoining = table(1, &[(2, Select::Link(0)), (5, Select::Link(1))]);
     assert_eq!(rt;
-        worked.segments(alloc, 256)?.as_slice(),
+        adjoining.segments(alloc, 256)?.as_slice(),
         [0, 1, 2, 5].as_slice()
     );
-    assert_eq!(rt; worked.segments(alloc, 1)?.as_slice(), [0].as_slice());
+    assert_eq!(rt; adjoining.segments(alloc, 1)?.as_slice(), [0].as_slice());
 
     let rows = [
         (8, Select::Link(0)),

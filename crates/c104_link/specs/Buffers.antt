@@ -1,7 +1,7 @@
 -- The two ends of a wire, over any kind of token: an input buffer, which grants credit, and an
 -- output buffer, which spends it. A flow-control token grants eight more tokens, and only where the
 -- receiver's buffer has room (the data sheet's rule). An input buffer has room for 8, 16, .. 64
--- tokens and an output buffer for 8, and the credit is at most 64 (this profile).
+-- tokens and an output buffer for 8, and the credit is at most 64 (this emulator).
 use Rattle.std.specs.Prelude.{ℕ, ◌≡◌, ◌+◌, ◌-◌, ◌%◌, ◌≤◌, List, [], ◌∷◌, ◌++◌, length, Option, Some, nat_lt, nat_le, drop, slice_get}
 use Rattle.c104_link.specs.Steps.{◌>>=◌, ◌>>◌, require}
 

@@ -1,5 +1,5 @@
 //! The input buffer of a link.
-ghost use Rattle.std.specs.Prelude.{◌≡◌, ◌↔◌, [], length, slice_get, IsTrue, IfOk};
+ghost use Rattle.std.specs.Prelude.{◌≡◌, ◌↔◌, [], length, slice_get, is_some, IsTrue, IfOk};
 ghost use Rattle.c104_link.specs.Steps.{tried, taken, offered};
 ghost use Rattle.c104_link.specs.Buffers.{IsValidCap, IsWithinCap, empty_in, grant, enter, without_first, take_first, cleared_in};
 
@@ -9,7 +9,7 @@ use circular_buffer::HeapCircularBuffer;
 use std::alloc::Global;
 use std::marker::Model;
 
-/// Whether an input buffer may have this capacity: 8, 16, .. 64 tokens in this profile.
+/// Whether an input buffer may have this capacity: 8, 16, .. 64 tokens in this emulator.
 pub fn valid_cap(cap: usize) -> bool
     ensures { IsTrue result ↔ IsValidCap cap }
 {
@@ -19,7 +19,7 @@ pub fn valid_cap(cap: usize) -> bool
 /// The input buffer of a link, which holds tokens in the order in which they came.
 ///
 /// It grants tokens to the other end of its wire, eight at a time, and keeps room for all that it
-/// has granted. So no token is ever lost for want of room.
+/// has granted. A token that none was granted for is handed back.
 #[derive(Drop)]
 pub struct InBufferOf<T: TokenKind> {
     ring: HeapCircularBuffer<T>,
@@ -95,12 +95,19 @@ impl<T: TokenKind> InBufferOf<T> {
     pub fn grant(&mut self) -> bool
         ensures { (result, self.new) ≡ tried (grant self.old) self.old }
     {
-        let room = self.ring.capacity() - self.ring.len() - self.granted;
-        if room < TOKENS_OF_A_GRANT {
+        if !self.can_grant() {
             return false;
         }
         self.granted += TOKENS_OF_A_GRANT;
         true
+    }
+
+    /// Whether `grant` would grant.
+    pub fn can_grant(&self) -> bool
+        ensures { result ≡ is_some (grant self.now) }
+    {
+        let room = self.ring.capacity() - self.ring.len() - self.granted;
+        room >= TOKENS_OF_A_GRANT
     }
 
     /// Takes in a token that came over the wire, which uses one of those granted. Where none is

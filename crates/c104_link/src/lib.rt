@@ -1,19 +1,22 @@
 //! The two ends of a wire: an input buffer that grants credit, and an output buffer that spends it.
 //!
 //! A flow-control token grants eight more tokens to the other end of its wire, and it is sent only
-//! where the receiver's buffer has room for them (the data sheet's rule). So no input buffer is
-//! ever overrun. In this profile an input buffer has room for 8, 16, .. 64 tokens and an output
-//! buffer for 8, and the credit of an output buffer is at most 64.
+//! where the receiver's buffer has room for them (the data sheet's rule). So an input buffer keeps
+//! room for all that it has granted. That the other end sends no more is for whoever joins the two
+//! ends: each credit of an output buffer has to stand for a grant.
+//!
+//! In this emulator an input buffer has room for 8, 16, .. 64 tokens and an output buffer for 8, and
+//! the credit of an output buffer is at most 64.
 #![tactic(auto)]
 
 mod incoming;
 mod outgoing;
 
 pub use incoming::{InBuffer, InBufferOf, valid_cap};
-pub use outgoing::{OutBuffer, OutBufferOf};
+pub use outgoing::{CREDIT_LIMIT, OutBuffer, OutBufferOf};
 
 /// The tokens that one flow-control token grants (the data sheet's rule).
-const TOKENS_OF_A_GRANT: usize = 8;
+pub const TOKENS_OF_A_GRANT: usize = 8;
 
 #[cfg(test)]
 mod tests;

@@ -1,5 +1,5 @@
 //! The output buffer of a link.
-ghost use Rattle.std.specs.Prelude.{◌≡◌, ◌↔◌, [], length, IsTrue, IfOk};
+ghost use Rattle.std.specs.Prelude.{◌≡◌, ◌↔◌, [], length, is_some, IsTrue, IfOk};
 ghost use Rattle.c104_link.specs.Steps.{tried, taken, offered};
 ghost use Rattle.c104_link.specs.Buffers.{IsWithinLimits, empty_out, put, put_all, leave, credited, cleared_out};
 
@@ -9,17 +9,17 @@ use circular_buffer::HeapCircularBuffer;
 use std::alloc::Global;
 use std::marker::Model;
 
-/// The tokens that an output buffer has room for in this profile.
+/// The tokens that an output buffer has room for in this emulator.
 const OUTPUT_CAP: usize = 8;
 
-/// The most tokens that the other end of a wire can have granted in this profile, where no input
+/// The most tokens that the other end of a wire can have granted in this emulator, where no input
 /// buffer has room for more.
-const CREDIT_LIMIT: usize = 64;
+pub const CREDIT_LIMIT: usize = 64;
 
 /// The output buffer of a link, which holds tokens in the order in which they joined.
 ///
-/// It sends a token over its wire only against a credit that the other end has granted, so the
-/// other end has room for it.
+/// It sends a token over its wire only against a credit. Where each credit stands for what the other
+/// end has granted, that end has room for the token.
 #[derive(Drop)]
 pub struct OutBufferOf<T: TokenKind> {
     ring: HeapCircularBuffer<T>,
@@ -74,6 +74,13 @@ impl<T: TokenKind> OutBufferOf<T> {
         self.credit
     }
 
+    /// Whether `put` would append a token.
+    pub fn can_put(&self) -> bool
+        ensures { (token : T) → result ≡ is_some (put token self.now) }
+    {
+        !self.ring.is_full()
+    }
+
     /// Appends a token. Where the buffer holds eight, hands the token back and changes nothing.
     pub fn put(&mut self, token: T) -> Result<(), T>
         ensures { (result, self.new) ≡ offered token (put token self.old) self.old }
@@ -81,16 +88,30 @@ impl<T: TokenKind> OutBufferOf<T> {
         self.ring.try_push_back(token)
     }
 
+    /// Whether `put_all` would append these tokens.
+    pub fn can_put_all(&self, tokens: &[T]) -> bool
+        ensures { result ≡ is_some (put_all tokens.now self.now) }
+    {
+        tokens.len() <= OUTPUT_CAP - self.ring.len()
+    }
+
     /// Appends several tokens as a whole. False, and nothing changes, where the buffer would then
     /// hold more than eight.
     pub fn put_all(&mut self, tokens: &[T]) -> bool
         ensures { (result, self.new) ≡ tried (put_all tokens.now self.old) self.old }
     {
-        if tokens.len() > OUTPUT_CAP - self.ring.len() {
+        if !self.can_put_all(tokens) {
             return false;
         }
         self.ring.fill_from_slice(tokens);
         true
+    }
+
+    /// Whether `emit` would give a token.
+    pub fn can_emit(&self) -> bool
+        ensures { result ≡ is_some (leave self.now) }
+    {
+        !self.ring.is_empty() && self.credit > 0
     }
 
     /// Takes out the first token to send it, which spends one credit. None, and nothing changes,
@@ -106,12 +127,19 @@ impl<T: TokenKind> OutBufferOf<T> {
         Some(token)
     }
 
+    /// Whether `credited` would add the credits.
+    pub fn can_be_credited(&self) -> bool
+        ensures { result ≡ is_some (credited self.now) }
+    {
+        CREDIT_LIMIT - self.credit >= TOKENS_OF_A_GRANT
+    }
+
     /// Adds the eight credits of a flow-control token that came over the wire. False, and nothing
     /// changes, where the credit would then pass 64.
     pub fn credited(&mut self) -> bool
         ensures { (result, self.new) ≡ tried (credited self.old) self.old }
     {
-        if self.credit + TOKENS_OF_A_GRANT > CREDIT_LIMIT {
+        if !self.can_be_credited() {
             return false;
         }
         self.credit += TOKENS_OF_A_GRANT;

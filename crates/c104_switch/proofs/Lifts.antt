@@ -1,5 +1,5 @@
 -- From a step of one element to the step of a list at that place.
-use Rattle.std.proofs.Common.{◌≡◌, ◌<◌, ◌≤◌, ℕ, Bool, true, false, List, Option, Some, None, length, get_or, slice_get, slice_set, is_some, refl, sym, ◌∙◌, ap}
+use Rattle.std.proofs.Common.{◌≡◌, ◌<◌, ℕ, Bool, false, List, Option, Some, None, length, get_or, slice_get, slice_set, is_some, refl, ◌∙◌, ap}
 use Rattle.std.proofs.lemmas.Option.{slice_get_read}
 use Rattle.std.proofs.lemmas.List.{set-get_or}
 use Rattle.c104_link.specs.Steps.{tried, taken, at_place, from_place, with_place}

@@ -1,5 +1,5 @@
 -- A claim: an input that wants a group gets one output of it, until its packet's terminator has passed.
-use Rattle.std.specs.Prelude.{ℕ, ◌&&◌, not, Bool, true, false, List, Option, Some, None, if◌then◌else◌, slice_get}
+use Rattle.std.specs.Prelude.{ℕ, ◌&&◌, not, List, Option, Some, None, if◌then◌else◌, slice_get}
 use Rattle.c104_link.specs.Steps.{◌>>=◌, ◌>>◌, require, at_place, with_place}
 use Rattle.c104_link.specs.Buffers as buffer
 use Rattle.c104_link.specs.Buffers.{Outgoing}

@@ -1,6 +1,6 @@
 -- What is set at one link of a switch: the input side's header length, random headers and table, and
 -- the output side's deletion and group.
-use Rattle.std.specs.Prelude.{ℕ, true, false, if◌then◌else◌}
+use Rattle.std.specs.Prelude.{ℕ, false, if◌then◌else◌}
 use Rattle.c104_interval.specs.Selection.{reset_table}
 use Rattle.c104_interval.specs.declared.intervals.Table.{Table}
 pub use Rattle.c104_switch.specs.declared.settings.Settings.{Settings}

@@ -1,6 +1,6 @@
 -- The state of one switch, over any kind of token, and the actions on one side of one link.
 -- A step answers None where it is not ready.
-use Rattle.std.specs.Prelude.{ℕ, ◌+◌, ◌==◌, ◌||◌, Bool, true, false, List, [], ◌∷◌, Option, Some, None, min, replicate, slice_get}
+use Rattle.std.specs.Prelude.{ℕ, ◌+◌, ◌==◌, ◌||◌, Bool, true, false, List, [], ◌∷◌, Option, Some, min, replicate}
 use Rattle.c104_link.specs.Steps.{◌>>=◌, ◌>>◌, require, at_place, from_place}
 use Rattle.c104_link.specs.Buffers as buffer
 use Rattle.c104_link.specs.Buffers.{Incoming, Outgoing, empty_in, empty_out}

@@ -1,5 +1,5 @@
 //! The header of a packet that an input reads: its tokens, and the number that they say.
-ghost use Rattle.std.specs.Prelude.{◌≡◌, ◌<◌, ◌≤◌, ◌+◌, ◌∷◌, ◌++◌, [], length, map, IfOk};
+ghost use Rattle.std.specs.Prelude.{◌≡◌, ◌<◌, ◌≤◌, ◌+◌, ◌∷◌, ◌++◌, [], length, map, All, IfOk};
 ghost use Rattle.c104_token.specs.Tokens.{byte_of};
 ghost use Rattle.c104_switch.specs.Headers.{header_value, value};
 
@@ -26,11 +26,15 @@ impl Model for HeaderBytes {
 }
 
 impl HeaderBytes {
-    /// The bytes, low byte first.
+    /// The bytes, low byte first: at most two, each of which is below 256.
     pub fn as_slice(&self) -> &[u8]
-        ensures { result.now ≡ self.now }
+        ensures value { result.now ≡ self.now }
+        ensures few { length self.now ≤ 2 }
+        ensures range { All (λ byte. byte < 256) self.now }
     {
-        self.bytes.as_slice()
+        // The proof reads the range of the lent slice by this name.
+        let slice = self.bytes.as_slice();
+        slice
     }
 
     /// The number that the bytes say.

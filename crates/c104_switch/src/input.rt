@@ -218,7 +218,7 @@ impl<T: TokenKind> InputOf<T> {
     pub fn can_grant(&self) -> bool
         ensures { result ≡ is_some (granted self.now) }
     {
-        self.buffer.len() + self.buffer.granted() + 8 <= self.buffer.cap()
+        self.buffer.can_grant()
     }
 
     /// Whether `turn` would do something, which no setting and no word decides.

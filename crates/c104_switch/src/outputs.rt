@@ -100,7 +100,7 @@ impl<T: TokenKind> OutputsOf<T> {
         ensures { result ≡ is_some (from_place self.now link buffer.leave) }
     {
         match self.list.get(link) {
-            Some(output) => can_leave(output),
+            Some(output) => output.can_emit(),
             None => false,
         }
     }
@@ -110,7 +110,7 @@ impl<T: TokenKind> OutputsOf<T> {
         ensures { result ≡ is_some (at_place self.now link buffer.credited) }
     {
         match self.list.get(link) {
-            Some(output) => can_be_credited(output),
+            Some(output) => output.can_be_credited(),
             None => false,
         }
     }
@@ -120,7 +120,7 @@ impl<T: TokenKind> OutputsOf<T> {
         ensures { (token : T) → result ≡ is_some (at_place self.now link (buffer.put token)) }
     {
         match self.list.get(link) {
-            Some(output) => can_put(output),
+            Some(output) => output.can_put(),
             None => false,
         }
     }
@@ -136,30 +136,6 @@ impl<T: TokenKind> OutputsOf<T> {
     }
 }
 
-fn can_leave<T: TokenKind>(output: &OutBufferOf<T>) -> bool
-    ensures { result ≡ is_some (buffer.leave output.now) }
-{
-    output.len() > 0 && output.credit() > 0
-}
-
-fn can_be_credited<T: TokenKind>(output: &OutBufferOf<T>) -> bool
-    ensures { result ≡ is_some (buffer.credited output.now) }
-{
-    output.credit() + 8 <= 64
-}
-
-fn can_put<T: TokenKind>(output: &OutBufferOf<T>) -> bool
-    ensures { (token : T) → result ≡ is_some (buffer.put token output.now) }
-{
-    output.len() < 8
-}
-
-fn can_put_header<T: TokenKind>(output: &OutBufferOf<T>, settings: &Settings, header: &[T]) -> bool
-    ensures { result ≡ is_some (put_header settings.now header.now output.now) }
-{
-    settings.delete_header || header.len() <= 8 - output.len()
-}
-
 /// A token joins an output buffer, where there is room for it.
 fn put<T: TokenKind>(output: &mut OutBufferOf<T>, token: T) -> bool
     ensures { (result, output.new) ≡ tried (buffer.put token output.old) output.old }
@@ -172,4 +148,11 @@ fn put_header<T: TokenKind>(output: &mut OutBufferOf<T>, settings: &Settings, he
     ensures { (result, output.new) ≡ tried (put_header settings.now header.now output.old) output.old }
 {
     settings.delete_header || output.put_all(header)
+}
+
+/// Whether `put_header` would append or delete this header.
+fn can_put_header<T: TokenKind>(output: &OutBufferOf<T>, settings: &Settings, header: &[T]) -> bool
+    ensures { result ≡ is_some (put_header settings.now header.now output.now) }
+{
+    settings.delete_header || output.can_put_all(header)
 }

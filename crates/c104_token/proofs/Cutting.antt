@@ -1,6 +1,7 @@
 -- The cut of a list loses nothing.
-use Rattle.std.proofs.Common.{◌≡◌, ℕ, ◌-◌, true, false, List, [], ◌∷◌, ◌++◌, length, drop, flat_map, map, if◌then◌else◌, sym, ◌∙◌, ap, arith, append_assoc, append-nil, length-append}
+use Rattle.std.proofs.Common.{◌≡◌, ℕ, ◌-◌, true, false, List, [], ◌∷◌, ◌++◌, length, drop, flat_map, map, if◌then◌else◌, sym, ◌∙◌, ap, subst, refl, Bool, All, arith, append_assoc, append-nil, length-append}
 use Rattle.std.proofs.lemmas.List.{drop_at}
+use Rattle.std.proofs.lemmas.List.Elements.{All-nil, All-push}
 use Rattle.std.proofs.lemmas.List.Folds.{flat_map-map}
 use Rattle.c104_token.specs.Tokens.{Token, is_end}
 use Rattle.c104_token.specs.Packets.{Packet, tokens}
@@ -15,13 +16,35 @@ pieces_joined plain front (x ∷ xs) =
       | false ↦ rw (pieces_joined plain (front ++ x ∷ []) xs, append_assoc)
     ]
 
--- the packets' tokens, and then the tokens that are left, are the list
-pub packets_joined : (list : List Token) (packets : List Packet) (left : ℕ) → map tokens packets ≡ whole_pieces (λ x. x) [] list → left ≡ length (unfinished_piece (λ x. x) [] list) → flat_map tokens packets ++ drop (length list - left) list ≡ list
-packets_joined list packets left whole unfinished =
-    let U : List Token = unfinished_piece (λ x. x) [] list in
-    let W : List Token = flat_map tokens packets in
-    let is_pieces : W ≡ flat_map (λ p. p) (whole_pieces (λ x. x) [] list) = sym (flat_map-map (λ p. p) tokens packets) ∙ ap (flat_map (λ p. p)) whole in
-    let all : W ++ U ≡ list = ap (λ w. w ++ U) is_pieces ∙ pieces_joined (λ x. x) [] list in
-    let place : length W ≡ length list - left = omega (arith, ap length all, length-append W U, unfinished) in
-    let rest : drop (length list - left) list ≡ U = ap (drop (length list - left)) (sym all) ∙ drop_at W U (length list - left) place in
-    ap (λ u. W ++ u) rest ∙ all
+-- what is unfinished has no mark, where what was read of it has none
+unfinished_unmarked : {A : Type 0} (plain : A → Token) (front xs : List A) → All (λ x. is_end (plain x) ≡ false) front → All (λ x. is_end (plain x) ≡ false) (unfinished_piece plain front xs)
+unfinished_unmarked plain front [] none = none
+unfinished_unmarked {A} plain front (x ∷ xs) none =
+    by_end (is_end (plain x)) refl (unfinished_unmarked plain [] xs (All-nil (λ (y : A). is_end (plain y) ≡ false)))
+    (λ is. unfinished_unmarked plain (front ++ x ∷ []) xs (All-push (λ (y : A). is_end (plain y) ≡ false) front x none is))
+  where
+    by_end : (b : Bool) → is_end (plain x) ≡ b → All (λ y. is_end (plain y) ≡ false) (unfinished_piece plain [] xs) → (is_end (plain x) ≡ false → All (λ y. is_end (plain y) ≡ false) (unfinished_piece plain (front ++ x ∷ []) xs)) →
+        All (λ y. is_end (plain y) ≡ false) (if b then unfinished_piece plain [] xs else unfinished_piece plain (front ++ x ∷ []) xs)
+    by_end true is anew more = anew
+    by_end false is anew more = more is
+
+-- the packets and the tokens that are left
+module _ (list : List Token) (packets : List Packet) (left : ℕ) (whole : map tokens packets ≡ whole_pieces (λ x. x) [] list) (unfinished : left ≡ length (unfinished_piece (λ x. x) [] list)) where
+  abbrev rest : List Token
+  rest = unfinished_piece (λ x. x) [] list
+
+  -- the packets' tokens, and then what is unfinished, are the list
+  all_tokens : flat_map tokens packets ++ rest ≡ list
+  all_tokens = ap (λ w. w ++ rest) (sym (flat_map-map (λ p. p) tokens packets) ∙ ap (flat_map (λ p. p)) whole) ∙ pieces_joined (λ x. x) [] list
+
+  -- the tokens that are left are what is unfinished
+  left_is : drop (length list - left) list ≡ rest
+  left_is =
+      let place : length (flat_map tokens packets) ≡ length list - left = omega (arith, ap length all_tokens, length-append (flat_map tokens packets) rest, unfinished) in
+      ap (drop (length list - left)) (sym all_tokens) ∙ drop_at (flat_map tokens packets) rest (length list - left) place
+
+  pub packets_joined : flat_map tokens packets ++ drop (length list - left) list ≡ list
+  packets_joined = ap (λ u. flat_map tokens packets ++ u) left_is ∙ all_tokens
+
+  pub left_unmarked : All (λ x. is_end x ≡ false) (drop (length list - left) list)
+  left_unmarked = let HasNone : List Token → Type 0 = λ xs. All (λ x. is_end x ≡ false) xs in subst HasNone (sym left_is) (unfinished_unmarked (λ (x : Token). x) [] list (All-nil (λ (x : Token). is_end x ≡ false)))

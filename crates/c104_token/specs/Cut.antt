@@ -1,5 +1,5 @@
 -- The cut of a list of tokens into packets: each piece goes up to the next mark, and is one packet.
-use Rattle.std.specs.Prelude.{ℕ, ◌-◌, ◌≡◌, List, [], ◌∷◌, ◌++◌, length, drop, flat_map, map, if◌then◌else◌}
+use Rattle.std.specs.Prelude.{ℕ, ◌-◌, ◌≡◌, false, List, [], ◌∷◌, ◌++◌, length, drop, flat_map, All, map, if◌then◌else◌}
 use Rattle.c104_token.specs.Tokens.{Token, is_end}
 use Rattle.c104_token.specs.Packets.{Packet, tokens}
 
@@ -20,5 +20,6 @@ pub record IsCut (list : List Token) (packets : List Packet) (left : ℕ) : Type
   -- the packets are the whole pieces, in order
   pub whole : map tokens packets ≡ whole_pieces (λ x. x) [] list
   pub unfinished : left ≡ length (unfinished_piece (λ x. x) [] list)
-  -- nothing is lost: the packets' tokens, and then the tokens that are left, are the list
+  -- what is left has no mark, and nothing is lost: the packets' tokens, and then the tokens that are left, are the list
   pub joined : flat_map tokens packets ++ drop (length list - left) list ≡ list
+  pub no_mark : All (λ x. is_end x ≡ false) (drop (length list - left) list)

@@ -17,7 +17,7 @@ is_end (Byte b) = false
 is_end token.Eop = true
 is_end token.Eom = true
 
--- the number that a byte stands for
+-- the number that a byte stands for; a terminator stands for none, and counts as 0
 abbrev pub byte_of : Token → ℕ
 byte_of (Byte b) = b
 byte_of token.Eop = 0

@@ -21,7 +21,7 @@ impl<T: Drop> From<AllocFailed<T>> for NoMemory {
     }
 }
 
-/// Why a packet's text was refused: the first fault from the left.
+/// Why a packet's text was refused: the first fault from the left, or want of memory in its place.
 #[derive(Clone, Copy, Debug, PartialEq, Eq, Error)]
 pub enum TokenFault {
     /// A word is neither two hexadecimal digits nor a terminator.

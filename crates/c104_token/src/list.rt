@@ -53,11 +53,13 @@ impl<T> Items<T> {
 }
 
 impl Items<u8> {
-    /// The bytes, each of which is below 256.
+    /// The bytes, as `as_slice`. The contract says here that each is below 256, which the list of
+    /// numbers that other contracts see doesn't tell.
     pub fn as_bytes(&self) -> &[u8]
         ensures value { result.now ≡ self.now }
         ensures range { All (λ byte. byte < 256) self.now }
     {
+        // The proof reads the range of the lent slice by this name.
         let bytes = self.items.as_slice();
         bytes
     }

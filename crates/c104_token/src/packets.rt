@@ -1,4 +1,4 @@
-ghost use Rattle.std.specs.Prelude.{◌≡◌, ◌↔◌, [], map, IfOk, IsTrue};
+ghost use Rattle.std.specs.Prelude.{◌≡◌, ◌↔◌, [], ◌∷◌, ◌++◌, map, IfOk, IsTrue};
 ghost use Rattle.c104_token.specs.Tokens.{Byte};
 ghost use Rattle.c104_token.specs.Packets.{tokens};
 ghost use Rattle.c104_token.specs.Cut.{IsCut};
@@ -7,13 +7,14 @@ use crate::faults::NoMemory;
 use crate::list::{Bytes, Items};
 use crate::tokens::{Mark, Token};
 use std::alloc::{AllocError, Global};
+use std::iter::once;
 use std::mem;
 
-/// What a terminal sends and receives: bytes, of which the first one or two are the header, and
-/// one terminator.
+/// What a terminal sends and receives: bytes, of which the first one or two are its header where it
+/// has any, and one terminator.
 #[derive(Debug, Drop)]
 pub struct Packet {
-    /// The header and the body.
+    /// The header and the body; a packet may be empty, and a link may delete its header.
     pub bytes: Bytes,
     /// How the packet ends.
     pub mark: Mark,
@@ -40,24 +41,26 @@ impl Packet {
     }
 }
 
-/// The tokens of a packet: one for each byte, and then its mark.
+/// The tokens of a packet: one for each byte, and then its mark. The only error is want of memory.
 pub fn packet_tokens(alloc: Global, packet: &Packet) -> Result<Vec<Token>, NoMemory>
     ensures { IfOk result (λ list. list.items ≡ tokens packet.now) }
 {
-    let mut list = byte_tokens(alloc, packet.bytes.as_slice())?;
-    list.push(packet.mark.token())?;
-    Ok(list)
+    Ok(all_tokens(alloc, packet.bytes.as_slice(), packet.mark.token())?)
 }
 
-/// One token for each byte.
-fn byte_tokens(alloc: Global, bytes: &[u8]) -> Result<Vec<Token>, AllocError>
-    ensures { IfOk result (λ list. list.items ≡ map Byte bytes.now) }
+/// One token for each byte, and then the last token.
+fn all_tokens(alloc: Global, bytes: &[u8], last: Token) -> Result<Vec<Token>, AllocError>
+    ensures { IfOk result (λ list. list.items ≡ map Byte bytes.now ++ last ∷ []) }
 {
-    bytes.iter().map(|byte| Token::Byte(*byte)).collect(alloc)
+    bytes
+        .iter()
+        .map(|byte| Token::Byte(*byte))
+        .chain(once(last))
+        .collect(alloc)
 }
 
 /// Cuts tokens after each mark. Gives the whole packets, and how many tokens at the end belong
-/// to a packet whose mark has not come.
+/// to a packet whose mark has not come. The only error is want of memory.
 pub fn cut_packets(alloc: Global, list: &[Token]) -> Result<(Vec<Packet>, usize), NoMemory>
     ensures { IfOk result (λ cut. IsCut list.now cut.0.items cut.1) }
 {

@@ -1,6 +1,6 @@
 use crate::{
-    Bytes, Items, MAX_PACKET, Mark, NoMemory, Packet, Token, TokenFault, TokenKind, cut_packets,
-    packet_tokens, parse_packet, parse_words, print_packet,
+    Bytes, Items, MAX_PACKET_BYTES, Mark, NoMemory, Packet, Token, TokenFault, TokenKind,
+    cut_packets, packet_tokens, parse_packet, parse_words, print_packet,
 };
 use std::alloc::{AllocError, Global};
 use std::test::Fail;
@@ -38,10 +38,8 @@ fn refused_texts(rt: HostRuntime) {
         ("01 eom zz", TokenFault::AfterEnd),
         ("zz eop 02", TokenFault::BadHex),
     ] {
-        match parse_packet(rt.alloc(), text) {
-            Ok(_) => assert!(rt; false, "{text:?} was read"),
-            Err(found) => assert_eq!(rt; found, fault, "at {text:?}"),
-        }
+        let found = parse_packet(rt.alloc(), text).err();
+        assert_eq!(rt; found, Some(fault), "at {text:?}");
     }
 }
 
@@ -65,7 +63,7 @@ fn printed_texts(rt: HostRuntime) -> Result<(), Fail> {
 
 #[test]
 fn longest_packet(rt: HostRuntime) -> Result<(), Fail> {
-    let mut text = body(rt.alloc(), MAX_PACKET)?;
+    let mut text = body(rt.alloc(), MAX_PACKET_BYTES)?;
     text.push_str("eop")?;
     let longest = parse_packet(rt.alloc(), text.as_str())?;
     assert_eq!(rt; longest.bytes.as_bytes().len(), 4096);
@@ -77,12 +75,10 @@ fn longest_packet(rt: HostRuntime) -> Result<(), Fail> {
         ("", TokenFault::NoEnd),
         ("eop aa", TokenFault::AfterEnd),
     ] {
-        let mut text = body(rt.alloc(), MAX_PACKET)?;
+        let mut text = body(rt.alloc(), MAX_PACKET_BYTES)?;
         text.push_str(end)?;
-        match parse_packet(rt.alloc(), text.as_str()) {
-            Ok(_) => assert!(rt; false, "{end:?} was read"),
-            Err(found) => assert_eq!(rt; found, fault, "at {end:?}"),
-        }
+        let found = parse_packet(rt.alloc(), text.as_str()).err();
+        assert_eq!(rt; found, Some(fault), "at {end:?}");
     }
     Ok(())
 }
@@ -131,11 +127,24 @@ fn plain_kind_and_faults(rt: HostRuntime) -> Result<(), Fail> {
         plain_of::<Token>(Token::Byte(5)),
         (Token::Byte(5), Token::Byte(5))
     );
-    let none = NoMemory::from(AllocError);
-    let text = format!(in rt.alloc(); "{none}; {}", TokenFault::TooLong)?;
     assert_eq!(rt;
-        text.as_str(),
-        "no memory; the packet has more than 4096 bytes"
+        format!(in rt.alloc(); "{}", NoMemory::from(AllocError))?.as_str(),
+        "no memory"
     );
+    for (fault, message) in [
+        (
+            TokenFault::BadHex,
+            "a word is neither two hexadecimal digits nor `eop` or `eom`",
+        ),
+        (
+            TokenFault::NoEnd,
+            "the packet has no end: `eop` or `eom` is wanted",
+        ),
+        (TokenFault::AfterEnd, "a word follows the packet's end"),
+        (TokenFault::TooLong, "the packet has more than 4096 bytes"),
+        (TokenFault::from(AllocError), "no memory"),
+    ] {
+        assert_eq!(rt; format!(in rt.alloc(); "{fault}")?.as_str(), message);
+    }
     Ok(())
 }

@@ -9,8 +9,8 @@ use crate::packets::Packet;
 use crate::tokens::Mark;
 use std::alloc::{AllocError, Global};
 
-/// The most bytes of a packet, header included.
-pub const MAX_PACKET: usize = 4096;
+/// The most bytes of a packet that is read from a text, header included: a limit of this emulator.
+pub const MAX_PACKET_BYTES: usize = 4096;
 
 /// What a word of a packet's text says.
 #[derive(Clone, Copy)]
@@ -20,8 +20,11 @@ enum Word {
     Other,
 }
 
-/// Reads a packet: words parted by spaces, two hexadecimal digits of either case for each byte,
-/// and then `eop` or `eom`. A refusal is the first fault from the left.
+/// Reads a packet: words parted by spaces, two hexadecimal digits of either case for each of at most
+/// 4,096 bytes, and then `eop` or `eom`.
+///
+/// A refusal is the first fault from the left: BadHex, TooLong at a 4,097th byte, AfterEnd at a word
+/// behind the terminator, or NoEnd. NoMemory may come in place of any answer.
 pub fn parse_packet(alloc: Global, text: &str) -> Result<Packet, TokenFault>
     ensures value { GivesOrNoMemory result (parsed text.now) }
     ensures accepted { IfOk result (λ packet. IsPacketText text.now packet) }
@@ -39,7 +42,7 @@ pub fn parse_words(alloc: Global, words: &[&[u8]]) -> Result<Packet, TokenFault>
     for (place, word) in words.iter().enumerate() {
         match read_word(word) {
             Word::Byte(byte) => {
-                if bytes.len() >= MAX_PACKET {
+                if bytes.len() >= MAX_PACKET_BYTES {
                     return Err(TokenFault::TooLong);
                 }
                 bytes.push(byte)?;
@@ -96,7 +99,7 @@ fn read_digit(digit: u8) -> Option<u8>
 }
 
 /// Writes a packet in lower case, one space between words. `parse_packet` reads it back where it
-/// has at most 4,096 bytes.
+/// has at most 4,096 bytes. The only error is want of memory.
 pub fn print_packet(alloc: Global, packet: &Packet) -> Result<String, NoMemory>
     ensures text { IfOk result (λ text. string_bytes text ≡ printed packet.now) }
     ensures reads_back { IfOk result (λ text. length packet.now.bytes ≤ 4096 → parsed (string_bytes text) ≡ Ok packet.now) }

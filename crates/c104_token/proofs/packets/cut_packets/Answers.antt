@@ -4,7 +4,7 @@ use Rattle.std.proofs.lemmas.List.{drop_all}
 use Rattle.c104_token.specs.Tokens.{Byte}
 use Rattle.c104_token.specs.Packets.{tokens}
 use Rattle.c104_token.specs.Cut.{whole_pieces, unfinished_piece}
-use Rattle.c104_token.proofs.Cutting.{packets_joined}
+use Rattle.c104_token.proofs.Cutting.{packets_joined, left_unmarked}
 use Rattle.c104_token.proofs.packets.cut_packets.Goals as goal
 
 -- after the loop no token is left to read
@@ -19,4 +19,5 @@ returns c =
       whole = whole;
       unfinished = left;
       joined = packets_joined c.args.list.now c.loop-token.packets.items c.len.result whole left;
+      no_mark = left_unmarked c.args.list.now c.loop-token.packets.items c.len.result whole left;
     }

@@ -8,8 +8,8 @@ loop-place-preserved c =
     ap (λ (bytes : List ℕ). read (map word_of (drop (c.loop-place.place + 1) (map (λ (w : Bor (List ℕ)). w.now) c.args.words.now))) bytes) (c.in_ok-push-in-Byte.ensures.items)
     ∙ after_byte c.args.words.now c.loop-place.place _ c.loop-place-test.true c.loop-place.bytes.items c.loop-place.invariant c.in-Byte.byte c.in-Byte.ensures (omega arith)
 
-pub returns-then-len-ge-MAX_PACKET : goal.returns-then-len-ge-MAX_PACKET
-returns-then-len-ge-MAX_PACKET c = inl (at_full c.args.words.now c.loop-place.place _ c.loop-place-test.true c.loop-place.bytes.items c.loop-place.invariant c.in-Byte.byte c.in-Byte.ensures (omega arith))
+pub returns-then-len-ge-MAX_PACKET_BYTES : goal.returns-then-len-ge-MAX_PACKET_BYTES
+returns-then-len-ge-MAX_PACKET_BYTES c = inl (at_full c.args.words.now c.loop-place.place _ c.loop-place-test.true c.loop-place.bytes.items c.loop-place.invariant c.in-Byte.byte c.in-Byte.ensures (omega arith))
 
 pub returns-then-place-words : goal.returns-then-place-words
 returns-then-place-words c = inl (at_early_end c.args.words.now c.loop-place.place _ c.loop-place-test.true c.loop-place.bytes.items c.loop-place.invariant c.in-End.mark c.in-End.ensures c.if-place-words.true)

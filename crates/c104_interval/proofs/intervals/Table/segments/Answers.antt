@@ -3,7 +3,7 @@ use Rattle.std.proofs.lemmas.List.Filters.{dedup_is}
 use Rattle.std.proofs.lemmas.List.Kept.{Contains-dedup_nat, Contains-from_dedup}
 use Rattle.std.proofs.lemmas.List.Sorted.{Contains-permutation, IsPermutation-sym}
 use Rattle.std.proofs.lemmas.Map.Keys.{IsStrictlyIncreasing-dedup}
-use Rattle.c104_interval.proofs.SegmentLemmas.{AreSeparatorsBelow-from, IsConstantBetween-from, SelectsBySegment-from, starts_with_zero_from}
+use Rattle.c104_interval.proofs.SegmentLemmas.{AreSegmentsBelow-from, IsConstantBetween-from, SelectsBySegment-from, starts_with_zero_from}
 use Rattle.c104_interval.proofs.intervals.Table.segments.Goals as goal
 
 pub returns-clause-ascending : goal.returns-clause-ascending
@@ -14,7 +14,7 @@ returns-clause-members c =
     let is = dedup_is _ _ _ c.dedup.ensures.filtered in
     let moved = c.sort_unstable.ensures.permutation in
     let made = c.in_ok-segments.ensures in
-    AreSeparatorsBelow-from _ _ _ (λ h. (
+    AreSegmentsBelow-from _ _ _ (λ h. (
       (λ here. rw (← made) (Contains-permutation _ _ h (IsPermutation-sym _ _ moved) (Contains-from_dedup _ _ h (rw is at here)))),
       (λ here. rw is (Contains-dedup_nat _ h (Contains-permutation _ _ h moved (rw (← made) at here)))),
     ))

@@ -1,4 +1,4 @@
-use Rattle.std.proofs.Common.{◌≡◌, ◌∙◌, Some, None, List, length, slice_get, is_some, ap, refl}
+use Rattle.std.proofs.Common.{◌≡◌, ◌∙◌, Some, List, length, slice_get, is_some, ap, refl}
 use Rattle.std.proofs.lemmas.Option.{slice_get_read, slice_get_past}
 use Rattle.c104_link.specs.Steps.{with_place}
 use Rattle.c104_switch.specs.Switch.{Input}
