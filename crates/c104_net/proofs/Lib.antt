@@ -2,7 +2,16 @@ pub mod TextNumbers
 pub mod PlanReading
 pub mod PlanNames
 pub mod PlanKept
-pub mod PlanRead
+pub mod PlanLinesKept
+pub mod PlanTables
+pub mod PlanDue
 pub mod Sending
 pub mod Crossing
 pub mod Running
+pub mod BalanceWires
+pub mod BalancePlaces
+pub mod BalanceTurns
+pub mod BalanceNodes
+pub mod BalanceSteps
+pub mod Balance
+pub mod BalancePlaced

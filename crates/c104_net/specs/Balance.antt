@@ -1,6 +1,6 @@
 -- What every network keeps: at the two ends of each wire the credit of the one is what the other has
 -- granted.
-use Rattle.std.specs.Prelude.{ℕ, ◌≡◌, List, Option, Some, None, slice_get}
+use Rattle.std.specs.Prelude.{ℕ, ◌≡◌, ◌<◌, List, Option, Some, None, length, slice_get}
 use Rattle.c104_link.specs.Steps.{◌>>=◌}
 use Rattle.c104_net.specs.declared.node.NodeOf.TheVariants.{Switch, Terminal}
 use Rattle.c104_net.specs.declared.events.Port.{Port}
@@ -27,3 +27,17 @@ granted_at nodes end = slice_get nodes end.node >>= granted_of end.link
 
 abbrev pub IsBalanced : {A : Type 0} → Network A → Type 0
 IsBalanced net = (p q : Port) → peer net.plan p ≡ Some q → credit_at net.nodes (end_of net.plan p) ≡ granted_at net.nodes (end_of net.plan q)
+
+-- a node that is a switch
+abbrev pub IsSwitch : {A : Type 0} → Node A → Type 0
+IsSwitch (Switch s) = Unit {0}
+IsSwitch (Terminal t) = ⊥
+
+-- the nodes at the first so many places are switches
+abbrev pub AreInPlace : {A : Type 0} → ℕ → List (Node A) → Type 0
+AreInPlace {A} count nodes = (place : ℕ) (n : Node A) → place < count → slice_get nodes place ≡ Some n → IsSwitch n
+
+-- what the type of a network keeps: no terminal at a switch's place, and the balance
+pub record IsSteady {A : Type 0} (net : Network A) : Type 0 where
+  pub in_place : AreInPlace (length net.plan.switches) net.nodes
+  pub balanced : IsBalanced net

@@ -1,10 +1,12 @@
 -- Descriptions: lines in order, up to the first faulty one.
-use Rattle.std.specs.Prelude.{◌≡◌, ℕ, ◌+◌, ◌⊎◌, List, [], ◌∷◌, length, nat_le, if◌then◌else◌, Result, Ok, Err, MatchResult}
+use Rattle.std.specs.Prelude.{◌≡◌, ℕ, ◌+◌, ◌<◌, ◌⊎◌, List, [], ◌∷◌, length, take, nat_le, slice_get, if◌then◌else◌, Some, Result, Ok, Err, MatchResult}
 use Rattle.c104_net.specs.declared.plan.faults.PlanFaultKind.TheVariants.{NoMemory, TooLong}
+use Rattle.c104_net.specs.declared.plan.plans.Lists.{Lists}
 use Rattle.c104_net.specs.TextCut.{lines}
 use Rattle.c104_net.specs.PlanFaults.{PlanFault, PlanFaultKind, fault_at, no_memory}
 use Rattle.c104_net.specs.Plans.{Plan}
 use Rattle.c104_net.specs.PlanLines.{read_line}
+use Rattle.c104_net.specs.PlanLists.{plan_of}
 
 -- what comes after the line of this number, or its fault
 abbrev pub after : ℕ → Result Plan PlanFaultKind → (Plan → Result Plan PlanFault) → Result Plan PlanFault
@@ -37,3 +39,28 @@ GivesOrNoMemory result due = (result ≡ due) ⊎ (result ≡ Err no_memory)
 -- the same of one line, which made this of a plan
 abbrev pub ReadsLine : {X : Type 0} → Result X PlanFaultKind → Plan → Result Plan PlanFaultKind → Type 0
 ReadsLine result made due = MatchResult result (λ _. due ≡ Ok made) (λ kind. (due ≡ Err kind) ⊎ (kind ≡ NoMemory))
+
+-- a line is the first faulty one: the lines before it give a plan, and after that it has this fault
+pub record IsFirstFault (text : List ℕ) (fault : PlanFault) : Type 0 where
+  -- how many lines come before it
+  pub place : ℕ
+  pub line : List ℕ
+  pub kind : PlanFaultKind
+  pub before : Plan
+  pub is_line : slice_get (lines text) place ≡ Some line
+  pub before_it : read_lines 1 (take place (lines text)) empty_plan ≡ Ok before
+  pub is_faulty : read_line before line ≡ Err kind
+  pub is_told : fault ≡ fault_at (place + 1) kind
+
+-- a text that is too long, whatever its lines say
+pub record IsTooLong (text : List ℕ) (fault : PlanFault) : Type 0 where
+  pub is_long : most_bytes < length text
+  pub is_told : fault ≡ fault_at 0 TooLong
+
+-- why a description may be refused
+abbrev pub IsDue : List ℕ → PlanFault → Type 0
+IsDue text fault = (fault ≡ no_memory) ⊎ (IsTooLong text fault ⊎ IsFirstFault text fault)
+
+-- the same as GivesOrNoMemory of the lists in which the plan is kept
+abbrev pub GivesLists : Result Lists PlanFault → Result Plan PlanFault → Type 0
+GivesLists result due = MatchResult result (λ lists. due ≡ Ok (plan_of lists)) (λ fault. (due ≡ Err fault) ⊎ (fault ≡ no_memory))

@@ -33,17 +33,23 @@ is_taken plan name = list_any (λ other. bytes_eq other name) (names plan)
 unfoldable pub is_linked : Plan → ℕ → ℕ → Bool
 is_linked plan switch link = list_any (λ (t : Terminal). t.switch == switch && t.link == link) plan.terminals
 
+-- whether a row is of this input
+abbrev pub is_row_of : ℕ → ℕ → PlanRow → Bool
+is_row_of switch link row = row.switch == switch && row.link == link
+
 -- the rows of an input, in order
 unfoldable pub rows_of : Plan → ℕ → ℕ → List PlanRow
-rows_of plan switch link = filter (λ (r : PlanRow). r.switch == switch && r.link == link) plan.rows
+rows_of plan switch link = filter (is_row_of switch link) plan.rows
 
--- how many switches and terminals a plan may have, and how many rows an input
+-- how many switches a plan may have: for now one
 abbrev pub most_switches : ℕ
 most_switches = 1
 
+-- how many terminals a plan may have
 abbrev pub most_terminals : ℕ
 most_terminals = 256
 
+-- how many rows an input may have
 abbrev pub most_rows : ℕ
 most_rows = 36
 

@@ -1,11 +1,12 @@
 //! A network of switches and terminals.
 ghost use Rattle.std.specs.Prelude.{◌≡◌, ◌≤◌, length, slice_get, option_map, MatchResult, IfOk, OnOk, IsErrOf, IfSome, Some, None};
 ghost use Rattle.std.specs.Option.{option_copied};
-ghost use Rattle.c104_net.specs.Plans.{Terminal as ThePlanTerminal};
+ghost use Rattle.c104_net.specs.Plans.{IsPlan};
 ghost use Rattle.c104_net.specs.Wiring.{peer, end_of, other_end, terminal_wires, IsInPlan};
 ghost use Rattle.c104_net.specs.declared.events.Event.TheVariants as event;
 ghost use Rattle.c104_switch.specs.Actions.{reply_of, reply_with};
 ghost use Rattle.c104_net.specs.PlanImage.{Fits};
+ghost use Rattle.c104_net.specs.Balance.{IsBalanced};
 ghost use Rattle.c104_net.specs.Network.{placed, arrived_of, Answers, Runs, event_fault, port_fault, wire_fault, terminal_place};
 
 use crate::events::{Event, EventFault, PlaceFault, Port};
@@ -43,10 +44,13 @@ impl<T: TokenKind> Model for NetOf<T> {
     ghost use Rattle.c104_switch.specs.Actions.{reply_of, reply_with};
     ghost use Rattle.c104_net.specs.PlanImage.{Fits};
     ghost use Rattle.c104_net.specs.Network.{placed, arrived_of, Network};
+    ghost use Rattle.c104_net.specs.Balance.{IsSteady};
 
     ghost Value = { Network T };
 
     ghost view = { λ net. record { plan = net.plan; nodes = net.nodes } };
+
+    ghost invariant = { λ net. IsSteady (record { plan = net.plan; nodes = net.nodes }) };
 }
 
 impl<T: TokenKind> NetOf<T> {
@@ -73,7 +77,8 @@ impl<T: TokenKind> NetOf<T> {
     /// The tokens that arrived at a terminal since the start, in order. None where the plan has no
     /// such terminal.
     pub fn arrived(&self, terminal: usize) -> Option<&[T]>
-        ensures { option_copied result ≡ arrived_of self.now terminal }
+        ensures tokens { option_copied result ≡ arrived_of self.now terminal }
+        ensures balanced { IsBalanced self.now }
     {
         if terminal >= self.plan.terminals().len() {
             return None;
@@ -224,6 +229,7 @@ fn wired_ends(plan: &Plan, port: Port) -> Result<Ends, EventFault>
     ensures fault { MatchResult result (λ ends. port_fault plan.now port None ≡ None) (λ fault. port_fault plan.now port (wire_fault (peer plan.now port)) ≡ Some fault) }
     ensures near { IfOk result (λ ends. ends.near ≡ end_of plan.now port) }
     ensures far { IfOk result (λ ends. option_map (end_of plan.now) (peer plan.now port) ≡ Some ends.far) }
+    ensures kept { IfOk result (λ ends. IsPlan plan.now) }
 {
     match port {
         Port::Switch(switch, _) if switch >= plan.switches().len() => return Err(
@@ -247,6 +253,7 @@ fn wired_ends(plan: &Plan, port: Port) -> Result<Ends, EventFault>
 /// The port that a port is wired to.
 fn peer(plan: &Plan, port: Port) -> Option<Port>
     ensures value { result ≡ peer plan.now port }
+    ensures kept { IsPlan plan.now }
     ensures inside { IfSome result (IsInPlan plan.now.terminals) }
 {
     peer_among(plan.terminals(), port)

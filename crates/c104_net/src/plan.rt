@@ -16,3 +16,6 @@ pub use plans::{Name, Plan, PlanRow, Terminal};
 pub use text::{
     Dots, cut_lines, cut_words, find_dots, is_name, is_plain, read_number, uncommented,
 };
+
+#[cfg(test)]
+mod tests;

@@ -6,14 +6,11 @@ ghost use Rattle.c104_link.specs.Buffers.{IsValidCap};
 ghost use Rattle.c104_link.specs.Steps.{tried, taken};
 ghost use Rattle.c104_net.specs.Terminals.{first_terminal, enter, leave, credit_out, credit_in, drain, send, sent_from, sent_tokens};
 
-use c104_link::InBufferOf;
+use c104_link::{CREDIT_LIMIT, InBufferOf, TOKENS_OF_A_GRANT};
 use c104_token::{NoMemory, Packet, Token, TokenKind};
 use std::alloc::Global;
 use std::collections::VecDeque;
 use std::marker::Model;
-
-/// The most that the other end of a wire can have granted.
-const CREDIT_LIMIT: usize = 64;
 
 /// A terminal, with its end of the wire.
 #[derive(Drop)]
@@ -103,10 +100,10 @@ impl<T: TokenKind> TerminalOf<T> {
     pub fn credit_in(&mut self) -> bool
         ensures { (result, self.new) ≡ tried (credit_in self.old) self.old }
     {
-        if self.credit + 8 > CREDIT_LIMIT {
+        if self.credit + TOKENS_OF_A_GRANT > CREDIT_LIMIT {
             return false;
         }
-        self.credit += 8;
+        self.credit += TOKENS_OF_A_GRANT;
         true
     }
 
@@ -114,7 +111,7 @@ impl<T: TokenKind> TerminalOf<T> {
     pub fn can_credit_in(&self) -> bool
         ensures { result ≡ is_some (credit_in self.now) }
     {
-        self.credit + 8 <= CREDIT_LIMIT
+        self.credit + TOKENS_OF_A_GRANT <= CREDIT_LIMIT
     }
 
     /// Whether a token came in that can arrive.

@@ -1,8 +1,8 @@
 //! Descriptions: whole texts.
-ghost use Rattle.std.specs.Prelude.{◌≡◌, ◌⊎◌, map, Err, Ok, MatchResult, IfOk};
+ghost use Rattle.std.specs.Prelude.{◌≡◌, ◌⊎◌, map, Err, Ok, MatchResult, IfErr, IfOk};
 ghost use Rattle.c104_net.specs.PlanFaults.{fault_at, no_memory};
 ghost use Rattle.c104_net.specs.PlanLists.{plan_of};
-ghost use Rattle.c104_net.specs.PlanText.{described, empty_plan, read_lines, GivesOrNoMemory};
+ghost use Rattle.c104_net.specs.PlanText.{described, empty_plan, read_lines, GivesLists, GivesOrNoMemory, IsDue};
 ghost use Rattle.c104_net.specs.Plans.{IsPlan};
 
 use super::faults::{PlanFault, PlanFaultKind};
@@ -22,6 +22,9 @@ pub const MAX_DESCRIPTION: usize = 1_048_576;
 pub fn read_description(alloc: Global, text: &[u8]) -> Result<Plan, PlanFault>
     ensures described { GivesOrNoMemory result (described text.now) }
     ensures kept { IfOk result IsPlan }
+
+    // The first faulty line, in the sense of the word: the lines before it are a description.
+    ensures due { IfErr result (IsDue text.now) }
 {
     if text.len() > MAX_DESCRIPTION {
         return Err(fault_at(0, PlanFaultKind::TooLong));
@@ -33,7 +36,7 @@ pub fn read_description(alloc: Global, text: &[u8]) -> Result<Plan, PlanFault>
 
 /// Reads the lines of a description, the first of which is line 1.
 fn read_lines(alloc: Global, lines: &[&[u8]]) -> Result<Lists, PlanFault>
-    ensures { let due = read_lines 1 (map (λ line. line.now) lines.now) empty_plan in MatchResult result (λ lists. due ≡ Ok (plan_of lists)) (λ fault. (due ≡ Err fault) ⊎ (fault ≡ no_memory)) }
+    ensures { GivesLists result (read_lines 1 (map (λ line. line.now) lines.now) empty_plan) }
 {
     let mut lists = Lists::new(alloc);
     for (index, line) in lines.iter().enumerate() {

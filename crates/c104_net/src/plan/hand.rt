@@ -1,7 +1,7 @@
 //! The image that a plan's own lines give.
 ghost use Rattle.std.specs.Prelude.{◌≡◌, length, map, IfOk};
 ghost use Rattle.std.specs.List.{range_with_len};
-ghost use Rattle.c104_net.specs.PlanImage.{hand_image, range_of, table_of, tables_of};
+ghost use Rattle.c104_net.specs.PlanImage.{Fits, hand_image, range_of, table_of, tables_of};
 
 use super::image::{Image, LINKS};
 use super::plans::Plan;
@@ -13,7 +13,8 @@ use std::alloc::{AllocError, Global};
 /// by row from 0 on. The base of each table is 0, and its other rows are as after a reset. Only
 /// want of memory is refused.
 pub fn hand_image(alloc: Global, plan: &Plan) -> Result<Image, NoMemory>
-    ensures { IfOk result (λ image. image ≡ hand_image plan.now) }
+    ensures image { IfOk result (λ image. image ≡ hand_image plan.now) }
+    ensures fits { IfOk result (λ image. Fits image plan.now) }
 {
     let ranges = ranges(alloc, plan)?;
     let tables = all_tables(alloc, plan)?;
@@ -32,7 +33,8 @@ fn ranges(alloc: Global, plan: &Plan) -> Result<Vec<(u32, u32)>, AllocError>
 
 /// The tables of each switch.
 fn all_tables(alloc: Global, plan: &Plan) -> Result<Vec<Items<Table>>, AllocError>
-    ensures { IfOk result (λ tables. tables.items ≡ map (tables_of plan.now) (range_with_len 0 (length plan.now.switches))) }
+    ensures { IfOk result (λ tables. tables.items
+        ≡ map (tables_of plan.now) (range_with_len 0 (length plan.now.switches))) }
 {
     let mut all = Vec::new(alloc);
     for switch in 0..plan.switches().len() {
@@ -54,13 +56,14 @@ fn tables_of(alloc: Global, plan: &Plan, switch: usize) -> Result<Vec<Table>, Al
 }
 
 /// The table of an input.
+#[tactic(auto, using(crate::proofs::PlanTables::room_in))]
 fn table_of(plan: &Plan, switch: usize, link: usize) -> Table
     ensures { result ≡ table_of plan.now switch link }
 {
     let mut table = Table::reset();
     let mut count = 0;
     for row in plan.rows() {
-        if row.switch == switch && row.link == link {
+        if row.is_of(switch, link) {
             table.rows[count] = Row {
                 limit: row.limit,
                 select: row.select,

@@ -43,14 +43,6 @@ impl Image {
         self.ranges.get(terminal).copied()
     }
 
-    /// The tables of all switches, by number: one for each input of a switch.
-    pub fn all_tables(&self) -> &[Items<Table>]
-        ensures tables { result.now ≡ self.now.tables }
-        ensures all { All (λ tables. length tables ≡ 32) self.now.tables }
-    {
-        self.tables.as_slice()
-    }
-
     /// The tables of a switch, one for each of its 32 inputs.
     pub fn tables(&self, switch: usize) -> Option<&[Table]>
         ensures tables { option_copied result ≡ slice_get self.now.tables switch }
@@ -58,5 +50,13 @@ impl Image {
     {
         let tables = self.tables.get(switch)?;
         Some(tables.as_slice())
+    }
+
+    /// The tables of all switches, by number.
+    pub fn all_tables(&self) -> &[Items<Table>]
+        ensures tables { result.now ≡ self.now.tables }
+        ensures all { All (λ tables. length tables ≡ 32) self.now.tables }
+    {
+        self.tables.as_slice()
     }
 }

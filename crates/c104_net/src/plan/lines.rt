@@ -11,7 +11,7 @@ use super::words::{Keyword, read_keyword, read_number_to, read_port, read_select
 use c104_interval::ROWS;
 use std::alloc::Global;
 
-/// The most switches of a plan.
+/// The most switches of a plan: for now one.
 const MAX_SWITCHES: usize = 1;
 
 /// The most terminals of a plan.
@@ -36,7 +36,8 @@ fn read_words(
     is_plain: bool,
     words: &[&[u8]],
 ) -> Result<(), PlanFaultKind>
-    ensures { ReadsLine result (plan_of lists.new) (words_line (plan_of lists.old) is_plain (map (λ word. word.now) words.now)) }
+    ensures { ReadsLine result (plan_of lists.new)
+        (words_line (plan_of lists.old) is_plain (map (λ word. word.now) words.now)) }
 {
     let [first, rest @ ..] = words else {
         return Ok(());
@@ -80,7 +81,8 @@ fn add_terminal(
     name: &[u8],
     port: &[u8],
 ) -> Result<(), PlanFaultKind>
-    ensures { ReadsLine result (plan_of lists.new) (terminal_line (plan_of lists.old) name.now port.now) }
+    ensures { ReadsLine result (plan_of lists.new)
+        (terminal_line (plan_of lists.old) name.now port.now) }
 {
     let port = read_port(port)?;
     if !(is_name(name) && is_name(port.name)) {
@@ -112,7 +114,8 @@ fn add_terminal(
 
 /// Reads `row S.l limit select`.
 fn add_row(lists: &mut Lists, port: &[u8], limit: &[u8], select: &[u8]) -> Result<(), PlanFaultKind>
-    ensures { ReadsLine result (plan_of lists.new) (row_line (plan_of lists.old) port.now limit.now select.now) }
+    ensures { ReadsLine result (plan_of lists.new)
+        (row_line (plan_of lists.old) port.now limit.now select.now) }
 {
     let port = read_port(port)?;
     let limit = read_number_to(MAX_LIMIT, limit)?;

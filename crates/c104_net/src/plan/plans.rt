@@ -25,6 +25,15 @@ impl Model for Name {
     ghost invariant = { λ name. IsTrue (is_name name.bytes) };
 }
 
+impl Clone for Name {
+    ghost is_clone = { λ name copy. copy ≡ name };
+
+    fn clone(&self) -> Result<Self, AllocError> {
+        let bytes = self.bytes.clone()?;
+        Ok(Name { bytes })
+    }
+}
+
 impl Name {
     /// The name that a word is. Only want of memory is refused.
     pub fn new(alloc: Global, word: &[u8]) -> Result<Name, AllocError>
@@ -61,6 +70,21 @@ pub struct Terminal {
     pub count: u32,
 }
 
+impl Clone for Terminal {
+    ghost is_clone = { λ terminal copy. copy ≡ terminal };
+
+    fn clone(&self) -> Result<Self, AllocError> {
+        let name = self.name.clone()?;
+        Ok(Terminal {
+            name,
+            switch: self.switch,
+            link: self.link,
+            first: self.first,
+            count: self.count,
+        })
+    }
+}
+
 /// A row that a plan gives an input's interval table.
 #[derive(Clone, Copy, Debug)]
 pub struct PlanRow {
@@ -72,6 +96,17 @@ pub struct PlanRow {
     pub limit: u32,
     /// What a header inside the interval selects.
     pub select: Select,
+}
+
+impl PlanRow {
+    ghost use Rattle.c104_net.specs.Plans.{is_row_of};
+
+    /// Whether the row is of this input.
+    pub(super) fn is_of(&self, switch: usize, link: usize) -> bool
+        ensures { result ≡ is_row_of switch link self.now }
+    {
+        self.switch == switch && self.link == link
+    }
 }
 
 /// The lists of a plan, each in the order of the description.
@@ -136,7 +171,8 @@ impl Lists {
     }
 
     fn has_terminal(&self, name: &[u8]) -> bool
-        ensures { result ≡ list_any (λ (t : TheTerminal). bytes_eq t.name name.now) (plan_of self.now).terminals }
+        ensures { result ≡ list_any (λ (t : TheTerminal). bytes_eq t.name name.now)
+            (plan_of self.now).terminals }
     {
         self.terminals
             .iter()
@@ -158,7 +194,7 @@ impl Lists {
     {
         self.rows
             .iter()
-            .filter(|row| row.switch == switch && row.link == link)
+            .filter(|row| row.is_of(switch, link))
             .count()
     }
 }
@@ -182,6 +218,23 @@ impl Model for Plan {
     ghost view = { λ plan. plan_of plan.lists };
 
     ghost invariant = { λ plan. IsPlan (plan_of plan.lists) };
+}
+
+impl Clone for Plan {
+    ghost is_clone = { λ plan copy. copy ≡ plan };
+
+    fn clone(&self) -> Result<Self, AllocError> {
+        let switches = self.lists.switches.clone()?;
+        let terminals = self.lists.terminals.clone()?;
+        let rows = self.lists.rows.clone()?;
+        Ok(Plan {
+            lists: Lists {
+                switches,
+                terminals,
+                rows,
+            },
+        })
+    }
 }
 
 impl Plan {
@@ -227,66 +280,4 @@ impl Plan {
     {
         self.lists.terminal_number(name)
     }
-}
-
-impl Clone for Name {
-    ghost is_clone = { λ name copy. copy ≡ name };
-
-    fn clone(&self) -> Result<Self, AllocError> {
-        let bytes = self.bytes.clone()?;
-        Ok(Name { bytes })
-    }
-}
-
-impl Clone for Terminal {
-    ghost is_clone = { λ terminal copy. copy ≡ terminal };
-
-    fn clone(&self) -> Result<Self, AllocError> {
-        let name = self.name.clone()?;
-        Ok(Terminal {
-            name,
-            switch: self.switch,
-            link: self.link,
-            first: self.first,
-            count: self.count,
-        })
-    }
-}
-
-impl Clone for Plan {
-    ghost is_clone = { λ plan copy. copy ≡ plan };
-
-    fn clone(&self) -> Result<Self, AllocError> {
-        let alloc = *self.lists.switches.allocator();
-        let switches = copied_names(alloc, self.lists.switches.as_slice())?;
-        let terminals = copied_terminals(alloc, self.lists.terminals.as_slice())?;
-        let rows = Vec::from_slice(alloc, self.lists.rows.as_slice())?;
-        Ok(Plan {
-            lists: Lists {
-                switches,
-                terminals,
-                rows,
-            },
-        })
-    }
-}
-
-fn copied_names(alloc: Global, names: &[Name]) -> Result<Vec<Name>, AllocError>
-    ensures { IfOk result (λ copies. copies.items ≡ names.now) }
-{
-    let mut copies = Vec::new(alloc);
-    for name in names {
-        copies.push(name.clone()?)?;
-    }
-    Ok(copies)
-}
-
-fn copied_terminals(alloc: Global, terminals: &[Terminal]) -> Result<Vec<Terminal>, AllocError>
-    ensures { IfOk result (λ copies. copies.items ≡ terminals.now) }
-{
-    let mut copies = Vec::new(alloc);
-    for terminal in terminals {
-        copies.push(terminal.clone()?)?;
-    }
-    Ok(copies)
 }

@@ -12,6 +12,17 @@ const MAX_NAME: usize = 32;
 /// The most digits of a number.
 const MAX_DIGITS: usize = 7;
 
+/// How many dots a word has, and where a lone one stands.
+#[derive(Clone, Copy, Debug, PartialEq, Eq)]
+pub enum Dots {
+    /// The word has none.
+    Without,
+    /// The word has one, at this place from 0.
+    At(usize),
+    /// The word has more.
+    Several,
+}
+
 /// The lines of a text. A line feed ends a line; what follows the last one is a line too.
 pub fn cut_lines<'a>(alloc: Global, text: &'a [u8]) -> Result<Vec<&'a [u8]>, AllocError>
     ensures { IfOk result (λ list. map (λ line. line.now) list.items ≡ lines text.now) }
@@ -95,17 +106,6 @@ fn place_of(byte: u8, bytes: &[u8]) -> Option<usize>
     ensures inside { IfSome result (λ at. at < length bytes.now) }
 {
     bytes.iter().position(|b| *b == byte)
-}
-
-/// How many dots a word has, and where a lone one stands.
-#[derive(Clone, Copy, Debug, PartialEq, Eq)]
-pub enum Dots {
-    /// The word has none.
-    Without,
-    /// The word has one, at this place from 0.
-    At(usize),
-    /// The word has more.
-    Several,
 }
 
 /// Looks for the dot that parts a node's name from a link's number, as in `A.0`.

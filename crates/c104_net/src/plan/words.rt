@@ -59,7 +59,8 @@ pub(super) fn read_select(word: &[u8]) -> Result<Select, PlanFaultKind>
 
 /// Reads `NAME.NUMBER`. Whether what stands for the name is one is not tested.
 pub(super) fn read_port(word: &[u8]) -> Result<PortWord<'_>, PlanFaultKind>
-    ensures { MatchResult result (λ port. port_word word.now ≡ Ok (port.name.now, port.link)) (λ kind. port_word word.now ≡ Err kind) }
+    ensures { MatchResult result (λ port. port_word word.now ≡ Ok (port.name.now, port.link))
+        (λ kind. port_word word.now ≡ Err kind) }
 {
     let Dots::At(dot) = find_dots(word) else {
         return Err(PlanFaultKind::BadShape);

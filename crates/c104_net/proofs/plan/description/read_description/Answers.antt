@@ -1,10 +1,19 @@
 use Rattle.c104_net.specs.PlanLists.{plan_of}
-use Rattle.c104_net.specs.PlanText.{empty_plan}
-use Rattle.c104_net.proofs.PlanRead.{empty-kept, read_lines-kept}
+use Rattle.std.proofs.Common.{rules}
+use Rattle.c104_net.specs.PlanText.{described, empty_plan, GivesOrNoMemory}
+use Rattle.c104_net.proofs.PlanDue.{due}
+use Rattle.c104_net.proofs.PlanLinesKept.{empty-kept, read_lines-kept}
+use Rattle.c104_net.proofs.PlanReading.{texts}
 use Rattle.c104_net.proofs.plan.description.read_description.Goals as goal
 
 pub invariant_of-result : goal.invariant_of-result
-invariant_of-result c = read_lines-kept 1 _ empty_plan (plan_of c.in_ok-lists.lists) empty-kept c.in_ok-lists.ensures
+invariant_of-result c = read_lines-kept 1 (texts c.as_slice.result.now) empty_plan (plan_of c.in_ok-lists.lists) empty-kept c.in_ok-lists.ensures
 
 pub returns-clause-kept : goal.returns-clause-kept
-returns-clause-kept c = read_lines-kept 1 _ empty_plan (plan_of c.in_ok-lists.lists) empty-kept c.in_ok-lists.ensures
+returns-clause-kept c = read_lines-kept 1 (texts c.as_slice.result.now) empty_plan (plan_of c.in_ok-lists.lists) empty-kept c.in_ok-lists.ensures
+
+-- the fault that is handed on is what the description is due
+pub returns-in_err-lists-clause-due : goal.returns-in_err-lists-clause-due
+returns-in_err-lists-clause-due c =
+    let gives : GivesOrNoMemory c.from_residual-in_err-lists.result (described c.args.text.now) = search rules in
+    due c.args.text.now c.from_residual-in_err-lists.result gives

@@ -1,4 +1,4 @@
-use Rattle.std.proofs.Common.{◌≡◌, ◌+◌, ◌∙◌, ap, sym, inl, inr, Err}
+use Rattle.std.proofs.Common.{◌+◌, ◌∙◌, ap, sym, inl, inr, Err}
 use Rattle.c104_net.specs.PlanFaults.{fault_at}
 use Rattle.c104_net.specs.PlanLists.{plan_of}
 use Rattle.c104_net.proofs.PlanReading.{after_line, at_fault}

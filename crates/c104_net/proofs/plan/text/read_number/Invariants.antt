@@ -1,4 +1,4 @@
-use Rattle.std.proofs.Common.{◌≡◌, ◌^◌, ◌<◌, ◌≤◌, take, length, true}
+use Rattle.std.proofs.Common.{◌≡◌, ◌^◌, ◌<◌, take, true}
 use Rattle.std.specs.List.{list_all}
 use Rattle.c104_net.specs.TextWords.{is_digit, value_of}
 use Rattle.c104_net.proofs.plan.text.read_number.Given as goal

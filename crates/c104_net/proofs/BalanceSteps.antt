@@ -1,0 +1,148 @@
+-- What crosses a wire keeps every network in balance, and so does each step of one node.
+use Rattle.std.proofs.Common.{◌≡◌, ◌≢◌, ℕ, Bool, inl, inr, List, Option, Some, None, length, slice_get, slice_set, refl, sym, ◌∙◌, ap, subst}
+use Rattle.std.specs.Option.{option_map}
+use Rattle.c104_link.specs.Steps.{at_place, from_place, tried, taken}
+use Rattle.c104_switch.proofs.SoundnessSteps.{given, at_place_made, from_place_made, holds_tried, holds_taken}
+use Rattle.c104_net.specs.declared.events.Port.{Port}
+use Rattle.c104_net.specs.declared.nodes.End.{End}
+use Rattle.c104_net.specs.Plans.{Plan, IsPlan}
+use Rattle.c104_net.specs.Nodes.{Node, enter, leave, credit_out, credit_in}
+use Rattle.c104_net.specs.Wires.{crossed, credited}
+use Rattle.c104_net.specs.Wiring.{peer, end_of}
+use Rattle.c104_net.specs.Network.{Network}
+use Rattle.c104_net.specs.Balance.{credit_of, granted_of, credit_at, granted_at, IsSteady}
+use Rattle.c104_net.proofs.BalanceWires.{port_cases, peer_back, peer_one, ends_apart}
+use Rattle.c104_net.proofs.BalancePlaces.{changed, lower, raise, ActsAt, Rests, acts_at, seen_kept, still_in_place}
+use Rattle.c104_net.proofs.BalanceNodes.{leave_acts, enter_acts, credit_out_acts, credit_in_acts}
+
+-- a network of this plan
+abbrev pub network_of : {A : Type 0} → Plan → List (Node A) → Network A
+network_of plan nodes = record { plan = plan; nodes = nodes }
+
+module _ {A : Type 0} (plan : Plan) where
+  -- a step of one node that keeps both numbers
+  rest_steady : (nodes : List (Node A)) (i : ℕ) (n m : Node A) → slice_get nodes i ≡ Some n → Rests n m → IsSteady (network_of plan nodes) → IsSteady (network_of plan (slice_set nodes i m))
+  rest_steady nodes i n m is rests steady = record {
+    in_place = still_in_place nodes i n m is (length plan.switches) rests.in_place steady.in_place;
+    balanced = λ p q wired.
+        let from : End = end_of plan p in
+        let to : End = end_of plan q in
+        seen_kept nodes i n m is (credit_of from.link) (rests.credit from.link) from.node ∙ steady.balanced p q wired ∙ sym (seen_kept nodes i n m is (granted_of to.link) (rests.granted to.link) to.node);
+  }
+
+  -- a step at one place
+  pub steady_at : (nodes after : List (Node A)) (i : ℕ) (f : Node A → Option (Node A)) → at_place nodes i f ≡ Some after → ((n m : Node A) → f n ≡ Some m → Rests n m) → IsSteady (network_of plan nodes) → IsSteady (network_of plan after)
+  steady_at nodes after i f is rests steady = at_place_made nodes i f after is (λ n m here made set. subst (λ ns. IsSteady (network_of plan ns)) set (rest_steady nodes i n m here (rests n m made) steady))
+
+  -- the same, where something comes of it
+  pub steady_from : (nodes : List (Node A)) (i : ℕ) (f : Node A → Option (A × Node A)) (r : A × List (Node A)) → from_place nodes i f ≡ Some r → ((n : Node A) (v : A × Node A) → f n ≡ Some v → Rests n v.1) → IsSteady (network_of plan nodes) → IsSteady (network_of plan r.1)
+  steady_from nodes i f r is rests steady = from_place_made nodes i f r is (λ n v here made set. subst (λ (r : A × List (Node A)). IsSteady (network_of plan r.1)) set (rest_steady nodes i n v.1 here (rests n v made) steady))
+
+  module _ (is_plan : IsPlan plan) (p q : Port) (wired : peer plan p ≡ Some q) (change : ℕ → ℕ) (nodes mid after : List (Node A)) where
+    abbrev count : ℕ
+    count = length plan.switches
+
+    abbrev near : End
+    near = end_of plan p
+
+    abbrev far : End
+    far = end_of plan q
+
+    -- the credit changes at one end, and then what is granted at the other
+    credit_then_granted : ActsAt granted_of credit_of change count near nodes mid → ActsAt credit_of granted_of change count far mid after → IsSteady (network_of plan nodes) → IsSteady (network_of plan after)
+    credit_then_granted first second steady = record { in_place = second.in_place (first.in_place steady.in_place); balanced = by_port }
+      where
+        by_port : (p' q' : Port) → peer plan p' ≡ Some q' → credit_at after (end_of plan p') ≡ granted_at after (end_of plan q')
+        by_port p' q' wired' =
+            elim (port_cases p p') [
+              | inl same ↦
+                  let other : Some q ≡ Some q' = sym wired ∙ ap (peer plan) same ∙ wired' in
+                  let one : q ≡ q' = cc in
+                  let both : credit_at after near ≡ granted_at after far = second.keeps near ∙ first.here ∙ ap (changed change) (steady.balanced p q wired ∙ sym (first.keeps far)) ∙ sym second.here in
+                  subst (λ r. credit_at after (end_of plan r) ≡ granted_at after (end_of plan q')) same (subst (λ r. credit_at after near ≡ granted_at after (end_of plan r)) one both)
+              | inr differs ↦
+                  let differs_far : q ≢ q' = λ one. differs (peer_one plan is_plan p p' q wired (wired' ∙ ap Some (sym one))) in
+                  second.keeps (end_of plan p')
+                  ∙ first.elsewhere steady.in_place (end_of plan p') (ends_apart plan is_plan p q p' q' wired wired' differs)
+                  ∙ steady.balanced p' q' wired'
+                  ∙ sym (first.keeps (end_of plan q'))
+                  ∙ sym (second.elsewhere (first.in_place steady.in_place) (end_of plan q') (ends_apart plan is_plan q p q' p' (peer_back plan is_plan p q wired) (peer_back plan is_plan p' q' wired') differs_far))
+            ]
+
+    -- what is granted changes at one end, and then the credit at the other
+    granted_then_credit : ActsAt credit_of granted_of change count near nodes mid → ActsAt granted_of credit_of change count far mid after → IsSteady (network_of plan nodes) → IsSteady (network_of plan after)
+    granted_then_credit first second steady = record { in_place = second.in_place (first.in_place steady.in_place); balanced = by_port }
+      where
+        back : peer plan q ≡ Some p
+        back = peer_back plan is_plan p q wired
+
+        by_port : (q' p' : Port) → peer plan q' ≡ Some p' → credit_at after (end_of plan q') ≡ granted_at after (end_of plan p')
+        by_port q' p' wired' =
+            elim (port_cases q q') [
+              | inl same ↦
+                  let other : Some p ≡ Some p' = sym back ∙ ap (peer plan) same ∙ wired' in
+                  let one : p ≡ p' = cc in
+                  let both : credit_at after far ≡ granted_at after near = second.here ∙ ap (changed change) (first.keeps far ∙ steady.balanced q p back) ∙ sym first.here ∙ sym (second.keeps near) in
+                  subst (λ r. credit_at after (end_of plan r) ≡ granted_at after (end_of plan p')) same (subst (λ r. credit_at after far ≡ granted_at after (end_of plan r)) one both)
+              | inr differs ↦
+                  let differs_near : p ≢ p' = λ one. differs (peer_one plan is_plan q q' p back (wired' ∙ ap Some (sym one))) in
+                  second.elsewhere (first.in_place steady.in_place) (end_of plan q') (ends_apart plan is_plan q p q' p' back wired' differs)
+                  ∙ first.keeps (end_of plan q')
+                  ∙ steady.balanced q' p' wired'
+                  ∙ sym (first.elsewhere steady.in_place (end_of plan p') (ends_apart plan is_plan p q p' q' wired (peer_back plan is_plan q' p' wired') differs_near))
+                  ∙ sym (second.keeps (end_of plan p'))
+            ]
+
+  module _ (is_plan : IsPlan plan) (p q : Port) (wired : peer plan p ≡ Some q) (nodes : List (Node A)) where
+    -- a token crosses a wire
+    pub steady_crossed : (r : A × List (Node A)) → crossed nodes (end_of plan p) (end_of plan q) ≡ Some r → IsSteady (network_of plan nodes) → IsSteady (network_of plan r.1)
+    steady_crossed r is steady =
+        let from : End = end_of plan p in
+        let to : End = end_of plan q in
+        given (from_place nodes from.node (leave from.link)) _ r is (λ v left more. given (at_place v.1 to.node (enter v.0 to.link)) _ r more (λ after came last.
+        from_place_made nodes from.node (leave from.link) v left (λ n y here gone set. at_place_made v.1 to.node (enter v.0 to.link) after came (λ o m there entered made.
+        let first : ActsAt granted_of credit_of lower (length plan.switches) from nodes v.1 = subst (λ (v : A × List (Node A)). ActsAt granted_of credit_of lower (length plan.switches) from nodes v.1) set (acts_at granted_of credit_of lower (length plan.switches) from nodes n y.1 here (leave_acts from.link n y gone)) in
+        let second : ActsAt credit_of granted_of lower (length plan.switches) to v.1 after = subst (ActsAt credit_of granted_of lower (length plan.switches) to v.1) made (acts_at credit_of granted_of lower (length plan.switches) to v.1 o m there (enter_acts v.0 to.link o m entered)) in
+        let same : ◌≡◌ {A = A × List (Node A)} (v.0, after) r = cc in
+        subst (λ (r : A × List (Node A)). IsSteady (network_of plan r.1)) same (credit_then_granted is_plan p q wired lower nodes v.1 after first second steady)))))
+
+    -- credit crosses a wire
+    pub steady_credited : (after : List (Node A)) → credited nodes (end_of plan p) (end_of plan q) ≡ Some after → IsSteady (network_of plan nodes) → IsSteady (network_of plan after)
+    steady_credited after is steady =
+        let from : End = end_of plan p in
+        let to : End = end_of plan q in
+        given (at_place nodes from.node (credit_out from.link)) _ after is (λ mid out more.
+        at_place_made nodes from.node (credit_out from.link) mid out (λ n y here gone set. at_place_made mid to.node (credit_in to.link) after more (λ o m there came made.
+        let first : ActsAt credit_of granted_of raise (length plan.switches) from nodes mid = subst (ActsAt credit_of granted_of raise (length plan.switches) from nodes) set (acts_at credit_of granted_of raise (length plan.switches) from nodes n y here (credit_out_acts from.link n y gone)) in
+        let second : ActsAt granted_of credit_of raise (length plan.switches) to mid after = subst (ActsAt granted_of credit_of raise (length plan.switches) to mid) made (acts_at granted_of credit_of raise (length plan.switches) to mid o m there (credit_in_acts to.link o m came)) in
+        granted_then_credit is_plan p q wired raise nodes mid after first second steady)))
+
+module _ {A : Type 0} (plan : Plan) (nodes : List (Node A)) where
+  -- a step at one place that was tried
+  pub steady_tried : (b : Bool) (after : List (Node A)) (i : ℕ) (f : Node A → Option (Node A)) → ◌≡◌ {A = Bool × List (Node A)} (b, after) (tried (at_place nodes i f) nodes) → ((n m : Node A) → f n ≡ Some m → Rests n m) → IsSteady (network_of plan nodes) → IsSteady (network_of plan after)
+  steady_tried b after i f is rests steady = holds_tried (λ ns. IsSteady (network_of plan ns)) b (at_place nodes i f) nodes after is steady (λ ns made. steady_at plan nodes ns i f made rests steady)
+
+  -- the same, where something comes of it
+  pub steady_taken : (o : Option A) (after : List (Node A)) (i : ℕ) (f : Node A → Option (A × Node A)) → ◌≡◌ {A = Option A × List (Node A)} (o, after) (taken (from_place nodes i f) nodes) → ((n : Node A) (v : A × Node A) → f n ≡ Some v → Rests n v.1) → IsSteady (network_of plan nodes) → IsSteady (network_of plan after)
+  steady_taken o after i f is rests steady = holds_taken (λ ns. IsSteady (network_of plan ns)) o (from_place nodes i f) nodes after is steady (λ r made. steady_from plan nodes i f r made rests steady)
+
+  module _ (is_plan : IsPlan plan) (p : Port) (near far : End) (at_near : near ≡ end_of plan p) (at_far : option_map (end_of plan) (peer plan p) ≡ Some far) where
+    -- the wire of a port, by its ends
+    by_ends : {C : Type 0} → ((q : Port) → peer plan p ≡ Some q → far ≡ end_of plan q → C) → C
+    by_ends {C} then = by_peer (peer plan p) refl at_far
+      where
+        by_peer : (o : Option Port) → peer plan p ≡ o → option_map (end_of plan) o ≡ Some far → C
+        by_peer (Some q) wired ends = let one : far ≡ end_of plan q = cc in then q wired one
+        by_peer None wired ends = cc
+
+    -- a token was to cross a wire
+    pub steady_cross : (o : Option A) (after : List (Node A)) → ◌≡◌ {A = Option A × List (Node A)} (o, after) (taken (crossed nodes near far) nodes) → IsSteady (network_of plan nodes) → IsSteady (network_of plan after)
+    steady_cross o after is steady = by_ends (λ q wired one.
+        holds_taken (λ ns. IsSteady (network_of plan ns)) o (crossed nodes near far) nodes after is steady (λ r made.
+        steady_crossed plan is_plan p q wired nodes r (ap (crossed nodes (end_of plan p)) (sym one) ∙ ap (λ e. crossed nodes e far) (sym at_near) ∙ made) steady))
+
+    -- credit was to cross a wire
+    pub steady_credit : (b : Bool) (after : List (Node A)) → ◌≡◌ {A = Bool × List (Node A)} (b, after) (tried (credited nodes near far) nodes) → IsSteady (network_of plan nodes) → IsSteady (network_of plan after)
+    steady_credit b after is steady = by_ends (λ q wired one.
+        holds_tried (λ ns. IsSteady (network_of plan ns)) b (credited nodes near far) nodes after is steady (λ ns made.
+        steady_credited plan is_plan p q wired nodes ns (ap (credited nodes (end_of plan p)) (sym one) ∙ ap (λ e. credited nodes e far) (sym at_near) ∙ made) steady))
