@@ -14,7 +14,7 @@ use crate::nodes::{End, NodesOf};
 use crate::placing::{add_terminals, placed_switches};
 use crate::plan::{Image, Plan, Terminal};
 use c104_switch::{LINKS, Reply};
-use c104_token::{Packet, Token, TokenKind};
+use c104_token::{MAX_PACKET_BYTES, Packet, Token, TokenKind};
 use std::alloc::{AllocError, Global};
 use std::marker::Model;
 
@@ -23,9 +23,6 @@ const OUTBOX_LIMIT: usize = 65_536;
 
 /// The most tokens that may arrive at a terminal.
 const INBOX_LIMIT: usize = 262_144;
-
-/// The most bytes of a packet.
-const MAX_PACKET: usize = 4096;
 
 /// A network over any kind of token.
 ///
@@ -145,7 +142,7 @@ impl<T: TokenKind> NetOf<T> {
             return Err(EventFault::NoNode);
         }
         let length = packet.bytes.as_slice().len();
-        if length > MAX_PACKET {
+        if length > MAX_PACKET_BYTES {
             return Err(EventFault::TooLong);
         }
         let place = self.plan.switches().len() + terminal;
