@@ -13,5 +13,4 @@ pub mod BalancePlaces
 pub mod BalanceTurns
 pub mod BalanceNodes
 pub mod BalanceSteps
-pub mod Balance
 pub mod BalancePlaced
