@@ -2,7 +2,7 @@
 use Rattle.std.proofs.Common.{◌≡◌, ◌&&◌, ◌++◌, ◌∷◌, not, ℕ, List, [], Option, Some, slice_get, slice_set, refl, ap, subst}
 use Rattle.c104_token.specs.declared.packets.Packet.{Packet}
 use Rattle.c104_token.specs.Kinds.{Kind}
-use Rattle.c104_link.specs.Steps.{◌>>=◌, ◌>>◌, at_place, from_place, with_place}
+use Rattle.c104_link.specs.Steps.{◌>>=◌, at_place, from_place, with_place}
 use Rattle.c104_link.specs.Buffers as buffer
 use Rattle.c104_link.specs.Buffers.{Incoming, Outgoing}
 use Rattle.c104_switch.specs.Switch as switch

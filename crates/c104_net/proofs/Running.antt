@@ -1,5 +1,5 @@
 -- A run of events goes on by one event.
-use Rattle.std.proofs.Common.{◌≡◌, List, [], ◌∷◌, ◌++◌, Result, refl, subst, sym}
+use Rattle.std.proofs.Common.{List, [], ◌∷◌, ◌++◌, Result, refl, subst}
 use Rattle.c104_token.specs.Kinds.{Kind}
 use Rattle.c104_switch.specs.declared.actions.Reply.{Reply}
 use Rattle.c104_net.specs.declared.events.Event.{Event}

@@ -1,6 +1,6 @@
 -- What every network keeps: at the two ends of each wire the credit of the one is what the other has
 -- granted.
-use Rattle.std.specs.Prelude.{ℕ, ◌≡◌, ◌<◌, List, Option, Some, None, length, slice_get}
+use Rattle.std.specs.Prelude.{ℕ, ◌≡◌, ◌<◌, List, Option, Some, length, slice_get}
 use Rattle.c104_link.specs.Steps.{◌>>=◌}
 use Rattle.c104_net.specs.declared.node.NodeOf.TheVariants.{Switch, Terminal}
 use Rattle.c104_net.specs.declared.events.Port.{Port}

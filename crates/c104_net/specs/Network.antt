@@ -1,5 +1,5 @@
 -- A network: a plan, and its nodes; what each event does and answers, and a run of events.
-use Rattle.std.specs.Prelude.{ℕ, ◌+◌, ◌≡◌, ◌⊎◌, Bool, true, false, List, [], ◌∷◌, ◌++◌, length, map, nat_lt, nat_le, replicate, Option, Some, None, Result, Ok, Err, if◌then◌else◌, slice_get}
+use Rattle.std.specs.Prelude.{ℕ, ◌+◌, ◌≡◌, ◌⊎◌, true, List, [], ◌∷◌, ◌++◌, length, map, nat_lt, nat_le, Option, Some, None, Result, Ok, Err, if◌then◌else◌, slice_get}
 use Rattle.c104_token.specs.Kinds.{Kind}
 use Rattle.c104_interval.specs.declared.intervals.Table.{Table}
 use Rattle.c104_link.specs.Steps.{◌>>=◌, at_place, from_place}

@@ -1,5 +1,5 @@
 -- What crosses a wire: a token one way, and credit the other way. Both ends act, or neither does.
-use Rattle.std.specs.Prelude.{ℕ, List, Option, Some}
+use Rattle.std.specs.Prelude.{List, Option, Some}
 use Rattle.c104_link.specs.Steps.{◌>>=◌, at_place, from_place}
 use Rattle.c104_net.specs.declared.nodes.End.{End}
 use Rattle.c104_net.specs.Nodes.{Node, enter, leave, credit_out, credit_in}

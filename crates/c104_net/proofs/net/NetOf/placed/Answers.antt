@@ -1,5 +1,4 @@
 use Rattle.c104_net.specs.PlanImage.{Fits}
-use Rattle.c104_net.specs.Plans.{IsPlan}
 use Rattle.c104_net.proofs.BalancePlaced.{steady_made}
 use Rattle.c104_net.proofs.net.NetOf.placed.Goals as goal
 

@@ -1,4 +1,4 @@
-use Rattle.std.proofs.Common.{◌≡◌, Option, List, sym, ap}
+use Rattle.std.proofs.Common.{Option, List, sym, ap}
 use Rattle.c104_link.specs.Steps.{taken}
 use Rattle.c104_net.specs.Nodes.{Node}
 use Rattle.c104_net.proofs.Crossing.{none_crosses, one_crosses}
