@@ -1,5 +1,5 @@
 -- A refusal is of the first faulty line.
-use Rattle.std.proofs.Common.{◌≡◌, ℕ, zero, suc, ◌+◌, inl, inr, Bool, true, false, List, [], ◌∷◌, length, take, nat_le, slice_get, if◌then◌else◌, Some, Result, Ok, Err, sym, ◌∙◌, ap, refl, arith}
+use Rattle.std.proofs.Common.{◌≡◌, ℕ, zero, suc, ◌+◌, ◌≤◌, inl, inr, Bool, true, false, List, [], ◌∷◌, length, take, nat_le, slice_get, if◌then◌else◌, Some, Result, Ok, Err, sym, ◌∙◌, ap, refl, arith}
 use Rattle.std.proofs.lemmas.Bool.Decides.{nat_tests}
 use Rattle.std.specs.Result.{IfErr}
 use Rattle.c104_net.specs.declared.plan.faults.PlanFaultKind.TheVariants.{TooLong}
@@ -50,14 +50,15 @@ found : (n : ℕ) (list : List (List ℕ)) (plan : Plan) (fault : PlanFault) →
 found n [] plan fault is = cc
 found n (line ∷ more) plan fault is = found-first n line more plan fault (read_line plan line) refl is (λ next rest. found (n + 1) more next fault rest)
 
-pub first_fault : (text : List ℕ) (fault : PlanFault) → read_lines 1 (lines text) empty_plan ≡ Err fault → IsFirstFault text fault
-first_fault text fault is =
+first_fault : (text : List ℕ) (fault : PlanFault) → length text ≤ most_bytes → read_lines 1 (lines text) empty_plan ≡ Err fault → IsFirstFault text fault
+first_fault text fault short is =
     let f : Found 1 (lines text) empty_plan fault = found 1 (lines text) empty_plan fault is in
     record {
       place = f.place;
       line = f.line;
       kind = f.kind;
       before = f.before;
+      is_short = short;
       is_line = f.is_line;
       before_it = f.before_it;
       is_faulty = f.is_faulty;
@@ -65,7 +66,7 @@ first_fault text fault is =
     }
 
 due_by : (text : List ℕ) (fault : PlanFault) (short : Bool) → nat_le (length text) most_bytes ≡ short → (if short then read_lines 1 (lines text) empty_plan else Err (fault_at 0 TooLong)) ≡ Err fault → IsDue text fault
-due_by text fault true is here = inr (inr (first_fault text fault here))
+due_by text fault true is here = inr (inr (first_fault text fault (grind (arith, nat_tests)) here))
 due_by text fault false is here = inr (inl (record { is_long = grind (arith, nat_tests); is_told = let told : fault_at 0 TooLong ≡ fault = cc in sym told }))
 
 pub due : (text : List ℕ) (result : Result Plan PlanFault) → GivesOrNoMemory result (described text) → IfErr result (IsDue text)

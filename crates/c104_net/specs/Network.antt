@@ -1,5 +1,5 @@
 -- A network: a plan, and its nodes; what each event does and answers, and a run of events.
-use Rattle.std.specs.Prelude.{ℕ, ◌+◌, ◌≡◌, ◌⊎◌, true, List, [], ◌∷◌, ◌++◌, length, map, nat_lt, nat_le, Option, Some, None, Result, Ok, Err, if◌then◌else◌, slice_get}
+use Rattle.std.specs.Prelude.{ℕ, ◌+◌, ◌≡◌, ◌⊎◌, true, List, [], ◌∷◌, ◌++◌, length, map, nat_lt, nat_le, Option, Some, None, is_some, Result, Ok, Err, if◌then◌else◌, slice_get}
 use Rattle.c104_token.specs.Kinds.{Kind}
 use Rattle.c104_interval.specs.declared.intervals.Table.{Table}
 use Rattle.c104_link.specs.Steps.{◌>>=◌, at_place, from_place}
@@ -137,9 +137,14 @@ module _ {A : Type 0} (kind : Kind A) where
   abbrev pub answered : Network A → Event → Result Reply EventFault × Network A
   answered net e = if_there net e (event_fault net.plan e)
 
-  -- an answer and the network after it: what is due, or want of memory and nothing changed
+  -- an event that memory can be wanted for: no fault and no limit refuses it, and it is ready
+  abbrev pub WouldBeDone : Network A → Event → Type 0
+  WouldBeDone net e = (event_fault net.plan e ≡ None) × (is_some (step net e) ≡ true) × (limit_fault (limited_node net e) e ≡ None)
+
+  -- an answer and the network after it: what is due, or want of memory for an event that would
+  -- be done, and nothing changed
   abbrev pub Answers : Network A → Event → Result Reply EventFault → Network A → Type 0
-  Answers net e answer after = (◌≡◌ {A = Result Reply EventFault × Network A} (answer, after) (answered net e)) ⊎ ((answer ≡ Err fault.NoMemory) × (after ≡ net))
+  Answers net e answer after = (◌≡◌ {A = Result Reply EventFault × Network A} (answer, after) (answered net e)) ⊎ ((answer ≡ Err fault.NoMemory) × WouldBeDone net e × (after ≡ net))
 
   -- the answers to a list of events, and the network after them
   abbrev pub Runs : Network A → List Event → List (Result Reply EventFault) → Network A → Type 0

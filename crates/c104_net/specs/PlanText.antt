@@ -1,5 +1,5 @@
 -- Descriptions: lines in order, up to the first faulty one.
-use Rattle.std.specs.Prelude.{◌≡◌, ℕ, ◌+◌, ◌<◌, ◌⊎◌, List, [], ◌∷◌, length, take, nat_le, slice_get, if◌then◌else◌, Some, Result, Ok, Err, MatchResult}
+use Rattle.std.specs.Prelude.{◌≡◌, ℕ, ◌+◌, ◌<◌, ◌≤◌, ◌⊎◌, List, [], ◌∷◌, length, take, nat_le, slice_get, if◌then◌else◌, Some, Result, Ok, Err, MatchResult}
 use Rattle.c104_net.specs.declared.plan.faults.PlanFaultKind.TheVariants.{NoMemory, TooLong}
 use Rattle.c104_net.specs.declared.plan.plans.Lists.{Lists}
 use Rattle.c104_net.specs.TextCut.{lines}
@@ -40,13 +40,15 @@ GivesOrNoMemory result due = (result ≡ due) ⊎ (result ≡ Err no_memory)
 abbrev pub ReadsLine : {X : Type 0} → Result X PlanFaultKind → Plan → Result Plan PlanFaultKind → Type 0
 ReadsLine result made due = MatchResult result (λ _. due ≡ Ok made) (λ kind. (due ≡ Err kind) ⊎ (kind ≡ NoMemory))
 
--- a line is the first faulty one: the lines before it give a plan, and after that it has this fault
+-- a line is the first faulty one of a text that isn't too long: the lines before it give a plan, and
+-- after that it has this fault
 pub record IsFirstFault (text : List ℕ) (fault : PlanFault) : Type 0 where
   -- how many lines come before it
   pub place : ℕ
   pub line : List ℕ
   pub kind : PlanFaultKind
   pub before : Plan
+  pub is_short : length text ≤ most_bytes
   pub is_line : slice_get (lines text) place ≡ Some line
   pub before_it : read_lines 1 (take place (lines text)) empty_plan ≡ Ok before
   pub is_faulty : read_line before line ≡ Err kind

@@ -52,35 +52,40 @@ fn expect(rt: &impl Abort, net: &mut Net, event: &Event, answer: Result<Reply, E
 #[test]
 fn first_run(rt: HostRuntime) -> Result<(), Fail> {
     let mut net = first_net(rt.alloc())?;
+    run_first(&rt, rt.alloc(), &mut net)
+}
+
+/// The events of the first packet, in a network in which nothing has happened.
+fn run_first(rt: &impl Abort, alloc: Global, net: &mut Net) -> Result<(), Fail> {
     let token = |byte: u8| Ok(Reply::Token(Token::Byte(byte)));
     let done = Ok(Reply::Done);
     let end = Ok(Reply::Token(Token::Eop));
-    let sent = send(rt.alloc(), 0, "01 aa eop")?;
-    expect(&rt, &mut net, &sent, done);
-    expect(&rt, &mut net, &Event::Credit(A0), done);
-    expect(&rt, &mut net, &Event::Cross(A), token(1));
-    expect(&rt, &mut net, &Event::Cross(A), token(0xaa));
-    expect(&rt, &mut net, &Event::Cross(A), end);
-    expect(&rt, &mut net, &Event::Cross(A), Ok(Reply::NotReady));
-    expect(&rt, &mut net, &input(0), done);
-    expect(&rt, &mut net, &claim(0, 1), done);
-    expect(&rt, &mut net, &Event::Cross(A1), Ok(Reply::NotReady));
-    expect(&rt, &mut net, &Event::Credit(B), done);
-    expect(&rt, &mut net, &Event::Cross(A1), token(1));
-    expect(&rt, &mut net, &input(0), done);
-    expect(&rt, &mut net, &input(0), done);
-    expect(&rt, &mut net, &Event::Cross(A1), token(0xaa));
-    expect(&rt, &mut net, &Event::Cross(A1), end);
+    let sent = send(alloc, 0, "01 aa eop")?;
+    expect(rt, net, &sent, done);
+    expect(rt, net, &Event::Credit(A0), done);
+    expect(rt, net, &Event::Cross(A), token(1));
+    expect(rt, net, &Event::Cross(A), token(0xaa));
+    expect(rt, net, &Event::Cross(A), end);
+    expect(rt, net, &Event::Cross(A), Ok(Reply::NotReady));
+    expect(rt, net, &input(0), done);
+    expect(rt, net, &claim(0, 1), done);
+    expect(rt, net, &Event::Cross(A1), Ok(Reply::NotReady));
+    expect(rt, net, &Event::Credit(B), done);
+    expect(rt, net, &Event::Cross(A1), token(1));
+    expect(rt, net, &input(0), done);
+    expect(rt, net, &input(0), done);
+    expect(rt, net, &Event::Cross(A1), token(0xaa));
+    expect(rt, net, &Event::Cross(A1), end);
     let drain = Event::Drain { terminal: 1 };
-    expect(&rt, &mut net, &drain, token(1));
-    expect(&rt, &mut net, &drain, token(0xaa));
-    expect(&rt, &mut net, &drain, end);
-    expect(&rt, &mut net, &drain, Ok(Reply::NotReady));
+    expect(rt, net, &drain, token(1));
+    expect(rt, net, &drain, token(0xaa));
+    expect(rt, net, &drain, end);
+    expect(rt, net, &drain, Ok(Reply::NotReady));
     let arrived = net.arrived(1).ok_or("no terminal b")?;
-    let (packets, left) = cut_packets(rt.alloc(), arrived)?;
+    let (packets, left) = cut_packets(alloc, arrived)?;
     assert_eq!(rt; (packets.len(), left), (1, 0));
     assert_eq!(rt;
-        print_packet(rt.alloc(), &packets[0])?.as_str(),
+        print_packet(alloc, &packets[0])?.as_str(),
         "01 aa eop"
     );
     assert_eq!(rt; net.arrived(0).ok_or("no terminal a")?.len(), 0);
@@ -111,13 +116,14 @@ fn refused_events(rt: HostRuntime) -> Result<(), Fail> {
             EventFault::NoNode,
         ),
         (send(rt.alloc(), 2, "01 eop")?, EventFault::NoNode),
+        (packet_of(rt.alloc(), 2, 4097)?, EventFault::NoNode),
     ] {
         expect(&rt, &mut net, &event, Err(fault));
     }
-    Ok(())
+    run_first(&rt, rt.alloc(), &mut net)
 }
 
-/// A text of so many bytes, the first of which is 01.
+/// The event that sends a packet of so many bytes, the first of which is 01.
 fn packet_of(alloc: Global, terminal: usize, count: usize) -> Result<Event, Fail> {
     let mut bytes = Vec::new(alloc);
     bytes.push(1)?;
@@ -142,6 +148,10 @@ fn full_outbox(rt: HostRuntime) -> Result<(), Fail> {
         expect(&rt, &mut net, &long, Ok(Reply::Done));
     }
     expect(&rt, &mut net, &long, Err(EventFault::OutboxFull));
+    let last = packet_of(rt.alloc(), 0, 65_536 - 15 * 4097 - 1)?;
+    expect(&rt, &mut net, &last, Ok(Reply::Done));
+    let mark = send(rt.alloc(), 0, "eop")?;
+    expect(&rt, &mut net, &mark, Err(EventFault::OutboxFull));
     expect(&rt, &mut net, &too_long, Err(EventFault::TooLong));
     Ok(())
 }
@@ -169,7 +179,7 @@ fn full_inbox(rt: HostRuntime) -> Result<(), Fail> {
         Event::Cross(A1),
         Event::Drain { terminal: 1 },
     ];
-    // 64 packets of 4,096 tokens each, and one more token.
+    // 64 packets of 4,096 tokens each.
     let packet = packet_of(rt.alloc(), 0, 4095)?;
     for _ in 0..64 {
         expect(&rt, &mut net, &packet, Ok(Reply::Done));
@@ -185,8 +195,12 @@ fn full_inbox(rt: HostRuntime) -> Result<(), Fail> {
         &send(rt.alloc(), 0, "01 eop")?,
         Ok(Reply::Done),
     );
+    // Of the next packet one token comes in.
     for _ in 0..20 {
-        pump(&mut net, &events);
+        pump(&mut net, &events[..6]);
+        if net.apply(&Event::Cross(A1)) != Ok(Reply::NotReady) {
+            break;
+        }
     }
     expect(&rt, &mut net, &drain, Err(EventFault::InboxFull));
     expect(&rt, &mut net, &drain, Err(EventFault::InboxFull));
@@ -199,9 +213,13 @@ fn other_calls(rt: HostRuntime) -> Result<(), Fail> {
     let plan = read_description(rt.alloc(), FIRST)?;
     let other = read_description(rt.alloc(), b"switch A\nterminal a A.0\n")?;
     let image = hand_image(rt.alloc(), &other)?;
-    match Net::placed(rt.alloc(), &plan, &image) {
-        Ok(_) => assert!(rt; false, "the image fits no such plan"),
-        Err(fault) => assert_eq!(rt; fault, PlaceFault::NotFitting),
+    let nothing = read_description(rt.alloc(), b"")?;
+    let none = hand_image(rt.alloc(), &nothing)?;
+    for (plan, image) in [(&plan, &image), (&other, &none), (&nothing, &image)] {
+        match Net::placed(rt.alloc(), plan, image) {
+            Ok(_) => assert!(rt; false, "the image fits no such plan"),
+            Err(fault) => assert_eq!(rt; fault, PlaceFault::NotFitting),
+        }
     }
     let mut net = first_net(rt.alloc())?;
     let answers = net.apply_all(rt.alloc(), &[Event::Credit(A0), Event::Cross(B), input(40)])?;

@@ -1,5 +1,6 @@
 //! Descriptions: whole texts.
-ghost use Rattle.std.specs.Prelude.{◌≡◌, ◌⊎◌, map, Err, Ok, MatchResult, IfErr, IfOk};
+ghost use Rattle.std.specs.Prelude.{◌≡◌, ◌<◌, ◌⊎◌, length, map, Err, Ok, MatchResult, IfErr, IfOk};
+ghost use Rattle.c104_net.specs.declared.plan.faults.PlanFaultKind.TheVariants.{TooLong};
 ghost use Rattle.c104_net.specs.PlanFaults.{fault_at, no_memory};
 ghost use Rattle.c104_net.specs.PlanLists.{plan_of};
 ghost use Rattle.c104_net.specs.PlanText.{described, empty_plan, read_lines, GivesLists, GivesOrNoMemory, IsDue};
@@ -17,10 +18,11 @@ pub const MAX_DESCRIPTION: usize = 1_048_576;
 /// Reads the description of a network, by this profile's grammar.
 ///
 /// Its lines are `switch N`, `terminal N S.l` and `row S.l limit select`; `#` begins a comment.
-/// Refused is the first faulty line, with the least of its faults; before any line a text of more
-/// than 1 MiB; and, whatever the text says, want of memory.
+/// Refused is a text of more than 1 MiB, before any line; else the first faulty line, with the least
+/// of its faults; or, whatever its lines say, want of memory.
 pub fn read_description(alloc: Global, text: &[u8]) -> Result<Plan, PlanFault>
     ensures described { GivesOrNoMemory result (described text.now) }
+    ensures too_long { 1048576 < length text.now → result ≡ Err (fault_at 0 TooLong) }
     ensures kept { IfOk result IsPlan }
 
     // The first faulty line, in the sense of the word: the lines before it are a description.

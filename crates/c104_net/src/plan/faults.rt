@@ -16,8 +16,8 @@ pub enum PlanFaultKind {
     /// The line's first word is none of the description's words.
     #[error("the first word is not one that a description has")]
     UnknownWord = 2,
-    /// A byte outside a comment is neither printable ASCII nor white space, there are too few or
-    /// too many words, or a port has no dot or a second one.
+    /// A byte outside a comment is none of printable ASCII, tab and carriage return, there are too
+    /// few or too many words, or a port has no dot or a second one.
     #[error("the line has a wrong byte or a wrong count of words, or a port is not `NAME.NUMBER`")]
     BadShape = 3,
     /// A number is not 1 to 7 decimal digits, or is out of its range.

@@ -94,7 +94,7 @@ pub struct PlanRow {
     pub link: usize,
     /// The first header past the row's interval, 0 to 65536.
     pub limit: u32,
-    /// What a header inside the interval selects.
+    /// What a header inside the interval selects, where no row before has it inside its own.
     pub select: Select,
 }
 
