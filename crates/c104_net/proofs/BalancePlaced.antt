@@ -99,7 +99,7 @@ module _ (A : Type 0) (plan : Plan) (image : Image) (fits : Fits image plan) whe
 balanced_placed : {A : Type 0} (plan : Plan) (image : Image) → Fits image plan → IsPlan plan → IsSteady (placed {A = A} plan image)
 balanced_placed {A} plan image fits is_plan = record {
   in_place = λ place n inside is. switch_there A plan image fits place inside (λ tables there. let same : made_switch tables ≡ n = cc in subst IsSwitch same tt);
-  balanced = λ p q wired. (idle_port A plan image fits is_plan p q wired).0 ∙ sym (idle_port A plan image fits is_plan q p (peer_back plan is_plan p q wired)).1;
+  balanced = λ p q wired. (0, (idle_port A plan image fits is_plan p q wired).0, (idle_port A plan image fits is_plan q p (peer_back plan is_plan p q wired)).1);
 }
 
 -- a network made of a copy of the plan and of the nodes one after the other

@@ -10,7 +10,7 @@ use Rattle.c104_net.specs.Nodes.{Node, enter, leave, credit_out, credit_in}
 use Rattle.c104_net.specs.Wires.{crossed, credited}
 use Rattle.c104_net.specs.Wiring.{peer, end_of}
 use Rattle.c104_net.specs.Network.{Network}
-use Rattle.c104_net.specs.Balance.{credit_of, granted_of, credit_at, granted_at, IsSteady}
+use Rattle.c104_net.specs.Balance.{credit_of, granted_of, AreLevel, IsSteady}
 use Rattle.c104_net.proofs.BalanceWires.{port_cases, peer_back, peer_one, ends_apart}
 use Rattle.c104_net.proofs.BalancePlaces.{changed, lower, raise, ActsAt, Rests, acts_at, seen_kept, still_in_place}
 use Rattle.c104_net.proofs.BalanceNodes.{leave_acts, enter_acts, credit_out_acts, credit_in_acts}
@@ -27,7 +27,12 @@ module _ {A : Type 0} (plan : Plan) where
     balanced = λ p q wired.
         let from : End = end_of plan p in
         let to : End = end_of plan q in
-        seen_kept nodes i n m is (credit_of from.link) (rests.credit from.link) from.node ∙ steady.balanced p q wired ∙ sym (seen_kept nodes i n m is (granted_of to.link) (rests.granted to.link) to.node);
+        let was : AreLevel nodes from to = steady.balanced p q wired in
+        (
+          was.0,
+          seen_kept nodes i n m is (credit_of from.link) (rests.credit from.link) from.node ∙ was.1,
+          seen_kept nodes i n m is (granted_of to.link) (rests.granted to.link) to.node ∙ was.2,
+        );
   }
 
   -- a step at one place
@@ -52,21 +57,27 @@ module _ {A : Type 0} (plan : Plan) where
     credit_then_granted : ActsAt granted_of credit_of change count near nodes mid → ActsAt credit_of granted_of change count far mid after → IsSteady (network_of plan nodes) → IsSteady (network_of plan after)
     credit_then_granted first second steady = record { in_place = second.in_place (first.in_place steady.in_place); balanced = by_port }
       where
-        by_port : (p' q' : Port) → peer plan p' ≡ Some q' → credit_at after (end_of plan p') ≡ granted_at after (end_of plan q')
+        by_port : (p' q' : Port) → peer plan p' ≡ Some q' → AreLevel after (end_of plan p') (end_of plan q')
         by_port p' q' wired' =
             elim (port_cases p p') [
               | inl same ↦
                   let other : Some q ≡ Some q' = sym wired ∙ ap (peer plan) same ∙ wired' in
                   let one : q ≡ q' = cc in
-                  let both : credit_at after near ≡ granted_at after far = second.keeps near ∙ first.here ∙ ap (changed change) (steady.balanced p q wired ∙ sym (first.keeps far)) ∙ sym second.here in
-                  subst (λ r. credit_at after (end_of plan r) ≡ granted_at after (end_of plan q')) same (subst (λ r. credit_at after near ≡ granted_at after (end_of plan r)) one both)
+                  let was : AreLevel nodes near far = steady.balanced p q wired in
+                  let both : AreLevel after near far = (
+                    change was.0,
+                    second.keeps near ∙ first.here ∙ ap (changed change) was.1,
+                    second.here ∙ ap (changed change) (first.keeps far ∙ was.2),
+                  ) in
+                  subst (λ r. AreLevel after (end_of plan r) (end_of plan q')) same (subst (λ r. AreLevel after near (end_of plan r)) one both)
               | inr differs ↦
                   let differs_far : q ≢ q' = λ one. differs (peer_one plan is_plan p p' q wired (wired' ∙ ap Some (sym one))) in
-                  second.keeps (end_of plan p')
-                  ∙ first.elsewhere steady.in_place (end_of plan p') (ends_apart plan is_plan p q p' q' wired wired' differs)
-                  ∙ steady.balanced p' q' wired'
-                  ∙ sym (first.keeps (end_of plan q'))
-                  ∙ sym (second.elsewhere (first.in_place steady.in_place) (end_of plan q') (ends_apart plan is_plan q p q' p' (peer_back plan is_plan p q wired) (peer_back plan is_plan p' q' wired') differs_far))
+                  let was : AreLevel nodes (end_of plan p') (end_of plan q') = steady.balanced p' q' wired' in
+                  (
+                    was.0,
+                    second.keeps (end_of plan p') ∙ first.elsewhere steady.in_place (end_of plan p') (ends_apart plan is_plan p q p' q' wired wired' differs) ∙ was.1,
+                    second.elsewhere (first.in_place steady.in_place) (end_of plan q') (ends_apart plan is_plan q p q' p' (peer_back plan is_plan p q wired) (peer_back plan is_plan p' q' wired') differs_far) ∙ first.keeps (end_of plan q') ∙ was.2,
+                  )
             ]
 
     -- what is granted changes at one end, and then the credit at the other
@@ -76,21 +87,27 @@ module _ {A : Type 0} (plan : Plan) where
         back : peer plan q ≡ Some p
         back = peer_back plan is_plan p q wired
 
-        by_port : (q' p' : Port) → peer plan q' ≡ Some p' → credit_at after (end_of plan q') ≡ granted_at after (end_of plan p')
+        by_port : (q' p' : Port) → peer plan q' ≡ Some p' → AreLevel after (end_of plan q') (end_of plan p')
         by_port q' p' wired' =
             elim (port_cases q q') [
               | inl same ↦
                   let other : Some p ≡ Some p' = sym back ∙ ap (peer plan) same ∙ wired' in
                   let one : p ≡ p' = cc in
-                  let both : credit_at after far ≡ granted_at after near = second.here ∙ ap (changed change) (first.keeps far ∙ steady.balanced q p back) ∙ sym first.here ∙ sym (second.keeps near) in
-                  subst (λ r. credit_at after (end_of plan r) ≡ granted_at after (end_of plan p')) same (subst (λ r. credit_at after far ≡ granted_at after (end_of plan r)) one both)
+                  let was : AreLevel nodes far near = steady.balanced q p back in
+                  let both : AreLevel after far near = (
+                    change was.0,
+                    second.here ∙ ap (changed change) (first.keeps far ∙ was.1),
+                    second.keeps near ∙ first.here ∙ ap (changed change) was.2,
+                  ) in
+                  subst (λ r. AreLevel after (end_of plan r) (end_of plan p')) same (subst (λ r. AreLevel after far (end_of plan r)) one both)
               | inr differs ↦
                   let differs_near : p ≢ p' = λ one. differs (peer_one plan is_plan q q' p back (wired' ∙ ap Some (sym one))) in
-                  second.elsewhere (first.in_place steady.in_place) (end_of plan q') (ends_apart plan is_plan q p q' p' back wired' differs)
-                  ∙ first.keeps (end_of plan q')
-                  ∙ steady.balanced q' p' wired'
-                  ∙ sym (first.elsewhere steady.in_place (end_of plan p') (ends_apart plan is_plan p q p' q' wired (peer_back plan is_plan q' p' wired') differs_near))
-                  ∙ sym (second.keeps (end_of plan p'))
+                  let was : AreLevel nodes (end_of plan q') (end_of plan p') = steady.balanced q' p' wired' in
+                  (
+                    was.0,
+                    second.elsewhere (first.in_place steady.in_place) (end_of plan q') (ends_apart plan is_plan q p q' p' back wired' differs) ∙ first.keeps (end_of plan q') ∙ was.1,
+                    second.keeps (end_of plan p') ∙ first.elsewhere steady.in_place (end_of plan p') (ends_apart plan is_plan p q p' q' wired (peer_back plan is_plan q' p' wired') differs_near) ∙ was.2,
+                  )
             ]
 
   module _ (is_plan : IsPlan plan) (p q : Port) (wired : peer plan p ≡ Some q) (nodes : List (Node A)) where

@@ -25,8 +25,12 @@ credit_at nodes end = slice_get nodes end.node >>= credit_of end.link
 abbrev pub granted_at : {A : Type 0} → List (Node A) → End → Option ℕ
 granted_at nodes end = slice_get nodes end.node >>= granted_of end.link
 
+-- there is a credit at the one end, and as much is granted at the other
+abbrev pub AreLevel : {A : Type 0} → List (Node A) → End → End → Type 0
+AreLevel nodes from to = (credit : ℕ) × (credit_at nodes from ≡ Some credit) × (granted_at nodes to ≡ Some credit)
+
 abbrev pub IsBalanced : {A : Type 0} → Network A → Type 0
-IsBalanced net = (p q : Port) → peer net.plan p ≡ Some q → credit_at net.nodes (end_of net.plan p) ≡ granted_at net.nodes (end_of net.plan q)
+IsBalanced net = (p q : Port) → peer net.plan p ≡ Some q → AreLevel net.nodes (end_of net.plan p) (end_of net.plan q)
 
 -- a node that is a switch
 abbrev pub IsSwitch : {A : Type 0} → Node A → Type 0
