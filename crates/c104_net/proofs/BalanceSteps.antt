@@ -27,8 +27,7 @@ module _ {A : Type 0} (plan : Plan) where
     balanced = λ p q wired.
         let from : End = end_of plan p in
         let to : End = end_of plan q in
-        let was : AreLevel nodes from to = steady.balanced p q wired in
-        (
+        let was : AreLevel nodes from to = steady.balanced p q wired in (
           was.0,
           seen_kept nodes i n m is (credit_of from.link) (rests.credit from.link) from.node ∙ was.1,
           seen_kept nodes i n m is (granted_of to.link) (rests.granted to.link) to.node ∙ was.2,
@@ -72,8 +71,7 @@ module _ {A : Type 0} (plan : Plan) where
                   subst (λ r. AreLevel after (end_of plan r) (end_of plan q')) same (subst (λ r. AreLevel after near (end_of plan r)) one both)
               | inr differs ↦
                   let differs_far : q ≢ q' = λ one. differs (peer_one plan is_plan p p' q wired (wired' ∙ ap Some (sym one))) in
-                  let was : AreLevel nodes (end_of plan p') (end_of plan q') = steady.balanced p' q' wired' in
-                  (
+                  let was : AreLevel nodes (end_of plan p') (end_of plan q') = steady.balanced p' q' wired' in (
                     was.0,
                     second.keeps (end_of plan p') ∙ first.elsewhere steady.in_place (end_of plan p') (ends_apart plan is_plan p q p' q' wired wired' differs) ∙ was.1,
                     second.elsewhere (first.in_place steady.in_place) (end_of plan q') (ends_apart plan is_plan q p q' p' (peer_back plan is_plan p q wired) (peer_back plan is_plan p' q' wired') differs_far) ∙ first.keeps (end_of plan q') ∙ was.2,
@@ -102,8 +100,7 @@ module _ {A : Type 0} (plan : Plan) where
                   subst (λ r. AreLevel after (end_of plan r) (end_of plan p')) same (subst (λ r. AreLevel after far (end_of plan r)) one both)
               | inr differs ↦
                   let differs_near : p ≢ p' = λ one. differs (peer_one plan is_plan q q' p back (wired' ∙ ap Some (sym one))) in
-                  let was : AreLevel nodes (end_of plan q') (end_of plan p') = steady.balanced q' p' wired' in
-                  (
+                  let was : AreLevel nodes (end_of plan q') (end_of plan p') = steady.balanced q' p' wired' in (
                     was.0,
                     second.elsewhere (first.in_place steady.in_place) (end_of plan q') (ends_apart plan is_plan q p q' p' back wired' differs) ∙ first.keeps (end_of plan q') ∙ was.1,
                     second.keeps (end_of plan p') ∙ first.elsewhere steady.in_place (end_of plan p') (ends_apart plan is_plan p q p' q' wired (peer_back plan is_plan q' p' wired') differs_near) ∙ was.2,

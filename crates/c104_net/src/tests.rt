@@ -84,10 +84,7 @@ fn run_first(rt: &impl Abort, alloc: Global, net: &mut Net) -> Result<(), Fail> 
     let arrived = net.arrived(1).ok_or("no terminal b")?;
     let (packets, left) = cut_packets(alloc, arrived)?;
     assert_eq!(rt; (packets.len(), left), (1, 0));
-    assert_eq!(rt;
-        print_packet(alloc, &packets[0])?.as_str(),
-        "01 aa eop"
-    );
+    assert_eq!(rt; print_packet(alloc, &packets[0])?.as_str(), "01 aa eop");
     assert_eq!(rt; net.arrived(0).ok_or("no terminal a")?.len(), 0);
     assert!(rt; net.arrived(2).is_none());
     Ok(())
