@@ -4,6 +4,22 @@ pub use Rattle.c104_net.specs.declared.plan.faults.PlanFault.{PlanFault}
 pub use Rattle.c104_net.specs.declared.plan.faults.PlanFaultKind.{PlanFaultKind}
 use Rattle.c104_net.specs.declared.plan.faults.PlanFaultKind.TheVariants as kind
 
+-- the number that is printed
+abbrev pub kind_number : PlanFaultKind → ℕ
+kind_number kind.TooLong = 1
+kind_number kind.UnknownWord = 2
+kind_number kind.BadShape = 3
+kind_number kind.BadNumber = 4
+kind_number kind.BadName = 5
+kind_number kind.NameTaken = 6
+kind_number kind.UnknownName = 7
+kind_number kind.SelfWire = 8
+kind_number kind.LinkTaken = 9
+kind_number kind.TooMany = 10
+kind_number kind.Twice = 11
+kind_number kind.MixedStyle = 12
+kind_number kind.NoMemory = 13
+
 -- the name that is printed
 abbrev pub kind_name : PlanFaultKind → List ℕ
 kind_name kind.TooLong = codes "TooLong"

@@ -1,5 +1,6 @@
 //! What can happen in a network, and why it is refused.
 ghost use Rattle.std.specs.Prelude.{◌≡◌};
+ghost use Rattle.c104_net.specs.EventFaults.{event_fault_name, event_fault_number};
 ghost use Rattle.c104_net.specs.declared.events.EventFault.TheVariants as fault;
 ghost use Rattle.c104_net.specs.declared.events.PlaceFault.TheVariants as place;
 
@@ -73,6 +74,30 @@ pub enum EventFault {
     /// Memory was wanted and refused.
     #[error("no memory")]
     NoMemory = 8,
+}
+
+impl EventFault {
+    /// The fault's number.
+    pub fn number(self) -> u8
+        ensures { result ≡ event_fault_number self }
+    {
+        self as u8
+    }
+
+    /// The fault's name, as it is printed.
+    pub fn name(self) -> &'static str
+        ensures { result.now ≡ event_fault_name self }
+    {
+        match self {
+            EventFault::NoNode => "NoNode",
+            EventFault::NoLink => "NoLink",
+            EventFault::NotWired => "NotWired",
+            EventFault::TooLong => "TooLong",
+            EventFault::OutboxFull => "OutboxFull",
+            EventFault::InboxFull => "InboxFull",
+            EventFault::NoMemory => "NoMemory",
+        }
+    }
 }
 
 impl From<WantOfMemory> for EventFault {

@@ -71,6 +71,13 @@ impl<T: TokenKind> NetOf<T> {
         })
     }
 
+    /// The plan of the network.
+    pub fn plan(&self) -> &Plan
+        ensures { result.now ≡ self.now.plan }
+    {
+        &self.plan
+    }
+
     /// The tokens that arrived at a terminal since the start, in order. None where the plan has no
     /// such terminal.
     pub fn arrived(&self, terminal: usize) -> Option<&[T]>

@@ -117,8 +117,8 @@ pub fn print_packet(alloc: Global, packet: &Packet) -> Result<String, NoMemory>
     Ok(text)
 }
 
-/// The hexadecimal digit of a value, in lower case.
-fn digit_of(value: u8) -> char
+/// The hexadecimal digit of a value below 16, in lower case.
+pub fn digit_of(value: u8) -> char
     requires { value < 16 }
     ensures digit { result ≡ hex_digit value }
     ensures ascii { result < 128 }

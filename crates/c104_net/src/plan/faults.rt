@@ -1,6 +1,6 @@
 //! Why a description is refused.
 ghost use Rattle.std.specs.Prelude.{◌≡◌};
-ghost use Rattle.c104_net.specs.PlanFaults.{kind_name};
+ghost use Rattle.c104_net.specs.PlanFaults.{kind_name, kind_number};
 ghost use Rattle.c104_net.specs.declared.plan.faults.PlanFaultKind.TheVariants as kind;
 
 use std::alloc::{AllocError, AllocFailed};
@@ -53,6 +53,13 @@ pub enum PlanFaultKind {
 }
 
 impl PlanFaultKind {
+    /// The fault's number.
+    pub fn number(self) -> u8
+        ensures { result ≡ kind_number self }
+    {
+        self as u8
+    }
+
     /// The fault's name, as it is printed.
     pub fn name(self) -> &'static str
         ensures { result.now ≡ kind_name self }

@@ -1,0 +1,76 @@
+//! The words of a script's line.
+ghost use Rattle.std.specs.Prelude.{◌≡◌, Err, MatchResult, Ok};
+ghost use Rattle.c104.specs.Script.{number_word, place_word, verb_of};
+
+use super::faults::LineFault;
+use c104_net::{Dots, find_dots, read_number};
+
+/// What the first word of a line asks for.
+#[derive(Clone, Copy)]
+pub(super) enum Verb {
+    Send,
+    Drain,
+    Cross,
+    Credit,
+    Input,
+    Claim,
+}
+
+/// A node or a port as a line names it.
+#[derive(Clone, Copy)]
+pub(super) struct PlaceWord<'a> {
+    /// What stands for the node's name.
+    pub(super) name: &'a [u8],
+    /// The link's number, where there is one.
+    pub(super) link: Option<u32>,
+}
+
+pub(super) fn read_verb(word: &[u8]) -> Option<Verb>
+    ensures { result ≡ verb_of word.now }
+{
+    if word == b"send".as_slice() {
+        Some(Verb::Send)
+    } else if word == b"drain".as_slice() {
+        Some(Verb::Drain)
+    } else if word == b"cross".as_slice() {
+        Some(Verb::Cross)
+    } else if word == b"credit".as_slice() {
+        Some(Verb::Credit)
+    } else if word == b"input".as_slice() {
+        Some(Verb::Input)
+    } else if word == b"claim".as_slice() {
+        Some(Verb::Claim)
+    } else {
+        None
+    }
+}
+
+pub(super) fn read_number_word(word: &[u8]) -> Result<u32, LineFault>
+    ensures { result ≡ number_word word.now }
+{
+    let Some(value) = read_number(word) else {
+        return Err(LineFault::BadNumber);
+    };
+    Ok(value)
+}
+
+/// Reads `NAME` or `NAME.NUMBER`. Whether anything has the name is not tested.
+pub(super) fn read_place(word: &[u8]) -> Result<PlaceWord<'_>, LineFault>
+    ensures { MatchResult result (λ place. place_word word.now ≡ Ok (place.name.now, place.link))
+        (λ kind. place_word word.now ≡ Err kind) }
+{
+    match find_dots(word) {
+        Dots::Without => Ok(PlaceWord {
+            name: word,
+            link: None,
+        }),
+        Dots::Several => Err(LineFault::BadShape),
+        Dots::At(dot) => {
+            let link = read_number_word(&word[dot + 1..])?;
+            Ok(PlaceWord {
+                name: &word[..dot],
+                link: Some(link),
+            })
+        }
+    }
+}
