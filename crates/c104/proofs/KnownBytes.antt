@@ -58,3 +58,21 @@ front_only held holds first more wrote = record { written = first; unwritten = m
 pub kept_all : (known : Option (List ℕ)) → Keeps known known
 kept_all None = tt
 kept_all (Some xs) = refl
+
+-- a piece was written, and then a front of the next
+pub front_next : (held now holds : Option (List ℕ)) (first next : List ℕ) → Appends held now first → AppendsFront now holds next → AppendsFront held holds (first ++ next)
+front_next held now holds first next wrote front = record {
+  written = first ++ front.written;
+  unwritten = front.unwritten;
+  grew = wrote_on held now holds first front.written wrote front.grew;
+  is_front = ap (λ xs. first ++ xs) front.is_front ∙ sym (append_assoc first front.written front.unwritten);
+}
+
+-- a front of a piece is one of what begins with it
+pub front_longer : (held holds : Option (List ℕ)) (bytes more : List ℕ) → AppendsFront held holds bytes → AppendsFront held holds (bytes ++ more)
+front_longer held holds bytes more front = record {
+  written = front.written;
+  unwritten = front.unwritten ++ more;
+  grew = front.grew;
+  is_front = ap (λ xs. xs ++ more) front.is_front ∙ append_assoc front.written front.unwritten more;
+}

@@ -5,3 +5,4 @@ pub mod KnownBytes
 pub mod Lines
 pub mod ScriptSoFar
 pub mod ScriptEnds
+pub mod PlanRuns

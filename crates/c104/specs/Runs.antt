@@ -75,11 +75,15 @@ RunEnds due script left held holds (status.CannotRead n) = ((n ≡ 0) × Keeps h
 RunEnds due script left held holds status.CannotWrite = AppendsFront held holds (shown due script).0
 RunEnds due script left held holds status.NoMemory = AppendsFront held holds (answerable due script)
 
+-- the same where nothing may be known of the script
+abbrev pub RunsDescription : Result Plan PlanFault → Option (List ℕ) → Option (List ℕ) → Option (List ℕ) → Option (List ℕ) → Status → Type 0
+RunsDescription due None left held holds status = ⊤
+RunsDescription due (Some script) left held holds status = RunEnds due script left held holds status
+
 -- a run of a description and a script; left is what is left of the script
 abbrev pub Runs : Option (List ℕ) → Option (List ℕ) → Option (List ℕ) → Option (List ℕ) → Option (List ℕ) → Status → Type 0
 Runs None script left held holds status = ⊤
-Runs (Some description) None left held holds status = ⊤
-Runs (Some description) (Some script) left held holds status = RunEnds (described description) script left held holds status
+Runs (Some description) script left held holds status = RunsDescription (described description) script left held holds status
 
 -- a run of both parts of one text
 abbrev pub RunsText : Option (List ℕ) → Option (List ℕ) → Option (List ℕ) → Option (List ℕ) → Status → Type 0

@@ -4,6 +4,7 @@
 pub mod answering;
 pub mod halt;
 pub mod reading;
+pub mod runs;
 pub mod script;
 pub mod session;
 pub mod summary;

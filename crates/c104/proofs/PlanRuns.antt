@@ -1,0 +1,64 @@
+-- The ends of a run on the network of a plan.
+use Rattle.std.proofs.Common.{◌≡◌, ℕ, Bool, false, true, List, [], ◌∷◌, ◌++◌, Option, None, Some, Result, Ok, Err, sym, ap, ◌∙◌, refl, subst}
+use Rattle.std.specs.Io.KnownBytes.{Appends}
+use Rattle.c104_net.specs.Plans.{Plan}
+use Rattle.c104.specs.declared.halt.Halt.{Halt}
+use Rattle.c104.specs.declared.halt.Halt.TheVariants as halt
+use Rattle.c104.specs.declared.session.Session.{Session}
+use Rattle.c104.specs.Lines.{is_long}
+use Rattle.c104.specs.Reading.{AppendsFront}
+use Rattle.c104.specs.Shown.{answers, ended, first_session, shown, summary}
+use Rattle.c104.specs.Texts.{script_too_long}
+use Rattle.c104.specs.Runs.{AnswersScript, RunsPlan}
+use Rattle.c104.proofs.KnownBytes.{wrote_on, front_next, front_longer}
+
+-- what is shown after the answers
+after_answers : Bool → List ℕ × Session → List ℕ
+after_answers true r = script_too_long
+after_answers false r = summary r.1.net
+
+ended_text : (long : Bool) (r : List ℕ × Session) → (ended long r).0 ≡ r.0 ++ after_answers long r
+unfolding after_answers
+ended_text true r = refl
+ended_text false r = refl
+
+-- the script came to no end
+pub plan_stops : (plan : Plan) (all left held holds : Option (List ℕ)) (after : Session) (kind : Halt) → AnswersScript (first_session plan) all left held holds after (Err kind) → RunsPlan plan all left held holds (Err kind)
+plan_stops plan None left held holds after kind stopped = tt
+plan_stops plan (Some script) left held holds after halt.CannotRead stopped = stopped
+plan_stops plan (Some script) left held holds after halt.CannotWrite stopped =
+    let r : List ℕ × Session = answers (first_session plan) script in
+    subst (λ text. AppendsFront held holds text) (sym (ended_text (is_long script) r)) (front_longer held holds r.0 (after_answers (is_long script) r) stopped)
+plan_stops plan (Some script) left held holds after halt.NoMemory stopped = stopped
+
+-- the script is too long, and that was written, or a front of it
+pub long_ends : (plan : Plan) (all left held now holds : Option (List ℕ)) (after : Session) → AnswersScript (first_session plan) all left held now after (Ok true) → Appends now holds script_too_long → RunsPlan plan all left held holds (Ok true)
+long_ends plan None left held now holds after answered wrote = tt
+long_ends plan (Some script) left held now holds after answered wrote =
+    let r : List ℕ × Session = answers (first_session plan) script in
+    (subst (λ long. Appends held holds (ended long r).0) answered.0 (wrote_on held now holds r.0 script_too_long answered.2 wrote),
+     ap (λ long. (ended long r).1) answered.0)
+
+pub long_stops : (plan : Plan) (all left held now holds : Option (List ℕ)) (after : Session) → AnswersScript (first_session plan) all left held now after (Ok true) → AppendsFront now holds script_too_long → RunsPlan plan all left held holds (Err halt.CannotWrite)
+long_stops plan None left held now holds after answered wrote = tt
+long_stops plan (Some script) left held now holds after answered wrote =
+    let r : List ℕ × Session = answers (first_session plan) script in
+    subst (λ long. AppendsFront held holds (ended long r).0) answered.0 (front_next held now holds r.0 script_too_long answered.2 wrote)
+
+-- the summary was written, or a front of it
+pub summary_ends : (plan : Plan) (all left held now holds : Option (List ℕ)) (after : Session) → AnswersScript (first_session plan) all left held now after (Ok false) → Appends now holds (summary after.net) → RunsPlan plan all left held holds (Ok after.faulty)
+summary_ends plan None left held now holds after answered wrote = tt
+summary_ends plan (Some script) left held now holds after answered wrote =
+    let r : List ℕ × Session = answers (first_session plan) script in
+    (subst (λ long. Appends held holds (ended long r).0) answered.0 (wrote_on held now holds r.0 (summary r.1.net) answered.2 (subst (λ (s : Session). Appends now holds (summary s.net)) answered.1 wrote)),
+     ap (λ (s : Session). s.faulty) answered.1 ∙ ap (λ long. (ended long r).1) answered.0)
+
+pub summary_stops : (plan : Plan) (all left held now holds : Option (List ℕ)) (after : Session) → AnswersScript (first_session plan) all left held now after (Ok false) → AppendsFront now holds (summary after.net) → RunsPlan plan all left held holds (Err halt.CannotWrite)
+summary_stops plan None left held now holds after answered wrote = tt
+summary_stops plan (Some script) left held now holds after answered wrote =
+    let r : List ℕ × Session = answers (first_session plan) script in
+    subst (λ long. AppendsFront held holds (ended long r).0) answered.0 (front_next held now holds r.0 (summary r.1.net) answered.2 (subst (λ (s : Session). AppendsFront now holds (summary s.net)) answered.1 wrote))
+
+-- the session by its plan, and what the answer says by its test
+pub of_plan : (plan : Plan) (all left held holds : Option (List ℕ)) (session after : Session) (result : Result Bool Halt) → session ≡ first_session plan → AnswersScript session all left held holds after result → AnswersScript (first_session plan) all left held holds after result
+of_plan plan all left held holds session after result is answered = subst (λ s. AnswersScript s all left held holds after result) is answered
