@@ -16,3 +16,11 @@ abbrev pub status_of : Halt → ℕ → Status
 status_of halt.CannotRead number = status.CannotRead number
 status_of halt.CannotWrite number = status.CannotWrite
 status_of halt.NoMemory number = status.NoMemory
+
+-- the program's exit status
+abbrev pub exit_code : Status → ℕ
+exit_code status.Done = 0
+exit_code status.Refused = 1
+exit_code (status.CannotRead number) = 3
+exit_code status.CannotWrite = 3
+exit_code status.NoMemory = 4

@@ -1,7 +1,7 @@
 //! How a run ends.
 ghost use Rattle.std.specs.Prelude.{◌≡◌};
 ghost use Rattle.c104.specs.declared.halt.Halt.TheVariants as halt;
-ghost use Rattle.c104.specs.Halts.{halt_of, status_of};
+ghost use Rattle.c104.specs.Halts.{exit_code, halt_of, status_of};
 
 use crate::reading::ReadFault;
 use crate::writing::CannotWrite;
@@ -45,6 +45,20 @@ impl Halt {
             Halt::CannotRead => Status::CannotRead(number),
             Halt::CannotWrite => Status::CannotWrite,
             Halt::NoMemory => Status::NoMemory,
+        }
+    }
+}
+
+impl Status {
+    /// The program's exit status.
+    pub fn exit_code(self) -> u8
+        ensures { result ≡ exit_code self }
+    {
+        match self {
+            Status::Done => 0,
+            Status::Refused => 1,
+            Status::CannotRead(_) | Status::CannotWrite => 3,
+            Status::NoMemory => 4,
         }
     }
 }
