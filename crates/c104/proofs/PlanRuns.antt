@@ -35,9 +35,10 @@ plan_stops plan (Some script) left held holds after halt.NoMemory stopped = stop
 pub long_ends : (plan : Plan) (all left held now holds : Option (List ℕ)) (after : Session) → AnswersScript (first_session plan) all left held now after (Ok true) → Appends now holds script_too_long → RunsPlan plan all left held holds (Ok true)
 long_ends plan None left held now holds after answered wrote = tt
 long_ends plan (Some script) left held now holds after answered wrote =
-    let r : List ℕ × Session = answers (first_session plan) script in
-    (subst (λ long. Appends held holds (ended long r).0) answered.0 (wrote_on held now holds r.0 script_too_long answered.2 wrote),
-     ap (λ long. (ended long r).1) answered.0)
+    let r : List ℕ × Session = answers (first_session plan) script in (
+      subst (λ long. Appends held holds (ended long r).0) answered.0 (wrote_on held now holds r.0 script_too_long answered.2 wrote),
+      ap (λ long. (ended long r).1) answered.0,
+    )
 
 pub long_stops : (plan : Plan) (all left held now holds : Option (List ℕ)) (after : Session) → AnswersScript (first_session plan) all left held now after (Ok true) → AppendsFront now holds script_too_long → RunsPlan plan all left held holds (Err halt.CannotWrite)
 long_stops plan None left held now holds after answered wrote = tt
@@ -49,9 +50,10 @@ long_stops plan (Some script) left held now holds after answered wrote =
 pub summary_ends : (plan : Plan) (all left held now holds : Option (List ℕ)) (after : Session) → AnswersScript (first_session plan) all left held now after (Ok false) → Appends now holds (summary after.net) → RunsPlan plan all left held holds (Ok after.faulty)
 summary_ends plan None left held now holds after answered wrote = tt
 summary_ends plan (Some script) left held now holds after answered wrote =
-    let r : List ℕ × Session = answers (first_session plan) script in
-    (subst (λ long. Appends held holds (ended long r).0) answered.0 (wrote_on held now holds r.0 (summary r.1.net) answered.2 (subst (λ (s : Session). Appends now holds (summary s.net)) answered.1 wrote)),
-     ap (λ (s : Session). s.faulty) answered.1 ∙ ap (λ long. (ended long r).1) answered.0)
+    let r : List ℕ × Session = answers (first_session plan) script in (
+      subst (λ long. Appends held holds (ended long r).0) answered.0 (wrote_on held now holds r.0 (summary r.1.net) answered.2 (subst (λ (s : Session). Appends now holds (summary s.net)) answered.1 wrote)),
+      ap (λ (s : Session). s.faulty) answered.1 ∙ ap (λ long. (ended long r).1) answered.0,
+    )
 
 pub summary_stops : (plan : Plan) (all left held now holds : Option (List ℕ)) (after : Session) → AnswersScript (first_session plan) all left held now after (Ok false) → AppendsFront now holds (summary after.net) → RunsPlan plan all left held holds (Err halt.CannotWrite)
 summary_stops plan None left held now holds after answered wrote = tt

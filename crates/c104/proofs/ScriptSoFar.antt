@@ -64,33 +64,33 @@ module _ {all now held holds : Option (List ℕ)} {start session : Session} {num
   -- a byte of a line
   pub reached_byte : (new : Option (List ℕ)) (byte : ℕ) → 0 < left → Consumes now new (byte ∷ []) → (byte ≡ 10 → ⊥) → Reached all new held holds start session number (line ++ byte ∷ []) (left - 1)
   reached_byte new byte some took no_feed =
-    let other : (byte == 10) ≡ false = grind (arith, nat_tests, no_feed) in
-    let lines : whole_lines [] (reached.read ++ byte ∷ []) ≡ whole_lines [] reached.read = whole_byte [] reached.read byte other in
-    record {
-      read = reached.read ++ byte ∷ [];
-      consumed = took_on all now new reached.read (byte ∷ []) reached.consumed took;
-      counted = omega (arith, reached.counted, length-append reached.read (byte ∷ []));
-      is_line = ap (λ xs. xs ++ byte ∷ []) reached.is_line ∙ sym (last_byte [] reached.read byte other);
-      is_number = reached.is_number ∙ ap (λ xs. 1 + length xs) (sym lines);
-      is_session = reached.is_session ∙ ap (λ xs. (lines_shown 1 start xs).1) (sym lines);
-      wrote = subst (λ xs. Appends held holds (lines_shown 1 start xs).0) (sym lines) reached.wrote;
-      few = omega (arith, reached.few);
-    }
+      let other : (byte == 10) ≡ false = grind (arith, nat_tests, no_feed) in
+      let lines : whole_lines [] (reached.read ++ byte ∷ []) ≡ whole_lines [] reached.read = whole_byte [] reached.read byte other in
+      record {
+        read = reached.read ++ byte ∷ [];
+        consumed = took_on all now new reached.read (byte ∷ []) reached.consumed took;
+        counted = omega (arith, reached.counted, length-append reached.read (byte ∷ []));
+        is_line = ap (λ xs. xs ++ byte ∷ []) reached.is_line ∙ sym (last_byte [] reached.read byte other);
+        is_number = reached.is_number ∙ ap (λ xs. 1 + length xs) (sym lines);
+        is_session = reached.is_session ∙ ap (λ xs. (lines_shown 1 start xs).1) (sym lines);
+        wrote = subst (λ xs. Appends held holds (lines_shown 1 start xs).0) (sym lines) reached.wrote;
+        few = omega (arith, reached.few);
+      }
 
   -- a line feed, and the line was answered
   pub reached_line : (new wrote : Option (List ℕ)) (after : Session) → 0 < left → Consumes now new (10 ∷ []) → after ≡ (line_shown number session line).1 → Appends holds wrote (line_shown number session line).0 → Reached all new held wrote start after (number + 1) [] (left - 1)
   reached_line new wrote after some took is_after writes =
-    let lines : whole_lines [] (reached.read ++ 10 ∷ []) ≡ whole_lines [] reached.read ++ line ∷ [] = whole_feed [] reached.read ∙ ap (λ l. whole_lines [] reached.read ++ l ∷ []) (sym reached.is_line) in
-    record {
-      read = reached.read ++ 10 ∷ [];
-      consumed = took_on all now new reached.read (10 ∷ []) reached.consumed took;
-      counted = omega (arith, reached.counted, length-append reached.read (10 ∷ []));
-      is_line = sym (last_feed [] reached.read);
-      is_number = omega (arith, reached.is_number, ap length lines, length-append (whole_lines [] reached.read) (line ∷ []));
-      is_session = is_after ∙ sym (session_more start session (whole_lines [] reached.read) number line reached.is_number reached.is_session) ∙ ap (λ xs. (lines_shown 1 start xs).1) (sym lines);
-      wrote = subst (λ text. Appends held wrote text) (sym (text_more start session (whole_lines [] reached.read) number line reached.is_number reached.is_session) ∙ ap (λ xs. (lines_shown 1 start xs).0) (sym lines)) (wrote_on held holds wrote so_far.0 (line_shown number session line).0 reached.wrote writes);
-      few = omega (arith, reached.few);
-    }
+      let lines : whole_lines [] (reached.read ++ 10 ∷ []) ≡ whole_lines [] reached.read ++ line ∷ [] = whole_feed [] reached.read ∙ ap (λ l. whole_lines [] reached.read ++ l ∷ []) (sym reached.is_line) in
+      record {
+        read = reached.read ++ 10 ∷ [];
+        consumed = took_on all now new reached.read (10 ∷ []) reached.consumed took;
+        counted = omega (arith, reached.counted, length-append reached.read (10 ∷ []));
+        is_line = sym (last_feed [] reached.read);
+        is_number = omega (arith, reached.is_number, ap length lines, length-append (whole_lines [] reached.read) (line ∷ []));
+        is_session = is_after ∙ sym (session_more start session (whole_lines [] reached.read) number line reached.is_number reached.is_session) ∙ ap (λ xs. (lines_shown 1 start xs).1) (sym lines);
+        wrote = subst (λ text. Appends held wrote text) (sym (text_more start session (whole_lines [] reached.read) number line reached.is_number reached.is_session) ∙ ap (λ xs. (lines_shown 1 start xs).0) (sym lines)) (wrote_on held holds wrote so_far.0 (line_shown number session line).0 reached.wrote writes);
+        few = omega (arith, reached.few);
+      }
 
   -- the lines of the whole script: those that had ended, and those of what is left
   cut : (script rest : List ℕ) → script ≡ reached.read ++ rest → script_lines script ≡ whole_lines [] reached.read ++ lines_within left line rest
@@ -106,7 +106,7 @@ module _ {all now held holds : Option (List ℕ)} {start session : Session} {num
   pub memory_stops : (script rest : List ℕ) (remains wrote : Option (List ℕ)) (after : Session) → script ≡ reached.read ++ rest → Keeps holds wrote → ScriptEnds start script remains held wrote after (Err halt.NoMemory)
   memory_stops script rest remains wrote after is kept =
       subst (λ text. AppendsFront held wrote text) (sym (ap (λ xs. (lines_shown 1 start xs).0) (cut script rest is) ∙ text_on 1 start (whole_lines [] reached.read) (lines_within left line rest)))
-        (front_only held wrote so_far.0 (shown_after 1 start (whole_lines [] reached.read) (lines_within left line rest)).0 (wrote_kept held holds wrote so_far.0 reached.wrote kept))
+      (front_only held wrote so_far.0 (shown_after 1 start (whole_lines [] reached.read) (lines_within left line rest)).0 (wrote_kept held holds wrote so_far.0 reached.wrote kept))
 
   -- the answer to the next line isn't written, or a front of it
   pub stops_at : (script rest : List ℕ) (more : List (List ℕ)) (remains wrote : Option (List ℕ)) (last : Session) (kind : Halt) → script ≡ reached.read ++ rest → lines_within left line rest ≡ line ∷ more
@@ -114,7 +114,7 @@ module _ {all now held holds : Option (List ℕ)} {start session : Session} {num
   stops_at script rest more remains wrote last halt.CannotRead is next stopped = absurd stopped
   stops_at script rest more remains wrote last halt.CannotWrite is next stopped =
       subst (λ text. AppendsFront held wrote text) (sym (ap (λ xs. (lines_shown 1 start xs).0) (cut script rest is ∙ ap (λ xs. whole_lines [] reached.read ++ xs) next) ∙ text_with start session (whole_lines [] reached.read) number line reached.is_number reached.is_session more))
-        (front_after held holds wrote so_far.0 (line_shown number session line).0 (lines_shown (suc (1 + length (whole_lines [] reached.read))) (line_shown number session line).1 more).0 reached.wrote stopped)
+      (front_after held holds wrote so_far.0 (line_shown number session line).0 (lines_shown (suc (1 + length (whole_lines [] reached.read))) (line_shown number session line).1 more).0 reached.wrote stopped)
   stops_at script rest more remains wrote last halt.NoMemory is next stopped = memory_stops script rest remains wrote last is stopped
 
   -- the whole script is read and answered
@@ -122,17 +122,19 @@ module _ {all now held holds : Option (List ℕ)} {start session : Session} {num
   all_answered script remains wrote after is is_after writes =
       let lines : script_lines script ≡ whole_lines [] reached.read ++ line ∷ [] = cut script [] is in
       let size : length script ≡ length reached.read + 0 = ap length is ∙ length-append reached.read [] in
-      let short : nat_lt most_script (length script) ≡ false = grind (arith, nat_tests, reached.counted, size) in
-      (sym short,
-       is_after ∙ sym (session_more start session (whole_lines [] reached.read) number line reached.is_number reached.is_session) ∙ ap (λ xs. (lines_shown 1 start xs).1) (sym lines),
-       subst (λ text. Appends held wrote text) (sym (text_more start session (whole_lines [] reached.read) number line reached.is_number reached.is_session) ∙ ap (λ xs. (lines_shown 1 start xs).0) (sym lines)) (wrote_on held holds wrote so_far.0 (line_shown number session line).0 reached.wrote writes))
+      let short : nat_lt most_script (length script) ≡ false = grind (arith, nat_tests, reached.counted, size) in (
+        sym short,
+        is_after ∙ sym (session_more start session (whole_lines [] reached.read) number line reached.is_number reached.is_session) ∙ ap (λ xs. (lines_shown 1 start xs).1) (sym lines),
+        subst (λ text. Appends held wrote text) (sym (text_more start session (whole_lines [] reached.read) number line reached.is_number reached.is_session) ∙ ap (λ xs. (lines_shown 1 start xs).0) (sym lines)) (wrote_on held holds wrote so_far.0 (line_shown number session line).0 reached.wrote writes),
+      )
 
   -- a byte more than a script may have
   pub longer : (script rest : List ℕ) (remains : Option (List ℕ)) (byte : ℕ) → left ≡ 0 → script ≡ reached.read ++ byte ∷ rest → ScriptEnds start script remains held holds session (Ok true)
   longer script rest remains byte none is =
       let lines : script_lines script ≡ whole_lines [] reached.read = cut script (byte ∷ rest) is ∙ ap (λ n. whole_lines [] reached.read ++ lines_within n line (byte ∷ rest)) none ∙ append-nil (whole_lines [] reached.read) in
       let size : length script ≡ length reached.read + suc (length rest) = ap length is ∙ length-append reached.read (byte ∷ rest) in
-      let long : nat_lt most_script (length script) ≡ true = grind (arith, nat_tests, reached.counted, size, none) in
-      (sym long,
-       reached.is_session ∙ ap (λ xs. (lines_shown 1 start xs).1) (sym lines),
-       subst (λ text. Appends held holds text) (ap (λ xs. (lines_shown 1 start xs).0) (sym lines)) reached.wrote)
+      let long : nat_lt most_script (length script) ≡ true = grind (arith, nat_tests, reached.counted, size, none) in (
+        sym long,
+        reached.is_session ∙ ap (λ xs. (lines_shown 1 start xs).1) (sym lines),
+        subst (λ text. Appends held holds text) (ap (λ xs. (lines_shown 1 start xs).0) (sym lines)) reached.wrote,
+      )

@@ -58,7 +58,7 @@ parts_within bytes front line [] =
 parts_within zero front line (byte ∷ text) = record { description = front ++ line ++ byte ∷ text; script = [] }
 parts_within (suc bytes) front line (byte ∷ text) =
     if byte == 10 then (if is_script_line line then record { description = front; script = text }
-        else parts_within bytes (front ++ line ++ 10 ∷ []) [] text)
+    else parts_within bytes (front ++ line ++ 10 ∷ []) [] text)
     else parts_within bytes front (line ++ byte ∷ []) text
 
 -- the most bytes of a description, and of one with its line `script`: 1 MiB

@@ -13,9 +13,8 @@ mod writing;
 
 use halt::Status;
 use runs::run_text;
-use std::env;
-use std::io;
 use std::process::ExitCode;
+use std::{env, io};
 
 /// What is said of words on the command line, of which there are none so far.
 const USAGE: &str = "usage: c104 < TEXT
@@ -53,5 +52,5 @@ fn fault_message(status: Status) -> Option<&'static str> {
     }
 }
 
-
-
+#[cfg(test)]
+mod tests;

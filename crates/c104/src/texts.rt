@@ -60,5 +60,9 @@ pub fn description_text(alloc: Global, fault: PlanFault) -> Result<String, Alloc
     ensures { IfOk result (λ text. string_bytes text ≡ description_text fault) }
 {
     let line = fault.line;
-    format!(in alloc; "description {line}: {} {}\n", fault.kind.number(), fault.kind.name())
+    format!(in alloc;
+        "description {line}: {} {}\n",
+        fault.kind.number(),
+        fault.kind.name()
+    )
 }

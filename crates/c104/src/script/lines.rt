@@ -139,12 +139,7 @@ fn read_input(
 }
 
 /// Reads `claim S i o`.
-fn read_claim(
-    plan: &Plan,
-    node: &[u8],
-    input: &[u8],
-    output: &[u8],
-) -> Result<Request, LineFault>
+fn read_claim(plan: &Plan, node: &[u8], input: &[u8], output: &[u8]) -> Result<Request, LineFault>
     ensures { result ≡ claim_line plan.now node.now input.now output.now }
 {
     let place = read_place(node)?;

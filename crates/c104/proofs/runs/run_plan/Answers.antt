@@ -6,13 +6,13 @@ use Rattle.c104.proofs.runs.run_plan.Goals as goal
 pub returns-in_err-answer_script : goal.returns-in_err-answer_script
 returns-in_err-answer_script g c =
     rw (err_is _ _ c.from_residual-in_err-answer_script.ensures)
-      (plan_stops c.args.plan.now _ _ _ _ c.answer_script.new.session c.in_err-answer_script.field-0.0 (of_plan c.args.plan.now _ _ _ _ _ _ _ c.in_ok-session.ensures c.in_err-answer_script.ensures))
+    (plan_stops c.args.plan.now _ _ _ _ c.answer_script.new.session c.in_err-answer_script.field-0.0 (of_plan c.args.plan.now _ _ _ _ _ _ _ c.in_ok-session.ensures c.in_err-answer_script.ensures))
 
 pub returns-in_err-write_whole : goal.returns-in_err-write_whole
 returns-in_err-write_whole g c =
     let answered = rw c.if-branch.true at c.in_ok-answer_script.ensures in
     rw (err_is _ _ c.from_residual-in_err-write_whole.ensures)
-      (long_stops c.args.plan.now _ _ _ _ _ c.answer_script.new.session (of_plan c.args.plan.now _ _ _ _ _ _ _ c.in_ok-session.ensures answered) c.in_err-write_whole.ensures.front)
+    (long_stops c.args.plan.now _ _ _ _ _ c.answer_script.new.session (of_plan c.args.plan.now _ _ _ _ _ _ _ c.in_ok-session.ensures answered) c.in_err-write_whole.ensures.front)
 
 pub returns-then-branch : goal.returns-then-branch
 returns-then-branch g c =
@@ -24,7 +24,7 @@ returns-in_err-write_whole-2 g c =
     let answered = rw c.if-branch.false at c.in_ok-answer_script.ensures in
     let front = rw (c.as_slice.ensures.value, c.in_ok-summary.ensures) at c.in_err-write_whole-2.ensures.front in
     rw (err_is _ _ c.from_residual-in_err-write_whole-2.ensures)
-      (summary_stops c.args.plan.now _ _ _ _ _ c.answer_script.new.session (of_plan c.args.plan.now _ _ _ _ _ _ _ c.in_ok-session.ensures answered) front)
+    (summary_stops c.args.plan.now _ _ _ _ _ c.answer_script.new.session (of_plan c.args.plan.now _ _ _ _ _ _ _ c.in_ok-session.ensures answered) front)
 
 pub returns : goal.returns
 returns g c =

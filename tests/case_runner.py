@@ -1,0 +1,128 @@
+"""What the scripts of cases share: the runner, and the text of the first run."""
+
+import os
+import subprocess
+import sys
+
+SECONDS = 300
+MIB = 1024 * 1024
+DESCRIPTION_LIMIT = MIB
+SCRIPT_LIMIT = 16 * MIB
+LINE_LIMIT = 16384
+PACKET_LIMIT = 4096
+OUTBOX_LIMIT = 65536
+ARRIVED_LIMIT = 262144
+
+PLAN = b"""switch A
+terminal a A.0
+terminal b A.1
+row A.0 1 0
+row A.0 2 1
+row A.1 1 0
+row A.1 2 1
+"""
+
+# The first run, line by line, with each line's answer, and what b has received by its end.
+FIRST_RUN = [
+    ('send a 01 aa eop', 'done'), ('credit A.0', 'done'), ('cross a', 'token 01'),
+    ('cross a', 'token aa'), ('cross a', 'token eop'), ('input A.0', 'done'),
+    ('claim A 0 1', 'done'), ('credit b', 'done'), ('cross A.1', 'token 01'),
+    ('input A.0', 'done'), ('input A.0', 'done'), ('cross A.1', 'token aa'),
+    ('cross A.1', 'token eop'), ('drain b', 'token 01'), ('drain b', 'token aa'),
+    ('drain b', 'token eop'), ('drain b', 'not ready'),
+]
+DRAINS_TO_THE_TERMINATOR = 16
+RECEIVED = b'b: 01 aa eop\n'
+
+CANNOT_READ = b'c104: cannot read -\n'
+CANNOT_WRITE = b'c104: cannot write\n'
+DESCRIPTION_TOO_LONG = b'description 0: 1 TooLong\n'
+SCRIPT_TOO_LONG = b'script too long\n'
+
+
+def lines_of(pairs):
+    return b''.join(line.encode() + b'\n' for line, _ in pairs)
+
+
+def answers_of(pairs, first=1):
+    return b''.join(b'%d: %s\n' % (number, reply.encode())
+                    for number, (_, reply) in enumerate(pairs, first) if reply)
+
+
+FIRST_TEXT = PLAN + b'script\n' + lines_of(FIRST_RUN)
+
+
+def padded(line, size):
+    """The line with blanks behind it, so that it has this size without its line feed."""
+    return line + b' ' * (size - len(line))
+
+
+def comments(size):
+    """Lines of this size in all, each of which is a comment and not too long."""
+    line = b'#' * (LINE_LIMIT - 1) + b'\n'
+    last = size % len(line)
+    return line * (size // len(line)) + (b'#' * (last - 1) + b'\n' if last else b'')
+
+
+class Runner:
+    def __init__(self, program, names):
+        self.program, self.names = program, names
+        self.passed = self.failed = 0
+
+    def wanted(self, name):
+        return not self.names or any(name.startswith(begin) for begin in self.names)
+
+    def judge(self, name, wrong):
+        if wrong is None:
+            self.passed += 1
+        else:
+            self.failed += 1
+            print('FAILED %s: %s' % (name, wrong))
+
+    def run(self, words=(), data=None, stdin=None, stdout=None, signals=True):
+        """Status, standard output and standard error; None where there was no end."""
+        fields = {'input': data or b''} if stdin is None else {'stdin': stdin}
+        try:
+            done = subprocess.run(self.program + list(words), stderr=subprocess.PIPE,
+                                  stdout=stdout or subprocess.PIPE, timeout=SECONDS,
+                                  restore_signals=signals, **fields)
+        except subprocess.TimeoutExpired:
+            return None
+        return done.returncode, done.stdout, done.stderr
+
+    def case(self, name, expected, status=0, errors=None, **fields):
+        """One run, compared. What is None is not looked at."""
+        if not self.wanted(name):
+            return
+        found = self.run(**fields)
+        self.judge(name, difference(found, expected, status, errors))
+
+
+def difference(found, expected, status, errors):
+    """What is wrong with what was found, or None."""
+    if found is None:
+        return 'no end after %d seconds' % SECONDS
+    code, out, err = found
+    if expected is not None and out != expected:
+        pairs = zip(expected.splitlines() + [None], out.splitlines() + [None])
+        for number, (want, got) in enumerate(pairs, 1):
+            if want != got:
+                return 'output line %d: wanted %.120r, found %.120r' % (number, want, got)
+        return 'wanted %d bytes, found %d' % (len(expected), len(out))
+    if code != status:
+        return 'exit status: wanted %d, found %d' % (status, code)
+    if errors is not None and err != errors:
+        return 'standard error: wanted %r, found %.120r' % (errors, err)
+    return None
+
+
+def run_parts(parts, usage):
+    """Runs the parts over the program that the command line names, and exits."""
+    words = sys.argv[1:]
+    if not words:
+        sys.exit(usage)
+    runner = Runner([os.path.abspath(words[0])], words[1:])
+    for part in parts:
+        part(runner)
+    print('%d passed, %d failed' % (runner.passed, runner.failed))
+    sys.exit(1 if runner.failed else 0)
