@@ -1,5 +1,5 @@
 -- The ends of a run on the network of a plan.
-use Rattle.std.proofs.Common.{◌≡◌, ℕ, Bool, false, true, List, [], ◌∷◌, ◌++◌, Option, None, Some, Result, Ok, Err, sym, ap, ◌∙◌, refl, subst}
+use Rattle.std.proofs.Common.{◌≡◌, ℕ, Bool, false, true, List, ◌++◌, Option, None, Some, Result, Ok, Err, sym, ap, ◌∙◌, refl, subst}
 use Rattle.std.specs.Io.KnownBytes.{Appends}
 use Rattle.c104_net.specs.Plans.{Plan}
 use Rattle.c104.specs.declared.halt.Halt.{Halt}
@@ -7,7 +7,7 @@ use Rattle.c104.specs.declared.halt.Halt.TheVariants as halt
 use Rattle.c104.specs.declared.session.Session.{Session}
 use Rattle.c104.specs.Lines.{is_long}
 use Rattle.c104.specs.Reading.{AppendsFront}
-use Rattle.c104.specs.Shown.{answers, ended, first_session, shown, summary}
+use Rattle.c104.specs.Shown.{answers, ended, first_session, summary}
 use Rattle.c104.specs.Texts.{script_too_long}
 use Rattle.c104.specs.Runs.{AnswersScript, RunsPlan}
 use Rattle.c104.proofs.KnownBytes.{wrote_on, front_next, front_longer}

@@ -1,19 +1,16 @@
 -- A script as it is read and answered: how far it is, and what it comes to.
-use Rattle.std.proofs.Common.{◌≡◌, ℕ, zero, suc, ◌+◌, ◌-◌, ◌<◌, ◌≤◌, ◌==◌, Bool, false, true, List, [], ◌∷◌, ◌++◌, length, nat_lt, Option, None, Some, Result, Ok, Err, sym, ap, ◌∙◌, refl, subst, arith}
+use Rattle.std.proofs.Common.{◌≡◌, ℕ, zero, suc, ◌+◌, ◌-◌, ◌<◌, ◌≤◌, ◌==◌, false, true, List, [], ◌∷◌, ◌++◌, length, nat_lt, Option, Ok, Err, sym, ap, ◌∙◌, refl, subst, arith}
 use Rattle.std.proofs.lemmas.Bool.Decides.{nat_tests}
-use mathlib.Core.List.{append_assoc, append-nil}
+use mathlib.Core.List.{append-nil}
 use Rattle.std.proofs.lemmas.List.{length-append}
-use Rattle.std.specs.Io.KnownBytes.{Appends, Consumes, Keeps, IsAtEnd}
+use Rattle.std.specs.Io.KnownBytes.{Appends, Consumes, Keeps}
 use Rattle.c104.specs.declared.halt.Halt.{Halt}
 use Rattle.c104.specs.declared.halt.Halt.TheVariants as halt
-use Rattle.c104.specs.declared.reading.ReadFault.{ReadFault}
-use Rattle.c104.specs.declared.reading.ReadFault.TheVariants as read_fault
-use Rattle.c104.specs.Halts.{halt_of}
 use Rattle.c104.specs.declared.session.Session.{Session}
-use Rattle.c104.specs.Lines.{whole_lines, last_line, lines_within, script_lines, most_script, is_long}
+use Rattle.c104.specs.Lines.{whole_lines, last_line, lines_within, script_lines, most_script}
 use Rattle.c104.specs.Reading.{AppendsFront}
-use Rattle.c104.specs.Shown.{line_shown, lines_shown, answers}
-use Rattle.c104.specs.Runs.{AnswersScript, ScriptEnds, AnswersFront, LineStops}
+use Rattle.c104.specs.Shown.{line_shown, lines_shown}
+use Rattle.c104.specs.Runs.{ScriptEnds, LineStops}
 use Rattle.c104.proofs.KnownBytes.{took_on, took_nothing, wrote_on, wrote_nothing, wrote_kept, front_after, front_only}
 use Rattle.c104.proofs.Lines.{whole_byte, last_byte, whole_feed, last_feed, lines_after, shown_after, text_on, session_on}
 

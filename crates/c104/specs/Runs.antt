@@ -1,5 +1,5 @@
 -- How a run ends, and what it has written then, where its reader and its writer tell their bytes.
-use Rattle.std.specs.Prelude.{ℕ, ◌≡◌, ◌⊎◌, ⊤, Bool, true, false, List, [], ◌++◌, length, Option, Some, None, Result, Ok, Err}
+use Rattle.std.specs.Prelude.{ℕ, ◌≡◌, ◌⊎◌, ⊤, Bool, true, false, List, [], ◌++◌, Option, Some, None, Result, Ok, Err}
 use Rattle.std.specs.Io.KnownBytes.{Appends, Keeps}
 use Rattle.c104_net.specs.Plans.{Plan}
 use Rattle.c104_net.specs.declared.plan.faults.PlanFault.{PlanFault}

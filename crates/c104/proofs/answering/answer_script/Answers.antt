@@ -1,7 +1,6 @@
-use Rattle.std.proofs.Common.{◌∷◌, [], sym, ap, ◌∙◌, subst, arith}
-use Rattle.std.specs.Io.KnownBytes.{Consumes}
+use Rattle.std.proofs.Common.{arith}
 use Rattle.c104.proofs.ScriptEnds.{err_is, read_halts, byte_halts, line_halts, last_halts, script_ends, script_is_long}
-use Rattle.c104.proofs.ScriptSoFar.{reached_first, reached_byte, reached_line, reached_text}
+use Rattle.c104.proofs.ScriptSoFar.{reached_byte, reached_line, reached_text}
 use Rattle.c104.proofs.answering.answer_script.Goals as goal
 use Rattle.c104.proofs.answering.answer_script.Goals.{then-byte-eq10+in_ok-answer_line-2, else-byte-eq10+in_ok-push}
 

@@ -1,4 +1,3 @@
-use Rattle.std.proofs.Common.{sym}
 use Rattle.c104.proofs.ScriptEnds.{err_is}
 use Rattle.c104.proofs.PlanRuns.{of_plan, plan_stops, long_ends, long_stops, summary_ends, summary_stops}
 use Rattle.c104.proofs.runs.run_plan.Goals as goal
