@@ -4,7 +4,7 @@ use Rattle.std.proofs.lemmas.List.{length-map}
 use Rattle.c104_interval.specs.declared.intervals.Table.{Table}
 use Rattle.c104_link.specs.Buffers.{empty_out}
 use Rattle.c104_link.specs.Steps.{◌>>=◌}
-use Rattle.c104_switch.specs.Settings.{plain_settings}
+use Rattle.c104_regs.specs.Settings.{plain_settings}
 use Rattle.c104_switch.specs.Switch.{first_with, first_input}
 use Rattle.c104_net.specs.declared.events.Port.{Port}
 use Rattle.c104_net.specs.declared.events.Port.TheVariants as port

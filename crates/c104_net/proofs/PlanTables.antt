@@ -1,16 +1,21 @@
 -- The rows of an input, filled into its table one after another.
-use Rattle.std.proofs.Common.{◌≡◌, ℕ, suc, ◌+◌, ◌-◌, ◌<◌, ◌≤◌, Bool, true, false, cond, List, [], ◌∷◌, ◌++◌, length, map, filter, take, set, get_or, replicate, All, sym, ◌∙◌, ap, arith, append_assoc, append-nil, length-append}
+use Rattle.std.proofs.Common.{◌≡◌, ℕ, suc, ◌+◌, ◌-◌, ◌<◌, ◌≤◌, Bool, true, false, cond, List, [], ◌∷◌, ◌++◌, length, map, filter, take, set, get_or, replicate, All, inl, inr, subst, sym, ◌∙◌, ap, arith, append_assoc, append-nil, length-append}
 use Rattle.std.proofs.Math.Seq.{set-append_seam}
-use Rattle.std.proofs.lemmas.List.{length-map, map-append, take_all}
-use Rattle.std.proofs.lemmas.List.Elements.{All-map, All-same, filter_more}
+use Rattle.std.proofs.lemmas.List.{get_or_past, length-map, length-replicate, map-append, take_all}
+use Rattle.std.proofs.lemmas.List.Elements.{All-append, All-filter, All-map, All-replicate, All-same, All-weaker, filter_more}
+use Rattle.std.proofs.lemmas.Bool.{cases_lt}
 use Rattle.std.proofs.lemmas.List.FromFn.{length-map-range_with_len, map-range_with_len_more}
 use Rattle.std.specs.List.{range_with_len}
 use Rattle.std.proofs.lemmas.List.Sums.{length-filter, sum_by-take-le}
+use Rattle.c104_regs.specs.Ranges as regs
+use Rattle.c104_regs.specs.Ranges.{IsTableInRange}
+use Rattle.c104_interval.specs.declared.intervals.Select.{Select}
+use Rattle.c104_interval.specs.declared.intervals.Select.TheVariants.{Link, Discard, Sink}
 use Rattle.c104_interval.specs.declared.intervals.Row.{Row}
 use Rattle.c104_interval.specs.declared.intervals.Table.{Table}
 use Rattle.c104_interval.specs.Selection.{reset_row}
-use Rattle.c104_net.specs.Plans.{IsPlan, Plan, PlanRow, is_row_of, rows_of}
-use Rattle.c104_net.specs.PlanImage.{filled, range_of, table_of, table_row, tables_of, Fits, Image}
+use Rattle.c104_net.specs.Plans.{IsPlan, IsSelectable, Plan, PlanRow, is_row_of, rows_of}
+use Rattle.c104_net.specs.PlanImage.{AreTables, filled, range_of, table_of, table_row, tables_of, Fits, Image}
 
 -- those of the first so many rows that are of this input
 abbrev pub so_far : ℕ → ℕ → List PlanRow → ℕ → List Row
@@ -83,11 +88,58 @@ pub tables_last : (plan : Plan) (switch links : ℕ) → links ≡ 32 → map (t
 unfolding tables_of
 tables_last plan switch links all = ap (λ n. map (table_of plan switch) (range_with_len 0 n)) all
 
+-- a row within the ranges of its registers
+abbrev IsRowInRange : Row → Type 0
+IsRowInRange row = (row.limit ≤ 65536) × regs.IsSelectable row.select
+
+selectable : (select : Select) → IsSelectable select → regs.IsSelectable select
+selectable (Link l) is = is
+selectable Discard is = absurd is
+selectable Sink is = tt
+
+-- a row at any place, past the end a reset one
+row_in_range : (rows : List Row) (k : ℕ) → All IsRowInRange rows → IsRowInRange (get_or rows k reset_row)
+row_in_range rows k ranges = elim (cases_lt k (length rows)) [
+  | inl inside ↦ ranges k reset_row inside
+  | inr past ↦ subst IsRowInRange (sym (get_or_past rows k reset_row past)) (omega arith, tt)
+]
+
+-- the rows of an input, filled up, are within the ranges
+rows_in_range : (plan : Plan) (switch link : ℕ) → IsPlan plan → All IsRowInRange (filled (map table_row (rows_of plan switch link)))
+unfolding rows_of
+rows_in_range plan switch link kept =
+    let own : List PlanRow = filter (is_row_of switch link) plan.rows in
+    let planned : All (λ (r : PlanRow). IsRowInRange (table_row r)) own = All-filter (is_row_of switch link) (λ (r : PlanRow). IsRowInRange (table_row r)) plan.rows
+    (All-weaker (λ (r : PlanRow). (r.limit ≤ 65536) × IsSelectable r.select) (λ (r : PlanRow). IsRowInRange (table_row r)) (λ (r : PlanRow) is. (is.0, selectable r.select is.1)) plan.rows kept.rows_are) in
+    All-append IsRowInRange (map table_row own) (replicate (36 - length (map table_row own)) reset_row)
+    (All-map IsRowInRange table_row own planned) (All-replicate IsRowInRange (36 - length (map table_row own)) reset_row (omega arith, tt))
+
+table_in_range : (plan : Plan) (switch link : ℕ) → IsPlan plan → IsTableInRange (table_of plan switch link)
+unfolding table_of rows_of
+table_in_range plan switch link kept =
+    let rows : List Row = map table_row (rows_of plan switch link) in
+    let few : length rows ≤ 36 = subst (λ n. n ≤ 36) (sym (length-map (rows_of plan switch link) table_row)) (kept.few_rows switch link) in
+    let size : length (filled rows) ≡ length rows + (36 - length rows) = length-append rows (replicate (36 - length rows) reset_row) ∙ ap (λ n. length rows + n) (length-replicate (36 - length rows) reset_row) in
+    record {
+      base = omega arith;
+      rows = omega (arith, size, few);
+      limits = λ k. (row_in_range (filled rows) k (rows_in_range plan switch link kept)).0;
+      selects = λ k. (row_in_range (filled rows) k (rows_in_range plan switch link kept)).1;
+    }
+
+-- the tables of a switch are
+are_tables : (plan : Plan) (switch : ℕ) → IsPlan plan → AreTables (tables_of plan switch)
+unfolding tables_of
+are_tables plan switch kept = (
+  length-tables_of plan switch,
+  All-map IsTableInRange (table_of plan switch) (range_with_len 0 32) (λ k d inside. table_in_range plan switch (get_or (range_with_len 0 32) k d) kept),
+)
+
 -- each switch has all its tables
-pub all_have_tables : (plan : Plan) (tables : List (List Table)) → tables ≡ map (tables_of plan) (range_with_len 0 (length plan.switches)) → All (λ ts. length ts ≡ 32) tables
-all_have_tables plan tables same =
-    All-same (λ ts. length ts ≡ 32) tables (map (tables_of plan) (range_with_len 0 (length plan.switches))) same
-    (All-map (λ ts. length ts ≡ 32) (tables_of plan) (range_with_len 0 (length plan.switches)) (λ k d inside. length-tables_of plan (get_or (range_with_len 0 (length plan.switches)) k d)))
+pub all_have_tables : (plan : Plan) (tables : List (List Table)) → IsPlan plan → tables ≡ map (tables_of plan) (range_with_len 0 (length plan.switches)) → All AreTables tables
+all_have_tables plan tables kept same =
+    All-same AreTables tables (map (tables_of plan) (range_with_len 0 (length plan.switches))) same
+    (All-map AreTables (tables_of plan) (range_with_len 0 (length plan.switches)) (λ k d inside. are_tables plan (get_or (range_with_len 0 (length plan.switches)) k d) kept))
 
 -- one more value of a function
 pub made_next : {X : Type 0} (f : ℕ → X) (n : ℕ) (before after : List X) (x : X) → before ≡ map f (range_with_len 0 n) → after ≡ before ++ x ∷ [] → x ≡ f n → after ≡ map f (range_with_len 0 (n + 1))

@@ -5,7 +5,7 @@ use Rattle.c104_interval.specs.declared.intervals.Table.{Table}
 use Rattle.c104_link.specs.Steps.{◌>>=◌, at_place, from_place}
 use Rattle.c104_switch.specs.declared.actions.Reply.{Reply}
 use Rattle.c104_switch.specs.declared.actions.Reply.TheVariants as reply
-use Rattle.c104_switch.specs.Settings.{plain_settings}
+use Rattle.c104_regs.specs.Settings.{plain_settings}
 use Rattle.c104_switch.specs.Switch.{first_with}
 use Rattle.c104_net.specs.Plans.{Plan, Terminal}
 use Rattle.c104_net.specs.PlanImage.{Image}

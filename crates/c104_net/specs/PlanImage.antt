@@ -4,6 +4,7 @@ use Rattle.std.specs.List.{range_with_len}
 use Rattle.c104_interval.specs.declared.intervals.Row.{Row}
 use Rattle.c104_interval.specs.declared.intervals.Table.{Table}
 use Rattle.c104_interval.specs.Selection.{reset_row}
+use Rattle.c104_regs.specs.Ranges.{IsTableInRange}
 use Rattle.c104_net.specs.Plans.{Plan, PlanRow, Terminal, rows_of, most_rows}
 
 -- a range for each terminal, by its first label and how many they are, and the tables of each
@@ -41,6 +42,10 @@ pub record Fits (image : Image) (plan : Plan) : Type 0 where
   pub ranges : length image.ranges ≡ length plan.terminals
   pub tables : length image.tables ≡ length plan.switches
 
--- what the type of an image keeps: each switch has a table for each of its 32 inputs
+-- a table for each of 32 inputs, whose numbers are within the ranges of their registers
+abbrev pub AreTables : List Table → Type 0
+AreTables tables = (length tables ≡ 32) × All IsTableInRange tables
+
+-- what the type of an image keeps of each switch
 abbrev pub IsImage : Image → Type 0
-IsImage image = All (λ tables. length tables ≡ 32) image.tables
+IsImage image = All AreTables image.tables

@@ -1,9 +1,10 @@
 //! The nodes of a network at first.
 ghost use Rattle.std.specs.Prelude.{◌≡◌, ◌++◌, true, length, map, All, OnOk, IfOk};
-ghost use Rattle.c104_switch.specs.Settings.{plain_settings};
+ghost use Rattle.c104_regs.specs.Settings.{plain_settings};
 ghost use Rattle.c104_switch.specs.Switch.{first_with};
 ghost use Rattle.c104_interval.specs.declared.intervals.Table.{Table as TheTable};
 ghost use Rattle.c104_net.specs.Network.{switch_nodes, terminal_nodes};
+ghost use Rattle.c104_net.specs.PlanImage.{AreTables};
 
 use crate::node::NodeOf;
 use crate::plan::Terminal;
@@ -21,7 +22,7 @@ pub fn placed_switches<T: TokenKind>(
     alloc: Global,
     switches: &[Items<Table>],
 ) -> Result<Vec<NodeOf<T>>, NoMemory>
-    requires { All (λ tables. length tables ≡ 32) switches.now }
+    requires { All AreTables switches.now }
     ensures { IfOk result (λ list. list.items ≡ switch_nodes switches.now) }
 {
     let mut list = Vec::new(alloc);

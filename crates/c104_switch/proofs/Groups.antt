@@ -1,6 +1,6 @@
 -- A run of links, from its highest link down.
 use Rattle.std.proofs.Common.{◌≡◌, ◌<◌, ℕ, suc, ◌+◌, ◌-◌, ◌&&◌, true, List, slice_get, ap, ◌∙◌, arith}
-use Rattle.c104_switch.specs.Settings.{Settings}
+use Rattle.c104_regs.specs.declared.settings.Settings.{Settings}
 use Rattle.c104_switch.specs.Group.{continues, joined}
 
 -- links are joined where the highest continues the run of those below it

@@ -7,3 +7,4 @@ pub mod SoundnessInputs
 pub mod SoundnessTurns
 pub mod Soundness
 pub mod SoundnessMethods
+pub mod Peeks

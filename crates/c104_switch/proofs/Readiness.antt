@@ -3,7 +3,7 @@ use Rattle.std.proofs.Common.{◌≡◌, ℕ, Bool, true, false, List, Option, S
 use Rattle.c104_token.specs.Kinds.{Kind}
 use Rattle.c104_link.specs.Buffers.{Outgoing}
 use Rattle.c104_link.specs.Steps.{with_place}
-use Rattle.c104_switch.specs.Settings.{Settings}
+use Rattle.c104_regs.specs.declared.settings.Settings.{Settings}
 use Rattle.c104_switch.specs.Switch.{Input, Switch}
 use Rattle.c104_switch.specs.Turns.{turn, input}
 

@@ -7,7 +7,8 @@ use Rattle.c104_token.specs.Kinds.{Kind}
 use Rattle.c104_link.specs.Steps.{at_place, from_place, with_place}
 use Rattle.c104_link.specs.Buffers as buffer
 use Rattle.c104_link.specs.Buffers.{Outgoing, IsValidCap, IsWithinCap, IsWithinLimits, empty_out, credited}
-use Rattle.c104_switch.specs.Settings.{Settings, reset_settings}
+use Rattle.c104_regs.specs.declared.settings.Settings.{Settings}
+use Rattle.c104_regs.specs.Settings.{reset_settings}
 use Rattle.c104_switch.specs.Switch.{Fresh, Stream, Input, Switch, is_owned, with_inputs, with_outputs, with_sides, accepted, granted, first_input, first_with, first_state, enter, leave, credit_out, credit_in}
 use Rattle.c104_switch.specs.Turns.{turn, input}
 use Rattle.c104_switch.specs.Claims.{streaming, claimed, claim}

@@ -4,7 +4,7 @@ use Rattle.c104_token.specs.Kinds.{Kind}
 use Rattle.c104_link.specs.Steps.{◌>>=◌, ◌>>◌, require, tried, taken, at_place, from_place, with_place}
 use Rattle.c104_link.specs.Buffers as buffer
 use Rattle.c104_link.specs.Buffers.{Outgoing, IsValidCap, empty_out, credited}
-use Rattle.c104_switch.specs.Settings.{Settings}
+use Rattle.c104_regs.specs.declared.settings.Settings.{Settings}
 use Rattle.c104_switch.specs.Switch.{Input, Switch, is_owned, with_inputs, with_outputs, with_sides, accepted, granted, first_input, first_with}
 use Rattle.c104_switch.specs.Turns.{turn, input}
 use Rattle.c104_switch.specs.Claims.{claimed}

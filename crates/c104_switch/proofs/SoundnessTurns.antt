@@ -7,7 +7,8 @@ use Rattle.c104_interval.specs.declared.intervals.Select.{Select}
 use Rattle.c104_interval.specs.declared.intervals.Select.TheVariants.{Link, Discard, Sink}
 use Rattle.c104_link.specs.Steps.{at_place}
 use Rattle.c104_link.specs.Buffers.{Outgoing, IsWithinLimits, put, put_all}
-use Rattle.c104_switch.specs.Settings.{Settings, header_length}
+use Rattle.c104_regs.specs.declared.settings.Settings.{Settings}
+use Rattle.c104_regs.specs.Settings.{header_length}
 use Rattle.c104_switch.specs.Group.{in_group}
 use Rattle.c104_switch.specs.Switch.{Phase, Fresh, Head, Want, Stream, Sinking, Input}
 use Rattle.c104_switch.specs.Headers.{decided, is_sink, header_value, read, random_header}

@@ -3,7 +3,7 @@ use Rattle.std.specs.Prelude.{ℕ, ◌&&◌, not, List, Option, Some, None, if�
 use Rattle.c104_link.specs.Steps.{◌>>=◌, ◌>>◌, require, at_place, with_place}
 use Rattle.c104_link.specs.Buffers as buffer
 use Rattle.c104_link.specs.Buffers.{Outgoing}
-use Rattle.c104_switch.specs.Settings.{Settings}
+use Rattle.c104_regs.specs.declared.settings.Settings.{Settings}
 use Rattle.c104_switch.specs.Group.{in_group}
 use Rattle.c104_switch.specs.Switch.{Phase, Fresh, Head, Want, Stream, Sinking, Input, Switch, is_owned, with_sides}
 

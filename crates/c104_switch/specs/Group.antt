@@ -2,7 +2,7 @@
 -- says that it continues the group. Any link of it stands for the whole group. Numbers of 32 or more are
 -- no links; each is a group by itself, of which no output can be claimed.
 use Rattle.std.specs.Prelude.{ℕ, zero, suc, ◌+◌, ◌-◌, ◌&&◌, Bool, true, false, List, Option, Some, None, nat_le, if◌then◌else◌, slice_get}
-use Rattle.c104_switch.specs.Settings.{Settings}
+use Rattle.c104_regs.specs.declared.settings.Settings.{Settings}
 
 -- whether this link continues the group of the link before it; past the last link, none does
 abbrev pub continues : Option Settings → Bool

@@ -6,7 +6,8 @@ use Rattle.c104_token.specs.Kinds.{Kind}
 use Rattle.c104_interval.specs.Selection.{select}
 use Rattle.c104_interval.specs.declared.intervals.Select.{Select}
 use Rattle.c104_interval.specs.declared.intervals.Select.TheVariants.{Link, Discard, Sink}
-use Rattle.c104_switch.specs.Settings.{Settings, header_length}
+use Rattle.c104_regs.specs.declared.settings.Settings.{Settings}
+use Rattle.c104_regs.specs.Settings.{header_length}
 use Rattle.c104_switch.specs.Switch.{Phase, Head, Want, Sinking}
 
 -- the number of a header, low byte first

@@ -1,4 +1,3 @@
-pub mod Settings
 pub mod Group
 pub mod Switch
 pub mod Headers
@@ -7,4 +6,5 @@ pub mod Claims
 pub mod Stages
 pub mod Actions
 pub mod Views
+pub mod Peeks
 pub mod Soundness

@@ -4,7 +4,8 @@ use Rattle.std.specs.Prelude.{ℕ, ◌+◌, ◌==◌, ◌||◌, Bool, true, fals
 use Rattle.c104_link.specs.Steps.{◌>>=◌, ◌>>◌, require, at_place, from_place}
 use Rattle.c104_link.specs.Buffers as buffer
 use Rattle.c104_link.specs.Buffers.{Incoming, Outgoing, empty_in, empty_out}
-use Rattle.c104_switch.specs.Settings.{Settings, reset_settings}
+use Rattle.c104_regs.specs.declared.settings.Settings.{Settings}
+use Rattle.c104_regs.specs.Settings.{reset_settings}
 
 -- what an input does with its next token: it waits for a packet, reads a header of which it has these
 -- tokens, wants an output of a link's group for this header, streams to an output, or drops the packet

@@ -5,7 +5,7 @@ use Rattle.c104_token.specs.Kinds.{Kind}
 use Rattle.c104_link.specs.Steps.{◌>>=◌, ◌>>◌, require, at_place, with_place}
 use Rattle.c104_link.specs.Buffers as buffer
 use Rattle.c104_link.specs.Buffers.{Outgoing, without_first}
-use Rattle.c104_switch.specs.Settings.{Settings}
+use Rattle.c104_regs.specs.declared.settings.Settings.{Settings}
 use Rattle.c104_switch.specs.Switch.{Phase, Fresh, Head, Want, Stream, Sinking, Input, Switch, counted, with_sides}
 use Rattle.c104_switch.specs.Headers.{read, random_header}
 

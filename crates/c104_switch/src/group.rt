@@ -2,7 +2,7 @@
 ghost use Rattle.std.specs.Prelude.{◌≡◌, ◌≤◌, ◌-◌, slice_get};
 ghost use Rattle.c104_switch.specs.Group.{continues, joined, in_group};
 
-use crate::settings::Settings;
+use c104_regs::Settings;
 
 /// Whether two links are in one group: each link after the lower of the two, up to the higher,
 /// continues the group of the link before it.

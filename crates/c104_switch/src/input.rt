@@ -1,13 +1,14 @@
 //! The input side of one link.
 ghost use Rattle.std.specs.Prelude.{◌≡◌, ◌==◌, Bool, ℕ, false, if◌then◌else◌, length, List, IfOk, is_some};
 ghost use Rattle.c104_token.specs.Tokens.{is_end};
-ghost use Rattle.c104_link.specs.Buffers.{Incoming, Outgoing, empty_in, IsValidCap};
+ghost use Rattle.c104_link.specs.Buffers.{Incoming, Outgoing, empty_in, IsValidCap, IsWithinCap};
 ghost use Rattle.c104_link.specs.Steps.{tried, offered};
-ghost use Rattle.c104_switch.specs.Settings.{Settings as TheSettings};
+ghost use Rattle.c104_regs.specs.declared.settings.Settings.{Settings as TheSettings};
 ghost use Rattle.c104_switch.specs.Switch.{Input, Fresh, accepted, granted, counted, first_input, is_stream};
 ghost use Rattle.c104_switch.specs.Headers.{read, random_header};
 ghost use Rattle.c104_switch.specs.Turns.{turn, on_header, on_random, used, goes_on, after};
 ghost use Rattle.c104_switch.specs.Claims.{claimed};
+ghost use Rattle.c104_switch.specs.Peeks.{is_busy};
 ghost use Rattle.c104_switch.specs.Views.{phase_shown};
 ghost use Rattle.c104_switch.specs.Stages.{phase_of, HasRoom, IsReading, tokens_read};
 
@@ -15,9 +16,9 @@ use crate::actions::Phase;
 use crate::group::in_group;
 use crate::header::HeaderOf;
 use crate::outputs::OutputsOf;
-use crate::settings::Settings;
 use c104_interval::Select;
 use c104_link::InBufferOf;
+use c104_regs::Settings;
 use c104_token::{NoMemory, Token, TokenKind};
 use std::alloc::Global;
 use std::marker::Model;
@@ -93,16 +94,42 @@ impl<T: TokenKind> InputOf<T> {
 
     /// How many tokens the buffer holds, 0 to 64.
     pub fn level(&self) -> usize
-        ensures { result ≡ length self.now.buffer.items }
+        ensures level { result ≡ length self.now.buffer.items }
+        ensures within { IsWithinCap self.now.buffer }
     {
         self.buffer.len()
     }
 
     /// How many more tokens may come in, 0 to 64.
     pub fn granted(&self) -> usize
-        ensures { result ≡ self.now.buffer.granted }
+        ensures granted { result ≡ self.now.buffer.granted }
+        ensures within { IsWithinCap self.now.buffer }
     {
         self.buffer.granted()
+    }
+
+    /// How many packets the input dropped.
+    pub fn sunk(&self) -> u32
+        ensures { result ≡ self.now.sunk }
+    {
+        self.sunk
+    }
+
+    /// How many packets the input found too short.
+    pub fn short(&self) -> u32
+        ensures { result ≡ self.now.short }
+    {
+        self.short
+    }
+
+    /// Whether a packet is on its way through the input.
+    pub fn is_busy(&self) -> bool
+        ensures { result ≡ is_busy self.now.phase }
+    {
+        match self.stage {
+            Stage::Fresh => false,
+            _ => true,
+        }
     }
 
     /// What the input does with its next token.

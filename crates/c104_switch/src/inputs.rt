@@ -1,9 +1,9 @@
 //! The input sides of all links.
-ghost use Rattle.std.specs.Prelude.{◌≡◌, ℕ, Bool, List, replicate, slice_get, IfOk, is_some};
+ghost use Rattle.std.specs.Prelude.{◌≡◌, ◌<◌, ℕ, Bool, List, length, replicate, slice_get, IfOk, IfSome, is_some};
 ghost use Rattle.std.specs.Option.{option_copied};
 ghost use Rattle.c104_link.specs.Buffers.{Outgoing, IsValidCap};
 ghost use Rattle.c104_link.specs.Steps.{tried, at_place, with_place};
-ghost use Rattle.c104_switch.specs.Settings.{Settings as TheSettings};
+ghost use Rattle.c104_regs.specs.declared.settings.Settings.{Settings as TheSettings};
 ghost use Rattle.c104_switch.specs.Switch.{Input, accepted, granted, first_input, is_owned};
 ghost use Rattle.c104_switch.specs.Turns.{turn};
 ghost use Rattle.c104_switch.specs.Claims.{claimed};
@@ -12,7 +12,7 @@ ghost use Rattle.c104_switch.specs.Views.{owner_from};
 use crate::LINKS;
 use crate::input::InputOf;
 use crate::outputs::OutputsOf;
-use crate::settings::Settings;
+use c104_regs::Settings;
 use c104_token::{NoMemory, TokenKind};
 use std::alloc::Global;
 use std::marker::Model;
@@ -160,7 +160,8 @@ impl<T: TokenKind> InputsOf<T> {
 
     /// The input that streams to this output.
     pub fn owner(&self, output: usize) -> Option<usize>
-        ensures { result ≡ owner_from 0 self.now output }
+        ensures owner { result ≡ owner_from 0 self.now output }
+        ensures inside { IfSome result (λ place. place < length self.now) }
     {
         for (place, input) in self.list.iter().enumerate() {
             if input.is_stream(output) {

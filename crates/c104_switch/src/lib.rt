@@ -8,13 +8,11 @@ mod input;
 mod inputs;
 mod outputs;
 mod ready;
-mod settings;
 mod step;
 mod switches;
 
 pub use actions::{Action, LinkView, Phase, Reply};
 pub use header::HeaderBytes;
-pub use settings::Settings;
 pub use switches::{Switch, SwitchOf};
 
 /// How many links a switch has.

@@ -7,8 +7,8 @@ ghost use Rattle.c104_link.specs.Steps.{tried, taken, at_place, from_place};
 ghost use Rattle.c104_switch.specs.Claims.{put_header};
 
 use crate::LINKS;
-use crate::settings::Settings;
 use c104_link::OutBufferOf;
+use c104_regs::Settings;
 use c104_token::{NoMemory, TokenKind};
 use std::alloc::Global;
 use std::marker::Model;

@@ -1,22 +1,24 @@
 //! The switch: what is set at each link, and the two sides of each link.
-ghost use Rattle.std.specs.Prelude.{◌≡◌, ◌&&◌, ℕ, true, not, length, map, is_some, IfOk};
+ghost use Rattle.std.specs.Prelude.{◌≡◌, ◌&&◌, ℕ, true, not, length, map, is_some, All, IfOk};
 ghost use Rattle.c104_link.specs.Buffers.{IsValidCap};
 ghost use Rattle.c104_link.specs.Steps.{tried, taken};
-ghost use Rattle.c104_switch.specs.Settings.{plain_settings};
+ghost use Rattle.c104_regs.specs.Ranges.{IsTableInRange};
+ghost use Rattle.c104_regs.specs.Settings.{plain_settings};
 ghost use Rattle.c104_switch.specs.Switch.{Switch as State, first_state, first_with, is_owned, enter, leave, credit_out, credit_in};
 ghost use Rattle.c104_switch.specs.Turns.{input};
 ghost use Rattle.c104_switch.specs.Claims.{claim};
 ghost use Rattle.c104_switch.specs.Views.{link_shown};
 ghost use Rattle.c104_switch.specs.Soundness.{IsSound};
 
-use crate::LINKS;
+mod peeks;
+
 use crate::actions::LinkView;
 use crate::inputs::InputsOf;
 use crate::outputs::OutputsOf;
-use crate::settings::Settings;
 use c104_interval::Table;
+use c104_regs::Registers;
 use c104_token::{NoMemory, Token, TokenKind};
-use std::alloc::{AllocError, Global};
+use std::alloc::Global;
 use std::marker::Model;
 
 /// One IMS C104, over any kind of token.
@@ -25,8 +27,7 @@ use std::marker::Model;
 /// memory.
 #[derive(Drop)]
 pub struct SwitchOf<T: TokenKind> {
-    started: bool,
-    settings: Vec<Settings>,
+    registers: Registers,
     inputs: InputsOf<T>,
     outputs: OutputsOf<T>,
 }
@@ -40,9 +41,9 @@ impl<T: TokenKind> Model for SwitchOf<T> {
 
     ghost Value = { Switch T };
 
-    ghost view = { λ s. record { started = s.started; settings = s.settings.items; inputs = s.inputs; outputs = s.outputs } };
+    ghost view = { λ s. record { started = s.registers.started; settings = s.registers.settings; inputs = s.inputs; outputs = s.outputs } };
 
-    ghost invariant = { λ s. IsSound (record { started = s.started; settings = s.settings.items; inputs = s.inputs; outputs = s.outputs }) };
+    ghost invariant = { λ s. IsSound (record { started = s.registers.started; settings = s.registers.settings; inputs = s.inputs; outputs = s.outputs }) };
 }
 
 impl<T: TokenKind> SwitchOf<T> {
@@ -53,10 +54,8 @@ impl<T: TokenKind> SwitchOf<T> {
         requires { IsValidCap cap }
         ensures { IfOk result (λ s. s ≡ first_state cap) }
     {
-        let settings = vec![in alloc; Settings::reset(); LINKS]?;
         Ok(SwitchOf {
-            started: false,
-            settings,
+            registers: Registers::new(),
             inputs: InputsOf::new(alloc, cap)?,
             outputs: OutputsOf::new(alloc)?,
         })
@@ -68,12 +67,11 @@ impl<T: TokenKind> SwitchOf<T> {
     pub fn placed(alloc: Global, cap: usize, tables: &[Table]) -> Result<Self, NoMemory>
         requires cap { IsValidCap cap }
         requires links { length tables.now ≡ 32 }
+        requires ranges { All IsTableInRange tables.now }
         ensures { IfOk result (λ s. s ≡ first_with cap (map plain_settings tables.now) true) }
     {
-        let settings = plain_settings(alloc, tables)?;
         Ok(SwitchOf {
-            started: true,
-            settings,
+            registers: Registers::placed(tables),
             inputs: InputsOf::new(alloc, cap)?,
             outputs: OutputsOf::new(alloc)?,
         })
@@ -84,7 +82,7 @@ impl<T: TokenKind> SwitchOf<T> {
         ensures value { result ≡ self.now.started }
         ensures sound { IsSound self.now }
     {
-        self.started
+        self.registers.started()
     }
 
     /// What can be seen of a link: None where its number is 32 or more.
@@ -123,7 +121,7 @@ impl<T: TokenKind> SwitchOf<T> {
     pub fn credit_out(&mut self, link: usize) -> bool
         ensures { (result, self.new) ≡ tried (credit_out self.old link) self.old }
     {
-        self.started && self.inputs.grant(link)
+        self.registers.started() && self.inputs.grant(link)
     }
 
     /// The other end of a link's wire has granted eight more tokens, where its credit is then at most 64.
@@ -139,10 +137,10 @@ impl<T: TokenKind> SwitchOf<T> {
     pub fn input(&mut self, link: usize, word: u32) -> bool
         ensures { (result, self.new) ≡ tried (input T.kind self.old link word) self.old }
     {
-        if !self.started {
+        if !self.registers.started() {
             return false;
         }
-        let Some(settings) = self.settings.get(link) else {
+        let Some(settings) = self.registers.all_settings().get(link) else {
             return false;
         };
         self.inputs.turn(link, settings, word, &mut self.outputs)
@@ -156,8 +154,12 @@ impl<T: TokenKind> SwitchOf<T> {
         if !self.may_claim(output) {
             return false;
         }
-        self.inputs
-            .claim(input, self.settings.as_slice(), output, &mut self.outputs)
+        self.inputs.claim(
+            input,
+            self.registers.all_settings(),
+            output,
+            &mut self.outputs,
+        )
     }
 
     /// Whether `enter` would take a token in.
@@ -178,7 +180,7 @@ impl<T: TokenKind> SwitchOf<T> {
     pub fn can_credit_out(&self, link: usize) -> bool
         ensures { result ≡ is_some (credit_out self.now link) }
     {
-        self.started && self.inputs.can_grant(link)
+        self.registers.started() && self.inputs.can_grant(link)
     }
 
     /// Whether `credit_in` would add the credit.
@@ -192,8 +194,8 @@ impl<T: TokenKind> SwitchOf<T> {
     pub fn can_input(&self, link: usize) -> bool
         ensures { (word : ℕ) → result ≡ is_some (input T.kind self.now link word) }
     {
-        match self.settings.get(link) {
-            Some(_) => self.started && self.inputs.can_turn(link, &self.outputs),
+        match self.registers.all_settings().get(link) {
+            Some(_) => self.registers.started() && self.inputs.can_turn(link, &self.outputs),
             None => false,
         }
     }
@@ -203,25 +205,13 @@ impl<T: TokenKind> SwitchOf<T> {
         ensures { result ≡ is_some (claim self.now input output) }
     {
         self.may_claim(output)
-            && self
-                .inputs
-                .can_claim(input, self.settings.as_slice(), output, &self.outputs)
+            && self.inputs.can_claim(input, self.registers.all_settings(), output, &self.outputs)
     }
 
     /// Whether an output can be claimed at all: the switch is started, and no input owns it.
     fn may_claim(&self, output: usize) -> bool
         ensures { result ≡ (self.now.started && not (is_owned self.now.inputs output)) }
     {
-        self.started && !self.inputs.is_owned(output)
+        self.registers.started() && !self.inputs.is_owned(output)
     }
-}
-
-/// The settings of links with these tables.
-fn plain_settings(alloc: Global, tables: &[Table]) -> Result<Vec<Settings>, AllocError>
-    ensures { IfOk result (λ settings. settings.items ≡ map plain_settings tables.now) }
-{
-    tables
-        .iter()
-        .map(|table| Settings::plain(*table))
-        .collect(alloc)
 }

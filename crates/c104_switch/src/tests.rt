@@ -1,31 +1,22 @@
+ghost use Rattle.c104_regs.specs.Ranges.{IsTableInRange};
+
 use crate::{Action, LINKS, LinkView, Phase, Reply, Switch, SwitchOf};
-use c104_interval::{Row, Select, Table};
+use c104_interval::Table;
+use c104_regs::{RegFault, Registers};
 use c104_token::{NoMemory, Token, TokenKind};
 use std::alloc::Global;
 use std::process::Abort;
 use std::test::Fail;
 
-/// Header 0 selects link 0 and header 1 link 1, headers 2 to 9 are sunk, header 10 is discarded, and
-/// all others are sunk.
-fn table() -> Table {
-    let mut table = Table::reset();
-    table.rows[0] = Row {
-        limit: 1,
-        select: Select::Link(0),
-    };
-    table.rows[1] = Row {
-        limit: 2,
-        select: Select::Link(1),
-    };
-    table.rows[2] = Row {
-        limit: 10,
-        select: Select::Sink,
-    };
-    table.rows[3] = Row {
-        limit: 11,
-        select: Select::Discard,
-    };
-    table
+/// Header 0 selects link 0 and header 1 link 1, and all others are sunk.
+fn table() -> Table
+    ensures { IsTableInRange result }
+{
+    let mut registers = Registers::new();
+    for (addr, value) in [(0x0140, 1), (0x0180, 0), (0x0141, 2), (0x0181, 1)] {
+        let _ = registers.poke(addr, value);
+    }
+    *registers.table(0)
 }
 
 fn started(alloc: Global) -> Result<Switch, NoMemory> {
@@ -208,21 +199,43 @@ fn dropped_packets(rt: HostRuntime) -> Result<(), Fail> {
     );
     assert!(rt; matches!(seen(&rt, &switch, 0).phase, Phase::Fresh));
 
+    assert_eq!(rt; (switch.peek(0x0103), switch.peek(0x0104)), (Ok(1), Ok(1)));
+    Ok(())
+}
+
+/// The registers tell the state of the switch and of its links.
+#[test]
+fn registers(rt: HostRuntime) -> Result<(), Fail> {
+    let mut switch = started(rt.alloc())?;
     all_done(
         &rt,
         &mut switch,
         &[
-            Action::Enter(0, Token::Byte(10)),
-            Action::Enter(0, Token::Byte(0)),
-            Action::Input(0, 0),
+            Action::CreditOut(2),
+            Action::Enter(2, Token::Byte(1)),
+            Action::Enter(2, Token::Byte(0xaa)),
+            Action::Input(2, 0),
+            Action::Claim(2, 1),
+            Action::CreditIn(1),
         ],
     );
-    match seen(&rt, &switch, 0).phase {
-        Phase::Head(header) => assert_eq!(rt; header.as_slice().len(), 0),
-        other => assert!(rt; false, "{other:?}"),
+    let due = [
+        (0x0000, Ok(0xc104)),
+        (0x0001, Ok(1)),
+        (0x0305, Ok(1)),
+        (0x0308, Ok(6)),
+        (0x0206, Ok(1)),
+        (0x0207, Ok(8)),
+        (0x0209, Ok(3)),
+        (0x0309, Ok(0)),
+        (0x0140, Ok(1)),
+        (0x0181, Ok(1)),
+        (0x0182, Ok(64)),
+        (0x2100, Err(RegFault::NoRegister)),
+    ];
+    for (addr, value) in due {
+        assert_eq!(rt; switch.peek(addr), value, "at {addr:04x}");
     }
-    all_done(&rt, &mut switch, &[Action::Input(0, 0)]);
-    assert!(rt; matches!(seen(&rt, &switch, 0).phase, Phase::Want(_, 0)));
     Ok(())
 }
 

@@ -1,6 +1,7 @@
 //! The image that a plan's own lines give.
 ghost use Rattle.std.specs.Prelude.{◌≡◌, length, map, IfOk};
 ghost use Rattle.std.specs.List.{range_with_len};
+ghost use Rattle.c104_net.specs.Plans.{IsPlan};
 ghost use Rattle.c104_net.specs.PlanImage.{Fits, hand_image, range_of, table_of, tables_of};
 
 use super::image::{Image, LINKS};
@@ -33,8 +34,9 @@ fn ranges(alloc: Global, plan: &Plan) -> Result<Vec<(u32, u32)>, AllocError>
 
 /// The tables of each switch.
 fn all_tables(alloc: Global, plan: &Plan) -> Result<Vec<Items<Table>>, AllocError>
-    ensures { IfOk result (λ tables. tables.items
+    ensures tables { IfOk result (λ tables. tables.items
         ≡ map (tables_of plan.now) (range_with_len 0 (length plan.now.switches))) }
+    ensures kept { IsPlan plan.now }
 {
     let mut all = Vec::new(alloc);
     for switch in 0..plan.switches().len() {

@@ -27,7 +27,7 @@ impl Model for Image {
 }
 
 impl Image {
-    ghost use Rattle.c104_net.specs.PlanImage.{Fits};
+    ghost use Rattle.c104_net.specs.PlanImage.{AreTables, Fits};
 
     /// Whether the image has as many terminals and as many switches as the plan.
     pub fn fits(&self, plan: &Plan) -> bool
@@ -46,7 +46,7 @@ impl Image {
     /// The tables of a switch, one for each of its 32 inputs.
     pub fn tables(&self, switch: usize) -> Option<&[Table]>
         ensures tables { option_copied result ≡ slice_get self.now.tables switch }
-        ensures all { IfSome result (λ tables. length tables.now ≡ 32) }
+        ensures all { IfSome result (λ tables. AreTables tables.now) }
     {
         let tables = self.tables.get(switch)?;
         Some(tables.as_slice())
@@ -55,7 +55,7 @@ impl Image {
     /// The tables of all switches, by number.
     pub fn all_tables(&self) -> &[Items<Table>]
         ensures tables { result.now ≡ self.now.tables }
-        ensures all { All (λ tables. length tables ≡ 32) self.now.tables }
+        ensures all { All AreTables self.now.tables }
     {
         self.tables.as_slice()
     }

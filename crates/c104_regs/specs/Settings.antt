@@ -3,7 +3,7 @@
 use Rattle.std.specs.Prelude.{ℕ, false, if◌then◌else◌}
 use Rattle.c104_interval.specs.Selection.{reset_table}
 use Rattle.c104_interval.specs.declared.intervals.Table.{Table}
-pub use Rattle.c104_switch.specs.declared.settings.Settings.{Settings}
+pub use Rattle.c104_regs.specs.declared.settings.Settings.{Settings}
 
 -- one-byte headers, nothing deleted, no random headers, each link a group by itself, and this table
 abbrev pub plain_settings : Table → Settings

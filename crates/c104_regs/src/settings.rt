@@ -24,7 +24,7 @@ pub struct Settings {
 }
 
 impl Settings {
-    ghost use Rattle.c104_switch.specs.Settings.{reset_settings, plain_settings, header_length};
+    ghost use Rattle.c104_regs.specs.Settings.{reset_settings, plain_settings, header_length};
 
     /// The settings after a reset.
     pub fn reset() -> Self

@@ -1,0 +1,6 @@
+pub mod ValueLemmas
+pub mod AddressLemmas
+pub mod RegisterLemmas
+pub mod ContinueLemmas
+pub mod StatusLemmas
+pub mod PlacedRegisters

@@ -1,0 +1,116 @@
+-- The registers of a link are a view of its settings: a register that was set reads what it was set to,
+-- each other one reads what it did, and the settings stay within their ranges.
+use Rattle.std.proofs.Common.{◌≡◌, ◌≢◌, ℕ, ◌<◌, ◌≤◌, inl, inr, Bool, true, false, nat_eq, nat_lt, if◌then◌else◌, List, length, get_or, set, IsTrue, refl, sym, ap, arith}
+use Rattle.std.proofs.lemmas.Bool.{cases_eq, ltb-true}
+use Rattle.std.proofs.lemmas.Bool.Decides.{nat_tests}
+use Rattle.std.proofs.lemmas.List.{get_or-set_other, get_or-set_same, length-set}
+use Rattle.c104_interval.specs.Selection.{reset_row, row_at}
+use Rattle.c104_interval.specs.declared.intervals.Row.{Row}
+use Rattle.c104_interval.specs.declared.intervals.Select as interval
+use Rattle.c104_interval.specs.declared.intervals.Select.TheVariants.{Link, Discard, Sink}
+use Rattle.c104_regs.specs.Addresses.{IsRegister, Register, in_range, line}
+use Rattle.c104_regs.specs.declared.addresses.Register.TheVariants.{Mode, RandomBase, RandomRange, Sunk, Short, InputLevel, OutputLevel, Credit, Granted, Owner, Base, Limit, Select}
+use Rattle.c104_regs.specs.Ranges.{IsInRange, IsSelectable, IsTableInRange}
+use Rattle.c104_regs.specs.Settings.{Settings}
+use Rattle.c104_regs.specs.Values.{Status, coded, mode_of, select_code, value, with_row, with_value}
+
+-- what holds of each register that can be written
+by_writable : (P : Register → Type 0) → P Mode → P RandomBase → P RandomRange → P Base → ((k : ℕ) → P (Limit k)) → ((k : ℕ) → P (Select k)) → (r : Register) → IsTrue (line r).is_writable → P r
+by_writable P mode base range first limits selects Mode is = mode
+by_writable P mode base range first limits selects RandomBase is = base
+by_writable P mode base range first limits selects RandomRange is = range
+by_writable P mode base range first limits selects Sunk is = cc
+by_writable P mode base range first limits selects Short is = cc
+by_writable P mode base range first limits selects InputLevel is = cc
+by_writable P mode base range first limits selects OutputLevel is = cc
+by_writable P mode base range first limits selects Credit is = cc
+by_writable P mode base range first limits selects Granted is = cc
+by_writable P mode base range first limits selects Owner is = cc
+by_writable P mode base range first limits selects Base is = first
+by_writable P mode base range first limits selects (Limit k) is = limits k
+by_writable P mode base range first limits selects (Select k) is = selects k
+
+-- a row of which a field was set has the others as they were, and each other row is as it was
+limit_kept : (rows : List Row) (k j : ℕ) (x : interval.Select) → k < length rows → (get_or (set rows k (record { limit = (get_or rows k reset_row).limit; select = x })) j reset_row).limit ≡ (get_or rows j reset_row).limit
+limit_kept rows k j x here =
+    elim (cases_eq j k) [
+      | inl same ↦ rw same (rw get_or-set_same refl)
+      | inr differs ↦ rw (get_or-set_other rows k j) refl
+    ]
+
+select_kept : (rows : List Row) (k j n : ℕ) → k < length rows → (get_or (set rows k (record { limit = n; select = (get_or rows k reset_row).select })) j reset_row).select ≡ (get_or rows j reset_row).select
+select_kept rows k j n here =
+    elim (cases_eq j k) [
+      | inl same ↦ rw same (rw get_or-set_same refl)
+      | inr differs ↦ rw (get_or-set_other rows k j) refl
+    ]
+
+-- each register but the one that was set reads what it did
+pub value_other : (s : Settings) (t : Status) (r q : Register) (v : ℕ) → length s.table.rows ≡ 36 → IsRegister r → IsTrue (line r).is_writable → q ≢ r → value (with_value s r v) t q ≡ value s t q
+value_other s t r Sunk v rows is writable ne = refl
+value_other s t r Short v rows is writable ne = refl
+value_other s t r InputLevel v rows is writable ne = refl
+value_other s t r OutputLevel v rows is writable ne = refl
+value_other s t r Credit v rows is writable ne = refl
+value_other s t r Granted v rows is writable ne = refl
+value_other s t r Owner v rows is writable ne = refl
+value_other s t r Mode v rows is writable ne =
+    by_writable (λ q. Mode ≢ q → mode_of (with_value s q v) ≡ mode_of s)
+    (λ differs. absurd (differs refl)) (λ _. refl) (λ _. refl) (λ _. refl) (λ k _. refl) (λ k _. refl) r writable ne
+value_other s t r RandomBase v rows is writable ne =
+    by_writable (λ q. RandomBase ≢ q → (with_value s q v).random_base ≡ s.random_base)
+    (λ _. refl) (λ differs. absurd (differs refl)) (λ _. refl) (λ _. refl) (λ k _. refl) (λ k _. refl) r writable ne
+value_other s t r RandomRange v rows is writable ne =
+    by_writable (λ q. RandomRange ≢ q → (with_value s q v).random_range ≡ s.random_range)
+    (λ _. refl) (λ _. refl) (λ differs. absurd (differs refl)) (λ _. refl) (λ k _. refl) (λ k _. refl) r writable ne
+value_other s t r Base v rows is writable ne =
+    by_writable (λ q. Base ≢ q → (with_value s q v).table.base ≡ s.table.base)
+    (λ _. refl) (λ _. refl) (λ _. refl) (λ differs. absurd (differs refl)) (λ k _. refl) (λ k _. refl) r writable ne
+value_other s t r (Limit j) v rows is writable ne =
+    by_writable (λ q. IsRegister q → Limit j ≢ q → (row_at (with_value s q v).table j).limit ≡ (row_at s.table j).limit)
+    (λ _ _. refl) (λ _ _. refl) (λ _ _. refl) (λ _ _. refl)
+    (λ k _ differs. let ne : j ≢ k = λ same. differs (ap Limit same) in rw (get_or-set_other s.table.rows k j) refl)
+    (λ k below _. limit_kept s.table.rows k j (coded v) (rw rows below))
+    r writable is ne
+value_other s t r (Select j) v rows is writable ne =
+    by_writable (λ q. IsRegister q → Select j ≢ q → select_code (row_at (with_value s q v).table j).select ≡ select_code (row_at s.table j).select)
+    (λ _ _. refl) (λ _ _. refl) (λ _ _. refl) (λ _ _. refl)
+    (λ k below _. ap select_code (select_kept s.table.rows k j v (rw rows below)))
+    (λ k _ differs. let ne : j ≢ k = λ same. differs (ap Select same) in rw (get_or-set_other s.table.rows k j) refl)
+    r writable is ne
+
+-- what a row selects is a link that there is, or none
+IsSelectable-coded_by : (v : ℕ) (small discards : Bool) → small ≡ nat_lt v 32 → IsSelectable (if small then Link v else (if discards then Discard else Sink))
+IsSelectable-coded_by v true discards is = ltb-true v 32 (sym is)
+IsSelectable-coded_by v false true is = tt
+IsSelectable-coded_by v false false is = tt
+
+IsSelectable-coded : (v : ℕ) → IsSelectable (coded v)
+IsSelectable-coded v = IsSelectable-coded_by v (nat_lt v 32) (nat_eq v 32) refl
+
+-- a row that is replaced by one within the ranges
+IsTableInRange-with_row : (s : Settings) (k : ℕ) (row : Row) → row.limit ≤ 65536 → IsSelectable row.select → k < 36 → IsTableInRange s.table → IsTableInRange (with_row s k row).table
+IsTableInRange-with_row s k row limit select below is = record {
+  base = is.base;
+  rows = rw length-set is.rows;
+  limits = λ j. elim (cases_eq j k) [
+    | inl same ↦ let within : k < length s.table.rows = rw is.rows below in rw same (rw get_or-set_same limit)
+    | inr differs ↦ rw (get_or-set_other s.table.rows k j) (is.limits j)
+  ];
+  selects = λ j. elim (cases_eq j k) [
+    | inl same ↦ let within : k < length s.table.rows = rw is.rows below in rw same (rw get_or-set_same select)
+    | inr differs ↦ rw (get_or-set_other s.table.rows k j) (is.selects j)
+  ];
+}
+
+-- settings of which a register was set stay within the ranges
+pub IsInRange-with_value : (s : Settings) (r : Register) (v : ℕ) → IsRegister r → IsTrue (line r).is_writable → IsTrue (in_range r v) → IsInRange s → IsInRange (with_value s r v)
+IsInRange-with_value s r v is writable fits kept =
+    by_writable (λ r. IsRegister r → IsTrue (in_range r v) → IsInRange (with_value s r v))
+    (λ _ _. record { random_base = kept.random_base; random_range = kept.random_range; table = kept.table })
+    (λ _ fits. record { random_base = grind (arith, nat_tests); random_range = kept.random_range; table = kept.table })
+    (λ _ fits. record { random_base = kept.random_base; random_range = grind (arith, nat_tests); table = kept.table })
+    (λ _ fits. record { random_base = kept.random_base; random_range = kept.random_range; table = record { base = grind (arith, nat_tests); rows = kept.table.rows; limits = kept.table.limits; selects = kept.table.selects } })
+    (λ k below fits. record { random_base = kept.random_base; random_range = kept.random_range; table = IsTableInRange-with_row s k _ (grind (arith, nat_tests)) (kept.table.selects k) below kept.table })
+    (λ k below fits. record { random_base = kept.random_base; random_range = kept.random_range; table = IsTableInRange-with_row s k _ (kept.table.limits k) (IsSelectable-coded v) below kept.table })
+    r writable is fits

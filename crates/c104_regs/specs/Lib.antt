@@ -1,0 +1,6 @@
+pub mod Settings
+pub mod Addresses
+pub mod Faults
+pub mod Values
+pub mod Ranges
+pub mod Registers

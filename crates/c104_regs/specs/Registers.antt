@@ -1,0 +1,113 @@
+-- The registers of a switch, by address.
+use Rattle.std.specs.Prelude.{◌≡◌, ℕ, ◌+◌, ◌*◌, ◌&&◌, not, Bool, true, false, IsTrue, ◌<◌, List, [], ◌∷◌, Option, Some, None, Result, Ok, Err, length, map, replicate, if◌then◌else◌, slice_index_or, slice_set}
+use Rattle.c104_interval.specs.declared.intervals.Table.{Table}
+use Rattle.c104_regs.specs.Addresses.{Address, IsRegister, Register, address_of, in_range, line}
+use Rattle.c104_regs.specs.declared.addresses.Address.TheVariants.{DeviceId, Started, AtLink}
+use Rattle.c104_regs.specs.declared.addresses.Register.TheVariants.{Mode}
+use Rattle.c104_regs.specs.Faults.{RegFault}
+use Rattle.c104_regs.specs.declared.faults.RegFault.TheVariants.{NoRegister, ReadOnly, OutOfRange, Busy}
+use Rattle.c104_regs.specs.Ranges.{IsInRange}
+use Rattle.c104_regs.specs.Settings.{Settings, plain_settings, reset_settings}
+use Rattle.c104_regs.specs.Values.{Status, number, reset_status, value, with_value}
+
+-- what the registers of a switch hold: whether it is started, and for each link what is set there and
+-- what the switch told of it
+pub record RegisterBank : Type 0 where
+  pub started : Bool
+  pub settings : List Settings
+  pub statuses : List Status
+
+-- what is set at link l; past the last link, what is set after a reset
+abbrev pub settings_at : RegisterBank → ℕ → Settings
+settings_at b l = slice_index_or b.settings l reset_settings
+
+-- what the switch told of link l
+abbrev pub status_at : RegisterBank → ℕ → Status
+status_at b l = slice_index_or b.statuses l reset_status
+
+-- the registers after a reset
+abbrev pub reset_bank : RegisterBank
+reset_bank = record { started = false; settings = replicate 32 reset_settings; statuses = replicate 32 reset_status }
+
+-- the registers of a started switch with these tables, and all else as after a reset
+abbrev pub placed_bank : List Table → RegisterBank
+placed_bank tables = record { started = true; settings = map plain_settings tables; statuses = replicate 32 reset_status }
+
+-- what every switch's registers keep
+pub record IsKept (b : RegisterBank) : Type 0 where
+  pub links : length b.settings ≡ 32
+  pub statuses : length b.statuses ≡ 32
+  pub in_range : (l : ℕ) → IsInRange (settings_at b l)
+
+-- what stands at an address reads
+abbrev pub read : RegisterBank → Address → ℕ
+read b DeviceId = 49412
+read b Started = number b.started 1
+read b (AtLink l r) = value (settings_at b l) (status_at b l) r
+
+-- what address a reads, where there is a register
+abbrev pub peek : RegisterBank → ℕ → Result ℕ RegFault
+peek b a = shown (address_of a)
+  where
+    shown : Option Address → Result ℕ RegFault
+    shown None = Err NoRegister
+    shown (Some x) = Ok (read b x)
+
+-- the link and the register that a poke of v at address a would set, or the first fault of the two
+abbrev pub target : ℕ → ℕ → Result (ℕ × Register) RegFault
+target a v = at (address_of a)
+  where
+    at : Option Address → Result (ℕ × Register) RegFault
+    at None = Err NoRegister
+    at (Some DeviceId) = Err ReadOnly
+    at (Some Started) = Err ReadOnly
+    at (Some (AtLink l r)) =
+        if not (line r).is_writable then Err ReadOnly
+        else (if not (in_range r v) then Err OutOfRange
+        else Ok (l, r))
+
+-- at address a stands register r of link l, which can be written and takes v
+pub record IsTarget (a v l : ℕ) (r : Register) : Type 0 where
+  pub at : address_of a ≡ Some (AtLink l r)
+  pub link : l < 32
+  pub register : IsRegister r
+  pub is_writable : IsTrue (line r).is_writable
+  pub in_range : IsTrue (in_range r v)
+
+-- whether a register may be set to v at address a, by the address and the value alone
+abbrev pub settable : ℕ → ℕ → Result (Unit {0}) RegFault
+settable a v = answered (target a v)
+  where
+    answered : Result (ℕ × Register) RegFault → Result (Unit {0}) RegFault
+    answered (Err e) = Err e
+    answered (Ok x) = Ok tt
+
+-- whether this register can't be set while its link is busy
+abbrev pub waits : Register → Bool
+waits Mode = true
+waits r = false
+
+-- the settings of all links after register r of link l is set to v
+abbrev pub settings_with : List Settings → ℕ → Register → ℕ → List Settings
+settings_with settings l r v = slice_set settings l (with_value (slice_index_or settings l reset_settings) r v)
+
+-- the registers after register r of link l is set to v
+abbrev pub with_register : RegisterBank → ℕ → Register → ℕ → RegisterBank
+with_register b l r v = record b { settings = settings_with b.settings l r v }
+
+-- the registers after the switch told the status of link l
+abbrev pub with_status : RegisterBank → ℕ → Status → RegisterBank
+with_status b l status = record b { statuses = slice_set b.statuses l status }
+
+-- what a poke of v at address a answers, and the registers after it
+abbrev pub poke : RegisterBank → ℕ → ℕ → Result (Unit {0}) RegFault × RegisterBank
+poke b a v = at (target a v)
+  where
+    at : Result (ℕ × Register) RegFault → Result (Unit {0}) RegFault × RegisterBank
+    at (Err e) = (Err e, b)
+    at (Ok (l, r)) = if waits r && (status_at b l).busy then (Err Busy, b) else (Ok tt, with_register b l r v)
+
+-- the bits of the links that continue the group of the link before them, from link 0 at bit 0 on
+abbrev pub continue_bits : List Settings → ℕ
+continue_bits [] = 0
+continue_bits (s ∷ settings) = number s.continue_group 1 + 2 * continue_bits settings

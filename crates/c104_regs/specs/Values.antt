@@ -1,0 +1,75 @@
+-- The registers as a view of a link's settings and status: what a register reads, and the settings
+-- after it is set.
+--     value s t r      what register r reads
+--     with_value s r v      the settings after register r is set to v
+use Rattle.std.specs.Prelude.{ℕ, ◌+◌, ◌/◌, ◌%◌, ◌==◌, Bool, true, false, Option, Some, None, nat_lt, if◌then◌else◌, slice_set}
+use Rattle.c104_interval.specs.Selection.{row_at}
+use Rattle.c104_interval.specs.declared.intervals.Row.{Row}
+use Rattle.c104_interval.specs.declared.intervals.Select.TheVariants.{Link, Discard, Sink}
+use Rattle.c104_interval.specs.declared.intervals.Select as interval
+use Rattle.c104_regs.specs.Addresses.{Register}
+use Rattle.c104_regs.specs.declared.addresses.Register.TheVariants.{Mode, RandomBase, RandomRange, Sunk, Short, InputLevel, OutputLevel, Credit, Granted, Owner, Base, Limit, Select}
+use Rattle.c104_regs.specs.Settings.{Settings}
+pub use Rattle.c104_regs.specs.declared.status.Status.{Status}
+
+-- a status after a reset, before any token came and any credit was granted
+abbrev pub reset_status : Status
+reset_status = record { sunk = 0; short = 0; input_level = 0; output_level = 0; credit = 0; granted = 0; owner = None; busy = false }
+
+-- n where a bit is set, and else 0
+abbrev pub number : Bool → ℕ → ℕ
+number true n = n
+number false n = 0
+
+-- the four bits of a link's mode
+abbrev pub mode_of : Settings → ℕ
+mode_of s = number s.two_byte 1 + number s.delete_header 2 + number s.randomize 4 + number s.continue_group 8
+
+-- the number of what a row selects
+abbrev pub select_code : interval.Select → ℕ
+select_code (Link l) = l
+select_code Discard = 32
+select_code Sink = 64
+
+-- what a number selects
+abbrev pub coded : ℕ → interval.Select
+coded v = if nat_lt v 32 then Link v else (if v == 32 then Discard else Sink)
+
+-- 0 where no input streams to an output, and else 1 and the input
+abbrev pub owner_code : Option ℕ → ℕ
+owner_code None = 0
+owner_code (Some i) = 1 + i
+
+-- what register r reads, at a link with these settings and this status
+abbrev pub value : Settings → Status → Register → ℕ
+value s t Mode = mode_of s
+value s t RandomBase = s.random_base
+value s t RandomRange = s.random_range
+value s t Sunk = t.sunk
+value s t Short = t.short
+value s t InputLevel = t.input_level
+value s t OutputLevel = t.output_level
+value s t Credit = t.credit
+value s t Granted = t.granted
+value s t Owner = owner_code t.owner
+value s t Base = s.table.base
+value s t (Limit k) = (row_at s.table k).limit
+value s t (Select k) = select_code (row_at s.table k).select
+
+-- the settings with row k of the table replaced
+abbrev pub with_row : Settings → ℕ → Row → Settings
+with_row s k row = record s { table = record { base = s.table.base; rows = slice_set s.table.rows k row } }
+
+-- the settings after the mode is set to v
+abbrev pub with_mode : Settings → ℕ → Settings
+with_mode s v = record s { two_byte = v % 2 == 1; delete_header = (v / 2) % 2 == 1; randomize = (v / 4) % 2 == 1; continue_group = (v / 8) % 2 == 1 }
+
+-- the settings after register r is set to v; one that tells the status sets nothing
+abbrev pub with_value : Settings → Register → ℕ → Settings
+with_value s Mode v = with_mode s v
+with_value s RandomBase v = record s { random_base = v }
+with_value s RandomRange v = record s { random_range = v }
+with_value s Base v = record s { table = record { base = v; rows = s.table.rows } }
+with_value s (Limit k) v = with_row s k (record { limit = v; select = (row_at s.table k).select })
+with_value s (Select k) v = with_row s k (record { limit = (row_at s.table k).limit; select = coded v })
+with_value s r v = s

@@ -1,0 +1,144 @@
+//! What stands at an address, and what may be written there.
+ghost use Rattle.std.specs.Prelude.{◌≡◌, ◌↔◌, ◌<◌, Some, IfSome, IsTrue};
+ghost use Rattle.c104_regs.specs.Registers.{waits};
+ghost use Rattle.c104_regs.specs.Addresses.{IsAddress, IsRegister, address_number, address_of, in_range, line, register_at};
+
+/// A register of a link.
+#[derive(Clone, Copy, Debug, PartialEq, Eq)]
+pub enum Register {
+    /// Four bits: two-byte headers, deletion of headers, random headers, and the group.
+    Mode,
+    /// Where the random headers begin.
+    RandomBase,
+    /// How many random headers there are.
+    RandomRange,
+    /// How many packets the input dropped.
+    Sunk,
+    /// How many packets the input found too short.
+    Short,
+    /// How many tokens the input buffer holds.
+    InputLevel,
+    /// How many tokens the output buffer holds.
+    OutputLevel,
+    /// How many tokens the output may send.
+    Credit,
+    /// How many more tokens the input let the other end of its wire send.
+    Granted,
+    /// 0, or 1 and the input that streams to the output.
+    Owner,
+    /// Where the first row's interval begins.
+    Base,
+    /// Where the interval of the row of this number ends, 0 to 35.
+    Limit(usize),
+    /// What the row of this number selects, 0 to 35.
+    Select(usize),
+}
+
+impl Register {
+    /// The register at this offset from the first address of a link.
+    pub fn at(offset: u16) -> Option<Self>
+        ensures found { result ≡ register_at offset }
+
+        // Exactly the registers of the table stand there, each at its offset.
+        ensures table { (r : Register) →
+            (result ≡ Some r) ↔ (IsRegister r × ((line r).offset ≡ offset)) }
+        ensures is_register { IfSome result (λ r. IsRegister r) }
+    {
+        match offset {
+            0x00 => Some(Register::Mode),
+            0x01 => Some(Register::RandomBase),
+            0x02 => Some(Register::RandomRange),
+            0x03 => Some(Register::Sunk),
+            0x04 => Some(Register::Short),
+            0x05 => Some(Register::InputLevel),
+            0x06 => Some(Register::OutputLevel),
+            0x07 => Some(Register::Credit),
+            0x08 => Some(Register::Granted),
+            0x09 => Some(Register::Owner),
+            0x3f => Some(Register::Base),
+            0x40..=0x63 => Some(Register::Limit(offset as usize - 0x40)),
+            0x80..=0xa3 => Some(Register::Select(offset as usize - 0x80)),
+            _ => None,
+        }
+    }
+
+    /// Whether the register can be written. The others tell the link's status.
+    pub fn is_writable(self) -> bool
+        ensures { result ≡ (line self).is_writable }
+    {
+        match self {
+            Register::Mode
+            | Register::RandomBase
+            | Register::RandomRange
+            | Register::Base
+            | Register::Limit(_)
+            | Register::Select(_) => true,
+            Register::Sunk
+            | Register::Short
+            | Register::InputLevel
+            | Register::OutputLevel
+            | Register::Credit
+            | Register::Granted
+            | Register::Owner => false,
+        }
+    }
+
+    /// Whether the register can't be set while its link is busy.
+    pub fn waits(self) -> bool
+        ensures { result ≡ waits self }
+    {
+        match self {
+            Register::Mode => true,
+            _ => false,
+        }
+    }
+
+    /// Whether a register that can be written may be set to this value. For now this is the one
+    /// place that refuses two-byte headers and random headers, bits 0 and 2 of the mode, and a row
+    /// that discards, 32.
+    pub fn takes(self, value: u32) -> bool
+        requires { IsTrue (line self).is_writable }
+        ensures { result ≡ in_range self value }
+    {
+        match self {
+            Register::Mode => value <= 15 && value % 2 == 0 && value / 4 % 2 == 0,
+            Register::RandomBase | Register::Base => value <= 65535,
+            Register::RandomRange | Register::Limit(_) => value <= 65536,
+            Register::Select(_) => value < 32 || value == 64,
+            _ => false,
+        }
+    }
+}
+
+/// What stands at an address.
+#[derive(Clone, Copy, Debug, PartialEq, Eq)]
+pub enum Address {
+    /// The number of the kind of device.
+    DeviceId,
+    /// Whether the switch is started.
+    Started,
+    /// A register of the link of this number.
+    AtLink(usize, Register),
+}
+
+impl Address {
+    /// What stands at this address, if anything does.
+    pub fn at(addr: u16) -> Option<Self>
+        ensures found { result ≡ address_of addr }
+
+        // Exactly the registers of the switch and of its links stand there, each at its address.
+        ensures table { (x : Address) →
+            (result ≡ Some x) ↔ (IsAddress x × (address_number x ≡ addr)) }
+        ensures is_address { IfSome result (λ x. IsAddress x) }
+    {
+        match addr {
+            0x0000 => Some(Address::DeviceId),
+            0x0001 => Some(Address::Started),
+            0x0100..=0x20ff => {
+                let register = Register::at(addr % 0x100)?;
+                Some(Address::AtLink((addr / 0x100 - 1) as usize, register))
+            }
+            _ => None,
+        }
+    }
+}

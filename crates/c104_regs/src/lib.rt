@@ -1,0 +1,21 @@
+//! The registers of an IMS C104: for each of its 32 links what is set there, and what the switch
+//! tells of it, read and written by address.
+//!
+//! The addresses and the meaning of each register are this emulator's. What a switch tells of
+//! itself, as its levels and its credit, it tells here before they are read.
+#![tactic(auto)]
+
+mod addresses;
+mod faults;
+mod registers;
+mod settings;
+mod status;
+mod values;
+
+pub use faults::RegFault;
+pub use registers::{DEVICE_ID, LINKS, Registers};
+pub use settings::Settings;
+pub use status::Status;
+
+#[cfg(test)]
+mod tests;

@@ -1,0 +1,232 @@
+//! The registers of a switch, by address.
+ghost use Rattle.std.specs.Prelude.{◌≡◌, ◌≢◌, ℕ, ◌<◌, All, IfOk, OnErr, OnOk, Ok, length};
+ghost use Rattle.std.specs.Int.{bit_at};
+ghost use Rattle.c104_regs.specs.Addresses.{IsRegister, Register, line};
+ghost use Rattle.c104_regs.specs.Ranges.{IsInRange, IsTableInRange};
+ghost use Rattle.c104_regs.specs.Registers.{IsKept, IsTarget, continue_bits, peek, placed_bank, poke, reset_bank, settable, settings_at, settings_with, status_at, target, with_status};
+ghost use Rattle.c104_regs.specs.Values.{mode_of, number, value};
+
+use crate::addresses::{Address, Register};
+use crate::faults::RegFault;
+use crate::settings::Settings;
+use crate::status::Status;
+use crate::values::number;
+use c104_interval::Table;
+use std::marker::Model;
+
+/// How many links a switch has.
+pub const LINKS: usize = 32;
+
+/// The number by which the device says what it is.
+pub const DEVICE_ID: u32 = 0x0000_c104;
+
+/// The registers of a switch.
+///
+/// What is set by a poke stays here. What the switch tells of itself is told by `set_started` and
+/// `set_status`, and is shown as it was told last.
+#[derive(Clone, Copy)]
+pub struct Registers {
+    started: bool,
+    settings: [Settings; LINKS],
+    statuses: [Status; LINKS],
+}
+
+impl Model for Registers {
+    ghost use Rattle.c104_regs.specs.Registers.{IsKept, RegisterBank};
+
+    ghost Value = { RegisterBank };
+
+    ghost view = { λ r. record { started = r.started; settings = r.settings; statuses = r.statuses } };
+
+    ghost invariant = { λ r.
+        IsKept (record { started = r.started; settings = r.settings; statuses = r.statuses }) };
+
+    ghost inverse = { λ b. record { started = b.started; settings = b.settings; statuses = b.statuses } };
+}
+
+impl Registers {
+    /// The registers after a reset, of a switch that isn't started and has told nothing.
+    pub fn new() -> Self
+        ensures registers { result ≡ reset_bank }
+
+        // Each register of a link has the value that the table says.
+        ensures values { (l : ℕ) (r : Register) →
+            value (settings_at result l) (status_at result l) r ≡ (line r).reset }
+    {
+        Registers {
+            started: false,
+            settings: [Settings::reset(); LINKS],
+            statuses: [Status::reset(); LINKS],
+        }
+    }
+
+    /// The registers of a switch that is started, with these tables at its links and all else as
+    /// after a reset.
+    pub fn placed(tables: &[Table]) -> Self
+        requires links { length tables.now ≡ 32 }
+        requires ranges { All IsTableInRange tables.now }
+        ensures { result ≡ placed_bank tables.now }
+    {
+        let mut settings = [Settings::reset(); LINKS];
+        for (link, table) in tables.iter().enumerate() {
+            settings[link] = Settings::plain(*table);
+        }
+        Registers {
+            started: true,
+            settings,
+            statuses: [Status::reset(); LINKS],
+        }
+    }
+
+    /// The value of the register at this address.
+    pub fn peek(&self, addr: u16) -> Result<u32, RegFault>
+        ensures { result ≡ peek self.now addr }
+    {
+        match Address::at(addr) {
+            None => Err(RegFault::NoRegister),
+            Some(Address::DeviceId) => Ok(DEVICE_ID),
+            Some(Address::Started) => Ok(number(self.started, 1)),
+            Some(Address::AtLink(link, register)) => {
+                Ok(register.read(&self.settings[link], &self.statuses[link]))
+            }
+        }
+    }
+
+    /// Sets the register at this address. What is refused changes nothing.
+    pub fn poke(&mut self, addr: u16, value: u32) -> Result<(), RegFault>
+        ensures poked { (result, self.new) ≡ poke self.old addr value }
+
+        // The registers are a map, which an accepted poke changes at one address.
+        ensures written { OnOk result (peek self.new addr ≡ Ok value) }
+        ensures others { OnOk result ((a : ℕ) → a ≢ addr → peek self.new a ≡ peek self.old a) }
+        ensures refused { OnErr result (self.new ≡ self.old) }
+    {
+        let (link, register) = target(addr, value)?;
+        if register.waits() && self.statuses[link].busy {
+            return Err(RegFault::Busy);
+        }
+        set(&mut self.settings, link, register, value);
+        Ok(())
+    }
+
+    /// Whether a poke may set the register at this address to this value, as far as that doesn't
+    /// hang on what the switch is doing.
+    pub fn settable(addr: u16, value: u32) -> Result<(), RegFault>
+        ensures { result ≡ settable addr value }
+    {
+        target(addr, value)?;
+        Ok(())
+    }
+
+    /// Whether the switch is started, as it was told last.
+    pub fn started(&self) -> bool
+        ensures { result ≡ self.now.started }
+    {
+        self.started
+    }
+
+    /// What is set at each link, in order.
+    pub fn all_settings(&self) -> &[Settings]
+        ensures settings { result.now ≡ self.now.settings }
+        ensures kept { IsKept self.now }
+    {
+        &self.settings
+    }
+
+    /// What is set at a link.
+    pub fn settings(&self, link: usize) -> &Settings
+        requires { link < 32 }
+        ensures settings { result.now ≡ settings_at self.now link }
+        ensures kept { IsInRange result.now }
+    {
+        &self.settings[link]
+    }
+
+    /// The four bits of a link's mode.
+    pub fn mode(&self, link: usize) -> u32
+        requires { link < 32 }
+        ensures { result ≡ mode_of (settings_at self.now link) }
+    {
+        self.settings[link].mode()
+    }
+
+    /// The interval table of a link's input.
+    pub fn table(&self, link: usize) -> &Table
+        requires { link < 32 }
+        ensures table { result.now ≡ (settings_at self.now link).table }
+        ensures kept { IsTableInRange result.now }
+    {
+        &self.settings[link].table
+    }
+
+    /// The links that continue the group of the link before them: link l at bit l.
+    pub fn continues(&self) -> u32
+        ensures number { result ≡ continue_bits self.now.settings }
+        ensures bits { (l : ℕ) → bit_at result l ≡ number (settings_at self.now l).continue_group 1 }
+    {
+        let mut bits = 0;
+        let mut link = LINKS;
+        while link > 0 {
+            link -= 1;
+            bits = number(self.settings[link].continue_group, 1) + 2 * bits;
+        }
+        bits
+    }
+
+    /// Tells whether the switch is started.
+    pub fn set_started(&mut self, started: bool)
+        ensures { self.new ≡ record self.old { started = started } }
+    {
+        self.started = started;
+    }
+
+    /// The registers of a switch that tells this status of each link.
+    pub fn told(&self, statuses: &[Status; LINKS]) -> Self
+        ensures { result ≡ record self.now { statuses = statuses.now } }
+    {
+        Registers {
+            started: self.started,
+            settings: self.settings,
+            statuses: *statuses,
+        }
+    }
+
+    /// Tells the status of a link.
+    pub fn set_status(&mut self, link: usize, status: Status)
+        requires { link < 32 }
+        ensures { self.new ≡ with_status self.old link status }
+    {
+        self.statuses[link] = status;
+    }
+}
+
+/// The link and the register that a poke would set, or the first fault of the address and the
+/// value.
+fn target(addr: u16, value: u32) -> Result<(usize, Register), RegFault>
+    ensures target { result ≡ target addr value }
+    ensures found { IfOk result (λ x. IsTarget addr value x.0 x.1) }
+{
+    let Some(address) = Address::at(addr) else {
+        return Err(RegFault::NoRegister);
+    };
+    let Address::AtLink(link, register) = address else {
+        return Err(RegFault::ReadOnly);
+    };
+    if !register.is_writable() {
+        return Err(RegFault::ReadOnly);
+    }
+    if !register.takes(value) {
+        return Err(RegFault::OutOfRange);
+    }
+    Ok((link, register))
+}
+
+/// Sets a register of a link.
+fn set(settings: &mut [Settings], link: usize, register: Register, value: u32)
+    requires link { link < length settings.old }
+    requires register { IsRegister register }
+    ensures { settings.new ≡ settings_with settings.old link register value }
+{
+    let settings = &mut settings[link];
+    settings.set(register, value);
+}

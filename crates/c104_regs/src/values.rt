@@ -1,0 +1,110 @@
+//! What a register of a link reads, and what setting it changes.
+ghost use Rattle.std.specs.Prelude.{◌≡◌};
+ghost use Rattle.c104_regs.specs.Addresses.{IsRegister};
+ghost use Rattle.c104_regs.specs.Values.{coded, mode_of, number, owner_code, select_code, value, with_mode, with_value};
+
+use crate::addresses::Register;
+use crate::settings::Settings;
+use crate::status::Status;
+use c104_interval::Select;
+
+impl Register {
+    /// What the register reads, at a link with these settings and this status.
+    pub fn read(self, settings: &Settings, status: &Status) -> u32
+        requires { IsRegister self }
+        ensures { result ≡ value settings.now status.now self }
+    {
+        match self {
+            Register::Mode => settings.mode(),
+            Register::RandomBase => settings.random_base,
+            Register::RandomRange => settings.random_range,
+            Register::Sunk => status.sunk,
+            Register::Short => status.short,
+            Register::InputLevel => u32::from(status.input_level),
+            Register::OutputLevel => u32::from(status.output_level),
+            Register::Credit => u32::from(status.credit),
+            Register::Granted => u32::from(status.granted),
+            Register::Owner => owner_code(status.owner),
+            Register::Base => settings.table.base,
+            Register::Limit(k) => settings.table.rows[k].limit,
+            Register::Select(k) => select_code(settings.table.rows[k].select),
+        }
+    }
+}
+
+impl Settings {
+    /// The four bits of the mode.
+    pub(crate) fn mode(&self) -> u32
+        ensures { result ≡ mode_of self.now }
+    {
+        number(self.two_byte, 1)
+            + number(self.delete_header, 2)
+            + number(self.randomize, 4)
+            + number(self.continue_group, 8)
+    }
+
+    /// Sets the register. One that tells the status sets nothing.
+    pub(crate) fn set(&mut self, register: Register, value: u32)
+        requires { IsRegister register }
+        ensures { self.new ≡ with_value self.old register value }
+    {
+        match register {
+            Register::Mode => self.set_mode(value),
+            Register::RandomBase => self.random_base = value,
+            Register::RandomRange => self.random_range = value,
+            Register::Base => self.table.base = value,
+            Register::Limit(k) => self.table.rows[k].limit = value,
+            Register::Select(k) => self.table.rows[k].select = select_of(value),
+            _ => {}
+        }
+    }
+
+    /// Sets the four bits of the mode.
+    fn set_mode(&mut self, value: u32)
+        ensures { self.new ≡ with_mode self.old value }
+    {
+        self.two_byte = value % 2 == 1;
+        self.delete_header = value / 2 % 2 == 1;
+        self.randomize = value / 4 % 2 == 1;
+        self.continue_group = value / 8 % 2 == 1;
+    }
+}
+
+/// The weight of a bit where it is set, and else 0.
+pub fn number(bit: bool, weight: u32) -> u32
+    ensures { result ≡ number bit weight }
+{
+    if bit { weight } else { 0 }
+}
+
+/// The number of what a row selects.
+fn select_code(select: Select) -> u32
+    ensures { result ≡ select_code select }
+{
+    match select {
+        Select::Link(link) => u32::from(link),
+        Select::Discard => 32,
+        Select::Sink => 64,
+    }
+}
+
+/// What a number selects.
+fn select_of(code: u32) -> Select
+    ensures { result ≡ coded code }
+{
+    match code {
+        0..=31 => Select::Link(code as u8),
+        32 => Select::Discard,
+        _ => Select::Sink,
+    }
+}
+
+/// 0 where no input streams to an output, and else 1 and the input.
+fn owner_code(owner: Option<u8>) -> u32
+    ensures { result ≡ owner_code owner }
+{
+    match owner {
+        Some(input) => 1 + u32::from(input),
+        None => 0,
+    }
+}

@@ -1,0 +1,53 @@
+-- The registers of a switch: those that are set, and those that tell its state.
+use Rattle.std.specs.Prelude.{ℕ, zero, suc, ◌||◌, Bool, true, false, List, [], ◌∷◌, length, Option, Some, None, Result, slice_get}
+use Rattle.c104_link.specs.Buffers.{Outgoing}
+use Rattle.c104_regs.specs.declared.status.Status.{Status}
+use Rattle.c104_regs.specs.declared.faults.RegFault.{RegFault}
+use Rattle.c104_regs.specs.Registers as regs
+use Rattle.c104_regs.specs.Registers.{RegisterBank}
+use Rattle.c104_regs.specs.Values.{reset_status}
+use Rattle.c104_switch.specs.Switch.{Phase, Fresh, Head, Want, Stream, Sinking, Input, Switch, is_owned}
+use Rattle.c104_switch.specs.Views.{owner_from}
+
+-- a packet is on its way through the input
+abbrev pub is_busy : {A : Type 0} → Phase A → Bool
+is_busy Fresh = false
+is_busy (Head b) = true
+is_busy (Want b g) = true
+is_busy (Stream o) = true
+is_busy Sinking = true
+
+-- what a switch tells of link l by its two sides
+abbrev pub status_of : {A : Type 0} → List (Input A) → ℕ → Input A → Outgoing A → Status
+status_of inputs l p q = record {
+  sunk = p.sunk;
+  short = p.short;
+  input_level = length p.buffer.items;
+  output_level = length q.items;
+  credit = q.credit;
+  granted = p.buffer.granted;
+  owner = owner_from 0 inputs l;
+  busy = is_busy p.phase || is_owned inputs l;
+}
+
+abbrev pub sides_status : {A : Type 0} → List (Input A) → ℕ → Option (Input A) → Option (Outgoing A) → Status
+sides_status inputs l None q = reset_status
+sides_status inputs l (Some p) None = reset_status
+sides_status inputs l (Some p) (Some q) = status_of inputs l p q
+
+-- what a switch tells of link l
+unfoldable pub link_status : {A : Type 0} → Switch A → ℕ → Status
+link_status s l = sides_status s.inputs l (slice_get s.inputs l) (slice_get s.outputs l)
+
+-- what a switch tells of so many links, from link l on
+abbrev pub statuses_from : {A : Type 0} → Switch A → ℕ → ℕ → List Status
+statuses_from s l zero = []
+statuses_from s l (suc n) = link_status s l ∷ statuses_from s (suc l) n
+
+-- the registers of a switch
+abbrev pub registers : {A : Type 0} → Switch A → RegisterBank
+registers s = record { started = s.started; settings = s.settings; statuses = statuses_from s 0 32 }
+
+-- what an address reads, where there is a register
+abbrev pub peek : {A : Type 0} → Switch A → ℕ → Result ℕ RegFault
+peek s a = regs.peek (registers s) a
