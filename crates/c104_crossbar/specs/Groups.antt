@@ -1,0 +1,30 @@
+-- Groups of links: a group is the largest run of consecutive links in which each link after the first
+-- continues the group of the link before it. Any link of it stands for the whole group. Which links
+-- continue is a test of the link's number, so this serves whatever says it.
+--     IsGroup continues g first last      the group of g, as a relation
+--     in_group continues g o      whether o is in it, as a computation; `Group::of` ties the two
+use Rattle.std.specs.Prelude.{◌≡◌, ℕ, zero, suc, ◌+◌, ◌-◌, ◌<◌, ◌≤◌, ◌==◌, ◌&&◌, Bool, true, false, nat_le, if◌then◌else◌}
+use Rattle.std.specs.Int.{bit_at}
+
+-- the n links after this one all continue the group
+abbrev pub joined : (ℕ → Bool) → ℕ → ℕ → Bool
+joined continues low zero = true
+joined continues low (suc n) = continues (low + suc n) && joined continues low n
+
+-- link o is in the group of link g: each link after the lower of the two, up to the higher, continues
+abbrev pub in_group : (ℕ → Bool) → ℕ → ℕ → Bool
+in_group continues g o = if nat_le g o then joined continues g (o - g) else joined continues o (g - o)
+
+-- bit l of a word is set
+abbrev pub has_bit : ℕ → ℕ → Bool
+has_bit word l = bit_at word l == 1
+
+-- the links from first to last are the group of link g: g is one of them, they are among the 32 links,
+-- each after the first continues, and the run can't be longer at either side
+pub record IsGroup (continues : ℕ → Bool) (g first last : ℕ) : Type 0 where
+  pub from_first : first ≤ g
+  pub to_last : g ≤ last
+  pub below : last < 32
+  pub is_joined : (o : ℕ) → first < o → o ≤ last → continues o ≡ true
+  pub not_before : 0 < first → continues first ≡ false
+  pub not_after : last + 1 < 32 → continues (last + 1) ≡ false

@@ -1,0 +1,38 @@
+-- Which of the 32 outputs are taken: a mark for each, set where the output belongs to a claim. A claim
+-- is the number of its output.
+use Rattle.std.specs.Prelude.{◌≡◌, ℕ, ◌+◌, ◌==◌, Bool, true, false, not, nat_lt, List, [], ◌∷◌, Option, Some, None, replicate, if◌then◌else◌, slice_index_or, slice_set}
+
+-- the marks at first: no output is taken
+abbrev pub all_free : List Bool
+all_free = replicate 32 false
+
+-- output o is free: its mark is there and isn't set, so past the last output none is free
+abbrev pub is_free : List Bool → ℕ → Bool
+is_free marks o = not (slice_index_or marks o true)
+
+-- a claim of output o, and the marks after it: none where the output isn't free
+abbrev pub claimed : List Bool → ℕ → Option ℕ × List Bool
+claimed marks o = if is_free marks o then (Some o, slice_set marks o true) else (None, marks)
+
+-- the marks after a claim of output o was given back
+abbrev pub released : List Bool → ℕ → List Bool
+released marks o = slice_set marks o false
+
+-- 1 for true, 0 for false
+abbrev pub number : Bool → ℕ
+number true = 1
+number false = 0
+
+-- how many of these claims are of output o
+abbrev pub times : ℕ → List ℕ → ℕ
+times o [] = 0
+times o (claim ∷ claims) = number (o == claim) + times o claims
+
+-- these claims and the free outputs are the 32 outputs, each once, and nothing else
+abbrev pub ArePartition : List ℕ → List Bool → Type 0
+ArePartition claims marks = (o : ℕ) → times o claims + number (is_free marks o) ≡ number (nat_lt o 32)
+
+-- the claim that was made, or none
+abbrev pub list_of : Option ℕ → List ℕ
+list_of None = []
+list_of (Some claim) = claim ∷ []

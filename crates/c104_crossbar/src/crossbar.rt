@@ -1,0 +1,95 @@
+ghost use Rattle.std.specs.Prelude.{◌≡◌, ◌<◌, ℕ, Bool, false, List, [], ◌∷◌, ◌++◌, Option};
+ghost use Rattle.c104_crossbar.specs.Marks.{ArePartition, all_free, claimed, is_free, list_of, released};
+
+use crate::LINKS;
+use std::marker::Model;
+
+/// The crossbar of a switch: for each of its 32 outputs, whether it is taken.
+#[derive(Drop)]
+pub struct Crossbar {
+    // whether the output of this number is taken
+    marks: [bool; LINKS],
+}
+
+impl Model for Crossbar {
+    ghost use Rattle.std.specs.Prelude.{◌≡◌, Bool, List, length};
+
+    ghost Value = { List Bool };
+
+    ghost view = { λ crossbar. crossbar.marks };
+
+    ghost invariant = { λ crossbar. length crossbar.marks ≡ 32 };
+}
+
+/// The right to an output, until it is given back by [`Crossbar::release`].
+///
+/// It can't be dropped or copied.
+#[must_use]
+pub struct Claim {
+    output: u8,
+}
+
+impl Model for Claim {
+    ghost use Rattle.std.specs.Prelude.{ℕ, ◌<◌};
+
+    ghost Value = { ℕ };
+
+    ghost view = { λ claim. claim.output };
+
+    ghost invariant = { λ claim. claim.output < 32 };
+}
+
+impl Crossbar {
+    /// A crossbar whose outputs are all free.
+    pub fn new() -> Self
+        ensures marks { result ≡ all_free }
+        ensures partition { ArePartition [] result }
+    {
+        Crossbar {
+            marks: [false; LINKS],
+        }
+    }
+
+    /// Claims an output. The answer is `None`, and nothing changes, where the output is taken
+    /// or its number is 32 or more.
+    pub fn claim(&mut self, output: usize) -> Option<Claim>
+        ensures claimed { (result, self.new) ≡ claimed self.old output }
+        ensures partition { (claims : List ℕ) → ArePartition claims self.old → ArePartition (list_of result ++ claims) self.new }
+    {
+        if !self.free(output) {
+            return None;
+        }
+        self.marks[output] = true;
+        Some(Claim {
+            output: output as u8,
+        })
+    }
+
+    /// Gives an output back: just that of the claim is free afterwards. This crossbar must count
+    /// it as taken, which it does where it made the claim.
+    pub fn release(&mut self, claim: Claim)
+        requires { is_free self.old claim ≡ false }
+        ensures released { self.new ≡ released self.old claim }
+        ensures partition { (claims : List ℕ) → ArePartition (claim ∷ claims) self.old → ArePartition claims self.new }
+    {
+        let Claim { output } = claim;
+        self.marks[output as usize] = false;
+    }
+
+    /// Whether an output is free. None is where the number is 32 or more.
+    pub fn free(&self, output: usize) -> bool
+        ensures { result ≡ is_free self.now output }
+    {
+        output < LINKS && !self.marks[output]
+    }
+}
+
+impl Claim {
+    /// The number of the claimed output, 0 to 31.
+    pub fn output(&self) -> usize
+        ensures value { result ≡ self.now }
+        ensures below { result < 32 }
+    {
+        self.output as usize
+    }
+}

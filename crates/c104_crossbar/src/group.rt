@@ -1,0 +1,75 @@
+//! Groups of links.
+ghost use Rattle.std.specs.Prelude.{◌≡◌, ◌+◌, ◌<◌, ◌≤◌, ◌&&◌, ℕ, Bool, false, true, nat_le};
+ghost use Rattle.c104_crossbar.specs.Groups.{IsGroup, has_bit, in_group};
+
+use crate::LINKS;
+
+/// A group of links: the links from the first to the last, with both.
+#[derive(Clone, Copy, Debug, PartialEq, Eq)]
+pub struct Group {
+    /// The number of the lowest link, 0 to 31 in a group that `of` gives.
+    pub first: usize,
+    /// The number of the highest link, 0 to 31 in a group that `of` gives.
+    pub last: usize,
+}
+
+impl Group {
+    /// The group of a link, whose number is 0 to 31: the largest run of links that has the link and
+    /// in which each link after the first has its bit set in the word. Link 0's bit has no effect.
+    pub fn of(continues: u32, link: usize) -> Group
+        requires { link < 32 }
+        ensures group { IsGroup (has_bit continues) link result.first result.last }
+        ensures members { (o : ℕ) → in_group (has_bit continues) link o ≡ (nat_le result.first o && nat_le o result.last) }
+        ensures unique { (first last : ℕ) → IsGroup (has_bit continues) link first last → (first ≡ result.first) × (last ≡ result.last) }
+        ensures zero { (others : ℕ → Bool) → ((l : ℕ) → 0 < l → others l ≡ has_bit continues l) → IsGroup others link result.first result.last }
+    {
+        Group {
+            first: first_of(continues, link),
+            last: last_of(continues, link),
+        }
+    }
+
+    /// Whether a link is in the group.
+    pub fn contains(&self, link: usize) -> bool
+        ensures { result ≡ (nat_le self.now.first link && nat_le link self.now.last) }
+    {
+        self.first <= link && link <= self.last
+    }
+}
+
+// The first link of the group of a link.
+fn first_of(continues: u32, link: usize) -> usize
+    requires { link < 32 }
+    ensures below { result ≤ link }
+    ensures joined { (o : ℕ) → result < o → o ≤ link → has_bit continues o ≡ true }
+    ensures largest { 0 < result → has_bit continues result ≡ false }
+{
+    let mut first = link;
+    while first > 0 && has_bit(continues, first) {
+        first -= 1;
+    }
+    first
+}
+
+// The last link of the group of a link.
+fn last_of(continues: u32, link: usize) -> usize
+    requires { link < 32 }
+    ensures above { link ≤ result }
+    ensures within { result < 32 }
+    ensures joined { (o : ℕ) → link < o → o ≤ result → has_bit continues o ≡ true }
+    ensures largest { result + 1 < 32 → has_bit continues (result + 1) ≡ false }
+{
+    let mut last = link;
+    while last + 1 < LINKS && has_bit(continues, last + 1) {
+        last += 1;
+    }
+    last
+}
+
+// Whether the bit of a link is set in a word.
+fn has_bit(word: u32, link: usize) -> bool
+    requires { link < 32 }
+    ensures { result ≡ has_bit word link }
+{
+    (word >> link) & 1 == 1
+}
