@@ -1,13 +1,12 @@
 -- The registers of a switch, by address.
-use Rattle.std.specs.Prelude.{◌≡◌, ℕ, ◌+◌, ◌*◌, ◌&&◌, not, Bool, true, false, IsTrue, ◌<◌, List, [], ◌∷◌, Option, Some, None, Result, Ok, Err, length, map, replicate, if◌then◌else◌, slice_index_or, slice_set}
-use Rattle.c104_interval.specs.declared.intervals.Table.{Table}
+use Rattle.std.specs.Prelude.{◌≡◌, ℕ, ◌+◌, ◌*◌, ◌&&◌, not, Bool, true, false, IsTrue, ◌<◌, List, [], ◌∷◌, Option, Some, None, Result, Ok, Err, length, replicate, if◌then◌else◌, slice_index_or, slice_set}
 use Rattle.c104_regs.specs.Addresses.{Address, IsRegister, Register, address_of, in_range, line}
 use Rattle.c104_regs.specs.declared.addresses.Address.TheVariants.{DeviceId, Started, AtLink}
 use Rattle.c104_regs.specs.declared.addresses.Register.TheVariants.{Mode}
 use Rattle.c104_regs.specs.Faults.{RegFault}
 use Rattle.c104_regs.specs.declared.faults.RegFault.TheVariants.{NoRegister, ReadOnly, OutOfRange, Busy}
 use Rattle.c104_regs.specs.Ranges.{IsInRange}
-use Rattle.c104_regs.specs.Settings.{Settings, plain_settings, reset_settings}
+use Rattle.c104_regs.specs.Settings.{Settings, reset_settings}
 use Rattle.c104_regs.specs.Values.{Status, number, reset_status, value, with_value}
 
 -- what the registers of a switch hold: whether it is started, and for each link what is set there and
@@ -29,9 +28,9 @@ status_at b l = slice_index_or b.statuses l reset_status
 abbrev pub reset_bank : RegisterBank
 reset_bank = record { started = false; settings = replicate 32 reset_settings; statuses = replicate 32 reset_status }
 
--- the registers of a started switch with these tables, and all else as after a reset
-abbrev pub placed_bank : List Table → RegisterBank
-placed_bank tables = record { started = true; settings = map plain_settings tables; statuses = replicate 32 reset_status }
+-- the registers of a started switch with these settings, which has told nothing yet
+abbrev pub placed_bank : List Settings → RegisterBank
+placed_bank settings = record { started = true; settings = settings; statuses = replicate 32 reset_status }
 
 -- what every switch's registers keep
 pub record IsKept (b : RegisterBank) : Type 0 where

@@ -60,20 +60,18 @@ impl Registers {
         }
     }
 
-    /// The registers of a switch that is started, with these tables at its links and all else as
-    /// after a reset.
-    pub fn placed(tables: &[Table]) -> Self
-        requires links { length tables.now ≡ 32 }
-        requires ranges { All IsTableInRange tables.now }
-        ensures { result ≡ placed_bank tables.now }
+    /// The registers of a switch that is started, with these settings at its links. The switch has
+    /// told nothing yet.
+    pub fn placed(settings: &[Settings]) -> Self
+        requires links { length settings.now ≡ 32 }
+        requires ranges { All IsInRange settings.now }
+        ensures { result ≡ placed_bank settings.now }
     {
-        let mut settings = [Settings::reset(); LINKS];
-        for (link, table) in tables.iter().enumerate() {
-            settings[link] = Settings::plain(*table);
-        }
+        let mut own = [Settings::reset(); LINKS];
+        own.copy_from_slice(settings);
         Registers {
             started: true,
-            settings,
+            settings: own,
             statuses: [Status::reset(); LINKS],
         }
     }

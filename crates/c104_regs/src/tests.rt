@@ -1,3 +1,5 @@
+ghost use Rattle.c104_regs.specs.Ranges.{IsInRange};
+
 use super::{DEVICE_ID, LINKS, RegFault, Registers, Settings, Status};
 use c104_interval::{ROWS, Row, Select, Table};
 use std::test::Fail;
@@ -182,6 +184,30 @@ fn status_is_shown_and_holds_the_mode(rt: HostRuntime) {
     assert_eq!(rt; registers.poke(0x2000, 2), Ok(()));
     assert_eq!(rt; registers.peek(0x2009), Ok(0));
     assert_eq!(rt; (copy.peek(0x2000), registers.peek(0x2000)), (Ok(0), Ok(2)));
+}
+
+/// Headers are deleted, the link continues a group, and the first row selects link 7.
+fn set() -> Settings
+    ensures { IsInRange result }
+{
+    let mut registers = Registers::new();
+    for (addr, value) in [(0x0100, 10), (0x0140, 9), (0x0180, 7)] {
+        let _ = registers.poke(addr, value);
+    }
+    *registers.settings(0)
+}
+
+#[test]
+fn placed_registers_have_their_settings(rt: HostRuntime) {
+    let registers = Registers::placed(&[set(); LINKS]);
+    assert!(rt; registers.started());
+    assert_eq!(rt; *registers.settings(31), set());
+    for base in FIRST_AND_LAST {
+        for (offset, value) in [(0x00, 10), (0x40, 9), (0x80, 7), (0x81, 64), (0x07, 0)] {
+            let addr = base.wrapping_add(offset);
+            assert_eq!(rt; registers.peek(addr), Ok(value), "at {addr}");
+        }
+    }
 }
 
 #[test]

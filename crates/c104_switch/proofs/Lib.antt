@@ -1,5 +1,8 @@
 pub mod Lifts
-pub mod Groups
+pub mod HeldClaims
+pub mod HeldSteps
+pub mod ClaimSteps
+pub mod GroupBits
 pub mod Readiness
 pub mod SoundnessSteps
 pub mod SoundnessBuffers

@@ -1,6 +1,6 @@
 -- Each action of a switch keeps what every switch keeps.
-use Rattle.std.proofs.Common.{◌≡◌, ◌&&◌, not, ℕ, Bool, false, List, Option, Some, length, replicate, slice_get, slice_set, refl, sym, ◌∙◌, subst}
-use Rattle.std.proofs.lemmas.Bool.{and_parts, not-true}
+use Rattle.std.proofs.Common.{◌≡◌, not, ℕ, Bool, false, List, Option, Some, length, replicate, slice_get, slice_set, refl, sym, ◌∙◌, subst}
+use Rattle.std.proofs.lemmas.Bool.{not-true}
 use Rattle.std.proofs.lemmas.List.{length-set, length-replicate}
 use Rattle.std.proofs.lemmas.List.Elements.{All-set, All-replicate}
 use Rattle.c104_token.specs.Kinds.{Kind}
@@ -11,7 +11,7 @@ use Rattle.c104_regs.specs.declared.settings.Settings.{Settings}
 use Rattle.c104_regs.specs.Settings.{reset_settings}
 use Rattle.c104_switch.specs.Switch.{Fresh, Stream, Input, Switch, is_owned, with_inputs, with_outputs, with_sides, accepted, granted, first_input, first_with, first_state, enter, leave, credit_out, credit_in}
 use Rattle.c104_switch.specs.Turns.{turn, input}
-use Rattle.c104_switch.specs.Claims.{streaming, claimed, claim}
+use Rattle.c104_switch.specs.Claims.{streaming, claimed, claimed_at, claim}
 use Rattle.c104_switch.specs.Soundness.{IsExclusive, IsSound}
 use Rattle.c104_switch.proofs.SoundnessSteps.{given, required, at_place_made, from_place_made, with_place_made, All-place}
 use Rattle.c104_switch.proofs.SoundnessBuffers.{within_empty_in, within_empty_out, within_leave, within_credited}
@@ -100,13 +100,14 @@ sound_turned {A} kind s sound i t word r is = with_place_made s.inputs i (λ p. 
     subst (λ (r : Sides A). IsSound (with_sides s r)) set (sound_outputs (with_inputs s (slice_set s.inputs i y.0)) (sound_kept s sound i p y.0 here keeps.0) y.1 keeps.1))
 
 -- an input claims an output that no input owns
-pub sound_claimed : {A : Type 0} (s : Switch A) → IsSound s → (settings : List Settings) (i o : ℕ) → is_owned s.inputs o ≡ false → (r : Sides A) → with_place s.inputs i (λ p. claimed settings p s.outputs o p.phase) ≡ Some r → IsSound (with_sides s r)
-sound_claimed {A} s sound settings i o free r is = with_place_made s.inputs i (λ p. claimed settings p s.outputs o p.phase) r is (λ p y here made set.
+pub sound_claimed : {A : Type 0} (s : Switch A) → IsSound s → (settings : List Settings) (i o : ℕ) (r : Sides A) → claimed_at settings s.inputs s.outputs i o ≡ Some r → IsSound (with_sides s r)
+sound_claimed {A} s sound settings i o r is = required (not (is_owned s.inputs o)) _ r is (λ may more. with_place_made s.inputs i (λ p. claimed settings p s.outputs o p.phase) r more (λ p y here made set.
+    let free : is_owned s.inputs o ≡ false = not-true (is_owned s.inputs o) may in
     let gives : (streaming p o ≡ y.0) × KeepsOutputs s.outputs y.1 = claimed_gives settings p s.outputs o p.phase y made in
     let within : IsWithinCap p.buffer = All-place (λ (p : Input A). IsWithinCap p.buffer) s.inputs i p here sound.within_cap in
     let alone = λ (d : ℕ) (to : Stream o ≡ Stream d) (j : ℕ) (q : Input A) (at_j : slice_get s.inputs j ≡ Some q) (to_q : q.phase ≡ Stream d). absurd {A = i ≡ j} (unowned s.inputs o free j q at_j (to_q ∙ sym to)) in
     let one : IsSound (with_inputs s (slice_set s.inputs i y.0)) = subst (λ (p : Input A). IsSound (with_inputs s (slice_set s.inputs i p))) gives.0 (sound_set s sound i (streaming p o) within alone) in
-    subst (λ (r : Sides A). IsSound (with_sides s r)) set (sound_outputs (with_inputs s (slice_set s.inputs i y.0)) one y.1 gives.1))
+    subst (λ (r : Sides A). IsSound (with_sides s r)) set (sound_outputs (with_inputs s (slice_set s.inputs i y.0)) one y.1 gives.1)))
 
 module _ {A : Type 0} (s s' : Switch A) (sound : IsSound s) where
   -- a token comes in over a link's wire
@@ -141,7 +142,6 @@ module _ {A : Type 0} (s s' : Switch A) (sound : IsSound s) where
 
   -- an input claims an output, where the switch is started and no input owns it
   pub sound_claim : (i o : ℕ) → claim s i o ≡ Some s' → IsSound s'
-  sound_claim i o is = required (s.started && not (is_owned s.inputs o)) _ s' is (λ may more. given (with_place s.inputs i (λ p. claimed s.settings p s.outputs o p.phase)) _ s' more (λ r made last.
+  sound_claim i o is = required s.started _ s' is (λ started more. given (claimed_at s.settings s.inputs s.outputs i o) _ s' more (λ r made last.
       let same : with_sides s r ≡ s' = cc in
-      let free : is_owned s.inputs o ≡ false = not-true (is_owned s.inputs o) (and_parts s.started (not (is_owned s.inputs o)) may).1 in
-      subst IsSound same (sound_claimed s sound s.settings i o free r made)))
+      subst IsSound same (sound_claimed s sound s.settings i o r made)))

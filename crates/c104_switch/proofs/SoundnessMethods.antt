@@ -1,13 +1,13 @@
 -- What a method of the switch leaves that made its parts or tried a step of one side: what every switch keeps.
-use Rattle.std.proofs.Common.{◌≡◌, ℕ, Bool, true, false, List, Option, Some, None, length, replicate, slice_get, sym, ap, subst}
+use Rattle.std.proofs.Common.{◌≡◌, ℕ, Bool, true, List, Option, Some, None, length, replicate, slice_get, sym, ap, subst}
 use Rattle.c104_token.specs.Kinds.{Kind}
 use Rattle.c104_link.specs.Steps.{◌>>=◌, ◌>>◌, require, tried, taken, at_place, from_place, with_place}
 use Rattle.c104_link.specs.Buffers as buffer
 use Rattle.c104_link.specs.Buffers.{Outgoing, IsValidCap, empty_out, credited}
 use Rattle.c104_regs.specs.declared.settings.Settings.{Settings}
-use Rattle.c104_switch.specs.Switch.{Input, Switch, is_owned, with_inputs, with_outputs, with_sides, accepted, granted, first_input, first_with}
+use Rattle.c104_switch.specs.Switch.{Input, Switch, with_inputs, with_outputs, with_sides, accepted, granted, first_input, first_with}
 use Rattle.c104_switch.specs.Turns.{turn, input}
-use Rattle.c104_switch.specs.Claims.{claimed}
+use Rattle.c104_switch.specs.Claims.{claimed_at}
 use Rattle.c104_switch.specs.Soundness.{IsSound}
 use Rattle.c104_switch.proofs.SoundnessSteps.{holds_tried, holds_taken}
 use Rattle.c104_switch.proofs.Soundness.{Sides, sound_first, sound_accepted, sound_granted, sound_credited, sound_left, sound_turned, sound_claimed}
@@ -41,16 +41,17 @@ module _ {A : Type 0} {s : Switch A} (sound : IsSound s) where
   sound_turn kind b i t word ps qs is = holds_tried (λ (r : Sides A). IsSound (with_sides s r)) b _ (s.inputs, s.outputs) (ps, qs) is sound (sound_turned kind s sound i t word)
 
   -- an input was to claim an output that no input owns
-  pub sound_claim_tried : (settings : List Settings) (b : Bool) (i o : ℕ) (ps : List (Input A)) (qs : List (Outgoing A)) → is_owned s.inputs o ≡ false → ◌≡◌ {A = Bool × Sides A} (b, (ps, qs)) (tried {S = Sides A} (with_place s.inputs i (λ p. claimed settings p s.outputs o p.phase)) (s.inputs, s.outputs)) → IsSound (with_sides s (ps, qs))
-  sound_claim_tried settings b i o ps qs free is = holds_tried (λ (r : Sides A). IsSound (with_sides s r)) b _ (s.inputs, s.outputs) (ps, qs) is sound (sound_claimed s sound settings i o free)
+  pub sound_claim_tried : (settings : List Settings) (b : Bool) (i o : ℕ) (ps : List (Input A)) (qs : List (Outgoing A)) → ◌≡◌ {A = Bool × Sides A} (b, (ps, qs)) (tried {S = Sides A} (claimed_at settings s.inputs s.outputs i o) (s.inputs, s.outputs)) → IsSound (with_sides s (ps, qs))
+  sound_claim_tried settings b i o ps qs is = holds_tried (λ (r : Sides A). IsSound (with_sides s r)) b _ (s.inputs, s.outputs) (ps, qs) is sound (sound_claimed s sound settings i o)
+
+-- a step of both sides is one of the switch
+by_sides : {A : Type 0} (s : Switch A) (b : Bool) (ps : List (Input A)) (qs : List (Outgoing A)) (made : Option (Sides A)) → ◌≡◌ {A = Bool × Sides A} (b, (ps, qs)) (tried {S = Sides A} made (s.inputs, s.outputs)) → ◌≡◌ {A = Bool × Switch A} (b, with_sides s (ps, qs)) (tried (made >>= (λ r. Some (with_sides s r))) s)
+by_sides s b ps qs (Some r) gives = ap (λ (u : Bool × Sides _). (u.0, with_sides s u.1)) gives
+by_sides s b ps qs None gives = ap (λ (u : Bool × Sides _). (u.0, with_sides s u.1)) gives
 
 -- a turn of one input is a turn of a switch that is started
 pub input_tried : {A : Type 0} (kind : Kind A) (s : Switch A) (b : Bool) (i : ℕ) (t : Settings) (word : ℕ) (ps : List (Input A)) (qs : List (Outgoing A)) → s.started ≡ true → slice_get s.settings i ≡ Some t → ◌≡◌ {A = Bool × Sides A} (b, (ps, qs)) (tried {S = Sides A} (with_place s.inputs i (λ p. turn kind t word p s.outputs)) (s.inputs, s.outputs)) → ◌≡◌ {A = Bool × Switch A} (b, with_sides s (ps, qs)) (tried (input kind s i word) s)
 input_tried {A} kind s b i t word ps qs started own is = by_parts s.started (slice_get s.settings i) started own
   where
-    by_turn : (made : Option (Sides A)) → ◌≡◌ {A = Bool × Sides A} (b, (ps, qs)) (tried {S = Sides A} made (s.inputs, s.outputs)) → ◌≡◌ {A = Bool × Switch A} (b, with_sides s (ps, qs)) (tried (made >>= (λ r. Some (with_sides s r))) s)
-    by_turn (Some r) gives = ap (λ (u : Bool × Sides A). (u.0, with_sides s u.1)) gives
-    by_turn None gives = ap (λ (u : Bool × Sides A). (u.0, with_sides s u.1)) gives
-
     by_parts : (on : Bool) (found : Option Settings) → on ≡ true → found ≡ Some t → ◌≡◌ {A = Bool × Switch A} (b, with_sides s (ps, qs)) (tried (require on >> (found >>= (λ t. with_place s.inputs i (λ p. turn kind t word p s.outputs) >>= (λ r. Some (with_sides s r))))) s)
-    by_parts on found is_on is_found = rw (is_on, is_found) (by_turn (with_place s.inputs i (λ p. turn kind t word p s.outputs)) is)
+    by_parts on found is_on is_found = rw (is_on, is_found) (by_sides s b ps qs (with_place s.inputs i (λ p. turn kind t word p s.outputs)) is)

@@ -1,5 +1,5 @@
 -- A claim: an input that wants a group gets one output of it, until its packet's terminator has passed.
-use Rattle.std.specs.Prelude.{ℕ, ◌&&◌, not, List, Option, Some, None, if◌then◌else◌, slice_get}
+use Rattle.std.specs.Prelude.{ℕ, not, List, Option, Some, None, if◌then◌else◌, slice_get}
 use Rattle.c104_link.specs.Steps.{◌>>=◌, ◌>>◌, require, at_place, with_place}
 use Rattle.c104_link.specs.Buffers as buffer
 use Rattle.c104_link.specs.Buffers.{Outgoing}
@@ -26,9 +26,15 @@ claimed settings p qs o (Head b) = None
 claimed settings p qs o (Stream q) = None
 claimed settings p qs o Sinking = None
 
--- input i of a switch that is started claims output o, which no input owns
+-- input i claims output o, which no input owns
+abbrev pub claimed_at : {A : Type 0} → List Settings → List (Input A) → List (Outgoing A) → ℕ → ℕ → Option (List (Input A) × List (Outgoing A))
+claimed_at settings ps qs i o = do
+  require (not (is_owned ps o))
+  with_place ps i (λ p. claimed settings p qs o p.phase)
+
+-- the same in a switch that is started
 abbrev pub claim : {A : Type 0} → Switch A → ℕ → ℕ → Option (Switch A)
 claim s i o = do
-  require (s.started && not (is_owned s.inputs o))
-  r ← with_place s.inputs i (λ p. claimed s.settings p s.outputs o p.phase)
+  require s.started
+  r ← claimed_at s.settings s.inputs s.outputs i o
   Some (with_sides s r)

@@ -1,19 +1,17 @@
--- Groups of links: a group is the largest run of consecutive links in which each link after the first
--- says that it continues the group. Any link of it stands for the whole group. Numbers of 32 or more are
--- no links; each is a group by itself, of which no output can be claimed.
-use Rattle.std.specs.Prelude.{ℕ, zero, suc, ◌+◌, ◌-◌, ◌&&◌, Bool, true, false, List, Option, Some, None, nat_le, if◌then◌else◌, slice_get}
+-- Groups of links, as their settings say which links continue the group of the link before them. Past
+-- the last link, none does: a number of 32 or more is in no group with a link.
+use Rattle.std.specs.Prelude.{ℕ, Bool, false, List, Option, Some, None, slice_get}
+use Rattle.c104_crossbar.specs.Groups as groups
 use Rattle.c104_regs.specs.declared.settings.Settings.{Settings}
 
--- whether this link continues the group of the link before it; past the last link, none does
+-- whether this link continues the group of the link before it
 abbrev pub continues : Option Settings → Bool
 continues None = false
 continues (Some s) = s.continue_group
 
--- the n links after this one all continue its group
-abbrev pub joined : List Settings → ℕ → ℕ → Bool
-joined settings low zero = true
-joined settings low (suc n) = continues (slice_get settings (low + suc n)) && joined settings low n
+abbrev pub continues_at : List Settings → ℕ → Bool
+continues_at settings l = continues (slice_get settings l)
 
--- link o is in the group of link g: each link after the lower of the two, up to the higher, continues
+-- link o is in the group of link g
 abbrev pub in_group : List Settings → ℕ → ℕ → Bool
-in_group settings g o = if nat_le g o then joined settings g (o - g) else joined settings o (g - o)
+in_group settings g o = groups.in_group (continues_at settings) g o

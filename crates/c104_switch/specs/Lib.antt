@@ -4,6 +4,7 @@ pub mod Headers
 pub mod Turns
 pub mod Claims
 pub mod Stages
+pub mod Holding
 pub mod Actions
 pub mod Views
 pub mod Peeks

@@ -1,26 +1,30 @@
-//! The input sides of all links.
+//! The input sides of all links, and the crossbar whose outputs they claim.
 ghost use Rattle.std.specs.Prelude.{◌≡◌, ◌<◌, ℕ, Bool, List, length, replicate, slice_get, IfOk, IfSome, is_some};
 ghost use Rattle.std.specs.Option.{option_copied};
+ghost use Rattle.c104_crossbar.specs.Marks.{ArePartition};
 ghost use Rattle.c104_link.specs.Buffers.{Outgoing, IsValidCap};
 ghost use Rattle.c104_link.specs.Steps.{tried, at_place, with_place};
 ghost use Rattle.c104_regs.specs.declared.settings.Settings.{Settings as TheSettings};
 ghost use Rattle.c104_switch.specs.Switch.{Input, accepted, granted, first_input, is_owned};
 ghost use Rattle.c104_switch.specs.Turns.{turn};
-ghost use Rattle.c104_switch.specs.Claims.{claimed};
+ghost use Rattle.c104_switch.specs.Claims.{claimed_at};
+ghost use Rattle.c104_switch.specs.Holding.{held};
 ghost use Rattle.c104_switch.specs.Views.{owner_from};
 
 use crate::LINKS;
-use crate::input::InputOf;
+use crate::input::{InputOf, Turn};
 use crate::outputs::OutputsOf;
-use c104_regs::Settings;
+use c104_crossbar::Crossbar;
+use c104_regs::{Registers, Settings};
 use c104_token::{NoMemory, TokenKind};
 use std::alloc::Global;
 use std::marker::Model;
 
-/// The input sides of all links, in order.
-#[derive(Drop)]
+/// The input sides of all links, in order, and the crossbar: it counts as taken just the outputs
+/// that inputs hold claims of.
 pub struct InputsOf<T: TokenKind> {
     list: Vec<InputOf<T>>,
+    crossbar: Crossbar,
 }
 
 impl<T: TokenKind> Model for InputsOf<T> {
@@ -29,7 +33,12 @@ impl<T: TokenKind> Model for InputsOf<T> {
 
     ghost Value = { List (Input T) };
 
+    ghost use Rattle.c104_crossbar.specs.Marks.{ArePartition};
+    ghost use Rattle.c104_switch.specs.Holding.{held};
+
     ghost view = { λ inputs. inputs.list.items };
+
+    ghost invariant = { λ inputs. ArePartition (held inputs.list.items) inputs.crossbar };
 }
 
 impl<T: TokenKind> InputsOf<T> {
@@ -40,9 +49,31 @@ impl<T: TokenKind> InputsOf<T> {
     {
         let mut list = Vec::with_capacity(alloc, LINKS)?;
         for _ in 0..LINKS {
-            list.push(InputOf::new(alloc, cap)?)?;
+            match InputOf::new(alloc, cap) {
+                Ok(input) => list.push_reserved(input),
+                Err(error) => {
+                    retire(list, &mut Crossbar::new());
+                    return Err(error);
+                }
+            }
         }
-        Ok(InputsOf { list })
+        Ok(InputsOf {
+            list,
+            crossbar: Crossbar::new(),
+        })
+    }
+
+    /// Gives the claims of all inputs back, and lets go of all else.
+    pub fn retire(self) {
+        let InputsOf { list, mut crossbar } = self;
+        retire(list, &mut crossbar);
+    }
+
+    /// The crossbar.
+    pub fn crossbar(&self) -> &Crossbar
+        ensures { ArePartition (held self.now) result.now }
+    {
+        &self.crossbar
     }
 
     /// An input takes a token in.
@@ -69,7 +100,7 @@ impl<T: TokenKind> InputsOf<T> {
         input.grant()
     }
 
-    /// A turn of an input.
+    /// A turn of an input. A terminator that ends a stream frees its output.
     pub fn turn(
         &mut self,
         link: usize,
@@ -84,25 +115,42 @@ impl<T: TokenKind> InputsOf<T> {
             return false;
         }
         let input = &mut list[link];
-        input.turn(settings, word, outputs)
+        match input.turn(settings, word, outputs) {
+            Turn::NotReady => false,
+            Turn::Done => true,
+            Turn::Freed(claim) => {
+                self.crossbar.release(claim);
+                true
+            }
+        }
     }
 
-    /// An input claims an output.
+    /// An input claims an output, which no input owns.
     pub fn claim(
         &mut self,
         link: usize,
-        settings: &[Settings],
+        registers: &Registers,
         output: usize,
         outputs: &mut OutputsOf<T>,
     ) -> bool
-        ensures { ◌≡◌ {A = Bool × (List (Input T) × List (Outgoing T))} (result, (self.new, outputs.new)) (tried {S = List (Input T) × List (Outgoing T)} (with_place self.old link (λ p. claimed settings.now p outputs.old output p.phase)) (self.old, outputs.old)) }
+        requires { length registers.now.settings ≡ 32 }
+        ensures { ◌≡◌ {A = Bool × (List (Input T) × List (Outgoing T))} (result, (self.new, outputs.new)) (tried {S = List (Input T) × List (Outgoing T)} (claimed_at registers.now.settings self.old outputs.old link output) (self.old, outputs.old)) }
     {
         let list = &mut self.list;
         if link >= list.len() {
             return false;
         }
+        let Some(claim) = self.crossbar.claim(output) else {
+            return false;
+        };
         let input = &mut list[link];
-        input.claim(settings, output, outputs)
+        match input.claim(registers, claim, outputs) {
+            None => true,
+            Some(claim) => {
+                self.crossbar.release(claim);
+                false
+            }
+        }
     }
 
     /// Whether `accept` would take a token in.
@@ -139,14 +187,18 @@ impl<T: TokenKind> InputsOf<T> {
     pub fn can_claim(
         &self,
         link: usize,
-        settings: &[Settings],
+        registers: &Registers,
         output: usize,
         outputs: &OutputsOf<T>,
     ) -> bool
-        ensures { result ≡ is_some (with_place self.now link (λ p. claimed settings.now p outputs.now output p.phase)) }
+        requires { length registers.now.settings ≡ 32 }
+        ensures { result ≡ is_some (claimed_at registers.now.settings self.now outputs.now link output) }
     {
+        if !self.crossbar.free(output) {
+            return false;
+        }
         match self.list.get(link) {
-            Some(input) => input.can_claim(settings, output, outputs),
+            Some(input) => input.can_claim(registers, output, outputs),
             None => false,
         }
     }
@@ -182,4 +234,16 @@ impl<T: TokenKind> InputsOf<T> {
         }
         false
     }
+}
+
+/// Gives the claims of these inputs back to the crossbar, and lets go of all else.
+fn retire<T: TokenKind>(mut list: Vec<InputOf<T>>, crossbar: &mut Crossbar)
+    requires { ArePartition (held list.items) crossbar.old }
+{
+    while let Some(input) = list.pop() {
+        if let Some(claim) = input.retire() {
+            crossbar.release(claim);
+        }
+    }
+    list.destroy_empty();
 }

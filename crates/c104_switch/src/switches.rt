@@ -1,22 +1,25 @@
 //! The switch: what is set at each link, and the two sides of each link.
-ghost use Rattle.std.specs.Prelude.{◌≡◌, ◌&&◌, ℕ, true, not, length, map, is_some, All, IfOk};
+ghost use Rattle.std.specs.Prelude.{◌≡◌, true, length, All, IfOk};
+ghost use Rattle.std.specs.Option.{option_copied};
+ghost use Rattle.c104_crossbar.specs.Marks.{ArePartition};
 ghost use Rattle.c104_link.specs.Buffers.{IsValidCap};
 ghost use Rattle.c104_link.specs.Steps.{tried, taken};
-ghost use Rattle.c104_regs.specs.Ranges.{IsTableInRange};
-ghost use Rattle.c104_regs.specs.Settings.{plain_settings};
-ghost use Rattle.c104_switch.specs.Switch.{Switch as State, first_state, first_with, is_owned, enter, leave, credit_out, credit_in};
+ghost use Rattle.c104_regs.specs.Ranges.{IsInRange};
+ghost use Rattle.c104_switch.specs.Switch.{Switch as State, first_state, first_with, enter, leave, credit_out, credit_in};
 ghost use Rattle.c104_switch.specs.Turns.{input};
 ghost use Rattle.c104_switch.specs.Claims.{claim};
 ghost use Rattle.c104_switch.specs.Views.{link_shown};
 ghost use Rattle.c104_switch.specs.Soundness.{IsSound};
+ghost use Rattle.c104_switch.specs.Holding.{held, claim_at};
 
 mod peeks;
+mod readiness;
 
 use crate::actions::LinkView;
 use crate::inputs::InputsOf;
 use crate::outputs::OutputsOf;
-use c104_interval::Table;
-use c104_regs::Registers;
+use c104_crossbar::{Claim, Crossbar};
+use c104_regs::{Registers, Settings};
 use c104_token::{NoMemory, Token, TokenKind};
 use std::alloc::Global;
 use std::marker::Model;
@@ -24,8 +27,7 @@ use std::marker::Model;
 /// One IMS C104, over any kind of token.
 ///
 /// An action answers false or None where it isn't ready, and then nothing has changed. No action takes
-/// memory.
-#[derive(Drop)]
+/// memory. A switch can't be let go of while its inputs hold claims: `retire` spends them.
 pub struct SwitchOf<T: TokenKind> {
     registers: Registers,
     inputs: InputsOf<T>,
@@ -54,27 +56,40 @@ impl<T: TokenKind> SwitchOf<T> {
         requires { IsValidCap cap }
         ensures { IfOk result (λ s. s ≡ first_state cap) }
     {
+        let outputs = OutputsOf::new(alloc)?;
+        let inputs = InputsOf::new(alloc, cap)?;
         Ok(SwitchOf {
             registers: Registers::new(),
-            inputs: InputsOf::new(alloc, cap)?,
-            outputs: OutputsOf::new(alloc)?,
+            inputs,
+            outputs,
         })
     }
 
-    /// A switch that is started, with these tables at its 32 links, and no token anywhere. All else
-    /// is as after a reset: one-byte headers, no deletion, and each link a group by itself. Only want
-    /// of memory is refused.
-    pub fn placed(alloc: Global, cap: usize, tables: &[Table]) -> Result<Self, NoMemory>
+    /// A switch that is started, with these settings at its 32 links, and no token anywhere. Only
+    /// want of memory is refused.
+    pub fn placed(alloc: Global, cap: usize, settings: &[Settings]) -> Result<Self, NoMemory>
         requires cap { IsValidCap cap }
-        requires links { length tables.now ≡ 32 }
-        requires ranges { All IsTableInRange tables.now }
-        ensures { IfOk result (λ s. s ≡ first_with cap (map plain_settings tables.now) true) }
+        requires links { length settings.now ≡ 32 }
+        requires ranges { All IsInRange settings.now }
+        ensures { IfOk result (λ s. s ≡ first_with cap settings.now true) }
     {
+        let outputs = OutputsOf::new(alloc)?;
+        let inputs = InputsOf::new(alloc, cap)?;
         Ok(SwitchOf {
-            registers: Registers::placed(tables),
-            inputs: InputsOf::new(alloc, cap)?,
-            outputs: OutputsOf::new(alloc)?,
+            registers: Registers::placed(settings),
+            inputs,
+            outputs,
         })
+    }
+
+    /// Gives the claims of all inputs back, and lets go of all else.
+    pub fn retire(self) {
+        let SwitchOf {
+            registers: _,
+            inputs,
+            outputs: _,
+        } = self;
+        inputs.retire();
     }
 
     /// Whether the switch was started. Until then it grants nothing and moves no token inside.
@@ -83,6 +98,21 @@ impl<T: TokenKind> SwitchOf<T> {
         ensures sound { IsSound self.now }
     {
         self.registers.started()
+    }
+
+    /// The crossbar: the outputs of the claims that inputs hold and its free outputs are the 32 outputs,
+    /// each once.
+    pub fn crossbar(&self) -> &Crossbar
+        ensures { ArePartition (held self.now.inputs) result.now }
+    {
+        self.inputs.crossbar()
+    }
+
+    /// The claim that an input holds: that of the output that it streams to, as long as it does.
+    pub fn claim_held(&self, input: usize) -> Option<&Claim>
+        ensures { option_copied result ≡ claim_at self.now input }
+    {
+        self.inputs.get(input)?.claim_held()
     }
 
     /// What can be seen of a link: None where its number is 32 or more.
@@ -151,67 +181,9 @@ impl<T: TokenKind> SwitchOf<T> {
     pub fn claim(&mut self, input: usize, output: usize) -> bool
         ensures { (result, self.new) ≡ tried (claim self.old input output) self.old }
     {
-        if !self.may_claim(output) {
-            return false;
-        }
-        self.inputs.claim(
-            input,
-            self.registers.all_settings(),
-            output,
-            &mut self.outputs,
-        )
-    }
-
-    /// Whether `enter` would take a token in.
-    pub fn can_enter(&self, link: usize) -> bool
-        ensures { (token : T) → result ≡ is_some (enter self.now link token) }
-    {
-        self.inputs.can_accept(link)
-    }
-
-    /// Whether `leave` would give a token.
-    pub fn can_leave(&self, link: usize) -> bool
-        ensures { result ≡ is_some (leave self.now link) }
-    {
-        self.outputs.can_leave(link)
-    }
-
-    /// Whether `credit_out` would grant.
-    pub fn can_credit_out(&self, link: usize) -> bool
-        ensures { result ≡ is_some (credit_out self.now link) }
-    {
-        self.registers.started() && self.inputs.can_grant(link)
-    }
-
-    /// Whether `credit_in` would add the credit.
-    pub fn can_credit_in(&self, link: usize) -> bool
-        ensures { result ≡ is_some (credit_in self.now link) }
-    {
-        self.outputs.can_be_credited(link)
-    }
-
-    /// Whether `input` would do something, which no word decides.
-    pub fn can_input(&self, link: usize) -> bool
-        ensures { (word : ℕ) → result ≡ is_some (input T.kind self.now link word) }
-    {
-        match self.registers.all_settings().get(link) {
-            Some(_) => self.registers.started() && self.inputs.can_turn(link, &self.outputs),
-            None => false,
-        }
-    }
-
-    /// Whether `claim` would claim the output.
-    pub fn can_claim(&self, input: usize, output: usize) -> bool
-        ensures { result ≡ is_some (claim self.now input output) }
-    {
-        self.may_claim(output)
-            && self.inputs.can_claim(input, self.registers.all_settings(), output, &self.outputs)
-    }
-
-    /// Whether an output can be claimed at all: the switch is started, and no input owns it.
-    fn may_claim(&self, output: usize) -> bool
-        ensures { result ≡ (self.now.started && not (is_owned self.now.inputs output)) }
-    {
-        self.registers.started() && !self.inputs.is_owned(output)
+        self.registers.started()
+            && self
+                .inputs
+                .claim(input, &self.registers, output, &mut self.outputs)
     }
 }

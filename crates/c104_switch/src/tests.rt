@@ -1,26 +1,25 @@
-ghost use Rattle.c104_regs.specs.Ranges.{IsTableInRange};
+ghost use Rattle.c104_regs.specs.Ranges.{IsInRange};
 
 use crate::{Action, LINKS, LinkView, Phase, Reply, Switch, SwitchOf};
-use c104_interval::Table;
-use c104_regs::{RegFault, Registers};
+use c104_regs::{RegFault, Registers, Settings};
 use c104_token::{NoMemory, Token, TokenKind};
 use std::alloc::Global;
 use std::process::Abort;
 use std::test::Fail;
 
 /// Header 0 selects link 0 and header 1 link 1, and all others are sunk.
-fn table() -> Table
-    ensures { IsTableInRange result }
+fn settings() -> Settings
+    ensures { IsInRange result }
 {
     let mut registers = Registers::new();
     for (addr, value) in [(0x0140, 1), (0x0180, 0), (0x0141, 2), (0x0181, 1)] {
         let _ = registers.poke(addr, value);
     }
-    *registers.table(0)
+    *registers.settings(0)
 }
 
 fn started(alloc: Global) -> Result<Switch, NoMemory> {
-    Switch::placed(alloc, 16, &[table(); LINKS])
+    Switch::placed(alloc, 16, &[settings(); LINKS])
 }
 
 /// Does an action, of which `ready` has to foretell the answer.
@@ -47,6 +46,11 @@ fn seen(rt: &impl Abort, switch: &Switch, link: usize) -> LinkView {
     switch.view(link).expect(rt, "a link below 32")
 }
 
+/// The output whose claim an input holds.
+fn held(switch: &Switch, input: usize) -> Option<usize> {
+    Some(switch.claim_held(input)?.output())
+}
+
 /// A switch that isn't started takes tokens in and out, but grants nothing and moves none inside.
 #[test]
 fn before_the_start(rt: HostRuntime) -> Result<(), Fail> {
@@ -66,6 +70,7 @@ fn before_the_start(rt: HostRuntime) -> Result<(), Fail> {
     all_done(&rt, &mut switch, &[Action::CreditIn(0)]);
     assert_eq!(rt; seen(&rt, &switch, 0).credit, 8);
     assert!(rt; switch.view(32).is_none());
+    switch.retire();
     Ok(())
 }
 
@@ -87,6 +92,7 @@ fn links_of_32_or_more(rt: HostRuntime) -> Result<(), Fail> {
             ],
         );
     }
+    switch.retire();
     Ok(())
 }
 
@@ -164,6 +170,72 @@ fn one_packet(rt: HostRuntime) -> Result<(), Fail> {
     }
     none_ready(&rt, &mut switch, &[Action::Leave(1)]);
     assert_eq!(rt; seen(&rt, &switch, 1).credit, 4);
+    switch.retire();
+    Ok(())
+}
+
+/// An input holds the claim of its output from the claim until the terminator has passed, and only
+/// so long does the crossbar count the output as taken.
+#[test]
+fn a_claim_until_the_terminator(rt: HostRuntime) -> Result<(), Fail> {
+    let mut switch = started(rt.alloc())?;
+    all_done(
+        &rt,
+        &mut switch,
+        &[
+            Action::CreditOut(0),
+            Action::Enter(0, Token::Byte(1)),
+            Action::Enter(0, Token::Byte(0xaa)),
+            Action::Enter(0, Token::Eop),
+            Action::Input(0, 0),
+        ],
+    );
+    for (action, claim) in [
+        (Action::Claim(0, 1), None),
+        (Action::Input(0, 0), Some(1)),
+        (Action::Input(0, 0), Some(1)),
+    ] {
+        assert_eq!(rt; held(&switch, 0), claim, "before {action:?}");
+        assert_eq!(rt;
+            switch.crossbar().free(1),
+            claim.is_none(),
+            "before {action:?}"
+        );
+        assert!(rt; switch.crossbar().free(0), "before {action:?}");
+        all_done(&rt, &mut switch, &[action]);
+    }
+    assert_eq!(rt; held(&switch, 0), None);
+    assert!(rt; switch.crossbar().free(1));
+    assert_eq!(rt; held(&switch, LINKS), None);
+    assert!(rt; !switch.crossbar().free(LINKS));
+    switch.retire();
+    Ok(())
+}
+
+/// A switch is retired while two packets stream through it, and one waits.
+#[test]
+fn retired_in_mid_packet(rt: HostRuntime) -> Result<(), Fail> {
+    let mut switch = started(rt.alloc())?;
+    for (input, header) in [(0, 1), (1, 0), (2, 1)] {
+        all_done(
+            &rt,
+            &mut switch,
+            &[
+                Action::CreditOut(input),
+                Action::Enter(input, Token::Byte(header)),
+                Action::Enter(input, Token::Byte(0xaa)),
+                Action::Input(input, 0),
+            ],
+        );
+    }
+    all_done(
+        &rt,
+        &mut switch,
+        &[Action::Claim(0, 1), Action::Claim(1, 0)],
+    );
+    let claims = [0, 1, 2].map(|input| held(&switch, input));
+    assert_eq!(rt; claims, [Some(1), Some(0), None]);
+    switch.retire();
     Ok(())
 }
 
@@ -200,6 +272,7 @@ fn dropped_packets(rt: HostRuntime) -> Result<(), Fail> {
     assert!(rt; matches!(seen(&rt, &switch, 0).phase, Phase::Fresh));
 
     assert_eq!(rt; (switch.peek(0x0103), switch.peek(0x0104)), (Ok(1), Ok(1)));
+    switch.retire();
     Ok(())
 }
 
@@ -236,13 +309,14 @@ fn registers(rt: HostRuntime) -> Result<(), Fail> {
     for (addr, value) in due {
         assert_eq!(rt; switch.peek(addr), value, "at {addr:04x}");
     }
+    switch.retire();
     Ok(())
 }
 
 /// Credit is granted where there is room, and no output takes a ninth token.
 #[test]
 fn bounds(rt: HostRuntime) -> Result<(), Fail> {
-    let mut switch = Switch::placed(rt.alloc(), 8, &[table(); LINKS])?;
+    let mut switch = Switch::placed(rt.alloc(), 8, &[settings(); LINKS])?;
     all_done(&rt, &mut switch, &[Action::CreditOut(0)]);
     none_ready(&rt, &mut switch, &[Action::CreditOut(0)]);
     for _ in 0..8 {
@@ -277,6 +351,7 @@ fn bounds(rt: HostRuntime) -> Result<(), Fail> {
         Reply::Token(Token::Byte(1))
     );
     all_done(&rt, &mut switch, &[Action::Input(0, 0)]);
+    switch.retire();
     Ok(())
 }
 
@@ -306,7 +381,7 @@ impl TokenKind for Placed {
 /// The same switch carries tokens that tell more.
 #[test]
 fn tokens_that_tell_their_place(rt: HostRuntime) -> Result<(), Fail> {
-    let mut switch: SwitchOf<Placed> = SwitchOf::placed(rt.alloc(), 16, &[table(); LINKS])?;
+    let mut switch: SwitchOf<Placed> = SwitchOf::placed(rt.alloc(), 16, &[settings(); LINKS])?;
     assert!(rt; switch.credit_out(0) && switch.credit_in(1));
     let packet = [Token::Byte(1), Token::Byte(0xaa), Token::Eop];
     for (place, token) in packet.iter().enumerate() {
@@ -323,5 +398,6 @@ fn tokens_that_tell_their_place(rt: HostRuntime) -> Result<(), Fail> {
             })
         );
     }
+    switch.retire();
     Ok(())
 }

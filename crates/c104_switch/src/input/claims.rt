@@ -1,0 +1,75 @@
+//! An input's claim of an output.
+ghost use Rattle.std.specs.Prelude.{◌≡◌, ◌<◌, ◌∷◌, ◌++◌, Bool, List, Some, None, is_some, is_none};
+ghost use Rattle.c104_crossbar.specs.Marks.{list_of};
+ghost use Rattle.c104_link.specs.Buffers.{Outgoing};
+ghost use Rattle.c104_link.specs.Steps.{tried};
+ghost use Rattle.c104_switch.specs.Switch.{Input};
+ghost use Rattle.c104_switch.specs.Claims.{claimed};
+ghost use Rattle.c104_switch.specs.Holding.{held_by};
+
+use super::{InputOf, Stage};
+use crate::group::is_in_group;
+use crate::outputs::OutputsOf;
+use c104_crossbar::Claim;
+use c104_regs::Registers;
+use c104_token::TokenKind;
+use std::mem;
+
+impl<T: TokenKind> InputOf<T> {
+    /// Gives the header to the claimed output, if it is one of the group that the input wants, and
+    /// streams to it from now on. Where that can't be, the claim comes back and nothing changes.
+    pub fn claim(
+        &mut self,
+        registers: &Registers,
+        claim: Claim,
+        outputs: &mut OutputsOf<T>,
+    ) -> Option<Claim>
+        ensures claimed { ◌≡◌ {A = Bool × (Input T × List (Outgoing T))} (is_none result, (self.new, outputs.new)) (tried {S = Input T × List (Outgoing T)} (claimed registers.now.settings self.old outputs.old claim self.old.phase) (self.old, outputs.old)) }
+        ensures claims { list_of result ++ held_by self.new.phase ≡ claim ∷ held_by self.old.phase }
+    {
+        let Stage::Want(link) = self.stage else {
+            return Some(claim);
+        };
+        let output = claim.output();
+        if !is_in_group(registers, link, output) {
+            return Some(claim);
+        }
+        let Some(own) = registers.all_settings().get(output) else {
+            return Some(claim);
+        };
+        if !outputs.put_header(output, own, self.header.as_slice()) {
+            return Some(claim);
+        }
+        fill(&mut self.claim, claim);
+        self.stage = Stage::Stream(output);
+        None
+    }
+
+    /// Whether `claim` would claim this output.
+    pub fn can_claim(&self, registers: &Registers, output: usize, outputs: &OutputsOf<T>) -> bool
+        requires { output < 32 }
+        ensures { result ≡ is_some (claimed registers.now.settings self.now outputs.now output self.now.phase) }
+    {
+        let Stage::Want(link) = self.stage else {
+            return false;
+        };
+        if !is_in_group(registers, link, output) {
+            return false;
+        }
+        match registers.all_settings().get(output) {
+            Some(own) => outputs.can_put_header(output, own, self.header.as_slice()),
+            None => false,
+        }
+    }
+}
+
+/// Puts a claim into a slot that is empty.
+fn fill(slot: &mut Option<Claim>, claim: Claim)
+    requires { slot.old ≡ None }
+    ensures { slot.new ≡ Some claim }
+{
+    match mem::replace(slot, Some(claim)) {
+        None => (),
+        Some(_old) => unreachable!(),
+    }
+}

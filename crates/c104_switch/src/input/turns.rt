@@ -1,0 +1,185 @@
+//! What an input does with its first token.
+ghost use Rattle.std.specs.Prelude.{◌≡◌, ◌++◌, Bool, ℕ, true, false, if◌then◌else◌, List, None, is_some};
+ghost use Rattle.c104_token.specs.Tokens.{is_end};
+ghost use Rattle.c104_link.specs.Buffers.{Outgoing};
+ghost use Rattle.c104_link.specs.Steps.{tried};
+ghost use Rattle.c104_regs.specs.declared.settings.Settings.{Settings as TheSettings};
+ghost use Rattle.c104_switch.specs.Switch.{Input, Fresh, counted};
+ghost use Rattle.c104_switch.specs.Headers.{read, random_header};
+ghost use Rattle.c104_switch.specs.Turns.{turn, on_header, on_random, used, goes_on, after};
+ghost use Rattle.c104_switch.specs.Holding.{held_by, was_done, spent};
+ghost use Rattle.c104_switch.specs.Stages.{phase_of, claim_of, HasRoom, IsReading, IsSinking, IsStreaming, tokens_read};
+
+use super::{InputOf, Stage};
+use crate::header::HeaderOf;
+use crate::outputs::OutputsOf;
+use c104_crossbar::Claim;
+use c104_interval::Select;
+use c104_regs::Settings;
+use c104_token::{Token, TokenKind};
+
+/// What came of a turn.
+pub enum Turn {
+    /// Nothing: it wasn't ready.
+    NotReady,
+    /// It is done.
+    Done,
+    /// It is done, and the packet's terminator gave its claim back.
+    Freed(Claim),
+}
+
+impl<T: TokenKind> InputOf<T> {
+    /// What the input does with its first token. It isn't ready, and nothing changes, where it has
+    /// none, waits for an output, or streams to one that is full.
+    pub fn turn(&mut self, settings: &Settings, word: u32, outputs: &mut OutputsOf<T>) -> Turn
+        ensures turned { ◌≡◌ {A = Bool × (Input T × List (Outgoing T))} (was_done result, (self.new, outputs.new)) (tried {S = Input T × List (Outgoing T)} (turn T.kind settings.now word self.old outputs.old) (self.old, outputs.old)) }
+        ensures claims { held_by self.old.phase ≡ spent result ++ held_by self.new.phase }
+    {
+        let Some(token) = self.buffer.first() else {
+            return Turn::NotReady;
+        };
+        let ends = is_end(token.plain());
+        match self.stage {
+            Stage::Fresh if settings.randomize && !ends => self.read_random(settings, word),
+            Stage::Fresh => self.read_token(settings, token),
+            Stage::Head => self.read_token(settings, token),
+            Stage::Want(_) => return Turn::NotReady,
+            Stage::Stream(output) => {
+                if !outputs.put(output, token) {
+                    return Turn::NotReady;
+                }
+                return self.stream(ends);
+            }
+            Stage::Sinking => self.sink(ends),
+        }
+        Turn::Done
+    }
+
+    /// Whether `turn` would do something, which no setting and no word decides.
+    pub fn can_turn(&self, outputs: &OutputsOf<T>) -> bool
+        ensures { (settings : TheSettings) (word : ℕ) → result ≡ is_some (turn T.kind settings word self.now outputs.now) }
+    {
+        if self.buffer.first().is_none() {
+            return false;
+        }
+        match self.stage {
+            Stage::Fresh | Stage::Head | Stage::Sinking => true,
+            Stage::Want(_) => false,
+            Stage::Stream(output) => outputs.can_put(output),
+        }
+    }
+
+    /// Uses the first token of a packet that is dropped. A terminator ends it.
+    fn sink(&mut self, ends: bool)
+        requires { IsSinking self.old.phase }
+        ensures { self.new ≡ used self.old (if ends then Fresh else self.old.phase) false false }
+    {
+        self.buffer.take();
+        if ends {
+            self.stage = Stage::Fresh;
+        }
+    }
+
+    /// Uses the first token of a packet that streams. A terminator ends it and gives the claim back.
+    fn stream(&mut self, ends: bool) -> Turn
+        requires { IsStreaming self.old.phase }
+        ensures used { self.new ≡ used self.old (if ends then Fresh else self.old.phase) false false }
+        ensures done { was_done result ≡ true }
+        ensures claims { held_by self.old.phase ≡ spent result ++ held_by self.new.phase }
+    {
+        self.buffer.take();
+        if !ends {
+            return Turn::Done;
+        }
+        self.stage = Stage::Fresh;
+        let Some(claim) = self.claim.take() else {
+            unreachable!();
+        };
+        Turn::Freed(claim)
+    }
+
+    /// Reads the first token of a header, or one more.
+    fn read_token(&mut self, settings: &Settings, token: T)
+        requires { IsReading self.old.phase }
+        ensures { self.new ≡ on_header T.kind settings.now self.old (tokens_read self.old.phase) token }
+    {
+        self.buffer.take();
+        if is_end(token.plain()) {
+            self.stage = Stage::Fresh;
+            self.short = counted(self.short, true);
+            return;
+        }
+        if let Stage::Fresh = self.stage {
+            self.header.clear();
+        }
+        self.header.push(token);
+        let (stage, sinks) = read(settings, &mut self.header);
+        self.stage = stage;
+        self.sunk = counted(self.sunk, sinks);
+    }
+
+    /// Puts a random header before the packet, and uses no token.
+    fn read_random(&mut self, settings: &Settings, word: u32)
+        requires { IsReading self.old.phase }
+        ensures { self.new ≡ on_random T.kind settings.now word self.old }
+    {
+        put_random(settings, word, &mut self.header);
+        let (stage, sinks) = read(settings, &mut self.header);
+        self.stage = stage;
+        self.sunk = counted(self.sunk, sinks);
+    }
+}
+
+/// One more, where there is one more; a count stays at its largest value.
+fn counted(count: u32, more: bool) -> u32
+    ensures { result ≡ counted count more }
+{
+    if more { count.saturating_add(1) } else { count }
+}
+
+/// Where an input is after these tokens of a header, and whether it drops the packet.
+fn read<T: TokenKind>(settings: &Settings, header: &mut HeaderOf<T>) -> (Stage, bool)
+    ensures stage { phase_of result.0 header.new ≡ (read T.kind settings.now header.old).0 }
+    ensures sinks { result.1 ≡ (read T.kind settings.now header.old).1 }
+    ensures room { HasRoom result.0 header.new }
+    ensures unclaimed { claim_of result.0 ≡ None }
+{
+    if header.len() < settings.header_length() {
+        return (Stage::Head, false);
+    }
+    match settings.table.select(header.value()) {
+        Select::Link(link) => (Stage::Want(link), false),
+        Select::Discard => {
+            header.clear();
+            (Stage::Head, false)
+        }
+        Select::Sink => (Stage::Sinking, true),
+    }
+}
+
+/// Whether a token ends a packet.
+fn is_end(token: Token) -> bool
+    ensures { result ≡ is_end token }
+{
+    match token {
+        Token::Byte(_) => false,
+        Token::Eop | Token::Eom => true,
+    }
+}
+
+/// The random header that a word gives.
+fn put_random<T: TokenKind>(settings: &Settings, word: u32, header: &mut HeaderOf<T>)
+    ensures { header.new ≡ random_header T.kind settings.now word }
+{
+    let past = if settings.random_range == 0 {
+        0
+    } else {
+        word % settings.random_range
+    };
+    let number = u64::from(settings.random_base) + u64::from(past);
+    header.clear();
+    header.push(T::random(0, Token::Byte((number % 256) as u8)));
+    if settings.two_byte {
+        header.push(T::random(1, Token::Byte((number / 256 % 256) as u8)));
+    }
+}
