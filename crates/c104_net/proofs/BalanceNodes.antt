@@ -1,5 +1,5 @@
 -- What each step of one node does to the credit and what is granted at its links.
-use Rattle.std.proofs.Common.{◌≡◌, ◌&&◌, ◌++◌, ◌∷◌, not, ℕ, List, [], Option, Some, slice_get, slice_set, refl, ap, subst}
+use Rattle.std.proofs.Common.{◌≡◌, ◌∙◌, ◌++◌, ◌∷◌, not, ℕ, List, [], Option, Some, slice_get, slice_set, refl, ap, subst}
 use Rattle.c104_token.specs.declared.packets.Packet.{Packet}
 use Rattle.c104_token.specs.Kinds.{Kind}
 use Rattle.c104_link.specs.Steps.{◌>>=◌, at_place, from_place, with_place}
@@ -20,7 +20,7 @@ module _ {A : Type 0} where
   -- a switch of which the credit of one output changes
   switch_credit : (change : ℕ → ℕ) (s : switch.Switch A) (l : ℕ) (q r : Outgoing A) → slice_get s.outputs l ≡ Some q → r.credit ≡ change q.credit → Acts granted_of credit_of change l (Switch s) (Switch (switch.with_outputs s (slice_set s.outputs l r)))
   switch_credit change s l q r is new = record {
-    in_place = λ h. h;
+    in_place = refl;
     keeps = λ k. refl;
     here = seen_changed s.outputs l q r is credit_seen change (ap Some new);
     elsewhere = λ h k other. seen_other s.outputs l k r credit_seen other;
@@ -29,7 +29,7 @@ module _ {A : Type 0} where
   -- a switch of which one input grants another number
   switch_granted : (change : ℕ → ℕ) (s : switch.Switch A) (l : ℕ) (p r : switch.Input A) → slice_get s.inputs l ≡ Some p → r.buffer.granted ≡ change p.buffer.granted → Acts credit_of granted_of change l (Switch s) (Switch (switch.with_inputs s (slice_set s.inputs l r)))
   switch_granted change s l p r is new = record {
-    in_place = λ h. h;
+    in_place = refl;
     keeps = λ k. refl;
     here = seen_changed s.inputs l p r is granted_seen change (ap Some new);
     elsewhere = λ h k other. seen_other s.inputs l k r granted_seen other;
@@ -38,19 +38,19 @@ module _ {A : Type 0} where
   -- a terminal whose credit changes
   terminal_credit : (change : ℕ → ℕ) (t : terminal.Terminal A) (l : ℕ) (r : Outgoing A) → r.credit ≡ change t.output.credit → Acts granted_of credit_of change l (Terminal t) (Terminal (terminal.with_output t r))
   terminal_credit change t l r new = record {
-    in_place = λ h. h;
+    in_place = refl;
     keeps = λ k. refl;
     here = ap Some new;
-    elsewhere = λ h k other. absurd h;
+    elsewhere = λ h k other. cc;
   }
 
   -- a terminal that grants another number
   terminal_granted : (change : ℕ → ℕ) (t : terminal.Terminal A) (l : ℕ) (r : Incoming A) → r.granted ≡ change t.input.granted → Acts credit_of granted_of change l (Terminal t) (Terminal (terminal.with_input t r))
   terminal_granted change t l r new = record {
-    in_place = λ h. h;
+    in_place = refl;
     keeps = λ k. refl;
     here = ap Some new;
-    elsewhere = λ h k other. absurd h;
+    elsewhere = λ h k other. cc;
   }
 
   -- a token goes out
@@ -105,7 +105,7 @@ module _ {A : Type 0} where
       let two : ◌≡◌ {A = Node A} (Switch s') m = cc in
       let kept : KeepsSides p s.outputs y.0 y.1 = keeps p y made in
       let rests : Rests (Switch s) (Switch (switch.with_sides s (slice_set s.inputs i y.0, y.1))) = record {
-        in_place = λ h. h;
+        in_place = refl;
         credit = kept.credit;
         granted = seen_kept s.inputs i p y.0 here granted_seen (ap Some kept.granted);
       } in
@@ -119,8 +119,8 @@ module _ {A : Type 0} where
 
   -- an input claims an output
   pub claim_rests : (i o : ℕ) (n m : Node A) → claim i o n ≡ Some m → Rests n m
-  claim_rests i o (Switch s) m is = given (claims.claim s i o) _ m is (λ s' made last. required (s.started && not (switch.is_owned s.inputs o)) _ s' made (λ may more.
-      sides_rest s i (λ p. claims.claimed s.settings p s.outputs o p.phase) s' m more last (λ p. claimed_keeps s.settings p s.outputs o p.phase)))
+  claim_rests i o (Switch s) m is = given (claims.claim s i o) _ m is (λ s' made last. required s.started _ s' made (λ on more. given (claims.claimed_at s.settings s.inputs s.outputs i o) _ s' more (λ w at rest. required (not (switch.is_owned s.inputs o)) _ w at (λ free step.
+      sides_rest s i (λ p. claims.claimed s.settings p s.outputs o p.phase) s' m (ap (λ made. made >>= (λ r. Some (switch.with_sides s r))) step ∙ rest) last (λ p. claimed_keeps s.settings p s.outputs o p.phase)))))
   claim_rests i o (Terminal t) m is = cc
 
   -- a terminal sends a packet
@@ -128,7 +128,7 @@ module _ {A : Type 0} where
   send_rests kind number packet (Switch s) m is = cc
   send_rests kind number packet (Terminal t) m is =
       let one : ◌≡◌ {A = Node A} (Terminal (terminal.send kind number packet t)) m = cc in
-      subst (Rests (Terminal t)) one (record { in_place = λ h. h; credit = λ k. refl; granted = λ k. refl })
+      subst (Rests (Terminal t)) one (record { in_place = refl; credit = λ k. refl; granted = λ k. refl })
 
   -- a token arrives at a terminal
   pub drain_rests : (n : Node A) (r : A × Node A) → drain n ≡ Some r → Rests n r.1
@@ -137,4 +137,4 @@ module _ {A : Type 0} where
       let arrived : terminal.Terminal A = record t { input = buffer.without_first t.input; arrived = t.arrived ++ x ∷ [] } in
       let one : ◌≡◌ {A = A × terminal.Terminal A} (x, arrived) v = cc in
       let two : ◌≡◌ {A = A × Node A} (v.0, Terminal v.1) r = cc in
-      subst (λ (r : A × Node A). Rests (Terminal t) r.1) two (subst (λ (v : A × terminal.Terminal A). Rests (Terminal t) (Terminal v.1)) one (record { in_place = λ h. h; credit = λ k. refl; granted = λ k. refl }))))
+      subst (λ (r : A × Node A). Rests (Terminal t) r.1) two (subst (λ (v : A × terminal.Terminal A). Rests (Terminal t) (Terminal v.1)) one (record { in_place = refl; credit = λ k. refl; granted = λ k. refl }))))

@@ -12,7 +12,7 @@ use Rattle.c104_net.specs.Wiring.{peer, end_of}
 use Rattle.c104_net.specs.Network.{Network}
 use Rattle.c104_net.specs.Balance.{credit_of, granted_of, AreLevel, IsSteady}
 use Rattle.c104_net.proofs.BalanceWires.{port_cases, peer_back, peer_one, ends_apart}
-use Rattle.c104_net.proofs.BalancePlaces.{changed, lower, raise, ActsAt, Rests, acts_at, seen_kept, still_in_place}
+use Rattle.c104_net.proofs.BalancePlaces.{changed, lower, raise, ActsAt, Rests, acts_at, seen_kept, still_in_place, switches_first}
 use Rattle.c104_net.proofs.BalanceNodes.{leave_acts, enter_acts, credit_out_acts, credit_in_acts}
 
 -- a network of this plan
@@ -23,7 +23,7 @@ module _ {A : Type 0} (plan : Plan) where
   -- a step of one node that keeps both numbers
   rest_steady : (nodes : List (Node A)) (i : ℕ) (n m : Node A) → slice_get nodes i ≡ Some n → Rests n m → IsSteady (network_of plan nodes) → IsSteady (network_of plan (slice_set nodes i m))
   rest_steady nodes i n m is rests steady = record {
-    in_place = still_in_place nodes i n m is (length plan.switches) rests.in_place steady.in_place;
+    in_place = still_in_place nodes i n m is rests.in_place ∙ steady.in_place;
     balanced = λ p q wired.
         let from : End = end_of plan p in
         let to : End = end_of plan q in
@@ -54,7 +54,7 @@ module _ {A : Type 0} (plan : Plan) where
 
     -- the credit changes at one end, and then what is granted at the other
     credit_then_granted : ActsAt granted_of credit_of change count near nodes mid → ActsAt credit_of granted_of change count far mid after → IsSteady (network_of plan nodes) → IsSteady (network_of plan after)
-    credit_then_granted first second steady = record { in_place = second.in_place (first.in_place steady.in_place); balanced = by_port }
+    credit_then_granted first second steady = record { in_place = second.in_place ∙ first.in_place ∙ steady.in_place; balanced = by_port }
       where
         by_port : (p' q' : Port) → peer plan p' ≡ Some q' → AreLevel after (end_of plan p') (end_of plan q')
         by_port p' q' wired' =
@@ -73,14 +73,14 @@ module _ {A : Type 0} (plan : Plan) where
                   let differs_far : q ≢ q' = λ one. differs (peer_one plan is_plan p p' q wired (wired' ∙ ap Some (sym one))) in
                   let was : AreLevel nodes (end_of plan p') (end_of plan q') = steady.balanced p' q' wired' in (
                     was.0,
-                    second.keeps (end_of plan p') ∙ first.elsewhere steady.in_place (end_of plan p') (ends_apart plan is_plan p q p' q' wired wired' differs) ∙ was.1,
-                    second.elsewhere (first.in_place steady.in_place) (end_of plan q') (ends_apart plan is_plan q p q' p' (peer_back plan is_plan p q wired) (peer_back plan is_plan p' q' wired') differs_far) ∙ first.keeps (end_of plan q') ∙ was.2,
+                    second.keeps (end_of plan p') ∙ first.elsewhere (switches_first plan nodes steady.in_place) (end_of plan p') (ends_apart plan is_plan p q p' q' wired wired' differs) ∙ was.1,
+                    second.elsewhere (switches_first plan mid (first.in_place ∙ steady.in_place)) (end_of plan q') (ends_apart plan is_plan q p q' p' (peer_back plan is_plan p q wired) (peer_back plan is_plan p' q' wired') differs_far) ∙ first.keeps (end_of plan q') ∙ was.2,
                   )
             ]
 
     -- what is granted changes at one end, and then the credit at the other
     granted_then_credit : ActsAt credit_of granted_of change count near nodes mid → ActsAt granted_of credit_of change count far mid after → IsSteady (network_of plan nodes) → IsSteady (network_of plan after)
-    granted_then_credit first second steady = record { in_place = second.in_place (first.in_place steady.in_place); balanced = by_port }
+    granted_then_credit first second steady = record { in_place = second.in_place ∙ first.in_place ∙ steady.in_place; balanced = by_port }
       where
         back : peer plan q ≡ Some p
         back = peer_back plan is_plan p q wired
@@ -102,8 +102,8 @@ module _ {A : Type 0} (plan : Plan) where
                   let differs_near : p ≢ p' = λ one. differs (peer_one plan is_plan q q' p back (wired' ∙ ap Some (sym one))) in
                   let was : AreLevel nodes (end_of plan q') (end_of plan p') = steady.balanced q' p' wired' in (
                     was.0,
-                    second.elsewhere (first.in_place steady.in_place) (end_of plan q') (ends_apart plan is_plan q p q' p' back wired' differs) ∙ first.keeps (end_of plan q') ∙ was.1,
-                    second.keeps (end_of plan p') ∙ first.elsewhere steady.in_place (end_of plan p') (ends_apart plan is_plan p q p' q' wired (peer_back plan is_plan q' p' wired') differs_near) ∙ was.2,
+                    second.elsewhere (switches_first plan mid (first.in_place ∙ steady.in_place)) (end_of plan q') (ends_apart plan is_plan q p q' p' back wired' differs) ∙ first.keeps (end_of plan q') ∙ was.1,
+                    second.keeps (end_of plan p') ∙ first.elsewhere (switches_first plan nodes steady.in_place) (end_of plan p') (ends_apart plan is_plan p q p' q' wired (peer_back plan is_plan q' p' wired') differs_near) ∙ was.2,
                   )
             ]
 

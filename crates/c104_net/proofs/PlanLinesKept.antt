@@ -1,5 +1,5 @@
 -- A plan that was read is one: each line keeps what its type does.
-use Rattle.std.proofs.Common.{◌≡◌, ℕ, ◌+◌, ◌<◌, ◌≤◌, ◌&&◌, Bool, true, false, not, List, [], ◌∷◌, ◌++◌, length, take, drop, nat_le, nat_lt, bytes_eq, codes, if◌then◌else◌, Option, Some, None, Result, Ok, Err, subst, refl, arith, lit≤}
+use Rattle.std.proofs.Common.{◌≡◌, ℕ, ◌+◌, ◌<◌, ◌≤◌, ◌==◌, ◌&&◌, Bool, true, false, not, List, [], ◌∷◌, ◌++◌, length, take, drop, nat_le, nat_lt, bytes_eq, codes, if◌then◌else◌, Option, Some, None, Result, Ok, Err, subst, refl, arith, lit≤}
 use Rattle.std.proofs.lemmas.List.Elements.{All-nil}
 use Rattle.std.proofs.lemmas.Bool.{not-true, ltb-true}
 use Rattle.std.proofs.lemmas.Bool.Decides.{nat_tests}
@@ -10,14 +10,14 @@ use Rattle.c104_net.specs.declared.plan.text.Dots.{Dots}
 use Rattle.c104_net.specs.declared.plan.text.Dots.TheVariants.{Without, At, Several}
 use Rattle.c104_net.specs.declared.plan.words.Keyword.{Keyword}
 use Rattle.c104_net.specs.declared.plan.words.Keyword.TheVariants as keyword
-use Rattle.c104_net.specs.declared.plan.faults.PlanFaultKind.TheVariants.{BadName, BadNumber, BadShape, LinkTaken, NameTaken, TooMany, UnknownName, UnknownWord}
+use Rattle.c104_net.specs.declared.plan.faults.PlanFaultKind.TheVariants.{BadName, BadNumber, BadShape, LinkTaken, NameTaken, TooMany, Twice, UnknownName, UnknownWord}
 use Rattle.c104_net.specs.TextCut.{plain, uncommented, words}
 use Rattle.c104_net.specs.TextWords.{number, is_name, dots}
 use Rattle.c104_net.specs.PlanFaults.{PlanFault, PlanFaultKind}
-use Rattle.c104_net.specs.Plans.{Plan, Terminal, PlanRow, IsPlan, IsSelectable, switch_number, is_taken, is_linked, rows_of, most_switches, most_terminals, most_rows}
-use Rattle.c104_net.specs.PlanLines.{◌>>=◌, ◌>>◌, require, wanted, number_to, select_word, port_at, port_word, switch_line, terminal_line, row_line, keyword_of, keyword_line, words_line, read_line}
+use Rattle.c104_net.specs.Plans.{Plan, PlanPort, PlanRow, Terminal, IsPlan, IsSelectable, switch_number, terminal_number, is_taken, is_linked, is_continued, is_deleted, rows_of, most_switches, most_terminals, most_rows}
+use Rattle.c104_net.specs.PlanLines.{◌>>=◌, ◌>>◌, require, wanted, number_to, select_word, port_at, port_word, switch_line, terminal_line, continue_line, delete_line, row_line, keyword_of, keyword_line, words_line, read_line}
 use Rattle.c104_net.specs.PlanText.{after, empty_plan, read_lines}
-use Rattle.c104_net.proofs.PlanKept.{with_switch, with_terminal, with_row}
+use Rattle.c104_net.proofs.PlanKept.{with_switch, with_terminal, with_continue, with_delete, with_row}
 
 -- what was read, where all was
 given : {X Y : Type 0} (r : Result X PlanFaultKind) (f : X → Result Y PlanFaultKind) (y : Y) (P : Type 0) → (r >>= f) ≡ Ok y → ((x : X) → r ≡ Ok x → f x ≡ Ok y → P) → P
@@ -67,6 +67,13 @@ switch_number-inside : (plan : Plan) (name : List ℕ) (switch : ℕ) → switch
 unfolding switch_number
 switch_number-inside plan name switch is = (position-Some (λ other. bytes_eq other name) plan.switches switch [] is).0
 
+terminal_number-inside : (plan : Plan) (name : List ℕ) (terminal : ℕ) → terminal_number plan name ≡ Some terminal → terminal < length plan.terminals
+unfolding terminal_number
+terminal_number-inside plan name terminal is = (position-Some (λ (t : Terminal). bytes_eq t.name name) plan.terminals terminal no_terminal is).0
+  where
+    no_terminal : Terminal
+    no_terminal = record { name = []; switch = 0; link = 0; first = 0; count = 0 }
+
 module _ (plan next : Plan) (kept : IsPlan plan) where
   switch_line-kept : (name : List ℕ) → switch_line plan name ≡ Ok next → IsPlan next
   switch_line-kept name is =
@@ -88,6 +95,25 @@ module _ (plan next : Plan) (kept : IsPlan plan) where
       let made : record plan { terminals = plan.terminals ++ t ∷ [] } ≡ next = cc in
       subst IsPlan made (with_terminal plan kept t (both-first _ _ named) (not-true _ free) (switch_number-inside plan port.0 switch (found _ UnknownName switch known)) (port_at-small word (dots word) port was) (not-true _ unlinked) (ltb-true _ _ room) refl refl)))))))
 
+  continue_line-kept : (word : List ℕ) → continue_line plan word ≡ Ok next → IsPlan next
+  continue_line-kept word is =
+      given (port_word word) _ next (IsPlan next) is (λ port was is1.
+      held (not (port.1 == 0)) BadNumber _ next (IsPlan next) is1 (λ above is2.
+      held (is_name port.0) BadName _ next (IsPlan next) is2 (λ named is3.
+      given (wanted (switch_number plan port.0) UnknownName) _ next (IsPlan next) is3 (λ switch known is4.
+      held (not (is_continued plan switch port.1)) Twice _ next (IsPlan next) is4 (λ once is5.
+      let p : PlanPort = record { switch = switch; link = port.1 } in
+      let made : record plan { continues = plan.continues ++ p ∷ [] } ≡ next = cc in
+      subst IsPlan made (with_continue plan kept p (switch_number-inside plan port.0 switch (found _ UnknownName switch known)) (port_at-small word (dots word) port was) (grind (arith, nat_tests)) (not-true _ once)))))))
+
+  delete_line-kept : (name : List ℕ) → delete_line plan name ≡ Ok next → IsPlan next
+  delete_line-kept name is =
+      held (is_name name) BadName _ next (IsPlan next) is (λ named is1.
+      given (wanted (terminal_number plan name) UnknownName) _ next (IsPlan next) is1 (λ terminal known is2.
+      held (not (is_deleted plan terminal)) Twice _ next (IsPlan next) is2 (λ once is3.
+      let made : record plan { deletes = plan.deletes ++ terminal ∷ [] } ≡ next = cc in
+      subst IsPlan made (with_delete plan kept terminal (terminal_number-inside plan name terminal (found _ UnknownName terminal known)) (not-true _ once)))))
+
   row_line-kept : (word limit select : List ℕ) → row_line plan word limit select ≡ Ok next → IsPlan next
   row_line-kept word most selected is =
       given (port_word word) _ next (IsPlan next) is (λ port was is1.
@@ -108,6 +134,12 @@ module _ (plan next : Plan) (kept : IsPlan plan) where
   keyword_line-kept keyword.Terminal (a ∷ []) is = cc
   keyword_line-kept keyword.Terminal (name ∷ port ∷ []) is = terminal_line-kept name port is
   keyword_line-kept keyword.Terminal (a ∷ b ∷ c ∷ more) is = cc
+  keyword_line-kept keyword.Continue [] is = cc
+  keyword_line-kept keyword.Continue (port ∷ []) is = continue_line-kept port is
+  keyword_line-kept keyword.Continue (a ∷ b ∷ more) is = cc
+  keyword_line-kept keyword.Delete [] is = cc
+  keyword_line-kept keyword.Delete (name ∷ []) is = delete_line-kept name is
+  keyword_line-kept keyword.Delete (a ∷ b ∷ more) is = cc
   keyword_line-kept keyword.Row [] is = cc
   keyword_line-kept keyword.Row (a ∷ []) is = cc
   keyword_line-kept keyword.Row (a ∷ b ∷ []) is = cc
@@ -144,6 +176,10 @@ empty-kept = record {
   ports = All-nil _;
   links_differ = λ i j d below inside. absurd (omega arith);
   ranges = All-nil _;
+  continues_are = All-nil _;
+  continues_differ = λ i j d below inside. absurd (omega arith);
+  deletes_are = All-nil _;
+  deletes_differ = λ i j d below inside. absurd (omega arith);
   inputs = All-nil _;
   rows_are = All-nil _;
 }

@@ -2,10 +2,8 @@
 use Rattle.std.proofs.Common.{◌≡◌, ℕ, suc, ◌+◌, ◌-◌, ◌<◌, ◌≤◌, Bool, true, false, cond, List, [], ◌∷◌, ◌++◌, length, map, filter, take, set, get_or, replicate, All, inl, inr, subst, sym, ◌∙◌, ap, arith, append_assoc, append-nil, length-append}
 use Rattle.std.proofs.Math.Seq.{set-append_seam}
 use Rattle.std.proofs.lemmas.List.{get_or_past, length-map, length-replicate, map-append, take_all}
-use Rattle.std.proofs.lemmas.List.Elements.{All-append, All-filter, All-map, All-replicate, All-same, All-weaker, filter_more}
+use Rattle.std.proofs.lemmas.List.Elements.{All-append, All-filter, All-map, All-replicate, All-weaker, filter_more}
 use Rattle.std.proofs.lemmas.Bool.{cases_lt}
-use Rattle.std.proofs.lemmas.List.FromFn.{length-map-range_with_len, map-range_with_len_more}
-use Rattle.std.specs.List.{range_with_len}
 use Rattle.std.proofs.lemmas.List.Sums.{length-filter, sum_by-take-le}
 use Rattle.c104_regs.specs.Ranges as regs
 use Rattle.c104_regs.specs.Ranges.{IsTableInRange}
@@ -15,7 +13,7 @@ use Rattle.c104_interval.specs.declared.intervals.Row.{Row}
 use Rattle.c104_interval.specs.declared.intervals.Table.{Table}
 use Rattle.c104_interval.specs.Selection.{reset_row}
 use Rattle.c104_net.specs.Plans.{IsPlan, IsSelectable, Plan, PlanRow, is_row_of, rows_of}
-use Rattle.c104_net.specs.PlanImage.{AreTables, filled, range_of, table_of, table_row, tables_of, Fits, Image}
+use Rattle.c104_net.specs.PlanImage.{filled, table_of, table_row}
 
 -- those of the first so many rows that are of this input
 abbrev pub so_far : ℕ → ℕ → List PlanRow → ℕ → List Row
@@ -79,15 +77,6 @@ unfolding table_of rows_of
 table_last plan switch link rows i same all =
     ap (λ (some : List PlanRow). of_rows (filled (map table_row (filter (is_row_of switch link) some)))) (take_all i rows all ∙ same)
 
-pub length-tables_of : (plan : Plan) (switch : ℕ) → length (tables_of plan switch) ≡ 32
-unfolding tables_of
-length-tables_of plan switch = length-map-range_with_len (table_of plan switch) 0 32
-
--- the tables of all links, after the last
-pub tables_last : (plan : Plan) (switch links : ℕ) → links ≡ 32 → map (table_of plan switch) (range_with_len 0 links) ≡ tables_of plan switch
-unfolding tables_of
-tables_last plan switch links all = ap (λ n. map (table_of plan switch) (range_with_len 0 n)) all
-
 -- a row within the ranges of its registers
 abbrev IsRowInRange : Row → Type 0
 IsRowInRange row = (row.limit ≤ 65536) × regs.IsSelectable row.select
@@ -114,7 +103,7 @@ rows_in_range plan switch link kept =
     All-append IsRowInRange (map table_row own) (replicate (36 - length (map table_row own)) reset_row)
     (All-map IsRowInRange table_row own planned) (All-replicate IsRowInRange (36 - length (map table_row own)) reset_row (omega arith, tt))
 
-table_in_range : (plan : Plan) (switch link : ℕ) → IsPlan plan → IsTableInRange (table_of plan switch link)
+pub table_in_range : (plan : Plan) (switch link : ℕ) → IsPlan plan → IsTableInRange (table_of plan switch link)
 unfolding table_of rows_of
 table_in_range plan switch link kept =
     let rows : List Row = map table_row (rows_of plan switch link) in
@@ -126,29 +115,3 @@ table_in_range plan switch link kept =
       limits = λ k. (row_in_range (filled rows) k (rows_in_range plan switch link kept)).0;
       selects = λ k. (row_in_range (filled rows) k (rows_in_range plan switch link kept)).1;
     }
-
--- the tables of a switch are
-are_tables : (plan : Plan) (switch : ℕ) → IsPlan plan → AreTables (tables_of plan switch)
-unfolding tables_of
-are_tables plan switch kept = (
-  length-tables_of plan switch,
-  All-map IsTableInRange (table_of plan switch) (range_with_len 0 32) (λ k d inside. table_in_range plan switch (get_or (range_with_len 0 32) k d) kept),
-)
-
--- each switch has all its tables
-pub all_have_tables : (plan : Plan) (tables : List (List Table)) → IsPlan plan → tables ≡ map (tables_of plan) (range_with_len 0 (length plan.switches)) → All AreTables tables
-all_have_tables plan tables kept same =
-    All-same AreTables tables (map (tables_of plan) (range_with_len 0 (length plan.switches))) same
-    (All-map AreTables (tables_of plan) (range_with_len 0 (length plan.switches)) (λ k d inside. are_tables plan (get_or (range_with_len 0 (length plan.switches)) k d) kept))
-
--- one more value of a function
-pub made_next : {X : Type 0} (f : ℕ → X) (n : ℕ) (before after : List X) (x : X) → before ≡ map f (range_with_len 0 n) → after ≡ before ++ x ∷ [] → x ≡ f n → after ≡ map f (range_with_len 0 (n + 1))
-made_next f n before after x made pushed is =
-    pushed ∙ ap (λ xs. xs ++ x ∷ []) made ∙ ap (λ y. map f (range_with_len 0 n) ++ y ∷ []) is ∙ sym (map-range_with_len_more f 0 n n (omega arith))
-
--- such ranges and tables are as many as the plan's terminals and switches
-pub Fits-from : (plan : Plan) (image : Image) → image.ranges ≡ map range_of plan.terminals → image.tables ≡ map (tables_of plan) (range_with_len 0 (length plan.switches)) → Fits image plan
-Fits-from plan image ranges tables = record {
-  ranges = ap length ranges ∙ length-map plan.terminals range_of;
-  tables = ap length tables ∙ length-map-range_with_len (tables_of plan) 0 (length plan.switches);
-}

@@ -1,11 +1,12 @@
 -- What every network keeps: at the two ends of each wire the credit of the one is what the other has
 -- granted.
-use Rattle.std.specs.Prelude.{ℕ, ◌≡◌, ◌<◌, List, Option, Some, length, slice_get}
+use Rattle.std.specs.Prelude.{ℕ, ◌≡◌, ◌++◌, Bool, true, false, List, Option, Some, length, map, replicate, slice_get}
 use Rattle.c104_link.specs.Steps.{◌>>=◌}
 use Rattle.c104_net.specs.declared.node.NodeOf.TheVariants.{Switch, Terminal}
 use Rattle.c104_net.specs.declared.events.Port.{Port}
 use Rattle.c104_net.specs.declared.nodes.End.{End}
 use Rattle.c104_net.specs.Nodes.{Node}
+use Rattle.c104_net.specs.Plans.{Plan}
 use Rattle.c104_net.specs.Wiring.{peer, end_of}
 use Rattle.c104_net.specs.Network.{Network}
 
@@ -32,16 +33,16 @@ AreLevel nodes from to = (credit : ℕ) × (credit_at nodes from ≡ Some credit
 abbrev pub IsBalanced : {A : Type 0} → Network A → Type 0
 IsBalanced net = (p q : Port) → peer net.plan p ≡ Some q → AreLevel net.nodes (end_of net.plan p) (end_of net.plan q)
 
--- a node that is a switch
-abbrev pub IsSwitch : {A : Type 0} → Node A → Type 0
-IsSwitch (Switch s) = Unit {0}
-IsSwitch (Terminal t) = ⊥
+-- whether a node is a switch
+abbrev pub is_switch : {A : Type 0} → Node A → Bool
+is_switch (Switch s) = true
+is_switch (Terminal t) = false
 
--- the nodes at the first so many places are switches
-abbrev pub AreInPlace : {A : Type 0} → ℕ → List (Node A) → Type 0
-AreInPlace {A} count nodes = (place : ℕ) (n : Node A) → place < count → slice_get nodes place ≡ Some n → IsSwitch n
+-- the nodes are the plan's switches, and then its terminals
+abbrev pub AreInPlace : {A : Type 0} → Plan → List (Node A) → Type 0
+AreInPlace plan nodes = map is_switch nodes ≡ replicate (length plan.switches) true ++ replicate (length plan.terminals) false
 
--- what the type of a network keeps: no terminal at a switch's place, and the balance
+-- what the type of a network keeps: each node at its place, and the balance
 pub record IsSteady {A : Type 0} (net : Network A) : Type 0 where
-  pub in_place : AreInPlace (length net.plan.switches) net.nodes
+  pub in_place : AreInPlace net.plan net.nodes
   pub balanced : IsBalanced net

@@ -13,3 +13,5 @@ pub mod Wiring
 pub mod EventFaults
 pub mod Network
 pub mod Balance
+pub mod Finished
+pub mod Rounds

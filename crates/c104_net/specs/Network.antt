@@ -1,11 +1,10 @@
 -- A network: a plan, and its nodes; what each event does and answers, and a run of events.
 use Rattle.std.specs.Prelude.{ℕ, ◌+◌, ◌≡◌, ◌⊎◌, true, List, [], ◌∷◌, ◌++◌, length, map, nat_lt, nat_le, Option, Some, None, is_some, Result, Ok, Err, if◌then◌else◌, slice_get}
 use Rattle.c104_token.specs.Kinds.{Kind}
-use Rattle.c104_interval.specs.declared.intervals.Table.{Table}
 use Rattle.c104_link.specs.Steps.{◌>>=◌, at_place, from_place}
 use Rattle.c104_switch.specs.declared.actions.Reply.{Reply}
 use Rattle.c104_switch.specs.declared.actions.Reply.TheVariants as reply
-use Rattle.c104_regs.specs.Settings.{plain_settings}
+use Rattle.c104_regs.specs.declared.settings.Settings.{Settings}
 use Rattle.c104_switch.specs.Switch.{first_with}
 use Rattle.c104_net.specs.Plans.{Plan, Terminal}
 use Rattle.c104_net.specs.PlanImage.{Image}
@@ -48,16 +47,16 @@ inbox_limit = 262144
 abbrev pub buffer_size : ℕ
 buffer_size = 16
 
--- switches at first, each started with these tables, and terminals at first
-abbrev pub switch_nodes : {A : Type 0} → List (List Table) → List (Node A)
-switch_nodes switches = map (λ tables. node.Switch (first_with buffer_size (map plain_settings tables) true)) switches
+-- switches at first, each started with these settings, and terminals at first
+abbrev pub switch_nodes : {A : Type 0} → List (List Settings) → List (Node A)
+switch_nodes switches = map (λ settings. node.Switch (first_with buffer_size settings true)) switches
 
 abbrev pub terminal_nodes : {A : Type 0} → List Terminal → List (Node A)
 terminal_nodes terminals = map (λ (t : Terminal). node.Terminal (first_terminal buffer_size)) terminals
 
--- a network at first: each switch started with the image's tables, and nothing anywhere
+-- a network at first: each switch started with the image's settings, and nothing anywhere
 abbrev pub placed : {A : Type 0} → Plan → Image → Network A
-placed plan image = record { plan = plan; nodes = switch_nodes image.tables ++ terminal_nodes plan.terminals }
+placed plan image = record { plan = plan; nodes = switch_nodes image.settings ++ terminal_nodes plan.terminals }
 
 -- why an event can't happen in a network of this plan
 abbrev pub node_fault : ℕ → ℕ → Option EventFault → Option EventFault

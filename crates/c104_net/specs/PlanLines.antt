@@ -1,18 +1,18 @@
 -- The grammar of a description: what a line says after the lines before it. Of all that is wrong
 -- with a line the fault of the least number is answered, so each line's conditions stand in the
 -- order of the faults' numbers.
-use Rattle.std.specs.Prelude.{ℕ, ◌+◌, ◌&&◌, Bool, true, false, not, List, [], ◌∷◌, ◌++◌, length, take, drop, nat_le, nat_lt, bytes_eq, codes, if◌then◌else◌, Option, Some, None, Result, Ok, Err}
+use Rattle.std.specs.Prelude.{ℕ, ◌+◌, ◌==◌, ◌&&◌, Bool, true, false, not, List, [], ◌∷◌, ◌++◌, length, take, drop, nat_le, nat_lt, bytes_eq, codes, if◌then◌else◌, Option, Some, None, Result, Ok, Err}
 use Rattle.c104_interval.specs.declared.intervals.Select.{Select}
 use Rattle.c104_interval.specs.declared.intervals.Select.TheVariants.{Link, Sink}
 use Rattle.c104_net.specs.declared.plan.text.Dots.{Dots}
 use Rattle.c104_net.specs.declared.plan.text.Dots.TheVariants.{Without, At, Several}
 use Rattle.c104_net.specs.declared.plan.words.Keyword.{Keyword}
 use Rattle.c104_net.specs.declared.plan.words.Keyword.TheVariants as keyword
-use Rattle.c104_net.specs.declared.plan.faults.PlanFaultKind.TheVariants.{BadName, BadNumber, BadShape, LinkTaken, NameTaken, TooMany, UnknownName, UnknownWord}
+use Rattle.c104_net.specs.declared.plan.faults.PlanFaultKind.TheVariants.{BadName, BadNumber, BadShape, LinkTaken, NameTaken, TooMany, Twice, UnknownName, UnknownWord}
 use Rattle.c104_net.specs.TextCut.{uncommented, words, plain}
 use Rattle.c104_net.specs.TextWords.{number, is_name, dots}
 use Rattle.c104_net.specs.PlanFaults.{PlanFaultKind}
-use Rattle.c104_net.specs.Plans.{Plan, switch_number, is_taken, is_linked, rows_of, most_switches, most_terminals, most_rows}
+use Rattle.c104_net.specs.Plans.{Plan, switch_number, terminal_number, is_taken, is_linked, is_continued, is_deleted, rows_of, most_switches, most_terminals, most_rows}
 
 infixl 20 ◌>>=◌
 infixl 20 ◌>>◌
@@ -82,6 +82,24 @@ terminal_line plan name word = do
   require (nat_lt (length plan.terminals) most_terminals) TooMany
   Ok (record plan { terminals = plan.terminals ++ record { name = name; switch = switch; link = port.1; first = length plan.terminals; count = 1 } ∷ [] })
 
+-- `continue S.l`: the link, which isn't the first, continues the group of the link before it
+abbrev pub continue_line : Plan → List ℕ → Result Plan PlanFaultKind
+continue_line plan word = do
+  port ← port_word word
+  require (not (port.1 == 0)) BadNumber
+  require (is_name port.0) BadName
+  switch ← wanted (switch_number plan port.0) UnknownName
+  require (not (is_continued plan switch port.1)) Twice
+  Ok (record plan { continues = plan.continues ++ record { switch = switch; link = port.1 } ∷ [] })
+
+-- `delete T`: headers are deleted at the switch's link to that terminal
+abbrev pub delete_line : Plan → List ℕ → Result Plan PlanFaultKind
+delete_line plan name = do
+  require (is_name name) BadName
+  terminal ← wanted (terminal_number plan name) UnknownName
+  require (not (is_deleted plan terminal)) Twice
+  Ok (record plan { deletes = plan.deletes ++ terminal ∷ [] })
+
 -- `row S.l limit select`: the next row of that input
 abbrev pub row_line : Plan → List ℕ → List ℕ → List ℕ → Result Plan PlanFaultKind
 row_line plan word limit select = do
@@ -98,13 +116,17 @@ abbrev pub keyword_of : List ℕ → Option Keyword
 keyword_of word =
     if bytes_eq word (codes "switch") then Some keyword.Switch
     else (if bytes_eq word (codes "terminal") then Some keyword.Terminal
+    else (if bytes_eq word (codes "continue") then Some keyword.Continue
+    else (if bytes_eq word (codes "delete") then Some keyword.Delete
     else (if bytes_eq word (codes "row") then Some keyword.Row
-    else None))
+    else None))))
 
 -- a line, by what its first word says and the words after it
 abbrev pub keyword_line : Keyword → Plan → List (List ℕ) → Result Plan PlanFaultKind
 keyword_line keyword.Switch plan (name ∷ []) = switch_line plan name
 keyword_line keyword.Terminal plan (name ∷ port ∷ []) = terminal_line plan name port
+keyword_line keyword.Continue plan (port ∷ []) = continue_line plan port
+keyword_line keyword.Delete plan (name ∷ []) = delete_line plan name
 keyword_line keyword.Row plan (port ∷ limit ∷ select ∷ []) = row_line plan port limit select
 keyword_line keyword plan rest = Err BadShape
 

@@ -20,7 +20,7 @@ read_lines line (text ∷ more) plan = after line (read_line plan text) (λ next
 
 -- the plan of no line
 abbrev pub empty_plan : Plan
-empty_plan = record { switches = []; terminals = []; rows = [] }
+empty_plan = record { switches = []; terminals = []; continues = []; deletes = []; rows = [] }
 
 -- the most bytes of a description: 1 MiB
 abbrev pub most_bytes : ℕ

@@ -1,16 +1,21 @@
 -- Plans: the network that a description gives.
-use Rattle.std.specs.Prelude.{◌≡◌, ◌≢◌, ℕ, ◌+◌, ◌<◌, ◌≤◌, ◌==◌, ◌&&◌, Bool, List, ◌++◌, length, map, filter, position, bytes_eq, All, AllPairs, IsTrue, Option}
+use Rattle.std.specs.Prelude.{◌≡◌, ◌≢◌, ℕ, ◌+◌, ◌<◌, ◌≤◌, ◌==◌, ◌&&◌, Bool, false, List, ◌++◌, length, map, filter, position, slice_get, bytes_eq, All, AllPairs, IsTrue, Option, Some, None}
 use Rattle.std.specs.List.{list_any}
 use Rattle.c104_interval.specs.declared.intervals.Select.{Select}
 use Rattle.c104_interval.specs.declared.intervals.Select.TheVariants.{Link, Discard, Sink}
 use Rattle.c104_net.specs.TextWords.{is_name}
 pub use Rattle.c104_net.specs.declared.plan.plans.Terminal.{Terminal}
+pub use Rattle.c104_net.specs.declared.plan.plans.PlanPort.{PlanPort}
 pub use Rattle.c104_net.specs.declared.plan.plans.PlanRow.{PlanRow}
 
--- a plan's lists, each in the order of the description; a switch is its name
+-- a plan's lists, each in the order of the description; a switch is its name. The continues are ports
+-- whose link continues the group of the link before it, and the deletes are terminals, by number, on the
+-- way to which headers are deleted.
 pub record Plan : Type 0 where
   pub switches : List (List ℕ)
   pub terminals : List Terminal
+  pub continues : List PlanPort
+  pub deletes : List ℕ
   pub rows : List PlanRow
 
 -- the number of the switch of this name
@@ -32,6 +37,23 @@ is_taken plan name = list_any (λ other. bytes_eq other name) (names plan)
 -- whether a switch's link has a terminal
 unfoldable pub is_linked : Plan → ℕ → ℕ → Bool
 is_linked plan switch link = list_any (λ (t : Terminal). t.switch == switch && t.link == link) plan.terminals
+
+-- whether a port is among the continues
+unfoldable pub is_continued : Plan → ℕ → ℕ → Bool
+is_continued plan switch link = list_any (λ (p : PlanPort). p.switch == switch && p.link == link) plan.continues
+
+-- whether a terminal is among the deletes
+unfoldable pub is_deleted : Plan → ℕ → Bool
+is_deleted plan terminal = list_any (λ t. t == terminal) plan.deletes
+
+-- whether there is a terminal, and it is on this link of this switch
+abbrev pub is_on : ℕ → ℕ → Option Terminal → Bool
+is_on switch link None = false
+is_on switch link (Some t) = t.switch == switch && t.link == link
+
+-- whether some terminal of the deletes is on this link of this switch
+unfoldable pub deletes_at : Plan → ℕ → ℕ → Bool
+deletes_at plan switch link = list_any (λ terminal. is_on switch link (slice_get plan.terminals terminal)) plan.deletes
 
 -- whether a row is of this input
 abbrev pub is_row_of : ℕ → ℕ → PlanRow → Bool
@@ -77,5 +99,9 @@ pub record IsPlan (plan : Plan) : Type 0 where
   pub ports : All (λ (t : Terminal). IsPort plan t.switch t.link) plan.terminals
   pub links_differ : AllPairs (λ (t u : Terminal). t.switch ≡ u.switch → t.link ≢ u.link) plan.terminals
   pub ranges : All (λ (t : Terminal). IsRange t.first t.count) plan.terminals
+  pub continues_are : All (λ (p : PlanPort). IsPort plan p.switch p.link × (0 < p.link)) plan.continues
+  pub continues_differ : AllPairs (λ (p q : PlanPort). p.switch ≡ q.switch → p.link ≢ q.link) plan.continues
+  pub deletes_are : All (λ terminal. terminal < length plan.terminals) plan.deletes
+  pub deletes_differ : AllPairs (λ (t u : ℕ). t ≢ u) plan.deletes
   pub inputs : All (λ (r : PlanRow). IsPort plan r.switch r.link) plan.rows
   pub rows_are : All (λ (r : PlanRow). (r.limit ≤ 65536) × IsSelectable r.select) plan.rows

@@ -1,5 +1,5 @@
 //! A network of switches and terminals.
-ghost use Rattle.std.specs.Prelude.{◌≡◌, ◌≤◌, length, slice_get, option_map, MatchResult, IfOk, OnOk, IsErrOf, IfSome, Some, None};
+ghost use Rattle.std.specs.Prelude.{◌≡◌, ◌≤◌, ℕ, length, slice_get, option_map, MatchResult, IfOk, OnOk, IsErrOf, IfSome, Some, None};
 ghost use Rattle.std.specs.Option.{option_copied};
 ghost use Rattle.c104_net.specs.Plans.{IsPlan};
 ghost use Rattle.c104_net.specs.Wiring.{peer, end_of, other_end, terminal_wires, IsInPlan};
@@ -7,12 +7,15 @@ ghost use Rattle.c104_net.specs.declared.events.Event.TheVariants as event;
 ghost use Rattle.c104_switch.specs.Actions.{reply_of, reply_with};
 ghost use Rattle.c104_net.specs.PlanImage.{Fits};
 ghost use Rattle.c104_net.specs.Balance.{IsBalanced};
+ghost use Rattle.c104_net.specs.Finished.{finished, arrived_in};
 ghost use Rattle.c104_net.specs.Network.{placed, arrived_of, Answers, Runs, event_fault, port_fault, wire_fault, terminal_place};
 
 use crate::events::{Event, EventFault, PlaceFault, Port};
 use crate::nodes::{End, NodesOf};
-use crate::placing::{add_terminals, placed_switches};
+use crate::placing::{place, retire_all};
 use crate::plan::{Image, Plan, Terminal};
+use crate::run::RunOf;
+use crate::terminal::TerminalOf;
 use c104_switch::{LINKS, Reply};
 use c104_token::{MAX_PACKET_BYTES, Packet, Token, TokenKind};
 use std::alloc::{AllocError, Global};
@@ -26,11 +29,13 @@ const INBOX_LIMIT: usize = 262_144;
 
 /// A network over any kind of token.
 ///
-/// Each event is done as a whole, or refused with nothing changed.
-#[derive(Drop)]
+/// Each event is done as a whole, or refused with nothing changed. A network can't be let go of while
+/// its switches hold claims: `finish` retires them.
 pub struct NetOf<T: TokenKind> {
     plan: Plan,
     nodes: NodesOf<T>,
+    // Room for the terminals at the end, so that `finish` takes no memory.
+    room: Vec<TerminalOf<T>>,
 }
 
 /// A network of plain tokens.
@@ -42,16 +47,18 @@ impl<T: TokenKind> Model for NetOf<T> {
     ghost use Rattle.c104_net.specs.PlanImage.{Fits};
     ghost use Rattle.c104_net.specs.Network.{placed, arrived_of, Network};
     ghost use Rattle.c104_net.specs.Balance.{IsSteady};
+    ghost use Rattle.std.specs.Prelude.{◌≡◌, ◌≤◌, [], length};
+    ghost use Rattle.std.specs.Vec.{vec_capacity};
 
     ghost Value = { Network T };
 
     ghost view = { λ net. record { plan = net.plan; nodes = net.nodes } };
 
-    ghost invariant = { λ net. IsSteady (record { plan = net.plan; nodes = net.nodes }) };
+    ghost invariant = { λ net. IsSteady (record { plan = net.plan; nodes = net.nodes }) × (net.room.items ≡ []) × (length net.plan.terminals ≤ vec_capacity net.room) };
 }
 
 impl<T: TokenKind> NetOf<T> {
-    /// A network of this plan, each switch of which is started with the image's tables, and no
+    /// A network of this plan, each switch of which is started with the image's settings, and no
     /// token anywhere. NotFitting exactly where the image doesn't fit the plan.
     pub fn placed(alloc: Global, plan: &Plan, image: &Image) -> Result<Self, PlaceFault>
         ensures placed { IfOk result (λ net. net ≡ placed plan.now image.now) }
@@ -63,12 +70,29 @@ impl<T: TokenKind> NetOf<T> {
             return Err(PlaceFault::NotFitting);
         }
         let plan = plan.clone()?;
-        let mut list = placed_switches(alloc, image.all_tables())?;
-        add_terminals(alloc, plan.terminals(), &mut list)?;
-        Ok(NetOf {
-            plan,
-            nodes: NodesOf::new(list),
-        })
+        let room = Vec::with_capacity(alloc, plan.terminals().len())?;
+        let mut list = Vec::new(alloc);
+        match place(alloc, &plan, image, &mut list) {
+            Ok(()) => Ok(NetOf {
+                plan,
+                nodes: NodesOf::new(list),
+                room,
+            }),
+            Err(error) => {
+                retire_all(list);
+                Err(PlaceFault::from(error))
+            }
+        }
+    }
+
+    /// The run up to now, at its end. The switches are retired.
+    pub fn finish(self) -> RunOf<T>
+        ensures end { result ≡ finished self }
+        ensures arrived { (t : ℕ) → arrived_in result t ≡ arrived_of self t }
+    {
+        let NetOf { plan, nodes, room } = self;
+        let terminals = nodes.retire(room);
+        RunOf { plan, terminals }
     }
 
     /// The plan of the network.
@@ -255,7 +279,7 @@ fn wired_ends(plan: &Plan, port: Port) -> Result<Ends, EventFault>
 }
 
 /// The port that a port is wired to.
-fn peer(plan: &Plan, port: Port) -> Option<Port>
+pub fn peer(plan: &Plan, port: Port) -> Option<Port>
     ensures value { result ≡ peer plan.now port }
     ensures kept { IsPlan plan.now }
     ensures inside { IfSome result (IsInPlan plan.now.terminals) }

@@ -1,21 +1,34 @@
 //! A node of a network: a switch or a terminal.
-ghost use Rattle.std.specs.Prelude.{◌≡◌, ◌≤◌, length, is_some, MatchResult};
-ghost use Rattle.std.specs.Option.{option_copied};
+ghost use Rattle.std.specs.Prelude.{◌≡◌, ◌≤◌, ◌∷◌, [], length, is_some, MatchResult};
+ghost use Rattle.std.specs.Option.{option_copied, option_to_list};
 ghost use Rattle.c104_link.specs.Steps.{tried, taken};
 ghost use Rattle.c104_net.specs.Nodes.{Node, enter, leave, credit_out, credit_in, input, claim, send, drain, waiting_count, arrived_list};
+ghost use Rattle.c104_net.specs.Finished.{terminals_of};
 
 use crate::terminal::TerminalOf;
 use c104_switch::SwitchOf;
 use c104_token::{NoMemory, Packet, TokenKind};
 
 /// A node of a network.
-#[derive(Drop)]
 pub enum NodeOf<T: TokenKind> {
     Switch(SwitchOf<T>),
     Terminal(TerminalOf<T>),
 }
 
 impl<T: TokenKind> NodeOf<T> {
+    /// Retires a switch, or gives the terminal.
+    pub fn retire(self) -> Option<TerminalOf<T>>
+        ensures { option_to_list result ≡ terminals_of (self ∷ []) }
+    {
+        match self {
+            NodeOf::Switch(switch) => {
+                switch.retire();
+                None
+            }
+            NodeOf::Terminal(terminal) => Some(terminal),
+        }
+    }
+
     /// A token comes in over a link's wire.
     pub fn enter(&mut self, link: usize, token: T) -> bool
         ensures { (result, self.new) ≡ tried (enter token link self.old) self.old }

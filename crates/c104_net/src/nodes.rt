@@ -1,11 +1,14 @@
 //! The nodes of a network, in order: the switches, and then the terminals.
-ghost use Rattle.std.specs.Prelude.{◌≡◌, ◌≤◌, length, is_some, MatchResult};
+ghost use Rattle.std.specs.Prelude.{◌≡◌, ◌≤◌, [], length, is_some, MatchResult};
 ghost use Rattle.std.specs.Option.{option_copied};
 ghost use Rattle.c104_link.specs.Steps.{tried, taken, at_place, from_place};
 ghost use Rattle.c104_net.specs.Nodes.{enter, leave, credit_out, credit_in, input, claim, send, drain, waiting_at, arrived_at};
 ghost use Rattle.c104_net.specs.Wires.{crossed, credited};
+ghost use Rattle.c104_net.specs.Finished.{terminals_of};
+ghost use Rattle.std.specs.Vec.{vec_capacity};
 
 use crate::node::NodeOf;
+use crate::terminal::TerminalOf;
 use c104_token::{NoMemory, Packet, TokenKind};
 use std::marker::Model;
 
@@ -17,7 +20,6 @@ pub struct End {
 }
 
 /// The nodes of a network.
-#[derive(Drop)]
 pub struct NodesOf<T: TokenKind> {
     list: Vec<NodeOf<T>>,
 }
@@ -37,6 +39,16 @@ impl<T: TokenKind> NodesOf<T> {
         ensures { result ≡ list.items }
     {
         NodesOf { list }
+    }
+
+    /// Retires the switches, and gives the terminals in order, in an empty list with room for them.
+    pub fn retire(self, room: Vec<TerminalOf<T>>) -> Vec<TerminalOf<T>>
+        requires empty { room.items ≡ [] }
+        requires room { length (terminals_of self) ≤ vec_capacity room }
+        ensures { result.items ≡ terminals_of self }
+    {
+        let NodesOf { list } = self;
+        terminals_of(list, room)
     }
 
     /// A token comes in at an end of a wire.
@@ -200,4 +212,23 @@ impl<T: TokenKind> NodesOf<T> {
     {
         self.can_credit_in(to) && self.credit_out(from) && self.credit_in(to)
     }
+}
+
+/// The terminals among nodes, in order. The switches are retired.
+fn terminals_of<T: TokenKind>(
+    mut list: Vec<NodeOf<T>>,
+    mut room: Vec<TerminalOf<T>>,
+) -> Vec<TerminalOf<T>>
+    requires empty { room.items ≡ [] }
+    requires room { length (terminals_of list.items) ≤ vec_capacity room }
+    ensures { result.items ≡ terminals_of list.items }
+{
+    while let Some(node) = list.pop() {
+        if let Some(terminal) = node.retire() {
+            room.push_reserved(terminal);
+        }
+    }
+    list.destroy_empty();
+    room.reverse();
+    room
 }

@@ -1,15 +1,12 @@
 //! The nodes of a network at first.
-ghost use Rattle.std.specs.Prelude.{◌≡◌, ◌++◌, true, length, map, All, OnOk, IfOk};
-ghost use Rattle.c104_regs.specs.Settings.{plain_settings};
-ghost use Rattle.c104_switch.specs.Switch.{first_with};
-ghost use Rattle.c104_interval.specs.declared.intervals.Table.{Table as TheTable};
+ghost use Rattle.std.specs.Prelude.{◌≡◌, ◌++◌, [], length, All, OnOk};
 ghost use Rattle.c104_net.specs.Network.{switch_nodes, terminal_nodes};
-ghost use Rattle.c104_net.specs.PlanImage.{AreTables};
+ghost use Rattle.c104_net.specs.PlanImage.{AreSettings};
 
 use crate::node::NodeOf;
-use crate::plan::Terminal;
+use crate::plan::{Image, Plan, Terminal};
 use crate::terminal::TerminalOf;
-use c104_interval::Table;
+use c104_regs::Settings;
 use c104_switch::SwitchOf;
 use c104_token::{Items, NoMemory, TokenKind};
 use std::alloc::Global;
@@ -17,24 +14,41 @@ use std::alloc::Global;
 /// How many tokens each input buffer has room for.
 const BUFFER_SIZE: usize = 16;
 
-/// The switches of a network, each started with these tables at its links.
-pub fn placed_switches<T: TokenKind>(
+/// The nodes of a network of this plan join an empty list: the switches, each started with the image's
+/// settings, and then the terminals.
+pub fn place<T: TokenKind>(
     alloc: Global,
-    switches: &[Items<Table>],
-) -> Result<Vec<NodeOf<T>>, NoMemory>
-    requires { All AreTables switches.now }
-    ensures { IfOk result (λ list. list.items ≡ switch_nodes switches.now) }
+    plan: &Plan,
+    image: &Image,
+    list: &mut Vec<NodeOf<T>>,
+) -> Result<(), NoMemory>
+    requires { list.old.items ≡ [] }
+    ensures { OnOk result (list.new.items ≡ switch_nodes image.now.settings ++ terminal_nodes plan.now.terminals) }
 {
-    let mut list = Vec::new(alloc);
-    for tables in switches {
-        let switch = SwitchOf::placed(alloc, BUFFER_SIZE, tables.as_slice())?;
-        list.push(NodeOf::Switch(switch))?;
-    }
-    Ok(list)
+    add_switches(alloc, image.all_settings(), list)?;
+    add_terminals(alloc, plan.terminals(), list)
 }
 
-/// The terminals of a network join its switches.
-pub fn add_terminals<T: TokenKind>(
+/// Switches join an empty list, each started with these settings at its links.
+fn add_switches<T: TokenKind>(
+    alloc: Global,
+    switches: &[Items<Settings>],
+    list: &mut Vec<NodeOf<T>>,
+) -> Result<(), NoMemory>
+    requires empty { list.old.items ≡ [] }
+    requires settings { All AreSettings switches.now }
+    ensures { OnOk result (list.new.items ≡ switch_nodes switches.now) }
+{
+    for settings in switches {
+        list.reserve(1)?;
+        let switch = SwitchOf::placed(alloc, BUFFER_SIZE, settings.as_slice())?;
+        list.push_reserved(NodeOf::Switch(switch));
+    }
+    Ok(())
+}
+
+/// Terminals join a list.
+fn add_terminals<T: TokenKind>(
     alloc: Global,
     terminals: &[Terminal],
     list: &mut Vec<NodeOf<T>>,
@@ -42,8 +56,17 @@ pub fn add_terminals<T: TokenKind>(
     ensures { OnOk result (list.new.items ≡ list.old.items ++ terminal_nodes terminals.now) }
 {
     for _terminal in terminals {
+        list.reserve(1)?;
         let terminal = TerminalOf::new(alloc, BUFFER_SIZE)?;
-        list.push(NodeOf::Terminal(terminal))?;
+        list.push_reserved(NodeOf::Terminal(terminal));
     }
     Ok(())
+}
+
+/// Lets go of nodes.
+pub fn retire_all<T: TokenKind>(mut list: Vec<NodeOf<T>>) {
+    while let Some(node) = list.pop() {
+        node.retire();
+    }
+    list.destroy_empty();
 }

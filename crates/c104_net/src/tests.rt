@@ -52,7 +52,9 @@ fn expect(rt: &impl Abort, net: &mut Net, event: &Event, answer: Result<Reply, E
 #[test]
 fn first_run(rt: HostRuntime) -> Result<(), Fail> {
     let mut net = first_net(rt.alloc())?;
-    run_first(&rt, rt.alloc(), &mut net)
+    let result = run_first(&rt, rt.alloc(), &mut net);
+    let _run = net.finish();
+    result
 }
 
 /// The events of the first packet, in a network in which nothing has happened.
@@ -94,6 +96,12 @@ fn run_first(rt: &impl Abort, alloc: Global, net: &mut Net) -> Result<(), Fail> 
 #[test]
 fn refused_events(rt: HostRuntime) -> Result<(), Fail> {
     let mut net = first_net(rt.alloc())?;
+    let result = refuse_events(&rt, rt.alloc(), &mut net);
+    let _run = net.finish();
+    result
+}
+
+fn refuse_events(rt: &impl Abort, alloc: Global, net: &mut Net) -> Result<(), Fail> {
     for (event, fault) in [
         (Event::Drain { terminal: 2 }, EventFault::NoNode),
         (Event::Cross(Port::Terminal(2)), EventFault::NoNode),
@@ -112,12 +120,12 @@ fn refused_events(rt: HostRuntime) -> Result<(), Fail> {
             },
             EventFault::NoNode,
         ),
-        (send(rt.alloc(), 2, "01 eop")?, EventFault::NoNode),
-        (packet_of(rt.alloc(), 2, 4097)?, EventFault::NoNode),
+        (send(alloc, 2, "01 eop")?, EventFault::NoNode),
+        (packet_of(alloc, 2, 4097)?, EventFault::NoNode),
     ] {
-        expect(&rt, &mut net, &event, Err(fault));
+        expect(rt, net, &event, Err(fault));
     }
-    run_first(&rt, rt.alloc(), &mut net)
+    run_first(rt, alloc, net)
 }
 
 /// The event that sends a packet of so many bytes, the first of which is 01.
@@ -138,18 +146,24 @@ fn packet_of(alloc: Global, terminal: usize, count: usize) -> Result<Event, Fail
 #[test]
 fn full_outbox(rt: HostRuntime) -> Result<(), Fail> {
     let mut net = first_net(rt.alloc())?;
-    let long = packet_of(rt.alloc(), 0, 4096)?;
-    let too_long = packet_of(rt.alloc(), 0, 4097)?;
+    let result = fill_outbox(&rt, rt.alloc(), &mut net);
+    let _run = net.finish();
+    result
+}
+
+fn fill_outbox(rt: &impl Abort, alloc: Global, net: &mut Net) -> Result<(), Fail> {
+    let long = packet_of(alloc, 0, 4096)?;
+    let too_long = packet_of(alloc, 0, 4097)?;
     for _ in 0..15 {
-        expect(&rt, &mut net, &too_long, Err(EventFault::TooLong));
-        expect(&rt, &mut net, &long, Ok(Reply::Done));
+        expect(rt, net, &too_long, Err(EventFault::TooLong));
+        expect(rt, net, &long, Ok(Reply::Done));
     }
-    expect(&rt, &mut net, &long, Err(EventFault::OutboxFull));
-    let last = packet_of(rt.alloc(), 0, 65_536 - 15 * 4097 - 1)?;
-    expect(&rt, &mut net, &last, Ok(Reply::Done));
-    let mark = send(rt.alloc(), 0, "eop")?;
-    expect(&rt, &mut net, &mark, Err(EventFault::OutboxFull));
-    expect(&rt, &mut net, &too_long, Err(EventFault::TooLong));
+    expect(rt, net, &long, Err(EventFault::OutboxFull));
+    let last = packet_of(alloc, 0, 65_536 - 15 * 4097 - 1)?;
+    expect(rt, net, &last, Ok(Reply::Done));
+    let mark = send(alloc, 0, "eop")?;
+    expect(rt, net, &mark, Err(EventFault::OutboxFull));
+    expect(rt, net, &too_long, Err(EventFault::TooLong));
     Ok(())
 }
 
@@ -164,8 +178,14 @@ fn pump(net: &mut Net, events: &[Event]) {
 #[test]
 fn full_inbox(rt: HostRuntime) -> Result<(), Fail> {
     let mut net = first_net(rt.alloc())?;
+    let result = fill_inbox(&rt, rt.alloc(), &mut net);
+    let _run = net.finish();
+    result
+}
+
+fn fill_inbox(rt: &impl Abort, alloc: Global, net: &mut Net) -> Result<(), Fail> {
     let drain = Event::Drain { terminal: 1 };
-    expect(&rt, &mut net, &drain, Ok(Reply::NotReady));
+    expect(rt, net, &drain, Ok(Reply::NotReady));
     let events = [
         Event::Credit(A0),
         Event::Cross(A),
@@ -177,31 +197,49 @@ fn full_inbox(rt: HostRuntime) -> Result<(), Fail> {
         Event::Drain { terminal: 1 },
     ];
     // 64 packets of 4,096 tokens each.
-    let packet = packet_of(rt.alloc(), 0, 4095)?;
+    let packet = packet_of(alloc, 0, 4095)?;
     for _ in 0..64 {
-        expect(&rt, &mut net, &packet, Ok(Reply::Done));
+        expect(rt, net, &packet, Ok(Reply::Done));
         for _ in 0..4200 {
-            pump(&mut net, &events);
+            pump(net, &events);
         }
     }
     assert_eq!(rt; net.arrived(1).ok_or("no terminal b")?.len(), 262_144);
-    expect(&rt, &mut net, &drain, Ok(Reply::NotReady));
-    expect(
-        &rt,
-        &mut net,
-        &send(rt.alloc(), 0, "01 eop")?,
-        Ok(Reply::Done),
-    );
+    expect(rt, net, &drain, Ok(Reply::NotReady));
+    expect(rt, net, &send(alloc, 0, "01 eop")?, Ok(Reply::Done));
     // Of the next packet one token comes in.
     for _ in 0..20 {
-        pump(&mut net, &events[..6]);
+        pump(net, &events[..6]);
         if net.apply(&Event::Cross(A1)) != Ok(Reply::NotReady) {
             break;
         }
     }
-    expect(&rt, &mut net, &drain, Err(EventFault::InboxFull));
-    expect(&rt, &mut net, &drain, Err(EventFault::InboxFull));
+    expect(rt, net, &drain, Err(EventFault::InboxFull));
+    expect(rt, net, &drain, Err(EventFault::InboxFull));
+    // Rounds stop there too, and what came before that in the round is done.
+    assert_eq!(rt; net.rounds(alloc, 2), Err(EventFault::InboxFull));
+    expect(rt, net, &Event::Cross(A1), Ok(Reply::Token(Token::Eop)));
     assert_eq!(rt; net.arrived(1).ok_or("no terminal b")?.len(), 262_144);
+    Ok(())
+}
+
+/// In each round a token of the packet moves on by one place, and a net at rest stays so.
+#[test]
+fn rounds(rt: HostRuntime) -> Result<(), Fail> {
+    let mut net = first_net(rt.alloc())?;
+    let result = run_rounds(&rt, rt.alloc(), &mut net);
+    let _run = net.finish();
+    result
+}
+
+fn run_rounds(rt: &impl Abort, alloc: Global, net: &mut Net) -> Result<(), Fail> {
+    let tokens = [Token::Byte(1), Token::Byte(0xaa), Token::Eop];
+    expect(rt, net, &send(alloc, 0, "01 aa eop")?, Ok(Reply::Done));
+    for (count, arrived) in [(0, 0), (1, 0), (1, 1), (1, 2), (1, 3), (20, 3), (10_000, 3)] {
+        assert_eq!(rt; net.rounds(alloc, count), Ok(()));
+        assert_eq!(rt; net.arrived(1).ok_or("no terminal b")?, &tokens[..arrived]);
+    }
+    expect(rt, net, &Event::Credit(A0), Ok(Reply::NotReady));
     Ok(())
 }
 
@@ -214,14 +252,18 @@ fn other_calls(rt: HostRuntime) -> Result<(), Fail> {
     let none = hand_image(rt.alloc(), &nothing)?;
     for (plan, image) in [(&plan, &image), (&other, &none), (&nothing, &image)] {
         match Net::placed(rt.alloc(), plan, image) {
-            Ok(_) => assert!(rt; false, "the image fits no such plan"),
+            Ok(net) => {
+                let _run = net.finish();
+                assert!(rt; false, "the image fits no such plan");
+            }
             Err(fault) => assert_eq!(rt; fault, PlaceFault::NotFitting),
         }
     }
     let mut net = first_net(rt.alloc())?;
-    let answers = net.apply_all(rt.alloc(), &[Event::Credit(A0), Event::Cross(B), input(40)])?;
+    let answers = net.apply_all(rt.alloc(), &[Event::Credit(A0), Event::Cross(B), input(40)]);
+    let _run = net.finish();
     assert_eq!(rt;
-        answers.as_slice(),
+        answers?.as_slice(),
         [
             Ok(Reply::Done),
             Ok(Reply::NotReady),
@@ -229,5 +271,29 @@ fn other_calls(rt: HostRuntime) -> Result<(), Fail> {
         ]
         .as_slice()
     );
+    Ok(())
+}
+
+/// A network that is finished in the middle of a packet tells what had arrived by then.
+#[test]
+fn finished_runs(rt: HostRuntime) -> Result<(), Fail> {
+    let mut net = first_net(rt.alloc())?;
+    let sent = send_and_run(rt.alloc(), &mut net);
+    let run = net.finish();
+    sent?;
+    assert_eq!(rt; run.plan().terminals().len(), 2);
+    assert_eq!(rt; run.arrived(0).ok_or("no terminal a")?.len(), 0);
+    assert_eq!(rt;
+        run.arrived(1).ok_or("no terminal b")?,
+        [Token::Byte(1)].as_slice()
+    );
+    assert!(rt; run.arrived(2).is_none());
+    Ok(())
+}
+
+/// Sends a packet, of which one token arrives.
+fn send_and_run(alloc: Global, net: &mut Net) -> Result<(), Fail> {
+    net.apply(&send(alloc, 0, "01 aa eop")?)?;
+    net.rounds(alloc, 2)?;
     Ok(())
 }

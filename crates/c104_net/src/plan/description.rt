@@ -17,7 +17,8 @@ pub const MAX_DESCRIPTION: usize = 1_048_576;
 
 /// Reads the description of a network, by this profile's grammar.
 ///
-/// Its lines are `switch N`, `terminal N S.l` and `row S.l limit select`; `#` begins a comment.
+/// Its lines are `switch N`, `terminal N S.l`, `continue S.l`, `delete T` and `row S.l limit select`;
+/// `#` begins a comment.
 /// Refused is a text of more than 1 MiB, before any line; else the first faulty line, with the least
 /// of its faults; or, whatever its lines say, want of memory.
 pub fn read_description(alloc: Global, text: &[u8]) -> Result<Plan, PlanFault>

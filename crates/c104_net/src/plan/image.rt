@@ -2,7 +2,7 @@
 ghost use Rattle.std.specs.Prelude.{◌≡◌, ◌↔◌, length, slice_get, option_copied, All, IfSome, IsTrue};
 
 use super::plans::Plan;
-use c104_interval::Table;
+use c104_regs::Settings;
 use c104_token::Items;
 use std::marker::Model;
 
@@ -13,7 +13,7 @@ pub(super) const LINKS: usize = 32;
 #[derive(Debug, Drop)]
 pub struct Image {
     pub(super) ranges: Vec<(u32, u32)>,
-    pub(super) tables: Vec<Items<Table>>,
+    pub(super) settings: Vec<Items<Settings>>,
 }
 
 impl Model for Image {
@@ -21,19 +21,19 @@ impl Model for Image {
 
     ghost Value = { TheImage };
 
-    ghost view = { λ image. record { ranges = image.ranges.items; tables = image.tables.items } };
+    ghost view = { λ image. record { ranges = image.ranges.items; settings = image.settings.items } };
 
-    ghost invariant = { λ image. IsImage (record { ranges = image.ranges.items; tables = image.tables.items }) };
+    ghost invariant = { λ image. IsImage (record { ranges = image.ranges.items; settings = image.settings.items }) };
 }
 
 impl Image {
-    ghost use Rattle.c104_net.specs.PlanImage.{AreTables, Fits};
+    ghost use Rattle.c104_net.specs.PlanImage.{AreSettings, Fits};
 
     /// Whether the image has as many terminals and as many switches as the plan.
     pub fn fits(&self, plan: &Plan) -> bool
         ensures { IsTrue result ↔ Fits self.now plan.now }
     {
-        self.ranges.len() == plan.terminals().len() && self.tables.len() == plan.switches().len()
+        self.ranges.len() == plan.terminals().len() && self.settings.len() == plan.switches().len()
     }
 
     /// The labels of a terminal: the first, and how many.
@@ -43,20 +43,20 @@ impl Image {
         self.ranges.get(terminal).copied()
     }
 
-    /// The tables of a switch, one for each of its 32 inputs.
-    pub fn tables(&self, switch: usize) -> Option<&[Table]>
-        ensures tables { option_copied result ≡ slice_get self.now.tables switch }
-        ensures all { IfSome result (λ tables. AreTables tables.now) }
+    /// What is set at each of a switch's 32 links.
+    pub fn settings(&self, switch: usize) -> Option<&[Settings]>
+        ensures settings { option_copied result ≡ slice_get self.now.settings switch }
+        ensures all { IfSome result (λ settings. AreSettings settings.now) }
     {
-        let tables = self.tables.get(switch)?;
-        Some(tables.as_slice())
+        let settings = self.settings.get(switch)?;
+        Some(settings.as_slice())
     }
 
-    /// The tables of all switches, by number.
-    pub fn all_tables(&self) -> &[Items<Table>]
-        ensures tables { result.now ≡ self.now.tables }
-        ensures all { All AreTables self.now.tables }
+    /// The settings of all switches, by number.
+    pub fn all_settings(&self) -> &[Items<Settings>]
+        ensures settings { result.now ≡ self.now.settings }
+        ensures all { All AreSettings self.now.settings }
     {
-        self.tables.as_slice()
+        self.settings.as_slice()
     }
 }

@@ -1,11 +1,11 @@
 //! Descriptions, line by line.
 ghost use Rattle.std.specs.Prelude.{◌≡◌, map};
-ghost use Rattle.c104_net.specs.PlanLines.{read_line, row_line, switch_line, terminal_line, words_line};
+ghost use Rattle.c104_net.specs.PlanLines.{continue_line, delete_line, read_line, row_line, switch_line, terminal_line, words_line};
 ghost use Rattle.c104_net.specs.PlanLists.{plan_of};
 ghost use Rattle.c104_net.specs.PlanText.{ReadsLine};
 
 use super::faults::PlanFaultKind;
-use super::plans::{Lists, Name, PlanRow, Terminal};
+use super::plans::{Lists, Name, PlanPort, PlanRow, Terminal};
 use super::text::{cut_words, is_name, is_plain, uncommented};
 use super::words::{Keyword, read_keyword, read_number_to, read_port, read_select};
 use c104_interval::ROWS;
@@ -51,6 +51,8 @@ fn read_words(
     match (keyword, rest) {
         (Keyword::Switch, [name]) => add_switch(alloc, lists, name),
         (Keyword::Terminal, [name, port]) => add_terminal(alloc, lists, name, port),
+        (Keyword::Continue, [port]) => add_continue(lists, port),
+        (Keyword::Delete, [name]) => add_delete(lists, name),
         (Keyword::Row, [port, limit, select]) => add_row(lists, port, limit, select),
         _ => Err(PlanFaultKind::BadShape),
     }
@@ -109,6 +111,47 @@ fn add_terminal(
         first,
         count: 1,
     })?;
+    Ok(())
+}
+
+/// Reads `continue S.l`. Link 0 has no link before it.
+fn add_continue(lists: &mut Lists, port: &[u8]) -> Result<(), PlanFaultKind>
+    ensures { ReadsLine result (plan_of lists.new) (continue_line (plan_of lists.old) port.now) }
+{
+    let port = read_port(port)?;
+    if port.link == 0 {
+        return Err(PlanFaultKind::BadNumber);
+    }
+    if !is_name(port.name) {
+        return Err(PlanFaultKind::BadName);
+    }
+    let Some(switch) = lists.switch_number(port.name) else {
+        return Err(PlanFaultKind::UnknownName);
+    };
+    if lists.is_continued(switch, port.link) {
+        return Err(PlanFaultKind::Twice);
+    }
+    lists.continues.push(PlanPort {
+        switch,
+        link: port.link,
+    })?;
+    Ok(())
+}
+
+/// Reads `delete T`.
+fn add_delete(lists: &mut Lists, name: &[u8]) -> Result<(), PlanFaultKind>
+    ensures { ReadsLine result (plan_of lists.new) (delete_line (plan_of lists.old) name.now) }
+{
+    if !is_name(name) {
+        return Err(PlanFaultKind::BadName);
+    }
+    let Some(terminal) = lists.terminal_number(name) else {
+        return Err(PlanFaultKind::UnknownName);
+    };
+    if lists.is_deleted(terminal) {
+        return Err(PlanFaultKind::Twice);
+    }
+    lists.deletes.push(terminal)?;
     Ok(())
 }
 

@@ -85,6 +85,15 @@ impl Clone for Terminal {
     }
 }
 
+/// A link of a switch.
+#[derive(Clone, Copy, Debug)]
+pub struct PlanPort {
+    /// The number of the switch, from 0.
+    pub switch: usize,
+    /// The link, 0 to 31.
+    pub link: usize,
+}
+
 /// A row that a plan gives an input's interval table.
 #[derive(Clone, Copy, Debug)]
 pub struct PlanRow {
@@ -114,22 +123,27 @@ impl PlanRow {
 pub(super) struct Lists {
     pub(super) switches: Vec<Name>,
     pub(super) terminals: Vec<Terminal>,
+    pub(super) continues: Vec<PlanPort>,
+    pub(super) deletes: Vec<usize>,
     pub(super) rows: Vec<PlanRow>,
 }
 
 impl Lists {
     ghost use Rattle.std.specs.Prelude.{◌≡◌, ◌<◌, [], length, bytes_eq, IfSome};
     ghost use Rattle.std.specs.List.{list_any};
-    ghost use Rattle.c104_net.specs.Plans.{Terminal as TheTerminal, switch_number, terminal_number, is_taken, is_linked, rows_of};
+    ghost use Rattle.c104_net.specs.Plans.{Terminal as TheTerminal, switch_number, terminal_number, is_taken, is_linked, is_continued, is_deleted, rows_of};
     ghost use Rattle.c104_net.specs.PlanLists.{plan_of};
+    ghost use Rattle.c104_net.specs.PlanText.{empty_plan};
 
-    /// No switch, no terminal and no row.
+    /// The lists of a plan without lines.
     pub(super) fn new(alloc: Global) -> Self
-        ensures { plan_of result ≡ record { switches = []; terminals = []; rows = [] } }
+        ensures { plan_of result ≡ empty_plan }
     {
         Lists {
             switches: Vec::new(alloc),
             terminals: Vec::new(alloc),
+            continues: Vec::new(alloc),
+            deletes: Vec::new(alloc),
             rows: Vec::new(alloc),
         }
     }
@@ -187,6 +201,24 @@ impl Lists {
         self.terminals.iter().any(|terminal| terminal.switch == switch && terminal.link == link)
     }
 
+    /// Whether a link continues the group of the link before it.
+    #[tactic(auto, unfolding(crate::specs::Plans::is_continued))]
+    pub(super) fn is_continued(&self, switch: usize, link: usize) -> bool
+        ensures { result ≡ is_continued (plan_of self.now) switch link }
+    {
+        self.continues
+            .iter()
+            .any(|port| port.switch == switch && port.link == link)
+    }
+
+    /// Whether headers are deleted on the way to a terminal.
+    #[tactic(auto, unfolding(crate::specs::Plans::is_deleted))]
+    pub(super) fn is_deleted(&self, terminal: usize) -> bool
+        ensures { result ≡ is_deleted (plan_of self.now) terminal }
+    {
+        self.deletes.contains(&terminal)
+    }
+
     /// How many rows an input has.
     #[tactic(auto, unfolding(crate::specs::Plans::rows_of))]
     pub(super) fn row_count(&self, switch: usize, link: usize) -> usize
@@ -199,11 +231,11 @@ impl Lists {
     }
 }
 
-/// The network that a description gives: its switches, its terminals and the rows of its
-/// switches' interval tables. Only `read_description` makes one.
+/// The network that a description gives: its switches, its terminals, and what is to be set at the
+/// links of its switches. Only `read_description` makes one.
 ///
 /// What each plan keeps is that names differ, that each port exists and no link is taken twice,
-/// and that every number is in its range.
+/// that nothing is said twice, and that every number is in its range.
 #[derive(Debug, Drop)]
 pub struct Plan {
     pub(super) lists: Lists,
@@ -226,11 +258,15 @@ impl Clone for Plan {
     fn clone(&self) -> Result<Self, AllocError> {
         let switches = self.lists.switches.clone()?;
         let terminals = self.lists.terminals.clone()?;
+        let continues = self.lists.continues.clone()?;
+        let deletes = self.lists.deletes.clone()?;
         let rows = self.lists.rows.clone()?;
         Ok(Plan {
             lists: Lists {
                 switches,
                 terminals,
+                continues,
+                deletes,
                 rows,
             },
         })
@@ -255,6 +291,22 @@ impl Plan {
         ensures kept { IsPlan self.now }
     {
         self.lists.terminals.as_slice()
+    }
+
+    /// The ports whose link, 1 to 31, continues the group of the link before it.
+    pub fn continues(&self) -> &[PlanPort]
+        ensures continues { result.now ≡ self.now.continues }
+        ensures kept { IsPlan self.now }
+    {
+        self.lists.continues.as_slice()
+    }
+
+    /// The terminals, by number, on whose links headers are deleted.
+    pub fn deletes(&self) -> &[usize]
+        ensures deletes { result.now ≡ self.now.deletes }
+        ensures kept { IsPlan self.now }
+    {
+        self.lists.deletes.as_slice()
     }
 
     /// The rows of the inputs' tables. Those of one input are its rows from 0 on, in this order.

@@ -3,6 +3,7 @@ use crate::{
     is_name, is_plain, read_description, read_number, uncommented,
 };
 use c104_interval::{Row, Select, Table};
+use c104_regs::Settings;
 use std::alloc::{AllocError, Global};
 use std::process::Abort;
 use std::test::Fail;
@@ -61,9 +62,9 @@ fn image_of_one_switch(rt: HostRuntime) -> Result<(), Fail> {
     assert_eq!(rt; image.range(0), Some((0, 1)));
     assert_eq!(rt; image.range(1), Some((1, 1)));
     assert_eq!(rt; image.range(2), None);
-    assert!(rt; image.tables(1).is_none());
-    let tables = image.tables(0).ok_or("no tables")?;
-    assert_eq!(rt; tables.len(), 32);
+    assert!(rt; image.settings(1).is_none());
+    let settings = image.settings(0).ok_or("no settings")?;
+    assert_eq!(rt; settings.len(), 32);
     let mut used = Table::reset();
     used.rows[0] = Row {
         limit: 1,
@@ -73,14 +74,58 @@ fn image_of_one_switch(rt: HostRuntime) -> Result<(), Fail> {
         limit: 2,
         select: Select::Link(1),
     };
-    for (link, table) in tables.iter().enumerate() {
-        let wanted = if link < 2 { used } else { Table::reset() };
-        assert_eq!(rt; *table, wanted, "at {link}");
+    for (link, own) in settings.iter().enumerate() {
+        let table = if link < 2 { used } else { Table::reset() };
+        assert_eq!(rt; *own, Settings::plain(table), "at {link}");
     }
 
     let empty = read_description(rt.alloc(), b"")?;
     assert!(rt; !image.fits(&empty));
     assert!(rt; hand_image(rt.alloc(), &empty)?.fits(&empty));
+    Ok(())
+}
+
+const MARKED: &[u8] = b"\
+switch A
+terminal a A.7
+terminal b A.5
+terminal c A.6
+delete c
+continue A.31
+continue A.6
+delete a
+row A.6 1 5
+";
+
+#[test]
+fn plan_with_continues_and_deletes(rt: HostRuntime) -> Result<(), Fail> {
+    let plan = read_description(rt.alloc(), MARKED)?;
+    let plan = plan.clone()?;
+    assert_eq!(rt; plan.continues().len(), 2);
+    for (port, link) in plan.continues().iter().zip([31, 6]) {
+        assert_eq!(rt; (port.switch, port.link), (0, link));
+    }
+    assert_eq!(rt; plan.deletes(), [2, 0].as_slice());
+    Ok(())
+}
+
+#[test]
+fn image_with_continues_and_deletes(rt: HostRuntime) -> Result<(), Fail> {
+    let plan = read_description(rt.alloc(), MARKED)?;
+    let image = hand_image(rt.alloc(), &plan)?;
+    let settings = image.settings(0).ok_or("no settings")?;
+    for (link, own) in settings.iter().enumerate() {
+        let mut wanted = Settings::reset();
+        wanted.delete_header = link == 6 || link == 7;
+        wanted.continue_group = link == 6 || link == 31;
+        if link == 6 {
+            wanted.table.rows[0] = Row {
+                limit: 1,
+                select: Select::Link(5),
+            };
+        }
+        assert_eq!(rt; *own, wanted, "at {link}");
+    }
     Ok(())
 }
 
@@ -133,6 +178,21 @@ fn refused_lines(rt: HostRuntime) -> Result<(), Fail> {
         (b"row A.0 1 discard", 4),
         (b"row 9x.0 1 0", 5),
         (b"row B.0 1 0", 7),
+        (b"continue", 3),
+        (b"continue A", 3),
+        (b"continue A.1 A.2", 3),
+        (b"continue A.1.1", 3),
+        (b"continue A.0", 4),
+        (b"continue A.32", 4),
+        (b"continue 9x.0", 4),
+        (b"continue 9x.1", 5),
+        (b"continue B.1", 7),
+        (b"delete", 3),
+        (b"delete a b", 3),
+        (b"delete 9x", 5),
+        (b"delete a.0", 5),
+        (b"delete a", 7),
+        (b"delete A", 7),
         (b"switch B \x0b", 3),
         (b"switch\x0bB", 2),
         (b"row A.0 1 0 \x7f", 3),
@@ -153,6 +213,8 @@ fn refused_after_a_terminal(rt: HostRuntime) -> Result<(), Fail> {
         (b"terminal a A.0", 6),
         (b"terminal b a.1", 7),
         (b"row a.0 1 0", 7),
+        (b"continue a.1", 7),
+        (b"delete A", 7),
         (b"switch a", 6),
     ] {
         let mut text = after_switch(rt.alloc(), b"terminal a A.0\n")?;
@@ -160,6 +222,31 @@ fn refused_after_a_terminal(rt: HostRuntime) -> Result<(), Fail> {
         let fault = fault_of(&rt, rt.alloc(), text.as_slice());
         assert_eq!(rt; (fault.line, fault.kind as u8), (3, number), "at {line:?}");
     }
+    Ok(())
+}
+
+#[test]
+fn said_twice(rt: HostRuntime) -> Result<(), Fail> {
+    let once = b"terminal a A.0\nterminal b A.1\ncontinue A.1\ndelete b\n";
+    for (line, number) in [
+        (b"continue A.1".as_slice(), 11),
+        (b"continue A.0000001", 11),
+        (b"delete b", 11),
+        (b"continue A.0", 4),
+        (b"delete A", 7),
+    ] {
+        let mut text = after_switch(rt.alloc(), once)?;
+        text.extend_from_slice(line)?;
+        let fault = fault_of(&rt, rt.alloc(), text.as_slice());
+        assert_eq!(rt; (fault.line, fault.kind as u8), (6, number), "at {line:?}");
+    }
+    let mut text = after_switch(rt.alloc(), once)?;
+    text.extend_from_slice(b"continue A.2\ndelete a\n")?;
+    let plan = read_description(rt.alloc(), text.as_slice())?;
+    assert_eq!(rt;
+        (plan.continues().len(), plan.deletes()),
+        (2, [1, 0].as_slice())
+    );
     Ok(())
 }
 

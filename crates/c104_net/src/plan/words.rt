@@ -11,6 +11,8 @@ use c104_interval::Select;
 pub(super) enum Keyword {
     Switch,
     Terminal,
+    Continue,
+    Delete,
     Row,
 }
 
@@ -30,6 +32,10 @@ pub(super) fn read_keyword(word: &[u8]) -> Option<Keyword>
         Some(Keyword::Switch)
     } else if word == b"terminal".as_slice() {
         Some(Keyword::Terminal)
+    } else if word == b"continue".as_slice() {
+        Some(Keyword::Continue)
+    } else if word == b"delete".as_slice() {
+        Some(Keyword::Delete)
     } else if word == b"row".as_slice() {
         Some(Keyword::Row)
     } else {

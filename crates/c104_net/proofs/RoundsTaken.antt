@@ -1,0 +1,67 @@
+-- A run of several rounds, round by round.
+use Rattle.std.proofs.Common.{ℕ, zero, suc, ◌≡◌, ◌+◌, ◌<◌, ◌-◌, List, ◌∷◌, ◌++◌, Result, Ok, Err, refl, sym, subst, ap, ◌∙◌, append_assoc, append-nil, arith, inl, inr}
+use Rattle.c104_token.specs.Kinds.{Kind}
+use Rattle.c104_net.specs.declared.events.Event.{Event}
+use Rattle.c104_net.specs.declared.events.EventFault.{EventFault}
+use Rattle.c104_net.specs.Plans.{Plan}
+use Rattle.c104_net.specs.Network.{Network}
+use Rattle.c104_net.specs.Rounds.{Outcome, RunEnds, round, rounds, run_until, unless_fault}
+use Rattle.c104_net.proofs.RoundRuns.{run_append, run_from}
+
+-- rounds in two parts
+pub rounds_parts : (plan : Plan) (m n : ℕ) → rounds plan (m + n) ≡ rounds plan m ++ rounds plan n
+rounds_parts plan zero n = let same : zero + n ≡ n = omega arith in ap (rounds plan) same
+rounds_parts plan (suc m) n = let same : suc m + n ≡ suc (m + n) = omega arith in ap (rounds plan) same ∙ ap (λ es. round plan ++ es) (rounds_parts plan m n) ∙ sym (append_assoc (round plan) (rounds plan m) (rounds plan n))
+
+-- so many rounds, the next one, and those after it
+rounds_from : (plan : Plan) (i n : ℕ) → i < n → rounds plan n ≡ rounds plan i ++ (round plan ++ rounds plan (n - suc i))
+rounds_from plan i n further = let count : n ≡ i + suc (n - suc i) = omega arith in ap (rounds plan) count ∙ rounds_parts plan i (suc (n - suc i))
+
+module _ {A : Type 0} (kind : Kind A) where
+  -- a run of the events of a round
+  of_round : (net after : Network A) (plan : Plan) (events : List Event) (result : Result (Unit {0}) EventFault) → events ≡ round plan → RunEnds kind net events result after → RunEnds kind net (round plan) result after
+  of_round net after plan events result are ends = subst (λ es. RunEnds kind net es result after) are ends
+
+  -- one more round
+  pub round_taken : (net mid after : Network A) (plan : Plan) (events : List Event) (i : ℕ) → events ≡ round plan → run_until kind net (rounds plan i) ≡ (Ok tt, mid) → RunEnds kind mid events (Ok tt) after → run_until kind net (rounds plan (i + 1)) ≡ (Ok tt, after)
+  round_taken net mid after plan events i are front ends =
+      let one_more : rounds plan (i + 1) ≡ rounds plan i ++ round plan = rounds_parts plan i 1 ∙ ap (λ es. rounds plan i ++ es) (append-nil (round plan)) in
+      elim (of_round mid after plan events (Ok tt) are ends) [
+        | inl due ↦ ap (run_until kind net) one_more ∙ run_from kind net mid (rounds plan i) (round plan) front ∙ sym due
+        | inr short ↦ absurd (cc short.refused)
+      ]
+
+  -- a round that ends with a fault, or short
+  pub round_refused : (net mid after : Network A) (plan : Plan) (events : List Event) (i n : ℕ) (f : EventFault) → events ≡ round plan → i < n → run_until kind net (rounds plan i) ≡ (Ok tt, mid) → RunEnds kind mid events (Err f) after → RunEnds kind net (rounds plan n) (Err f) after
+  round_refused net mid after plan events i n f are further front ends =
+      let more : List Event = rounds plan (n - suc i) in
+      elim (of_round mid after plan events (Err f) are ends) [
+        | inl due ↦ inl (sym (ap (run_until kind net) (rounds_from plan i n further) ∙ run_from kind net mid (rounds plan i) (round plan ++ more) front
+            ∙ run_append kind (round plan) more mid ∙ ap (λ (r : Outcome A). unless_fault r.0 r.1 (λ next. run_until kind next more)) (sym due)))
+        | inr short ↦ inr (record {
+          refused = short.refused;
+          front = rounds plan i ++ short.front;
+          event = short.event;
+          rest = short.rest ++ more;
+          parts = rounds_from plan i n further ∙ ap (λ es. rounds plan i ++ (es ++ more)) short.parts ∙ ap (λ es. rounds plan i ++ es) (append_assoc short.front (short.event ∷ short.rest) more) ∙ sym (append_assoc (rounds plan i) short.front (short.event ∷ (short.rest ++ more)));
+          stands = run_from kind net mid (rounds plan i) short.front front ∙ short.stands;
+          wanted = short.wanted;
+        })
+      ]
+
+  -- where a round changes nothing no further one does
+  rounds_idle : (net : Network A) (plan : Plan) (n : ℕ) → run_until kind net (round plan) ≡ (Ok tt, net) → run_until kind net (rounds plan n) ≡ (Ok tt, net)
+  rounds_idle net plan zero idle = refl
+  rounds_idle net plan (suc n) idle = run_from kind net net (round plan) (rounds plan n) idle ∙ rounds_idle net plan n idle
+
+  pub round_idle : (net mid after : Network A) (plan : Plan) (events : List Event) (i n : ℕ) → events ≡ round plan → i < n → run_until kind net (rounds plan i) ≡ (Ok tt, mid) → RunEnds kind mid events (Ok tt) after → after ≡ mid → RunEnds kind net (rounds plan n) (Ok tt) after
+  round_idle net mid after plan events i n are further front ends unchanged =
+      let more : List Event = rounds plan (n - suc i) in
+      elim (of_round mid after plan events (Ok tt) are ends) [
+        | inl due ↦
+            let idle : run_until kind after (round plan) ≡ (Ok tt, after) = ap (λ n. run_until kind n (round plan)) unchanged ∙ sym due in
+            let front_too : run_until kind net (rounds plan i) ≡ (Ok tt, after) = front ∙ ap (λ n. (Ok tt, n)) (sym unchanged) in
+            inl (sym (ap (run_until kind net) (rounds_from plan i n further) ∙ run_from kind net after (rounds plan i) (round plan ++ more) front_too
+            ∙ run_from kind after after (round plan) more idle ∙ rounds_idle after plan (n - suc i) idle))
+        | inr short ↦ absurd (cc short.refused)
+      ]

@@ -1,0 +1,7 @@
+use Rattle.std.proofs.Common.{◌≡◌, take}
+use Rattle.c104_net.specs.Network.{switch_nodes}
+use Rattle.c104_net.proofs.placing.add_switches.Given as goal
+
+-- the switches so far are made
+abbrev pub invariant-loop-settings : goal.invariant-loop-settings
+invariant-loop-settings g l = l.list.items ≡ switch_nodes (take l.settings-index l.switches)

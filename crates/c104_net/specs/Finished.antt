@@ -1,0 +1,26 @@
+-- What a run leaves: the plan of its network, and the state of its terminals at its end.
+use Rattle.std.specs.Prelude.{ℕ, List, [], ◌∷◌, Option, Some, slice_get}
+use Rattle.c104_link.specs.Steps.{◌>>=◌}
+use Rattle.c104_net.specs.Plans.{Plan}
+use Rattle.c104_net.specs.Terminals.{Terminal}
+use Rattle.c104_net.specs.Nodes.{Node}
+use Rattle.c104_net.specs.declared.node.NodeOf.TheVariants as node
+use Rattle.c104_net.specs.Network.{Network}
+
+pub record Finished (A : Type 0) : Type 0 where
+  pub plan : Plan
+  pub terminals : List (Terminal A)
+
+-- the terminals among nodes, in order
+abbrev pub terminals_of : {A : Type 0} → List (Node A) → List (Terminal A)
+terminals_of [] = []
+terminals_of (node.Switch s ∷ nodes) = terminals_of nodes
+terminals_of (node.Terminal t ∷ nodes) = t ∷ terminals_of nodes
+
+-- a network that is finished as it stands
+abbrev pub finished : {A : Type 0} → Network A → Finished A
+finished net = record { plan = net.plan; terminals = terminals_of net.nodes }
+
+-- what had arrived at a terminal
+abbrev pub arrived_in : {A : Type 0} → Finished A → ℕ → Option (List A)
+arrived_in run t = slice_get run.terminals t >>= (λ terminal. Some terminal.arrived)

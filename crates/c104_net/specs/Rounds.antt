@@ -1,0 +1,103 @@
+-- Rounds: the events in which every part of a network takes its turn, and a run that stops at the
+-- first fault.
+use Rattle.std.specs.Prelude.{ℕ, suc, zero, ◌≡◌, ◌⊎◌, Bool, true, false, List, [], ◌∷◌, ◌++◌, length, map, filter, is_some, Result, Ok, Err}
+use Rattle.std.specs.List.{range_with_len, flat_map}
+use Rattle.c104_token.specs.Kinds.{Kind}
+use Rattle.c104_switch.specs.declared.actions.Reply.{Reply}
+use Rattle.c104_switch.specs.declared.actions.Reply.TheVariants as reply
+use Rattle.c104_net.specs.Plans.{Plan}
+use Rattle.c104_net.specs.declared.events.Port.{Port}
+use Rattle.c104_net.specs.declared.events.Port.TheVariants as port
+use Rattle.c104_net.specs.declared.events.Event.{Event}
+use Rattle.c104_net.specs.declared.events.Event.TheVariants as event
+use Rattle.c104_net.specs.declared.events.EventFault.{EventFault}
+use Rattle.c104_net.specs.declared.events.EventFault.TheVariants as fault
+use Rattle.c104_net.specs.Wiring.{peer}
+use Rattle.c104_net.specs.Network.{Network, WouldBeDone, answered}
+
+-- the numbers of a switch's links
+unfoldable pub link_numbers : List ℕ
+link_numbers = range_with_len 0 32
+
+-- whether a port is wired
+abbrev pub is_wired : Plan → Port → Bool
+is_wired plan p = is_some (peer plan p)
+
+-- the wired ports of a switch, by link
+abbrev pub wired_links : Plan → ℕ → List Port
+wired_links plan s = filter (is_wired plan) (map (port.Switch s) link_numbers)
+
+-- the wired ports of the terminals
+abbrev pub wired_terminals : Plan → List Port
+wired_terminals plan = filter (is_wired plan) (map port.Terminal (range_with_len 0 (length plan.terminals)))
+
+-- the wired ports: those of the switches by switch and link, and then the terminals
+abbrev pub wired_ports : Plan → List Port
+wired_ports plan = flat_map (wired_links plan) (range_with_len 0 (length plan.switches)) ++ wired_terminals plan
+
+-- a turn of the input at a port, with word 0; a terminal has no input
+abbrev pub turn_at : Port → List Event
+turn_at (port.Switch s l) = event.Input s l 0 ∷ []
+turn_at (port.Terminal t) = []
+
+-- the claims of an input: of each output
+abbrev pub claims_of : ℕ → ℕ → List Event
+claims_of s i = map (event.Claim s i) link_numbers
+
+-- the claims of a switch, by input and output
+abbrev pub switch_claims : ℕ → List Event
+switch_claims s = flat_map (claims_of s) link_numbers
+
+-- a round: credit at every wired port, crossings from every wired port, a turn of every wired input,
+-- all claims of every switch, and a token's arrival at every terminal
+abbrev pub round : Plan → List Event
+round plan =
+    map event.Credit (wired_ports plan)
+    ++ map event.Cross (wired_ports plan)
+    ++ flat_map turn_at (wired_ports plan)
+    ++ flat_map switch_claims (range_with_len 0 (length plan.switches))
+    ++ map event.Drain (range_with_len 0 (length plan.terminals))
+
+-- so many rounds
+abbrev pub rounds : Plan → ℕ → List Event
+rounds plan zero = []
+rounds plan (suc n) = round plan ++ rounds plan n
+
+-- whether an event that was answered so was done
+abbrev pub was_done : Reply → Bool
+was_done reply.NotReady = false
+was_done r = true
+
+-- what a run comes to: whether a fault stopped it, and the network after it
+abbrev pub Outcome : (A : Type 0) → Type 0
+Outcome A = Result (Unit {0}) EventFault × Network A
+
+-- after a fault nothing more happens
+abbrev pub unless_fault : {A X : Type 0} → Result X EventFault → Network A → (Network A → Outcome A) → Outcome A
+unless_fault (Ok x) net more = more net
+unless_fault (Err f) net more = (Err f, net)
+
+module _ {A : Type 0} (kind : Kind A) where
+  -- a run of events in turn, up to the first that a fault refuses
+  abbrev pub run_until : Network A → List Event → Outcome A
+  run_until net [] = (Ok tt, net)
+  run_until net (e ∷ events) = unless_fault (answered kind net e).0 (answered kind net e).1 (λ next. run_until next events)
+
+  -- memory was wanted and refused for an event that would be done, and each event before it stands
+  pub record StopsShort (net : Network A) (events : List Event) (result : Result (Unit {0}) EventFault) (after : Network A) : Type 0 where
+    pub refused : result ≡ Err fault.NoMemory
+    pub front : List Event
+    pub event : Event
+    pub rest : List Event
+    pub parts : events ≡ front ++ event ∷ rest
+    pub stands : run_until net front ≡ (Ok tt, after)
+    pub wanted : WouldBeDone kind after event
+
+  -- how a run ends: with what is due, or short of it for want of memory
+  abbrev pub RunEnds : Network A → List Event → Result (Unit {0}) EventFault → Network A → Type 0
+  RunEnds net events result after = (◌≡◌ {A = Outcome A} (result, after) (run_until net events)) ⊎ StopsShort net events result after
+
+  -- how so many rounds end: as the run of their events, or with no memory for the list of these and
+  -- nothing changed
+  abbrev pub RoundsEnd : Network A → ℕ → Result (Unit {0}) EventFault → Network A → Type 0
+  RoundsEnd net n result after = RunEnds net (rounds net.plan n) result after ⊎ ((result ≡ Err fault.NoMemory) × (after ≡ net))

@@ -1,0 +1,47 @@
+//! A run of a network that is finished.
+ghost use Rattle.std.specs.Prelude.{◌≡◌};
+ghost use Rattle.std.specs.Option.{option_copied};
+ghost use Rattle.c104_net.specs.Finished.{arrived_in};
+
+use crate::plan::Plan;
+use crate::terminal::TerminalOf;
+use c104_token::{Token, TokenKind};
+use std::marker::Model;
+
+/// What a run of a network left, over any kind of token: what had arrived at each terminal.
+#[derive(Drop)]
+pub struct RunOf<T: TokenKind> {
+    pub(crate) plan: Plan,
+    pub(crate) terminals: Vec<TerminalOf<T>>,
+}
+
+/// A run of plain tokens.
+pub type Run = RunOf<Token>;
+
+impl<T: TokenKind> Model for RunOf<T> {
+    ghost use Rattle.c104_net.specs.Finished.{Finished};
+
+    ghost Value = { Finished T };
+
+    ghost view = { λ run. record { plan = run.plan; terminals = run.terminals.items } };
+}
+
+impl<T: TokenKind> RunOf<T> {
+    /// The plan of the network.
+    pub fn plan(&self) -> &Plan
+        ensures { result.now ≡ self.now.plan }
+    {
+        &self.plan
+    }
+
+    /// The tokens that had arrived at a terminal at the end, in order. None where the plan has no
+    /// such terminal.
+    pub fn arrived(&self, terminal: usize) -> Option<&[T]>
+        ensures { option_copied result ≡ arrived_in self.now terminal }
+    {
+        match self.terminals.get(terminal) {
+            Some(terminal) => Some(terminal.arrived()),
+            None => None,
+        }
+    }
+}
