@@ -1,7 +1,7 @@
 -- The grammar of a script: what a line asks of a network of this plan. Of all that is wrong with a
 -- line the fault of the least number is answered, so conditions stand in the order of the faults'
 -- numbers; but a packet's words are read from the left, after all else.
-use Rattle.std.specs.Prelude.{ℕ, ◌+◌, ◌≡◌, ◌⊎◌, Bool, true, false, List, [], ◌∷◌, length, take, drop, nat_le, bytes_eq, codes, if◌then◌else◌, Option, Some, None, Result, Ok, Err}
+use Rattle.std.specs.Prelude.{ℕ, ◌+◌, ◌&&◌, ◌≡◌, ◌⊎◌, Bool, true, false, List, [], ◌∷◌, length, take, drop, nat_le, bytes_eq, codes, if◌then◌else◌, Option, Some, None, Result, Ok, Err}
 use Rattle.c104_token.specs.declared.faults.TokenFault.{TokenFault}
 use Rattle.c104_token.specs.declared.faults.TokenFault.TheVariants as token_fault
 use Rattle.c104_token.specs.Text.{parsed_words}
@@ -22,7 +22,7 @@ use Rattle.c104.specs.declared.script.faults.LineFault.TheVariants as fault
 use Rattle.c104.specs.declared.script.words.Verb.{Verb}
 use Rattle.c104.specs.declared.script.words.Verb.TheVariants as verb
 pub use Rattle.c104.specs.declared.script.places.Request.{Request}
-use Rattle.c104.specs.declared.script.places.Request.TheVariants.{Asked, Refused}
+use Rattle.c104.specs.declared.script.places.Request.TheVariants.{Asked, Refused, Rounds}
 
 infixl 20 ◌>>=◌
 infixl 20 ◌>>◌
@@ -158,6 +158,17 @@ claim_line plan node input_word output_word = do
   output ← number_word output_word
   Ok (request_of (switch_at plan place) (λ s. event.Claim s input output))
 
+-- the most rounds that a line asks for
+abbrev pub most_rounds : ℕ
+most_rounds = 10000
+
+-- `rounds N`
+abbrev pub rounds_line : List ℕ → Result Request LineFault
+rounds_line count_word = do
+  count ← number_word count_word
+  require (nat_le 1 count && nat_le count most_rounds) fault.BadNumber
+  Ok (Rounds count)
+
 -- what the first word of a line asks for
 abbrev pub verb_of : List ℕ → Option Verb
 verb_of word =
@@ -167,7 +178,8 @@ verb_of word =
     else (if bytes_eq word (codes "credit") then Some verb.Credit
     else (if bytes_eq word (codes "input") then Some verb.Input
     else (if bytes_eq word (codes "claim") then Some verb.Claim
-    else None)))))
+    else (if bytes_eq word (codes "rounds") then Some verb.Rounds
+    else None))))))
 
 -- a line, by what its first word asks for and the words after it
 abbrev pub verb_line : Verb → Plan → List (List ℕ) → Result Request LineFault
@@ -178,6 +190,7 @@ verb_line verb.Credit plan (node ∷ []) = credit_line plan node
 verb_line verb.Input plan (node ∷ []) = input_line plan node (Ok 0)
 verb_line verb.Input plan (node ∷ word ∷ []) = input_line plan node (number_word word)
 verb_line verb.Claim plan (node ∷ input_word ∷ output_word ∷ []) = claim_line plan node input_word output_word
+verb_line verb.Rounds plan (count_word ∷ []) = rounds_line count_word
 verb_line verb plan rest = Err fault.BadShape
 
 -- a line with words

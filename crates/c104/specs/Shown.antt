@@ -4,15 +4,18 @@ use Rattle.c104_token.specs.declared.tokens.Token.{Token}
 use Rattle.c104_token.specs.Kinds.{plain_kind}
 use Rattle.c104_token.specs.Cut.{whole_pieces}
 use Rattle.c104_switch.specs.declared.actions.Reply.{Reply}
+use Rattle.c104_switch.specs.declared.actions.Reply.TheVariants.{Done}
 use Rattle.c104_net.specs.declared.events.EventFault.{EventFault}
 use Rattle.c104_net.specs.Plans.{Plan}
 use Rattle.c104_net.specs.declared.plan.plans.Terminal.{Terminal}
 use Rattle.c104_net.specs.declared.plan.faults.PlanFault.{PlanFault}
 use Rattle.c104_net.specs.PlanImage.{hand_image}
-use Rattle.c104_net.specs.Network.{Network, placed, answered, arrived_of}
+use Rattle.c104_net.specs.Network.{Network, placed, answered}
+use Rattle.c104_net.specs.Finished.{Finished, finished, arrived_in}
+use Rattle.c104_net.specs.Rounds.{rounds, run_until}
 use Rattle.c104.specs.Lines.{script_lines, is_long}
 use Rattle.c104.specs.Script.{LineFault, Request, read_line}
-use Rattle.c104.specs.declared.script.places.Request.TheVariants.{Asked, Refused}
+use Rattle.c104.specs.declared.script.places.Request.TheVariants.{Asked, Refused, Rounds}
 use Rattle.c104.specs.declared.session.Session.{Session}
 use Rattle.c104.specs.Texts.{token_text, answer_text, line_fault_text, numbered, description_text, script_too_long}
 
@@ -24,8 +27,19 @@ first_session plan = record { net = placed plan (hand_image plan); faulty = fals
 abbrev pub event_shown : ℕ → Bool → Result Reply EventFault × Network Token → List ℕ × Session
 event_shown line faulty r = (numbered line (answer_text r.0), record { net = r.1; faulty = faulty })
 
+-- what rounds answer: that they are done, or the refusal of the event that they stopped at
+abbrev pub rounds_answer : Result (Unit {0}) EventFault → Result Reply EventFault
+rounds_answer (Ok u) = Ok Done
+rounds_answer (Err kind) = Err kind
+
+-- the network after so many rounds, or after those events of them that came before a refusal
+abbrev pub rounds_answered : Network Token → ℕ → Result Reply EventFault × Network Token
+rounds_answered net count = let r = run_until plain_kind net (rounds net.plan count) in (rounds_answer r.0, r.1)
+
+-- what a request shows, and the run after it
 abbrev pub request_shown : ℕ → Session → Request → List ℕ × Session
 request_shown line session (Asked event) = event_shown line session.faulty (answered plain_kind session.net event)
+request_shown line session (Rounds count) = event_shown line session.faulty (rounds_answered session.net count)
 request_shown line session (Refused kind) = (numbered line (answer_text (Err kind)), session)
 
 -- a line without words shows nothing; a faulty one changes nothing but that there was one
@@ -62,19 +76,19 @@ packets_text name None = []
 packets_text name (Some arrived) = flat_map (received_text name) (whole_pieces (λ x. x) [] arrived)
 
 -- the lines of these terminals, the first of which has this number
-abbrev pub terminals_text : Network Token → ℕ → List Terminal → List ℕ
-terminals_text net number [] = []
-terminals_text net number (terminal ∷ more) =
-    packets_text terminal.name (arrived_of net number) ++ terminals_text net (suc number) more
+abbrev pub terminals_text : Finished Token → ℕ → List Terminal → List ℕ
+terminals_text run number [] = []
+terminals_text run number (terminal ∷ more) =
+    packets_text terminal.name (arrived_in run number) ++ terminals_text run (suc number) more
 
 -- the summary: for each terminal in order, each whole packet that arrived there, in order
-unfoldable pub summary : Network Token → List ℕ
-summary net = terminals_text net 0 net.plan.terminals
+unfoldable pub summary : Finished Token → List ℕ
+summary run = terminals_text run 0 run.plan.terminals
 
 -- what follows the answers, and whether a script was refused: for its length, or for one of its lines
 abbrev pub ended : Bool → List ℕ × Session → List ℕ × Bool
 ended true r = (r.0 ++ script_too_long, true)
-ended false r = (r.0 ++ summary r.1.net, r.1.faulty)
+ended false r = (r.0 ++ summary (finished r.1.net), r.1.faulty)
 
 -- the answers to a script's lines, and the run after them
 abbrev pub answers : Session → List ℕ → List ℕ × Session

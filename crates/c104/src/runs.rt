@@ -98,11 +98,13 @@ fn run_plan<S: Read, W: Write>(
     ensures { RunsPlan plan.now (prepend_known ahead.old (S.remaining script.old)) (S.remaining script.new) (W.contents writer.old) (W.contents writer.new) result }
 {
     let mut session = Session::new(alloc, plan)?;
-    if answer_script(alloc, &mut session, ahead, script, writer)? {
+    let answered = answer_script(alloc, &mut session, ahead, script, writer);
+    let ended = session.finish();
+    if answered? {
         write_whole(writer, b"script too long\n")?;
         return Ok(true);
     }
-    let summary = summary_text(alloc, &session.net)?;
+    let summary = summary_text(alloc, &ended.run)?;
     write_whole(writer, summary.as_slice())?;
-    Ok(session.faulty)
+    Ok(ended.faulty)
 }

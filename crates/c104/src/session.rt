@@ -1,22 +1,37 @@
 //! A run of a network, line by line.
-ghost use Rattle.std.specs.Prelude.{◌≡◌, ℕ, List, IfOk};
+ghost use Rattle.std.specs.Prelude.{◌≡◌, ◌⊎◌, ℕ, List, Result, Err, IfOk};
 ghost use Rattle.std.specs.String.{string_bytes};
+ghost use Rattle.c104_token.specs.declared.tokens.Token.{Token};
+ghost use Rattle.c104_switch.specs.declared.actions.Reply.{Reply as TheReply};
+ghost use Rattle.c104_net.specs.declared.events.EventFault.{EventFault as TheFault};
+ghost use Rattle.c104_net.specs.declared.events.EventFault.TheVariants as fault;
+ghost use Rattle.c104_net.specs.Finished.{finished};
 ghost use Rattle.c104_net.specs.PlanImage.{hand_image};
-ghost use Rattle.c104.specs.Shown.{first_session, line_shown, request_shown};
+ghost use Rattle.c104_net.specs.Network.{Network};
+ghost use Rattle.c104.specs.Shown.{first_session, line_shown, request_shown, rounds_answered};
 ghost use Rattle.c104.specs.declared.session.Session.{Session as TheSession};
 
 use crate::script::{LineFault, Request, read_line};
 use crate::texts::{fault_text, numbered, refusal_text, reply_text};
-use c104_net::{EventFault, Net, PlaceFault, Plan, hand_image};
+use c104_net::{EventFault, Net, PlaceFault, Plan, Run, hand_image};
+use c104_switch::Reply;
 use c104_token::NoMemory;
 use std::alloc::Global;
 
-/// A network that a script is run on.
-#[derive(Drop)]
+/// A network that a script is run on. It can't be let go of: `finish` ends it.
 pub struct Session {
     /// The network.
     pub net: Net,
     /// Whether a line was faulty so far.
+    pub faulty: bool,
+}
+
+/// What a script's run came to.
+#[derive(Drop)]
+pub struct Ended {
+    /// The run, at its end.
+    pub run: Run,
+    /// Whether a line was faulty.
     pub faulty: bool,
 }
 
@@ -31,6 +46,18 @@ impl Session {
             Ok(net) => Ok(Session { net, faulty: false }),
             Err(PlaceFault::NoMemory) => Err(NoMemory),
             Err(PlaceFault::NotFitting) => unreachable!(),
+        }
+    }
+
+    /// Ends the run.
+    pub fn finish(self) -> Ended
+        ensures run { result.run ≡ finished self.net }
+        ensures faulty { result.faulty ≡ self.faulty }
+    {
+        let Session { net, faulty } = self;
+        Ended {
+            run: net.finish(),
+            faulty,
         }
     }
 
@@ -63,6 +90,7 @@ impl Session {
     {
         let answer = match request {
             Request::Asked(event) => self.net.apply(event),
+            Request::Rounds(count) => do_rounds(alloc, &mut self.net, *count),
             Request::Refused(fault) => Err(*fault),
         };
         let text = match answer {
@@ -72,4 +100,12 @@ impl Session {
         };
         Ok(numbered(alloc, number, text.as_str())?)
     }
+}
+
+/// Does so many rounds, up to the first event that is refused.
+fn do_rounds(alloc: Global, net: &mut Net, count: u32) -> Result<Reply, EventFault>
+    ensures { (◌≡◌ {A = Result TheReply TheFault × Network Token} (result, net.new) (rounds_answered net.old count)) ⊎ (result ≡ Err fault.NoMemory) }
+{
+    net.rounds(alloc, count)?;
+    Ok(Reply::Done)
 }

@@ -3,19 +3,19 @@ ghost use Rattle.std.specs.Prelude.{◌≡◌, ◌++◌, IfOk, OnOk, Some};
 ghost use Rattle.c104_token.specs.Packets.{tokens};
 ghost use Rattle.c104.specs.Shown.{packets_text, received_text, summary};
 
-use c104_net::Net;
+use c104_net::Run;
 use c104_token::{NoMemory, Packet, Token, cut_packets, print_packet};
 use std::alloc::Global;
 
 /// A line for each whole packet that arrived, by terminal in the plan's order and then as they
 /// came. It is made whole before any of it is written, so that want of memory leaves none of it.
 #[tactic(auto, unfolding(crate::specs::Shown::summary))]
-pub fn summary_text(alloc: Global, net: &Net) -> Result<Vec<u8>, NoMemory>
-    ensures { IfOk result (λ text. text.items ≡ summary net.now) }
+pub fn summary_text(alloc: Global, run: &Run) -> Result<Vec<u8>, NoMemory>
+    ensures { IfOk result (λ text. text.items ≡ summary run.now) }
 {
     let mut text = Vec::new(alloc);
-    for (number, terminal) in net.plan().terminals().iter().enumerate() {
-        if let Some(arrived) = net.arrived(number) {
+    for (number, terminal) in run.plan().terminals().iter().enumerate() {
+        if let Some(arrived) = run.arrived(number) {
             add_packets(alloc, terminal.name.as_bytes(), arrived, &mut text)?;
         }
     }

@@ -198,6 +198,8 @@ fn lines(rt: HostRuntime) -> Result<(), Fail> {
         )
     );
     assert!(rt; matches!(asked("cross A.0.0"), Err(LineFault::BadShape)));
+    assert!(rt; matches!(asked("rounds 10000"), Ok(Some(Request::Rounds(10_000)))));
+    assert!(rt; matches!(asked("rounds 0"), Err(LineFault::BadNumber)));
     assert_eq!(rt; LineFault::PacketTooLong.number(), 8);
     assert_eq!(rt; LineFault::PacketTooLong.name(), "PacketTooLong");
     Ok(())

@@ -1,6 +1,6 @@
 //! A script, line by line.
 ghost use Rattle.std.specs.Prelude.{◌≡◌, map};
-ghost use Rattle.c104.specs.Script.{claim_line, credit_line, cross_line, drain_line, input_line, number_word, read_line, request_of, send_line, verb_line, words_line, GivesOrNoMemory};
+ghost use Rattle.c104.specs.Script.{claim_line, credit_line, cross_line, drain_line, input_line, number_word, read_line, request_of, rounds_line, send_line, verb_line, words_line, GivesOrNoMemory};
 ghost use Rattle.c104_net.specs.declared.events.Event.TheVariants as event;
 
 use super::faults::LineFault;
@@ -9,6 +9,9 @@ use super::words::{Verb, read_number_word, read_place, read_verb};
 use c104_net::{Event, Plan, Port, cut_words, is_plain, uncommented};
 use c104_token::parse_words;
 use std::alloc::Global;
+
+/// The most rounds that a line asks for.
+const MAX_ROUNDS: u32 = 10_000;
 
 /// The most bytes of a script's line, its line feed left out.
 pub const MAX_LINE: usize = 16_384;
@@ -68,6 +71,7 @@ fn read_request(
         (Verb::Input, [node]) => read_input(plan, node, Ok(0)),
         (Verb::Input, [node, word]) => read_input(plan, node, read_number_word(word)),
         (Verb::Claim, [node, input, output]) => read_claim(plan, node, input, output),
+        (Verb::Rounds, [count]) => read_rounds(count),
         _ => Err(LineFault::BadShape),
     }
 }
@@ -153,4 +157,15 @@ fn read_claim(plan: &Plan, node: &[u8], input: &[u8], output: &[u8]) -> Result<R
         }),
         Err(fault) => Request::Refused(fault),
     })
+}
+
+/// Reads `rounds N`.
+fn read_rounds(word: &[u8]) -> Result<Request, LineFault>
+    ensures { result ≡ rounds_line word.now }
+{
+    let count = read_number_word(word)?;
+    if count < 1 || count > MAX_ROUNDS {
+        return Err(LineFault::BadNumber);
+    }
+    Ok(Request::Rounds(count))
 }

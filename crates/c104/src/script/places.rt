@@ -10,6 +10,8 @@ use c104_net::{Event, EventFault, Plan, Port};
 pub enum Request {
     /// An event, which the network may still refuse.
     Asked(Event),
+    /// So many rounds, 1 to 10,000.
+    Rounds(u32),
     /// An event of a node that isn't there or of the wrong kind, or of a link where none is wanted
     /// or without one where one is.
     Refused(EventFault),

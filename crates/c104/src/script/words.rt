@@ -14,6 +14,7 @@ pub(super) enum Verb {
     Credit,
     Input,
     Claim,
+    Rounds,
 }
 
 /// A node or a port as a line names it.
@@ -40,6 +41,8 @@ pub(super) fn read_verb(word: &[u8]) -> Option<Verb>
         Some(Verb::Input)
     } else if word == b"claim".as_slice() {
         Some(Verb::Claim)
+    } else if word == b"rounds".as_slice() {
+        Some(Verb::Rounds)
     } else {
         None
     }
