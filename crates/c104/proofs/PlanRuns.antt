@@ -2,7 +2,7 @@
 use Rattle.std.proofs.Common.{◌≡◌, ℕ, Bool, false, true, List, [], ◌++◌, Option, None, Some, Result, Ok, Err, sym, ap, ◌∙◌, refl, subst}
 use Rattle.std.proofs.lemmas.List.{append-nil}
 use Rattle.std.specs.Io.KnownBytes.{Appends}
-use Rattle.c104_net.specs.Plans.{Plan}
+use Rattle.c104_describe.specs.Plans.{Plan}
 use Rattle.c104_net.specs.Finished.{finished}
 use Rattle.c104.specs.declared.halt.Halt.{Halt}
 use Rattle.c104.specs.declared.halt.Halt.TheVariants as halt

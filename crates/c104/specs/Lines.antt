@@ -1,7 +1,7 @@
 -- Texts that come byte by byte: their lines, and the two parts of a text that has a description and a
 -- script.
 use Rattle.std.specs.Prelude.{ℕ, zero, suc, ◌==◌, Bool, false, List, [], ◌∷◌, ◌++◌, length, nat_lt, bytes_eq, codes, if◌then◌else◌}
-use Rattle.c104_net.specs.TextCut.{uncommented, words}
+use Rattle.c104_describe.specs.TextCut.{uncommented, words}
 
 -- the lines of a text that end in a line feed; front is what was read of the first
 abbrev pub whole_lines : List ℕ → List ℕ → List (List ℕ)

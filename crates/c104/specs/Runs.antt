@@ -1,9 +1,9 @@
 -- How a run ends, and what it has written then, where its reader and its writer tell their bytes.
 use Rattle.std.specs.Prelude.{ℕ, ◌≡◌, ◌⊎◌, ⊤, Bool, true, false, List, [], ◌++◌, Option, Some, None, Result, Ok, Err}
 use Rattle.std.specs.Io.KnownBytes.{Appends, Keeps}
-use Rattle.c104_net.specs.Plans.{Plan}
-use Rattle.c104_net.specs.declared.plan.faults.PlanFault.{PlanFault}
-use Rattle.c104_net.specs.PlanText.{described}
+use Rattle.c104_describe.specs.Plans.{Plan}
+use Rattle.c104_describe.specs.declared.faults.PlanFault.{PlanFault}
+use Rattle.c104_describe.specs.PlanText.{described}
 use Rattle.c104.specs.declared.halt.Halt.{Halt}
 use Rattle.c104.specs.declared.halt.Halt.TheVariants as halt
 use Rattle.c104.specs.declared.halt.Status.{Status}

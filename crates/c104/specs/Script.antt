@@ -6,17 +6,17 @@ use Rattle.c104_token.specs.declared.faults.TokenFault.{TokenFault}
 use Rattle.c104_token.specs.declared.faults.TokenFault.TheVariants as token_fault
 use Rattle.c104_token.specs.Text.{parsed_words}
 use Rattle.c104_token.specs.declared.packets.Packet.{Packet}
-use Rattle.c104_net.specs.declared.plan.text.Dots.{Dots}
-use Rattle.c104_net.specs.declared.plan.text.Dots.TheVariants.{Without, At, Several}
+use Rattle.c104_describe.specs.declared.text.Dots.{Dots}
+use Rattle.c104_describe.specs.declared.text.Dots.TheVariants.{Without, At, Several}
 use Rattle.c104_net.specs.declared.events.Port.{Port}
 use Rattle.c104_net.specs.declared.events.Port.TheVariants as port
 use Rattle.c104_net.specs.declared.events.Event.{Event}
 use Rattle.c104_net.specs.declared.events.Event.TheVariants as event
 use Rattle.c104_net.specs.declared.events.EventFault.{EventFault}
 use Rattle.c104_net.specs.declared.events.EventFault.TheVariants.{NoNode, NoLink}
-use Rattle.c104_net.specs.TextCut.{uncommented, words, plain}
-use Rattle.c104_net.specs.TextWords.{number, dots}
-use Rattle.c104_net.specs.Plans.{Plan, switch_number, terminal_number}
+use Rattle.c104_describe.specs.TextCut.{uncommented, words, plain}
+use Rattle.c104_describe.specs.TextWords.{number, dots}
+use Rattle.c104_describe.specs.Plans.{Plan, switch_number, terminal_number}
 pub use Rattle.c104.specs.declared.script.faults.LineFault.{LineFault}
 use Rattle.c104.specs.declared.script.faults.LineFault.TheVariants as fault
 use Rattle.c104.specs.declared.script.words.Verb.{Verb}

@@ -6,10 +6,10 @@ use Rattle.c104_token.specs.Cut.{whole_pieces}
 use Rattle.c104_switch.specs.declared.actions.Reply.{Reply}
 use Rattle.c104_switch.specs.declared.actions.Reply.TheVariants.{Done}
 use Rattle.c104_net.specs.declared.events.EventFault.{EventFault}
-use Rattle.c104_net.specs.Plans.{Plan}
-use Rattle.c104_net.specs.declared.plan.plans.Terminal.{Terminal}
-use Rattle.c104_net.specs.declared.plan.faults.PlanFault.{PlanFault}
-use Rattle.c104_net.specs.PlanImage.{hand_image}
+use Rattle.c104_describe.specs.Plans.{Plan}
+use Rattle.c104_describe.specs.declared.plans.Terminal.{Terminal}
+use Rattle.c104_describe.specs.declared.faults.PlanFault.{PlanFault}
+use Rattle.c104_describe.specs.PlanImage.{hand_image}
 use Rattle.c104_net.specs.Network.{Network, placed, answered}
 use Rattle.c104_net.specs.Finished.{Finished, finished, arrived_in}
 use Rattle.c104_net.specs.Rounds.{rounds, run_until}

@@ -9,8 +9,8 @@ use Rattle.c104_switch.specs.declared.actions.Reply.{Reply}
 use Rattle.c104_switch.specs.declared.actions.Reply.TheVariants as reply
 use Rattle.c104_net.specs.declared.events.EventFault.{EventFault}
 use Rattle.c104_net.specs.EventFaults.{event_fault_number, event_fault_name}
-use Rattle.c104_net.specs.declared.plan.faults.PlanFault.{PlanFault}
-use Rattle.c104_net.specs.PlanFaults.{kind_number, kind_name}
+use Rattle.c104_describe.specs.declared.faults.PlanFault.{PlanFault}
+use Rattle.c104_describe.specs.PlanFaults.{kind_number, kind_name}
 use Rattle.c104.specs.declared.script.faults.LineFault.{LineFault}
 use Rattle.c104.specs.declared.script.faults.LineFault.TheVariants as fault
 

@@ -5,7 +5,7 @@ ghost use Rattle.c104.specs.Lines.{is_script_word, is_script_line, parts_within}
 ghost use Rattle.c104.specs.Reading.{GivesByte, TakesUpTo, TakesFirstPart};
 ghost use Rattle.c104.specs.declared.reading.ReadFault.TheVariants as fault;
 
-use c104_net::{MAX_DESCRIPTION, cut_words, uncommented};
+use c104_describe::{MAX_DESCRIPTION, cut_words, uncommented};
 use std::alloc::{AllocError, AllocFailed, Global};
 use std::io::Read;
 use std::marker::Model;

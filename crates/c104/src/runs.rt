@@ -1,7 +1,7 @@
 //! Runs: a description, and a script that is answered on its network.
 ghost use Rattle.std.specs.Prelude.{◌≡◌};
 ghost use Rattle.std.specs.Io.KnownBytes.{prepend_known};
-ghost use Rattle.c104_net.specs.PlanText.{described};
+ghost use Rattle.c104_describe.specs.PlanText.{described};
 ghost use Rattle.c104.specs.Runs.{Runs, RunsDescription, RunsPlan, RunsText};
 
 use crate::answering::answer_script;
@@ -11,7 +11,7 @@ use crate::session::Session;
 use crate::summary::summary_text;
 use crate::texts::description_text;
 use crate::writing::write_whole;
-use c104_net::{MAX_DESCRIPTION, Plan, PlanFaultKind, read_description};
+use c104_describe::{MAX_DESCRIPTION, Plan, PlanFaultKind, read_description};
 use std::alloc::Global;
 use std::io::{Read, Write};
 

@@ -6,14 +6,15 @@ ghost use Rattle.c104_switch.specs.declared.actions.Reply.{Reply as TheReply};
 ghost use Rattle.c104_net.specs.declared.events.EventFault.{EventFault as TheFault};
 ghost use Rattle.c104_net.specs.declared.events.EventFault.TheVariants as fault;
 ghost use Rattle.c104_net.specs.Finished.{finished};
-ghost use Rattle.c104_net.specs.PlanImage.{hand_image};
+ghost use Rattle.c104_describe.specs.PlanImage.{hand_image};
 ghost use Rattle.c104_net.specs.Network.{Network};
 ghost use Rattle.c104.specs.Shown.{first_session, line_shown, request_shown, rounds_answered};
 ghost use Rattle.c104.specs.declared.session.Session.{Session as TheSession};
 
 use crate::script::{LineFault, Request, read_line};
 use crate::texts::{fault_text, numbered, refusal_text, reply_text};
-use c104_net::{EventFault, Net, PlaceFault, Plan, Run, hand_image};
+use c104_describe::{Plan, hand_image};
+use c104_net::{EventFault, Net, PlaceFault, Run};
 use c104_switch::Reply;
 use c104_token::NoMemory;
 use std::alloc::Global;

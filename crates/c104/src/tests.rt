@@ -1,7 +1,8 @@
 use crate::halt::Status;
 use crate::runs::{run, run_text};
 use crate::script::{LineFault, Request, read_line};
-use c104_net::{Event, EventFault, read_description};
+use c104_describe::read_description;
+use c104_net::{Event, EventFault};
 use std::io;
 use std::io::{ErrorKind, Read, Write};
 use std::test::Fail;

@@ -6,7 +6,8 @@ ghost use Rattle.c104_switch.specs.declared.actions.Reply.TheVariants as reply;
 ghost use Rattle.c104.specs.Texts.{answer_text, description_text, line_fault_text, numbered, reply_text};
 
 use crate::script::LineFault;
-use c104_net::{EventFault, PlanFault};
+use c104_describe::PlanFault;
+use c104_net::EventFault;
 use c104_switch::Reply;
 use c104_token::{Token, digit_of};
 use std::alloc::{AllocError, Global};

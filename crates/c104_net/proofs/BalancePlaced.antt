@@ -9,9 +9,9 @@ use Rattle.c104_net.specs.declared.events.Port.{Port}
 use Rattle.c104_net.specs.declared.events.Port.TheVariants as port
 use Rattle.c104_net.specs.declared.nodes.End.{End}
 use Rattle.c104_net.specs.declared.node.NodeOf.TheVariants.{Switch, Terminal}
-use Rattle.c104_net.specs.Plans.{Plan, IsPlan, IsPort}
-use Rattle.c104_net.specs.Plans as plans
-use Rattle.c104_net.specs.PlanImage.{Image, Fits}
+use Rattle.c104_describe.specs.Plans.{Plan, IsPlan, IsPort}
+use Rattle.c104_describe.specs.declared.plans.Terminal as plans
+use Rattle.c104_describe.specs.PlanImage.{Image, Fits}
 use Rattle.c104_net.specs.Terminals.{first_terminal}
 use Rattle.c104_net.specs.Nodes.{Node}
 use Rattle.c104_net.specs.Wiring.{peer, end_of}

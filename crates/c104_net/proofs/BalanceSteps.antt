@@ -5,7 +5,7 @@ use Rattle.c104_link.specs.Steps.{at_place, from_place, tried, taken}
 use Rattle.c104_switch.proofs.SoundnessSteps.{given, at_place_made, from_place_made, holds_tried, holds_taken}
 use Rattle.c104_net.specs.declared.events.Port.{Port}
 use Rattle.c104_net.specs.declared.nodes.End.{End}
-use Rattle.c104_net.specs.Plans.{Plan, IsPlan}
+use Rattle.c104_describe.specs.Plans.{Plan, IsPlan}
 use Rattle.c104_net.specs.Nodes.{Node, enter, leave, credit_out, credit_in}
 use Rattle.c104_net.specs.Wires.{crossed, credited}
 use Rattle.c104_net.specs.Wiring.{peer, end_of}

@@ -8,7 +8,8 @@ use Rattle.c104_switch.proofs.SoundnessSteps.{All-place}
 use Rattle.c104_net.specs.declared.events.Port.{Port}
 use Rattle.c104_net.specs.declared.events.Port.TheVariants as port
 use Rattle.c104_net.specs.declared.nodes.End.{End}
-use Rattle.c104_net.specs.Plans.{Plan, IsPlan, IsPort, Terminal}
+use Rattle.c104_describe.specs.declared.plans.Terminal.{Terminal}
+use Rattle.c104_describe.specs.Plans.{Plan, IsPlan, IsPort}
 use Rattle.c104_net.specs.Wiring.{terminal_wires, is_port, other_end, peer, end_of}
 
 -- a port that is tested to be another is that one

@@ -1,11 +1,3 @@
-pub mod TextNumbers
-pub mod PlanReading
-pub mod PlanNames
-pub mod PlanKept
-pub mod PlanLinesKept
-pub mod PlanTables
-pub mod PlanSettings
-pub mod PlanDue
 pub mod Sending
 pub mod Crossing
 pub mod Running

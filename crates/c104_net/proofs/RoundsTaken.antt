@@ -3,7 +3,7 @@ use Rattle.std.proofs.Common.{ℕ, zero, suc, ◌≡◌, ◌+◌, ◌<◌, ◌-�
 use Rattle.c104_token.specs.Kinds.{Kind}
 use Rattle.c104_net.specs.declared.events.Event.{Event}
 use Rattle.c104_net.specs.declared.events.EventFault.{EventFault}
-use Rattle.c104_net.specs.Plans.{Plan}
+use Rattle.c104_describe.specs.Plans.{Plan}
 use Rattle.c104_net.specs.Network.{Network}
 use Rattle.c104_net.specs.Rounds.{Outcome, RunEnds, round, rounds, run_until, unless_fault}
 use Rattle.c104_net.proofs.RoundRuns.{run_append, run_from}

@@ -6,7 +6,7 @@ use Rattle.c104_net.specs.declared.node.NodeOf.TheVariants.{Switch, Terminal}
 use Rattle.c104_net.specs.declared.events.Port.{Port}
 use Rattle.c104_net.specs.declared.nodes.End.{End}
 use Rattle.c104_net.specs.Nodes.{Node}
-use Rattle.c104_net.specs.Plans.{Plan}
+use Rattle.c104_describe.specs.Plans.{Plan}
 use Rattle.c104_net.specs.Wiring.{peer, end_of}
 use Rattle.c104_net.specs.Network.{Network}
 

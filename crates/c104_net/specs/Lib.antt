@@ -1,11 +1,3 @@
-pub mod TextCut
-pub mod TextWords
-pub mod PlanFaults
-pub mod Plans
-pub mod PlanLists
-pub mod PlanLines
-pub mod PlanText
-pub mod PlanImage
 pub mod Terminals
 pub mod Nodes
 pub mod Wires

@@ -6,8 +6,9 @@ use Rattle.c104_switch.specs.declared.actions.Reply.{Reply}
 use Rattle.c104_switch.specs.declared.actions.Reply.TheVariants as reply
 use Rattle.c104_regs.specs.declared.settings.Settings.{Settings}
 use Rattle.c104_switch.specs.Switch.{first_with}
-use Rattle.c104_net.specs.Plans.{Plan, Terminal}
-use Rattle.c104_net.specs.PlanImage.{Image}
+use Rattle.c104_describe.specs.declared.plans.Terminal.{Terminal}
+use Rattle.c104_describe.specs.Plans.{Plan}
+use Rattle.c104_describe.specs.PlanImage.{Image}
 use Rattle.c104_net.specs.Terminals.{first_terminal}
 use Rattle.c104_net.specs.declared.node.NodeOf.TheVariants as node
 use Rattle.c104_net.specs.declared.events.Port.{Port}

@@ -5,7 +5,7 @@ use Rattle.std.specs.List.{range_with_len, flat_map}
 use Rattle.c104_token.specs.Kinds.{Kind}
 use Rattle.c104_switch.specs.declared.actions.Reply.{Reply}
 use Rattle.c104_switch.specs.declared.actions.Reply.TheVariants as reply
-use Rattle.c104_net.specs.Plans.{Plan}
+use Rattle.c104_describe.specs.Plans.{Plan}
 use Rattle.c104_net.specs.declared.events.Port.{Port}
 use Rattle.c104_net.specs.declared.events.Port.TheVariants as port
 use Rattle.c104_net.specs.declared.events.Event.{Event}

@@ -1,11 +1,11 @@
 //! A network of switches and terminals.
 ghost use Rattle.std.specs.Prelude.{◌≡◌, ◌≤◌, ℕ, length, slice_get, option_map, MatchResult, IfOk, OnOk, IsErrOf, IfSome, Some, None};
 ghost use Rattle.std.specs.Option.{option_copied};
-ghost use Rattle.c104_net.specs.Plans.{IsPlan};
+ghost use Rattle.c104_describe.specs.Plans.{IsPlan};
 ghost use Rattle.c104_net.specs.Wiring.{peer, end_of, other_end, terminal_wires, IsInPlan};
 ghost use Rattle.c104_net.specs.declared.events.Event.TheVariants as event;
 ghost use Rattle.c104_switch.specs.Actions.{reply_of, reply_with};
-ghost use Rattle.c104_net.specs.PlanImage.{Fits};
+ghost use Rattle.c104_describe.specs.PlanImage.{Fits};
 ghost use Rattle.c104_net.specs.Balance.{IsBalanced};
 ghost use Rattle.c104_net.specs.Finished.{finished, arrived_in};
 ghost use Rattle.c104_net.specs.Network.{placed, arrived_of, Answers, Runs, event_fault, port_fault, wire_fault, terminal_place};
@@ -13,9 +13,9 @@ ghost use Rattle.c104_net.specs.Network.{placed, arrived_of, Answers, Runs, even
 use crate::events::{Event, EventFault, PlaceFault, Port};
 use crate::nodes::{End, NodesOf};
 use crate::placing::{place, retire_all};
-use crate::plan::{Image, Plan, Terminal};
 use crate::run::RunOf;
 use crate::terminal::TerminalOf;
+use c104_describe::{Image, Plan, Terminal};
 use c104_switch::{LINKS, Reply};
 use c104_token::{MAX_PACKET_BYTES, Packet, Token, TokenKind};
 use std::alloc::{AllocError, Global};
@@ -44,7 +44,7 @@ pub type Net = NetOf<Token>;
 impl<T: TokenKind> Model for NetOf<T> {
     ghost use Rattle.c104_net.specs.declared.events.Event.TheVariants as event;
     ghost use Rattle.c104_switch.specs.Actions.{reply_of, reply_with};
-    ghost use Rattle.c104_net.specs.PlanImage.{Fits};
+    ghost use Rattle.c104_describe.specs.PlanImage.{Fits};
     ghost use Rattle.c104_net.specs.Network.{placed, arrived_of, Network};
     ghost use Rattle.c104_net.specs.Balance.{IsSteady};
     ghost use Rattle.std.specs.Prelude.{◌≡◌, ◌≤◌, [], length};

@@ -1,11 +1,11 @@
 //! The nodes of a network at first.
 ghost use Rattle.std.specs.Prelude.{◌≡◌, ◌++◌, [], length, All, OnOk};
 ghost use Rattle.c104_net.specs.Network.{switch_nodes, terminal_nodes};
-ghost use Rattle.c104_net.specs.PlanImage.{AreSettings};
+ghost use Rattle.c104_describe.specs.PlanImage.{AreSettings};
 
 use crate::node::NodeOf;
-use crate::plan::{Image, Plan, Terminal};
 use crate::terminal::TerminalOf;
+use c104_describe::{Image, Plan, Terminal};
 use c104_regs::Settings;
 use c104_switch::SwitchOf;
 use c104_token::{Items, NoMemory, TokenKind};

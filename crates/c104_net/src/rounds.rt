@@ -6,7 +6,7 @@ ghost use Rattle.c104_net.specs.declared.events.Event.TheVariants as event;
 
 use crate::events::{Event, EventFault, Port};
 use crate::net::{NetOf, peer};
-use crate::plan::Plan;
+use c104_describe::Plan;
 use c104_switch::{LINKS, Reply};
 use c104_token::{NoMemory, TokenKind};
 use std::alloc::Global;

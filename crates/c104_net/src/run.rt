@@ -3,8 +3,8 @@ ghost use Rattle.std.specs.Prelude.{◌≡◌};
 ghost use Rattle.std.specs.Option.{option_copied};
 ghost use Rattle.c104_net.specs.Finished.{arrived_in};
 
-use crate::plan::Plan;
 use crate::terminal::TerminalOf;
+use c104_describe::Plan;
 use c104_token::{Token, TokenKind};
 use std::marker::Model;
 

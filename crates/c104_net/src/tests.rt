@@ -1,4 +1,5 @@
-use crate::{Event, EventFault, Net, PlaceFault, Port, hand_image, read_description};
+use crate::{Event, EventFault, Net, PlaceFault, Port};
+use c104_describe::{hand_image, read_description};
 use c104_switch::Reply;
 use c104_token::{Token, cut_packets, parse_packet, print_packet};
 use std::alloc::Global;

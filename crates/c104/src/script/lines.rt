@@ -6,7 +6,8 @@ ghost use Rattle.c104_net.specs.declared.events.Event.TheVariants as event;
 use super::faults::LineFault;
 use super::places::{Request, find_input, find_port, find_switch, find_terminal};
 use super::words::{Verb, read_number_word, read_place, read_verb};
-use c104_net::{Event, Plan, Port, cut_words, is_plain, uncommented};
+use c104_describe::{Plan, cut_words, is_plain, uncommented};
+use c104_net::{Event, Port};
 use c104_token::parse_words;
 use std::alloc::Global;
 

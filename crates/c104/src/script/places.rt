@@ -3,7 +3,8 @@ ghost use Rattle.std.specs.Prelude.{◌≡◌};
 ghost use Rattle.c104.specs.Script.{input_at, port_at, switch_at, terminal_at};
 
 use super::words::PlaceWord;
-use c104_net::{Event, EventFault, Plan, Port};
+use c104_describe::Plan;
+use c104_net::{Event, EventFault, Port};
 
 /// What a line asks of a network.
 #[derive(Debug, Drop)]

@@ -3,7 +3,7 @@ ghost use Rattle.std.specs.Prelude.{◌≡◌, Err, MatchResult, Ok};
 ghost use Rattle.c104.specs.Script.{number_word, place_word, verb_of};
 
 use super::faults::LineFault;
-use c104_net::{Dots, find_dots, read_number};
+use c104_describe::{Dots, find_dots, read_number};
 
 /// What the first word of a line asks for.
 #[derive(Clone, Copy)]

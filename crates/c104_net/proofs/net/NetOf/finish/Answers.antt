@@ -1,5 +1,5 @@
 use Rattle.std.proofs.Common.{◌∙◌, length, sym, ap, arith}
-use Rattle.c104_net.specs.Plans.{Plan}
+use Rattle.c104_describe.specs.Plans.{Plan}
 use Rattle.c104_net.specs.Network.{Network, arrived_of}
 use Rattle.c104_net.specs.Finished.{arrived_in}
 use Rattle.c104_net.proofs.Finishing.{terminals_counted, arrived_same}

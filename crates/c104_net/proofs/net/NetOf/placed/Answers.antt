@@ -1,5 +1,5 @@
 use Rattle.std.proofs.Common.{◌∙◌}
-use Rattle.c104_net.specs.PlanImage.{Fits}
+use Rattle.c104_describe.specs.PlanImage.{Fits}
 use Rattle.c104_net.proofs.BalancePlaced.{steady_made}
 use Rattle.c104_net.proofs.net.NetOf.placed.Goals as goal
 

@@ -1,0 +1,143 @@
+-- The grammar of a description: what a line says after the lines before it. Of all that is wrong
+-- with a line the fault of the least number is answered, so each line's conditions stand in the
+-- order of the faults' numbers.
+use Rattle.std.specs.Prelude.{ℕ, ◌+◌, ◌==◌, ◌&&◌, Bool, true, false, not, List, [], ◌∷◌, ◌++◌, length, take, drop, nat_le, nat_lt, bytes_eq, codes, if◌then◌else◌, Option, Some, None, Result, Ok, Err}
+use Rattle.c104_interval.specs.declared.intervals.Select.{Select}
+use Rattle.c104_interval.specs.declared.intervals.Select.TheVariants.{Link, Sink}
+use Rattle.c104_describe.specs.declared.text.Dots.{Dots}
+use Rattle.c104_describe.specs.declared.text.Dots.TheVariants.{Without, At, Several}
+use Rattle.c104_describe.specs.declared.words.Keyword.{Keyword}
+use Rattle.c104_describe.specs.declared.words.Keyword.TheVariants as keyword
+use Rattle.c104_describe.specs.declared.faults.PlanFaultKind.TheVariants.{BadName, BadNumber, BadShape, LinkTaken, NameTaken, TooMany, Twice, UnknownName, UnknownWord}
+use Rattle.c104_describe.specs.TextCut.{uncommented, words, plain}
+use Rattle.c104_describe.specs.TextWords.{number, is_name, dots}
+use Rattle.c104_describe.specs.PlanFaults.{PlanFaultKind}
+use Rattle.c104_describe.specs.Plans.{Plan, switch_number, terminal_number, is_taken, is_linked, is_continued, is_deleted, rows_of, most_switches, most_terminals, most_rows}
+
+infixl 20 ◌>>=◌
+infixl 20 ◌>>◌
+-- what is read, and then what is read by it
+abbrev pub ◌>>=◌ : {X Y : Type 0} → Result X PlanFaultKind → (X → Result Y PlanFaultKind) → Result Y PlanFaultKind
+Ok x >>= f = f x
+Err kind >>= f = Err kind
+
+-- a condition, and then what is read where it holds
+abbrev pub ◌>>◌ : {Y : Type 0} → Result Bool PlanFaultKind → Result Y PlanFaultKind → Result Y PlanFaultKind
+Ok x >> r = r
+Err kind >> r = Err kind
+
+-- a condition, and the fault where it doesn't hold
+abbrev pub require : Bool → PlanFaultKind → Result Bool PlanFaultKind
+require true kind = Ok true
+require false kind = Err kind
+
+-- a value, and the fault where there is none
+abbrev pub wanted : {X : Type 0} → Option X → PlanFaultKind → Result X PlanFaultKind
+wanted (Some x) kind = Ok x
+wanted None kind = Err kind
+
+-- a number that is at most so much
+abbrev pub number_to : ℕ → List ℕ → Result ℕ PlanFaultKind
+number_to most word = do
+  value ← wanted (number word) BadNumber
+  require (nat_le value most) BadNumber
+  Ok value
+
+-- what a row selects: a link of the switch, or `sink`
+abbrev pub select_word : List ℕ → Result Select PlanFaultKind
+select_word word =
+    if bytes_eq word (codes "sink") then Ok Sink
+    else (do
+      link ← number_to 31 word
+      Ok (Link link))
+
+-- the two sides of a port's dot, by where it is
+abbrev pub port_at : List ℕ → Dots → Result (List ℕ × ℕ) PlanFaultKind
+port_at word Without = Err BadShape
+port_at word Several = Err BadShape
+port_at word (At at) = do
+  link ← number_to 31 (drop (at + 1) word)
+  Ok (take at word, link)
+
+-- a port, `NAME.NUMBER`: what stands for the name, which may be none, and the link
+abbrev pub port_word : List ℕ → Result (List ℕ × ℕ) PlanFaultKind
+port_word word = port_at word (dots word)
+
+-- `switch N`
+abbrev pub switch_line : Plan → List ℕ → Result Plan PlanFaultKind
+switch_line plan name = do
+  require (is_name name) BadName
+  require (not (is_taken plan name)) NameTaken
+  require (nat_lt (length plan.switches) most_switches) TooMany
+  Ok (record plan { switches = plan.switches ++ name ∷ [] })
+
+-- `terminal N S.l`: it has one label, and its range begins where that of the terminal before ended
+abbrev pub terminal_line : Plan → List ℕ → List ℕ → Result Plan PlanFaultKind
+terminal_line plan name word = do
+  port ← port_word word
+  require (is_name name && is_name port.0) BadName
+  require (not (is_taken plan name)) NameTaken
+  switch ← wanted (switch_number plan port.0) UnknownName
+  require (not (is_linked plan switch port.1)) LinkTaken
+  require (nat_lt (length plan.terminals) most_terminals) TooMany
+  Ok (record plan { terminals = plan.terminals ++ record { name = name; switch = switch; link = port.1; first = length plan.terminals; count = 1 } ∷ [] })
+
+-- `continue S.l`: the link, which isn't the first, continues the group of the link before it
+abbrev pub continue_line : Plan → List ℕ → Result Plan PlanFaultKind
+continue_line plan word = do
+  port ← port_word word
+  require (not (port.1 == 0)) BadNumber
+  require (is_name port.0) BadName
+  switch ← wanted (switch_number plan port.0) UnknownName
+  require (not (is_continued plan switch port.1)) Twice
+  Ok (record plan { continues = plan.continues ++ record { switch = switch; link = port.1 } ∷ [] })
+
+-- `delete T`: headers are deleted at the switch's link to that terminal
+abbrev pub delete_line : Plan → List ℕ → Result Plan PlanFaultKind
+delete_line plan name = do
+  require (is_name name) BadName
+  terminal ← wanted (terminal_number plan name) UnknownName
+  require (not (is_deleted plan terminal)) Twice
+  Ok (record plan { deletes = plan.deletes ++ terminal ∷ [] })
+
+-- `row S.l limit select`: the next row of that input
+abbrev pub row_line : Plan → List ℕ → List ℕ → List ℕ → Result Plan PlanFaultKind
+row_line plan word limit select = do
+  port ← port_word word
+  limit ← number_to 65536 limit
+  select ← select_word select
+  require (is_name port.0) BadName
+  switch ← wanted (switch_number plan port.0) UnknownName
+  require (nat_lt (length (rows_of plan switch port.1)) most_rows) TooMany
+  Ok (record plan { rows = plan.rows ++ record { switch = switch; link = port.1; limit = limit; select = select } ∷ [] })
+
+-- what the first word of a line says
+abbrev pub keyword_of : List ℕ → Option Keyword
+keyword_of word =
+    if bytes_eq word (codes "switch") then Some keyword.Switch
+    else (if bytes_eq word (codes "terminal") then Some keyword.Terminal
+    else (if bytes_eq word (codes "continue") then Some keyword.Continue
+    else (if bytes_eq word (codes "delete") then Some keyword.Delete
+    else (if bytes_eq word (codes "row") then Some keyword.Row
+    else None))))
+
+-- a line, by what its first word says and the words after it
+abbrev pub keyword_line : Keyword → Plan → List (List ℕ) → Result Plan PlanFaultKind
+keyword_line keyword.Switch plan (name ∷ []) = switch_line plan name
+keyword_line keyword.Terminal plan (name ∷ port ∷ []) = terminal_line plan name port
+keyword_line keyword.Continue plan (port ∷ []) = continue_line plan port
+keyword_line keyword.Delete plan (name ∷ []) = delete_line plan name
+keyword_line keyword.Row plan (port ∷ limit ∷ select ∷ []) = row_line plan port limit select
+keyword_line keyword plan rest = Err BadShape
+
+-- a line, by its words; is_plain says that it has no byte that no line may have
+abbrev pub words_line : Plan → Bool → List (List ℕ) → Result Plan PlanFaultKind
+words_line plan is_plain [] = Ok plan
+words_line plan is_plain (first ∷ rest) = do
+  keyword ← wanted (keyword_of first) UnknownWord
+  require is_plain BadShape
+  keyword_line keyword plan rest
+
+-- the plan after a line, or what is wrong with it
+abbrev pub read_line : Plan → List ℕ → Result Plan PlanFaultKind
+read_line plan line = words_line plan (plain (uncommented line)) (words (uncommented line))

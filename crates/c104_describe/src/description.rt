@@ -1,0 +1,62 @@
+//! Descriptions: whole texts.
+ghost use Rattle.std.specs.Prelude.{◌≡◌, ◌<◌, ◌⊎◌, length, map, Err, Ok, MatchResult, IfErr, IfOk};
+ghost use Rattle.c104_describe.specs.declared.faults.PlanFaultKind.TheVariants.{TooLong};
+ghost use Rattle.c104_describe.specs.PlanFaults.{fault_at, no_memory};
+ghost use Rattle.c104_describe.specs.PlanLists.{plan_of};
+ghost use Rattle.c104_describe.specs.PlanText.{described, empty_plan, read_lines, GivesLists, GivesOrNoMemory, IsDue};
+ghost use Rattle.c104_describe.specs.Plans.{IsPlan};
+
+use crate::faults::{PlanFault, PlanFaultKind};
+use crate::lines::read_line;
+use crate::plans::{Lists, Plan};
+use crate::text::cut_lines;
+use std::alloc::Global;
+
+/// The most bytes of a description: 1 MiB.
+pub const MAX_DESCRIPTION: usize = 1_048_576;
+
+/// Reads the description of a network, by this profile's grammar.
+///
+/// Its lines are `switch N`, `terminal N S.l`, `continue S.l`, `delete T` and `row S.l limit select`;
+/// `#` begins a comment.
+/// Refused is a text of more than 1 MiB, before any line; else the first faulty line, with the least
+/// of its faults; or, whatever its lines say, want of memory.
+pub fn read_description(alloc: Global, text: &[u8]) -> Result<Plan, PlanFault>
+    ensures described { GivesOrNoMemory result (described text.now) }
+    ensures too_long { 1048576 < length text.now → result ≡ Err (fault_at 0 TooLong) }
+    ensures kept { IfOk result IsPlan }
+
+    // The first faulty line, in the sense of the word: the lines before it are a description.
+    ensures due { IfErr result (IsDue text.now) }
+{
+    if text.len() > MAX_DESCRIPTION {
+        return Err(fault_at(0, PlanFaultKind::TooLong));
+    }
+    let lines = cut_lines(alloc, text)?;
+    let lists = read_lines(alloc, lines.as_slice())?;
+    Ok(Plan { lists })
+}
+
+/// Reads the lines of a description, the first of which is line 1.
+fn read_lines(alloc: Global, lines: &[&[u8]]) -> Result<Lists, PlanFault>
+    ensures { GivesLists result (read_lines 1 (map (λ line. line.now) lines.now) empty_plan) }
+{
+    let mut lists = Lists::new(alloc);
+    for (index, line) in lines.iter().enumerate() {
+        match read_line(alloc, &mut lists, line) {
+            Ok(()) => {}
+            Err(kind) => return Err(fault_at(index + 1, kind)),
+        }
+    }
+    Ok(lists)
+}
+
+/// A fault of a line. Want of memory belongs to no line.
+fn fault_at(line: usize, kind: PlanFaultKind) -> PlanFault
+    ensures { result ≡ fault_at line kind }
+{
+    match kind {
+        PlanFaultKind::NoMemory => PlanFault { line: 0, kind },
+        _ => PlanFault { line, kind },
+    }
+}

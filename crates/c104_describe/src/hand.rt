@@ -1,0 +1,109 @@
+//! The image that a plan's own lines give.
+ghost use Rattle.std.specs.Prelude.{◌≡◌, length, map, slice_get, IfOk};
+ghost use Rattle.std.specs.List.{range_with_len};
+ghost use Rattle.c104_describe.specs.Plans.{IsPlan, deletes_at, is_on};
+ghost use Rattle.c104_describe.specs.PlanImage.{Fits, hand_image, range_of, settings_of, switch_settings, table_of};
+
+use crate::image::{Image, LINKS};
+use crate::plans::Plan;
+use c104_interval::{Row, Table};
+use c104_regs::Settings;
+use c104_token::{Items, NoMemory};
+use std::alloc::{AllocError, Global};
+
+/// The image that a plan's own lines give: each terminal's range, the links at which headers are
+/// deleted, those that continue a group, and the rows of each input, row by row from 0 on. All
+/// else is as after a reset. Only want of memory is refused.
+pub fn hand_image(alloc: Global, plan: &Plan) -> Result<Image, NoMemory>
+    ensures image { IfOk result (λ image. image ≡ hand_image plan.now) }
+    ensures fits { IfOk result (λ image. Fits image plan.now) }
+{
+    let ranges = ranges(alloc, plan)?;
+    let settings = all_settings(alloc, plan)?;
+    Ok(Image { ranges, settings })
+}
+
+/// The range of each terminal.
+fn ranges(alloc: Global, plan: &Plan) -> Result<Vec<(u32, u32)>, AllocError>
+    ensures { IfOk result (λ ranges. ranges.items ≡ map range_of plan.now.terminals) }
+{
+    plan.terminals()
+        .iter()
+        .map(|terminal| (terminal.first, terminal.count))
+        .collect(alloc)
+}
+
+/// What is set at the links of each switch.
+fn all_settings(alloc: Global, plan: &Plan) -> Result<Vec<Items<Settings>>, AllocError>
+    ensures settings { IfOk result (λ settings. settings.items
+        ≡ map (switch_settings plan.now) (range_with_len 0 (length plan.now.switches))) }
+    ensures kept { IsPlan plan.now }
+{
+    let mut all = Vec::new(alloc);
+    for switch in 0..plan.switches().len() {
+        let settings = switch_settings(alloc, plan, switch)?;
+        all.push(Items::new(settings))?;
+    }
+    Ok(all)
+}
+
+/// What is set at a switch's links.
+fn switch_settings(alloc: Global, plan: &Plan, switch: usize) -> Result<Vec<Settings>, AllocError>
+    ensures { IfOk result (λ settings. settings.items ≡ switch_settings plan.now switch) }
+{
+    let mut settings = Vec::new(alloc);
+    for link in 0..LINKS {
+        settings.push(settings_of(plan, switch, link))?;
+    }
+    Ok(settings)
+}
+
+/// What is set at a link.
+#[tactic(auto, unfolding(crate::specs::PlanImage::settings_of))]
+fn settings_of(plan: &Plan, switch: usize, link: usize) -> Settings
+    ensures { result ≡ settings_of plan.now switch link }
+{
+    let mut settings = Settings::plain(table_of(plan, switch, link));
+    settings.delete_header = deletes_at(plan, switch, link);
+    settings.continue_group = plan.lists.is_continued(switch, link);
+    settings
+}
+
+/// Whether headers are deleted at a link: one of the plan's deletes is of a terminal on it.
+#[tactic(auto, unfolding(crate::specs::Plans::deletes_at))]
+fn deletes_at(plan: &Plan, switch: usize, link: usize) -> bool
+    ensures { result ≡ deletes_at plan.now switch link }
+{
+    plan.deletes()
+        .iter()
+        .any(|terminal| is_on(plan, *terminal, switch, link))
+}
+
+/// Whether there is a terminal of this number, and it is on this link of this switch.
+fn is_on(plan: &Plan, terminal: usize, switch: usize, link: usize) -> bool
+    ensures { result ≡ is_on switch link (slice_get plan.now.terminals terminal) }
+{
+    match plan.terminals().get(terminal) {
+        Some(terminal) => terminal.switch == switch && terminal.link == link,
+        None => false,
+    }
+}
+
+/// The table of an input.
+#[tactic(auto, using(crate::proofs::PlanTables::room_in))]
+fn table_of(plan: &Plan, switch: usize, link: usize) -> Table
+    ensures { result ≡ table_of plan.now switch link }
+{
+    let mut table = Table::reset();
+    let mut count = 0;
+    for row in plan.rows() {
+        if row.is_of(switch, link) {
+            table.rows[count] = Row {
+                limit: row.limit,
+                select: row.select,
+            };
+            count += 1;
+        }
+    }
+    table
+}

@@ -1,0 +1,121 @@
+//! The words of a text: how it is cut into lines and words, and what a number and a name are.
+ghost use Rattle.std.specs.Prelude.{◌≡◌, ◌^◌, ◌<◌, ◌==◌, length, map, position, IfOk, IfSome};
+ghost use Rattle.std.specs.List.{list_all};
+ghost use Rattle.c104_describe.specs.TextCut.{lines, uncommented, words, plain};
+ghost use Rattle.c104_describe.specs.TextWords.{number, is_name, is_name_byte, dots, IsInside};
+
+use std::alloc::{AllocError, Global};
+
+/// The most bytes of a name.
+const MAX_NAME: usize = 32;
+
+/// The most digits of a number.
+const MAX_DIGITS: usize = 7;
+
+/// How many dots a word has, and where a lone one stands.
+#[derive(Clone, Copy, Debug, PartialEq, Eq)]
+pub enum Dots {
+    /// The word has none.
+    Without,
+    /// The word has one, at this place from 0.
+    At(usize),
+    /// The word has more.
+    Several,
+}
+
+/// The lines of a text. A line feed ends a line; what follows the last one is a line too.
+pub fn cut_lines<'a>(alloc: Global, text: &'a [u8]) -> Result<Vec<&'a [u8]>, AllocError>
+    ensures { IfOk result (λ list. map (λ line. line.now) list.items ≡ lines text.now) }
+{
+    text.split(|byte| *byte == b'\n').collect(alloc)
+}
+
+/// A line without its comment, which begins at the first `#`.
+pub fn uncommented(line: &[u8]) -> &[u8]
+    ensures { result.now ≡ uncommented line.now }
+{
+    match place_of(b'#', line) {
+        Some(at) => &line[..at],
+        None => line,
+    }
+}
+
+/// The words of a line, which spaces, tabs and carriage returns part.
+pub fn cut_words<'a>(alloc: Global, line: &'a [u8]) -> Result<Vec<&'a [u8]>, AllocError>
+    ensures { IfOk result (λ list. map (λ word. word.now) list.items ≡ words line.now) }
+{
+    line.split(|byte| *byte == b' ' || *byte == b'\t' || *byte == b'\r')
+        .filter(|word| !word.is_empty())
+        .collect(alloc)
+}
+
+/// Whether each byte is a printable one of ASCII, 32 to 126, or parts words.
+pub fn is_plain(line: &[u8]) -> bool
+    ensures { result ≡ plain line.now }
+{
+    line.iter()
+        .all(|byte| matches!(*byte, b' '..=b'~' | b'\t' | b'\r'))
+}
+
+/// The value of a number: 1 to 7 decimal digits.
+pub fn read_number(word: &[u8]) -> Option<u32>
+    ensures value { result ≡ number word.now }
+    ensures range { IfSome result (λ value. value < 10 ^ 7) }
+{
+    if word.is_empty() || word.len() > MAX_DIGITS {
+        return None;
+    }
+    let mut value = 0;
+    for digit in word {
+        if !digit.is_ascii_digit() {
+            return None;
+        }
+        value = 10 * value + u32::from(digit - b'0');
+    }
+    Some(value)
+}
+
+/// Whether a word is a name: a letter, and then letters, digits, `_` and `-`, at most 32 bytes.
+pub fn is_name(word: &[u8]) -> bool
+    ensures { result ≡ is_name word.now }
+{
+    match word {
+        [first, rest @ ..] => {
+            first.is_ascii_alphabetic() && rest.len() < MAX_NAME && are_name_bytes(rest)
+        }
+        [] => false,
+    }
+}
+
+/// Whether a byte may stand in a name after its first letter.
+fn is_name_byte(byte: u8) -> bool
+    ensures { result ≡ is_name_byte byte }
+{
+    byte.is_ascii_alphanumeric() || byte == b'_' || byte == b'-'
+}
+
+fn are_name_bytes(bytes: &[u8]) -> bool
+    ensures { result ≡ list_all is_name_byte bytes.now }
+{
+    bytes.iter().all(|byte| is_name_byte(*byte))
+}
+
+/// The first place of a byte.
+fn place_of(byte: u8, bytes: &[u8]) -> Option<usize>
+    ensures place { result ≡ position (λ b. b == byte) bytes.now }
+    ensures inside { IfSome result (λ at. at < length bytes.now) }
+{
+    bytes.iter().position(|b| *b == byte)
+}
+
+/// Looks for the dot that parts a node's name from a link's number, as in `A.0`.
+pub fn find_dots(word: &[u8]) -> Dots
+    ensures value { result ≡ dots word.now }
+    ensures inside { IsInside result (length word.now) }
+{
+    match place_of(b'.', word) {
+        None => Dots::Without,
+        Some(at) if word[at + 1..].contains(&b'.') => Dots::Several,
+        Some(at) => Dots::At(at),
+    }
+}

@@ -1,7 +1,0 @@
--- The lists in which a plan is kept.
-use Rattle.c104_net.specs.declared.plan.plans.Lists.{Lists}
-use Rattle.c104_net.specs.Plans.{Plan}
-
--- the plan that they are
-abbrev pub plan_of : Lists → Plan
-plan_of lists = record { switches = lists.switches.items; terminals = lists.terminals.items; continues = lists.continues.items; deletes = lists.deletes.items; rows = lists.rows.items }
