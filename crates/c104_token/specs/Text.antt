@@ -38,6 +38,16 @@ word_of (a ∷ b ∷ c ∷ []) =
     else word.Other)
 word_of (a ∷ b ∷ c ∷ d ∷ more) = word.Other
 
+-- the byte that a word of two digits spells, if it does
+abbrev pub byte_of_digits : Option ℕ → Option ℕ → Option ℕ
+byte_of_digits None low = None
+byte_of_digits (Some x) None = None
+byte_of_digits (Some x) (Some y) = Some (16 * x + y)
+
+abbrev pub byte_spelled : List ℕ → Option ℕ
+byte_spelled (a ∷ b ∷ []) = byte_of_digits (hex_value a) (hex_value b)
+byte_spelled word = None
+
 -- the packet that words say after these bytes, or the first fault from the left
 abbrev pub read : List Word → List ℕ → Result Packet TokenFault
 read [] bytes = Err fault.NoEnd

@@ -1,7 +1,7 @@
 ghost use Rattle.std.specs.Prelude.{◌≡◌, ◌≤◌, ◌<◌, ◌+◌, ◌*◌, ◌∷◌, ℕ, [], length, map, IfOk, IfSome};
 ghost use Rattle.std.specs.String.{string_bytes};
 ghost use Rattle.c104_token.specs.Packets.{Packet as ThePacket};
-ghost use Rattle.c104_token.specs.Text.{words, word_of, hex_value, parsed, parsed_words, printed, hex_digit, IsPacketText, GivesOrNoMemory};
+ghost use Rattle.c104_token.specs.Text.{words, word_of, byte_spelled, hex_value, parsed, parsed_words, printed, hex_digit, IsPacketText, GivesOrNoMemory};
 
 use crate::faults::{NoMemory, TokenFault};
 use crate::list::Items;
@@ -77,11 +77,24 @@ fn read_word(word: &[u8]) -> Word
     match word {
         [b'e', b'o', b'p'] => Word::End(Mark::Eop),
         [b'e', b'o', b'm'] => Word::End(Mark::Eom),
-        [high, low] => match (read_digit(*high), read_digit(*low)) {
-            (Some(high), Some(low)) => Word::Byte(16 * high + low),
-            _ => Word::Other,
+        _ => match read_byte(word) {
+            Some(byte) => Word::Byte(byte),
+            None => Word::Other,
         },
-        _ => Word::Other,
+    }
+}
+
+/// The byte that two hexadecimal digits of either case spell, the high one first. None where the
+/// word is anything else.
+pub fn read_byte(word: &[u8]) -> Option<u8>
+    ensures { result ≡ byte_spelled word.now }
+{
+    match word {
+        [high, low] => match (read_digit(*high), read_digit(*low)) {
+            (Some(high), Some(low)) => Some(16 * high + low),
+            _ => None,
+        },
+        _ => None,
     }
 }
 

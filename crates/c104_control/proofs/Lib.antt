@@ -1,0 +1,2 @@
+pub mod ReadCommands
+pub mod ReadReplies

@@ -1,0 +1,153 @@
+-- A command is read from its bytes, and from no others.
+use Rattle.std.proofs.Common.{◌≡◌, ◌≢◌, ◌↔◌, ℕ, zero, suc, ◌<◌, ◌^◌, Bool, true, false, nat_eq, List, [], ◌∷◌, ◌++◌, get_or, Result, Ok, Err, if◌then◌else◌, refl, sym, subst, ap, ◌∙◌, arith}
+use Rattle.std.proofs.lemmas.Bool.Decides.{nat_tests}
+use Rattle.std.proofs.lemmas.Nat.{from_le_bytes-to_le_bytes_2, from_le_bytes-to_le_bytes_4, le_bytes_2, le_bytes_4}
+use Rattle.std.specs.Int.{w16, w32, to_le_bytes, from_le_bytes}
+use Rattle.c104_control.specs.Table.{Command, IsCommand, IsUnknownCode, bytes_of, line}
+use Rattle.c104_control.specs.declared.commands.Command.TheVariants.{Start, Reset, Identify, CPeek, CPoke}
+use Rattle.c104_control.specs.Reading.{alone, peek_of, poke_of, read}
+use Rattle.c104_control.specs.Faults.{CommandFault}
+use Rattle.c104_control.specs.declared.faults.CommandFault.TheVariants.{UnknownCode, WrongLength}
+
+-- what was written is read back
+pub read_back : (c : Command) → IsCommand c → read (bytes_of c) ≡ Ok c
+read_back Start is = refl
+read_back Reset is = refl
+read_back Identify is = refl
+read_back (CPeek a) is = ap (λ n. Ok (CPeek n)) (from_le_bytes-to_le_bytes_2 a is)
+read_back (CPoke a v) (is_a, is_v) = rw (from_le_bytes-to_le_bytes_2 a is_a) (rw (from_le_bytes-to_le_bytes_4 v is_v) refl)
+
+-- each byte is below 256
+abbrev pub AreBytes : List ℕ → Type 0
+AreBytes bytes = (i : ℕ) → get_or bytes i 0 < 256
+
+-- what says that a command was read from these bytes
+abbrev pub IsRead : List ℕ → Command → Type 0
+IsRead bytes c = IsCommand c × (bytes_of c ≡ bytes)
+
+-- a command, or why bytes are none
+abbrev pub Read : Type 0
+Read = Result Command CommandFault
+
+same : (d c : Command) → ◌≡◌ {A = Read} (Ok d) (Ok c) → d ≡ c
+same d c is = let it : d ≡ c = cc in it
+
+read_as : (d c : Command) (bytes : List ℕ) → ◌≡◌ {A = Read} (Ok d) (Ok c) → IsRead bytes d → IsRead bytes c
+read_as d c bytes is was = subst (λ e. IsRead bytes e) (same d c is) was
+
+no_read : (bytes : List ℕ) (c : Command) → ◌≡◌ {A = Read} (Err WrongLength) (Ok c) → IsRead bytes c
+no_read bytes c is = cc
+
+alone_read : (code : ℕ) (operands : List ℕ) (d c : Command) → IsRead (code ∷ []) d → alone d operands ≡ Ok c → IsRead (code ∷ operands) c
+alone_read code [] d c is at = read_as d c _ at is
+alone_read code (b ∷ operands) d c is at = no_read _ c at
+
+peek_read : (operands : List ℕ) (c : Command) → AreBytes operands → peek_of operands ≡ Ok c → IsRead (4 ∷ operands) c
+peek_read [] c are at = no_read _ c at
+peek_read (a ∷ []) c are at = no_read _ c at
+peek_read (a ∷ b ∷ []) c are at =
+    let below : (a < 256) × (b < 256) = (are 0, are 1) in
+    let within : from_le_bytes w16 (a ∷ b ∷ []) < 2 ^ 16 = omega (arith, below) in
+    read_as (CPeek (from_le_bytes w16 (a ∷ b ∷ []))) c _ at (within, ap (λ xs. 4 ∷ xs) (le_bytes_2 (a ∷ b ∷ []) _ refl are refl))
+peek_read (a ∷ b ∷ d ∷ operands) c are at = no_read _ c at
+
+joined : (xs xs' ys ys' : List ℕ) → xs ≡ xs' → ys ≡ ys' → 5 ∷ xs ++ ys ≡ 5 ∷ xs' ++ ys'
+joined xs xs' ys ys' first second = rw (first, second) refl
+
+poke_read : (operands : List ℕ) (c : Command) → AreBytes operands → poke_of operands ≡ Ok c → IsRead (5 ∷ operands) c
+poke_read [] c are at = no_read _ c at
+poke_read (a ∷ []) c are at = no_read _ c at
+poke_read (a ∷ b ∷ []) c are at = no_read _ c at
+poke_read (a ∷ b ∷ v ∷ []) c are at = no_read _ c at
+poke_read (a ∷ b ∷ v ∷ w ∷ []) c are at = no_read _ c at
+poke_read (a ∷ b ∷ v ∷ w ∷ x ∷ []) c are at = no_read _ c at
+poke_read (a ∷ b ∷ v ∷ w ∷ x ∷ y ∷ []) c are at =
+    let below : (a < 256) × (b < 256) = (are 0, are 1) in
+    let more : (v < 256) × (w < 256) × (x < 256) × (y < 256) = (are 2, are 3, are 4, are 5) in
+    let within_addr : from_le_bytes w16 (a ∷ b ∷ []) < 2 ^ 16 = omega (arith, below) in
+    let within_value : from_le_bytes w32 (v ∷ w ∷ x ∷ y ∷ []) < 2 ^ 32 = omega (arith, more) in
+    let addr : to_le_bytes w16 (from_le_bytes w16 (a ∷ b ∷ [])) ≡ a ∷ b ∷ [] = le_bytes_2 (a ∷ b ∷ []) _ refl (of_two a b below) refl in
+    let value : to_le_bytes w32 (from_le_bytes w32 (v ∷ w ∷ x ∷ y ∷ [])) ≡ v ∷ w ∷ x ∷ y ∷ [] = le_bytes_4 (v ∷ w ∷ x ∷ y ∷ []) _ refl (λ i. are (suc (suc i))) refl in
+    read_as (CPoke (from_le_bytes w16 (a ∷ b ∷ [])) (from_le_bytes w32 (v ∷ w ∷ x ∷ y ∷ []))) c _ at ((within_addr, within_value), joined _ _ _ _ addr value)
+  where
+    of_two : (a b : ℕ) → (a < 256) × (b < 256) → AreBytes (a ∷ b ∷ [])
+    of_two a b below zero = below.0
+    of_two a b below (suc zero) = below.1
+    of_two a b below (suc (suc i)) = omega arith
+poke_read (a ∷ b ∷ v ∷ w ∷ x ∷ y ∷ z ∷ operands) c are at = no_read _ c at
+
+-- by what the first byte is
+read_by : (code : ℕ) (operands : List ℕ) (c : Command) (start reset identify peek poke : Bool) → AreBytes operands
+    → start ≡ nat_eq code 1 → reset ≡ nat_eq code 2 → identify ≡ nat_eq code 3 → peek ≡ nat_eq code 4 → poke ≡ nat_eq code 5
+    → (if start then alone Start operands else (if reset then alone Reset operands else (if identify then alone Identify operands else (if peek then peek_of operands else (if poke then poke_of operands else Err UnknownCode))))) ≡ Ok c
+    → IsRead (code ∷ operands) c
+read_by code operands c true reset identify peek poke are is_start is_reset is_identify is_peek is_poke at =
+    let is : 1 ≡ code = grind (arith, nat_tests) in
+    subst (λ k. IsRead (k ∷ operands) c) is (alone_read 1 operands Start c (tt, refl) at)
+read_by code operands c false true identify peek poke are is_start is_reset is_identify is_peek is_poke at =
+    let is : 2 ≡ code = grind (arith, nat_tests) in
+    subst (λ k. IsRead (k ∷ operands) c) is (alone_read 2 operands Reset c (tt, refl) at)
+read_by code operands c false false true peek poke are is_start is_reset is_identify is_peek is_poke at =
+    let is : 3 ≡ code = grind (arith, nat_tests) in
+    subst (λ k. IsRead (k ∷ operands) c) is (alone_read 3 operands Identify c (tt, refl) at)
+read_by code operands c false false false true poke are is_start is_reset is_identify is_peek is_poke at =
+    let is : 4 ≡ code = grind (arith, nat_tests) in
+    subst (λ k. IsRead (k ∷ operands) c) is (peek_read operands c are at)
+read_by code operands c false false false false true are is_start is_reset is_identify is_peek is_poke at =
+    let is : 5 ≡ code = grind (arith, nat_tests) in
+    subst (λ k. IsRead (k ∷ operands) c) is (poke_read operands c are at)
+read_by code operands c false false false false false are is_start is_reset is_identify is_peek is_poke at = cc
+
+-- what was read is in the table
+pub is_read : (bytes : List ℕ) (c : Command) → AreBytes bytes → read bytes ≡ Ok c → IsRead bytes c
+is_read [] c are at = cc
+is_read (code ∷ operands) c are at = read_by code operands c _ _ _ _ _ (λ i. are (suc i)) refl refl refl refl refl at
+
+-- exactly the table's commands are read
+pub is_table : (bytes : List ℕ) (c : Command) → AreBytes bytes → (read bytes ≡ Ok c) ↔ (IsCommand c × (bytes_of c ≡ bytes))
+is_table bytes c are = (is_read bytes c are, λ was. rw (sym was.1) (read_back c was.0))
+
+known : (code k : ℕ) (c : Command) (answer : Result Command CommandFault) → k ≡ code → (line c).code ≡ k → (answer ≡ Err UnknownCode → ⊥) → (answer ≡ Err UnknownCode) ↔ ((d : Command) → (line d).code ≢ code)
+known code k c answer is of_c not_unknown = (λ at. absurd (not_unknown at), λ none. absurd (none c (of_c ∙ is)))
+
+alone_known : (d : Command) (operands : List ℕ) → alone d operands ≡ Err UnknownCode → ⊥
+alone_known d [] at = cc
+alone_known d (b ∷ operands) at = cc
+
+unknown_by : (code : ℕ) (operands : List ℕ) (start reset identify peek poke : Bool)
+    → start ≡ nat_eq code 1 → reset ≡ nat_eq code 2 → identify ≡ nat_eq code 3 → peek ≡ nat_eq code 4 → poke ≡ nat_eq code 5
+    → ((if start then alone Start operands else (if reset then alone Reset operands else (if identify then alone Identify operands else (if peek then peek_of operands else (if poke then poke_of operands else Err UnknownCode))))) ≡ Err UnknownCode) ↔ ((d : Command) → (line d).code ≢ code)
+unknown_by code operands true reset identify peek poke is_start is_reset is_identify is_peek is_poke = known code 1 Start _ (grind (arith, nat_tests)) refl (alone_known Start operands)
+unknown_by code operands false true identify peek poke is_start is_reset is_identify is_peek is_poke = known code 2 Reset _ (grind (arith, nat_tests)) refl (alone_known Reset operands)
+unknown_by code operands false false true peek poke is_start is_reset is_identify is_peek is_poke = known code 3 Identify _ (grind (arith, nat_tests)) refl (alone_known Identify operands)
+unknown_by code operands false false false true poke is_start is_reset is_identify is_peek is_poke = known code 4 (CPeek 0) _ (grind (arith, nat_tests)) refl (peek_known operands)
+  where
+    peek_known : (operands : List ℕ) → peek_of operands ≡ Err UnknownCode → ⊥
+    peek_known [] at = cc
+    peek_known (a ∷ []) at = cc
+    peek_known (a ∷ b ∷ []) at = cc
+    peek_known (a ∷ b ∷ d ∷ operands) at = cc
+unknown_by code operands false false false false true is_start is_reset is_identify is_peek is_poke = known code 5 (CPoke 0 0) _ (grind (arith, nat_tests)) refl (poke_known operands)
+  where
+    poke_known : (operands : List ℕ) → poke_of operands ≡ Err UnknownCode → ⊥
+    poke_known [] at = cc
+    poke_known (a ∷ []) at = cc
+    poke_known (a ∷ b ∷ []) at = cc
+    poke_known (a ∷ b ∷ v ∷ []) at = cc
+    poke_known (a ∷ b ∷ v ∷ w ∷ []) at = cc
+    poke_known (a ∷ b ∷ v ∷ w ∷ x ∷ []) at = cc
+    poke_known (a ∷ b ∷ v ∷ w ∷ x ∷ y ∷ []) at = cc
+    poke_known (a ∷ b ∷ v ∷ w ∷ x ∷ y ∷ z ∷ operands) at = cc
+unknown_by code operands false false false false false is_start is_reset is_identify is_peek is_poke = (λ at. none, λ none. refl)
+  where
+    none : (d : Command) → (line d).code ≢ code
+    none Start = λ is. grind (arith, nat_tests)
+    none Reset = λ is. grind (arith, nat_tests)
+    none Identify = λ is. grind (arith, nat_tests)
+    none (CPeek a) = λ is. grind (arith, nat_tests)
+    none (CPoke a v) = λ is. grind (arith, nat_tests)
+
+-- exactly bytes whose first begins no command are unknown
+pub is_unknown : (bytes : List ℕ) → (read bytes ≡ Err UnknownCode) ↔ IsUnknownCode bytes
+is_unknown [] = (λ at. cc, λ none. absurd none)
+is_unknown (code ∷ operands) = unknown_by code operands _ _ _ _ _ refl refl refl refl refl

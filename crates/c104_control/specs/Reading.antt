@@ -1,0 +1,65 @@
+-- Reading a command, and an answer.
+use Rattle.std.specs.Prelude.{ℕ, ◌==◌, ◌&&◌, nat_le, List, [], ◌∷◌, Option, Some, None, Result, Ok, Err, if◌then◌else◌}
+use Rattle.std.specs.Int.{w16, w32, from_le_bytes}
+use Rattle.c104_control.specs.Table.{Command, Answer, device_id}
+use Rattle.c104_control.specs.declared.commands.Command.TheVariants.{Start, Reset, Identify, CPeek, CPoke}
+use Rattle.c104_control.specs.declared.replies.Answer.TheVariants.{Started, WasReset, Identity, Value, Poked, Refused}
+use Rattle.c104_control.specs.Faults.{CommandFault}
+use Rattle.c104_control.specs.declared.faults.CommandFault.TheVariants.{UnknownCode, WrongLength}
+
+-- a command of one byte has no operands
+abbrev pub alone : Command → List ℕ → Result Command CommandFault
+alone c [] = Ok c
+alone c (b ∷ operands) = Err WrongLength
+
+-- a peek, by its operands
+abbrev pub peek_of : List ℕ → Result Command CommandFault
+peek_of (low ∷ high ∷ []) = Ok (CPeek (from_le_bytes w16 (low ∷ high ∷ [])))
+peek_of operands = Err WrongLength
+
+-- a poke, by its operands
+abbrev pub poke_of : List ℕ → Result Command CommandFault
+poke_of (low ∷ high ∷ a ∷ b ∷ c ∷ d ∷ []) = Ok (CPoke (from_le_bytes w16 (low ∷ high ∷ [])) (from_le_bytes w32 (a ∷ b ∷ c ∷ d ∷ [])))
+poke_of operands = Err WrongLength
+
+-- the command that these bytes are, or why they are none
+abbrev pub read : List ℕ → Result Command CommandFault
+read [] = Err WrongLength
+read (code ∷ operands) =
+    if code == 1 then alone Start operands
+    else (if code == 2 then alone Reset operands
+    else (if code == 3 then alone Identify operands
+    else (if code == 4 then peek_of operands
+    else (if code == 5 then poke_of operands
+    else Err UnknownCode))))
+
+-- an answer of one byte
+abbrev pub answer_alone : Answer → List ℕ → Option Answer
+answer_alone a [] = Some a
+answer_alone a (b ∷ operands) = None
+
+-- an answer with a number in four bytes
+abbrev pub answer_with : (ℕ → Option Answer) → List ℕ → Option Answer
+answer_with f (a ∷ b ∷ c ∷ d ∷ []) = f (from_le_bytes w32 (a ∷ b ∷ c ∷ d ∷ []))
+answer_with f operands = None
+
+-- the device's number, and no other
+abbrev pub identity_of : ℕ → Option Answer
+identity_of n = if n == device_id then Some (Identity n) else None
+
+-- a refusal, by what follows its first byte
+abbrev pub refused_of : List ℕ → Option Answer
+refused_of (n ∷ []) = if nat_le 1 n && nat_le n 7 then Some (Refused n) else None
+refused_of operands = None
+
+-- the answer that these bytes are, if they are one
+abbrev pub read_answer : List ℕ → Option Answer
+read_answer [] = None
+read_answer (code ∷ operands) =
+    if code == 129 then answer_alone Started operands
+    else (if code == 130 then answer_alone WasReset operands
+    else (if code == 131 then answer_with identity_of operands
+    else (if code == 132 then answer_with (λ v. Some (Value v)) operands
+    else (if code == 133 then answer_alone Poked operands
+    else (if code == 255 then refused_of operands
+    else None)))))
