@@ -1,10 +1,12 @@
 -- The partition of the outputs into claims and free ones, where one input changes.
 use Rattle.std.proofs.Common.{◌≡◌, ◌+◌, ◌<◌, ℕ, Bool, List, [], ◌∷◌, ◌++◌, Option, Some, None, length, get_or, slice_get, slice_set, refl, sym, ap, ◌∙◌, arith}
 use Rattle.std.proofs.lemmas.Option.{slice_get_read}
+use mathlib.Core.List.{append-nil}
 use Rattle.c104_crossbar.specs.Marks.{ArePartition, times}
 use Rattle.c104_link.specs.Steps.{◌>>=◌, tried}
 use Rattle.c104_link.specs.Buffers.{Incoming, enter, grant}
 use Rattle.c104_switch.specs.Switch.{Input, with_buffer, accepted, granted}
+use Rattle.c104_switch.specs.Commands.{reset_input}
 use Rattle.c104_switch.specs.Holding.{held_by, held}
 use Rattle.c104_switch.proofs.HeldClaims.{times_append, partition_same, held_append, held_set}
 
@@ -42,6 +44,10 @@ module _ {A : Type 0} (ps : List (Input A)) (i : ℕ) (p q : Input A) (inside : 
   -- none, where its phase stays
   pub partition_kept : (marks : List Bool) → q.phase ≡ p.phase → ArePartition (held ps) marks → ArePartition (held (slice_set ps i q)) marks
   partition_kept marks same = partition_spent [] marks (ap held_by (sym same))
+
+  -- all that it held, where it is reset
+  pub partition_reset : (claims : List ℕ) (marks : List Bool) → q ≡ reset_input p → claims ≡ held_by p.phase → ArePartition (held ps) marks → ArePartition (claims ++ held (slice_set ps i q)) marks
+  partition_reset claims marks reset own = partition_spent claims marks (sym own ∙ sym (append-nil claims) ∙ ap (λ (r : Input A). claims ++ held_by r.phase) (sym reset))
 
 module _ {A : Type 0} (p q : Input A) (b : Bool) where
   by_buffer : (made : Option (Incoming A)) → ◌≡◌ {A = Bool × Input A} (b, q) (tried (made >>= (λ c. Some (with_buffer p c))) p) → q.phase ≡ p.phase

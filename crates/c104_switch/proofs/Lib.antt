@@ -10,4 +10,6 @@ pub mod SoundnessInputs
 pub mod SoundnessTurns
 pub mod Soundness
 pub mod SoundnessMethods
+pub mod SoundnessCommands
+pub mod PokeSteps
 pub mod Peeks

@@ -5,7 +5,9 @@ pub mod Turns
 pub mod Claims
 pub mod Stages
 pub mod Holding
-pub mod Actions
 pub mod Views
 pub mod Peeks
+pub mod Commands
+pub mod Control
+pub mod Actions
 pub mod Soundness

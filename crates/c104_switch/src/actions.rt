@@ -2,11 +2,12 @@
 ghost use Rattle.std.specs.Prelude.{◌≡◌};
 
 use crate::header::HeaderBytes;
+use c104_control::ControlBytes;
 use c104_token::Token;
 
 /// What is asked of a switch. Links, inputs and outputs are numbered from 0; a number of 32 or more
 /// is never ready.
-#[derive(Clone, Copy, Debug, PartialEq, Eq)]
+#[derive(Debug, Drop, PartialEq, Eq)]
 pub enum Action {
     /// A token comes in over this link's wire.
     Enter(usize, Token),
@@ -21,10 +22,12 @@ pub enum Action {
     Input(usize, u32),
     /// This input claims this output, one of the group that it wants.
     Claim(usize, usize),
+    /// A control command comes, as these bytes. It is always ready.
+    Control(ControlBytes),
 }
 
 /// What a switch answers.
-#[derive(Clone, Copy, Debug, PartialEq, Eq)]
+#[derive(Debug, Drop, PartialEq, Eq)]
 pub enum Reply {
     /// It is done.
     Done,
@@ -32,6 +35,8 @@ pub enum Reply {
     NotReady,
     /// It is done, and this token went out.
     Token(Token),
+    /// The command was answered, by these bytes. Where they are a refusal, nothing has changed.
+    Control(ControlBytes),
 }
 
 /// What an input does with its next token.

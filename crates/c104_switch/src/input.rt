@@ -8,6 +8,7 @@ ghost use Rattle.c104_switch.specs.Switch.{Input, accepted, granted, first_input
 ghost use Rattle.c104_switch.specs.Holding.{held_by, streamed_to};
 ghost use Rattle.c104_switch.specs.Peeks.{is_busy};
 ghost use Rattle.c104_switch.specs.Views.{phase_shown};
+ghost use Rattle.c104_switch.specs.Commands.{reset_input};
 
 mod claims;
 mod turns;
@@ -92,6 +93,20 @@ impl<T: TokenKind> InputOf<T> {
             short: _,
         } = self;
         claim
+    }
+
+    /// Throws the tokens, the packet under way and the counts away. What is granted stays. The claim
+    /// comes back, if the input holds one.
+    pub fn reset(&mut self) -> Option<Claim>
+        ensures reset { self.new ≡ reset_input self.old }
+        ensures claims { list_of result ≡ held_by self.old.phase }
+    {
+        self.buffer.clear();
+        self.stage = Stage::Fresh;
+        self.header.clear();
+        self.sunk = 0;
+        self.short = 0;
+        self.claim.take()
     }
 
     /// Takes a token in.

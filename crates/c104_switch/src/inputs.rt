@@ -1,5 +1,5 @@
 //! The input sides of all links, and the crossbar whose outputs they claim.
-ghost use Rattle.std.specs.Prelude.{◌≡◌, ◌<◌, ℕ, Bool, List, length, replicate, slice_get, IfOk, IfSome, is_some};
+ghost use Rattle.std.specs.Prelude.{◌≡◌, ◌<◌, ℕ, Bool, List, [], length, map, replicate, slice_get, IfOk, IfSome, is_some};
 ghost use Rattle.std.specs.Option.{option_copied};
 ghost use Rattle.c104_crossbar.specs.Marks.{ArePartition};
 ghost use Rattle.c104_link.specs.Buffers.{Outgoing, IsValidCap};
@@ -10,6 +10,7 @@ ghost use Rattle.c104_switch.specs.Turns.{turn};
 ghost use Rattle.c104_switch.specs.Claims.{claimed_at};
 ghost use Rattle.c104_switch.specs.Holding.{held};
 ghost use Rattle.c104_switch.specs.Views.{owner_from};
+ghost use Rattle.c104_switch.specs.Commands.{reset_input};
 
 use crate::LINKS;
 use crate::input::{InputOf, Turn};
@@ -67,6 +68,13 @@ impl<T: TokenKind> InputsOf<T> {
     pub fn retire(self) {
         let InputsOf { list, mut crossbar } = self;
         retire(list, &mut crossbar);
+    }
+
+    /// Resets all inputs, and gives their claims back.
+    pub fn reset(&mut self)
+        ensures { self.new ≡ map reset_input self.old }
+    {
+        reset(&mut self.list, &mut self.crossbar);
     }
 
     /// The crossbar.
@@ -239,6 +247,7 @@ impl<T: TokenKind> InputsOf<T> {
 /// Gives the claims of these inputs back to the crossbar, and lets go of all else.
 fn retire<T: TokenKind>(mut list: Vec<InputOf<T>>, crossbar: &mut Crossbar)
     requires { ArePartition (held list.items) crossbar.old }
+    ensures { ArePartition [] crossbar.new }
 {
     while let Some(input) = list.pop() {
         if let Some(claim) = input.retire() {
@@ -246,4 +255,17 @@ fn retire<T: TokenKind>(mut list: Vec<InputOf<T>>, crossbar: &mut Crossbar)
         }
     }
     list.destroy_empty();
+}
+
+/// Resets these inputs, and gives their claims back to the crossbar.
+fn reset<T: TokenKind>(list: &mut [InputOf<T>], crossbar: &mut Crossbar)
+    requires { ArePartition (held list.old) crossbar.old }
+    ensures inputs { list.new ≡ map reset_input list.old }
+    ensures partition { ArePartition (held list.new) crossbar.new }
+{
+    for input in list.iter_mut() {
+        if let Some(claim) = input.reset() {
+            crossbar.release(claim);
+        }
+    }
 }

@@ -1,8 +1,8 @@
 //! The output sides of all links.
-ghost use Rattle.std.specs.Prelude.{◌≡◌, replicate, slice_get, IfOk, is_some};
+ghost use Rattle.std.specs.Prelude.{◌≡◌, map, replicate, slice_get, IfOk, is_some};
 ghost use Rattle.std.specs.Option.{option_copied};
 ghost use Rattle.c104_link.specs.Buffers as buffer;
-ghost use Rattle.c104_link.specs.Buffers.{Outgoing, empty_out};
+ghost use Rattle.c104_link.specs.Buffers.{Outgoing, empty_out, cleared_out};
 ghost use Rattle.c104_link.specs.Steps.{tried, taken, at_place, from_place};
 ghost use Rattle.c104_switch.specs.Claims.{put_header};
 
@@ -38,6 +38,15 @@ impl<T: TokenKind> OutputsOf<T> {
             list.push(OutBufferOf::new(alloc)?)?;
         }
         Ok(OutputsOf { list })
+    }
+
+    /// Throws the tokens of all outputs away. What they may send stays.
+    pub fn clear(&mut self)
+        ensures { self.new ≡ map cleared_out self.old }
+    {
+        for output in self.list.iter_mut() {
+            output.clear();
+        }
     }
 
     /// The first token of an output goes out.

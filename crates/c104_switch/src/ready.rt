@@ -14,13 +14,14 @@ impl SwitchOf<Token> {
     pub fn ready(&self, action: &Action) -> bool
         ensures { result ≡ is_ready (step self.now action.now).0 }
     {
-        match *action {
-            Action::Enter(link, _) => self.can_enter(link),
-            Action::Leave(link) => self.can_leave(link),
-            Action::CreditOut(link) => self.can_credit_out(link),
-            Action::CreditIn(link) => self.can_credit_in(link),
-            Action::Input(link, _) => self.can_input(link),
-            Action::Claim(input, output) => self.can_claim(input, output),
+        match action {
+            Action::Enter(link, _) => self.can_enter(*link),
+            Action::Leave(link) => self.can_leave(*link),
+            Action::CreditOut(link) => self.can_credit_out(*link),
+            Action::CreditIn(link) => self.can_credit_in(*link),
+            Action::Input(link, _) => self.can_input(*link),
+            Action::Claim(input, output) => self.can_claim(*input, *output),
+            Action::Control(_) => true,
         }
     }
 }

@@ -19,6 +19,7 @@ impl SwitchOf<Token> {
             Action::CreditIn(link) => done(self.credit_in(link)),
             Action::Input(link, word) => done(self.input(link, word)),
             Action::Claim(input, output) => done(self.claim(input, output)),
+            Action::Control(bytes) => Reply::Control(self.control(bytes.as_slice())),
         }
     }
 }

@@ -12,6 +12,8 @@ ghost use Rattle.c104_switch.specs.Views.{link_shown};
 ghost use Rattle.c104_switch.specs.Soundness.{IsSound};
 ghost use Rattle.c104_switch.specs.Holding.{held, claim_at};
 
+mod commands;
+mod control;
 mod peeks;
 mod readiness;
 

@@ -1,6 +1,10 @@
 ghost use Rattle.c104_regs.specs.Ranges.{IsInRange};
 
+mod commands;
+mod control;
+
 use crate::{Action, LINKS, LinkView, Phase, Reply, Switch, SwitchOf};
+use c104_control::ControlBytes;
 use c104_regs::{RegFault, Registers, Settings};
 use c104_token::{NoMemory, Token, TokenKind};
 use std::alloc::Global;
@@ -25,20 +29,41 @@ fn started(alloc: Global) -> Result<Switch, NoMemory> {
 /// Does an action, of which `ready` has to foretell the answer.
 fn act(rt: &impl Abort, switch: &mut Switch, action: Action) -> Reply {
     let ready = switch.ready(&action);
-    let reply = switch.step(action);
+    let reply = switch.step(again(&action));
     assert_eq!(rt; ready, reply != Reply::NotReady, "at {action:?}");
     reply
 }
 
+/// The same action once more.
+fn again(action: &Action) -> Action {
+    match action {
+        Action::Enter(link, token) => Action::Enter(*link, *token),
+        Action::Leave(link) => Action::Leave(*link),
+        Action::CreditOut(link) => Action::CreditOut(*link),
+        Action::CreditIn(link) => Action::CreditIn(*link),
+        Action::Input(link, word) => Action::Input(*link, *word),
+        Action::Claim(input, output) => Action::Claim(*input, *output),
+        Action::Control(bytes) => Action::Control(ControlBytes::new(bytes.as_slice())),
+    }
+}
+
 fn all_done(rt: &impl Abort, switch: &mut Switch, actions: &[Action]) {
     for action in actions {
-        assert_eq!(rt; act(rt, switch, *action), Reply::Done, "at {action:?}");
+        assert_eq!(rt;
+            act(rt, switch, again(action)),
+            Reply::Done,
+            "at {action:?}"
+        );
     }
 }
 
 fn none_ready(rt: &impl Abort, switch: &mut Switch, actions: &[Action]) {
     for action in actions {
-        assert_eq!(rt; act(rt, switch, *action), Reply::NotReady, "at {action:?}");
+        assert_eq!(rt;
+            act(rt, switch, again(action)),
+            Reply::NotReady,
+            "at {action:?}"
+        );
     }
 }
 

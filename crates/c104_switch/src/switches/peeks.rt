@@ -16,7 +16,7 @@ impl<T: TokenKind> SwitchOf<T> {
     }
 
     /// The registers, with what the switch tells of each link.
-    fn told_registers(&self) -> Registers
+    pub(super) fn told_registers(&self) -> Registers
         ensures { result ≡ registers self.now }
     {
         let mut statuses = [Status::reset(); LINKS];

@@ -1,0 +1,54 @@
+//! Control commands.
+ghost use Rattle.std.specs.Prelude.{◌≡◌};
+ghost use Rattle.c104_control.specs.Table.{IsAnswerTo};
+ghost use Rattle.c104_switch.specs.Control.{control, obeyed};
+
+use super::SwitchOf;
+use c104_control::{Answer, Command, ControlBytes, DEVICE_ID, read_command, write_reply};
+use c104_token::TokenKind;
+
+/// Why a switch that is started already refuses to be started.
+const STARTED_AGAIN: u8 = 7;
+
+impl<T: TokenKind> SwitchOf<T> {
+    /// Does what a control command says, and gives the bytes of the reply. Where the bytes are no
+    /// command, or the command is refused, the reply says why and nothing has changed.
+    pub fn control(&mut self, bytes: &[u8]) -> ControlBytes
+        ensures { (result, self.new) ≡ control self.old bytes.now }
+    {
+        let answer = match read_command(bytes) {
+            Ok(command) => self.obey(command),
+            Err(fault) => Answer::Refused(fault.number()),
+        };
+        write_reply(&answer)
+    }
+
+    /// Does a command, and answers it as the table says.
+    fn obey(&mut self, command: Command) -> Answer
+        ensures obeyed { (result, self.new) ≡ obeyed self.old command }
+        ensures answer { IsAnswerTo command result }
+    {
+        match command {
+            Command::Start => {
+                if self.started() {
+                    return Answer::Refused(STARTED_AGAIN);
+                }
+                self.start();
+                Answer::Started
+            }
+            Command::Reset => {
+                self.reset();
+                Answer::WasReset
+            }
+            Command::Identify => Answer::Identity(DEVICE_ID),
+            Command::CPeek(addr) => match self.peek(addr) {
+                Ok(value) => Answer::Value(value),
+                Err(fault) => Answer::Refused(fault.number()),
+            },
+            Command::CPoke(addr, value) => match self.poke(addr, value) {
+                Ok(()) => Answer::Poked,
+                Err(fault) => Answer::Refused(fault.number()),
+            },
+        }
+    }
+}
