@@ -8,12 +8,14 @@ use Rattle.c104_link.specs.Buffers.{Incoming, Outgoing}
 use Rattle.c104_switch.specs.Switch as switch
 use Rattle.c104_switch.specs.Turns as turns
 use Rattle.c104_switch.specs.Claims as claims
+use Rattle.c104_switch.specs.Control as controls
 use Rattle.c104_switch.proofs.SoundnessSteps.{given, required, at_place_made, from_place_made, with_place_made}
 use Rattle.c104_net.specs.declared.node.NodeOf.TheVariants.{Switch, Terminal}
 use Rattle.c104_net.specs.Terminals as terminal
-use Rattle.c104_net.specs.Nodes.{Node, as_switch, enter, leave, credit_out, credit_in, input, claim, send, drain}
+use Rattle.c104_net.specs.Nodes.{Node, as_switch, enter, leave, credit_out, credit_in, input, claim, control, send, drain}
 use Rattle.c104_net.specs.Balance.{credit_of, granted_of}
 use Rattle.c104_net.proofs.BalancePlaces.{lower, raise, Acts, Rests, seen_kept, seen_changed, seen_other}
+use Rattle.c104_net.proofs.BalanceControl.{control_keeps}
 use Rattle.c104_net.proofs.BalanceTurns.{credit_seen, granted_seen, KeepsSides, leave_lowers, credited_raises, enter_lowers, grant_raises, accepted_lowers, granted_raises, claimed_keeps, turn_keeps}
 
 module _ {A : Type 0} where
@@ -122,6 +124,13 @@ module _ {A : Type 0} where
   claim_rests i o (Switch s) m is = given (claims.claim s i o) _ m is (λ s' made last. required s.started _ s' made (λ on more. given (claims.claimed_at s.settings s.inputs s.outputs i o) _ s' more (λ w at rest. required (not (switch.is_owned s.inputs o)) _ w at (λ free step.
       sides_rest s i (λ p. claims.claimed s.settings p s.outputs o p.phase) s' m (ap (λ made. made >>= (λ r. Some (switch.with_sides s r))) step ∙ rest) last (λ p. claimed_keeps s.settings p s.outputs o p.phase)))))
   claim_rests i o (Terminal t) m is = cc
+
+  -- a switch does what a control command says
+  pub control_rests : (bytes : List ℕ) (n : Node A) (r : List ℕ × Node A) → control bytes n ≡ Some r → Rests n r.1
+  control_rests bytes (Switch s) r is =
+      let same : ◌≡◌ {A = List ℕ × Node A} ((controls.control s bytes).0, Switch (controls.control s bytes).1) r = cc in
+      subst (λ (r : List ℕ × Node A). Rests (Switch s) r.1) same (control_keeps s bytes)
+  control_rests bytes (Terminal t) r is = cc
 
   -- a terminal sends a packet
   pub send_rests : (kind : Kind A) (number : ℕ) (packet : Packet) (n m : Node A) → send kind number packet n ≡ Some m → Rests n m

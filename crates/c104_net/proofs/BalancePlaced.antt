@@ -4,6 +4,7 @@ use Rattle.std.proofs.lemmas.List.{length-map}
 use Rattle.c104_link.specs.Buffers.{empty_out}
 use Rattle.c104_link.specs.Steps.{◌>>=◌}
 use Rattle.c104_regs.specs.declared.settings.Settings.{Settings}
+use Rattle.c104_regs.specs.Settings.{reset_settings}
 use Rattle.c104_switch.specs.Switch.{first_with, first_input}
 use Rattle.c104_net.specs.declared.events.Port.{Port}
 use Rattle.c104_net.specs.declared.events.Port.TheVariants as port
@@ -15,7 +16,7 @@ use Rattle.c104_describe.specs.PlanImage.{Image, Fits}
 use Rattle.c104_net.specs.Terminals.{first_terminal}
 use Rattle.c104_net.specs.Nodes.{Node}
 use Rattle.c104_net.specs.Wiring.{peer, end_of}
-use Rattle.c104_net.specs.Network.{placed, switch_nodes, terminal_nodes, buffer_size}
+use Rattle.c104_net.specs.Network.{first_switches, switch_nodes, terminal_nodes, buffer_size}
 use Rattle.c104_net.specs.Balance.{credit_of, granted_of, credit_at, granted_at, is_switch, IsSteady}
 use Rattle.c104_net.proofs.BalanceWires.{peer_back, switch_inside, terminal_inside}
 
@@ -44,9 +45,9 @@ get_map f (x ∷ xs) zero inside then = then x refl
 get_map f (x ∷ xs) (suc i) inside then = get_map f xs i (omega arith) then
 
 module _ {A : Type 0} where
-  -- a switch that is started with these settings, and a terminal at first
-  abbrev made_switch : List Settings → Node A
-  made_switch settings = Switch (first_with buffer_size settings true)
+  -- a switch at first, started or not and with these settings, and a terminal at first
+  abbrev made_switch : List Settings × Bool → Node A
+  made_switch made = Switch (first_with buffer_size made.0 made.1)
 
   abbrev made_terminal : plans.Terminal → Node A
   made_terminal t = Terminal (first_terminal buffer_size)
@@ -55,9 +56,9 @@ module _ {A : Type 0} where
   abbrev IsIdle : List (Node A) → End → Type 0
   IsIdle nodes end = (credit_at nodes end ≡ Some 0) × (granted_at nodes end ≡ Some 0)
 
-  -- a link of a switch that is started, and of a terminal at first
-  idle_switch : (nodes : List (Node A)) (settings : List Settings) (s l : ℕ) → slice_get nodes s ≡ Some (made_switch settings) → l < 32 → IsIdle nodes (record { node = s; link = l })
-  idle_switch nodes settings s l is inside = (
+  -- a link of a switch at first, and of a terminal at first
+  idle_switch : (nodes : List (Node A)) (made : List Settings × Bool) (s l : ℕ) → slice_get nodes s ≡ Some (made_switch made) → l < 32 → IsIdle nodes (record { node = s; link = l })
+  idle_switch nodes made s l is inside = (
     ap (λ o. o >>= credit_of l) is ∙ ap (λ o. o >>= (λ q. Some q.credit)) (get_replicate 32 l (empty_out {A = A}) inside),
     ap (λ o. o >>= granted_of l) is ∙ ap (λ o. o >>= (λ p. Some p.buffer.granted)) (get_replicate 32 l (first_input {A = A} buffer_size) inside),
   )
@@ -65,32 +66,36 @@ module _ {A : Type 0} where
   idle_terminal : (nodes : List (Node A)) (t : plans.Terminal) (place l : ℕ) → slice_get nodes place ≡ Some (made_terminal t) → IsIdle nodes (record { node = place; link = l })
   idle_terminal nodes t place l is = (ap (λ o. o >>= credit_of l) is, ap (λ o. o >>= granted_of l) is)
 
-module _ (A : Type 0) (plan : Plan) (image : Image) (fits : Fits image plan) where
+-- a network whose switches are made of these, one for each of the plan's
+module _ (A X : Type 0) (plan : Plan) (xs : List X) (made : X → List Settings × Bool) (each : length xs ≡ length plan.switches) where
+  abbrev switch_of : X → Node A
+  switch_of x = made_switch {A = A} (made x)
+
   -- its nodes
   abbrev first_nodes : List (Node A)
-  first_nodes = map (made_switch {A = A}) image.settings ++ map (made_terminal {A = A}) plan.terminals
+  first_nodes = map switch_of xs ++ map (made_terminal {A = A}) plan.terminals
 
   -- the place of a switch is among the switches that were made
-  among_made : (s : ℕ) → s < length plan.switches → s < length (map (made_switch {A = A}) image.settings)
-  among_made s inside = omega (arith, fits.settings, length-map image.settings (made_switch {A = A}))
+  among_made : (s : ℕ) → s < length plan.switches → s < length (map switch_of xs)
+  among_made s inside = omega (arith, each, length-map xs switch_of)
 
   -- a switch of the plan
-  switch_there : {C : Type 0} (s : ℕ) → s < length plan.switches → ((settings : List Settings) → slice_get first_nodes s ≡ Some (made_switch settings) → C) → C
+  switch_there : {C : Type 0} (s : ℕ) → s < length plan.switches → ((x : X) → slice_get first_nodes s ≡ Some (switch_of x) → C) → C
   switch_there s inside then =
-      let within : s < length image.settings = omega (arith, fits.settings) in
-      get_map (made_switch {A = A}) image.settings s within (λ settings is. then settings (get_first (map (made_switch {A = A}) image.settings) (map (made_terminal {A = A}) plan.terminals) s (among_made s inside) ∙ is))
+      let within : s < length xs = omega (arith, each) in
+      get_map switch_of xs s within (λ x is. then x (get_first (map switch_of xs) (map (made_terminal {A = A}) plan.terminals) s (among_made s inside) ∙ is))
 
   -- a terminal of the plan
   terminal_there : {C : Type 0} (t : ℕ) → t < length plan.terminals → ((terminal : plans.Terminal) → slice_get first_nodes (length plan.switches + t) ≡ Some (made_terminal terminal) → C) → C
   terminal_there t inside then =
-      let place : length (map (made_switch {A = A}) image.settings) + t ≡ length plan.switches + t = omega (arith, fits.settings, length-map image.settings (made_switch {A = A})) in
-      get_map (made_terminal {A = A}) plan.terminals t inside (λ terminal is. then terminal (ap (slice_get first_nodes) (sym place) ∙ get_second (map (made_switch {A = A}) image.settings) (map (made_terminal {A = A}) plan.terminals) t ∙ is))
+      let place : length (map switch_of xs) + t ≡ length plan.switches + t = omega (arith, each, length-map xs switch_of) in
+      get_map (made_terminal {A = A}) plan.terminals t inside (λ terminal is. then terminal (ap (slice_get first_nodes) (sym place) ∙ get_second (map switch_of xs) (map (made_terminal {A = A}) plan.terminals) t ∙ is))
 
   -- each port that has a wire
   idle_port : IsPlan plan → (p q : Port) → peer plan p ≡ Some q → IsIdle first_nodes (end_of plan p)
   idle_port is_plan (port.Switch s l) q wired =
       let exists : IsPort plan s l = switch_inside plan is_plan s l q wired in
-      switch_there s exists.0 (λ settings is. idle_switch first_nodes settings s l is exists.1)
+      switch_there s exists.0 (λ x is. idle_switch first_nodes (made x) s l is exists.1)
   idle_port is_plan (port.Terminal t) q wired =
       terminal_there t (terminal_inside plan is_plan t q wired) (λ terminal is. idle_terminal first_nodes terminal (length plan.switches + t) 0 is)
 
@@ -104,13 +109,18 @@ in_place_made f h [] ys switches terminals = kinds_made h false terminals ys
 in_place_made f h (x ∷ xs) ys switches terminals = rw (switches x) (ap (λ bs. true ∷ bs) (in_place_made f h xs ys switches terminals))
 
 -- a network at first
-balanced_placed : {A : Type 0} (plan : Plan) (image : Image) → Fits image plan → IsPlan plan → IsSteady (placed {A = A} plan image)
-balanced_placed {A} plan image fits is_plan = record {
-  in_place = in_place_made (made_switch {A = A}) (made_terminal {A = A}) image.settings plan.terminals (λ t. refl) (λ t. refl) ∙ ap (λ n. replicate n true ++ replicate (length plan.terminals) false) fits.settings;
-  balanced = λ p q wired. (0, (idle_port A plan image fits is_plan p q wired).0, (idle_port A plan image fits is_plan q p (peer_back plan is_plan p q wired)).1);
+balanced_first : {A X : Type 0} (plan : Plan) (xs : List X) (made : X → List Settings × Bool) (each : length xs ≡ length plan.switches) → IsPlan plan → IsSteady (record { plan = plan; nodes = first_nodes A X plan xs made each })
+balanced_first {A} {X} plan xs made each is_plan = record {
+  in_place = in_place_made (λ x. made_switch {A = A} (made x)) (made_terminal {A = A}) xs plan.terminals (λ x. refl) (λ t. refl) ∙ ap (λ n. replicate n true ++ replicate (length plan.terminals) false) each;
+  balanced = λ p q wired. (0, (idle_port A X plan xs made each is_plan p q wired).0, (idle_port A X plan xs made each is_plan q p (peer_back plan is_plan p q wired)).1);
 }
 
--- a network made of a copy of the plan
+-- a network made of a copy of the plan: each switch started with the image's settings
 pub steady_made : {A : Type 0} (plan copy : Plan) (image : Image) (nodes : List (Node A)) → copy ≡ plan → nodes ≡ switch_nodes image.settings ++ terminal_nodes copy.terminals → Fits image plan → IsPlan copy → IsSteady (record { plan = copy; nodes = nodes })
 steady_made {A} plan copy image nodes copied made fits is_plan =
-    subst (λ (n : List (Node A)). IsSteady (record { plan = copy; nodes = n })) (sym made) (balanced_placed copy image (subst (Fits image) (sym copied) fits) is_plan)
+    let each : length image.settings ≡ length copy.switches = (subst (Fits image) (sym copied) fits).settings in
+    subst (λ (n : List (Node A)). IsSteady (record { plan = copy; nodes = n })) (sym made) (balanced_first {A = A} copy image.settings (λ settings. (settings, true)) each is_plan)
+
+-- a new network of a copy of the plan
+pub steady_new : {A : Type 0} (plan : Plan) (nodes : List (Node A)) → nodes ≡ first_switches plan.switches ++ terminal_nodes plan.terminals → IsPlan plan → IsSteady (record { plan = plan; nodes = nodes })
+steady_new {A} plan nodes made is_plan = subst (λ (n : List (Node A)). IsSteady (record { plan = plan; nodes = n })) (sym made) (balanced_first {A = A} plan plan.switches (λ name. (replicate 32 reset_settings, false)) refl is_plan)

@@ -39,8 +39,8 @@ module _ {A : Type 0} (plan : Plan) where
   steady_at nodes after i f is rests steady = at_place_made nodes i f after is (λ n m here made set. subst (λ ns. IsSteady (network_of plan ns)) set (rest_steady nodes i n m here (rests n m made) steady))
 
   -- the same, where something comes of it
-  pub steady_from : (nodes : List (Node A)) (i : ℕ) (f : Node A → Option (A × Node A)) (r : A × List (Node A)) → from_place nodes i f ≡ Some r → ((n : Node A) (v : A × Node A) → f n ≡ Some v → Rests n v.1) → IsSteady (network_of plan nodes) → IsSteady (network_of plan r.1)
-  steady_from nodes i f r is rests steady = from_place_made nodes i f r is (λ n v here made set. subst (λ (r : A × List (Node A)). IsSteady (network_of plan r.1)) set (rest_steady nodes i n v.1 here (rests n v made) steady))
+  pub steady_from : {Y : Type 0} (nodes : List (Node A)) (i : ℕ) (f : Node A → Option (Y × Node A)) (r : Y × List (Node A)) → from_place nodes i f ≡ Some r → ((n : Node A) (v : Y × Node A) → f n ≡ Some v → Rests n v.1) → IsSteady (network_of plan nodes) → IsSteady (network_of plan r.1)
+  steady_from {Y} nodes i f r is rests steady = from_place_made nodes i f r is (λ n v here made set. subst (λ (r : Y × List (Node A)). IsSteady (network_of plan r.1)) set (rest_steady nodes i n v.1 here (rests n v made) steady))
 
   module _ (is_plan : IsPlan plan) (p q : Port) (wired : peer plan p ≡ Some q) (change : ℕ → ℕ) (nodes mid after : List (Node A)) where
     abbrev count : ℕ
@@ -137,7 +137,7 @@ module _ {A : Type 0} (plan : Plan) (nodes : List (Node A)) where
   steady_tried b after i f is rests steady = holds_tried (λ ns. IsSteady (network_of plan ns)) b (at_place nodes i f) nodes after is steady (λ ns made. steady_at plan nodes ns i f made rests steady)
 
   -- the same, where something comes of it
-  pub steady_taken : (o : Option A) (after : List (Node A)) (i : ℕ) (f : Node A → Option (A × Node A)) → ◌≡◌ {A = Option A × List (Node A)} (o, after) (taken (from_place nodes i f) nodes) → ((n : Node A) (v : A × Node A) → f n ≡ Some v → Rests n v.1) → IsSteady (network_of plan nodes) → IsSteady (network_of plan after)
+  pub steady_taken : {Y : Type 0} (o : Option Y) (after : List (Node A)) (i : ℕ) (f : Node A → Option (Y × Node A)) → ◌≡◌ {A = Option Y × List (Node A)} (o, after) (taken (from_place nodes i f) nodes) → ((n : Node A) (v : Y × Node A) → f n ≡ Some v → Rests n v.1) → IsSteady (network_of plan nodes) → IsSteady (network_of plan after)
   steady_taken o after i f is rests steady = holds_taken (λ ns. IsSteady (network_of plan ns)) o (from_place nodes i f) nodes after is steady (λ r made. steady_from plan nodes i f r made rests steady)
 
   module _ (is_plan : IsPlan plan) (p : Port) (near far : End) (at_near : near ≡ end_of plan p) (at_far : option_map (end_of plan) (peer plan p) ≡ Some far) where

@@ -7,6 +7,7 @@ pub mod RoundsTaken
 pub mod BalanceWires
 pub mod BalancePlaces
 pub mod BalanceTurns
+pub mod BalanceControl
 pub mod BalanceNodes
 pub mod BalanceSteps
 pub mod BalancePlaced

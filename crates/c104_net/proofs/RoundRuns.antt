@@ -10,10 +10,10 @@ use Rattle.c104_net.specs.declared.events.Event.{Event}
 use Rattle.c104_net.specs.declared.events.Event.TheVariants as event
 use Rattle.c104_net.specs.declared.events.EventFault.{EventFault}
 use Rattle.c104_net.specs.declared.events.EventFault.TheVariants as fault
-use Rattle.c104_net.specs.Nodes.{Node, input, claim, send, drain}
+use Rattle.c104_net.specs.Nodes.{Node, input, claim, control, send, drain}
 use Rattle.c104_net.specs.Wires.{crossed, credited}
 use Rattle.c104_net.specs.Wiring.{peer, end_of}
-use Rattle.c104_net.specs.Network.{Answers, Network, WouldBeDone, answered, done, event_fault, if_ready, if_there, limit_fault, limited_node, moved, step, terminal_place, within_limit}
+use Rattle.c104_net.specs.Network.{Answers, Network, WouldBeDone, answered, done, event_fault, if_ready, if_there, limit_fault, limited_node, moved, replied, step, terminal_place, within_limit}
 use Rattle.c104_net.specs.Rounds.{Outcome, RunEnds, run_until, unless_fault, was_done}
 
 pub err_is : {X E : Type 0} (result : Result X E) (e : E) → IsErr result × IsErrAnd result (λ d. d ≡ e) → result ≡ Err e
@@ -64,6 +64,10 @@ module _ {A : Type 0} (kind : Kind A) where
   moved_replies net None r made unready = cc
   moved_replies net (Some m) r made unready = let reply : reply.Token (kind.plain m.0) ≡ r.0 = cc in cc
 
+  replied_replies : (net : Network A) (made : Option (List ℕ × List (Node A))) → Replies (replied kind net made)
+  replied_replies net None r made unready = cc
+  replied_replies net (Some m) r made unready = let reply : reply.Control m.0 ≡ r.0 = cc in cc
+
   wired_replies : (peer : Option Port) (made : Port → Option (Reply × Network A)) → ((q : Port) → Replies (made q)) → Replies (peer >>= made)
   wired_replies None made each r was unready = cc
   wired_replies (Some q) made each r was unready = each q r was unready
@@ -73,6 +77,7 @@ module _ {A : Type 0} (kind : Kind A) where
   step_replies net (event.Credit p) = wired_replies (peer net.plan p) (λ q. done kind net (credited net.nodes (end_of net.plan p) (end_of net.plan q))) (λ q. done_replies net (credited net.nodes (end_of net.plan p) (end_of net.plan q)))
   step_replies net (event.Input s l word) = done_replies net (at_place net.nodes s (input kind l word))
   step_replies net (event.Claim s i o) = done_replies net (at_place net.nodes s (claim i o))
+  step_replies net (event.Control s bytes) = replied_replies net (from_place net.nodes s (control bytes))
   step_replies net (event.Send t packet) = done_replies net (at_place net.nodes (terminal_place net.plan t) (send kind t packet))
   step_replies net (event.Drain t) = moved_replies net (from_place net.nodes (terminal_place net.plan t) drain)
 
@@ -115,6 +120,7 @@ module _ {A : Type 0} (kind : Kind A) where
   undone_leaves mid after e reply.NotReady undone answer = elim answer [ inl due ↦ unready_stays mid after e due | inr refused ↦ refused.2 ]
   undone_leaves mid after e reply.Done undone answer = cc
   undone_leaves mid after e (reply.Token x) undone answer = cc
+  undone_leaves mid after e (reply.Control bytes) undone answer = cc
 
   same_fault : (f g : EventFault) → ◌≡◌ {A = Result Reply EventFault} (Err f) (Err g) → ◌≡◌ {A = Result (Unit {0}) EventFault} (Err f) (Err g)
   same_fault f g same = let faults : f ≡ g = cc in ap Err faults

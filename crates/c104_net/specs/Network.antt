@@ -5,7 +5,7 @@ use Rattle.c104_link.specs.Steps.{◌>>=◌, at_place, from_place}
 use Rattle.c104_switch.specs.declared.actions.Reply.{Reply}
 use Rattle.c104_switch.specs.declared.actions.Reply.TheVariants as reply
 use Rattle.c104_regs.specs.declared.settings.Settings.{Settings}
-use Rattle.c104_switch.specs.Switch.{first_with}
+use Rattle.c104_switch.specs.Switch.{first_state, first_with}
 use Rattle.c104_describe.specs.declared.plans.Terminal.{Terminal}
 use Rattle.c104_describe.specs.Plans.{Plan}
 use Rattle.c104_describe.specs.PlanImage.{Image}
@@ -17,7 +17,7 @@ use Rattle.c104_net.specs.declared.events.Event.{Event}
 use Rattle.c104_net.specs.declared.events.Event.TheVariants as event
 use Rattle.c104_net.specs.declared.events.EventFault.{EventFault}
 use Rattle.c104_net.specs.declared.events.EventFault.TheVariants as fault
-use Rattle.c104_net.specs.Nodes.{Node, input, claim, send, drain, waiting, arrived, arrived_at}
+use Rattle.c104_net.specs.Nodes.{Node, input, claim, control, send, drain, waiting, arrived, arrived_at, register_at}
 use Rattle.c104_net.specs.Wires.{crossed, credited}
 use Rattle.c104_net.specs.Wiring.{peer, end_of}
 
@@ -37,6 +37,10 @@ terminal_place plan t = length plan.switches + t
 abbrev pub arrived_of : {A : Type 0} → Network A → ℕ → Option (List A)
 arrived_of net t = if nat_lt t (length net.plan.terminals) then arrived_at net.nodes (terminal_place net.plan t) else None
 
+-- the value of a register of a switch
+abbrev pub register_of : {A : Type 0} → Network A → ℕ → ℕ → Option ℕ
+register_of net s a = if nat_lt s (length net.plan.switches) then register_at net.nodes s a else None
+
 -- how many tokens may wait at a terminal, and how many may arrive there
 abbrev pub outbox_limit : ℕ
 outbox_limit = 65536
@@ -54,6 +58,14 @@ switch_nodes switches = map (λ settings. node.Switch (first_with buffer_size se
 
 abbrev pub terminal_nodes : {A : Type 0} → List Terminal → List (Node A)
 terminal_nodes terminals = map (λ (t : Terminal). node.Terminal (first_terminal buffer_size)) terminals
+
+-- switches at first: each is reset, and not started
+abbrev pub first_switches : {A : Type 0} → List (List ℕ) → List (Node A)
+first_switches names = map (λ name. node.Switch (first_state buffer_size)) names
+
+-- a new network: no switch is started, and nothing is anywhere
+abbrev pub first_network : {A : Type 0} → Plan → Network A
+first_network plan = record { plan = plan; nodes = first_switches plan.switches ++ terminal_nodes plan.terminals }
 
 -- a network at first: each switch started with the image's settings, and nothing anywhere
 abbrev pub placed : {A : Type 0} → Plan → Image → Network A
@@ -79,6 +91,7 @@ event_fault plan (event.Cross p) = port_fault plan p (wire_fault (peer plan p))
 event_fault plan (event.Credit p) = port_fault plan p (wire_fault (peer plan p))
 event_fault plan (event.Input s l word) = node_fault (length plan.switches) s (link_fault l None)
 event_fault plan (event.Claim s i o) = node_fault (length plan.switches) s (link_fault i (link_fault o None))
+event_fault plan (event.Control s bytes) = node_fault (length plan.switches) s None
 event_fault plan (event.Send t packet) = node_fault (length plan.terminals) t (if nat_le (length packet.bytes) 4096 then None else Some fault.TooLong)
 event_fault plan (event.Drain t) = node_fault (length plan.terminals) t None
 
@@ -89,6 +102,7 @@ limit_fault (Some n) (event.Cross p) = None
 limit_fault (Some n) (event.Credit p) = None
 limit_fault (Some n) (event.Input s l word) = None
 limit_fault (Some n) (event.Claim s i o) = None
+limit_fault (Some n) (event.Control s bytes) = None
 limit_fault (Some n) (event.Send t packet) = if nat_le (length (waiting n) + length packet.bytes + 1) outbox_limit then None else Some fault.OutboxFull
 limit_fault (Some n) (event.Drain t) = if nat_lt (length (arrived n)) inbox_limit then None else Some fault.InboxFull
 
@@ -98,8 +112,14 @@ limited_node net (event.Cross p) = None
 limited_node net (event.Credit p) = None
 limited_node net (event.Input s l word) = None
 limited_node net (event.Claim s i o) = None
+limited_node net (event.Control s bytes) = None
 limited_node net (event.Send t packet) = slice_get net.nodes (terminal_place net.plan t)
 limited_node net (event.Drain t) = slice_get net.nodes (terminal_place net.plan t)
+
+-- what is answered where a switch replies to a command
+abbrev pub reply_by : Option (List ℕ) → Reply
+reply_by (Some bytes) = reply.Control bytes
+reply_by None = reply.NotReady
 
 module _ {A : Type 0} (kind : Kind A) where
   -- what is left where nothing else comes of an event
@@ -110,12 +130,17 @@ module _ {A : Type 0} (kind : Kind A) where
   abbrev pub moved : Network A → Option (A × List (Node A)) → Option (Reply × Network A)
   moved net made = made >>= (λ r. Some (reply.Token (kind.plain r.0), with_nodes net r.1))
 
+  -- the same, where a switch replies to a command
+  abbrev pub replied : Network A → Option (List ℕ × List (Node A)) → Option (Reply × Network A)
+  replied net made = made >>= (λ r. Some (reply.Control r.0, with_nodes net r.1))
+
   -- what an event answers and leaves, where it is ready
   abbrev pub step : Network A → Event → Option (Reply × Network A)
   step net (event.Cross p) = peer net.plan p >>= (λ q. moved net (crossed net.nodes (end_of net.plan p) (end_of net.plan q)))
   step net (event.Credit p) = peer net.plan p >>= (λ q. done net (credited net.nodes (end_of net.plan p) (end_of net.plan q)))
   step net (event.Input s l word) = done net (at_place net.nodes s (input kind l word))
   step net (event.Claim s i o) = done net (at_place net.nodes s (claim i o))
+  step net (event.Control s bytes) = replied net (from_place net.nodes s (control bytes))
   step net (event.Send t packet) = done net (at_place net.nodes (terminal_place net.plan t) (send kind t packet))
   step net (event.Drain t) = moved net (from_place net.nodes (terminal_place net.plan t) drain)
 

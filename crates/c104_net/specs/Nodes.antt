@@ -1,12 +1,15 @@
 -- The nodes of a network, switches and terminals, and what each does in an event. A terminal has one
 -- link, whatever its number. None is not ready.
-use Rattle.std.specs.Prelude.{ℕ, List, [], length, slice_get, Option, Some, None}
+use Rattle.std.specs.Prelude.{ℕ, List, [], length, slice_get, Option, Some, None, Result, Ok, Err}
 use Rattle.c104_token.specs.declared.packets.Packet.{Packet}
 use Rattle.c104_token.specs.Kinds.{Kind}
 use Rattle.c104_link.specs.Steps.{◌>>=◌}
 use Rattle.c104_switch.specs.Switch as switch
 use Rattle.c104_switch.specs.Turns as turns
 use Rattle.c104_switch.specs.Claims as claims
+use Rattle.c104_switch.specs.Control as controls
+use Rattle.c104_switch.specs.Peeks.{peek}
+use Rattle.c104_regs.specs.declared.faults.RegFault.{RegFault}
 use Rattle.c104_net.specs.Terminals as terminal
 use Rattle.c104_net.specs.declared.node.NodeOf.{NodeOf}
 use Rattle.c104_net.specs.declared.node.NodeOf.TheVariants.{Switch, Terminal}
@@ -51,6 +54,11 @@ abbrev pub claim : {A : Type 0} → ℕ → ℕ → Node A → Option (Node A)
 claim i o (Switch s) = claims.claim s i o >>= as_switch
 claim i o (Terminal t) = None
 
+-- a control command, which comes to a switch alone
+abbrev pub control : {A : Type 0} → List ℕ → Node A → Option (List ℕ × Node A)
+control bytes (Switch s) = let r = controls.control s bytes in Some (r.0, Switch r.1)
+control bytes (Terminal t) = None
+
 -- the terminal of this number sends a packet
 abbrev pub send : {A : Type 0} → Kind A → ℕ → Packet → Node A → Option (Node A)
 send kind number packet (Switch s) = None
@@ -85,3 +93,16 @@ waiting_at nodes place = slice_get nodes place >>= waiting_count
 
 abbrev pub arrived_at : {A : Type 0} → List (Node A) → ℕ → Option (List A)
 arrived_at nodes place = slice_get nodes place >>= arrived_list
+
+-- what was read, if anything was
+abbrev pub value_read : Result ℕ RegFault → Option ℕ
+value_read (Ok v) = Some v
+value_read (Err e) = None
+
+-- the value of a register of a node, if it is a switch and has one at this address
+abbrev pub register_value : {A : Type 0} → ℕ → Node A → Option ℕ
+register_value a (Switch s) = value_read (peek s a)
+register_value a (Terminal t) = None
+
+abbrev pub register_at : {A : Type 0} → List (Node A) → ℕ → ℕ → Option ℕ
+register_at nodes place a = slice_get nodes place >>= register_value a

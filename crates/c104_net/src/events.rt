@@ -4,6 +4,7 @@ ghost use Rattle.c104_net.specs.EventFaults.{event_fault_name, event_fault_numbe
 ghost use Rattle.c104_net.specs.declared.events.EventFault.TheVariants as fault;
 ghost use Rattle.c104_net.specs.declared.events.PlaceFault.TheVariants as place;
 
+use c104_control::ControlBytes;
 use c104_token::{NoMemory as WantOfMemory, Packet};
 use std::alloc::{AllocError, AllocFailed};
 use thiserror::Error;
@@ -37,6 +38,11 @@ pub enum Event {
         switch: usize,
         input: usize,
         output: usize,
+    },
+    /// A control command comes to a switch, as these bytes.
+    Control {
+        switch: usize,
+        bytes: ControlBytes,
     },
     /// A terminal sends a packet.
     Send {

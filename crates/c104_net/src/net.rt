@@ -8,16 +8,17 @@ ghost use Rattle.c104_switch.specs.Actions.{reply_of, reply_with};
 ghost use Rattle.c104_describe.specs.PlanImage.{Fits};
 ghost use Rattle.c104_net.specs.Balance.{IsBalanced};
 ghost use Rattle.c104_net.specs.Finished.{finished, arrived_in};
-ghost use Rattle.c104_net.specs.Network.{placed, arrived_of, Answers, Runs, event_fault, port_fault, wire_fault, terminal_place};
+ghost use Rattle.c104_net.specs.Network.{first_network, placed, arrived_of, register_of, reply_by, Answers, Runs, event_fault, port_fault, wire_fault, terminal_place};
 
 use crate::events::{Event, EventFault, PlaceFault, Port};
 use crate::nodes::{End, NodesOf};
-use crate::placing::{place, retire_all};
+use crate::placing::{place, place_new, retire_all};
 use crate::run::RunOf;
 use crate::terminal::TerminalOf;
+use c104_control::ControlBytes;
 use c104_describe::{Image, Plan, Terminal};
 use c104_switch::{LINKS, Reply};
-use c104_token::{MAX_PACKET_BYTES, Packet, Token, TokenKind};
+use c104_token::{MAX_PACKET_BYTES, NoMemory, Packet, Token, TokenKind};
 use std::alloc::{AllocError, Global};
 use std::marker::Model;
 
@@ -58,6 +59,27 @@ impl<T: TokenKind> Model for NetOf<T> {
 }
 
 impl<T: TokenKind> NetOf<T> {
+    /// A network of this plan, each switch of which is reset and not started, and no token anywhere.
+    /// Only want of memory is refused.
+    pub fn new(alloc: Global, plan: &Plan) -> Result<Self, NoMemory>
+        ensures { IfOk result (λ net. net ≡ first_network plan.now) }
+    {
+        let plan = plan.clone()?;
+        let room = Vec::with_capacity(alloc, plan.terminals().len())?;
+        let mut list = Vec::new(alloc);
+        match place_new(alloc, &plan, &mut list) {
+            Ok(()) => Ok(NetOf {
+                plan,
+                nodes: NodesOf::new(list),
+                room,
+            }),
+            Err(error) => {
+                retire_all(list);
+                Err(error)
+            }
+        }
+    }
+
     /// A network of this plan, each switch of which is started with the image's settings, and no
     /// token anywhere. NotFitting exactly where the image doesn't fit the plan.
     pub fn placed(alloc: Global, plan: &Plan, image: &Image) -> Result<Self, PlaceFault>
@@ -114,6 +136,17 @@ impl<T: TokenKind> NetOf<T> {
         self.nodes.arrived(self.plan.switches().len() + terminal)
     }
 
+    /// The value of the register at this address of a switch. None where the plan has no such switch,
+    /// or no register has the address.
+    pub fn peek(&self, switch: usize, addr: u16) -> Option<u32>
+        ensures { result ≡ register_of self.now switch addr }
+    {
+        if switch >= self.plan.switches().len() {
+            return None;
+        }
+        self.nodes.peek(switch, addr)
+    }
+
     /// Does an event, and answers what came of it, or NotReady where one of its conditions doesn't
     /// hold; or refuses it. Where it isn't done nothing has changed.
     pub fn apply(&mut self, event: &Event) -> Result<Reply, EventFault>
@@ -128,6 +161,7 @@ impl<T: TokenKind> NetOf<T> {
                 input,
                 output,
             } => self.claim(*switch, *input, *output),
+            Event::Control { switch, bytes } => self.control(*switch, bytes),
             Event::Send { terminal, packet } => self.send(*terminal, packet),
             Event::Drain { terminal } => self.drain(*terminal),
         }
@@ -228,6 +262,15 @@ impl<T: TokenKind> NetOf<T> {
         }
         Ok(done(self.nodes.claim(switch, input, output)))
     }
+
+    fn control(&mut self, switch: usize, bytes: &ControlBytes) -> Result<Reply, EventFault>
+        ensures { Answers T.kind self.old (event.Control switch bytes.now) result self.new }
+    {
+        if switch >= self.plan.switches().len() {
+            return Err(EventFault::NoNode);
+        }
+        Ok(replied(self.nodes.control(switch, bytes.as_slice())))
+    }
 }
 
 fn done(made: bool) -> Reply
@@ -241,6 +284,15 @@ fn gave<T: TokenKind>(token: Option<T>) -> Reply
 {
     match token {
         Some(token) => Reply::Token(token.plain()),
+        None => Reply::NotReady,
+    }
+}
+
+fn replied(bytes: Option<ControlBytes>) -> Reply
+    ensures { result ≡ reply_by bytes }
+{
+    match bytes {
+        Some(bytes) => Reply::Control(bytes),
         None => Reply::NotReady,
     }
 }

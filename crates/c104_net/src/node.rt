@@ -2,10 +2,11 @@
 ghost use Rattle.std.specs.Prelude.{◌≡◌, ◌≤◌, ◌∷◌, [], length, is_some, MatchResult};
 ghost use Rattle.std.specs.Option.{option_copied, option_to_list};
 ghost use Rattle.c104_link.specs.Steps.{tried, taken};
-ghost use Rattle.c104_net.specs.Nodes.{Node, enter, leave, credit_out, credit_in, input, claim, send, drain, waiting_count, arrived_list};
+ghost use Rattle.c104_net.specs.Nodes.{Node, enter, leave, credit_out, credit_in, input, claim, control, send, drain, waiting_count, arrived_list, register_value};
 ghost use Rattle.c104_net.specs.Finished.{terminals_of};
 
 use crate::terminal::TerminalOf;
+use c104_control::ControlBytes;
 use c104_switch::SwitchOf;
 use c104_token::{NoMemory, Packet, TokenKind};
 
@@ -106,6 +107,26 @@ impl<T: TokenKind> NodeOf<T> {
         match self {
             NodeOf::Switch(switch) => switch.claim(link, output),
             NodeOf::Terminal(_) => false,
+        }
+    }
+
+    /// A control command comes. None where the node is no switch.
+    pub fn control(&mut self, bytes: &[u8]) -> Option<ControlBytes>
+        ensures { (result, self.new) ≡ taken (control bytes.now self.old) self.old }
+    {
+        match self {
+            NodeOf::Switch(switch) => Some(switch.control(bytes)),
+            NodeOf::Terminal(_) => None,
+        }
+    }
+
+    /// The value of the register at this address. None where there is none, or the node is no switch.
+    pub fn peek(&self, addr: u16) -> Option<u32>
+        ensures { result ≡ register_value addr self.now }
+    {
+        match self {
+            NodeOf::Switch(switch) => switch.peek(addr).ok(),
+            NodeOf::Terminal(_) => None,
         }
     }
 

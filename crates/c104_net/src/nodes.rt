@@ -2,13 +2,14 @@
 ghost use Rattle.std.specs.Prelude.{◌≡◌, ◌≤◌, [], length, is_some, MatchResult};
 ghost use Rattle.std.specs.Option.{option_copied};
 ghost use Rattle.c104_link.specs.Steps.{tried, taken, at_place, from_place};
-ghost use Rattle.c104_net.specs.Nodes.{enter, leave, credit_out, credit_in, input, claim, send, drain, waiting_at, arrived_at};
+ghost use Rattle.c104_net.specs.Nodes.{enter, leave, credit_out, credit_in, input, claim, control, send, drain, waiting_at, arrived_at, register_at};
 ghost use Rattle.c104_net.specs.Wires.{crossed, credited};
 ghost use Rattle.c104_net.specs.Finished.{terminals_of};
 ghost use Rattle.std.specs.Vec.{vec_capacity};
 
 use crate::node::NodeOf;
 use crate::terminal::TerminalOf;
+use c104_control::ControlBytes;
 use c104_token::{NoMemory, Packet, TokenKind};
 use std::marker::Model;
 
@@ -121,6 +122,25 @@ impl<T: TokenKind> NodesOf<T> {
         }
         let node = &mut list[place];
         node.claim(link, output)
+    }
+
+    /// A control command comes to the node at this place. None where it is no switch.
+    pub fn control(&mut self, place: usize, bytes: &[u8]) -> Option<ControlBytes>
+        ensures { (result, self.new) ≡ taken (from_place self.old place (control bytes.now)) self.old }
+    {
+        let list = &mut self.list;
+        if place >= list.len() {
+            return None;
+        }
+        let node = &mut list[place];
+        node.control(bytes)
+    }
+
+    /// The value of a register of the switch at this place. None where there is none.
+    pub fn peek(&self, place: usize, addr: u16) -> Option<u32>
+        ensures { result ≡ register_at self.now place addr }
+    {
+        self.list.get(place)?.peek(addr)
     }
 
     /// Whether a token can come in at an end of a wire.

@@ -1,11 +1,11 @@
 //! The nodes of a network at first.
 ghost use Rattle.std.specs.Prelude.{◌≡◌, ◌++◌, [], length, All, OnOk};
-ghost use Rattle.c104_net.specs.Network.{switch_nodes, terminal_nodes};
+ghost use Rattle.c104_net.specs.Network.{first_switches, switch_nodes, terminal_nodes};
 ghost use Rattle.c104_describe.specs.PlanImage.{AreSettings};
 
 use crate::node::NodeOf;
 use crate::terminal::TerminalOf;
-use c104_describe::{Image, Plan, Terminal};
+use c104_describe::{Image, Name, Plan, Terminal};
 use c104_regs::Settings;
 use c104_switch::SwitchOf;
 use c104_token::{Items, NoMemory, TokenKind};
@@ -27,6 +27,37 @@ pub fn place<T: TokenKind>(
 {
     add_switches(alloc, image.all_settings(), list)?;
     add_terminals(alloc, plan.terminals(), list)
+}
+
+/// The nodes of a new network of this plan join an empty list: the switches, reset and not started, and
+/// then the terminals.
+pub fn place_new<T: TokenKind>(
+    alloc: Global,
+    plan: &Plan,
+    list: &mut Vec<NodeOf<T>>,
+) -> Result<(), NoMemory>
+    requires { list.old.items ≡ [] }
+    ensures { OnOk result (list.new.items ≡ first_switches plan.now.switches ++ terminal_nodes plan.now.terminals) }
+{
+    add_new_switches(alloc, plan.switches(), list)?;
+    add_terminals(alloc, plan.terminals(), list)
+}
+
+/// A new switch for each of these names joins an empty list.
+fn add_new_switches<T: TokenKind>(
+    alloc: Global,
+    names: &[Name],
+    list: &mut Vec<NodeOf<T>>,
+) -> Result<(), NoMemory>
+    requires { list.old.items ≡ [] }
+    ensures { OnOk result (list.new.items ≡ first_switches names.now) }
+{
+    for _name in names {
+        list.reserve(1)?;
+        let switch = SwitchOf::new(alloc, BUFFER_SIZE)?;
+        list.push_reserved(NodeOf::Switch(switch));
+    }
+    Ok(())
 }
 
 /// Switches join an empty list, each started with these settings at its links.

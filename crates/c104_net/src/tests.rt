@@ -1,3 +1,5 @@
+mod control;
+
 use crate::{Event, EventFault, Net, PlaceFault, Port};
 use c104_describe::{hand_image, read_description};
 use c104_switch::Reply;
@@ -61,28 +63,28 @@ fn first_run(rt: HostRuntime) -> Result<(), Fail> {
 /// The events of the first packet, in a network in which nothing has happened.
 fn run_first(rt: &impl Abort, alloc: Global, net: &mut Net) -> Result<(), Fail> {
     let token = |byte: u8| Ok(Reply::Token(Token::Byte(byte)));
-    let done = Ok(Reply::Done);
-    let end = Ok(Reply::Token(Token::Eop));
+    let done = || Ok(Reply::Done);
+    let end = || Ok(Reply::Token(Token::Eop));
     let sent = send(alloc, 0, "01 aa eop")?;
-    expect(rt, net, &sent, done);
-    expect(rt, net, &Event::Credit(A0), done);
+    expect(rt, net, &sent, done());
+    expect(rt, net, &Event::Credit(A0), done());
     expect(rt, net, &Event::Cross(A), token(1));
     expect(rt, net, &Event::Cross(A), token(0xaa));
-    expect(rt, net, &Event::Cross(A), end);
+    expect(rt, net, &Event::Cross(A), end());
     expect(rt, net, &Event::Cross(A), Ok(Reply::NotReady));
-    expect(rt, net, &input(0), done);
-    expect(rt, net, &claim(0, 1), done);
+    expect(rt, net, &input(0), done());
+    expect(rt, net, &claim(0, 1), done());
     expect(rt, net, &Event::Cross(A1), Ok(Reply::NotReady));
-    expect(rt, net, &Event::Credit(B), done);
+    expect(rt, net, &Event::Credit(B), done());
     expect(rt, net, &Event::Cross(A1), token(1));
-    expect(rt, net, &input(0), done);
-    expect(rt, net, &input(0), done);
+    expect(rt, net, &input(0), done());
+    expect(rt, net, &input(0), done());
     expect(rt, net, &Event::Cross(A1), token(0xaa));
-    expect(rt, net, &Event::Cross(A1), end);
+    expect(rt, net, &Event::Cross(A1), end());
     let drain = Event::Drain { terminal: 1 };
     expect(rt, net, &drain, token(1));
     expect(rt, net, &drain, token(0xaa));
-    expect(rt, net, &drain, end);
+    expect(rt, net, &drain, end());
     expect(rt, net, &drain, Ok(Reply::NotReady));
     let arrived = net.arrived(1).ok_or("no terminal b")?;
     let (packets, left) = cut_packets(alloc, arrived)?;

@@ -1,7 +1,5 @@
-use Rattle.std.proofs.Common.{◌∙◌, length, sym, ap, arith}
-use Rattle.c104_describe.specs.Plans.{Plan}
+use Rattle.std.proofs.Common.{◌∙◌, ap, arith}
 use Rattle.c104_net.specs.Network.{Network, arrived_of}
-use Rattle.c104_net.specs.Finished.{arrived_in}
 use Rattle.c104_net.proofs.Finishing.{terminals_counted, arrived_same}
 use Rattle.c104_net.proofs.net.NetOf.finish.Goals as goal
 
