@@ -1,10 +1,10 @@
 -- The grammar of a script: what a line asks of a network of this plan. Of all that is wrong with a
 -- line the fault of the least number is answered, so conditions stand in the order of the faults'
 -- numbers; but a packet's words are read from the left, after all else.
-use Rattle.std.specs.Prelude.{ℕ, ◌+◌, ◌&&◌, ◌≡◌, ◌⊎◌, Bool, true, false, List, [], ◌∷◌, length, take, drop, nat_le, bytes_eq, codes, if◌then◌else◌, Option, Some, None, Result, Ok, Err}
+use Rattle.std.specs.Prelude.{ℕ, ◌+◌, ◌&&◌, ◌≡◌, ◌⊎◌, Bool, true, false, List, [], ◌∷◌, ◌++◌, length, take, drop, nat_le, bytes_eq, codes, if◌then◌else◌, Option, Some, None, Result, Ok, Err}
 use Rattle.c104_token.specs.declared.faults.TokenFault.{TokenFault}
 use Rattle.c104_token.specs.declared.faults.TokenFault.TheVariants as token_fault
-use Rattle.c104_token.specs.Text.{parsed_words}
+use Rattle.c104_token.specs.Text.{byte_spelled, parsed_words}
 use Rattle.c104_token.specs.declared.packets.Packet.{Packet}
 use Rattle.c104_describe.specs.declared.text.Dots.{Dots}
 use Rattle.c104_describe.specs.declared.text.Dots.TheVariants.{Without, At, Several}
@@ -158,6 +158,25 @@ claim_line plan node input_word output_word = do
   output ← number_word output_word
   Ok (request_of (switch_at plan place) (λ s. event.Claim s input output))
 
+-- the bytes that words spell, after these: each is two hexadecimal digits
+abbrev pub bytes_after : List ℕ → List (List ℕ) → Result (List ℕ) LineFault
+bytes_after bytes [] = Ok bytes
+bytes_after bytes (word ∷ more) = do
+  byte ← wanted (byte_spelled word) fault.BadHex
+  bytes_after (bytes ++ byte ∷ []) more
+
+-- the most bytes of a control command
+abbrev pub most_control : ℕ
+most_control = 8
+
+-- `control S HEX..`
+abbrev pub control_line : Plan → List ℕ → List (List ℕ) → Result Request LineFault
+control_line plan node byte_words = do
+  require (nat_le (length byte_words) most_control) fault.BadShape
+  place ← place_word node
+  bytes ← bytes_after [] byte_words
+  Ok (request_of (switch_at plan place) (λ s. event.Control s bytes))
+
 -- the most rounds that a line asks for
 abbrev pub most_rounds : ℕ
 most_rounds = 10000
@@ -178,8 +197,9 @@ verb_of word =
     else (if bytes_eq word (codes "credit") then Some verb.Credit
     else (if bytes_eq word (codes "input") then Some verb.Input
     else (if bytes_eq word (codes "claim") then Some verb.Claim
+    else (if bytes_eq word (codes "control") then Some verb.Control
     else (if bytes_eq word (codes "rounds") then Some verb.Rounds
-    else None))))))
+    else None)))))))
 
 -- a line, by what its first word asks for and the words after it
 abbrev pub verb_line : Verb → Plan → List (List ℕ) → Result Request LineFault
@@ -190,6 +210,7 @@ verb_line verb.Credit plan (node ∷ []) = credit_line plan node
 verb_line verb.Input plan (node ∷ []) = input_line plan node (Ok 0)
 verb_line verb.Input plan (node ∷ word ∷ []) = input_line plan node (number_word word)
 verb_line verb.Claim plan (node ∷ input_word ∷ output_word ∷ []) = claim_line plan node input_word output_word
+verb_line verb.Control plan (node ∷ byte_words) = control_line plan node byte_words
 verb_line verb.Rounds plan (count_word ∷ []) = rounds_line count_word
 verb_line verb plan rest = Err fault.BadShape
 

@@ -1,5 +1,5 @@
 -- What is printed: tokens, replies, refusals and faults.
-use Rattle.std.specs.Prelude.{ℕ, ◌/◌, ◌%◌, List, [], ◌∷◌, ◌++◌, codes, Result, Ok, Err}
+use Rattle.std.specs.Prelude.{ℕ, ◌/◌, ◌%◌, List, [], ◌∷◌, ◌++◌, flat_map, codes, Result, Ok, Err}
 use Rattle.std.specs.Fmt.{decimal}
 use Rattle.c104_token.specs.declared.tokens.Token.{Token}
 use Rattle.c104_token.specs.declared.tokens.Token.TheVariants as token
@@ -38,17 +38,26 @@ line_fault_name fault.AfterEnd = codes "AfterEnd"
 line_fault_name fault.PacketTooLong = codes "PacketTooLong"
 line_fault_name fault.NoMemory = codes "NoMemory"
 
--- a token: the two hexadecimal digits of a byte, or its terminator's word
+-- a byte: its two hexadecimal digits
+abbrev pub byte_text : ℕ → List ℕ
+byte_text byte = hex_digit (byte / 16) ∷ hex_digit (byte % 16) ∷ []
+
+-- a token: a byte, or its terminator's word
 abbrev pub token_text : Token → List ℕ
-token_text (token.Byte byte) = hex_digit (byte / 16) ∷ hex_digit (byte % 16) ∷ []
+token_text (token.Byte byte) = byte_text byte
 token_text token.Eop = mark_word mark.Eop
 token_text token.Eom = mark_word mark.Eom
+
+-- a byte of a reply to a command, after a space
+abbrev pub spaced_byte : ℕ → List ℕ
+spaced_byte byte = 32 ∷ byte_text byte
 
 -- what a reply to an event is printed as
 abbrev pub reply_text : Reply → List ℕ
 reply_text reply.Done = codes "done"
 reply_text reply.NotReady = codes "not ready"
 reply_text (reply.Token x) = codes "token " ++ token_text x
+reply_text (reply.Control bytes) = codes "control" ++ flat_map spaced_byte bytes
 
 -- what an event's answer is printed as, a refusal by its number and name
 abbrev pub answer_text : Result Reply EventFault → List ℕ

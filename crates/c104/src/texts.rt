@@ -1,11 +1,12 @@
 //! What is printed: replies, refusals and faults.
-ghost use Rattle.std.specs.Prelude.{◌≡◌, IfOk, Ok, Err};
+ghost use Rattle.std.specs.Prelude.{◌≡◌, ◌++◌, IfOk, OnOk, Ok, Err};
 ghost use Rattle.std.specs.String.{string_bytes};
 ghost use Rattle.c104_token.specs.declared.tokens.Token.TheVariants as token;
 ghost use Rattle.c104_switch.specs.declared.actions.Reply.TheVariants as reply;
-ghost use Rattle.c104.specs.Texts.{answer_text, description_text, line_fault_text, numbered, reply_text};
+ghost use Rattle.c104.specs.Texts.{answer_text, byte_text, description_text, line_fault_text, numbered, reply_text};
 
 use crate::script::LineFault;
+use c104_control::ControlBytes;
 use c104_describe::PlanFault;
 use c104_net::EventFault;
 use c104_switch::Reply;
@@ -22,6 +23,7 @@ pub fn reply_text(alloc: Global, reply: Reply) -> Result<String, AllocError>
         Reply::Token(Token::Byte(byte)) => byte_text(alloc, byte),
         Reply::Token(Token::Eop) => format!(in alloc; "token eop"),
         Reply::Token(Token::Eom) => format!(in alloc; "token eom"),
+        Reply::Control(bytes) => control_text(alloc, &bytes),
     }
 }
 
@@ -30,9 +32,29 @@ fn byte_text(alloc: Global, byte: u8) -> Result<String, AllocError>
     ensures { IfOk result (λ text. string_bytes text ≡ reply_text (reply.Token (token.Byte byte))) }
 {
     let mut text = format!(in alloc; "token ")?;
+    push_byte(&mut text, byte)?;
+    Ok(text)
+}
+
+/// The bytes that a switch replied to a command.
+fn control_text(alloc: Global, bytes: &ControlBytes) -> Result<String, AllocError>
+    ensures { IfOk result (λ text. string_bytes text ≡ reply_text (reply.Control bytes.now)) }
+{
+    let mut text = format!(in alloc; "control")?;
+    for byte in bytes.as_slice() {
+        text.push(' ')?;
+        push_byte(&mut text, *byte)?;
+    }
+    Ok(text)
+}
+
+/// The two digits of a byte join a text.
+fn push_byte(text: &mut String, byte: u8) -> Result<(), AllocError>
+    ensures { OnOk result (string_bytes text.new ≡ string_bytes text.old ++ byte_text byte) }
+{
     text.push(digit_of(byte / 16))?;
     text.push(digit_of(byte % 16))?;
-    Ok(text)
+    Ok(())
 }
 
 /// An event that was refused.

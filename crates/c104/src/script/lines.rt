@@ -1,11 +1,12 @@
 //! A script, line by line.
 ghost use Rattle.std.specs.Prelude.{◌≡◌, map};
-ghost use Rattle.c104.specs.Script.{claim_line, credit_line, cross_line, drain_line, input_line, number_word, read_line, request_of, rounds_line, send_line, verb_line, words_line, GivesOrNoMemory};
+ghost use Rattle.c104.specs.Script.{claim_line, control_line, credit_line, cross_line, drain_line, input_line, number_word, read_line, request_of, rounds_line, send_line, verb_line, words_line, GivesOrNoMemory};
 ghost use Rattle.c104_net.specs.declared.events.Event.TheVariants as event;
 
 use super::faults::LineFault;
 use super::places::{Request, find_input, find_port, find_switch, find_terminal};
-use super::words::{Verb, read_number_word, read_place, read_verb};
+use super::words::{Verb, read_bytes, read_number_word, read_place, read_verb};
+use c104_control::MAX_CONTROL_BYTES;
 use c104_describe::{Plan, cut_words, is_plain, uncommented};
 use c104_net::{Event, Port};
 use c104_token::parse_words;
@@ -72,6 +73,7 @@ fn read_request(
         (Verb::Input, [node]) => read_input(plan, node, Ok(0)),
         (Verb::Input, [node, word]) => read_input(plan, node, read_number_word(word)),
         (Verb::Claim, [node, input, output]) => read_claim(plan, node, input, output),
+        (Verb::Control, [node, bytes @ ..]) => read_control(plan, node, bytes),
         (Verb::Rounds, [count]) => read_rounds(count),
         _ => Err(LineFault::BadShape),
     }
@@ -156,6 +158,21 @@ fn read_claim(plan: &Plan, node: &[u8], input: &[u8], output: &[u8]) -> Result<R
             input,
             output,
         }),
+        Err(fault) => Request::Refused(fault),
+    })
+}
+
+/// Reads `control S HEX..`.
+fn read_control(plan: &Plan, node: &[u8], words: &[&[u8]]) -> Result<Request, LineFault>
+    ensures { result ≡ control_line plan.now node.now (map (λ word. word.now) words.now) }
+{
+    if words.len() > MAX_CONTROL_BYTES {
+        return Err(LineFault::BadShape);
+    }
+    let place = read_place(node)?;
+    let bytes = read_bytes(words)?;
+    Ok(match find_switch(plan, place) {
+        Ok(switch) => Request::Asked(Event::Control { switch, bytes }),
         Err(fault) => Request::Refused(fault),
     })
 }

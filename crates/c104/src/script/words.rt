@@ -1,9 +1,12 @@
 //! The words of a script's line.
-ghost use Rattle.std.specs.Prelude.{◌≡◌, Err, MatchResult, Ok};
-ghost use Rattle.c104.specs.Script.{number_word, place_word, verb_of};
+ghost use Rattle.std.specs.Prelude.{◌≡◌, ◌≤◌, [], length, map, Err, MatchResult, Ok};
+ghost use Rattle.c104.specs.Script.{bytes_after, number_word, place_word, verb_of};
 
 use super::faults::LineFault;
+use arrayvec::ArrayVec;
+use c104_control::{ControlBytes, MAX_CONTROL_BYTES};
 use c104_describe::{Dots, find_dots, read_number};
+use c104_token::read_byte;
 
 /// What the first word of a line asks for.
 #[derive(Clone, Copy)]
@@ -14,6 +17,7 @@ pub(super) enum Verb {
     Credit,
     Input,
     Claim,
+    Control,
     Rounds,
 }
 
@@ -41,6 +45,8 @@ pub(super) fn read_verb(word: &[u8]) -> Option<Verb>
         Some(Verb::Input)
     } else if word == b"claim".as_slice() {
         Some(Verb::Claim)
+    } else if word == b"control".as_slice() {
+        Some(Verb::Control)
     } else if word == b"rounds".as_slice() {
         Some(Verb::Rounds)
     } else {
@@ -55,6 +61,21 @@ pub(super) fn read_number_word(word: &[u8]) -> Result<u32, LineFault>
         return Err(LineFault::BadNumber);
     };
     Ok(value)
+}
+
+/// Reads at most eight bytes, each of two hexadecimal digits.
+pub(super) fn read_bytes(words: &[&[u8]]) -> Result<ControlBytes, LineFault>
+    requires { length words.now ≤ 8 }
+    ensures { result ≡ bytes_after [] (map (λ word. word.now) words.now) }
+{
+    let mut bytes = ArrayVec::<u8, MAX_CONTROL_BYTES>::new();
+    for word in words {
+        let Some(byte) = read_byte(word) else {
+            return Err(LineFault::BadHex);
+        };
+        bytes.push(byte);
+    }
+    Ok(ControlBytes::new(bytes.as_slice()))
 }
 
 /// Reads `NAME` or `NAME.NUMBER`. Whether anything has the name is not tested.
