@@ -5,6 +5,7 @@
 --     in_group continues g o      whether o is in it, as a computation; `Group::of` ties the two
 use Rattle.std.specs.Prelude.{◌≡◌, ℕ, zero, suc, ◌+◌, ◌-◌, ◌<◌, ◌≤◌, ◌==◌, ◌&&◌, Bool, true, false, nat_le, if◌then◌else◌}
 use Rattle.std.specs.Int.{bit_at}
+use Rattle.c104_crossbar.specs.declared.TheConstants.{LINKS}
 
 -- the n links after this one all continue the group
 abbrev pub joined : (ℕ → Bool) → ℕ → ℕ → Bool
@@ -19,12 +20,12 @@ in_group continues g o = if nat_le g o then joined continues g (o - g) else join
 abbrev pub has_bit : ℕ → ℕ → Bool
 has_bit word l = bit_at word l == 1
 
--- the links from first to last are the group of link g: g is one of them, they are among the 32 links,
+-- the links from first to last are the group of link g: g is one of them, they are links of the switch,
 -- each after the first continues, and the run can't be longer at either side
 pub record IsGroup (continues : ℕ → Bool) (g first last : ℕ) : Type 0 where
   pub from_first : first ≤ g
   pub to_last : g ≤ last
-  pub below : last < 32
+  pub below : last < LINKS
   pub is_joined : (o : ℕ) → first < o → o ≤ last → continues o ≡ true
   pub not_before : 0 < first → continues first ≡ false
-  pub not_after : last + 1 < 32 → continues (last + 1) ≡ false
+  pub not_after : last + 1 < LINKS → continues (last + 1) ≡ false

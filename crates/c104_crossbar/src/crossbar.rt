@@ -13,12 +13,13 @@ pub struct Crossbar {
 
 impl Model for Crossbar {
     ghost use Rattle.std.specs.Prelude.{◌≡◌, Bool, List, length};
+    ghost use Rattle.c104_crossbar.specs.declared.TheConstants.{LINKS};
 
     ghost Value = { List Bool };
 
     ghost view = { λ crossbar. crossbar.marks };
 
-    ghost invariant = { λ crossbar. length crossbar.marks ≡ 32 };
+    ghost invariant = { λ crossbar. length crossbar.marks ≡ LINKS };
 }
 
 /// The right to an output, until it is given back by [`Crossbar::release`].
@@ -31,12 +32,13 @@ pub struct Claim {
 
 impl Model for Claim {
     ghost use Rattle.std.specs.Prelude.{ℕ, ◌<◌};
+    ghost use Rattle.c104_crossbar.specs.declared.TheConstants.{LINKS};
 
     ghost Value = { ℕ };
 
     ghost view = { λ claim. claim.output };
 
-    ghost invariant = { λ claim. claim.output < 32 };
+    ghost invariant = { λ claim. claim.output < LINKS };
 }
 
 impl Crossbar {
@@ -88,7 +90,7 @@ impl Claim {
     /// The number of the claimed output, 0 to 31.
     pub fn output(&self) -> usize
         ensures value { result ≡ self.now }
-        ensures below { result < 32 }
+        ensures below { result < LINKS }
     {
         self.output as usize
     }

@@ -3,6 +3,7 @@ ghost use Rattle.std.specs.Prelude.{◌≡◌, ◌↔◌, [], length, slice_get,
 ghost use Rattle.c104_link.specs.Steps.{tried, taken, offered};
 ghost use Rattle.c104_link.specs.Buffers.{IsValidCap, IsWithinCap, empty_in, grant, enter, without_first, take_first, cleared_in};
 
+use crate::outgoing::CREDIT_LIMIT;
 use crate::TOKENS_OF_A_GRANT;
 use c104_token::{NoMemory, Token, TokenKind};
 use circular_buffer::HeapCircularBuffer;
@@ -13,7 +14,7 @@ use std::marker::Model;
 pub fn valid_cap(cap: usize) -> bool
     ensures { IsTrue result ↔ IsValidCap cap }
 {
-    cap % 8 == 0 && (8..=64).contains(&cap)
+    cap % TOKENS_OF_A_GRANT == 0 && (TOKENS_OF_A_GRANT..=CREDIT_LIMIT).contains(&cap)
 }
 
 /// The input buffer of a link, which holds tokens in the order in which they came.

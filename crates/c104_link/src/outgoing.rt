@@ -32,12 +32,13 @@ pub type OutBuffer = OutBufferOf<Token>;
 impl<T: TokenKind> Model for OutBufferOf<T> {
     ghost use Rattle.std.specs.Prelude.{◌≡◌};
     ghost use Rattle.c104_link.specs.Buffers.{Outgoing, IsWithinLimits};
+    ghost use Rattle.c104_link.specs.declared.outgoing.TheConstants.{OUTPUT_CAP};
 
     ghost Value = { Outgoing T };
 
     ghost view = { λ q. record { items = q.ring.items; credit = q.credit } };
 
-    ghost invariant = { λ q. (q.ring.capacity ≡ 8)
+    ghost invariant = { λ q. (q.ring.capacity ≡ OUTPUT_CAP)
         × IsWithinLimits (record { items = q.ring.items; credit = q.credit }) };
 }
 

@@ -7,6 +7,8 @@ use Rattle.c104_interval.specs.Selection.{row_at}
 use Rattle.c104_interval.specs.declared.intervals.Row.{Row}
 use Rattle.c104_interval.specs.declared.intervals.Select.TheVariants.{Link, Discard, Sink}
 use Rattle.c104_interval.specs.declared.intervals.Select as interval
+use Rattle.c104_regs.specs.declared.registers.TheConstants.{LINKS}
+use Rattle.c104_regs.specs.declared.values.TheConstants.{DISCARD_CODE, SINK_CODE}
 use Rattle.c104_regs.specs.Addresses.{Register}
 use Rattle.c104_regs.specs.declared.addresses.Register.TheVariants.{Mode, RandomBase, RandomRange, Sunk, Short, InputLevel, OutputLevel, Credit, Granted, Owner, Base, Limit, Select}
 use Rattle.c104_regs.specs.Settings.{Settings}
@@ -28,12 +30,12 @@ mode_of s = number s.two_byte 1 + number s.delete_header 2 + number s.randomize 
 -- the number of what a row selects
 abbrev pub select_code : interval.Select → ℕ
 select_code (Link l) = l
-select_code Discard = 32
-select_code Sink = 64
+select_code Discard = DISCARD_CODE
+select_code Sink = SINK_CODE
 
 -- what a number selects
 abbrev pub coded : ℕ → interval.Select
-coded v = if nat_lt v 32 then Link v else (if v == 32 then Discard else Sink)
+coded v = if nat_lt v LINKS then Link v else (if v == DISCARD_CODE then Discard else Sink)
 
 -- 0 where no input streams to an output, and else 1 and the input
 abbrev pub owner_code : Option ℕ → ℕ

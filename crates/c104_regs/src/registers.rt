@@ -63,7 +63,7 @@ impl Registers {
     /// The registers of a switch that is started, with these settings at its links. The switch has
     /// told nothing yet.
     pub fn placed(settings: &[Settings]) -> Self
-        requires links { length settings.now ≡ 32 }
+        requires links { length settings.now ≡ LINKS }
         requires ranges { All IsInRange settings.now }
         ensures { result ≡ placed_bank settings.now }
     {
@@ -133,7 +133,7 @@ impl Registers {
 
     /// What is set at a link.
     pub fn settings(&self, link: usize) -> &Settings
-        requires { link < 32 }
+        requires { link < LINKS }
         ensures settings { result.now ≡ settings_at self.now link }
         ensures kept { IsInRange result.now }
     {
@@ -142,7 +142,7 @@ impl Registers {
 
     /// The four bits of a link's mode.
     pub fn mode(&self, link: usize) -> u32
-        requires { link < 32 }
+        requires { link < LINKS }
         ensures { result ≡ mode_of (settings_at self.now link) }
     {
         self.settings[link].mode()
@@ -150,7 +150,7 @@ impl Registers {
 
     /// The interval table of a link's input.
     pub fn table(&self, link: usize) -> &Table
-        requires { link < 32 }
+        requires { link < LINKS }
         ensures table { result.now ≡ (settings_at self.now link).table }
         ensures kept { IsTableInRange result.now }
     {
@@ -191,7 +191,7 @@ impl Registers {
 
     /// Tells the status of a link.
     pub fn set_status(&mut self, link: usize, status: Status)
-        requires { link < 32 }
+        requires { link < LINKS }
         ensures { self.new ≡ with_status self.old link status }
     {
         self.statuses[link] = status;

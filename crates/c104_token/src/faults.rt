@@ -1,4 +1,5 @@
 ghost use Rattle.std.specs.Prelude.{◌≡◌};
+ghost use Rattle.c104_token.specs.Faults.{fault_number};
 ghost use Rattle.c104_token.specs.declared.faults.TokenFault.TheVariants as fault;
 
 use std::alloc::{AllocError, AllocFailed};
@@ -39,6 +40,15 @@ pub enum TokenFault {
     /// Memory was wanted and refused.
     #[error("no memory")]
     NoMemory = 5,
+}
+
+impl TokenFault {
+    /// The fault's number, 1 to 5.
+    pub fn number(self) -> u8
+        ensures { result ≡ fault_number self }
+    {
+        self as u8
+    }
 }
 
 impl From<AllocError> for TokenFault {

@@ -115,7 +115,7 @@ fn read_digit(digit: u8) -> Option<u8>
 /// has at most 4,096 bytes. The only error is want of memory.
 pub fn print_packet(alloc: Global, packet: &Packet) -> Result<String, NoMemory>
     ensures text { IfOk result (λ text. string_bytes text ≡ printed packet.now) }
-    ensures reads_back { IfOk result (λ text. length packet.now.bytes ≤ 4096 → parsed (string_bytes text) ≡ Ok packet.now) }
+    ensures reads_back { IfOk result (λ text. length packet.now.bytes ≤ MAX_PACKET_BYTES → parsed (string_bytes text) ≡ Ok packet.now) }
 {
     let mut text = String::new(alloc);
     for byte in packet.bytes.as_bytes() {
