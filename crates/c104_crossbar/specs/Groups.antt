@@ -29,3 +29,16 @@ pub record IsGroup (continues : ℕ → Bool) (g first last : ℕ) : Type 0 wher
   pub is_joined : (o : ℕ) → first < o → o ≤ last → continues o ≡ true
   pub not_before : 0 < first → continues first ≡ false
   pub not_after : last + 1 < LINKS → continues (last + 1) ≡ false
+
+-- the links from first to last, and no others, are in the group of link g
+abbrev pub AreMembers : (ℕ → Bool) → ℕ → ℕ → ℕ → Type 0
+AreMembers continues g first last = (o : ℕ) → in_group continues g o ≡ (nat_le first o && nat_le o last)
+
+-- no other run of links is the group of link g
+abbrev pub IsOnlyGroup : (ℕ → Bool) → ℕ → ℕ → ℕ → Type 0
+IsOnlyGroup continues g first last = (f l : ℕ) → IsGroup continues g f l → (f ≡ first) × (l ≡ last)
+
+-- the group of link g is the same whatever is said of link 0
+abbrev pub IgnoresLinkZero : (ℕ → Bool) → ℕ → ℕ → ℕ → Type 0
+IgnoresLinkZero continues g first last =
+    (others : ℕ → Bool) → ((l : ℕ) → 0 < l → others l ≡ continues l) → IsGroup others g first last

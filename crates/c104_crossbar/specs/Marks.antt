@@ -1,6 +1,6 @@
 -- Which of the 32 outputs are taken: a mark for each, set where the output belongs to a claim. A claim
 -- is the number of its output.
-use Rattle.std.specs.Prelude.{◌≡◌, ℕ, ◌+◌, ◌==◌, Bool, true, false, not, nat_lt, List, [], ◌∷◌, Option, Some, None, replicate, if◌then◌else◌, slice_index_or, slice_set}
+use Rattle.std.specs.Prelude.{◌≡◌, ℕ, ◌+◌, ◌==◌, Bool, true, false, not, nat_lt, List, [], ◌∷◌, ◌++◌, Option, Some, None, replicate, if◌then◌else◌, slice_index_or, slice_set}
 use Rattle.c104_crossbar.specs.declared.TheConstants.{LINKS}
 
 -- the marks at first: no output is taken
@@ -37,3 +37,13 @@ ArePartition claims marks = (o : ℕ) → times o claims + number (is_free marks
 abbrev pub list_of : Option ℕ → List ℕ
 list_of None = []
 list_of (Some claim) = claim ∷ []
+
+-- whatever other claims there are, the outputs stay a partition where this claim, if any, was made
+abbrev pub ClaimKeepsPartition : List Bool → Option ℕ → List Bool → Type 0
+ClaimKeepsPartition marks claim after =
+    (claims : List ℕ) → ArePartition claims marks → ArePartition (list_of claim ++ claims) after
+
+-- and where this claim was given back
+abbrev pub ReleaseKeepsPartition : List Bool → ℕ → List Bool → Type 0
+ReleaseKeepsPartition marks claim after =
+    (claims : List ℕ) → ArePartition (claim ∷ claims) marks → ArePartition claims after

@@ -1,6 +1,6 @@
 //! Groups of links.
-ghost use Rattle.std.specs.Prelude.{◌≡◌, ◌+◌, ◌<◌, ◌≤◌, ◌&&◌, ℕ, Bool, false, true, nat_le};
-ghost use Rattle.c104_crossbar.specs.Groups.{IsGroup, has_bit, in_group};
+ghost use Rattle.std.specs.Prelude.{◌≡◌, ◌+◌, ◌<◌, ◌≤◌, ◌&&◌, ℕ, false, true, nat_le};
+ghost use Rattle.c104_crossbar.specs.Groups.{AreMembers, IgnoresLinkZero, IsGroup, IsOnlyGroup, has_bit};
 
 use crate::LINKS;
 
@@ -19,9 +19,9 @@ impl Group {
     pub fn of(continues: u32, link: usize) -> Group
         requires { link < LINKS }
         ensures group { IsGroup (has_bit continues) link result.first result.last }
-        ensures members { (o : ℕ) → in_group (has_bit continues) link o ≡ (nat_le result.first o && nat_le o result.last) }
-        ensures unique { (first last : ℕ) → IsGroup (has_bit continues) link first last → (first ≡ result.first) × (last ≡ result.last) }
-        ensures zero { (others : ℕ → Bool) → ((l : ℕ) → 0 < l → others l ≡ has_bit continues l) → IsGroup others link result.first result.last }
+        ensures members { AreMembers (has_bit continues) link result.first result.last }
+        ensures unique { IsOnlyGroup (has_bit continues) link result.first result.last }
+        ensures zero { IgnoresLinkZero (has_bit continues) link result.first result.last }
     {
         Group {
             first: first_of(continues, link),

@@ -63,7 +63,7 @@ parsed_words list = read (map word_of list) []
 abbrev pub parsed : List ℕ → Result Packet TokenFault
 parsed text = parsed_words (words text)
 
--- what is due, or that memory was wanted and refused
+-- what is due, or that there is no memory
 abbrev pub GivesOrNoMemory : Result Packet TokenFault → Result Packet TokenFault → Type 0
 GivesOrNoMemory result due = (result ≡ due) ⊎ (result ≡ Err fault.NoMemory)
 
@@ -100,6 +100,15 @@ pub record IsPacketText (text : List ℕ) (packet : Packet) : Type 0 where
   pub cut : words text ≡ spelling ++ mark_word packet.mark ∷ []
   pub bytes : SpellBytes spelling packet.bytes
   pub short : length packet.bytes ≤ MAX_PACKET_BYTES
+
+-- the answer is the packet that the text spells, where it spells one and there is memory
+abbrev pub TakesPacketText : List ℕ → Result Packet TokenFault → Type 0
+TakesPacketText text result =
+    (packet : Packet) → IsPacketText text packet → GivesOrNoMemory result (Ok packet)
+
+-- the text is read as the packet, where that is no longer than what is read
+abbrev pub ReadsBack : Packet → List ℕ → Type 0
+ReadsBack packet text = length packet.bytes ≤ MAX_PACKET_BYTES → parsed text ≡ Ok packet
 
 -- the digit of a value below 16, in lower case
 abbrev pub hex_digit : ℕ → ℕ

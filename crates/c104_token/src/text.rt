@@ -1,7 +1,6 @@
 ghost use Rattle.std.specs.Prelude.{◌≡◌, ◌≤◌, ◌<◌, ◌+◌, ◌*◌, ◌∷◌, ℕ, [], length, map, IfOk, IfSome};
 ghost use Rattle.std.specs.String.{string_bytes};
-ghost use Rattle.c104_token.specs.Packets.{Packet as ThePacket};
-ghost use Rattle.c104_token.specs.Text.{words, word_of, byte_spelled, hex_value, parsed, parsed_words, printed, hex_digit, IsPacketText, GivesOrNoMemory};
+ghost use Rattle.c104_token.specs.Text.{words, word_of, byte_spelled, hex_value, parsed, parsed_words, printed, hex_digit, IsPacketText, TakesPacketText, ReadsBack, GivesOrNoMemory};
 
 use crate::faults::{NoMemory, TokenFault};
 use crate::list::Items;
@@ -28,7 +27,7 @@ enum Word {
 pub fn parse_packet(alloc: Global, text: &str) -> Result<Packet, TokenFault>
     ensures value { GivesOrNoMemory result (parsed text.now) }
     ensures accepted { IfOk result (λ packet. IsPacketText text.now packet) }
-    ensures complete { (packet : ThePacket) → IsPacketText text.now packet → GivesOrNoMemory result (Ok packet) }
+    ensures complete { TakesPacketText text.now result }
 {
     let words = cut_words(alloc, text.as_bytes())?;
     parse_words(alloc, words.as_slice())
@@ -115,7 +114,7 @@ fn read_digit(digit: u8) -> Option<u8>
 /// has at most 4,096 bytes. The only error is want of memory.
 pub fn print_packet(alloc: Global, packet: &Packet) -> Result<String, NoMemory>
     ensures text { IfOk result (λ text. string_bytes text ≡ printed packet.now) }
-    ensures reads_back { IfOk result (λ text. length packet.now.bytes ≤ MAX_PACKET_BYTES → parsed (string_bytes text) ≡ Ok packet.now) }
+    ensures reads_back { IfOk result (λ text. ReadsBack packet.now (string_bytes text)) }
 {
     let mut text = String::new(alloc);
     for byte in packet.bytes.as_bytes() {
