@@ -128,7 +128,7 @@ impl Registers {
         ensures settings { result.now ≡ self.now.settings }
         ensures kept { IsKept self.now }
     {
-        &self.settings
+        self.settings.as_slice()
     }
 
     /// What is set at a link.
@@ -154,7 +154,7 @@ impl Registers {
         ensures table { result.now ≡ (settings_at self.now link).table }
         ensures kept { IsTableInRange result.now }
     {
-        &self.settings[link].table
+        &self.settings(link).table
     }
 
     /// The links that continue the group of the link before them: link l at bit l.
