@@ -20,7 +20,8 @@ peek_of operands = Err WrongLength
 
 -- a poke, by its operands
 abbrev pub poke_of : List ℕ → Result Command CommandFault
-poke_of (low ∷ high ∷ a ∷ b ∷ c ∷ d ∷ []) = Ok (CPoke (from_le_bytes w16 (low ∷ high ∷ [])) (from_le_bytes w32 (a ∷ b ∷ c ∷ d ∷ [])))
+poke_of (low ∷ high ∷ a ∷ b ∷ c ∷ d ∷ []) =
+    Ok (CPoke (from_le_bytes w16 (low ∷ high ∷ [])) (from_le_bytes w32 (a ∷ b ∷ c ∷ d ∷ [])))
 poke_of operands = Err WrongLength
 
 -- the command that these bytes are, or why they are none

@@ -39,10 +39,20 @@ pub record Line : Type 0 where
 
 -- the table
 abbrev pub line : Command → Line
-line Start = record { code = 0x01; operands = []; answer = λ v. Started; refusals = ALREADY_STARTED ∷ [] }
+line Start = record {
+  code = 0x01;
+  operands = [];
+  answer = λ v. Started;
+  refusals = ALREADY_STARTED ∷ [];
+}
 line Reset = record { code = 0x02; operands = []; answer = λ v. WasReset; refusals = [] }
 line Identify = record { code = 0x03; operands = []; answer = λ v. Identity device_id; refusals = [] }
-line (CPeek a) = record { code = 0x04; operands = to_le_bytes w16 a; answer = Value; refusals = no_register ∷ [] }
+line (CPeek a) = record {
+  code = 0x04;
+  operands = to_le_bytes w16 a;
+  answer = Value;
+  refusals = no_register ∷ [];
+}
 line (CPoke a v) = record {
   code = 0x05;
   operands = to_le_bytes w16 a ++ to_le_bytes w32 v;
@@ -71,7 +81,9 @@ IsCommand c = Unit {0}
 
 -- an answer to a command: that it was done, with some value, or one of its refusals
 abbrev pub IsAnswerTo : Command → Answer → Type 0
-IsAnswerTo c a = ((v : ℕ) × (v < 2 ^ 32) × (a ≡ (line c).answer v)) ⊎ ((n : ℕ) × IsTrue (list_any (λ m. m == n) (line c).refusals) × (a ≡ Refused n))
+IsAnswerTo c a =
+    ((v : ℕ) × (v < 2 ^ 32) × (a ≡ (line c).answer v))
+    ⊎ ((n : ℕ) × IsTrue (list_any (λ m. m == n) (line c).refusals) × (a ≡ Refused n))
 
 -- an answer to bytes that are no command: the number of their fault
 abbrev pub IsRefusal : Answer → Type 0

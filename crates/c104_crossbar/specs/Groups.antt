@@ -14,7 +14,8 @@ joined continues low (suc n) = continues (low + suc n) && joined continues low n
 
 -- link o is in the group of link g: each link after the lower of the two, up to the higher, continues
 abbrev pub in_group : (ℕ → Bool) → ℕ → ℕ → Bool
-in_group continues g o = if nat_le g o then joined continues g (o - g) else joined continues o (g - o)
+in_group continues g o =
+    if nat_le g o then joined continues g (o - g) else joined continues o (g - o)
 
 -- bit l of a word is set
 abbrev pub has_bit : ℕ → ℕ → Bool

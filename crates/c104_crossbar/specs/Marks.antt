@@ -31,7 +31,8 @@ times o (claim ∷ claims) = number (o == claim) + times o claims
 
 -- these claims and the free outputs are the 32 outputs, each once, and nothing else
 abbrev pub ArePartition : List ℕ → List Bool → Type 0
-ArePartition claims marks = (o : ℕ) → times o claims + number (is_free marks o) ≡ number (nat_lt o LINKS)
+ArePartition claims marks =
+    (o : ℕ) → times o claims + number (is_free marks o) ≡ number (nat_lt o LINKS)
 
 -- the claim that was made, or none
 abbrev pub list_of : Option ℕ → List ℕ

@@ -23,12 +23,12 @@ pub record Outgoing (A : Type 0) : Type 0 where
 abbrev pub IsValidCap : ℕ → Type 0
 IsValidCap n = (n % TOKENS_OF_A_GRANT ≡ 0) × (TOKENS_OF_A_GRANT ≤ n) × (n ≤ CREDIT_LIMIT)
 
--- what holds of each input buffer: it keeps room for all that it has granted
+-- the invariant of an input buffer: it keeps room for all that it has granted
 pub record IsWithinCap {A : Type 0} (b : Incoming A) : Type 0 where
   pub room : length b.items + b.granted ≤ b.cap
   pub valid : IsValidCap b.cap
 
--- what holds of each output buffer: at most eight tokens, and at most 64 credits
+-- the invariant of an output buffer: at most eight tokens, and at most 64 credits
 pub record IsWithinLimits {A : Type 0} (q : Outgoing A) : Type 0 where
   pub room : length q.items ≤ OUTPUT_CAP
   pub credit : q.credit ≤ CREDIT_LIMIT

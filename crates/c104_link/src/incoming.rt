@@ -3,8 +3,8 @@ ghost use Rattle.std.specs.Prelude.{◌≡◌, ◌↔◌, [], length, slice_get,
 ghost use Rattle.c104_link.specs.Steps.{tried, taken, offered};
 ghost use Rattle.c104_link.specs.Buffers.{IsValidCap, IsWithinCap, empty_in, grant, enter, without_first, take_first, cleared_in};
 
-use crate::outgoing::CREDIT_LIMIT;
 use crate::TOKENS_OF_A_GRANT;
+use crate::outgoing::CREDIT_LIMIT;
 use c104_token::{NoMemory, Token, TokenKind};
 use circular_buffer::HeapCircularBuffer;
 use std::alloc::Global;
@@ -41,8 +41,8 @@ impl<T: TokenKind> Model for InBufferOf<T> {
 }
 
 impl<T: TokenKind> InBufferOf<T> {
-    /// An empty buffer with room for `cap` tokens, none of them granted. Only want of memory is
-    /// refused.
+    /// An empty buffer with room for `cap` tokens, none of them granted. It fails only out
+    /// of memory.
     pub fn new(alloc: Global, cap: usize) -> Result<Self, NoMemory>
         requires { IsValidCap cap }
         ensures { IfOk result (λ b. b ≡ empty_in cap) }

@@ -21,11 +21,13 @@ pub record Line : Type 0 where
 
 -- a register that can be written
 abbrev pub written : ℕ → ℕ → ℕ → Line
-written offset greatest reset = record { offset = offset; is_writable = true; greatest = greatest; reset = reset }
+written offset greatest reset =
+    record { offset = offset; is_writable = true; greatest = greatest; reset = reset }
 
 -- a register that tells the link's status: it can't be written, and is 0 after a reset
 abbrev pub told : ℕ → Line
-told offset = record { offset = offset; is_writable = false; greatest = 0; reset = 0 }
+told offset =
+    record { offset = offset; is_writable = false; greatest = 0; reset = 0 }
 
 -- the table of a link's registers
 abbrev pub line : Register → Line
@@ -73,7 +75,9 @@ in_range r v = nat_le v (line r).greatest && is_open r v
 
 -- the registers that stand at the first offsets, in order
 abbrev pub first_registers : List Register
-first_registers = Mode ∷ RandomBase ∷ RandomRange ∷ Sunk ∷ Short ∷ InputLevel ∷ OutputLevel ∷ Credit ∷ Granted ∷ Owner ∷ []
+first_registers =
+    Mode ∷ RandomBase ∷ RandomRange ∷ Sunk ∷ Short ∷ InputLevel ∷ OutputLevel ∷ Credit ∷ Granted
+    ∷ Owner ∷ []
 
 -- the register at an offset from a link's first address, if there is one
 abbrev pub register_at : ℕ → Option Register
@@ -90,5 +94,6 @@ abbrev pub address_of : ℕ → Option Address
 address_of a =
     if a == 0x0000 then Some DeviceId
     else (if a == 0x0001 then Some Started
-    else (if nat_le 0x0100 a && nat_lt a 0x2100 then option_map (λ r. AtLink (a / 0x100 - 1) r) (register_at (a % 0x100))
+    else (if nat_le 0x0100 a && nat_lt a 0x2100 then
+    option_map (λ r. AtLink (a / 0x100 - 1) r) (register_at (a % 0x100))
     else None))

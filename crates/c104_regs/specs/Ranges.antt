@@ -1,4 +1,4 @@
--- What the settings of every link keep.
+-- The invariant of the settings of every link.
 use Rattle.std.specs.Prelude.{◌≡◌, ℕ, ◌<◌, ◌≤◌, length}
 use Rattle.c104_interval.specs.Selection.{row_at}
 use Rattle.c104_interval.specs.declared.intervals.TheConstants.{ROWS}

@@ -27,13 +27,21 @@ status_at b l = slice_index_or b.statuses l reset_status
 
 -- the registers after a reset
 abbrev pub reset_bank : RegisterBank
-reset_bank = record { started = false; settings = replicate LINKS reset_settings; statuses = replicate LINKS reset_status }
+reset_bank = record {
+  started = false;
+  settings = replicate LINKS reset_settings;
+  statuses = replicate LINKS reset_status;
+}
 
 -- the registers of a started switch with these settings, which has told nothing yet
 abbrev pub placed_bank : List Settings → RegisterBank
-placed_bank settings = record { started = true; settings = settings; statuses = replicate LINKS reset_status }
+placed_bank settings = record {
+  started = true;
+  settings = settings;
+  statuses = replicate LINKS reset_status;
+}
 
--- what every switch's registers keep
+-- the invariant of a switch's registers
 pub record IsKept (b : RegisterBank) : Type 0 where
   pub links : length b.settings ≡ LINKS
   pub statuses : length b.statuses ≡ LINKS

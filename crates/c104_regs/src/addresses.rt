@@ -5,7 +5,7 @@ ghost use Rattle.c104_regs.specs.Addresses.{IsAddress, IsRegister, address_numbe
 
 use crate::values::{DISCARD_CODE, SINK_CODE};
 
-/// A register of a link.
+/// A register of a link. Which there are, and where, is this emulator's.
 #[derive(Clone, Copy, Debug, PartialEq, Eq)]
 pub enum Register {
     /// Four bits: two-byte headers, deletion of headers, random headers, and the group.

@@ -52,7 +52,8 @@ byte_spelled word = None
 -- the packet that words say after these bytes, or the first fault from the left
 abbrev pub read : List Word → List ℕ → Result Packet TokenFault
 read [] bytes = Err fault.NoEnd
-read (word.Byte b ∷ more) bytes = if nat_lt (length bytes) MAX_PACKET_BYTES then read more (bytes ++ b ∷ []) else Err fault.TooLong
+read (word.Byte b ∷ more) bytes =
+    if nat_lt (length bytes) MAX_PACKET_BYTES then read more (bytes ++ b ∷ []) else Err fault.TooLong
 read (word.End m ∷ []) bytes = Ok (record { bytes = bytes; mark = m })
 read (word.End m ∷ next ∷ more) bytes = Err fault.AfterEnd
 read (word.Other ∷ more) bytes = Err fault.BadHex
@@ -69,7 +70,8 @@ GivesOrNoMemory result due = (result ≡ due) ⊎ (result ≡ Err fault.NoMemory
 
 -- c is a digit, of either case, and v is its value
 abbrev pub IsHexDigit : ℕ → ℕ → Type 0
-IsHexDigit c v = ((c ≡ 0x30 + v) × (v < 10)) ⊎ (((c ≡ 0x37 + v) ⊎ (c ≡ 0x57 + v)) × (10 ≤ v) × (v < 16))
+IsHexDigit c v =
+    ((c ≡ 0x30 + v) × (v < 10)) ⊎ (((c ≡ 0x37 + v) ⊎ (c ≡ 0x57 + v)) × (10 ≤ v) × (v < 16))
 
 -- a word of two digits, the high one first
 pub record SpellsByte (spelling : List ℕ) (byte : ℕ) : Type 0 where
@@ -94,7 +96,8 @@ abbrev pub mark_word : Mark → List ℕ
 mark_word mark.Eop = 0x65 ∷ 0x6f ∷ 0x70 ∷ []
 mark_word mark.Eom = 0x65 ∷ 0x6f ∷ 0x6d ∷ []
 
--- a text that spells a packet: a word for each byte, of which there are no more than a packet may have, and then its mark
+-- a text that spells a packet: a word for each byte, of which there are no more than a packet may
+-- have, and then its mark
 pub record IsPacketText (text : List ℕ) (packet : Packet) : Type 0 where
   pub spelling : List (List ℕ)
   pub cut : words text ≡ spelling ++ mark_word packet.mark ∷ []
@@ -116,4 +119,5 @@ hex_digit v = if nat_lt v 10 then 0x30 + v else 0x61 + (v - 10)
 
 -- the text of a packet in lower case, one space between words
 abbrev pub printed : Packet → List ℕ
-printed packet = flat_map (λ b. hex_digit (b / 16) ∷ hex_digit (b % 16) ∷ 0x20 ∷ []) packet.bytes ++ mark_word packet.mark
+printed packet =
+    flat_map (λ b. hex_digit (b / 16) ∷ hex_digit (b % 16) ∷ 0x20 ∷ []) packet.bytes ++ mark_word packet.mark

@@ -5,9 +5,9 @@ ghost use Rattle.c104_token.specs.declared.faults.TokenFault.TheVariants as faul
 use std::alloc::{AllocError, AllocFailed};
 use thiserror::Error;
 
-/// Memory was wanted and refused. What was lent is as it was.
+/// Out of memory. What was lent is as it was.
 #[derive(Clone, Copy, Debug, PartialEq, Eq, Error)]
-#[error("no memory")]
+#[error("out of memory")]
 pub struct NoMemory;
 
 impl From<AllocError> for NoMemory {
@@ -22,7 +22,8 @@ impl<T: Drop> From<AllocFailed<T>> for NoMemory {
     }
 }
 
-/// Why a packet's text was refused: the first fault from the left, or want of memory in its place.
+/// Why a packet's text was refused, by this emulator's numbers: the first fault from the left, or
+/// out of memory in its place.
 #[derive(Clone, Copy, Debug, PartialEq, Eq, Error)]
 pub enum TokenFault {
     /// A word is neither two hexadecimal digits nor a terminator.
@@ -34,11 +35,11 @@ pub enum TokenFault {
     /// A word follows the terminator.
     #[error("a word follows the packet's end")]
     AfterEnd = 3,
-    /// There is a 4,097th byte.
+    /// There is a 4,097th byte: a packet has at most [`MAX_PACKET_BYTES`](crate::MAX_PACKET_BYTES).
     #[error("the packet has more than 4096 bytes")]
     TooLong = 4,
-    /// Memory was wanted and refused.
-    #[error("no memory")]
+    /// Out of memory, whatever the text says.
+    #[error("out of memory")]
     NoMemory = 5,
 }
 
