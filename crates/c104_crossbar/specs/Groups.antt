@@ -33,7 +33,8 @@ pub record IsGroup (continues : ℕ → Bool) (g first last : ℕ) : Type 0 wher
 
 -- the links from first to last, and no others, are in the group of link g
 abbrev pub AreMembers : (ℕ → Bool) → ℕ → ℕ → ℕ → Type 0
-AreMembers continues g first last = (o : ℕ) → in_group continues g o ≡ (nat_le first o && nat_le o last)
+AreMembers continues g first last =
+    (o : ℕ) → in_group continues g o ≡ (nat_le first o && nat_le o last)
 
 -- no other run of links is the group of link g
 abbrev pub IsOnlyGroup : (ℕ → Bool) → ℕ → ℕ → ℕ → Type 0
