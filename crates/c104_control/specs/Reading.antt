@@ -5,6 +5,7 @@ use Rattle.c104_control.specs.Table.{Command, Answer, device_id}
 use Rattle.c104_control.specs.declared.commands.Command.TheVariants.{Start, Reset, Identify, CPeek, CPoke}
 use Rattle.c104_control.specs.declared.replies.Answer.TheVariants.{Started, WasReset, Identity, Value, Poked, Refused}
 use Rattle.c104_control.specs.Faults.{CommandFault}
+use Rattle.c104_control.specs.declared.replies.TheConstants.{ALREADY_STARTED}
 use Rattle.c104_control.specs.declared.faults.CommandFault.TheVariants.{UnknownCode, WrongLength}
 
 -- a command of one byte has no operands
@@ -19,18 +20,19 @@ peek_of operands = Err WrongLength
 
 -- a poke, by its operands
 abbrev pub poke_of : List ℕ → Result Command CommandFault
-poke_of (low ∷ high ∷ a ∷ b ∷ c ∷ d ∷ []) = Ok (CPoke (from_le_bytes w16 (low ∷ high ∷ [])) (from_le_bytes w32 (a ∷ b ∷ c ∷ d ∷ [])))
+poke_of (low ∷ high ∷ a ∷ b ∷ c ∷ d ∷ []) =
+    Ok (CPoke (from_le_bytes w16 (low ∷ high ∷ [])) (from_le_bytes w32 (a ∷ b ∷ c ∷ d ∷ [])))
 poke_of operands = Err WrongLength
 
 -- the command that these bytes are, or why they are none
 abbrev pub read : List ℕ → Result Command CommandFault
 read [] = Err WrongLength
 read (code ∷ operands) =
-    if code == 1 then alone Start operands
-    else (if code == 2 then alone Reset operands
-    else (if code == 3 then alone Identify operands
-    else (if code == 4 then peek_of operands
-    else (if code == 5 then poke_of operands
+    if code == 0x01 then alone Start operands
+    else (if code == 0x02 then alone Reset operands
+    else (if code == 0x03 then alone Identify operands
+    else (if code == 0x04 then peek_of operands
+    else (if code == 0x05 then poke_of operands
     else Err UnknownCode))))
 
 -- an answer of one byte
@@ -49,17 +51,17 @@ identity_of n = if n == device_id then Some (Identity n) else None
 
 -- a refusal, by what follows its first byte
 abbrev pub refused_of : List ℕ → Option Answer
-refused_of (n ∷ []) = if nat_le 1 n && nat_le n 7 then Some (Refused n) else None
+refused_of (n ∷ []) = if nat_le 1 n && nat_le n ALREADY_STARTED then Some (Refused n) else None
 refused_of operands = None
 
 -- the answer that these bytes are, if they are one
 abbrev pub read_answer : List ℕ → Option Answer
 read_answer [] = None
 read_answer (code ∷ operands) =
-    if code == 129 then answer_alone Started operands
-    else (if code == 130 then answer_alone WasReset operands
-    else (if code == 131 then answer_with identity_of operands
-    else (if code == 132 then answer_with (λ v. Some (Value v)) operands
-    else (if code == 133 then answer_alone Poked operands
-    else (if code == 255 then refused_of operands
+    if code == 0x81 then answer_alone Started operands
+    else (if code == 0x82 then answer_alone WasReset operands
+    else (if code == 0x83 then answer_with identity_of operands
+    else (if code == 0x84 then answer_with (λ v. Some (Value v)) operands
+    else (if code == 0x85 then answer_alone Poked operands
+    else (if code == 0xff then refused_of operands
     else None)))))

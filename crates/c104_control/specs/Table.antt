@@ -6,6 +6,7 @@
 use Rattle.std.specs.Prelude.{◌≡◌, ◌≢◌, ℕ, ◌<◌, ◌≤◌, ◌^◌, ◌⊎◌, ◌==◌, List, [], ◌∷◌, ◌++◌, IsTrue}
 use Rattle.std.specs.List.{list_any}
 use Rattle.std.specs.Int.{w16, w32, to_le_bytes}
+use Rattle.c104_control.specs.declared.replies.TheConstants.{DEVICE_ID, ALREADY_STARTED}
 pub use Rattle.c104_control.specs.declared.commands.Command.{Command}
 use Rattle.c104_control.specs.declared.commands.Command.TheVariants.{Start, Reset, Identify, CPeek, CPoke}
 pub use Rattle.c104_control.specs.declared.replies.Answer.{Answer}
@@ -13,7 +14,20 @@ use Rattle.c104_control.specs.declared.replies.Answer.TheVariants.{Started, WasR
 
 -- the number of the device, 0x0000C104
 abbrev pub device_id : ℕ
-device_id = 49412
+device_id = DEVICE_ID
+
+-- why a switch refuses what a peek or a poke asks of a register
+abbrev pub no_register : ℕ
+no_register = 3
+
+abbrev pub read_only : ℕ
+read_only = 4
+
+abbrev pub out_of_range : ℕ
+out_of_range = 5
+
+abbrev pub busy : ℕ
+busy = 6
 
 -- a line of the table: a command's first byte and those that follow, what is answered where it is done,
 -- by the value that it reads if it does, and the numbers of the refusals that it may meet
@@ -25,20 +39,35 @@ pub record Line : Type 0 where
 
 -- the table
 abbrev pub line : Command → Line
-line Start = record { code = 1; operands = []; answer = λ v. Started; refusals = 7 ∷ [] }
-line Reset = record { code = 2; operands = []; answer = λ v. WasReset; refusals = [] }
-line Identify = record { code = 3; operands = []; answer = λ v. Identity device_id; refusals = [] }
-line (CPeek a) = record { code = 4; operands = to_le_bytes w16 a; answer = Value; refusals = 3 ∷ [] }
-line (CPoke a v) = record { code = 5; operands = to_le_bytes w16 a ++ to_le_bytes w32 v; answer = λ v. Poked; refusals = 3 ∷ 4 ∷ 5 ∷ 6 ∷ [] }
+line Start = record {
+  code = 0x01;
+  operands = [];
+  answer = λ v. Started;
+  refusals = ALREADY_STARTED ∷ [];
+}
+line Reset = record { code = 0x02; operands = []; answer = λ v. WasReset; refusals = [] }
+line Identify = record { code = 0x03; operands = []; answer = λ v. Identity device_id; refusals = [] }
+line (CPeek a) = record {
+  code = 0x04;
+  operands = to_le_bytes w16 a;
+  answer = Value;
+  refusals = no_register ∷ [];
+}
+line (CPoke a v) = record {
+  code = 0x05;
+  operands = to_le_bytes w16 a ++ to_le_bytes w32 v;
+  answer = λ v. Poked;
+  refusals = no_register ∷ read_only ∷ out_of_range ∷ busy ∷ [];
+}
 
 -- the bytes of the answers
 abbrev pub reply_bytes : Answer → List ℕ
-reply_bytes Started = 129 ∷ []
-reply_bytes WasReset = 130 ∷ []
-reply_bytes (Identity n) = 131 ∷ to_le_bytes w32 n
-reply_bytes (Value v) = 132 ∷ to_le_bytes w32 v
-reply_bytes Poked = 133 ∷ []
-reply_bytes (Refused n) = 255 ∷ n ∷ []
+reply_bytes Started = 0x81 ∷ []
+reply_bytes WasReset = 0x82 ∷ []
+reply_bytes (Identity n) = 0x83 ∷ to_le_bytes w32 n
+reply_bytes (Value v) = 0x84 ∷ to_le_bytes w32 v
+reply_bytes Poked = 0x85 ∷ []
+reply_bytes (Refused n) = 0xff ∷ n ∷ []
 
 -- the bytes of a command
 abbrev pub bytes_of : Command → List ℕ
@@ -52,7 +81,9 @@ IsCommand c = Unit {0}
 
 -- an answer to a command: that it was done, with some value, or one of its refusals
 abbrev pub IsAnswerTo : Command → Answer → Type 0
-IsAnswerTo c a = ((v : ℕ) × (v < 2 ^ 32) × (a ≡ (line c).answer v)) ⊎ ((n : ℕ) × IsTrue (list_any (λ m. m == n) (line c).refusals) × (a ≡ Refused n))
+IsAnswerTo c a =
+    ((v : ℕ) × (v < 2 ^ 32) × (a ≡ (line c).answer v))
+    ⊎ ((n : ℕ) × IsTrue (list_any (λ m. m == n) (line c).refusals) × (a ≡ Refused n))
 
 -- an answer to bytes that are no command: the number of their fault
 abbrev pub IsRefusal : Answer → Type 0
@@ -66,7 +97,7 @@ IsAnswer a = ((c : Command) × IsCommand c × IsAnswerTo c a) ⊎ IsRefusal a
 abbrev pub IsReply : Answer → Type 0
 IsReply (Identity n) = n ≡ device_id
 IsReply (Value v) = v < 2 ^ 32
-IsReply (Refused n) = (1 ≤ n) × (n ≤ 7)
+IsReply (Refused n) = (1 ≤ n) × (n ≤ ALREADY_STARTED)
 IsReply a = Unit {0}
 
 -- the first of these bytes is one with which no command begins

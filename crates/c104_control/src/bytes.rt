@@ -26,7 +26,7 @@ impl Model for ControlBytes {
 impl ControlBytes {
     /// These bytes, at most eight.
     pub fn new(bytes: &[u8]) -> Self
-        requires { length bytes.now ≤ 8 }
+        requires { length bytes.now ≤ MAX_CONTROL_BYTES }
         ensures { result ≡ bytes.now }
     {
         let mut list = ArrayVec::new();
@@ -39,7 +39,7 @@ impl ControlBytes {
     /// The bytes: at most eight, each of which is below 256.
     pub fn as_slice(&self) -> &[u8]
         ensures value { result.now ≡ self.now }
-        ensures few { length self.now ≤ 8 }
+        ensures few { length self.now ≤ MAX_CONTROL_BYTES }
         ensures range { All (λ byte. byte < 256) self.now }
     {
         // The proof reads the range of the lent slice by this name.

@@ -16,7 +16,7 @@ pub enum Command {
     Reset,
     /// It says what it is.
     Identify,
-    /// The register at this address is read.
+    /// The register at this address, 0 to 0xFFFF, is read.
     CPeek(u16),
     /// The register at this address is set to this value.
     CPoke(u16, u32),

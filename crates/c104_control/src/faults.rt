@@ -16,7 +16,7 @@ pub enum CommandFault {
 }
 
 impl CommandFault {
-    /// The fault's number, which is that of the refusal that a switch replies.
+    /// The fault's number, 1 or 2, which is that of the refusal that a switch replies.
     pub fn number(self) -> u8
         ensures { result ≡ fault_number self }
     {

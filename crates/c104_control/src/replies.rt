@@ -9,6 +9,10 @@ use crate::bytes::ControlBytes;
 /// The number by which the device says what it is.
 pub const DEVICE_ID: u32 = 0x0000_c104;
 
+/// The number of the refusal of a switch that is to be started and is started already. It is the
+/// last of the refusals' numbers.
+pub const ALREADY_STARTED: u8 = 7;
+
 /// What a switch answers to a command.
 #[derive(Clone, Copy, Debug, PartialEq, Eq)]
 pub enum Answer {
@@ -54,7 +58,7 @@ fn read(bytes: &[u8]) -> Option<Answer>
             Some(Answer::Value(value))
         }
         [0x85] => Some(Answer::Poked),
-        [0xff, number @ 1..=7] => Some(Answer::Refused(*number)),
+        [0xff, number @ 1..=ALREADY_STARTED] => Some(Answer::Refused(*number)),
         _ => None,
     }
 }

@@ -5,6 +5,7 @@
 --     in_group continues g o      whether o is in it, as a computation; `Group::of` ties the two
 use Rattle.std.specs.Prelude.{◌≡◌, ℕ, zero, suc, ◌+◌, ◌-◌, ◌<◌, ◌≤◌, ◌==◌, ◌&&◌, Bool, true, false, nat_le, if◌then◌else◌}
 use Rattle.std.specs.Int.{bit_at}
+use Rattle.c104_crossbar.specs.declared.TheConstants.{LINKS}
 
 -- the n links after this one all continue the group
 abbrev pub joined : (ℕ → Bool) → ℕ → ℕ → Bool
@@ -13,18 +14,33 @@ joined continues low (suc n) = continues (low + suc n) && joined continues low n
 
 -- link o is in the group of link g: each link after the lower of the two, up to the higher, continues
 abbrev pub in_group : (ℕ → Bool) → ℕ → ℕ → Bool
-in_group continues g o = if nat_le g o then joined continues g (o - g) else joined continues o (g - o)
+in_group continues g o =
+    if nat_le g o then joined continues g (o - g) else joined continues o (g - o)
 
 -- bit l of a word is set
 abbrev pub has_bit : ℕ → ℕ → Bool
 has_bit word l = bit_at word l == 1
 
--- the links from first to last are the group of link g: g is one of them, they are among the 32 links,
+-- the links from first to last are the group of link g: g is one of them, they are links of the switch,
 -- each after the first continues, and the run can't be longer at either side
 pub record IsGroup (continues : ℕ → Bool) (g first last : ℕ) : Type 0 where
   pub from_first : first ≤ g
   pub to_last : g ≤ last
-  pub below : last < 32
+  pub below : last < LINKS
   pub is_joined : (o : ℕ) → first < o → o ≤ last → continues o ≡ true
   pub not_before : 0 < first → continues first ≡ false
-  pub not_after : last + 1 < 32 → continues (last + 1) ≡ false
+  pub not_after : last + 1 < LINKS → continues (last + 1) ≡ false
+
+-- the links from first to last, and no others, are in the group of link g
+abbrev pub AreMembers : (ℕ → Bool) → ℕ → ℕ → ℕ → Type 0
+AreMembers continues g first last =
+    (o : ℕ) → in_group continues g o ≡ (nat_le first o && nat_le o last)
+
+-- no other run of links is the group of link g
+abbrev pub IsOnlyGroup : (ℕ → Bool) → ℕ → ℕ → ℕ → Type 0
+IsOnlyGroup continues g first last = (f l : ℕ) → IsGroup continues g f l → (f ≡ first) × (l ≡ last)
+
+-- the group of link g is the same whatever is said of link 0
+abbrev pub IgnoresLinkZero : (ℕ → Bool) → ℕ → ℕ → ℕ → Type 0
+IgnoresLinkZero continues g first last =
+    (others : ℕ → Bool) → ((l : ℕ) → 0 < l → others l ≡ continues l) → IsGroup others g first last

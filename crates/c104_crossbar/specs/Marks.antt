@@ -1,10 +1,11 @@
 -- Which of the 32 outputs are taken: a mark for each, set where the output belongs to a claim. A claim
 -- is the number of its output.
-use Rattle.std.specs.Prelude.{◌≡◌, ℕ, ◌+◌, ◌==◌, Bool, true, false, not, nat_lt, List, [], ◌∷◌, Option, Some, None, replicate, if◌then◌else◌, slice_index_or, slice_set}
+use Rattle.std.specs.Prelude.{◌≡◌, ℕ, ◌+◌, ◌==◌, Bool, true, false, not, nat_lt, List, [], ◌∷◌, ◌++◌, Option, Some, None, replicate, if◌then◌else◌, slice_index_or, slice_set}
+use Rattle.c104_crossbar.specs.declared.TheConstants.{LINKS}
 
 -- the marks at first: no output is taken
 abbrev pub all_free : List Bool
-all_free = replicate 32 false
+all_free = replicate LINKS false
 
 -- output o is free: its mark is there and isn't set, so past the last output none is free
 abbrev pub is_free : List Bool → ℕ → Bool
@@ -30,9 +31,20 @@ times o (claim ∷ claims) = number (o == claim) + times o claims
 
 -- these claims and the free outputs are the 32 outputs, each once, and nothing else
 abbrev pub ArePartition : List ℕ → List Bool → Type 0
-ArePartition claims marks = (o : ℕ) → times o claims + number (is_free marks o) ≡ number (nat_lt o 32)
+ArePartition claims marks =
+    (o : ℕ) → times o claims + number (is_free marks o) ≡ number (nat_lt o LINKS)
 
 -- the claim that was made, or none
 abbrev pub list_of : Option ℕ → List ℕ
 list_of None = []
 list_of (Some claim) = claim ∷ []
+
+-- whatever other claims there are, the outputs stay a partition where this claim, if any, was made
+abbrev pub ClaimKeepsPartition : List Bool → Option ℕ → List Bool → Type 0
+ClaimKeepsPartition marks claim after =
+    (claims : List ℕ) → ArePartition claims marks → ArePartition (list_of claim ++ claims) after
+
+-- and where this claim was given back
+abbrev pub ReleaseKeepsPartition : List Bool → ℕ → List Bool → Type 0
+ReleaseKeepsPartition marks claim after =
+    (claims : List ℕ) → ArePartition (claim ∷ claims) marks → ArePartition claims after

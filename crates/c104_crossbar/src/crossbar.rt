@@ -1,5 +1,5 @@
-ghost use Rattle.std.specs.Prelude.{◌≡◌, ◌<◌, ℕ, Bool, false, List, [], ◌∷◌, ◌++◌, Option};
-ghost use Rattle.c104_crossbar.specs.Marks.{ArePartition, all_free, claimed, is_free, list_of, released};
+ghost use Rattle.std.specs.Prelude.{◌≡◌, ◌<◌, false, []};
+ghost use Rattle.c104_crossbar.specs.Marks.{ArePartition, ClaimKeepsPartition, ReleaseKeepsPartition, all_free, claimed, is_free, released};
 
 use crate::LINKS;
 use std::marker::Model;
@@ -13,12 +13,13 @@ pub struct Crossbar {
 
 impl Model for Crossbar {
     ghost use Rattle.std.specs.Prelude.{◌≡◌, Bool, List, length};
+    ghost use Rattle.c104_crossbar.specs.declared.TheConstants.{LINKS};
 
     ghost Value = { List Bool };
 
     ghost view = { λ crossbar. crossbar.marks };
 
-    ghost invariant = { λ crossbar. length crossbar.marks ≡ 32 };
+    ghost invariant = { λ crossbar. length crossbar.marks ≡ LINKS };
 }
 
 /// The right to an output, until it is given back by [`Crossbar::release`].
@@ -31,12 +32,13 @@ pub struct Claim {
 
 impl Model for Claim {
     ghost use Rattle.std.specs.Prelude.{ℕ, ◌<◌};
+    ghost use Rattle.c104_crossbar.specs.declared.TheConstants.{LINKS};
 
     ghost Value = { ℕ };
 
     ghost view = { λ claim. claim.output };
 
-    ghost invariant = { λ claim. claim.output < 32 };
+    ghost invariant = { λ claim. claim.output < LINKS };
 }
 
 impl Crossbar {
@@ -54,7 +56,7 @@ impl Crossbar {
     /// or its number is 32 or more.
     pub fn claim(&mut self, output: usize) -> Option<Claim>
         ensures claimed { (result, self.new) ≡ claimed self.old output }
-        ensures partition { (claims : List ℕ) → ArePartition claims self.old → ArePartition (list_of result ++ claims) self.new }
+        ensures partition { ClaimKeepsPartition self.old result self.new }
     {
         if !self.free(output) {
             return None;
@@ -70,7 +72,7 @@ impl Crossbar {
     pub fn release(&mut self, claim: Claim)
         requires { is_free self.old claim ≡ false }
         ensures released { self.new ≡ released self.old claim }
-        ensures partition { (claims : List ℕ) → ArePartition (claim ∷ claims) self.old → ArePartition claims self.new }
+        ensures partition { ReleaseKeepsPartition self.old claim self.new }
     {
         let Claim { output } = claim;
         self.marks[output as usize] = false;
@@ -88,7 +90,7 @@ impl Claim {
     /// The number of the claimed output, 0 to 31.
     pub fn output(&self) -> usize
         ensures value { result ≡ self.now }
-        ensures below { result < 32 }
+        ensures below { result < LINKS }
     {
         self.output as usize
     }

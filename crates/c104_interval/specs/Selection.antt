@@ -3,6 +3,7 @@
 --     IsSelected t h s      this, as a relation
 --     select t h      this, as a computation; the contract of `Table::select` ties the two
 use Rattle.std.specs.Prelude.{◌≡◌, ℕ, ◌<◌, ◌≤◌, ◌⊎◌, List, [], ◌∷◌, zero, suc, length, replicate, nat_le, nat_lt, ◌&&◌, if◌then◌else◌, slice_index_or}
+use Rattle.c104_interval.specs.declared.intervals.TheConstants.{ROWS}
 use Rattle.c104_interval.specs.declared.intervals.Select.{Select}
 use Rattle.c104_interval.specs.declared.intervals.Select.TheVariants.{Sink}
 use Rattle.c104_interval.specs.declared.intervals.Row.{Row}
@@ -12,9 +13,9 @@ use Rattle.c104_interval.specs.declared.intervals.Table.{Table}
 abbrev pub reset_row : Row
 reset_row = record { limit = 0; select = Sink }
 
--- a table after a reset: base 0, and 36 rows with empty intervals
+-- a table after a reset: base 0, and all rows with empty intervals
 abbrev pub reset_table : Table
-reset_table = record { base = 0; rows = replicate 36 reset_row }
+reset_table = record { base = 0; rows = replicate ROWS reset_row }
 
 -- row k of a table, and a reset row past the last
 abbrev pub row_at : Table → ℕ → Row

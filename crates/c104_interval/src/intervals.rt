@@ -7,7 +7,7 @@ use c104_token::NoMemory;
 use std::alloc::{AllocError, Global};
 use std::iter::once;
 
-/// How many rows a table has in this emulator.
+/// How many rows a table has, which is this emulator's number.
 pub const ROWS: usize = 36;
 
 /// What becomes of a packet, by the interval that its header falls into.
@@ -87,7 +87,7 @@ impl Table {
     /// least 1: 256 or 65536 on a switch.
     ///
     /// From each of these to the next all headers select alike, so what holds of the selection at
-    /// each of these holds of it at every header below `size`. The only error is want of memory.
+    /// each of these holds of it at every header below `size`. It fails only out of memory.
     pub fn segments(&self, alloc: Global, size: u32) -> Result<Vec<u32>, NoMemory>
         requires { 0 < size }
         ensures ascending { IfOk result (λ v. IsStrictlyIncreasing v.items) }

@@ -4,6 +4,8 @@
 -- tokens and an output buffer for 8, and the credit is at most 64 (this emulator).
 use Rattle.std.specs.Prelude.{ℕ, ◌≡◌, ◌+◌, ◌-◌, ◌%◌, ◌≤◌, List, [], ◌∷◌, ◌++◌, length, Option, Some, nat_lt, nat_le, drop, slice_get}
 use Rattle.c104_link.specs.Steps.{◌>>=◌, ◌>>◌, require}
+use Rattle.c104_link.specs.declared.TheConstants.{TOKENS_OF_A_GRANT}
+use Rattle.c104_link.specs.declared.outgoing.TheConstants.{OUTPUT_CAP, CREDIT_LIMIT}
 
 -- an input buffer: how many tokens it has room for, those that it holds, from the first, and how
 -- many more the other end of the wire may send
@@ -19,17 +21,17 @@ pub record Outgoing (A : Type 0) : Type 0 where
 
 -- a capacity that an input buffer may have: 8, 16, .. 64
 abbrev pub IsValidCap : ℕ → Type 0
-IsValidCap n = (n % 8 ≡ 0) × (8 ≤ n) × (n ≤ 64)
+IsValidCap n = (n % TOKENS_OF_A_GRANT ≡ 0) × (TOKENS_OF_A_GRANT ≤ n) × (n ≤ CREDIT_LIMIT)
 
--- what holds of each input buffer: it keeps room for all that it has granted
+-- the invariant of an input buffer: it keeps room for all that it has granted
 pub record IsWithinCap {A : Type 0} (b : Incoming A) : Type 0 where
   pub room : length b.items + b.granted ≤ b.cap
   pub valid : IsValidCap b.cap
 
--- what holds of each output buffer: at most eight tokens, and at most 64 credits
+-- the invariant of an output buffer: at most eight tokens, and at most 64 credits
 pub record IsWithinLimits {A : Type 0} (q : Outgoing A) : Type 0 where
-  pub room : length q.items ≤ 8
-  pub credit : q.credit ≤ 64
+  pub room : length q.items ≤ OUTPUT_CAP
+  pub credit : q.credit ≤ CREDIT_LIMIT
 
 -- a new input buffer: no tokens, and none granted
 abbrev pub empty_in : {A : Type 0} → ℕ → Incoming A
@@ -42,8 +44,8 @@ empty_out = record { items = []; credit = 0 }
 -- eight more tokens are granted, where there is room for all that would then be granted
 abbrev pub grant : {A : Type 0} → Incoming A → Option (Incoming A)
 grant b = do
-  require (nat_le (length b.items + b.granted + 8) b.cap)
-  Some (record { cap = b.cap; items = b.items; granted = b.granted + 8 })
+  require (nat_le (length b.items + b.granted + TOKENS_OF_A_GRANT) b.cap)
+  Some (record { cap = b.cap; items = b.items; granted = b.granted + TOKENS_OF_A_GRANT })
 
 -- a token comes in, where one is granted
 abbrev pub enter : {A : Type 0} → A → Incoming A → Option (Incoming A)
@@ -68,13 +70,13 @@ cleared_in b = record { cap = b.cap; items = []; granted = b.granted }
 -- a token joins, where the buffer holds fewer than eight
 abbrev pub put : {A : Type 0} → A → Outgoing A → Option (Outgoing A)
 put x q = do
-  require (nat_lt (length q.items) 8)
+  require (nat_lt (length q.items) OUTPUT_CAP)
   Some (record { items = q.items ++ x ∷ []; credit = q.credit })
 
 -- several tokens join as a whole, where the buffer then holds at most eight
 abbrev pub put_all : {A : Type 0} → List A → Outgoing A → Option (Outgoing A)
 put_all xs q = do
-  require (nat_le (length q.items + length xs) 8)
+  require (nat_le (length q.items + length xs) OUTPUT_CAP)
   Some (record { items = q.items ++ xs; credit = q.credit })
 
 -- the first token goes out and spends one credit, where there are both
@@ -87,8 +89,8 @@ leave q = do
 -- a flow-control token comes over the wire: eight more credits, where they are then at most 64
 abbrev pub credited : {A : Type 0} → Outgoing A → Option (Outgoing A)
 credited q = do
-  require (nat_le (q.credit + 8) 64)
-  Some (record { items = q.items; credit = q.credit + 8 })
+  require (nat_le (q.credit + TOKENS_OF_A_GRANT) CREDIT_LIMIT)
+  Some (record { items = q.items; credit = q.credit + TOKENS_OF_A_GRANT })
 
 -- the buffer without its tokens: its credit stays
 abbrev pub cleared_out : {A : Type 0} → Outgoing A → Outgoing A

@@ -4,6 +4,7 @@ ghost use Rattle.c104_link.specs.Steps.{tried, taken, offered};
 ghost use Rattle.c104_link.specs.Buffers.{IsValidCap, IsWithinCap, empty_in, grant, enter, without_first, take_first, cleared_in};
 
 use crate::TOKENS_OF_A_GRANT;
+use crate::outgoing::CREDIT_LIMIT;
 use c104_token::{NoMemory, Token, TokenKind};
 use circular_buffer::HeapCircularBuffer;
 use std::alloc::Global;
@@ -13,7 +14,7 @@ use std::marker::Model;
 pub fn valid_cap(cap: usize) -> bool
     ensures { IsTrue result ↔ IsValidCap cap }
 {
-    cap % 8 == 0 && (8..=64).contains(&cap)
+    cap % TOKENS_OF_A_GRANT == 0 && (TOKENS_OF_A_GRANT..=CREDIT_LIMIT).contains(&cap)
 }
 
 /// The input buffer of a link, which holds tokens in the order in which they came.
@@ -40,8 +41,8 @@ impl<T: TokenKind> Model for InBufferOf<T> {
 }
 
 impl<T: TokenKind> InBufferOf<T> {
-    /// An empty buffer with room for `cap` tokens, none of them granted. Only want of memory is
-    /// refused.
+    /// An empty buffer with room for `cap` tokens, none of them granted. It fails only out
+    /// of memory.
     pub fn new(alloc: Global, cap: usize) -> Result<Self, NoMemory>
         requires { IsValidCap cap }
         ensures { IfOk result (λ b. b ≡ empty_in cap) }

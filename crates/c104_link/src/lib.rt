@@ -5,8 +5,12 @@
 //! room for all that it has granted. That the other end sends no more is for whoever joins the two
 //! ends: each credit of an output buffer has to stand for a grant.
 //!
-//! In this emulator an input buffer has room for 8, 16, .. 64 tokens and an output buffer for 8, and
-//! the credit of an output buffer is at most 64.
+//! - [`InBufferOf`] keeps what it holds and what it has granted together within its capacity, which
+//!   is 8, 16, .. 64 tokens in this emulator.
+//! - [`OutBufferOf`] keeps at most 8 tokens and at most [`CREDIT_LIMIT`] credits (this emulator's
+//!   numbers).
+//! - [`InBuffer`] and [`OutBuffer`] are those of plain tokens. Both hold tokens in the order in which
+//!   they came, and what is refused changes nothing.
 #![tactic(auto)]
 
 mod incoming;

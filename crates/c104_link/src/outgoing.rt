@@ -18,8 +18,8 @@ pub const CREDIT_LIMIT: usize = 64;
 
 /// The output buffer of a link, which holds tokens in the order in which they joined.
 ///
-/// It sends a token over its wire only against a credit. Where each credit stands for what the other
-/// end has granted, that end has room for the token.
+/// It sends a token over its wire only against a credit. Where each credit stands for what the
+/// other end has granted, that end has room for the token.
 #[derive(Drop)]
 pub struct OutBufferOf<T: TokenKind> {
     ring: HeapCircularBuffer<T>,
@@ -32,17 +32,18 @@ pub type OutBuffer = OutBufferOf<Token>;
 impl<T: TokenKind> Model for OutBufferOf<T> {
     ghost use Rattle.std.specs.Prelude.{◌≡◌};
     ghost use Rattle.c104_link.specs.Buffers.{Outgoing, IsWithinLimits};
+    ghost use Rattle.c104_link.specs.declared.outgoing.TheConstants.{OUTPUT_CAP};
 
     ghost Value = { Outgoing T };
 
     ghost view = { λ q. record { items = q.ring.items; credit = q.credit } };
 
-    ghost invariant = { λ q. (q.ring.capacity ≡ 8)
+    ghost invariant = { λ q. (q.ring.capacity ≡ OUTPUT_CAP)
         × IsWithinLimits (record { items = q.ring.items; credit = q.credit }) };
 }
 
 impl<T: TokenKind> OutBufferOf<T> {
-    /// An empty buffer, with no credit. Only want of memory is refused.
+    /// An empty buffer, with no credit. It fails only out of memory.
     pub fn new(alloc: Global) -> Result<Self, NoMemory>
         ensures { IfOk result (λ q. q ≡ empty_out) }
     {

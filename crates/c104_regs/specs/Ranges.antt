@@ -1,26 +1,28 @@
--- What the settings of every link keep.
+-- The invariant of the settings of every link.
 use Rattle.std.specs.Prelude.{◌≡◌, ℕ, ◌<◌, ◌≤◌, length}
 use Rattle.c104_interval.specs.Selection.{row_at}
+use Rattle.c104_interval.specs.declared.intervals.TheConstants.{ROWS}
 use Rattle.c104_interval.specs.declared.intervals.Select.TheVariants.{Link, Discard, Sink}
 use Rattle.c104_interval.specs.declared.intervals.Select.{Select}
 use Rattle.c104_interval.specs.declared.intervals.Table.{Table}
 use Rattle.c104_regs.specs.Settings.{Settings}
+use Rattle.c104_regs.specs.declared.registers.TheConstants.{LINKS}
 
 -- a link that there is, or none
 abbrev pub IsSelectable : Select → Type 0
-IsSelectable (Link l) = l < 32
+IsSelectable (Link l) = l < LINKS
 IsSelectable Discard = Unit {0}
 IsSelectable Sink = Unit {0}
 
--- a table of 36 rows whose numbers are within the ranges of its registers
+-- a table whose numbers are within the ranges of its registers
 pub record IsTableInRange (t : Table) : Type 0 where
-  pub base : t.base < 65536
-  pub rows : length t.rows ≡ 36
-  pub limits : (k : ℕ) → (row_at t k).limit ≤ 65536
+  pub base : t.base < 0x10000
+  pub rows : length t.rows ≡ ROWS
+  pub limits : (k : ℕ) → (row_at t k).limit ≤ 0x10000
   pub selects : (k : ℕ) → IsSelectable (row_at t k).select
 
 -- settings whose numbers are within the ranges of their registers
 pub record IsInRange (s : Settings) : Type 0 where
-  pub random_base : s.random_base < 65536
-  pub random_range : s.random_range ≤ 65536
+  pub random_base : s.random_base < 0x10000
+  pub random_range : s.random_range ≤ 0x10000
   pub table : IsTableInRange s.table

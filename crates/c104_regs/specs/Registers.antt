@@ -1,6 +1,7 @@
 -- The registers of a switch, by address.
 use Rattle.std.specs.Prelude.{◌≡◌, ℕ, ◌+◌, ◌*◌, ◌&&◌, not, Bool, true, false, IsTrue, ◌<◌, List, [], ◌∷◌, Option, Some, None, Result, Ok, Err, length, replicate, if◌then◌else◌, slice_index_or, slice_set}
 use Rattle.c104_regs.specs.Addresses.{Address, IsRegister, Register, address_of, in_range, line}
+use Rattle.c104_regs.specs.declared.registers.TheConstants.{LINKS, DEVICE_ID}
 use Rattle.c104_regs.specs.declared.addresses.Address.TheVariants.{DeviceId, Started, AtLink}
 use Rattle.c104_regs.specs.declared.addresses.Register.TheVariants.{Mode}
 use Rattle.c104_regs.specs.Faults.{RegFault}
@@ -26,21 +27,29 @@ status_at b l = slice_index_or b.statuses l reset_status
 
 -- the registers after a reset
 abbrev pub reset_bank : RegisterBank
-reset_bank = record { started = false; settings = replicate 32 reset_settings; statuses = replicate 32 reset_status }
+reset_bank = record {
+  started = false;
+  settings = replicate LINKS reset_settings;
+  statuses = replicate LINKS reset_status;
+}
 
 -- the registers of a started switch with these settings, which has told nothing yet
 abbrev pub placed_bank : List Settings → RegisterBank
-placed_bank settings = record { started = true; settings = settings; statuses = replicate 32 reset_status }
+placed_bank settings = record {
+  started = true;
+  settings = settings;
+  statuses = replicate LINKS reset_status;
+}
 
--- what every switch's registers keep
+-- the invariant of a switch's registers
 pub record IsKept (b : RegisterBank) : Type 0 where
-  pub links : length b.settings ≡ 32
-  pub statuses : length b.statuses ≡ 32
+  pub links : length b.settings ≡ LINKS
+  pub statuses : length b.statuses ≡ LINKS
   pub in_range : (l : ℕ) → IsInRange (settings_at b l)
 
 -- what stands at an address reads
 abbrev pub read : RegisterBank → Address → ℕ
-read b DeviceId = 49412
+read b DeviceId = DEVICE_ID
 read b Started = number b.started 1
 read b (AtLink l r) = value (settings_at b l) (status_at b l) r
 
@@ -68,7 +77,7 @@ target a v = at (address_of a)
 -- at address a stands register r of link l, which can be written and takes v
 pub record IsTarget (a v l : ℕ) (r : Register) : Type 0 where
   pub at : address_of a ≡ Some (AtLink l r)
-  pub link : l < 32
+  pub link : l < LINKS
   pub register : IsRegister r
   pub is_writable : IsTrue (line r).is_writable
   pub in_range : IsTrue (in_range r v)

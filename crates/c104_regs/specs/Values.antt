@@ -7,6 +7,8 @@ use Rattle.c104_interval.specs.Selection.{row_at}
 use Rattle.c104_interval.specs.declared.intervals.Row.{Row}
 use Rattle.c104_interval.specs.declared.intervals.Select.TheVariants.{Link, Discard, Sink}
 use Rattle.c104_interval.specs.declared.intervals.Select as interval
+use Rattle.c104_regs.specs.declared.registers.TheConstants.{LINKS}
+use Rattle.c104_regs.specs.declared.values.TheConstants.{DISCARD_CODE, SINK_CODE}
 use Rattle.c104_regs.specs.Addresses.{Register}
 use Rattle.c104_regs.specs.declared.addresses.Register.TheVariants.{Mode, RandomBase, RandomRange, Sunk, Short, InputLevel, OutputLevel, Credit, Granted, Owner, Base, Limit, Select}
 use Rattle.c104_regs.specs.Settings.{Settings}
@@ -14,7 +16,16 @@ pub use Rattle.c104_regs.specs.declared.status.Status.{Status}
 
 -- a status after a reset, before any token came and any credit was granted
 abbrev pub reset_status : Status
-reset_status = record { sunk = 0; short = 0; input_level = 0; output_level = 0; credit = 0; granted = 0; owner = None; busy = false }
+reset_status = record {
+  sunk = 0;
+  short = 0;
+  input_level = 0;
+  output_level = 0;
+  credit = 0;
+  granted = 0;
+  owner = None;
+  busy = false;
+}
 
 -- n where a bit is set, and else 0
 abbrev pub number : Bool → ℕ → ℕ
@@ -23,17 +34,18 @@ number false n = 0
 
 -- the four bits of a link's mode
 abbrev pub mode_of : Settings → ℕ
-mode_of s = number s.two_byte 1 + number s.delete_header 2 + number s.randomize 4 + number s.continue_group 8
+mode_of s =
+    number s.two_byte 1 + number s.delete_header 2 + number s.randomize 4 + number s.continue_group 8
 
 -- the number of what a row selects
 abbrev pub select_code : interval.Select → ℕ
 select_code (Link l) = l
-select_code Discard = 32
-select_code Sink = 64
+select_code Discard = DISCARD_CODE
+select_code Sink = SINK_CODE
 
 -- what a number selects
 abbrev pub coded : ℕ → interval.Select
-coded v = if nat_lt v 32 then Link v else (if v == 32 then Discard else Sink)
+coded v = if nat_lt v LINKS then Link v else (if v == DISCARD_CODE then Discard else Sink)
 
 -- 0 where no input streams to an output, and else 1 and the input
 abbrev pub owner_code : Option ℕ → ℕ
@@ -62,7 +74,12 @@ with_row s k row = record s { table = record { base = s.table.base; rows = slice
 
 -- the settings after the mode is set to v
 abbrev pub with_mode : Settings → ℕ → Settings
-with_mode s v = record s { two_byte = v % 2 == 1; delete_header = (v / 2) % 2 == 1; randomize = (v / 4) % 2 == 1; continue_group = (v / 8) % 2 == 1 }
+with_mode s v = record s {
+  two_byte = v % 2 == 1;
+  delete_header = (v / 2) % 2 == 1;
+  randomize = (v / 4) % 2 == 1;
+  continue_group = (v / 8) % 2 == 1;
+}
 
 -- the settings after register r is set to v; one that tells the status sets nothing
 abbrev pub with_value : Settings → Register → ℕ → Settings

@@ -3,7 +3,9 @@ ghost use Rattle.std.specs.Prelude.{◌≡◌, ◌↔◌, ◌<◌, Some, IfSome,
 ghost use Rattle.c104_regs.specs.Registers.{waits};
 ghost use Rattle.c104_regs.specs.Addresses.{IsAddress, IsRegister, address_number, address_of, in_range, line, register_at};
 
-/// A register of a link.
+use crate::values::{DISCARD_CODE, SINK_CODE};
+
+/// A register of a link. Which there are, and where, is this emulator's.
 #[derive(Clone, Copy, Debug, PartialEq, Eq)]
 pub enum Register {
     /// Four bits: two-byte headers, deletion of headers, random headers, and the group.
@@ -101,10 +103,10 @@ impl Register {
         ensures { result ≡ in_range self value }
     {
         match self {
-            Register::Mode => value <= 15 && value % 2 == 0 && value / 4 % 2 == 0,
-            Register::RandomBase | Register::Base => value <= 65535,
-            Register::RandomRange | Register::Limit(_) => value <= 65536,
-            Register::Select(_) => value < 32 || value == 64,
+            Register::Mode => value <= 0x0f && value % 2 == 0 && value / 4 % 2 == 0,
+            Register::RandomBase | Register::Base => value <= 0xffff,
+            Register::RandomRange | Register::Limit(_) => value <= 0x10000,
+            Register::Select(_) => value < DISCARD_CODE || value == SINK_CODE,
             _ => false,
         }
     }

@@ -4,8 +4,9 @@ ghost use Rattle.c104_regs.specs.Faults.{fault_name, fault_number};
 
 use thiserror::Error;
 
-/// Why a register is not read or written, by this emulator's numbers. Of all that is wrong with an
-/// address and a value the least number is answered.
+/// Why a register is not read or written, by this emulator's numbers, which go on where those of
+/// bytes that are no command end. Of all that is wrong with an address and a value the least number
+/// is answered.
 #[derive(Clone, Copy, Debug, PartialEq, Eq, Error)]
 pub enum RegFault {
     /// No register has the address.
@@ -23,7 +24,7 @@ pub enum RegFault {
 }
 
 impl RegFault {
-    /// The fault's number.
+    /// The fault's number, 3 to 6, which is that of the refusal that a switch replies.
     pub fn number(self) -> u8
         ensures { result ≡ fault_number self }
     {

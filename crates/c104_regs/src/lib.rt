@@ -3,6 +3,13 @@
 //!
 //! The addresses and the meaning of each register are this emulator's. What a switch tells of
 //! itself, as its levels and its credit, it tells here before they are read.
+//!
+//! - [`Registers`] keeps settings and a status for each of [`LINKS`] links, the settings within the
+//!   ranges of their registers, and whether the switch is started. An address reads what was poked
+//!   there or told last.
+//! - [`Settings`] is what is set at one link, with any numbers in it.
+//! - [`Status`] is what a switch tells of one link.
+//! - [`RegFault`] says why an address is not read or a value not written.
 #![tactic(auto)]
 
 mod addresses;

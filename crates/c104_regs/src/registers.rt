@@ -63,7 +63,7 @@ impl Registers {
     /// The registers of a switch that is started, with these settings at its links. The switch has
     /// told nothing yet.
     pub fn placed(settings: &[Settings]) -> Self
-        requires links { length settings.now ≡ 32 }
+        requires links { length settings.now ≡ LINKS }
         requires ranges { All IsInRange settings.now }
         ensures { result ≡ placed_bank settings.now }
     {
@@ -76,7 +76,8 @@ impl Registers {
         }
     }
 
-    /// The value of the register at this address.
+    /// The value of the register at this address. NoRegister where there is none; no other fault
+    /// comes.
     pub fn peek(&self, addr: u16) -> Result<u32, RegFault>
         ensures { result ≡ peek self.now addr }
     {
@@ -90,7 +91,9 @@ impl Registers {
         }
     }
 
-    /// Sets the register at this address. What is refused changes nothing.
+    /// Sets the register at this address. NoRegister where there is none, ReadOnly where it can't be
+    /// written, OutOfRange where it doesn't take the value, and Busy for the mode of a link through
+    /// which a packet is on its way. What is refused changes nothing.
     pub fn poke(&mut self, addr: u16, value: u32) -> Result<(), RegFault>
         ensures poked { (result, self.new) ≡ poke self.old addr value }
 
@@ -108,7 +111,7 @@ impl Registers {
     }
 
     /// Whether a poke may set the register at this address to this value, as far as that doesn't
-    /// hang on what the switch is doing.
+    /// hang on what the switch is doing: each fault of `poke` but Busy.
     pub fn settable(addr: u16, value: u32) -> Result<(), RegFault>
         ensures { result ≡ settable addr value }
     {
@@ -128,33 +131,33 @@ impl Registers {
         ensures settings { result.now ≡ self.now.settings }
         ensures kept { IsKept self.now }
     {
-        &self.settings
+        self.settings.as_slice()
     }
 
-    /// What is set at a link.
+    /// What is set at a link, 0 to 31.
     pub fn settings(&self, link: usize) -> &Settings
-        requires { link < 32 }
+        requires { link < LINKS }
         ensures settings { result.now ≡ settings_at self.now link }
         ensures kept { IsInRange result.now }
     {
         &self.settings[link]
     }
 
-    /// The four bits of a link's mode.
+    /// The four bits of a link's mode, the link being 0 to 31.
     pub fn mode(&self, link: usize) -> u32
-        requires { link < 32 }
+        requires { link < LINKS }
         ensures { result ≡ mode_of (settings_at self.now link) }
     {
         self.settings[link].mode()
     }
 
-    /// The interval table of a link's input.
+    /// The interval table of a link's input, the link being 0 to 31.
     pub fn table(&self, link: usize) -> &Table
-        requires { link < 32 }
+        requires { link < LINKS }
         ensures table { result.now ≡ (settings_at self.now link).table }
         ensures kept { IsTableInRange result.now }
     {
-        &self.settings[link].table
+        &self.settings(link).table
     }
 
     /// The links that continue the group of the link before them: link l at bit l.
@@ -189,9 +192,9 @@ impl Registers {
         }
     }
 
-    /// Tells the status of a link.
+    /// Tells the status of a link, 0 to 31.
     pub fn set_status(&mut self, link: usize, status: Status)
-        requires { link < 32 }
+        requires { link < LINKS }
         ensures { self.new ≡ with_status self.old link status }
     {
         self.statuses[link] = status;

@@ -14,8 +14,8 @@ pub struct Settings {
     pub randomize: bool,
     /// This link continues the group of the link before it. At link 0 it has no effect.
     pub continue_group: bool,
-    /// Where the random headers begin, 0 to 65535. They are taken modulo 256 or 65536, by the header
-    /// length.
+    /// Where the random headers begin, 0 to 65535. They are taken modulo 256 or 65536, by the
+    /// header length.
     pub random_base: u32,
     /// How many numbers from the base on a word can pick, 0 to 65536; at 0 the base alone.
     pub random_range: u32,

@@ -8,6 +8,12 @@ use crate::settings::Settings;
 use crate::status::Status;
 use c104_interval::Select;
 
+/// The number by which a row discards headers. The numbers below it are links.
+pub const DISCARD_CODE: u32 = 32;
+
+/// The number by which a row selects the sink.
+pub const SINK_CODE: u32 = 64;
+
 impl Register {
     /// What the register reads, at a link with these settings and this status.
     pub fn read(self, settings: &Settings, status: &Status) -> u32
@@ -83,8 +89,8 @@ fn select_code(select: Select) -> u32
 {
     match select {
         Select::Link(link) => u32::from(link),
-        Select::Discard => 32,
-        Select::Sink => 64,
+        Select::Discard => DISCARD_CODE,
+        Select::Sink => SINK_CODE,
     }
 }
 
@@ -94,7 +100,7 @@ fn select_of(code: u32) -> Select
 {
     match code {
         0..=31 => Select::Link(code as u8),
-        32 => Select::Discard,
+        DISCARD_CODE => Select::Discard,
         _ => Select::Sink,
     }
 }

@@ -3,23 +3,27 @@ use Rattle.std.specs.Prelude.{ℕ, ◌-◌, ◌≡◌, false, List, [], ◌∷�
 use Rattle.c104_token.specs.Tokens.{Token, is_end}
 use Rattle.c104_token.specs.Packets.{Packet, tokens}
 
--- the whole pieces of a list of any kind of tokens, each with its mark; front is what was read of the first
+-- the whole pieces of a list of any kind of tokens, each with its mark
+-- whose prefix was read
 abbrev pub whole_pieces : {A : Type 0} → (A → Token) → List A → List A → List (List A)
-whole_pieces plain front [] = []
-whole_pieces plain front (x ∷ xs) =
-    if is_end (plain x) then (front ++ x ∷ []) ∷ whole_pieces plain [] xs else whole_pieces plain (front ++ x ∷ []) xs
+whole_pieces plain prefix [] = []
+whole_pieces plain prefix (x ∷ xs) =
+    if is_end (plain x) then (prefix ++ x ∷ []) ∷ whole_pieces plain [] xs
+    else whole_pieces plain (prefix ++ x ∷ []) xs
 
 -- what follows the last mark
 abbrev pub unfinished_piece : {A : Type 0} → (A → Token) → List A → List A → List A
-unfinished_piece plain front [] = front
-unfinished_piece plain front (x ∷ xs) =
-    if is_end (plain x) then unfinished_piece plain [] xs else unfinished_piece plain (front ++ x ∷ []) xs
+unfinished_piece plain prefix [] = prefix
+unfinished_piece plain prefix (x ∷ xs) =
+    if is_end (plain x) then unfinished_piece plain [] xs
+    else unfinished_piece plain (prefix ++ x ∷ []) xs
 
 -- the tokens of a list are cut into these packets, and so many at its end are left
 pub record IsCut (list : List Token) (packets : List Packet) (left : ℕ) : Type 0 where
   -- the packets are the whole pieces, in order
   pub whole : map tokens packets ≡ whole_pieces (λ x. x) [] list
   pub unfinished : left ≡ length (unfinished_piece (λ x. x) [] list)
-  -- what is left has no mark, and nothing is lost: the packets' tokens, and then the tokens that are left, are the list
+  -- what is left has no mark, and nothing is lost: the packets' tokens, and then the tokens that
+  -- are left, are the list
   pub joined : flat_map tokens packets ++ drop (length list - left) list ≡ list
   pub no_mark : All (λ x. is_end x ≡ false) (drop (length list - left) list)

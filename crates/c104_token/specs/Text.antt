@@ -1,6 +1,7 @@
 -- The text of a packet: how its words are cut and read, and how it is printed.
 use Rattle.std.specs.Prelude.{ℕ, ◌+◌, ◌-◌, ◌*◌, ◌/◌, ◌%◌, ◌≡◌, ◌<◌, ◌≤◌, ◌⊎◌, ◌==◌, ◌&&◌, not, List, [], ◌∷◌, ◌++◌, length, map, filter, flat_map, nat_lt, nat_le, if◌then◌else◌, Option, Some, None, Result, Ok, Err}
 use Rattle.std.specs.List.{slice_split}
+use Rattle.c104_token.specs.declared.text.TheConstants.{MAX_PACKET_BYTES}
 pub use Rattle.c104_token.specs.declared.faults.TokenFault.{TokenFault}
 use Rattle.c104_token.specs.declared.faults.TokenFault.TheVariants as fault
 use Rattle.c104_token.specs.declared.text.Word.{Word}
@@ -11,14 +12,14 @@ use Rattle.c104_token.specs.Packets.{Packet}
 
 -- the words of a text: the pieces between spaces that aren't empty
 abbrev pub words : List ℕ → List (List ℕ)
-words text = filter (λ piece. not (length piece == 0)) (slice_split (λ byte. byte == 32) text)
+words text = filter (λ piece. not (length piece == 0)) (slice_split (λ byte. byte == 0x20) text)
 
--- the value of a hexadecimal digit, of either case
+-- the value of a hexadecimal digit, of either case: `0` is 0x30, `A` 0x41 and `a` 0x61
 abbrev pub hex_value : ℕ → Option ℕ
 hex_value c =
-    if nat_le 48 c && nat_le c 57 then Some (c - 48)
-    else (if nat_le 65 c && nat_le c 70 then Some (c - 55)
-    else (if nat_le 97 c && nat_le c 102 then Some (c - 87)
+    if nat_le 0x30 c && nat_le c 0x39 then Some (c - 0x30)
+    else (if nat_le 0x41 c && nat_le c 0x46 then Some (c - 0x37)
+    else (if nat_le 0x61 c && nat_le c 0x66 then Some (c - 0x57)
     else None))
 
 -- the byte of two digits
@@ -33,8 +34,8 @@ word_of [] = word.Other
 word_of (a ∷ []) = word.Other
 word_of (a ∷ b ∷ []) = byte_word (hex_value a) (hex_value b)
 word_of (a ∷ b ∷ c ∷ []) =
-    if a == 101 && (b == 111 && c == 112) then word.End mark.Eop
-    else (if a == 101 && (b == 111 && c == 109) then word.End mark.Eom
+    if a == 0x65 && (b == 0x6f && c == 0x70) then word.End mark.Eop
+    else (if a == 0x65 && (b == 0x6f && c == 0x6d) then word.End mark.Eom
     else word.Other)
 word_of (a ∷ b ∷ c ∷ d ∷ more) = word.Other
 
@@ -51,7 +52,8 @@ byte_spelled word = None
 -- the packet that words say after these bytes, or the first fault from the left
 abbrev pub read : List Word → List ℕ → Result Packet TokenFault
 read [] bytes = Err fault.NoEnd
-read (word.Byte b ∷ more) bytes = if nat_lt (length bytes) 4096 then read more (bytes ++ b ∷ []) else Err fault.TooLong
+read (word.Byte b ∷ more) bytes =
+    if nat_lt (length bytes) MAX_PACKET_BYTES then read more (bytes ++ b ∷ []) else Err fault.TooLong
 read (word.End m ∷ []) bytes = Ok (record { bytes = bytes; mark = m })
 read (word.End m ∷ next ∷ more) bytes = Err fault.AfterEnd
 read (word.Other ∷ more) bytes = Err fault.BadHex
@@ -62,13 +64,14 @@ parsed_words list = read (map word_of list) []
 abbrev pub parsed : List ℕ → Result Packet TokenFault
 parsed text = parsed_words (words text)
 
--- what is due, or that memory was wanted and refused
+-- what is due, or that there is no memory
 abbrev pub GivesOrNoMemory : Result Packet TokenFault → Result Packet TokenFault → Type 0
 GivesOrNoMemory result due = (result ≡ due) ⊎ (result ≡ Err fault.NoMemory)
 
 -- c is a digit, of either case, and v is its value
 abbrev pub IsHexDigit : ℕ → ℕ → Type 0
-IsHexDigit c v = ((c ≡ 48 + v) × (v < 10)) ⊎ (((c ≡ 55 + v) ⊎ (c ≡ 87 + v)) × (10 ≤ v) × (v < 16))
+IsHexDigit c v =
+    ((c ≡ 0x30 + v) × (v < 10)) ⊎ (((c ≡ 0x37 + v) ⊎ (c ≡ 0x57 + v)) × (10 ≤ v) × (v < 16))
 
 -- a word of two digits, the high one first
 pub record SpellsByte (spelling : List ℕ) (byte : ℕ) : Type 0 where
@@ -90,20 +93,31 @@ SpellBytes (w ∷ list) (b ∷ bytes) = SpellsByte w b × SpellBytes list bytes
 
 -- the word of a terminator: `eop`, `eom`
 abbrev pub mark_word : Mark → List ℕ
-mark_word mark.Eop = 101 ∷ 111 ∷ 112 ∷ []
-mark_word mark.Eom = 101 ∷ 111 ∷ 109 ∷ []
+mark_word mark.Eop = 0x65 ∷ 0x6f ∷ 0x70 ∷ []
+mark_word mark.Eom = 0x65 ∷ 0x6f ∷ 0x6d ∷ []
 
--- a text that spells a packet: a word for each byte, of which there are at most 4,096, and then its mark
+-- a text that spells a packet: a word for each byte, of which there are no more than a packet may
+-- have, and then its mark
 pub record IsPacketText (text : List ℕ) (packet : Packet) : Type 0 where
   pub spelling : List (List ℕ)
   pub cut : words text ≡ spelling ++ mark_word packet.mark ∷ []
   pub bytes : SpellBytes spelling packet.bytes
-  pub short : length packet.bytes ≤ 4096
+  pub short : length packet.bytes ≤ MAX_PACKET_BYTES
+
+-- the answer is the packet that the text spells, where it spells one and there is memory
+abbrev pub TakesPacketText : List ℕ → Result Packet TokenFault → Type 0
+TakesPacketText text result =
+    (packet : Packet) → IsPacketText text packet → GivesOrNoMemory result (Ok packet)
+
+-- the text is read as the packet, where that is no longer than what is read
+abbrev pub ReadsBack : Packet → List ℕ → Type 0
+ReadsBack packet text = length packet.bytes ≤ MAX_PACKET_BYTES → parsed text ≡ Ok packet
 
 -- the digit of a value below 16, in lower case
 abbrev pub hex_digit : ℕ → ℕ
-hex_digit v = if nat_lt v 10 then 48 + v else 97 + (v - 10)
+hex_digit v = if nat_lt v 10 then 0x30 + v else 0x61 + (v - 10)
 
 -- the text of a packet in lower case, one space between words
 abbrev pub printed : Packet → List ℕ
-printed packet = flat_map (λ b. hex_digit (b / 16) ∷ hex_digit (b % 16) ∷ 32 ∷ []) packet.bytes ++ mark_word packet.mark
+printed packet =
+    flat_map (λ b. hex_digit (b / 16) ∷ hex_digit (b % 16) ∷ 0x20 ∷ []) packet.bytes ++ mark_word packet.mark

@@ -1,12 +1,13 @@
 ghost use Rattle.std.specs.Prelude.{◌≡◌};
+ghost use Rattle.c104_token.specs.Faults.{fault_number};
 ghost use Rattle.c104_token.specs.declared.faults.TokenFault.TheVariants as fault;
 
 use std::alloc::{AllocError, AllocFailed};
 use thiserror::Error;
 
-/// Memory was wanted and refused. What was lent is as it was.
+/// Out of memory. What was lent is as it was.
 #[derive(Clone, Copy, Debug, PartialEq, Eq, Error)]
-#[error("no memory")]
+#[error("out of memory")]
 pub struct NoMemory;
 
 impl From<AllocError> for NoMemory {
@@ -21,7 +22,8 @@ impl<T: Drop> From<AllocFailed<T>> for NoMemory {
     }
 }
 
-/// Why a packet's text was refused: the first fault from the left, or want of memory in its place.
+/// Why a packet's text was refused, by this emulator's numbers: the first fault from the left, or
+/// out of memory in its place.
 #[derive(Clone, Copy, Debug, PartialEq, Eq, Error)]
 pub enum TokenFault {
     /// A word is neither two hexadecimal digits nor a terminator.
@@ -33,12 +35,21 @@ pub enum TokenFault {
     /// A word follows the terminator.
     #[error("a word follows the packet's end")]
     AfterEnd = 3,
-    /// There is a 4,097th byte.
+    /// There is a 4,097th byte: a packet has at most [`MAX_PACKET_BYTES`](crate::MAX_PACKET_BYTES).
     #[error("the packet has more than 4096 bytes")]
     TooLong = 4,
-    /// Memory was wanted and refused.
-    #[error("no memory")]
+    /// Out of memory, whatever the text says.
+    #[error("out of memory")]
     NoMemory = 5,
+}
+
+impl TokenFault {
+    /// The fault's number, 1 to 5.
+    pub fn number(self) -> u8
+        ensures { result ≡ fault_number self }
+    {
+        self as u8
+    }
 }
 
 impl From<AllocError> for TokenFault {

@@ -29,7 +29,7 @@ impl<T: Copy + Drop> Clone for Items<T> {
 }
 
 impl<T> Items<T> {
-    /// The list of these items.
+    /// The list of these items, without a copy.
     pub fn new(items: Vec<T>) -> Self
         ensures { result ≡ items.items }
     {
@@ -43,7 +43,7 @@ impl<T> Items<T> {
         self.items.as_slice()
     }
 
-    /// The items, given back.
+    /// The items, given back without a copy.
     pub fn into_vec(self) -> Vec<T>
         ensures { result.items ≡ self }
     {

@@ -41,7 +41,7 @@ impl Packet {
     }
 }
 
-/// The tokens of a packet: one for each byte, and then its mark. The only error is want of memory.
+/// The tokens of a packet: one for each byte, and then its mark. It fails only out of memory.
 pub fn packet_tokens(alloc: Global, packet: &Packet) -> Result<Vec<Token>, NoMemory>
     ensures { IfOk result (λ list. list.items ≡ tokens packet.now) }
 {
@@ -60,7 +60,7 @@ fn all_tokens(alloc: Global, bytes: &[u8], last: Token) -> Result<Vec<Token>, Al
 }
 
 /// Cuts tokens after each mark. Gives the whole packets, and how many tokens at the end belong
-/// to a packet whose mark has not come. The only error is want of memory.
+/// to a packet whose mark has not come. It fails only out of memory.
 pub fn cut_packets(alloc: Global, list: &[Token]) -> Result<(Vec<Packet>, usize), NoMemory>
     ensures { IfOk result (λ cut. IsCut list.now cut.0.items cut.1) }
 {

@@ -1,7 +1,6 @@
 ghost use Rattle.std.specs.Prelude.{◌≡◌, ◌≤◌, ◌<◌, ◌+◌, ◌*◌, ◌∷◌, ℕ, [], length, map, IfOk, IfSome};
 ghost use Rattle.std.specs.String.{string_bytes};
-ghost use Rattle.c104_token.specs.Packets.{Packet as ThePacket};
-ghost use Rattle.c104_token.specs.Text.{words, word_of, byte_spelled, hex_value, parsed, parsed_words, printed, hex_digit, IsPacketText, GivesOrNoMemory};
+ghost use Rattle.c104_token.specs.Text.{words, word_of, byte_spelled, hex_value, parsed, parsed_words, printed, hex_digit, IsPacketText, TakesPacketText, ReadsBack, GivesOrNoMemory};
 
 use crate::faults::{NoMemory, TokenFault};
 use crate::list::Items;
@@ -20,15 +19,15 @@ enum Word {
     Other,
 }
 
-/// Reads a packet: words parted by spaces, two hexadecimal digits of either case for each of at most
-/// 4,096 bytes, and then `eop` or `eom`.
+/// Reads a packet: words parted by spaces, two hexadecimal digits of either case for each of at
+/// most 4,096 bytes, and then `eop` or `eom`. The form is this emulator's.
 ///
-/// A refusal is the first fault from the left: BadHex, TooLong at a 4,097th byte, AfterEnd at a word
-/// behind the terminator, or NoEnd. NoMemory may come in place of any answer.
+/// A refusal is the first fault from the left: BadHex, TooLong at a 4,097th byte, AfterEnd at a
+/// word behind the terminator, or NoEnd. NoMemory may come in place of any answer.
 pub fn parse_packet(alloc: Global, text: &str) -> Result<Packet, TokenFault>
     ensures value { GivesOrNoMemory result (parsed text.now) }
     ensures accepted { IfOk result (λ packet. IsPacketText text.now packet) }
-    ensures complete { (packet : ThePacket) → IsPacketText text.now packet → GivesOrNoMemory result (Ok packet) }
+    ensures complete { TakesPacketText text.now result }
 {
     let words = cut_words(alloc, text.as_bytes())?;
     parse_words(alloc, words.as_slice())
@@ -112,10 +111,10 @@ fn read_digit(digit: u8) -> Option<u8>
 }
 
 /// Writes a packet in lower case, one space between words. `parse_packet` reads it back where it
-/// has at most 4,096 bytes. The only error is want of memory.
+/// has at most 4,096 bytes. It fails only out of memory.
 pub fn print_packet(alloc: Global, packet: &Packet) -> Result<String, NoMemory>
     ensures text { IfOk result (λ text. string_bytes text ≡ printed packet.now) }
-    ensures reads_back { IfOk result (λ text. length packet.now.bytes ≤ 4096 → parsed (string_bytes text) ≡ Ok packet.now) }
+    ensures reads_back { IfOk result (λ text. ReadsBack packet.now (string_bytes text)) }
 {
     let mut text = String::new(alloc);
     for byte in packet.bytes.as_bytes() {
@@ -130,7 +129,7 @@ pub fn print_packet(alloc: Global, packet: &Packet) -> Result<String, NoMemory>
     Ok(text)
 }
 
-/// The hexadecimal digit of a value below 16, in lower case.
+/// The hexadecimal digit of a value, 0 to 15, in lower case.
 pub fn digit_of(value: u8) -> char
     requires { value < 16 }
     ensures digit { result ≡ hex_digit value }

@@ -8,7 +8,7 @@ pub enum Token {
     Byte(u8),
     /// The end of a packet.
     Eop,
-    /// The end of a message. The switch passes it on as it came, as it does an end of packet.
+    /// The end of a message. A switch passes it on as it came, as it does an end of packet.
     Eom,
 }
 
