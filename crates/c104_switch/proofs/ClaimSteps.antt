@@ -16,7 +16,7 @@ use Rattle.c104_switch.proofs.HeldClaims.{free_unowned, taken_owned}
 
 module _ {A : Type 0} (settings : List Settings) (ps : List (Input A)) (qs : List (Outgoing A)) (i o : ℕ) where
   -- no input claims an output past the last
-  claimed_past : slice_get settings o ≡ None → (p : Input A) (phase : Phase A) → claimed settings p qs o phase ≡ None
+  claimed_past : slice_get settings o ≡ None → (p : Input A) (phase : Phase (List A)) → claimed settings p qs o phase ≡ None
   claimed_past none p Fresh = refl
   claimed_past none p (Head b) = refl
   claimed_past none p (Want b g) = by_group (in_group settings g o)

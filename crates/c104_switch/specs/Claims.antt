@@ -15,7 +15,7 @@ abbrev pub put_header : {A : Type 0} → Settings → List A → Outgoing A → 
 put_header s b q = if s.delete_header then Some q else buffer.put_all b q
 
 -- the header goes to output o of the group that is wanted, and the rest will follow
-abbrev pub claimed : {A : Type 0} → List Settings → Input A → List (Outgoing A) → ℕ → Phase A → Option (Input A × List (Outgoing A))
+abbrev pub claimed : {A : Type 0} → List Settings → Input A → List (Outgoing A) → ℕ → Phase (List A) → Option (Input A × List (Outgoing A))
 claimed settings p qs o (Want b g) = do
   require (in_group settings g o)
   t ← slice_get settings o

@@ -10,7 +10,7 @@ use Rattle.c104_switch.specs.Switch.{Phase, Fresh, Head, Want, Stream, Sinking, 
 use Rattle.c104_switch.specs.Views.{owner_from}
 
 -- a packet is on its way through the input
-abbrev pub is_busy : {A : Type 0} → Phase A → Bool
+abbrev pub is_busy : {H : Type 0} → Phase H → Bool
 is_busy Fresh = false
 is_busy (Head b) = true
 is_busy (Want b g) = true

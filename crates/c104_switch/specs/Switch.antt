@@ -6,20 +6,14 @@ use Rattle.c104_link.specs.Buffers as buffer
 use Rattle.c104_link.specs.Buffers.{Incoming, Outgoing, empty_in, empty_out}
 use Rattle.c104_regs.specs.declared.settings.Settings.{Settings}
 use Rattle.c104_regs.specs.Settings.{reset_settings}
+pub use Rattle.c104_switch.specs.Phases.{Phase, Fresh, Head, Want, Stream, Sinking}
+use Rattle.c104_switch.specs.Phases.{is_stream}
 
--- what an input does with its next token: it waits for a packet, reads a header of which it has these
--- tokens, wants an output of a link's group for this header, streams to an output, or drops the packet
-pub data Phase (A : Type 0) : Type 0 where
-  Fresh : Phase A
-  Head : List A → Phase A
-  Want : List A → ℕ → Phase A
-  Stream : ℕ → Phase A
-  Sinking : Phase A
-
--- the input side of a link: its buffer, its phase, and how many packets it dropped and found too short
+-- the input side of a link: its buffer, what it does with its next token (with the tokens of a header that
+-- it reads or that waits), and how many packets it dropped and found too short
 pub record Input (A : Type 0) : Type 0 where
   pub buffer : Incoming A
-  pub phase : Phase A
+  pub phase : Phase (List A)
   pub sunk : ℕ
   pub short : ℕ
 
@@ -34,14 +28,6 @@ pub record Switch (A : Type 0) : Type 0 where
 abbrev pub counted : ℕ → Bool → ℕ
 counted n false = n
 counted n true = min (n + 1) 4294967295
-
--- whether this phase streams to output o
-abbrev pub is_stream : {A : Type 0} → ℕ → Phase A → Bool
-is_stream o (Stream p) = p == o
-is_stream o Fresh = false
-is_stream o (Head b) = false
-is_stream o (Want b g) = false
-is_stream o Sinking = false
 
 -- whether some input streams to output o, and so owns it
 abbrev pub is_owned : {A : Type 0} → List (Input A) → ℕ → Bool

@@ -2,6 +2,7 @@
 ghost use Rattle.std.specs.Prelude.{◌≡◌};
 
 use crate::header::HeaderBytes;
+use crate::phase::Phase;
 use c104_control::ControlBytes;
 use c104_token::Token;
 
@@ -39,21 +40,6 @@ pub enum Reply {
     Control(ControlBytes),
 }
 
-/// What an input does with its next token.
-#[derive(Debug, Drop)]
-pub enum Phase {
-    /// It waits for a packet.
-    Fresh,
-    /// It reads a header, of which it has these bytes: none yet after a discarded one.
-    Head(HeaderBytes),
-    /// It wants an output of this link's group for the header.
-    Want(HeaderBytes, u8),
-    /// It streams to this output.
-    Stream(usize),
-    /// It drops the packet.
-    Sinking,
-}
-
 /// What can be seen of one link.
 #[derive(Debug, Drop)]
 pub struct LinkView {
@@ -68,5 +54,5 @@ pub struct LinkView {
     /// The input that streams to this output, if one does.
     pub owner: Option<usize>,
     /// What the input does with its next token.
-    pub phase: Phase,
+    pub phase: Phase<HeaderBytes>,
 }

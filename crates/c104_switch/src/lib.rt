@@ -7,12 +7,14 @@ mod header;
 mod input;
 mod inputs;
 mod outputs;
+mod phase;
 mod ready;
 mod step;
 mod switches;
 
-pub use actions::{Action, LinkView, Phase, Reply};
+pub use actions::{Action, LinkView, Reply};
 pub use header::HeaderBytes;
+pub use phase::Phase;
 pub use switches::{Switch, SwitchOf};
 
 /// How many links a switch has.
