@@ -1,5 +1,5 @@
 -- Which claims the inputs hold: an input holds the claim of an output exactly while it streams to it.
-use Rattle.std.specs.Prelude.{ℕ, Bool, true, false, List, [], ◌∷◌, ◌++◌, Option, Some, None, slice_get}
+use Rattle.std.specs.Prelude.{ℕ, Bool, true, false, List, [], ◌∷◌, ◌++◌, Option, slice_get}
 use Rattle.c104_link.specs.Steps.{◌>>=◌}
 use Rattle.c104_crossbar.specs.Marks.{list_of}
 use Rattle.c104_switch.specs.Phases.{Phase, output_of}

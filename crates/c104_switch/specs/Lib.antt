@@ -2,6 +2,7 @@ pub mod Group
 pub mod Phases
 pub mod Switch
 pub mod Headers
+pub mod Sides
 pub mod Turns
 pub mod Claims
 pub mod Holding

@@ -1,6 +1,7 @@
 -- Phases: where an input is with its packet, with what is known of a header that is read or that waits.
 use Rattle.std.specs.Prelude.{ℕ, ◌<◌, ◌==◌, Bool, false, List, [], length, Option, Some, None}
 use Rattle.std.specs.Option.{option_map_or}
+use Rattle.c104_switch.specs.declared.header.TheConstants.{HEADER_LIMIT}
 pub use Rattle.c104_switch.specs.declared.phase.Phase.{Phase}
 pub use Rattle.c104_switch.specs.declared.phase.Phase.TheVariants.{Fresh, Head, Want, Stream, Sinking}
 
@@ -28,11 +29,11 @@ with_header f Sinking = Sinking
 module _ {A : Type 0} where
   -- the phase of an input that keeps the tokens of the header beside its own
   abbrev pub phase_of : Phase (Unit {0}) → List A → Phase (List A)
-  phase_of stage header = with_header (λ u. header) stage
+  phase_of phase header = with_header (λ u. header) phase
 
   -- an input that reads a header has room for one more token of it
   abbrev pub HasRoom : Phase (List A) → Type 0
-  HasRoom (Head b) = length b < 2
+  HasRoom (Head b) = length b < HEADER_LIMIT
   HasRoom phase = Unit {0}
 
   -- an input that reads a header, or waits for a packet

@@ -6,6 +6,7 @@ use Rattle.c104_link.specs.Steps.{◌>>=◌, ◌>>◌, require, at_place, with_p
 use Rattle.c104_link.specs.Buffers as buffer
 use Rattle.c104_link.specs.Buffers.{Outgoing, without_first}
 use Rattle.c104_regs.specs.declared.settings.Settings.{Settings}
+use Rattle.c104_switch.specs.Sides.{IsTried}
 use Rattle.c104_switch.specs.Switch.{Phase, Fresh, Head, Want, Stream, Sinking, Input, Switch, counted, with_sides}
 use Rattle.c104_switch.specs.Headers.{read, random_header}
 
@@ -48,10 +49,22 @@ module _ {A : Type 0} (kind : Kind A) where
     x ← slice_get p.buffer.items 0
     by_phase s word p qs p.phase x
 
+  -- a turn of input i of all
+  abbrev pub turn_at : Settings → ℕ → List (Input A) → List (Outgoing A) → ℕ → Option (List (Input A) × List (Outgoing A))
+  turn_at s word ps qs i = with_place ps i (λ p. turn s word p qs)
+
   -- a turn of input i of a switch that is started
   abbrev pub input : Switch A → ℕ → ℕ → Option (Switch A)
   input s i word = do
     require s.started
     t ← slice_get s.settings i
-    r ← with_place s.inputs i (λ p. turn t word p s.outputs)
+    r ← turn_at t word s.inputs s.outputs i
     Some (with_sides s r)
+
+  -- a turn was tried: whether it was made, and the input and the outputs after it, or as they were
+  abbrev pub IsTurn : Settings → ℕ → Input A → List (Outgoing A) → Bool → Input A → List (Outgoing A) → Type 0
+  IsTurn s word p qs = IsTried (turn s word p qs) p qs
+
+  -- the same of input i of all
+  abbrev pub IsTurnAt : Settings → ℕ → ℕ → List (Input A) → List (Outgoing A) → Bool → List (Input A) → List (Outgoing A) → Type 0
+  IsTurnAt s word i ps qs = IsTried (turn_at s word ps qs i) ps qs

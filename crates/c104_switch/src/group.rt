@@ -1,5 +1,6 @@
 //! Groups of links.
 ghost use Rattle.std.specs.Prelude.{◌≡◌, ◌<◌};
+ghost use Rattle.c104_regs.specs.declared.registers.TheConstants.{LINKS};
 ghost use Rattle.c104_switch.specs.Group.{in_group};
 
 use crate::LINKS;
@@ -8,7 +9,7 @@ use c104_regs::Registers;
 
 /// Whether an output is in the group of this link. Past the last link there is no group that has one.
 pub fn is_in_group(registers: &Registers, link: u8, output: usize) -> bool
-    requires { output < 32 }
+    requires { output < LINKS }
     ensures { result ≡ in_group registers.now.settings link output }
 {
     let link = usize::from(link);

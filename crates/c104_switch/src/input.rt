@@ -49,7 +49,8 @@ impl<T: TokenKind> Model for InputOf<T> {
 }
 
 impl<T: TokenKind> InputOf<T> {
-    /// An input at first.
+    /// A new input: no token, no packet under way, and nothing granted or counted. It fails only when out
+    /// of memory.
     pub fn new(alloc: Global, cap: usize) -> Result<Self, NoMemory>
         requires { IsValidCap cap }
         ensures { IfOk result (λ p. p ≡ first_input cap) }
@@ -81,8 +82,8 @@ impl<T: TokenKind> InputOf<T> {
         claim
     }
 
-    /// Throws the tokens, the packet under way and the counts away. What is granted stays. The claim
-    /// comes back, if the input holds one.
+    /// Discards the tokens, the packet under way and the counts. What is granted stays. The claim comes
+    /// back, if the input holds one.
     pub fn reset(&mut self) -> Option<Claim>
         ensures reset { self.new ≡ reset_input self.old }
         ensures claims { list_of result ≡ held_by self.old.phase }
@@ -95,14 +96,14 @@ impl<T: TokenKind> InputOf<T> {
         self.claim.take()
     }
 
-    /// Takes a token in.
+    /// Takes a token in, where one is granted.
     pub fn accept(&mut self, token: T) -> bool
         ensures { (result, self.new) ≡ tried (accepted token self.old) self.old }
     {
         self.buffer.accept(token).is_ok()
     }
 
-    /// Grants eight more tokens.
+    /// Grants eight more tokens, where there is room for all that would then be granted.
     pub fn grant(&mut self) -> bool
         ensures { (result, self.new) ≡ tried (granted self.old) self.old }
     {
@@ -125,14 +126,14 @@ impl<T: TokenKind> InputOf<T> {
         self.buffer.granted()
     }
 
-    /// How many packets the input dropped.
+    /// How many packets the input dropped since the last reset, at most 2³² - 1.
     pub fn sunk(&self) -> u32
         ensures { result ≡ self.now.sunk }
     {
         self.sunk
     }
 
-    /// How many packets the input found too short.
+    /// How many packets the input found too short since the last reset, at most 2³² - 1.
     pub fn short(&self) -> u32
         ensures { result ≡ self.now.short }
     {

@@ -3,8 +3,9 @@ ghost use Rattle.std.specs.Prelude.{◌≡◌, ◌<◌, ◌∷◌, ◌++◌, Boo
 ghost use Rattle.c104_crossbar.specs.Marks.{list_of};
 ghost use Rattle.c104_link.specs.Buffers.{Outgoing};
 ghost use Rattle.c104_link.specs.Steps.{tried};
+ghost use Rattle.c104_regs.specs.declared.registers.TheConstants.{LINKS};
 ghost use Rattle.c104_switch.specs.Switch.{Input};
-ghost use Rattle.c104_switch.specs.Claims.{claimed};
+ghost use Rattle.c104_switch.specs.Claims.{claimed, IsClaim};
 ghost use Rattle.c104_switch.specs.Holding.{held_by};
 
 use super::InputOf;
@@ -25,7 +26,8 @@ impl<T: TokenKind> InputOf<T> {
         claim: Claim,
         outputs: &mut OutputsOf<T>,
     ) -> Option<Claim>
-        ensures claimed { ◌≡◌ {A = Bool × (Input T × List (Outgoing T))} (is_none result, (self.new, outputs.new)) (tried {S = Input T × List (Outgoing T)} (claimed registers.now.settings self.old outputs.old claim self.old.phase) (self.old, outputs.old)) }
+        ensures claimed { IsClaim registers.now.settings claim
+            self.old outputs.old (is_none result) self.new outputs.new }
         ensures claims { list_of result ++ held_by self.new.phase ≡ claim ∷ held_by self.old.phase }
     {
         let Phase::Want((), link) = self.phase else {
@@ -48,8 +50,9 @@ impl<T: TokenKind> InputOf<T> {
 
     /// Whether `claim` would claim this output.
     pub fn can_claim(&self, registers: &Registers, output: usize, outputs: &OutputsOf<T>) -> bool
-        requires { output < 32 }
-        ensures { result ≡ is_some (claimed registers.now.settings self.now outputs.now output self.now.phase) }
+        requires { output < LINKS }
+        ensures { result ≡
+            is_some (claimed registers.now.settings self.now outputs.now output self.now.phase) }
     {
         let Phase::Want((), link) = self.phase else {
             return false;

@@ -6,7 +6,7 @@ ghost use Rattle.c104_link.specs.Steps.{tried};
 ghost use Rattle.c104_regs.specs.declared.settings.Settings.{Settings as TheSettings};
 ghost use Rattle.c104_switch.specs.Switch.{Input, Fresh, counted};
 ghost use Rattle.c104_switch.specs.Headers.{read, random_header};
-ghost use Rattle.c104_switch.specs.Turns.{turn, on_header, on_random, used, goes_on, after};
+ghost use Rattle.c104_switch.specs.Turns.{turn, IsTurn, on_header, on_random, used, goes_on, after};
 ghost use Rattle.c104_switch.specs.Holding.{held_by, was_done, spent};
 ghost use Rattle.c104_switch.specs.Phases.{Sinking, phase_of, output_of, HasRoom, IsReading, tokens_read};
 
@@ -33,7 +33,8 @@ impl<T: TokenKind> InputOf<T> {
     /// What the input does with its first token. It isn't ready, and nothing changes, where it has
     /// none, waits for an output, or streams to one that is full.
     pub fn turn(&mut self, settings: &Settings, word: u32, outputs: &mut OutputsOf<T>) -> Turn
-        ensures turned { ◌≡◌ {A = Bool × (Input T × List (Outgoing T))} (was_done result, (self.new, outputs.new)) (tried {S = Input T × List (Outgoing T)} (turn T.kind settings.now word self.old outputs.old) (self.old, outputs.old)) }
+        ensures turned { IsTurn T.kind settings.now word
+            self.old outputs.old (was_done result) self.new outputs.new }
         ensures claims { held_by self.old.phase ≡ spent result ++ held_by self.new.phase }
     {
         let Some(token) = self.buffer.first() else {
@@ -58,7 +59,8 @@ impl<T: TokenKind> InputOf<T> {
 
     /// Whether `turn` would do something, which no setting and no word decides.
     pub fn can_turn(&self, outputs: &OutputsOf<T>) -> bool
-        ensures { (settings : TheSettings) (word : ℕ) → result ≡ is_some (turn T.kind settings word self.now outputs.now) }
+        ensures { (settings : TheSettings) (word : ℕ) →
+            result ≡ is_some (turn T.kind settings word self.now outputs.now) }
     {
         if self.buffer.first().is_none() {
             return false;

@@ -7,7 +7,7 @@ use c104_regs::{RegFault, Registers};
 use c104_token::TokenKind;
 
 impl<T: TokenKind> SwitchOf<T> {
-    /// Throws all tokens and all packets under way away, gives all claims back, and sets all
+    /// Discards all tokens and all packets under way, gives all claims back, and sets all
     /// registers to their first values. The switch isn't started then. What its links granted and may
     /// send stays, since the other ends of their wires count on it.
     pub(crate) fn reset(&mut self)
