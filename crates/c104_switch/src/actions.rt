@@ -6,8 +6,8 @@ use crate::phase::Phase;
 use c104_control::ControlBytes;
 use c104_token::Token;
 
-/// What is asked of a switch. Links, inputs and outputs have the numbers 0 to 31; an action on any other
-/// is never ready.
+/// What is asked of a switch. Links, inputs and outputs have the numbers 0 to 31; an action on any
+/// other is never ready.
 #[derive(Debug, Drop, PartialEq, Eq)]
 pub enum Action {
     /// A token comes in over this link's wire. Not ready where none is granted.
@@ -15,19 +15,19 @@ pub enum Action {
     /// The first token of this link's output goes out over its wire. Not ready without a token or
     /// without a credit.
     Leave(usize),
-    /// This link grants eight more tokens to the other end of its wire. Not ready before the start, or
-    /// where its buffer hasn't room for all that would then be granted.
+    /// This link grants eight more tokens to the other end of its wire. Not ready before the start,
+    /// or where its buffer hasn't room for all that would then be granted.
     CreditOut(usize),
-    /// The other end of this link's wire has granted eight more tokens. Not ready where the credit would
-    /// then be above 64.
+    /// The other end of this link's wire has granted eight more tokens. Not ready where the credit
+    /// would then be above 64.
     CreditIn(usize),
     /// This input takes a turn with its first token. The word picks a random header, where the
-    /// input puts one before its packets. Not ready before the start, without a token, while the input
-    /// wants an output, or where the output that it streams to is full.
+    /// input puts one before its packets. Not ready before the start, without a token, while the
+    /// input wants an output, or where the output that it streams to is full.
     Input(usize, u32),
-    /// This input claims this output, one of the group that it wants. Not ready before the start, where
-    /// the input wants no group or another, where an input owns the output, or where the output hasn't
-    /// room for the header and doesn't delete it.
+    /// This input claims this output, one of the group that it wants. Not ready before the start,
+    /// where the input wants no group or another, where an input owns the output, or where the
+    /// output hasn't room for the header and doesn't delete it.
     Claim(usize, usize),
     /// A control command comes, as these bytes. It is always ready.
     Control(ControlBytes),

@@ -7,7 +7,8 @@ use crate::LINKS;
 use c104_crossbar::Group;
 use c104_regs::Registers;
 
-/// Whether an output is in the group of this link. Past the last link there is no group that has one.
+/// Whether an output is in the group of this link. Past the last link there is no group that has
+/// one.
 pub fn is_in_group(registers: &Registers, link: u8, output: usize) -> bool
     requires { output < LINKS }
     ensures { result ≡ in_group registers.now.settings link output }

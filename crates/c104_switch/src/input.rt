@@ -23,8 +23,8 @@ use std::alloc::Global;
 use std::marker::Model;
 pub use turns::Turn;
 
-/// The input side of a link: its buffer, and where it is with its packet. While a packet streams, the
-/// input holds the claim of the output.
+/// The input side of a link: its buffer, and where it is with its packet. While a packet streams,
+/// the input holds the claim of the output.
 pub struct InputOf<T: TokenKind> {
     buffer: InBufferOf<T>,
     phase: Phase<()>,
@@ -43,14 +43,19 @@ impl<T: TokenKind> Model for InputOf<T> {
     ghost use Rattle.c104_switch.specs.Phases.{phase_of, output_of, HasRoom};
 
     ghost view = { λ p.
-        record { buffer = p.buffer; phase = phase_of p.phase p.header; sunk = p.sunk; short = p.short } };
+        record {
+          buffer = p.buffer;
+          phase = phase_of p.phase p.header;
+          sunk = p.sunk;
+          short = p.short;
+        } };
 
     ghost invariant = { λ p. HasRoom (phase_of p.phase p.header) × (p.claim ≡ output_of p.phase) };
 }
 
 impl<T: TokenKind> InputOf<T> {
-    /// A new input: no token, no packet under way, and nothing granted or counted. It fails only when out
-    /// of memory.
+    /// A new input: no token, no packet under way, and nothing granted or counted. It fails only
+    /// when out of memory.
     pub fn new(alloc: Global, cap: usize) -> Result<Self, NoMemory>
         requires { IsValidCap cap }
         ensures { IfOk result (λ p. p ≡ first_input cap) }
@@ -82,8 +87,8 @@ impl<T: TokenKind> InputOf<T> {
         claim
     }
 
-    /// Discards the tokens, the packet under way and the counts. What is granted stays. The claim comes
-    /// back, if the input holds one.
+    /// Discards the tokens, the packet under way and the counts. What is granted stays. The claim
+    /// comes back, if the input holds one.
     pub fn reset(&mut self) -> Option<Claim>
         ensures reset { self.new ≡ reset_input self.old }
         ensures claims { list_of result ≡ held_by self.old.phase }

@@ -109,8 +109,8 @@ impl<T: TokenKind> InputsOf<T> {
         input.grant()
     }
 
-    /// A turn of an input, as its link's settings say. A terminator that ends a stream frees its output.
-    /// False where the input isn't ready, and then nothing changes.
+    /// A turn of an input, as its link's settings say. A terminator that ends a stream frees its
+    /// output. False where the input isn't ready, and then nothing changes.
     pub fn turn(
         &mut self,
         link: usize,
@@ -118,7 +118,8 @@ impl<T: TokenKind> InputsOf<T> {
         word: u32,
         outputs: &mut OutputsOf<T>,
     ) -> bool
-        ensures { IsTurnAt T.kind settings.now word link self.old outputs.old result self.new outputs.new }
+        ensures { IsTurnAt T.kind settings.now word link
+            self.old outputs.old result self.new outputs.new }
     {
         let list = &mut self.list;
         if link >= list.len() {
@@ -135,8 +136,8 @@ impl<T: TokenKind> InputsOf<T> {
         }
     }
 
-    /// An input claims an output of the group that it wants, which no input owns. False where it can't,
-    /// and then nothing changes.
+    /// An input claims an output of the group that it wants, which no input owns. False where it
+    /// can't, and then nothing changes.
     pub fn claim(
         &mut self,
         link: usize,
@@ -205,7 +206,8 @@ impl<T: TokenKind> InputsOf<T> {
         outputs: &OutputsOf<T>,
     ) -> bool
         requires { length registers.now.settings ≡ LINKS }
-        ensures { result ≡ is_some (claimed_at registers.now.settings self.now outputs.now link output) }
+        ensures { result ≡
+            is_some (claimed_at registers.now.settings self.now outputs.now link output) }
     {
         if !self.crossbar.free(output) {
             return false;

@@ -41,7 +41,7 @@ impl<T: TokenKind> OutputsOf<T> {
         Ok(OutputsOf { list })
     }
 
-    /// Throws the tokens of all outputs away. What they may send stays.
+    /// Discards the tokens of all outputs. What they may send stays.
     pub fn clear(&mut self)
         ensures { self.new ≡ map cleared_out self.old }
     {
@@ -86,8 +86,8 @@ impl<T: TokenKind> OutputsOf<T> {
         put(output, token)
     }
 
-    /// A header joins an output as a whole, where there is room for it, or is deleted there, where the
-    /// output's own link deletes headers.
+    /// A header joins an output as a whole, where there is room for it, or is deleted there, where
+    /// the output's own link deletes headers.
     pub fn put_header(&mut self, link: usize, settings: &Settings, header: &[T]) -> bool
         ensures { (result, self.new) ≡
             tried (at_place self.old link (put_header settings.now header.now)) self.old }

@@ -4,8 +4,8 @@
 /// of a header that is read, or that waits for an output.
 ///
 /// An input keeps a phase of nothing, `Phase<()>`, with the tokens of the header beside it, so that
-/// its size hangs on no kind of token. What can be seen of a link, [`LinkView`](crate::LinkView), has
-/// the header's bytes, and the contracts speak of the header's tokens.
+/// its size hangs on no kind of token. What can be seen of a link, [`LinkView`](crate::LinkView),
+/// has the header's bytes, and the contracts speak of the header's tokens.
 #[derive(Debug, Drop)]
 pub enum Phase<H> {
     /// It waits for a packet.

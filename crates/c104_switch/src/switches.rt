@@ -29,8 +29,8 @@ use std::marker::Model;
 
 /// One IMS C104, over any kind of token.
 ///
-/// An action answers false or None where it isn't ready, and then nothing has changed. No action takes
-/// memory. A switch can't be let go of while its inputs hold claims: `retire` spends them.
+/// An action answers false or None where it isn't ready, and then nothing has changed. No action
+/// takes memory. A switch can't be let go of while its inputs hold claims: `retire` spends them.
 pub struct SwitchOf<T: TokenKind> {
     registers: Registers,
     inputs: InputsOf<T>,
@@ -65,8 +65,8 @@ impl<T: TokenKind> Model for SwitchOf<T> {
 
 impl<T: TokenKind> SwitchOf<T> {
     /// A new switch: reset, not started, with no token anywhere, nothing granted and no credit. Its
-    /// input buffers have room for `cap` tokens each, one of 8, 16, .. 64. It fails only when out of
-    /// memory.
+    /// input buffers have room for `cap` tokens each, one of 8, 16, .. 64. It fails only when out
+    /// of memory.
     pub fn new(alloc: Global, cap: usize) -> Result<Self, NoMemory>
         requires { IsValidCap cap }
         ensures { IfOk result (λ s. s ≡ first_state cap) }
@@ -80,9 +80,9 @@ impl<T: TokenKind> SwitchOf<T> {
         })
     }
 
-    /// A switch that is started, with these settings at its 32 links, each in its range, and no token
-    /// anywhere. Its input buffers have room for `cap` tokens each, one of 8, 16, .. 64. It fails only
-    /// when out of memory.
+    /// A switch that is started, with these settings at its 32 links, each in its range, and no
+    /// token anywhere. Its input buffers have room for `cap` tokens each, one of 8, 16, .. 64. It
+    /// fails only when out of memory.
     pub fn placed(alloc: Global, cap: usize, settings: &[Settings]) -> Result<Self, NoMemory>
         requires cap { IsValidCap cap }
         requires links { length settings.now ≡ LINKS }
@@ -116,16 +116,16 @@ impl<T: TokenKind> SwitchOf<T> {
         self.registers.started()
     }
 
-    /// The crossbar: the outputs of the claims that inputs hold and its free outputs are the 32 outputs,
-    /// each once.
+    /// The crossbar: the outputs of the claims that inputs hold and its free outputs are the 32
+    /// outputs, each once.
     pub fn crossbar(&self) -> &Crossbar
         ensures { ArePartition (held self.now.inputs) result.now }
     {
         self.inputs.crossbar()
     }
 
-    /// The claim that an input holds: that of the output that it streams to, as long as it does. None
-    /// where the input's number is 32 or more.
+    /// The claim that an input holds: that of the output that it streams to, as long as it does.
+    /// None where the input's number is 32 or more.
     pub fn claim_held(&self, input: usize) -> Option<&Claim>
         ensures { option_copied result ≡ claim_at self.now input }
     {
@@ -163,16 +163,16 @@ impl<T: TokenKind> SwitchOf<T> {
         self.outputs.leave(link)
     }
 
-    /// A link grants eight more tokens to the other end of its wire, where the switch is started and
-    /// its buffer has room for all that would then be granted.
+    /// A link grants eight more tokens to the other end of its wire, where the switch is started
+    /// and its buffer has room for all that would then be granted.
     pub fn credit_out(&mut self, link: usize) -> bool
         ensures { (result, self.new) ≡ tried (credit_out self.old link) self.old }
     {
         self.registers.started() && self.inputs.grant(link)
     }
 
-    /// The other end of a link's wire has granted eight more tokens, where the link's credit is then at
-    /// most 64.
+    /// The other end of a link's wire has granted eight more tokens, where the link's credit is
+    /// then at most 64.
     pub fn credit_in(&mut self, link: usize) -> bool
         ensures { (result, self.new) ≡ tried (credit_in self.old link) self.old }
     {

@@ -83,10 +83,12 @@ impl<T: TokenKind> InputOf<T> {
         }
     }
 
-    /// Uses the first token of a packet that streams. A terminator ends it and gives the claim back.
+    /// Uses the first token of a packet that streams. A terminator ends it and gives the claim
+    /// back.
     fn stream(&mut self, ends: bool) -> Turn
         requires { IsSome (output_of self.old.phase) }
-        ensures used { self.new ≡ used self.old (if ends then Fresh else self.old.phase) false false }
+        ensures used { self.new ≡
+            used self.old (if ends then Fresh else self.old.phase) false false }
         ensures done { was_done result ≡ true }
         ensures claims { held_by self.old.phase ≡ spent result ++ held_by self.new.phase }
     {
@@ -104,7 +106,8 @@ impl<T: TokenKind> InputOf<T> {
     /// Reads the first token of a header, or one more.
     fn read_token(&mut self, settings: &Settings, token: T)
         requires { IsReading self.old.phase }
-        ensures { self.new ≡ on_header T.kind settings.now self.old (tokens_read self.old.phase) token }
+        ensures { self.new ≡
+            on_header T.kind settings.now self.old (tokens_read self.old.phase) token }
     {
         self.buffer.take();
         if is_end(token.plain()) {
