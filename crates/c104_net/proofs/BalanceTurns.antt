@@ -84,7 +84,7 @@ module _ {A : Type 0} where
       subst (λ (r : Input A × List (Outgoing A)). KeepsSides p qs r.0 r.1) same (record { granted = input; credit = outputs })
 
   -- a claim
-  pub claimed_keeps : (settings : _) (p : Input A) (qs : List (Outgoing A)) (o : ℕ) (phase : Phase A) (r : Input A × List (Outgoing A)) → claimed settings p qs o phase ≡ Some r → KeepsSides p qs r.0 r.1
+  pub claimed_keeps : (settings : _) (p : Input A) (qs : List (Outgoing A)) (o : ℕ) (phase : Phase (List A)) (r : Input A × List (Outgoing A)) → claimed settings p qs o phase ≡ Some r → KeepsSides p qs r.0 r.1
   claimed_keeps settings p qs o Fresh r is = cc
   claimed_keeps settings p qs o (Head b) r is = cc
   claimed_keeps settings p qs o (Want b g) r is = required (in_group settings g o) _ r is (λ joined more. given (slice_get settings o) _ r more (λ t own most. given (at_place qs o (put_header t b)) _ r most (λ rs made last.
@@ -103,7 +103,7 @@ module _ {A : Type 0} (kind : Kind A) where
   on_header_keeps s p b x = granted_either p.buffer.granted (is_end (kind.plain x)) (used p Fresh false true) (let r = read kind s (b ++ x ∷ []) in used p r.0 r.1 false) refl refl
 
   -- a turn, by the phase
-  by_phase_keeps : (s : _) (word : ℕ) (p : Input A) (qs : List (Outgoing A)) (phase : Phase A) (x : A) (r : Input A × List (Outgoing A)) → by_phase kind s word p qs phase x ≡ Some r → KeepsSides p qs r.0 r.1
+  by_phase_keeps : (s : _) (word : ℕ) (p : Input A) (qs : List (Outgoing A)) (phase : Phase (List A)) (x : A) (r : Input A × List (Outgoing A)) → by_phase kind s word p qs phase x ≡ Some r → KeepsSides p qs r.0 r.1
   by_phase_keeps s word p qs Fresh x r is = by_random (s.randomize && not (is_end (kind.plain x))) is
     where
       by_random : (random : Bool) → (if random then Some (on_random kind s word p, qs) else Some (on_header kind s p [] x, qs)) ≡ Some r → KeepsSides p qs r.0 r.1

@@ -1,5 +1,5 @@
 -- Which outputs can be claimed at all, by the crossbar's marks.
-use Rattle.std.proofs.Common.{◌≡◌, ◌<◌, ℕ, not, Bool, true, false, List, Option, Some, None, if◌then◌else◌, get_or, length, slice_get, slice_set, inl, inr, refl, ap, arith}
+use Rattle.std.proofs.Common.{◌≡◌, ◌<◌, ℕ, not, Bool, true, false, List, Option, Some, None, if◌then◌else◌, get_or, length, slice_get, slice_set, is_some, inl, inr, refl, sym, ◌∙◌, ap, arith}
 use Rattle.std.proofs.lemmas.Bool.{cases_lt}
 use Rattle.std.proofs.lemmas.Option.{slice_get_past}
 use Rattle.c104_crossbar.specs.Marks as crossbar
@@ -16,7 +16,7 @@ use Rattle.c104_switch.proofs.HeldClaims.{free_unowned, taken_owned}
 
 module _ {A : Type 0} (settings : List Settings) (ps : List (Input A)) (qs : List (Outgoing A)) (i o : ℕ) where
   -- no input claims an output past the last
-  claimed_past : slice_get settings o ≡ None → (p : Input A) (phase : Phase A) → claimed settings p qs o phase ≡ None
+  claimed_past : slice_get settings o ≡ None → (p : Input A) (phase : Phase (List A)) → claimed settings p qs o phase ≡ None
   claimed_past none p Fresh = refl
   claimed_past none p (Head b) = refl
   claimed_past none p (Want b g) = by_group (in_group settings g o)
@@ -48,6 +48,10 @@ module _ {A : Type 0} (settings : List Settings) (ps : List (Input A)) (qs : Lis
   -- and of one that it does, the input that wants it decides
   pub claimable : (marks : List Bool) → ArePartition (held ps) marks → is_free marks o ≡ true → claimed_at settings ps qs i o ≡ with_place ps i (λ p. claimed settings p qs o p.phase)
   claimable marks partition free = rw (free_unowned ps marks o partition free) refl
+
+  -- so it can be claimed where that input can, of the same inputs under another name
+  pub claimable_there : (list : List (Input A)) (marks : List Bool) → list ≡ ps → ArePartition (held ps) marks → is_free marks o ≡ true → is_some (with_place list i (λ p. claimed settings p qs o p.phase)) ≡ is_some (claimed_at settings ps qs i o)
+  claimable_there list marks same partition free = ap (λ (xs : List (Input A)). is_some (with_place xs i (λ p. claimed settings p qs o p.phase))) same ∙ sym (ap is_some (claimable marks partition free))
 
   -- by what the crossbar says of a claim
   pub unclaimed : (marks left : List Bool) → ArePartition (held ps) marks → length settings ≡ 32 → ◌≡◌ {A = Option ℕ × List Bool} (None, left) (crossbar.claimed marks o) → claimed_at settings ps qs i o ≡ None

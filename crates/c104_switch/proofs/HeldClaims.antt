@@ -3,7 +3,8 @@ use Rattle.std.proofs.Common.{◌≡◌, ◌==◌, ◌+◌, ◌<◌, ◌||◌, �
 use Rattle.std.proofs.lemmas.Bool.{or_parts}
 use Rattle.std.proofs.lemmas.Bool.Decides.{nat_tests}
 use Rattle.c104_crossbar.specs.Marks.{ArePartition, is_free, number, times}
-use Rattle.c104_switch.specs.Switch.{Phase, Fresh, Head, Want, Stream, Sinking, Input, is_stream, is_owned, first_input}
+use Rattle.c104_switch.specs.Phases.{is_stream}
+use Rattle.c104_switch.specs.Switch.{Phase, Fresh, Head, Want, Stream, Sinking, Input, is_owned, first_input}
 use Rattle.c104_switch.specs.Holding.{held_by, held}
 
 -- claims one after the other
@@ -55,7 +56,7 @@ module _ {A : Type 0} where
       omega arith
 
   -- an input that streams to an output holds its claim
-  holds_stream : (o : ℕ) (phase : Phase A) → times o (held_by phase) ≡ number (is_stream o phase)
+  holds_stream : (o : ℕ) (phase : Phase (List A)) → times o (held_by phase) ≡ number (is_stream o phase)
   holds_stream o Fresh = refl
   holds_stream o (Head b) = refl
   holds_stream o (Want b g) = refl

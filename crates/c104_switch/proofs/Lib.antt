@@ -1,15 +1,20 @@
+-- Laws for the crates above too: a step of one element of a list as a step of the list, and what a
+-- step that was made says of what it leaves.
 pub mod Lifts
-pub mod HeldClaims
-pub mod HeldSteps
-pub mod ClaimSteps
-pub mod GroupBits
-pub mod Readiness
 pub mod SoundnessSteps
-pub mod SoundnessBuffers
-pub mod SoundnessInputs
-pub mod SoundnessTurns
-pub mod Soundness
-pub mod SoundnessMethods
-pub mod SoundnessCommands
-pub mod PokeSteps
-pub mod Peeks
+-- Lemmas of this crate alone: the claims that inputs hold, groups by bits, readiness, what every switch
+-- keeps, and what commands leave.
+mod HeldClaims
+mod HeldSteps
+mod ClaimSteps
+mod Owners
+mod GroupBits
+mod Readiness
+mod SoundnessBuffers
+mod SoundnessInputs
+mod SoundnessTurns
+mod Soundness
+mod SoundnessMethods
+mod SoundnessCommands
+mod PokeSteps
+mod Peeks

@@ -3,7 +3,8 @@ use Rattle.std.proofs.Common.{◌≡◌, ◌==◌, ℕ, zero, suc, true, false, 
 use Rattle.std.proofs.lemmas.Bool.{or_parts}
 use Rattle.std.proofs.lemmas.Bool.Decides.{nat_tests}
 use Rattle.c104_link.specs.Buffers.{IsWithinCap, enter, grant}
-use Rattle.c104_switch.specs.Switch.{Phase, Stream, Input, is_stream, is_owned, with_buffer, accepted, granted}
+use Rattle.c104_switch.specs.Phases.{is_stream}
+use Rattle.c104_switch.specs.Switch.{Phase, Stream, Input, is_owned, with_buffer, accepted, granted}
 use Rattle.c104_switch.specs.Soundness.{IsExclusive}
 use Rattle.c104_switch.proofs.SoundnessSteps.{given, place_after_set}
 use Rattle.c104_switch.proofs.SoundnessBuffers.{within_enter, within_grant}
@@ -37,7 +38,7 @@ module _ {A : Type 0} where
   alone_at inputs i p here exclusive o to_p j q at_j to_q = exclusive i j o p q here at_j to_p to_q
 
   -- an input that streams to an output owns it
-  stream_owns : (o : ℕ) (phase : Phase A) → phase ≡ Stream o → is_stream o phase ≡ true
+  stream_owns : (o : ℕ) (phase : Phase (List A)) → phase ≡ Stream o → is_stream o phase ≡ true
   stream_owns o phase is = rw is (let same : (o == o) ≡ true = grind (arith, nat_tests) in same)
 
   -- no input streams to an output that is not owned

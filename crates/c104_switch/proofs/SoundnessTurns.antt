@@ -20,7 +20,7 @@ use Rattle.c104_switch.proofs.SoundnessInputs.{KeepsInput}
 
 module _ {A : Type 0} where
   -- a phase in which an input streams to no output
-  abbrev pub IsNoStream : Phase A → Type 0
+  abbrev pub IsNoStream : Phase (List A) → Type 0
   IsNoStream phase = (o : ℕ) → phase ≡ Stream o → ⊥
 
   -- outputs that came of others: as many, and within their limits as those were
@@ -40,7 +40,7 @@ module _ {A : Type 0} where
   }
 
   -- an input that uses its first token, or not, and streams to no output then
-  used_no_stream : (p : Input A) (phase : Phase A) (sunk short : Bool) → IsNoStream phase → KeepsInput p (used p phase sunk short)
+  used_no_stream : (p : Input A) (phase : Phase (List A)) (sunk short : Bool) → IsNoStream phase → KeepsInput p (used p phase sunk short)
   used_no_stream p phase sunk short none = record {
     within = within_without_first p.buffer;
     streams = λ o to. absurd (none o to);
@@ -61,7 +61,7 @@ module _ {A : Type 0} where
       by_delete false made = within_put_all b q r made within
 
   -- what a claim gives: the input streams to the output, and the outputs stay within their limits
-  pub claimed_gives : (settings : List Settings) (p : Input A) (qs : List (Outgoing A)) (o : ℕ) (phase : Phase A) (r : Input A × List (Outgoing A)) → claimed settings p qs o phase ≡ Some r → (streaming p o ≡ r.0) × KeepsOutputs qs r.1
+  pub claimed_gives : (settings : List Settings) (p : Input A) (qs : List (Outgoing A)) (o : ℕ) (phase : Phase (List A)) (r : Input A × List (Outgoing A)) → claimed settings p qs o phase ≡ Some r → (streaming p o ≡ r.0) × KeepsOutputs qs r.1
   claimed_gives settings p qs o Fresh r is = cc
   claimed_gives settings p qs o (Head b) r is = cc
   claimed_gives settings p qs o (Want b g) r is = required (in_group settings g o) _ r is (λ joined more. given (slice_get settings o) _ r more (λ t own most. given (at_place qs o (put_header t b)) _ r most (λ rs made last.
@@ -81,7 +81,7 @@ module _ {A : Type 0} (kind : Kind A) where
   read_no_stream : (s : Settings) (b : List A) → IsNoStream (read kind s b).0
   read_no_stream s b = by_length (nat_le (header_length s) (length b))
     where
-      by_length : (complete : Bool) → IsNoStream (if◌then◌else◌ {A = Phase A × Bool} complete (let selected = select s.table (header_value kind b) in (decided b selected, is_sink selected)) (Head b, false)).0
+      by_length : (complete : Bool) → IsNoStream (if◌then◌else◌ {A = Phase (List A) × Bool} complete (let selected = select s.table (header_value kind b) in (decided b selected, is_sink selected)) (Head b, false)).0
       by_length true = decided_no_stream b (select s.table (header_value kind b))
       by_length false = λ o is. cc
 
@@ -101,7 +101,7 @@ module _ {A : Type 0} (kind : Kind A) where
   }
 
   -- an input that uses a token of a packet whose header was read
-  keeps_after : (p : Input A) (x : A) (phase : Phase A) → p.phase ≡ phase → KeepsInput p (used p (after kind x phase) false false)
+  keeps_after : (p : Input A) (x : A) (phase : Phase (List A)) → p.phase ≡ phase → KeepsInput p (used p (after kind x phase) false false)
   keeps_after p x phase is = by_end (is_end (kind.plain x))
     where
       by_end : (ends : Bool) → KeepsInput p (used p (if ends then Fresh else phase) false false)
@@ -112,7 +112,7 @@ module _ {A : Type 0} (kind : Kind A) where
       }
 
   -- what a turn keeps, by the phase
-  keeps_by_phase : (s : Settings) (word : ℕ) (p : Input A) (qs : List (Outgoing A)) (phase : Phase A) (x : A) (r : Input A × List (Outgoing A)) → p.phase ≡ phase → by_phase kind s word p qs phase x ≡ Some r → KeepsInput p r.0 × KeepsOutputs qs r.1
+  keeps_by_phase : (s : Settings) (word : ℕ) (p : Input A) (qs : List (Outgoing A)) (phase : Phase (List A)) (x : A) (r : Input A × List (Outgoing A)) → p.phase ≡ phase → by_phase kind s word p qs phase x ≡ Some r → KeepsInput p r.0 × KeepsOutputs qs r.1
   keeps_by_phase s word p qs Fresh x r is made = by_random (s.randomize && not (is_end (kind.plain x))) made
     where
       by_random : (random : Bool) → (if random then Some (on_random kind s word p, qs) else Some (on_header kind s p [] x, qs)) ≡ Some r → KeepsInput p r.0 × KeepsOutputs qs r.1

@@ -1,10 +1,11 @@
 -- A claim: an input that wants a group gets one output of it, until its packet's terminator has passed.
-use Rattle.std.specs.Prelude.{ℕ, not, List, Option, Some, None, if◌then◌else◌, slice_get}
+use Rattle.std.specs.Prelude.{ℕ, Bool, not, List, Option, Some, None, if◌then◌else◌, slice_get}
 use Rattle.c104_link.specs.Steps.{◌>>=◌, ◌>>◌, require, at_place, with_place}
 use Rattle.c104_link.specs.Buffers as buffer
 use Rattle.c104_link.specs.Buffers.{Outgoing}
 use Rattle.c104_regs.specs.declared.settings.Settings.{Settings}
 use Rattle.c104_switch.specs.Group.{in_group}
+use Rattle.c104_switch.specs.Sides.{IsTried}
 use Rattle.c104_switch.specs.Switch.{Phase, Fresh, Head, Want, Stream, Sinking, Input, Switch, is_owned, with_sides}
 
 abbrev pub streaming : {A : Type 0} → Input A → ℕ → Input A
@@ -15,7 +16,7 @@ abbrev pub put_header : {A : Type 0} → Settings → List A → Outgoing A → 
 put_header s b q = if s.delete_header then Some q else buffer.put_all b q
 
 -- the header goes to output o of the group that is wanted, and the rest will follow
-abbrev pub claimed : {A : Type 0} → List Settings → Input A → List (Outgoing A) → ℕ → Phase A → Option (Input A × List (Outgoing A))
+abbrev pub claimed : {A : Type 0} → List Settings → Input A → List (Outgoing A) → ℕ → Phase (List A) → Option (Input A × List (Outgoing A))
 claimed settings p qs o (Want b g) = do
   require (in_group settings g o)
   t ← slice_get settings o
@@ -38,3 +39,11 @@ claim s i o = do
   require s.started
   r ← claimed_at s.settings s.inputs s.outputs i o
   Some (with_sides s r)
+
+-- a claim of output o was tried: whether it was made, and the input and the outputs after it, or as they were
+abbrev pub IsClaim : {A : Type 0} → List Settings → ℕ → Input A → List (Outgoing A) → Bool → Input A → List (Outgoing A) → Type 0
+IsClaim settings o p qs = IsTried (claimed settings p qs o p.phase) p qs
+
+-- the same of input i of all
+abbrev pub IsClaimAt : {A : Type 0} → List Settings → ℕ → ℕ → List (Input A) → List (Outgoing A) → Bool → List (Input A) → List (Outgoing A) → Type 0
+IsClaimAt settings i o ps qs = IsTried (claimed_at settings ps qs i o) ps qs

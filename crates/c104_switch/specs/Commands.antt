@@ -3,6 +3,7 @@ use Rattle.std.specs.Prelude.{ℕ, true, false, map, replicate, Result}
 use Rattle.c104_link.specs.Buffers.{cleared_in, cleared_out}
 use Rattle.c104_regs.specs.declared.faults.RegFault.{RegFault}
 use Rattle.c104_regs.specs.Registers as regs
+use Rattle.c104_regs.specs.declared.registers.TheConstants.{LINKS}
 use Rattle.c104_regs.specs.Settings.{reset_settings}
 use Rattle.c104_switch.specs.Switch.{Fresh, Input, Switch}
 use Rattle.c104_switch.specs.Peeks.{registers}
@@ -14,7 +15,7 @@ reset_input p = record { buffer = cleared_in p.buffer; phase = Fresh; sunk = 0; 
 -- a switch after a reset: not started, all registers at their first values, and no token anywhere. What
 -- its links granted and may send stays
 abbrev pub reset : {A : Type 0} → Switch A → Switch A
-reset s = record { started = false; settings = replicate 32 reset_settings; inputs = map reset_input s.inputs; outputs = map cleared_out s.outputs }
+reset s = record { started = false; settings = replicate LINKS reset_settings; inputs = map reset_input s.inputs; outputs = map cleared_out s.outputs }
 
 -- what a poke of v at address a answers, and the switch after it: one that is refused changes nothing
 abbrev pub poke : {A : Type 0} → Switch A → ℕ → ℕ → Result (Unit {0}) RegFault × Switch A

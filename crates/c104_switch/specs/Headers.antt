@@ -17,7 +17,7 @@ value (b ∷ bytes) = b + 256 * value bytes
 
 -- what follows a header that is complete: it wants the selected link's group, it is thrown away and
 -- the next bytes are the header, or the packet is dropped
-abbrev pub decided : {A : Type 0} → List A → Select → Phase A
+abbrev pub decided : {A : Type 0} → List A → Select → Phase (List A)
 decided b (Link g) = Want b g
 decided b Discard = Head []
 decided b Sink = Sinking
@@ -44,7 +44,7 @@ module _ {A : Type 0} (kind : Kind A) where
   header_value b = value (map (λ x. byte_of (kind.plain x)) b)
 
   -- the phase after these tokens of a header, and whether the packet is dropped
-  abbrev pub read : Settings → List A → Phase A × Bool
+  abbrev pub read : Settings → List A → Phase (List A) × Bool
   read s b =
       if nat_le (header_length s) (length b)
       then (let selected = select s.table (header_value b) in (decided b selected, is_sink selected))

@@ -1,25 +1,15 @@
 -- Which claims the inputs hold: an input holds the claim of an output exactly while it streams to it.
-use Rattle.std.specs.Prelude.{ℕ, Bool, true, false, List, [], ◌∷◌, ◌++◌, Option, Some, None, slice_get}
+use Rattle.std.specs.Prelude.{ℕ, Bool, true, false, List, [], ◌∷◌, ◌++◌, Option, slice_get}
 use Rattle.c104_link.specs.Steps.{◌>>=◌}
-use Rattle.c104_switch.specs.Switch.{Phase, Fresh, Head, Want, Stream, Sinking, Input, Switch}
+use Rattle.c104_crossbar.specs.Marks.{list_of}
+use Rattle.c104_switch.specs.Phases.{Phase, output_of}
+use Rattle.c104_switch.specs.Switch.{Input, Switch}
 use Rattle.c104_switch.specs.declared.input.turns.Turn.{Turn}
 use Rattle.c104_switch.specs.declared.input.turns.Turn.TheVariants as turn
 
--- the output that an input in this phase streams to
-abbrev pub streamed_to : {A : Type 0} → Phase A → Option ℕ
-streamed_to Fresh = None
-streamed_to (Head b) = None
-streamed_to (Want b g) = None
-streamed_to (Stream o) = Some o
-streamed_to Sinking = None
-
--- the claims that go with a phase
-abbrev pub held_by : {A : Type 0} → Phase A → List ℕ
-held_by Fresh = []
-held_by (Head b) = []
-held_by (Want b g) = []
-held_by (Stream o) = o ∷ []
-held_by Sinking = []
+-- the claims that go with a phase: one or none
+abbrev pub held_by : {H : Type 0} → Phase H → List ℕ
+held_by phase = list_of (output_of phase)
 
 -- the claims of all inputs, in order
 abbrev pub held : {A : Type 0} → List (Input A) → List ℕ
@@ -28,7 +18,7 @@ held (p ∷ inputs) = held_by p.phase ++ held inputs
 
 -- the claim that input i holds, if it does
 abbrev pub claim_at : {A : Type 0} → Switch A → ℕ → Option ℕ
-claim_at s i = slice_get s.inputs i >>= (λ p. streamed_to p.phase)
+claim_at s i = slice_get s.inputs i >>= (λ p. output_of p.phase)
 
 -- whether a turn did something
 abbrev pub was_done : Turn → Bool

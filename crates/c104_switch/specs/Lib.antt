@@ -1,9 +1,10 @@
 pub mod Group
+pub mod Phases
 pub mod Switch
 pub mod Headers
+pub mod Sides
 pub mod Turns
 pub mod Claims
-pub mod Stages
 pub mod Holding
 pub mod Views
 pub mod Peeks

@@ -3,6 +3,7 @@ use Rattle.std.specs.Prelude.{ℕ, zero, suc, ◌||◌, Bool, true, false, List,
 use Rattle.c104_link.specs.Buffers.{Outgoing}
 use Rattle.c104_regs.specs.declared.status.Status.{Status}
 use Rattle.c104_regs.specs.declared.faults.RegFault.{RegFault}
+use Rattle.c104_regs.specs.declared.registers.TheConstants.{LINKS}
 use Rattle.c104_regs.specs.Registers as regs
 use Rattle.c104_regs.specs.Registers.{RegisterBank}
 use Rattle.c104_regs.specs.Values.{reset_status}
@@ -10,7 +11,7 @@ use Rattle.c104_switch.specs.Switch.{Phase, Fresh, Head, Want, Stream, Sinking, 
 use Rattle.c104_switch.specs.Views.{owner_from}
 
 -- a packet is on its way through the input
-abbrev pub is_busy : {A : Type 0} → Phase A → Bool
+abbrev pub is_busy : {H : Type 0} → Phase H → Bool
 is_busy Fresh = false
 is_busy (Head b) = true
 is_busy (Want b g) = true
@@ -46,7 +47,7 @@ statuses_from s l (suc n) = link_status s l ∷ statuses_from s (suc l) n
 
 -- the registers of a switch
 abbrev pub registers : {A : Type 0} → Switch A → RegisterBank
-registers s = record { started = s.started; settings = s.settings; statuses = statuses_from s 0 32 }
+registers s = record { started = s.started; settings = s.settings; statuses = statuses_from s 0 LINKS }
 
 -- what an address reads, where there is a register
 abbrev pub peek : {A : Type 0} → Switch A → ℕ → Result ℕ RegFault

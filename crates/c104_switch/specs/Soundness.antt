@@ -1,6 +1,7 @@
--- What every switch keeps: 32 links, buffers within their bounds, and no output with two owners.
+-- What every switch keeps: as many links as there are, buffers within their bounds, and no output with two owners.
 use Rattle.std.specs.Prelude.{ℕ, ◌≡◌, List, Some, All, length, slice_get}
 use Rattle.c104_link.specs.Buffers.{IsWithinCap, IsWithinLimits}
+use Rattle.c104_regs.specs.declared.registers.TheConstants.{LINKS}
 use Rattle.c104_switch.specs.Switch.{Input, Stream, Switch}
 
 -- no two inputs stream to one output
@@ -8,9 +9,9 @@ abbrev pub IsExclusive : {A : Type 0} → List (Input A) → Type 0
 IsExclusive {A} inputs = (i j o : ℕ) (p q : Input A) → slice_get inputs i ≡ Some p → slice_get inputs j ≡ Some q → p.phase ≡ Stream o → q.phase ≡ Stream o → i ≡ j
 
 pub record IsSound {A : Type 0} (s : Switch A) : Type 0 where
-  pub settings : length s.settings ≡ 32
-  pub inputs : length s.inputs ≡ 32
-  pub outputs : length s.outputs ≡ 32
+  pub settings : length s.settings ≡ LINKS
+  pub inputs : length s.inputs ≡ LINKS
+  pub outputs : length s.outputs ≡ LINKS
   -- tokens and granted are at most the buffer's capacity
   pub within_cap : All (λ (p : Input A). IsWithinCap p.buffer) s.inputs
   -- at most eight tokens, and at most 64 credits

@@ -1,25 +1,20 @@
 -- The state of one switch, over any kind of token, and the actions on one side of one link.
 -- A step answers None where it is not ready.
-use Rattle.std.specs.Prelude.{ℕ, ◌+◌, ◌==◌, ◌||◌, Bool, true, false, List, [], ◌∷◌, Option, Some, min, replicate}
+use Rattle.std.specs.Prelude.{ℕ, ◌+◌, ◌-◌, ◌^◌, ◌||◌, Bool, true, false, List, [], ◌∷◌, Option, Some, min, replicate}
 use Rattle.c104_link.specs.Steps.{◌>>=◌, ◌>>◌, require, at_place, from_place}
 use Rattle.c104_link.specs.Buffers as buffer
 use Rattle.c104_link.specs.Buffers.{Incoming, Outgoing, empty_in, empty_out}
 use Rattle.c104_regs.specs.declared.settings.Settings.{Settings}
+use Rattle.c104_regs.specs.declared.registers.TheConstants.{LINKS}
 use Rattle.c104_regs.specs.Settings.{reset_settings}
+pub use Rattle.c104_switch.specs.Phases.{Phase, Fresh, Head, Want, Stream, Sinking}
+use Rattle.c104_switch.specs.Phases.{is_stream}
 
--- what an input does with its next token: it waits for a packet, reads a header of which it has these
--- tokens, wants an output of a link's group for this header, streams to an output, or drops the packet
-pub data Phase (A : Type 0) : Type 0 where
-  Fresh : Phase A
-  Head : List A → Phase A
-  Want : List A → ℕ → Phase A
-  Stream : ℕ → Phase A
-  Sinking : Phase A
-
--- the input side of a link: its buffer, its phase, and how many packets it dropped and found too short
+-- the input side of a link: its buffer, what it does with its next token (with the tokens of a header that
+-- it reads or that waits), and how many packets it dropped and found too short
 pub record Input (A : Type 0) : Type 0 where
   pub buffer : Incoming A
-  pub phase : Phase A
+  pub phase : Phase (List A)
   pub sunk : ℕ
   pub short : ℕ
 
@@ -30,18 +25,14 @@ pub record Switch (A : Type 0) : Type 0 where
   pub inputs : List (Input A)
   pub outputs : List (Outgoing A)
 
--- a count that stays at its largest value
+-- the largest count: what a register of 32 bits holds
+abbrev pub largest_count : ℕ
+largest_count = 2 ^ 32 - 1
+
+-- a count, or one more where there is one; it stays at the largest
 abbrev pub counted : ℕ → Bool → ℕ
 counted n false = n
-counted n true = min (n + 1) 4294967295
-
--- whether this phase streams to output o
-abbrev pub is_stream : {A : Type 0} → ℕ → Phase A → Bool
-is_stream o (Stream p) = p == o
-is_stream o Fresh = false
-is_stream o (Head b) = false
-is_stream o (Want b g) = false
-is_stream o Sinking = false
+counted n true = min (n + 1) largest_count
 
 -- whether some input streams to output o, and so owns it
 abbrev pub is_owned : {A : Type 0} → List (Input A) → ℕ → Bool
@@ -101,8 +92,13 @@ first_input cap = record { buffer = empty_in cap; phase = Fresh; sunk = 0; short
 
 -- a switch at first, with these settings: nothing anywhere
 abbrev pub first_with : {A : Type 0} → ℕ → List Settings → Bool → Switch A
-first_with cap settings started = record { started = started; settings = settings; inputs = replicate 32 (first_input cap); outputs = replicate 32 empty_out }
+first_with cap settings started = record {
+  started = started;
+  settings = settings;
+  inputs = replicate LINKS (first_input cap);
+  outputs = replicate LINKS empty_out;
+}
 
 -- a new switch: reset, and not started
 abbrev pub first_state : {A : Type 0} → ℕ → Switch A
-first_state cap = first_with cap (replicate 32 reset_settings) false
+first_state cap = first_with cap (replicate LINKS reset_settings) false

@@ -4,10 +4,8 @@ use Rattle.c104_token.specs.Tokens.{byte_of}
 use Rattle.c104_token.specs.Kinds.{Kind}
 use Rattle.c104_link.specs.Steps.{◌>>=◌}
 use Rattle.c104_link.specs.Buffers.{Outgoing}
-use Rattle.c104_switch.specs.Switch as state
-use Rattle.c104_switch.specs.Switch.{Input, Switch, is_stream}
-use Rattle.c104_switch.specs.declared.actions.Phase.{Phase}
-use Rattle.c104_switch.specs.declared.actions.Phase.TheVariants as shown
+use Rattle.c104_switch.specs.Phases.{Phase, is_stream, with_header}
+use Rattle.c104_switch.specs.Switch.{Input, Switch}
 use Rattle.c104_switch.specs.declared.actions.LinkView.{LinkView}
 
 -- the first input, counted from n, that streams to output o
@@ -21,12 +19,8 @@ module _ {A : Type 0} (kind : Kind A) where
   bytes_of header = map (λ x. byte_of (kind.plain x)) header
 
   -- a phase, with the header's bytes
-  abbrev pub phase_shown : state.Phase A → Phase
-  phase_shown state.Fresh = shown.Fresh
-  phase_shown (state.Head b) = shown.Head (bytes_of b)
-  phase_shown (state.Want b g) = shown.Want (bytes_of b) g
-  phase_shown (state.Stream o) = shown.Stream o
-  phase_shown state.Sinking = shown.Sinking
+  abbrev pub phase_shown : Phase (List A) → Phase (List ℕ)
+  phase_shown phase = with_header bytes_of phase
 
   -- what is seen of a link by its two sides
   abbrev pub sides_shown : List (Input A) → ℕ → Input A → Outgoing A → LinkView

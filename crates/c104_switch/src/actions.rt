@@ -2,25 +2,32 @@
 ghost use Rattle.std.specs.Prelude.{◌≡◌};
 
 use crate::header::HeaderBytes;
+use crate::phase::Phase;
 use c104_control::ControlBytes;
 use c104_token::Token;
 
-/// What is asked of a switch. Links, inputs and outputs are numbered from 0; a number of 32 or more
-/// is never ready.
+/// What is asked of a switch. Links, inputs and outputs have the numbers 0 to 31; an action on any
+/// other is never ready.
 #[derive(Debug, Drop, PartialEq, Eq)]
 pub enum Action {
-    /// A token comes in over this link's wire.
+    /// A token comes in over this link's wire. Not ready where none is granted.
     Enter(usize, Token),
-    /// The first token of this link's output goes out over its wire.
+    /// The first token of this link's output goes out over its wire. Not ready without a token or
+    /// without a credit.
     Leave(usize),
-    /// This link grants eight more tokens to the other end of its wire.
+    /// This link grants eight more tokens to the other end of its wire. Not ready before the start,
+    /// or where its buffer hasn't room for all that would then be granted.
     CreditOut(usize),
-    /// The other end of this link's wire has granted eight more tokens.
+    /// The other end of this link's wire has granted eight more tokens. Not ready where the credit
+    /// would then be above 64.
     CreditIn(usize),
     /// This input takes a turn with its first token. The word picks a random header, where the
-    /// input puts one before its packets.
+    /// input puts one before its packets. Not ready before the start, without a token, while the
+    /// input wants an output, or where the output that it streams to is full.
     Input(usize, u32),
-    /// This input claims this output, one of the group that it wants.
+    /// This input claims this output, one of the group that it wants. Not ready before the start,
+    /// where the input wants no group or another, where an input owns the output, or where the
+    /// output hasn't room for the header and doesn't delete it.
     Claim(usize, usize),
     /// A control command comes, as these bytes. It is always ready.
     Control(ControlBytes),
@@ -39,21 +46,6 @@ pub enum Reply {
     Control(ControlBytes),
 }
 
-/// What an input does with its next token.
-#[derive(Debug, Drop)]
-pub enum Phase {
-    /// It waits for a packet.
-    Fresh,
-    /// It reads a header, of which it has these bytes: none yet after a discarded one.
-    Head(HeaderBytes),
-    /// It wants an output of this link's group for the header.
-    Want(HeaderBytes, u8),
-    /// It streams to this output.
-    Stream(usize),
-    /// It drops the packet.
-    Sinking,
-}
-
 /// What can be seen of one link.
 #[derive(Debug, Drop)]
 pub struct LinkView {
@@ -65,8 +57,8 @@ pub struct LinkView {
     pub credit: usize,
     /// How many more tokens may come in, 0 to 64.
     pub granted: usize,
-    /// The input that streams to this output, if one does.
+    /// The input that streams to this output, 0 to 31, if one does.
     pub owner: Option<usize>,
     /// What the input does with its next token.
-    pub phase: Phase,
+    pub phase: Phase<HeaderBytes>,
 }

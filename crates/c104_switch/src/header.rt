@@ -1,6 +1,7 @@
 //! The header of a packet that an input reads: its tokens, and the number that they say.
 ghost use Rattle.std.specs.Prelude.{◌≡◌, ◌<◌, ◌≤◌, ◌+◌, ◌∷◌, ◌++◌, [], length, map, All, IfOk};
 ghost use Rattle.c104_token.specs.Tokens.{byte_of};
+ghost use Rattle.c104_switch.specs.declared.header.TheConstants.{HEADER_LIMIT};
 ghost use Rattle.c104_switch.specs.Headers.{header_value, value};
 
 use arrayvec::ArrayVec;
@@ -14,7 +15,7 @@ const HEADER_LIMIT: usize = 2;
 /// The bytes of a header, low byte first: at most two.
 #[derive(Debug, Drop)]
 pub struct HeaderBytes {
-    bytes: ArrayVec<u8, 2>,
+    bytes: ArrayVec<u8, HEADER_LIMIT>,
 }
 
 impl Model for HeaderBytes {
@@ -29,7 +30,7 @@ impl HeaderBytes {
     /// The bytes, low byte first: at most two, each of which is below 256.
     pub fn as_slice(&self) -> &[u8]
         ensures value { result.now ≡ self.now }
-        ensures few { length self.now ≤ 2 }
+        ensures few { length self.now ≤ HEADER_LIMIT }
         ensures range { All (λ byte. byte < 256) self.now }
     {
         // The proof reads the range of the lent slice by this name.
@@ -37,7 +38,7 @@ impl HeaderBytes {
         slice
     }
 
-    /// The number that the bytes say.
+    /// The number that the bytes say, 0 to 65,535.
     pub fn value(&self) -> u32
         ensures { result ≡ value self.now }
     {
@@ -64,11 +65,14 @@ impl<T: TokenKind> Model for HeaderOf<T> {
 
     ghost view = { λ header. header.tokens.items };
 
-    ghost invariant = { λ header. (vec_len header.tokens ≤ 2) × (2 ≤ vec_capacity header.tokens) };
+    ghost use Rattle.c104_switch.specs.declared.header.TheConstants.{HEADER_LIMIT};
+
+    ghost invariant = { λ header.
+        (vec_len header.tokens ≤ HEADER_LIMIT) × (HEADER_LIMIT ≤ vec_capacity header.tokens) };
 }
 
 impl<T: TokenKind> HeaderOf<T> {
-    /// No tokens yet.
+    /// No tokens yet. It fails only when out of memory.
     pub fn new(alloc: Global) -> Result<Self, NoMemory>
         ensures { IfOk result (λ header. header ≡ []) }
     {
@@ -79,7 +83,7 @@ impl<T: TokenKind> HeaderOf<T> {
     /// How many tokens were read: at most two.
     pub fn len(&self) -> usize
         ensures len { result ≡ length self.now }
-        ensures within { length self.now ≤ 2 }
+        ensures within { length self.now ≤ HEADER_LIMIT }
     {
         self.tokens.len()
     }
@@ -100,7 +104,7 @@ impl<T: TokenKind> HeaderOf<T> {
 
     /// Reads one more token.
     pub fn push(&mut self, token: T)
-        requires { length self.old < 2 }
+        requires { length self.old < HEADER_LIMIT }
         ensures { self.new ≡ self.old ++ token ∷ [] }
     {
         let Ok(()) = self.tokens.push(token) else {
@@ -119,7 +123,7 @@ impl<T: TokenKind> HeaderOf<T> {
         HeaderBytes { bytes }
     }
 
-    /// The number that the tokens say.
+    /// The number that the tokens say, 0 to 65,535.
     pub fn value(&self) -> u32
         ensures { result ≡ header_value T.kind self.now }
     {

@@ -4,8 +4,9 @@ ghost use Rattle.std.specs.Option.{option_copied};
 ghost use Rattle.c104_crossbar.specs.Marks.{list_of};
 ghost use Rattle.c104_link.specs.Buffers.{Incoming, empty_in, IsValidCap, IsWithinCap};
 ghost use Rattle.c104_link.specs.Steps.{tried};
-ghost use Rattle.c104_switch.specs.Switch.{Input, accepted, granted, first_input, is_stream};
-ghost use Rattle.c104_switch.specs.Holding.{held_by, streamed_to};
+ghost use Rattle.c104_switch.specs.Switch.{Input, accepted, granted, first_input};
+ghost use Rattle.c104_switch.specs.Phases.{is_stream, output_of};
+ghost use Rattle.c104_switch.specs.Holding.{held_by};
 ghost use Rattle.c104_switch.specs.Peeks.{is_busy};
 ghost use Rattle.c104_switch.specs.Views.{phase_shown};
 ghost use Rattle.c104_switch.specs.Commands.{reset_input};
@@ -13,8 +14,8 @@ ghost use Rattle.c104_switch.specs.Commands.{reset_input};
 mod claims;
 mod turns;
 
-use crate::actions::Phase;
-use crate::header::HeaderOf;
+use crate::header::{HeaderBytes, HeaderOf};
+use crate::phase::Phase;
 use c104_crossbar::Claim;
 use c104_link::InBufferOf;
 use c104_token::{NoMemory, TokenKind};
@@ -22,27 +23,11 @@ use std::alloc::Global;
 use std::marker::Model;
 pub use turns::Turn;
 
-/// Where an input is with its packet. The tokens of a header that it reads or that waits are kept
-/// beside it.
-#[derive(Clone, Copy, Debug, PartialEq, Eq)]
-pub enum Stage {
-    /// No packet is under way.
-    Fresh,
-    /// A header is read.
-    Head,
-    /// The header waits for an output of the group of this link.
-    Want(u8),
-    /// The packet streams to this output.
-    Stream(usize),
-    /// The packet is dropped.
-    Sinking,
-}
-
-/// The input side of a link: its buffer, and where it is with its packet. While a packet streams, the
-/// input holds the claim of the output.
+/// The input side of a link: its buffer, and where it is with its packet. While a packet streams,
+/// the input holds the claim of the output.
 pub struct InputOf<T: TokenKind> {
     buffer: InBufferOf<T>,
-    stage: Stage,
+    phase: Phase<()>,
     header: HeaderOf<T>,
     claim: Option<Claim>,
     sunk: u32,
@@ -55,15 +40,22 @@ impl<T: TokenKind> Model for InputOf<T> {
     ghost Value = { Input T };
 
     ghost use Rattle.std.specs.Prelude.{◌≡◌};
-    ghost use Rattle.c104_switch.specs.Stages.{phase_of, claim_of, HasRoom};
+    ghost use Rattle.c104_switch.specs.Phases.{phase_of, output_of, HasRoom};
 
-    ghost view = { λ p. record { buffer = p.buffer; phase = phase_of p.stage p.header; sunk = p.sunk; short = p.short } };
+    ghost view = { λ p.
+        record {
+          buffer = p.buffer;
+          phase = phase_of p.phase p.header;
+          sunk = p.sunk;
+          short = p.short;
+        } };
 
-    ghost invariant = { λ p. HasRoom p.stage p.header × (p.claim ≡ claim_of p.stage) };
+    ghost invariant = { λ p. HasRoom (phase_of p.phase p.header) × (p.claim ≡ output_of p.phase) };
 }
 
 impl<T: TokenKind> InputOf<T> {
-    /// An input at first.
+    /// A new input: no token, no packet under way, and nothing granted or counted. It fails only
+    /// when out of memory.
     pub fn new(alloc: Global, cap: usize) -> Result<Self, NoMemory>
         requires { IsValidCap cap }
         ensures { IfOk result (λ p. p ≡ first_input cap) }
@@ -72,7 +64,7 @@ impl<T: TokenKind> InputOf<T> {
         let header = HeaderOf::new(alloc)?;
         Ok(InputOf {
             buffer,
-            stage: Stage::Fresh,
+            phase: Phase::Fresh,
             header,
             claim: None,
             sunk: 0,
@@ -86,7 +78,7 @@ impl<T: TokenKind> InputOf<T> {
     {
         let InputOf {
             buffer: _,
-            stage: _,
+            phase: _,
             header: _,
             claim,
             sunk: _,
@@ -95,28 +87,28 @@ impl<T: TokenKind> InputOf<T> {
         claim
     }
 
-    /// Throws the tokens, the packet under way and the counts away. What is granted stays. The claim
+    /// Discards the tokens, the packet under way and the counts. What is granted stays. The claim
     /// comes back, if the input holds one.
     pub fn reset(&mut self) -> Option<Claim>
         ensures reset { self.new ≡ reset_input self.old }
         ensures claims { list_of result ≡ held_by self.old.phase }
     {
         self.buffer.clear();
-        self.stage = Stage::Fresh;
+        self.phase = Phase::Fresh;
         self.header.clear();
         self.sunk = 0;
         self.short = 0;
         self.claim.take()
     }
 
-    /// Takes a token in.
+    /// Takes a token in, where one is granted.
     pub fn accept(&mut self, token: T) -> bool
         ensures { (result, self.new) ≡ tried (accepted token self.old) self.old }
     {
         self.buffer.accept(token).is_ok()
     }
 
-    /// Grants eight more tokens.
+    /// Grants eight more tokens, where there is room for all that would then be granted.
     pub fn grant(&mut self) -> bool
         ensures { (result, self.new) ≡ tried (granted self.old) self.old }
     {
@@ -139,14 +131,14 @@ impl<T: TokenKind> InputOf<T> {
         self.buffer.granted()
     }
 
-    /// How many packets the input dropped.
+    /// How many packets the input dropped since the last reset, at most 2³² - 1.
     pub fn sunk(&self) -> u32
         ensures { result ≡ self.now.sunk }
     {
         self.sunk
     }
 
-    /// How many packets the input found too short.
+    /// How many packets the input found too short since the last reset, at most 2³² - 1.
     pub fn short(&self) -> u32
         ensures { result ≡ self.now.short }
     {
@@ -157,28 +149,28 @@ impl<T: TokenKind> InputOf<T> {
     pub fn is_busy(&self) -> bool
         ensures { result ≡ is_busy self.now.phase }
     {
-        match self.stage {
-            Stage::Fresh => false,
-            _ => true,
+        match self.phase {
+            Phase::Fresh => false,
+            Phase::Head(()) | Phase::Want((), _) | Phase::Stream(_) | Phase::Sinking => true,
         }
     }
 
     /// What the input does with its next token.
-    pub fn phase(&self) -> Phase
+    pub fn phase(&self) -> Phase<HeaderBytes>
         ensures { result ≡ phase_shown T.kind self.now.phase }
     {
-        match self.stage {
-            Stage::Fresh => Phase::Fresh,
-            Stage::Head => Phase::Head(self.header.bytes()),
-            Stage::Want(link) => Phase::Want(self.header.bytes(), link),
-            Stage::Stream(output) => Phase::Stream(output),
-            Stage::Sinking => Phase::Sinking,
+        match self.phase {
+            Phase::Fresh => Phase::Fresh,
+            Phase::Head(()) => Phase::Head(self.header.bytes()),
+            Phase::Want((), link) => Phase::Want(self.header.bytes(), link),
+            Phase::Stream(output) => Phase::Stream(output),
+            Phase::Sinking => Phase::Sinking,
         }
     }
 
     /// The claim that the input holds, which is that of the output that the packet streams to.
     pub fn claim_held(&self) -> Option<&Claim>
-        ensures { option_copied result ≡ streamed_to self.now.phase }
+        ensures { option_copied result ≡ output_of self.now.phase }
     {
         self.claim.as_ref()
     }
@@ -187,9 +179,9 @@ impl<T: TokenKind> InputOf<T> {
     pub fn is_stream(&self, output: usize) -> bool
         ensures { result ≡ is_stream output self.now.phase }
     {
-        match self.stage {
-            Stage::Stream(owned) => owned == output,
-            Stage::Fresh | Stage::Head | Stage::Want(_) | Stage::Sinking => false,
+        match self.phase {
+            Phase::Stream(owned) => owned == output,
+            Phase::Fresh | Phase::Head(()) | Phase::Want((), _) | Phase::Sinking => false,
         }
     }
 

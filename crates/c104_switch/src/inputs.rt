@@ -1,13 +1,14 @@
 //! The input sides of all links, and the crossbar whose outputs they claim.
-ghost use Rattle.std.specs.Prelude.{◌≡◌, ◌<◌, ℕ, Bool, List, [], length, map, replicate, slice_get, IfOk, IfSome, is_some};
+ghost use Rattle.std.specs.Prelude.{◌≡◌, ◌<◌, ℕ, [], length, map, replicate, slice_get, IfOk, IfSome, is_some};
 ghost use Rattle.std.specs.Option.{option_copied};
 ghost use Rattle.c104_crossbar.specs.Marks.{ArePartition};
-ghost use Rattle.c104_link.specs.Buffers.{Outgoing, IsValidCap};
-ghost use Rattle.c104_link.specs.Steps.{tried, at_place, with_place};
+ghost use Rattle.c104_link.specs.Buffers.{IsValidCap};
+ghost use Rattle.c104_link.specs.Steps.{tried, at_place};
+ghost use Rattle.c104_regs.specs.declared.registers.TheConstants.{LINKS};
 ghost use Rattle.c104_regs.specs.declared.settings.Settings.{Settings as TheSettings};
-ghost use Rattle.c104_switch.specs.Switch.{Input, accepted, granted, first_input, is_owned};
-ghost use Rattle.c104_switch.specs.Turns.{turn};
-ghost use Rattle.c104_switch.specs.Claims.{claimed_at};
+ghost use Rattle.c104_switch.specs.Switch.{accepted, granted, first_input, is_owned};
+ghost use Rattle.c104_switch.specs.Turns.{turn_at, IsTurnAt};
+ghost use Rattle.c104_switch.specs.Claims.{claimed_at, IsClaimAt};
 ghost use Rattle.c104_switch.specs.Holding.{held};
 ghost use Rattle.c104_switch.specs.Views.{owner_from};
 ghost use Rattle.c104_switch.specs.Commands.{reset_input};
@@ -43,10 +44,10 @@ impl<T: TokenKind> Model for InputsOf<T> {
 }
 
 impl<T: TokenKind> InputsOf<T> {
-    /// The inputs at first.
+    /// New inputs: no token, and nothing granted. It fails only when out of memory.
     pub fn new(alloc: Global, cap: usize) -> Result<Self, NoMemory>
         requires { IsValidCap cap }
-        ensures { IfOk result (λ ps. ps ≡ replicate 32 (first_input cap)) }
+        ensures { IfOk result (λ ps. ps ≡ replicate LINKS (first_input cap)) }
     {
         let mut list = Vec::with_capacity(alloc, LINKS)?;
         for _ in 0..LINKS {
@@ -84,7 +85,7 @@ impl<T: TokenKind> InputsOf<T> {
         &self.crossbar
     }
 
-    /// An input takes a token in.
+    /// An input takes a token in, where one is granted.
     pub fn accept(&mut self, link: usize, token: T) -> bool
         ensures { (result, self.new) ≡ tried (at_place self.old link (accepted token)) self.old }
     {
@@ -96,7 +97,7 @@ impl<T: TokenKind> InputsOf<T> {
         input.accept(token)
     }
 
-    /// An input grants eight more tokens.
+    /// An input grants eight more tokens, where it has room for all that would then be granted.
     pub fn grant(&mut self, link: usize) -> bool
         ensures { (result, self.new) ≡ tried (at_place self.old link granted) self.old }
     {
@@ -108,7 +109,8 @@ impl<T: TokenKind> InputsOf<T> {
         input.grant()
     }
 
-    /// A turn of an input. A terminator that ends a stream frees its output.
+    /// A turn of an input, as its link's settings say. A terminator that ends a stream frees its
+    /// output. False where the input isn't ready, and then nothing changes.
     pub fn turn(
         &mut self,
         link: usize,
@@ -116,7 +118,8 @@ impl<T: TokenKind> InputsOf<T> {
         word: u32,
         outputs: &mut OutputsOf<T>,
     ) -> bool
-        ensures { ◌≡◌ {A = Bool × (List (Input T) × List (Outgoing T))} (result, (self.new, outputs.new)) (tried {S = List (Input T) × List (Outgoing T)} (with_place self.old link (λ p. turn T.kind settings.now word p outputs.old)) (self.old, outputs.old)) }
+        ensures { IsTurnAt T.kind settings.now word link
+            self.old outputs.old result self.new outputs.new }
     {
         let list = &mut self.list;
         if link >= list.len() {
@@ -133,7 +136,8 @@ impl<T: TokenKind> InputsOf<T> {
         }
     }
 
-    /// An input claims an output, which no input owns.
+    /// An input claims an output of the group that it wants, which no input owns. False where it
+    /// can't, and then nothing changes.
     pub fn claim(
         &mut self,
         link: usize,
@@ -141,8 +145,9 @@ impl<T: TokenKind> InputsOf<T> {
         output: usize,
         outputs: &mut OutputsOf<T>,
     ) -> bool
-        requires { length registers.now.settings ≡ 32 }
-        ensures { ◌≡◌ {A = Bool × (List (Input T) × List (Outgoing T))} (result, (self.new, outputs.new)) (tried {S = List (Input T) × List (Outgoing T)} (claimed_at registers.now.settings self.old outputs.old link output) (self.old, outputs.old)) }
+        requires { length registers.now.settings ≡ LINKS }
+        ensures { IsClaimAt registers.now.settings link output
+            self.old outputs.old result self.new outputs.new }
     {
         let list = &mut self.list;
         if link >= list.len() {
@@ -183,7 +188,8 @@ impl<T: TokenKind> InputsOf<T> {
 
     /// Whether `turn` would do something.
     pub fn can_turn(&self, link: usize, outputs: &OutputsOf<T>) -> bool
-        ensures { (settings : TheSettings) (word : ℕ) → result ≡ is_some (with_place self.now link (λ p. turn T.kind settings word p outputs.now)) }
+        ensures { (settings : TheSettings) (word : ℕ) →
+            result ≡ is_some (turn_at T.kind settings word self.now outputs.now link) }
     {
         match self.list.get(link) {
             Some(input) => input.can_turn(outputs),
@@ -199,8 +205,9 @@ impl<T: TokenKind> InputsOf<T> {
         output: usize,
         outputs: &OutputsOf<T>,
     ) -> bool
-        requires { length registers.now.settings ≡ 32 }
-        ensures { result ≡ is_some (claimed_at registers.now.settings self.now outputs.now link output) }
+        requires { length registers.now.settings ≡ LINKS }
+        ensures { result ≡
+            is_some (claimed_at registers.now.settings self.now outputs.now link output) }
     {
         if !self.crossbar.free(output) {
             return false;
@@ -218,7 +225,7 @@ impl<T: TokenKind> InputsOf<T> {
         self.list.get(link)
     }
 
-    /// The input that streams to this output.
+    /// The input that streams to this output, if one does.
     pub fn owner(&self, output: usize) -> Option<usize>
         ensures owner { result ≡ owner_from 0 self.now output }
         ensures inside { IfSome result (λ place. place < length self.now) }
@@ -235,12 +242,7 @@ impl<T: TokenKind> InputsOf<T> {
     pub fn is_owned(&self, output: usize) -> bool
         ensures { result ≡ is_owned self.now output }
     {
-        for input in &self.list {
-            if input.is_stream(output) {
-                return true;
-            }
-        }
-        false
+        self.owner(output).is_some()
     }
 }
 

@@ -1,4 +1,15 @@
 //! One IMS C104: 32 links and the crossbar that joins any input to any output.
+//!
+//! - [`SwitchOf`] is a switch over any kind of token, and [`Switch`] one of plain tokens. It keeps,
+//!   as its invariant: settings, an input and an output for each link; buffers within their
+//!   capacities and credits within 64; and no output that two inputs stream to.
+//! - Its inputs keep the crossbar: just the outputs that they hold claims of count as taken. An
+//!   input holds the claim of an output exactly while it streams to it, and while it reads a header
+//!   it has room for one more token of it.
+//! - [`Action`] is what is asked of a switch, and [`Reply`] what it answers. No action takes
+//!   memory, and one that isn't ready, or a command that is refused, changes nothing.
+//! - [`LinkView`] is what can be seen of a link: its levels, and the [`Phase`] that its input is
+//!   in, with the [`HeaderBytes`], at most two, of a header that is read or that waits.
 #![tactic(auto)]
 
 mod actions;
@@ -7,16 +18,22 @@ mod header;
 mod input;
 mod inputs;
 mod outputs;
+mod phase;
 mod ready;
 mod step;
 mod switches;
 
-pub use actions::{Action, LinkView, Phase, Reply};
+pub use actions::{Action, LinkView, Reply};
+pub use c104_regs::LINKS;
 pub use header::HeaderBytes;
+pub use phase::Phase;
 pub use switches::{Switch, SwitchOf};
 
-/// How many links a switch has.
-pub const LINKS: usize = 32;
+// The crates below each have a number of links and of the device of their own. Here they meet, and
+// agree; that the numbers of refusals do is a clause of each command's answer.
+const _: () = prove!(c104_crossbar::LINKS == LINKS);
+
+const _: () = prove!(c104_control::DEVICE_ID == c104_regs::DEVICE_ID);
 
 #[cfg(test)]
 mod tests;

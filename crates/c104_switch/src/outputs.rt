@@ -4,6 +4,7 @@ ghost use Rattle.std.specs.Option.{option_copied};
 ghost use Rattle.c104_link.specs.Buffers as buffer;
 ghost use Rattle.c104_link.specs.Buffers.{Outgoing, empty_out, cleared_out};
 ghost use Rattle.c104_link.specs.Steps.{tried, taken, at_place, from_place};
+ghost use Rattle.c104_regs.specs.declared.registers.TheConstants.{LINKS};
 ghost use Rattle.c104_switch.specs.Claims.{put_header};
 
 use crate::LINKS;
@@ -29,9 +30,9 @@ impl<T: TokenKind> Model for OutputsOf<T> {
 }
 
 impl<T: TokenKind> OutputsOf<T> {
-    /// The outputs at first.
+    /// New outputs: no token, and no credit. It fails only when out of memory.
     pub fn new(alloc: Global) -> Result<Self, NoMemory>
-        ensures { IfOk result (λ qs. qs ≡ replicate 32 empty_out) }
+        ensures { IfOk result (λ qs. qs ≡ replicate LINKS empty_out) }
     {
         let mut list = Vec::with_capacity(alloc, LINKS)?;
         for _ in 0..LINKS {
@@ -40,7 +41,7 @@ impl<T: TokenKind> OutputsOf<T> {
         Ok(OutputsOf { list })
     }
 
-    /// Throws the tokens of all outputs away. What they may send stays.
+    /// Discards the tokens of all outputs. What they may send stays.
     pub fn clear(&mut self)
         ensures { self.new ≡ map cleared_out self.old }
     {
@@ -49,7 +50,7 @@ impl<T: TokenKind> OutputsOf<T> {
         }
     }
 
-    /// The first token of an output goes out.
+    /// The first token of an output goes out, where there are a token and a credit.
     pub fn leave(&mut self, link: usize) -> Option<T>
         ensures { (result, self.new) ≡ taken (from_place self.old link buffer.leave) self.old }
     {
@@ -61,7 +62,7 @@ impl<T: TokenKind> OutputsOf<T> {
         output.emit()
     }
 
-    /// An output may send eight more tokens.
+    /// An output may send eight more tokens, where its credit is then at most 64.
     pub fn credited(&mut self, link: usize) -> bool
         ensures { (result, self.new) ≡ tried (at_place self.old link buffer.credited) self.old }
     {
@@ -73,7 +74,7 @@ impl<T: TokenKind> OutputsOf<T> {
         output.credited()
     }
 
-    /// A token joins an output.
+    /// A token joins an output, where there is room for it.
     pub fn put(&mut self, link: usize, token: T) -> bool
         ensures { (result, self.new) ≡ tried (at_place self.old link (buffer.put token)) self.old }
     {
@@ -85,9 +86,11 @@ impl<T: TokenKind> OutputsOf<T> {
         put(output, token)
     }
 
-    /// A header joins an output, or is deleted there.
+    /// A header joins an output as a whole, where there is room for it, or is deleted there, where
+    /// the output's own link deletes headers.
     pub fn put_header(&mut self, link: usize, settings: &Settings, header: &[T]) -> bool
-        ensures { (result, self.new) ≡ tried (at_place self.old link (put_header settings.now header.now)) self.old }
+        ensures { (result, self.new) ≡
+            tried (at_place self.old link (put_header settings.now header.now)) self.old }
     {
         let list = &mut self.list;
         if link >= list.len() {
@@ -154,7 +157,8 @@ fn put<T: TokenKind>(output: &mut OutBufferOf<T>, token: T) -> bool
 
 /// A header joins an output buffer as a whole, or its link deletes it.
 fn put_header<T: TokenKind>(output: &mut OutBufferOf<T>, settings: &Settings, header: &[T]) -> bool
-    ensures { (result, output.new) ≡ tried (put_header settings.now header.now output.old) output.old }
+    ensures { (result, output.new) ≡
+        tried (put_header settings.now header.now output.old) output.old }
 {
     settings.delete_header || output.put_all(header)
 }

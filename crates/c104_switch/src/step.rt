@@ -7,8 +7,8 @@ use crate::switches::SwitchOf;
 use c104_token::Token;
 
 impl SwitchOf<Token> {
-    /// Does an action, and answers Done or the token that went out; or answers NotReady, and changes
-    /// nothing, where a condition of the action doesn't hold.
+    /// Does an action, and answers Done or the token that went out; or answers NotReady, and
+    /// changes nothing, where a condition of the action doesn't hold.
     pub fn step(&mut self, action: Action) -> Reply
         ensures { (result, self.new) ≡ step self.old action }
     {

@@ -4,6 +4,7 @@ ghost use Rattle.std.specs.Option.{option_copied};
 ghost use Rattle.c104_crossbar.specs.Marks.{ArePartition};
 ghost use Rattle.c104_link.specs.Buffers.{IsValidCap};
 ghost use Rattle.c104_link.specs.Steps.{tried, taken};
+ghost use Rattle.c104_regs.specs.declared.registers.TheConstants.{LINKS};
 ghost use Rattle.c104_regs.specs.Ranges.{IsInRange};
 ghost use Rattle.c104_switch.specs.Switch.{Switch as State, first_state, first_with, enter, leave, credit_out, credit_in};
 ghost use Rattle.c104_switch.specs.Turns.{input};
@@ -28,8 +29,8 @@ use std::marker::Model;
 
 /// One IMS C104, over any kind of token.
 ///
-/// An action answers false or None where it isn't ready, and then nothing has changed. No action takes
-/// memory. A switch can't be let go of while its inputs hold claims: `retire` spends them.
+/// An action answers false or None where it isn't ready, and then nothing has changed. No action
+/// takes memory. A switch can't be let go of while its inputs hold claims: `retire` spends them.
 pub struct SwitchOf<T: TokenKind> {
     registers: Registers,
     inputs: InputsOf<T>,
@@ -45,15 +46,27 @@ impl<T: TokenKind> Model for SwitchOf<T> {
 
     ghost Value = { Switch T };
 
-    ghost view = { λ s. record { started = s.registers.started; settings = s.registers.settings; inputs = s.inputs; outputs = s.outputs } };
+    ghost view = { λ s.
+        record {
+          started = s.registers.started;
+          settings = s.registers.settings;
+          inputs = s.inputs;
+          outputs = s.outputs;
+        } };
 
-    ghost invariant = { λ s. IsSound (record { started = s.registers.started; settings = s.registers.settings; inputs = s.inputs; outputs = s.outputs }) };
+    ghost invariant = { λ s.
+        IsSound (record {
+          started = s.registers.started;
+          settings = s.registers.settings;
+          inputs = s.inputs;
+          outputs = s.outputs;
+        }) };
 }
 
 impl<T: TokenKind> SwitchOf<T> {
-    /// A switch at first: reset, not started, and no token anywhere. Its input buffers have room for
-    /// `cap` tokens, which is one of 8, 16, .. 64. No credit and no grant is there yet. Only want of
-    /// memory is refused.
+    /// A new switch: reset, not started, with no token anywhere, nothing granted and no credit. Its
+    /// input buffers have room for `cap` tokens each, one of 8, 16, .. 64. It fails only when out
+    /// of memory.
     pub fn new(alloc: Global, cap: usize) -> Result<Self, NoMemory>
         requires { IsValidCap cap }
         ensures { IfOk result (λ s. s ≡ first_state cap) }
@@ -67,11 +80,12 @@ impl<T: TokenKind> SwitchOf<T> {
         })
     }
 
-    /// A switch that is started, with these settings at its 32 links, and no token anywhere. Only
-    /// want of memory is refused.
+    /// A switch that is started, with these settings at its 32 links, each in its range, and no
+    /// token anywhere. Its input buffers have room for `cap` tokens each, one of 8, 16, .. 64. It
+    /// fails only when out of memory.
     pub fn placed(alloc: Global, cap: usize, settings: &[Settings]) -> Result<Self, NoMemory>
         requires cap { IsValidCap cap }
-        requires links { length settings.now ≡ 32 }
+        requires links { length settings.now ≡ LINKS }
         requires ranges { All IsInRange settings.now }
         ensures { IfOk result (λ s. s ≡ first_with cap settings.now true) }
     {
@@ -102,8 +116,8 @@ impl<T: TokenKind> SwitchOf<T> {
         self.registers.started()
     }
 
-    /// The crossbar: the outputs of the claims that inputs hold and its free outputs are the 32 outputs,
-    /// each once.
+    /// The crossbar: the outputs of the claims that inputs hold and its free outputs are the 32
+    /// outputs, each once.
     pub fn crossbar(&self) -> &Crossbar
         ensures { ArePartition (held self.now.inputs) result.now }
     {
@@ -111,6 +125,7 @@ impl<T: TokenKind> SwitchOf<T> {
     }
 
     /// The claim that an input holds: that of the output that it streams to, as long as it does.
+    /// None where the input's number is 32 or more.
     pub fn claim_held(&self, input: usize) -> Option<&Claim>
         ensures { option_copied result ≡ claim_at self.now input }
     {
@@ -148,15 +163,16 @@ impl<T: TokenKind> SwitchOf<T> {
         self.outputs.leave(link)
     }
 
-    /// A link grants eight more tokens to the other end of its wire, where the switch is started and
-    /// its buffer has room for all that would then be granted.
+    /// A link grants eight more tokens to the other end of its wire, where the switch is started
+    /// and its buffer has room for all that would then be granted.
     pub fn credit_out(&mut self, link: usize) -> bool
         ensures { (result, self.new) ≡ tried (credit_out self.old link) self.old }
     {
         self.registers.started() && self.inputs.grant(link)
     }
 
-    /// The other end of a link's wire has granted eight more tokens, where its credit is then at most 64.
+    /// The other end of a link's wire has granted eight more tokens, where the link's credit is
+    /// then at most 64.
     pub fn credit_in(&mut self, link: usize) -> bool
         ensures { (result, self.new) ≡ tried (credit_in self.old link) self.old }
     {

@@ -3,13 +3,15 @@ ghost use Rattle.std.specs.Prelude.{◌≡◌, ◌<◌, ◌∷◌, ◌++◌, Boo
 ghost use Rattle.c104_crossbar.specs.Marks.{list_of};
 ghost use Rattle.c104_link.specs.Buffers.{Outgoing};
 ghost use Rattle.c104_link.specs.Steps.{tried};
+ghost use Rattle.c104_regs.specs.declared.registers.TheConstants.{LINKS};
 ghost use Rattle.c104_switch.specs.Switch.{Input};
-ghost use Rattle.c104_switch.specs.Claims.{claimed};
+ghost use Rattle.c104_switch.specs.Claims.{claimed, IsClaim};
 ghost use Rattle.c104_switch.specs.Holding.{held_by};
 
-use super::{InputOf, Stage};
+use super::InputOf;
 use crate::group::is_in_group;
 use crate::outputs::OutputsOf;
+use crate::phase::Phase;
 use c104_crossbar::Claim;
 use c104_regs::Registers;
 use c104_token::TokenKind;
@@ -24,10 +26,11 @@ impl<T: TokenKind> InputOf<T> {
         claim: Claim,
         outputs: &mut OutputsOf<T>,
     ) -> Option<Claim>
-        ensures claimed { ◌≡◌ {A = Bool × (Input T × List (Outgoing T))} (is_none result, (self.new, outputs.new)) (tried {S = Input T × List (Outgoing T)} (claimed registers.now.settings self.old outputs.old claim self.old.phase) (self.old, outputs.old)) }
+        ensures claimed { IsClaim registers.now.settings claim
+            self.old outputs.old (is_none result) self.new outputs.new }
         ensures claims { list_of result ++ held_by self.new.phase ≡ claim ∷ held_by self.old.phase }
     {
-        let Stage::Want(link) = self.stage else {
+        let Phase::Want((), link) = self.phase else {
             return Some(claim);
         };
         let output = claim.output();
@@ -41,16 +44,17 @@ impl<T: TokenKind> InputOf<T> {
             return Some(claim);
         }
         fill(&mut self.claim, claim);
-        self.stage = Stage::Stream(output);
+        self.phase = Phase::Stream(output);
         None
     }
 
     /// Whether `claim` would claim this output.
     pub fn can_claim(&self, registers: &Registers, output: usize, outputs: &OutputsOf<T>) -> bool
-        requires { output < 32 }
-        ensures { result ≡ is_some (claimed registers.now.settings self.now outputs.now output self.now.phase) }
+        requires { output < LINKS }
+        ensures { result ≡
+            is_some (claimed registers.now.settings self.now outputs.now output self.now.phase) }
     {
-        let Stage::Want(link) = self.stage else {
+        let Phase::Want((), link) = self.phase else {
             return false;
         };
         if !is_in_group(registers, link, output) {

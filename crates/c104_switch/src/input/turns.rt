@@ -1,18 +1,19 @@
 //! What an input does with its first token.
-ghost use Rattle.std.specs.Prelude.{◌≡◌, ◌++◌, Bool, ℕ, true, false, if◌then◌else◌, List, None, is_some};
+ghost use Rattle.std.specs.Prelude.{◌≡◌, ◌++◌, Bool, ℕ, true, false, if◌then◌else◌, List, None, is_some, IsSome};
 ghost use Rattle.c104_token.specs.Tokens.{is_end};
 ghost use Rattle.c104_link.specs.Buffers.{Outgoing};
 ghost use Rattle.c104_link.specs.Steps.{tried};
 ghost use Rattle.c104_regs.specs.declared.settings.Settings.{Settings as TheSettings};
 ghost use Rattle.c104_switch.specs.Switch.{Input, Fresh, counted};
 ghost use Rattle.c104_switch.specs.Headers.{read, random_header};
-ghost use Rattle.c104_switch.specs.Turns.{turn, on_header, on_random, used, goes_on, after};
+ghost use Rattle.c104_switch.specs.Turns.{turn, IsTurn, on_header, on_random, used, goes_on, after};
 ghost use Rattle.c104_switch.specs.Holding.{held_by, was_done, spent};
-ghost use Rattle.c104_switch.specs.Stages.{phase_of, claim_of, HasRoom, IsReading, IsSinking, IsStreaming, tokens_read};
+ghost use Rattle.c104_switch.specs.Phases.{Sinking, phase_of, output_of, HasRoom, IsReading, tokens_read};
 
-use super::{InputOf, Stage};
+use super::InputOf;
 use crate::header::HeaderOf;
 use crate::outputs::OutputsOf;
+use crate::phase::Phase;
 use c104_crossbar::Claim;
 use c104_interval::Select;
 use c104_regs::Settings;
@@ -32,58 +33,62 @@ impl<T: TokenKind> InputOf<T> {
     /// What the input does with its first token. It isn't ready, and nothing changes, where it has
     /// none, waits for an output, or streams to one that is full.
     pub fn turn(&mut self, settings: &Settings, word: u32, outputs: &mut OutputsOf<T>) -> Turn
-        ensures turned { ◌≡◌ {A = Bool × (Input T × List (Outgoing T))} (was_done result, (self.new, outputs.new)) (tried {S = Input T × List (Outgoing T)} (turn T.kind settings.now word self.old outputs.old) (self.old, outputs.old)) }
+        ensures turned { IsTurn T.kind settings.now word
+            self.old outputs.old (was_done result) self.new outputs.new }
         ensures claims { held_by self.old.phase ≡ spent result ++ held_by self.new.phase }
     {
         let Some(token) = self.buffer.first() else {
             return Turn::NotReady;
         };
         let ends = is_end(token.plain());
-        match self.stage {
-            Stage::Fresh if settings.randomize && !ends => self.read_random(settings, word),
-            Stage::Fresh => self.read_token(settings, token),
-            Stage::Head => self.read_token(settings, token),
-            Stage::Want(_) => return Turn::NotReady,
-            Stage::Stream(output) => {
+        match self.phase {
+            Phase::Fresh if settings.randomize && !ends => self.read_random(settings, word),
+            Phase::Fresh => self.read_token(settings, token),
+            Phase::Head(()) => self.read_token(settings, token),
+            Phase::Want((), _) => return Turn::NotReady,
+            Phase::Stream(output) => {
                 if !outputs.put(output, token) {
                     return Turn::NotReady;
                 }
                 return self.stream(ends);
             }
-            Stage::Sinking => self.sink(ends),
+            Phase::Sinking => self.sink(ends),
         }
         Turn::Done
     }
 
     /// Whether `turn` would do something, which no setting and no word decides.
     pub fn can_turn(&self, outputs: &OutputsOf<T>) -> bool
-        ensures { (settings : TheSettings) (word : ℕ) → result ≡ is_some (turn T.kind settings word self.now outputs.now) }
+        ensures { (settings : TheSettings) (word : ℕ) →
+            result ≡ is_some (turn T.kind settings word self.now outputs.now) }
     {
         if self.buffer.first().is_none() {
             return false;
         }
-        match self.stage {
-            Stage::Fresh | Stage::Head | Stage::Sinking => true,
-            Stage::Want(_) => false,
-            Stage::Stream(output) => outputs.can_put(output),
+        match self.phase {
+            Phase::Fresh | Phase::Head(()) | Phase::Sinking => true,
+            Phase::Want((), _) => false,
+            Phase::Stream(output) => outputs.can_put(output),
         }
     }
 
     /// Uses the first token of a packet that is dropped. A terminator ends it.
     fn sink(&mut self, ends: bool)
-        requires { IsSinking self.old.phase }
+        requires { self.old.phase ≡ Sinking }
         ensures { self.new ≡ used self.old (if ends then Fresh else self.old.phase) false false }
     {
         self.buffer.take();
         if ends {
-            self.stage = Stage::Fresh;
+            self.phase = Phase::Fresh;
         }
     }
 
-    /// Uses the first token of a packet that streams. A terminator ends it and gives the claim back.
+    /// Uses the first token of a packet that streams. A terminator ends it and gives the claim
+    /// back.
     fn stream(&mut self, ends: bool) -> Turn
-        requires { IsStreaming self.old.phase }
-        ensures used { self.new ≡ used self.old (if ends then Fresh else self.old.phase) false false }
+        requires { IsSome (output_of self.old.phase) }
+        ensures used { self.new ≡
+            used self.old (if ends then Fresh else self.old.phase) false false }
         ensures done { was_done result ≡ true }
         ensures claims { held_by self.old.phase ≡ spent result ++ held_by self.new.phase }
     {
@@ -91,7 +96,7 @@ impl<T: TokenKind> InputOf<T> {
         if !ends {
             return Turn::Done;
         }
-        self.stage = Stage::Fresh;
+        self.phase = Phase::Fresh;
         let Some(claim) = self.claim.take() else {
             unreachable!();
         };
@@ -101,20 +106,21 @@ impl<T: TokenKind> InputOf<T> {
     /// Reads the first token of a header, or one more.
     fn read_token(&mut self, settings: &Settings, token: T)
         requires { IsReading self.old.phase }
-        ensures { self.new ≡ on_header T.kind settings.now self.old (tokens_read self.old.phase) token }
+        ensures { self.new ≡
+            on_header T.kind settings.now self.old (tokens_read self.old.phase) token }
     {
         self.buffer.take();
         if is_end(token.plain()) {
-            self.stage = Stage::Fresh;
+            self.phase = Phase::Fresh;
             self.short = counted(self.short, true);
             return;
         }
-        if let Stage::Fresh = self.stage {
+        if let Phase::Fresh = self.phase {
             self.header.clear();
         }
         self.header.push(token);
-        let (stage, sinks) = read(settings, &mut self.header);
-        self.stage = stage;
+        let (phase, sinks) = read(settings, &mut self.header);
+        self.phase = phase;
         self.sunk = counted(self.sunk, sinks);
     }
 
@@ -124,8 +130,8 @@ impl<T: TokenKind> InputOf<T> {
         ensures { self.new ≡ on_random T.kind settings.now word self.old }
     {
         put_random(settings, word, &mut self.header);
-        let (stage, sinks) = read(settings, &mut self.header);
-        self.stage = stage;
+        let (phase, sinks) = read(settings, &mut self.header);
+        self.phase = phase;
         self.sunk = counted(self.sunk, sinks);
     }
 }
@@ -138,22 +144,22 @@ fn counted(count: u32, more: bool) -> u32
 }
 
 /// Where an input is after these tokens of a header, and whether it drops the packet.
-fn read<T: TokenKind>(settings: &Settings, header: &mut HeaderOf<T>) -> (Stage, bool)
-    ensures stage { phase_of result.0 header.new ≡ (read T.kind settings.now header.old).0 }
+fn read<T: TokenKind>(settings: &Settings, header: &mut HeaderOf<T>) -> (Phase<()>, bool)
+    ensures phase { phase_of result.0 header.new ≡ (read T.kind settings.now header.old).0 }
     ensures sinks { result.1 ≡ (read T.kind settings.now header.old).1 }
-    ensures room { HasRoom result.0 header.new }
-    ensures unclaimed { claim_of result.0 ≡ None }
+    ensures room { HasRoom (phase_of result.0 header.new) }
+    ensures unclaimed { output_of result.0 ≡ None }
 {
     if header.len() < settings.header_length() {
-        return (Stage::Head, false);
+        return (Phase::Head(()), false);
     }
     match settings.table.select(header.value()) {
-        Select::Link(link) => (Stage::Want(link), false),
+        Select::Link(link) => (Phase::Want((), link), false),
         Select::Discard => {
             header.clear();
-            (Stage::Head, false)
+            (Phase::Head(()), false)
         }
-        Select::Sink => (Stage::Sinking, true),
+        Select::Sink => (Phase::Sinking, true),
     }
 }
 

@@ -7,9 +7,9 @@ use c104_regs::{RegFault, Registers};
 use c104_token::TokenKind;
 
 impl<T: TokenKind> SwitchOf<T> {
-    /// Throws all tokens and all packets under way away, gives all claims back, and sets all
-    /// registers to their first values. The switch isn't started then. What its links granted and may
-    /// send stays, since the other ends of their wires count on it.
+    /// Discards all tokens and all packets under way, gives all claims back, and sets all registers
+    /// to their first values. The switch isn't started then. What its links granted and may send
+    /// stays, since the other ends of their wires count on it.
     pub(crate) fn reset(&mut self)
         ensures { self.new ≡ reset self.old }
     {
@@ -25,9 +25,9 @@ impl<T: TokenKind> SwitchOf<T> {
         self.registers.set_started(true);
     }
 
-    /// Sets the register at this address. What is refused changes nothing: NoRegister where there is
-    /// none, ReadOnly, OutOfRange, or Busy where a link's mode is set while a packet is on its way
-    /// through its input or its output has an owner.
+    /// Sets the register at this address. What is refused changes nothing: NoRegister where there
+    /// is none, ReadOnly, OutOfRange, or Busy where a link's mode is set while a packet is on its
+    /// way through its input or its output has an owner.
     pub(crate) fn poke(&mut self, addr: u16, value: u32) -> Result<(), RegFault>
         ensures { (result, self.new) ≡ poke self.old addr value }
     {

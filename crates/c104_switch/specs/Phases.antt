@@ -1,0 +1,48 @@
+-- Phases: where an input is with its packet, with what is known of a header that is read or that waits.
+use Rattle.std.specs.Prelude.{ℕ, ◌<◌, ◌==◌, Bool, false, List, [], length, Option, Some, None}
+use Rattle.std.specs.Option.{option_map_or}
+use Rattle.c104_switch.specs.declared.header.TheConstants.{HEADER_LIMIT}
+pub use Rattle.c104_switch.specs.declared.phase.Phase.{Phase}
+pub use Rattle.c104_switch.specs.declared.phase.Phase.TheVariants.{Fresh, Head, Want, Stream, Sinking}
+
+module _ {H : Type 0} where
+  -- the output that is streamed to, whose claim the input holds
+  abbrev pub output_of : Phase H → Option ℕ
+  output_of Fresh = None
+  output_of (Head b) = None
+  output_of (Want b g) = None
+  output_of (Stream o) = Some o
+  output_of Sinking = None
+
+  -- whether it is output o that is streamed to
+  abbrev pub is_stream : ℕ → Phase H → Bool
+  is_stream o phase = option_map_or (λ p. p == o) (output_of phase) false
+
+-- the same phase, where something else is known of the header
+abbrev pub with_header : {H K : Type 0} → (H → K) → Phase H → Phase K
+with_header f Fresh = Fresh
+with_header f (Head b) = Head (f b)
+with_header f (Want b g) = Want (f b) g
+with_header f (Stream o) = Stream o
+with_header f Sinking = Sinking
+
+module _ {A : Type 0} where
+  -- the phase of an input that keeps the tokens of the header beside its own
+  abbrev pub phase_of : Phase (Unit {0}) → List A → Phase (List A)
+  phase_of phase header = with_header (λ u. header) phase
+
+  -- an input that reads a header has room for one more token of it
+  abbrev pub HasRoom : Phase (List A) → Type 0
+  HasRoom (Head b) = length b < HEADER_LIMIT
+  HasRoom phase = Unit {0}
+
+  -- an input that reads a header, or waits for a packet
+  abbrev pub IsReading : Phase (List A) → Type 0
+  IsReading Fresh = Unit {0}
+  IsReading (Head b) = Unit {0}
+  IsReading phase = ⊥
+
+  -- the tokens that were read of the header before
+  abbrev pub tokens_read : Phase (List A) → List A
+  tokens_read (Head b) = b
+  tokens_read phase = []
