@@ -151,7 +151,8 @@ impl<T: TokenKind> NodeOf<T> {
 
     /// A token arrives. None where the node is no terminal, or nothing came in.
     pub fn drain(&mut self) -> Result<Option<T>, NoMemory>
-        ensures done { IfOk result (λ token. (token, self.new) ≡ taken (drain self.old) self.old) }
+        ensures done { IfOk result (λ token.
+            (token, self.new) ≡ taken (drain self.old) self.old) }
         ensures kept { OnErr result (self.new ≡ self.old) }
     {
         match self {

@@ -184,7 +184,8 @@ impl<T: TokenKind> NodesOf<T> {
 
     /// A token arrives at the terminal at this place.
     pub fn drain(&mut self, place: usize) -> Result<Option<T>, NoMemory>
-        ensures done { IfOk result (λ token. (token, self.new) ≡ yield_at place drain self.old) }
+        ensures done { IfOk result (λ token.
+            (token, self.new) ≡ yield_at place drain self.old) }
         ensures kept { OnErr result (self.new ≡ self.old) }
     {
         let list = &mut self.list;

@@ -132,7 +132,8 @@ impl<T: TokenKind> TerminalOf<T> {
 
     /// The first token that came in arrives. None where none came in. Out of memory nothing changes.
     pub fn drain(&mut self) -> Result<Option<T>, NoMemory>
-        ensures done { IfOk result (λ token. (token, self.new) ≡ taken (drain self.old) self.old) }
+        ensures done { IfOk result (λ token.
+            (token, self.new) ≡ taken (drain self.old) self.old) }
         ensures kept { OnErr result (self.new ≡ self.old) }
     {
         if self.input.is_empty() {
@@ -173,7 +174,8 @@ fn put_packet<T: TokenKind>(
     number: usize,
     packet: &Packet,
 )
-    requires room { deque_len outbox.old + (length packet.now.bytes + 1) ≤ deque_capacity outbox.old }
+    requires room { deque_len outbox.old + (length packet.now.bytes + 1)
+        ≤ deque_capacity outbox.old }
     ensures { outbox.new.items ≡ outbox.old.items ++ sent_tokens T.kind terminal number packet.now }
 {
     let bytes = packet.bytes.as_slice();
