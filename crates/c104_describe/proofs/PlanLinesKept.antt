@@ -4,6 +4,7 @@ use Rattle.std.proofs.lemmas.List.Elements.{All-nil}
 use Rattle.std.proofs.lemmas.Bool.{not-true, ltb-true}
 use Rattle.std.proofs.lemmas.Bool.Decides.{nat_tests}
 use Rattle.std.proofs.lemmas.List.Quantifiers.{position-Some}
+use Rattle.c104_interval.specs.declared.intervals.TheConstants.{ROWS}
 use Rattle.c104_interval.specs.declared.intervals.Select.{Select}
 use Rattle.c104_interval.specs.declared.intervals.Select.TheVariants.{Link, Sink}
 use Rattle.c104_describe.specs.declared.text.Dots.{Dots}
@@ -14,8 +15,9 @@ use Rattle.c104_describe.specs.declared.faults.PlanFaultKind.TheVariants.{BadNam
 use Rattle.c104_describe.specs.TextCut.{plain, uncommented, words}
 use Rattle.c104_describe.specs.TextWords.{number, is_name, dots}
 use Rattle.c104_describe.specs.PlanFaults.{PlanFault, PlanFaultKind}
-use Rattle.c104_describe.specs.Plans.{Plan, PlanPort, PlanRow, Terminal, IsPlan, IsSelectable, switch_number, terminal_number, is_taken, is_linked, is_continued, is_deleted, rows_of, most_switches, most_terminals, most_rows}
-use Rattle.c104_describe.specs.PlanLines.{◌>>=◌, ◌>>◌, require, wanted, number_to, select_word, port_at, port_word, switch_line, terminal_line, continue_line, delete_line, row_line, keyword_of, keyword_line, words_line, read_line}
+use Rattle.c104_describe.specs.Plans.{Plan, PlanPort, PlanRow, Terminal, IsPlan, IsSelectable, switch_number, terminal_number, is_taken, is_linked, is_continued, is_deleted, rows_of, most_switches, most_terminals, label_count, last_link}
+use Rattle.c104_describe.specs.Checks.{◌>>=◌, ◌>>◌, require, wanted}
+use Rattle.c104_describe.specs.PlanLines.{number_to, select_word, port_at, port_word, switch_line, terminal_line, continue_line, delete_line, row_line, keyword_of, keyword_line, words_line, read_line}
 use Rattle.c104_describe.specs.PlanText.{after, empty_plan, read_lines}
 use Rattle.c104_describe.proofs.PlanKept.{with_switch, with_terminal, with_continue, with_delete, with_row}
 
@@ -46,8 +48,8 @@ port_at-small : (word : List ℕ) (place : Dots) (port : List ℕ × ℕ) → po
 port_at-small word Without port is = cc
 port_at-small word Several port is = cc
 port_at-small word (At at) port is =
-    given (number_to 31 (drop (at + 1) word)) _ port (port.1 < 32) is (λ link was is1.
-    let low : link ≤ 31 = number_to-le 31 (drop (at + 1) word) link was in
+    given (number_to last_link (drop (at + 1) word)) _ port (port.1 < 32) is (λ link was is1.
+    let low : link ≤ last_link = number_to-le last_link (drop (at + 1) word) link was in
     let made : (take at word, link) ≡ port = cc in
     let IsSmall : List ℕ × ℕ → Type 0 = λ p. p.1 < 32 in
     subst IsSmall made (omega arith))
@@ -55,11 +57,11 @@ port_at-small word (At at) port is =
 select_word-is : (word : List ℕ) (select : Select) → select_word word ≡ Ok select → IsSelectable select
 select_word-is word select is = by_test (bytes_eq word (codes "sink")) is
   where
-    by_test : (b : Bool) → (if b then Ok Sink else (number_to 31 word >>= λ link. Ok (Link link))) ≡ Ok select → IsSelectable select
+    by_test : (b : Bool) → (if b then Ok Sink else (number_to last_link word >>= λ link. Ok (Link link))) ≡ Ok select → IsSelectable select
     by_test true here = let made : Sink ≡ select = cc in subst IsSelectable made tt
     by_test false here =
-        given (number_to 31 word) _ select (IsSelectable select) here (λ link was here1.
-        let low : link ≤ 31 = number_to-le 31 word link was in
+        given (number_to last_link word) _ select (IsSelectable select) here (λ link was here1.
+        let low : link ≤ last_link = number_to-le last_link word link was in
         let made : Link link ≡ select = cc in
         subst IsSelectable made (omega arith))
 
@@ -117,14 +119,14 @@ module _ (plan next : Plan) (kept : IsPlan plan) where
   row_line-kept : (word limit select : List ℕ) → row_line plan word limit select ≡ Ok next → IsPlan next
   row_line-kept word most selected is =
       given (port_word word) _ next (IsPlan next) is (λ port was is1.
-      given (number_to 65536 most) _ next (IsPlan next) is1 (λ limit numbered is2.
+      given (number_to label_count most) _ next (IsPlan next) is1 (λ limit numbered is2.
       given (select_word selected) _ next (IsPlan next) is2 (λ select selects is3.
       held (is_name port.0) BadName _ next (IsPlan next) is3 (λ named is4.
       given (wanted (switch_number plan port.0) UnknownName) _ next (IsPlan next) is4 (λ switch known is5.
-      held (nat_lt (length (rows_of plan switch port.1)) most_rows) TooMany _ next (IsPlan next) is5 (λ room is6.
+      held (nat_lt (length (rows_of plan switch port.1)) ROWS) TooMany _ next (IsPlan next) is5 (λ room is6.
       let r : PlanRow = record { switch = switch; link = port.1; limit = limit; select = select } in
       let made : record plan { rows = plan.rows ++ r ∷ [] } ≡ next = cc in
-      subst IsPlan made (with_row plan kept r (switch_number-inside plan port.0 switch (found _ UnknownName switch known)) (port_at-small word (dots word) port was) (number_to-le 65536 most limit numbered) (select_word-is selected select selects) (ltb-true _ _ room))))))))
+      subst IsPlan made (with_row plan kept r (switch_number-inside plan port.0 switch (found _ UnknownName switch known)) (port_at-small word (dots word) port was) (number_to-le label_count most limit numbered) (select_word-is selected select selects) (ltb-true _ _ room))))))))
 
   keyword_line-kept : (k : Keyword) (rest : List (List ℕ)) → keyword_line k plan rest ≡ Ok next → IsPlan next
   keyword_line-kept keyword.Switch [] is = cc

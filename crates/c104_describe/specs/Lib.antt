@@ -1,3 +1,4 @@
+pub mod Checks
 pub mod TextCut
 pub mod TextWords
 pub mod PlanFaults

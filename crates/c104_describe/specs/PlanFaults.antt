@@ -36,11 +36,11 @@ kind_name kind.Twice = codes "Twice"
 kind_name kind.MixedStyle = codes "MixedStyle"
 kind_name kind.NoMemory = codes "NoMemory"
 
--- memory was refused, at whatever line
+-- out of memory, at whatever line
 abbrev pub no_memory : PlanFault
 no_memory = record { line = 0; kind = kind.NoMemory }
 
--- a fault of a line; want of memory belongs to no line
+-- a fault of a line; out of memory belongs to no line
 abbrev pub fault_at : ℕ → PlanFaultKind → PlanFault
 fault_at line kind.NoMemory = no_memory
 fault_at line kind = record { line = line; kind = kind }

@@ -1,7 +1,8 @@
 -- The grammar of a description: what a line says after the lines before it. Of all that is wrong
 -- with a line the fault of the least number is answered, so each line's conditions stand in the
 -- order of the faults' numbers.
-use Rattle.std.specs.Prelude.{ℕ, ◌+◌, ◌==◌, ◌&&◌, Bool, true, false, not, List, [], ◌∷◌, ◌++◌, length, take, drop, nat_le, nat_lt, bytes_eq, codes, if◌then◌else◌, Option, Some, None, Result, Ok, Err}
+use Rattle.std.specs.Prelude.{ℕ, ◌+◌, ◌==◌, ◌&&◌, Bool, not, List, [], ◌∷◌, ◌++◌, length, take, drop, nat_le, nat_lt, bytes_eq, codes, if◌then◌else◌, Option, Some, None, Result, Ok, Err}
+use Rattle.c104_interval.specs.declared.intervals.TheConstants.{ROWS}
 use Rattle.c104_interval.specs.declared.intervals.Select.{Select}
 use Rattle.c104_interval.specs.declared.intervals.Select.TheVariants.{Link, Sink}
 use Rattle.c104_describe.specs.declared.text.Dots.{Dots}
@@ -9,32 +10,11 @@ use Rattle.c104_describe.specs.declared.text.Dots.TheVariants.{Without, At, Seve
 use Rattle.c104_describe.specs.declared.words.Keyword.{Keyword}
 use Rattle.c104_describe.specs.declared.words.Keyword.TheVariants as keyword
 use Rattle.c104_describe.specs.declared.faults.PlanFaultKind.TheVariants.{BadName, BadNumber, BadShape, LinkTaken, NameTaken, TooMany, Twice, UnknownName, UnknownWord}
+use Rattle.c104_describe.specs.Checks.{◌>>=◌, ◌>>◌, require, wanted}
 use Rattle.c104_describe.specs.TextCut.{uncommented, words, plain}
 use Rattle.c104_describe.specs.TextWords.{number, is_name, dots}
 use Rattle.c104_describe.specs.PlanFaults.{PlanFaultKind}
-use Rattle.c104_describe.specs.Plans.{Plan, switch_number, terminal_number, is_taken, is_linked, is_continued, is_deleted, rows_of, most_switches, most_terminals, most_rows}
-
-infixl 20 ◌>>=◌
-infixl 20 ◌>>◌
--- what is read, and then what is read by it
-abbrev pub ◌>>=◌ : {X Y : Type 0} → Result X PlanFaultKind → (X → Result Y PlanFaultKind) → Result Y PlanFaultKind
-Ok x >>= f = f x
-Err kind >>= f = Err kind
-
--- a condition, and then what is read where it holds
-abbrev pub ◌>>◌ : {Y : Type 0} → Result Bool PlanFaultKind → Result Y PlanFaultKind → Result Y PlanFaultKind
-Ok x >> r = r
-Err kind >> r = Err kind
-
--- a condition, and the fault where it doesn't hold
-abbrev pub require : Bool → PlanFaultKind → Result Bool PlanFaultKind
-require true kind = Ok true
-require false kind = Err kind
-
--- a value, and the fault where there is none
-abbrev pub wanted : {X : Type 0} → Option X → PlanFaultKind → Result X PlanFaultKind
-wanted (Some x) kind = Ok x
-wanted None kind = Err kind
+use Rattle.c104_describe.specs.Plans.{Plan, switch_number, terminal_number, is_taken, is_linked, is_continued, is_deleted, rows_of, most_switches, most_terminals, label_count, last_link}
 
 -- a number that is at most so much
 abbrev pub number_to : ℕ → List ℕ → Result ℕ PlanFaultKind
@@ -48,7 +28,7 @@ abbrev pub select_word : List ℕ → Result Select PlanFaultKind
 select_word word =
     if bytes_eq word (codes "sink") then Ok Sink
     else (do
-      link ← number_to 31 word
+      link ← number_to last_link word
       Ok (Link link))
 
 -- the two sides of a port's dot, by where it is
@@ -56,7 +36,7 @@ abbrev pub port_at : List ℕ → Dots → Result (List ℕ × ℕ) PlanFaultKin
 port_at word Without = Err BadShape
 port_at word Several = Err BadShape
 port_at word (At at) = do
-  link ← number_to 31 (drop (at + 1) word)
+  link ← number_to last_link (drop (at + 1) word)
   Ok (take at word, link)
 
 -- a port, `NAME.NUMBER`: what stands for the name, which may be none, and the link
@@ -80,7 +60,15 @@ terminal_line plan name word = do
   switch ← wanted (switch_number plan port.0) UnknownName
   require (not (is_linked plan switch port.1)) LinkTaken
   require (nat_lt (length plan.terminals) most_terminals) TooMany
-  Ok (record plan { terminals = plan.terminals ++ record { name = name; switch = switch; link = port.1; first = length plan.terminals; count = 1 } ∷ [] })
+  Ok (record plan {
+    terminals = plan.terminals ++ record {
+      name = name;
+      switch = switch;
+      link = port.1;
+      first = length plan.terminals;
+      count = 1;
+    } ∷ [];
+  })
 
 -- `continue S.l`: the link, which isn't the first, continues the group of the link before it
 abbrev pub continue_line : Plan → List ℕ → Result Plan PlanFaultKind
@@ -104,12 +92,19 @@ delete_line plan name = do
 abbrev pub row_line : Plan → List ℕ → List ℕ → List ℕ → Result Plan PlanFaultKind
 row_line plan word limit select = do
   port ← port_word word
-  limit ← number_to 65536 limit
+  limit ← number_to label_count limit
   select ← select_word select
   require (is_name port.0) BadName
   switch ← wanted (switch_number plan port.0) UnknownName
-  require (nat_lt (length (rows_of plan switch port.1)) most_rows) TooMany
-  Ok (record plan { rows = plan.rows ++ record { switch = switch; link = port.1; limit = limit; select = select } ∷ [] })
+  require (nat_lt (length (rows_of plan switch port.1)) ROWS) TooMany
+  Ok (record plan {
+    rows = plan.rows ++ record {
+      switch = switch;
+      link = port.1;
+      limit = limit;
+      select = select;
+    } ∷ [];
+  })
 
 -- what the first word of a line says
 abbrev pub keyword_of : List ℕ → Option Keyword

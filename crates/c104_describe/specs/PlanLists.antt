@@ -4,4 +4,10 @@ use Rattle.c104_describe.specs.Plans.{Plan}
 
 -- the plan that they are
 abbrev pub plan_of : Lists → Plan
-plan_of lists = record { switches = lists.switches.items; terminals = lists.terminals.items; continues = lists.continues.items; deletes = lists.deletes.items; rows = lists.rows.items }
+plan_of lists = record {
+  switches = lists.switches.items;
+  terminals = lists.terminals.items;
+  continues = lists.continues.items;
+  deletes = lists.deletes.items;
+  rows = lists.rows.items;
+}

@@ -16,7 +16,8 @@ after line (Err kind) rest = Err (fault_at line kind)
 -- the plan after these lines, of which the first has this number, or the first faulty line and its fault
 abbrev pub read_lines : ℕ → List (List ℕ) → Plan → Result Plan PlanFault
 read_lines line [] plan = Ok plan
-read_lines line (text ∷ more) plan = after line (read_line plan text) (λ next. read_lines (line + 1) more next)
+read_lines line (text ∷ more) plan =
+    after line (read_line plan text) (λ next. read_lines (line + 1) more next)
 
 -- the plan of no line
 abbrev pub empty_plan : Plan
@@ -32,13 +33,14 @@ described text =
     if nat_le (length text) most_bytes then read_lines 1 (lines text) empty_plan
     else Err (fault_at 0 TooLong)
 
--- the plan is the one that is due, and where none is due the fault is; or memory was refused
+-- the plan is the one that is due, and where none is due the fault is; or it is out of memory
 abbrev pub GivesOrNoMemory : Result Plan PlanFault → Result Plan PlanFault → Type 0
 GivesOrNoMemory result due = (result ≡ due) ⊎ (result ≡ Err no_memory)
 
 -- the same of one line, which made this of a plan
 abbrev pub ReadsLine : {X : Type 0} → Result X PlanFaultKind → Plan → Result Plan PlanFaultKind → Type 0
-ReadsLine result made due = MatchResult result (λ _. due ≡ Ok made) (λ kind. (due ≡ Err kind) ⊎ (kind ≡ NoMemory))
+ReadsLine result made due =
+    MatchResult result (λ _. due ≡ Ok made) (λ kind. (due ≡ Err kind) ⊎ (kind ≡ NoMemory))
 
 -- a line is the first faulty one of a text that isn't too long: the lines before it give a plan, and
 -- after that it has this fault
@@ -65,4 +67,5 @@ IsDue text fault = (fault ≡ no_memory) ⊎ (IsTooLong text fault ⊎ IsFirstFa
 
 -- the same as GivesOrNoMemory of the lists in which the plan is kept
 abbrev pub GivesLists : Result Lists PlanFault → Result Plan PlanFault → Type 0
-GivesLists result due = MatchResult result (λ lists. due ≡ Ok (plan_of lists)) (λ fault. (due ≡ Err fault) ⊎ (fault ≡ no_memory))
+GivesLists result due =
+    MatchResult result (λ lists. due ≡ Ok (plan_of lists)) (λ fault. (due ≡ Err fault) ⊎ (fault ≡ no_memory))

@@ -1,8 +1,10 @@
 -- Plans: the network that a description gives.
-use Rattle.std.specs.Prelude.{◌≡◌, ◌≢◌, ℕ, ◌+◌, ◌<◌, ◌≤◌, ◌==◌, ◌&&◌, Bool, false, List, ◌++◌, length, map, filter, position, slice_get, bytes_eq, All, AllPairs, IsTrue, Option, Some, None}
+use Rattle.std.specs.Prelude.{◌≡◌, ◌≢◌, ℕ, ◌+◌, ◌-◌, ◌<◌, ◌≤◌, ◌==◌, ◌&&◌, Bool, false, List, ◌++◌, length, map, filter, position, slice_get, bytes_eq, All, AllPairs, IsTrue, Option, Some, None}
 use Rattle.std.specs.List.{list_any}
+use Rattle.c104_interval.specs.declared.intervals.TheConstants.{ROWS}
 use Rattle.c104_interval.specs.declared.intervals.Select.{Select}
 use Rattle.c104_interval.specs.declared.intervals.Select.TheVariants.{Link, Discard, Sink}
+use Rattle.c104_regs.specs.declared.registers.TheConstants.{LINKS}
 use Rattle.c104_describe.specs.TextWords.{is_name}
 pub use Rattle.c104_describe.specs.declared.plans.Terminal.{Terminal}
 pub use Rattle.c104_describe.specs.declared.plans.PlanPort.{PlanPort}
@@ -71,29 +73,33 @@ most_switches = 1
 abbrev pub most_terminals : ℕ
 most_terminals = 256
 
--- how many rows an input may have
-abbrev pub most_rows : ℕ
-most_rows = 36
+-- how many labels there are: a header has at most two bytes
+abbrev pub label_count : ℕ
+label_count = 0x10000
 
--- a row may select a link, 0 to 31, or the sink
+-- the last link of a switch
+abbrev pub last_link : ℕ
+last_link = LINKS - 1
+
+-- a row may select a link of the switch, or the sink
 abbrev pub IsSelectable : Select → Type 0
-IsSelectable (Link link) = link < 32
+IsSelectable (Link link) = link < LINKS
 IsSelectable Discard = ⊥
 IsSelectable Sink = Unit {0}
 
 -- a switch of the plan, and one of its links
 abbrev pub IsPort : Plan → ℕ → ℕ → Type 0
-IsPort plan switch link = (switch < length plan.switches) × (link < 32)
+IsPort plan switch link = (switch < length plan.switches) × (link < LINKS)
 
 -- a range of labels, by its first and how many they are
 abbrev pub IsRange : ℕ → ℕ → Type 0
-IsRange first count = (0 < count) × (first + count ≤ 65536)
+IsRange first count = (0 < count) × (first + count ≤ label_count)
 
 -- what the type of a plan keeps
 pub record IsPlan (plan : Plan) : Type 0 where
   pub few_switches : length plan.switches ≤ most_switches
   pub few_terminals : length plan.terminals ≤ most_terminals
-  pub few_rows : (switch link : ℕ) → length (rows_of plan switch link) ≤ most_rows
+  pub few_rows : (switch link : ℕ) → length (rows_of plan switch link) ≤ ROWS
   pub names_are : All (λ name. IsTrue (is_name name)) (names plan)
   pub names_differ : AllPairs (λ name other. name ≢ other) (names plan)
   pub ports : All (λ (t : Terminal). IsPort plan t.switch t.link) plan.terminals
@@ -104,4 +110,4 @@ pub record IsPlan (plan : Plan) : Type 0 where
   pub deletes_are : All (λ terminal. terminal < length plan.terminals) plan.deletes
   pub deletes_differ : AllPairs (λ (t u : ℕ). t ≢ u) plan.deletes
   pub inputs : All (λ (r : PlanRow). IsPort plan r.switch r.link) plan.rows
-  pub rows_are : All (λ (r : PlanRow). (r.limit ≤ 65536) × IsSelectable r.select) plan.rows
+  pub rows_are : All (λ (r : PlanRow). (r.limit ≤ label_count) × IsSelectable r.select) plan.rows

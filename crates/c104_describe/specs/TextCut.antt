@@ -2,17 +2,17 @@
 use Rattle.std.specs.Prelude.{ℕ, ◌==◌, ◌&&◌, ◌||◌, Bool, not, List, length, filter, nat_le}
 use Rattle.std.specs.List.{before_first, list_all, slice_split}
 
--- the lines of a text: the pieces between line feeds, the last one too
+-- the lines of a text: the pieces between line feeds (0x0a), the last one too
 abbrev pub lines : List ℕ → List (List ℕ)
-lines text = slice_split (λ byte. byte == 10) text
+lines text = slice_split (λ byte. byte == 0x0a) text
 
--- what stands before the first `#`, or all where there is none
+-- what stands before the first `#` (0x23), or all where there is none
 abbrev pub uncommented : List ℕ → List ℕ
-uncommented line = before_first (λ byte. byte == 35) line
+uncommented line = before_first (λ byte. byte == 0x23) line
 
--- whether a byte parts words: space, tab, carriage return
+-- whether a byte parts words: space (0x20), tab (0x09), carriage return (0x0d)
 abbrev pub parts_words : ℕ → Bool
-parts_words byte = byte == 32 || (byte == 9 || byte == 13)
+parts_words byte = byte == 0x20 || (byte == 0x09 || byte == 0x0d)
 
 -- the words of a line: the pieces between bytes that part words, but for the empty ones
 abbrev pub words : List ℕ → List (List ℕ)
@@ -20,4 +20,4 @@ words line = filter (λ piece. not (length piece == 0)) (slice_split parts_words
 
 -- whether each byte is a printable one of ASCII or parts words
 abbrev pub plain : List ℕ → Bool
-plain line = list_all (λ byte. (nat_le 32 byte && nat_le byte 126) || parts_words byte) line
+plain line = list_all (λ byte. (nat_le 0x20 byte && nat_le byte 0x7e) || parts_words byte) line

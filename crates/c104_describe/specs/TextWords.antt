@@ -4,40 +4,51 @@ use Rattle.std.specs.List.{list_all, list_any}
 use Rattle.c104_describe.specs.declared.text.Dots.{Dots}
 use Rattle.c104_describe.specs.declared.text.Dots.TheVariants.{Without, At, Several}
 
+-- the most digits of a number
+abbrev pub most_digits : ℕ
+most_digits = 7
+
+-- the most bytes of a name
+abbrev pub most_name_bytes : ℕ
+most_name_bytes = 32
+
+-- a decimal digit: `0` is 0x30 and `9` is 0x39
 abbrev pub is_digit : ℕ → Bool
-is_digit byte = nat_le 48 byte && nat_le byte 57
+is_digit byte = nat_le 0x30 byte && nat_le byte 0x39
 
 -- the value of decimal digits
 abbrev pub value_of : List ℕ → ℕ
-value_of digits = fold (λ value digit. 10 * value + (digit - 48)) 0 digits
+value_of digits = fold (λ value digit. 10 * value + (digit - 0x30)) 0 digits
 
--- the value of a number: 1 to 7 decimal digits
+-- the value of a number: decimal digits, at least one
 abbrev pub number : List ℕ → Option ℕ
 number word =
-    if (nat_le 1 (length word) && nat_le (length word) 7) && list_all is_digit word then Some (value_of word) else None
+    if (nat_le 1 (length word) && nat_le (length word) most_digits) && list_all is_digit word
+    then Some (value_of word)
+    else None
 
--- a letter of either case
+-- a letter of either case: `A` to `Z` are 0x41 to 0x5a, and `a` to `z` 0x61 to 0x7a
 abbrev pub is_letter : ℕ → Bool
-is_letter byte = (nat_le 65 byte && nat_le byte 90) || (nat_le 97 byte && nat_le byte 122)
+is_letter byte = (nat_le 0x41 byte && nat_le byte 0x5a) || (nat_le 0x61 byte && nat_le byte 0x7a)
 
--- a letter, a digit, `_` or `-`
+-- a letter, a digit, `_` (0x5f) or `-` (0x2d)
 abbrev pub is_name_byte : ℕ → Bool
-is_name_byte byte = (is_letter byte || is_digit byte) || (byte == 95 || byte == 45)
+is_name_byte byte = (is_letter byte || is_digit byte) || (byte == 0x5f || byte == 0x2d)
 
--- whether a word is a name: a letter, and then letters, digits, `_` and `-`, at most 32 bytes
+-- whether a word is a name: a letter, and then letters, digits, `_` and `-`
 abbrev pub is_name : List ℕ → Bool
 is_name [] = false
 is_name (first ∷ rest) =
-    is_letter first && (nat_lt (length rest) 32 && list_all is_name_byte rest)
+    is_letter first && (nat_lt (length rest) most_name_bytes && list_all is_name_byte rest)
 
--- where a word's one dot is, by the place of the first
+-- where a word's one dot (0x2e) is, by the place of the first
 abbrev pub dots_from : List ℕ → Option ℕ → Dots
 dots_from word None = Without
-dots_from word (Some at) = if list_any (λ byte. byte == 46) (drop (at + 1) word) then Several else At at
+dots_from word (Some at) = if list_any (λ byte. byte == 0x2e) (drop (at + 1) word) then Several else At at
 
 -- where a word's one dot is
 abbrev pub dots : List ℕ → Dots
-dots word = dots_from word (position (λ byte. byte == 46) word)
+dots word = dots_from word (position (λ byte. byte == 0x2e) word)
 
 -- a lone dot stands inside a word of this length
 abbrev pub IsInside : Dots → ℕ → Type 0

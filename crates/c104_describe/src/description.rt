@@ -3,7 +3,8 @@ ghost use Rattle.std.specs.Prelude.{◌≡◌, ◌<◌, ◌⊎◌, length, map, 
 ghost use Rattle.c104_describe.specs.declared.faults.PlanFaultKind.TheVariants.{TooLong};
 ghost use Rattle.c104_describe.specs.PlanFaults.{fault_at, no_memory};
 ghost use Rattle.c104_describe.specs.PlanLists.{plan_of};
-ghost use Rattle.c104_describe.specs.PlanText.{described, empty_plan, read_lines, GivesLists, GivesOrNoMemory, IsDue};
+ghost use Rattle.c104_describe.specs.PlanText.{described, empty_plan, most_bytes, read_lines};
+ghost use Rattle.c104_describe.specs.PlanText.{GivesLists, GivesOrNoMemory, IsDue};
 ghost use Rattle.c104_describe.specs.Plans.{IsPlan};
 
 use crate::faults::{PlanFault, PlanFaultKind};
@@ -15,15 +16,16 @@ use std::alloc::Global;
 /// The most bytes of a description: 1 MiB.
 pub const MAX_DESCRIPTION: usize = 1_048_576;
 
-/// Reads the description of a network, by this profile's grammar.
+/// Reads the description of a network, by this emulator's own grammar.
 ///
-/// Its lines are `switch N`, `terminal N S.l`, `continue S.l`, `delete T` and `row S.l limit select`;
-/// `#` begins a comment.
-/// Refused is a text of more than 1 MiB, before any line; else the first faulty line, with the least
-/// of its faults; or, whatever its lines say, want of memory.
+/// Its lines are `switch N`, `terminal N S.l`, `continue S.l`, `delete T` and
+/// `row S.l limit select`; `#` begins a comment.
+///
+/// TooLong at line 0 where the text has more than 1 MiB, whatever its lines say; else the first
+/// faulty line, with the least of its faults; or NoMemory at line 0 when out of memory.
 pub fn read_description(alloc: Global, text: &[u8]) -> Result<Plan, PlanFault>
     ensures described { GivesOrNoMemory result (described text.now) }
-    ensures too_long { 1048576 < length text.now → result ≡ Err (fault_at 0 TooLong) }
+    ensures too_long { most_bytes < length text.now → result ≡ Err (fault_at 0 TooLong) }
     ensures kept { IfOk result IsPlan }
 
     // The first faulty line, in the sense of the word: the lines before it are a description.
@@ -51,7 +53,7 @@ fn read_lines(alloc: Global, lines: &[&[u8]]) -> Result<Lists, PlanFault>
     Ok(lists)
 }
 
-/// A fault of a line. Want of memory belongs to no line.
+/// A fault of a line. Out of memory belongs to no line.
 fn fault_at(line: usize, kind: PlanFaultKind) -> PlanFault
     ensures { result ≡ fault_at line kind }
 {

@@ -3,10 +3,10 @@ ghost use Rattle.std.specs.Prelude.{◌≡◌};
 ghost use Rattle.c104_describe.specs.PlanFaults.{kind_name, kind_number};
 ghost use Rattle.c104_describe.specs.declared.faults.PlanFaultKind.TheVariants as kind;
 
-use std::alloc::{AllocError, AllocFailed};
+use std::alloc::AllocError;
 use thiserror::Error;
 
-/// What is wrong with a description, by this profile's numbers. Of all that is wrong with a line
+/// What is wrong with a description, by this emulator's own numbers. Of all that is wrong with a line
 /// the least number is answered.
 #[derive(Clone, Copy, Debug, PartialEq, Eq, Error)]
 pub enum PlanFaultKind {
@@ -26,7 +26,7 @@ pub enum PlanFaultKind {
     /// A name is not a letter and then letters, digits, `_` and `-`, at most 32 bytes in all.
     #[error("a name is a letter and then letters, digits, `_` and `-`, at most 32 bytes in all")]
     BadName = 5,
-    /// A switch or a terminal has the name.
+    /// A switch or a terminal of a line before has the name.
     #[error("the name is taken")]
     NameTaken = 6,
     /// No line before defines the name, or what it names is of the wrong kind.
@@ -38,22 +38,22 @@ pub enum PlanFaultKind {
     /// The link has a terminal or a wire.
     #[error("the link has a terminal or a wire")]
     LinkTaken = 9,
-    /// There are as many as there may be.
+    /// There are as many switches, terminals or rows of an input as there may be.
     #[error("there are as many as there may be")]
     TooMany = 10,
-    /// What may be said once is said again.
+    /// A link continues a group, or headers are deleted on the way to a terminal, a second time.
     #[error("this may be said once")]
     Twice = 11,
     /// The line does not go with the way in which the lines before describe the network.
     #[error("the line does not go with the lines before")]
     MixedStyle = 12,
-    /// Memory was wanted and refused.
+    /// Out of memory.
     #[error("no memory")]
     NoMemory = 13,
 }
 
 impl PlanFaultKind {
-    /// The fault's number.
+    /// The fault's number, 1 to 13.
     pub fn number(self) -> u8
         ensures { result ≡ kind_number self }
     {
@@ -90,20 +90,11 @@ impl From<AllocError> for PlanFaultKind {
     }
 }
 
-impl<T: Drop> From<AllocFailed<T>> for PlanFaultKind {
-    ghost from_gives = { λ _ e. e ≡ kind.NoMemory };
-
-    fn from(_error: AllocFailed<T>) -> PlanFaultKind {
-        PlanFaultKind::NoMemory
-    }
-}
-
 /// Why a description is refused: its first faulty line, and what is wrong with it.
 #[derive(Clone, Copy, Debug, PartialEq, Eq, Error)]
 #[error("line {line}: {kind}")]
 pub struct PlanFault {
-    /// The faulty line, counted from 1. 0 where the description is too long and where memory was
-    /// refused.
+    /// The faulty line, counted from 1. 0 where the description is too long, and out of memory.
     pub line: usize,
     /// What is wrong.
     pub kind: PlanFaultKind,

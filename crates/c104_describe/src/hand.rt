@@ -2,18 +2,19 @@
 ghost use Rattle.std.specs.Prelude.{◌≡◌, length, map, slice_get, IfOk};
 ghost use Rattle.std.specs.List.{range_with_len};
 ghost use Rattle.c104_describe.specs.Plans.{IsPlan, deletes_at, is_on};
-ghost use Rattle.c104_describe.specs.PlanImage.{Fits, hand_image, range_of, settings_of, switch_settings, table_of};
+ghost use Rattle.c104_describe.specs.PlanImage.{Fits, hand_image, range_of};
+ghost use Rattle.c104_describe.specs.PlanImage.{settings_of, switch_settings, table_of};
 
-use crate::image::{Image, LINKS};
+use crate::image::Image;
 use crate::plans::Plan;
 use c104_interval::{Row, Table};
-use c104_regs::Settings;
+use c104_regs::{LINKS, Settings};
 use c104_token::{Items, NoMemory};
 use std::alloc::{AllocError, Global};
 
 /// The image that a plan's own lines give: each terminal's range, the links at which headers are
 /// deleted, those that continue a group, and the rows of each input, row by row from 0 on. All
-/// else is as after a reset. Only want of memory is refused.
+/// else is as after a reset. The only error is out of memory.
 pub fn hand_image(alloc: Global, plan: &Plan) -> Result<Image, NoMemory>
     ensures image { IfOk result (λ image. image ≡ hand_image plan.now) }
     ensures fits { IfOk result (λ image. Fits image plan.now) }

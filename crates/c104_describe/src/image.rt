@@ -6,9 +6,6 @@ use c104_regs::Settings;
 use c104_token::Items;
 use std::marker::Model;
 
-/// How many links a switch has.
-pub(crate) const LINKS: usize = 32;
-
 /// What a network's switches are to hold, and which labels each terminal has.
 #[derive(Debug, Drop)]
 pub struct Image {
@@ -21,9 +18,11 @@ impl Model for Image {
 
     ghost Value = { TheImage };
 
-    ghost view = { λ image. record { ranges = image.ranges.items; settings = image.settings.items } };
+    ghost view = { λ image.
+        record { ranges = image.ranges.items; settings = image.settings.items } };
 
-    ghost invariant = { λ image. IsImage (record { ranges = image.ranges.items; settings = image.settings.items }) };
+    ghost invariant = { λ image.
+        IsImage (record { ranges = image.ranges.items; settings = image.settings.items }) };
 }
 
 impl Image {
@@ -36,14 +35,14 @@ impl Image {
         self.ranges.len() == plan.terminals().len() && self.settings.len() == plan.switches().len()
     }
 
-    /// The labels of a terminal: the first, and how many.
+    /// The labels of a terminal: the first, and how many. None where the image has no such terminal.
     pub fn range(&self, terminal: usize) -> Option<(u32, u32)>
         ensures { result ≡ slice_get self.now.ranges terminal }
     {
         self.ranges.get(terminal).copied()
     }
 
-    /// What is set at each of a switch's 32 links.
+    /// What is set at each of a switch's 32 links. None where the image has no such switch.
     pub fn settings(&self, switch: usize) -> Option<&[Settings]>
         ensures settings { option_copied result ≡ slice_get self.now.settings switch }
         ensures all { IfSome result (λ settings. AreSettings settings.now) }

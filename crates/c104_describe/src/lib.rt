@@ -1,4 +1,16 @@
 //! Descriptions of networks: the plan that one gives, and the image that the plan's own lines give.
+//!
+//! `read_description` alone makes a `Plan`: names differ, each port is a link of one of the plan's
+//! switches and no link has two terminals, nothing is said twice, and each number is in its range.
+//! A `Name` is a letter and then letters, digits, `_` and `-`, at most 32 bytes. A `PlanFault` is
+//! the first faulty line and the least of its faults, of kind `PlanFaultKind`.
+//!
+//! An `Image` holds the labels of each terminal, and for each switch what is set at its 32 links,
+//! within the ranges of the registers. `hand_image` gives that of the plan's own `row`, `continue`
+//! and `delete` lines, which fits the plan.
+//!
+//! How a text is cut into lines and words, and what a number, a name and a port's dot are, stands
+//! here too (`cut_lines`, `read_number`, `find_dots`, ..): scripts are cut by the same functions.
 #![tactic(auto)]
 
 mod description;

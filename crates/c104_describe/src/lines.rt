@@ -1,6 +1,7 @@
 //! Descriptions, line by line.
-ghost use Rattle.std.specs.Prelude.{◌≡◌, map};
-ghost use Rattle.c104_describe.specs.PlanLines.{continue_line, delete_line, read_line, row_line, switch_line, terminal_line, words_line};
+ghost use Rattle.std.specs.Prelude.{◌≡◌, [], ◌∷◌, ◌++◌, map, OnOk};
+ghost use Rattle.c104_describe.specs.PlanLines.{read_line, words_line};
+ghost use Rattle.c104_describe.specs.PlanLines.{continue_line, delete_line, row_line, switch_line, terminal_line};
 ghost use Rattle.c104_describe.specs.PlanLists.{plan_of};
 ghost use Rattle.c104_describe.specs.PlanText.{ReadsLine};
 
@@ -9,7 +10,7 @@ use crate::plans::{Lists, Name, PlanPort, PlanRow, Terminal};
 use crate::text::{cut_words, is_name, is_plain, uncommented};
 use crate::words::{Keyword, read_keyword, read_number_to, read_port, read_select};
 use c104_interval::ROWS;
-use std::alloc::Global;
+use std::alloc::{AllocError, Global};
 
 /// The most switches of a plan: for now one.
 const MAX_SWITCHES: usize = 1;
@@ -17,8 +18,8 @@ const MAX_SWITCHES: usize = 1;
 /// The most terminals of a plan.
 const MAX_TERMINALS: usize = 256;
 
-/// The highest limit of a row.
-const MAX_LIMIT: u32 = 65536;
+/// The highest limit of a row: how many values a header of two bytes has.
+const MAX_LIMIT: u32 = 0x10000;
 
 /// Reads a line after those before it.
 pub(crate) fn read_line(alloc: Global, lists: &mut Lists, line: &[u8]) -> Result<(), PlanFaultKind>
@@ -72,7 +73,7 @@ fn add_switch(alloc: Global, lists: &mut Lists, name: &[u8]) -> Result<(), PlanF
         return Err(PlanFaultKind::TooMany);
     }
     let name = Name::new(alloc, name)?;
-    lists.switches.push(name)?;
+    add(&mut lists.switches, name)?;
     Ok(())
 }
 
@@ -104,13 +105,14 @@ fn add_terminal(
     }
     let name = Name::new(alloc, name)?;
     let first = lists.terminals.len() as u32;
-    lists.terminals.push(Terminal {
+    let terminal = Terminal {
         name,
         switch,
         link: port.link,
         first,
         count: 1,
-    })?;
+    };
+    add(&mut lists.terminals, terminal)?;
     Ok(())
 }
 
@@ -131,10 +133,11 @@ fn add_continue(lists: &mut Lists, port: &[u8]) -> Result<(), PlanFaultKind>
     if lists.is_continued(switch, port.link) {
         return Err(PlanFaultKind::Twice);
     }
-    lists.continues.push(PlanPort {
+    let port = PlanPort {
         switch,
         link: port.link,
-    })?;
+    };
+    add(&mut lists.continues, port)?;
     Ok(())
 }
 
@@ -151,7 +154,7 @@ fn add_delete(lists: &mut Lists, name: &[u8]) -> Result<(), PlanFaultKind>
     if lists.is_deleted(terminal) {
         return Err(PlanFaultKind::Twice);
     }
-    lists.deletes.push(terminal)?;
+    add(&mut lists.deletes, terminal)?;
     Ok(())
 }
 
@@ -172,11 +175,20 @@ fn add_row(lists: &mut Lists, port: &[u8], limit: &[u8], select: &[u8]) -> Resul
     if lists.row_count(switch, port.link) >= ROWS {
         return Err(PlanFaultKind::TooMany);
     }
-    lists.rows.push(PlanRow {
+    let row = PlanRow {
         switch,
         link: port.link,
         limit,
         select,
-    })?;
+    };
+    add(&mut lists.rows, row)?;
+    Ok(())
+}
+
+/// A value joins a list at its end.
+fn add<T: Drop>(list: &mut Vec<T>, value: T) -> Result<(), AllocError>
+    ensures { OnOk result (list.new.items ≡ list.old.items ++ value ∷ []) }
+{
+    list.push(value)?;
     Ok(())
 }

@@ -35,7 +35,7 @@ impl Clone for Name {
 }
 
 impl Name {
-    /// The name that a word is. Only want of memory is refused.
+    /// The name that a word is. The only error is out of memory.
     pub fn new(alloc: Global, word: &[u8]) -> Result<Name, AllocError>
         requires { IsTrue (is_name word.now) }
         ensures { IfOk result (λ name. name ≡ word.now) }
@@ -64,9 +64,9 @@ pub struct Terminal {
     pub switch: usize,
     /// The link of that switch, 0 to 31.
     pub link: usize,
-    /// The first label of its range.
+    /// The first label of its range, 0 to 65535.
     pub first: u32,
-    /// How many labels its range has, at least one.
+    /// How many labels its range has, at least one. The first and this make at most 65536.
     pub count: u32,
 }
 
@@ -129,9 +129,10 @@ pub(crate) struct Lists {
 }
 
 impl Lists {
-    ghost use Rattle.std.specs.Prelude.{◌≡◌, ◌<◌, [], length, bytes_eq, IfSome};
+    ghost use Rattle.std.specs.Prelude.{◌≡◌, ◌<◌, [], length, bytes_eq, IfOk, IfSome};
     ghost use Rattle.std.specs.List.{list_any};
-    ghost use Rattle.c104_describe.specs.Plans.{Terminal as TheTerminal, switch_number, terminal_number, is_taken, is_linked, is_continued, is_deleted, rows_of};
+    ghost use Rattle.c104_describe.specs.Plans.{Terminal as TheTerminal, switch_number, terminal_number};
+    ghost use Rattle.c104_describe.specs.Plans.{is_taken, is_linked, is_continued, is_deleted, rows_of};
     ghost use Rattle.c104_describe.specs.PlanLists.{plan_of};
     ghost use Rattle.c104_describe.specs.PlanText.{empty_plan};
 
@@ -146,6 +147,24 @@ impl Lists {
             deletes: Vec::new(alloc),
             rows: Vec::new(alloc),
         }
+    }
+
+    /// A copy of the lists.
+    fn copy(&self) -> Result<Self, AllocError>
+        ensures { IfOk result (λ copy. plan_of copy ≡ plan_of self.now) }
+    {
+        let switches = self.switches.clone()?;
+        let terminals = self.terminals.clone()?;
+        let continues = self.continues.clone()?;
+        let deletes = self.deletes.clone()?;
+        let rows = self.rows.clone()?;
+        Ok(Lists {
+            switches,
+            terminals,
+            continues,
+            deletes,
+            rows,
+        })
     }
 
     /// The number of the switch of this name.
@@ -178,12 +197,14 @@ impl Lists {
         self.has_switch(name) || self.has_terminal(name)
     }
 
+    /// Whether a switch has this name.
     fn has_switch(&self, name: &[u8]) -> bool
         ensures { result ≡ list_any (λ other. bytes_eq other name.now) (plan_of self.now).switches }
     {
         self.switches.iter().any(|other| other.as_bytes() == name)
     }
 
+    /// Whether a terminal has this name.
     fn has_terminal(&self, name: &[u8]) -> bool
         ensures { result ≡ list_any (λ (t : TheTerminal). bytes_eq t.name name.now)
             (plan_of self.now).terminals }
@@ -256,20 +277,8 @@ impl Clone for Plan {
     ghost is_clone = { λ plan copy. copy ≡ plan };
 
     fn clone(&self) -> Result<Self, AllocError> {
-        let switches = self.lists.switches.clone()?;
-        let terminals = self.lists.terminals.clone()?;
-        let continues = self.lists.continues.clone()?;
-        let deletes = self.lists.deletes.clone()?;
-        let rows = self.lists.rows.clone()?;
-        Ok(Plan {
-            lists: Lists {
-                switches,
-                terminals,
-                continues,
-                deletes,
-                rows,
-            },
-        })
+        let lists = self.lists.copy()?;
+        Ok(Plan { lists })
     }
 }
 
@@ -317,7 +326,7 @@ impl Plan {
         self.lists.rows.as_slice()
     }
 
-    /// The number of the switch of this name.
+    /// The number of the first switch of this name, from 0. None where no switch has it.
     pub fn switch_number(&self, name: &[u8]) -> Option<usize>
         ensures number { result ≡ switch_number self.now name.now }
         ensures inside { IfSome result (λ number. number < length self.now.switches) }
@@ -325,7 +334,7 @@ impl Plan {
         self.lists.switch_number(name)
     }
 
-    /// The number of the terminal of this name.
+    /// The number of the first terminal of this name, from 0. None where no terminal has it.
     pub fn terminal_number(&self, name: &[u8]) -> Option<usize>
         ensures number { result ≡ terminal_number self.now name.now }
         ensures inside { IfSome result (λ number. number < length self.now.terminals) }

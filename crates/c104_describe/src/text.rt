@@ -2,7 +2,7 @@
 ghost use Rattle.std.specs.Prelude.{◌≡◌, ◌^◌, ◌<◌, ◌==◌, length, map, position, IfOk, IfSome};
 ghost use Rattle.std.specs.List.{list_all};
 ghost use Rattle.c104_describe.specs.TextCut.{lines, uncommented, words, plain};
-ghost use Rattle.c104_describe.specs.TextWords.{number, is_name, is_name_byte, dots, IsInside};
+ghost use Rattle.c104_describe.specs.TextWords.{number, most_digits, is_name, is_name_byte, dots, IsInside};
 
 use std::alloc::{AllocError, Global};
 
@@ -12,7 +12,7 @@ const MAX_NAME: usize = 32;
 /// The most digits of a number.
 const MAX_DIGITS: usize = 7;
 
-/// How many dots a word has, and where a lone one stands.
+/// How many dots a word has, and where a lone one stands, as in the port `A.0`.
 #[derive(Clone, Copy, Debug, PartialEq, Eq)]
 pub enum Dots {
     /// The word has none.
@@ -23,7 +23,8 @@ pub enum Dots {
     Several,
 }
 
-/// The lines of a text. A line feed ends a line; what follows the last one is a line too.
+/// The lines of a text. A line feed ends a line; what follows the last one is a line too. The only
+/// error is out of memory.
 pub fn cut_lines<'a>(alloc: Global, text: &'a [u8]) -> Result<Vec<&'a [u8]>, AllocError>
     ensures { IfOk result (λ list. map (λ line. line.now) list.items ≡ lines text.now) }
 {
@@ -40,7 +41,7 @@ pub fn uncommented(line: &[u8]) -> &[u8]
     }
 }
 
-/// The words of a line, which spaces, tabs and carriage returns part.
+/// The words of a line, which spaces, tabs and carriage returns part. The only error is out of memory.
 pub fn cut_words<'a>(alloc: Global, line: &'a [u8]) -> Result<Vec<&'a [u8]>, AllocError>
     ensures { IfOk result (λ list. map (λ word. word.now) list.items ≡ words line.now) }
 {
@@ -57,10 +58,10 @@ pub fn is_plain(line: &[u8]) -> bool
         .all(|byte| matches!(*byte, b' '..=b'~' | b'\t' | b'\r'))
 }
 
-/// The value of a number: 1 to 7 decimal digits.
+/// The value of a number, 1 to 7 decimal digits. None for every other word.
 pub fn read_number(word: &[u8]) -> Option<u32>
     ensures value { result ≡ number word.now }
-    ensures range { IfSome result (λ value. value < 10 ^ 7) }
+    ensures range { IfSome result (λ value. value < 10 ^ most_digits) }
 {
     if word.is_empty() || word.len() > MAX_DIGITS {
         return None;

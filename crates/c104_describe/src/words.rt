@@ -5,6 +5,10 @@ ghost use Rattle.c104_describe.specs.PlanLines.{keyword_of, number_to, port_word
 use crate::faults::PlanFaultKind;
 use crate::text::{Dots, find_dots, read_number};
 use c104_interval::Select;
+use c104_regs::LINKS;
+
+/// The last link of a switch.
+const LAST_LINK: u32 = LINKS as u32 - 1;
 
 /// What the first word of a line says.
 #[derive(Clone, Copy)]
@@ -25,6 +29,7 @@ pub(crate) struct PortWord<'a> {
     pub(crate) link: usize,
 }
 
+/// What a word asks for. None where no line begins with it.
 pub(crate) fn read_keyword(word: &[u8]) -> Option<Keyword>
     ensures { result ≡ keyword_of word.now }
 {
@@ -43,7 +48,7 @@ pub(crate) fn read_keyword(word: &[u8]) -> Option<Keyword>
     }
 }
 
-/// A number of at most so much.
+/// A number of at most so much, or BadNumber.
 pub(crate) fn read_number_to(most: u32, word: &[u8]) -> Result<u32, PlanFaultKind>
     ensures { result ≡ number_to most word.now }
 {
@@ -53,17 +58,19 @@ pub(crate) fn read_number_to(most: u32, word: &[u8]) -> Result<u32, PlanFaultKin
     }
 }
 
+/// What a row selects: the number of a link, or `sink`.
 pub(crate) fn read_select(word: &[u8]) -> Result<Select, PlanFaultKind>
     ensures { result ≡ select_word word.now }
 {
     if word == b"sink".as_slice() {
         return Ok(Select::Sink);
     }
-    let link = read_number_to(31, word)?;
+    let link = read_number_to(LAST_LINK, word)?;
     Ok(Select::Link(link as u8))
 }
 
-/// Reads `NAME.NUMBER`. Whether what stands for the name is one is not tested.
+/// Reads `NAME.NUMBER`: BadShape without exactly one dot, BadNumber where no link has the number.
+/// Whether what stands for the name is one is not tested.
 pub(crate) fn read_port(word: &[u8]) -> Result<PortWord<'_>, PlanFaultKind>
     ensures { MatchResult result (λ port. port_word word.now ≡ Ok (port.name.now, port.link))
         (λ kind. port_word word.now ≡ Err kind) }
@@ -71,7 +78,7 @@ pub(crate) fn read_port(word: &[u8]) -> Result<PortWord<'_>, PlanFaultKind>
     let Dots::At(dot) = find_dots(word) else {
         return Err(PlanFaultKind::BadShape);
     };
-    let link = read_number_to(31, &word[dot + 1..])?;
+    let link = read_number_to(LAST_LINK, &word[dot + 1..])?;
     Ok(PortWord {
         name: &word[..dot],
         link: link as usize,

@@ -125,7 +125,7 @@ module _ {A : Type 0} (kind : Kind A) where
   same_fault : (f g : EventFault) → ◌≡◌ {A = Result Reply EventFault} (Err f) (Err g) → ◌≡◌ {A = Result (Unit {0}) EventFault} (Err f) (Err g)
   same_fault f g same = let faults : f ≡ g = cc in ap Err faults
 
-  -- the run ends with the fault of an event, or for want of memory
+  -- the run ends with the fault of an event, or out of memory
   pub fault_ends : (net mid after : Network A) (events : List Event) (i : ℕ) (e : Event) (f : EventFault) → i < length events → e ≡ get_or events i e →
       run_until kind net (take i events) ≡ (Ok tt, mid) → Answers kind mid e (Err f) after → RunEnds kind net events (Err f) after
   fault_ends net mid after events i e f within is front answer =

@@ -28,10 +28,12 @@ granted_at nodes end = slice_get nodes end.node >>= granted_of end.link
 
 -- there is a credit at the one end, and as much is granted at the other
 abbrev pub AreLevel : {A : Type 0} → List (Node A) → End → End → Type 0
-AreLevel nodes from to = (credit : ℕ) × (credit_at nodes from ≡ Some credit) × (granted_at nodes to ≡ Some credit)
+AreLevel nodes from to =
+    (credit : ℕ) × (credit_at nodes from ≡ Some credit) × (granted_at nodes to ≡ Some credit)
 
 abbrev pub IsBalanced : {A : Type 0} → Network A → Type 0
-IsBalanced net = (p q : Port) → peer net.plan p ≡ Some q → AreLevel net.nodes (end_of net.plan p) (end_of net.plan q)
+IsBalanced net =
+    (p q : Port) → peer net.plan p ≡ Some q → AreLevel net.nodes (end_of net.plan p) (end_of net.plan q)
 
 -- whether a node is a switch
 abbrev pub is_switch : {A : Type 0} → Node A → Bool
@@ -40,7 +42,9 @@ is_switch (Terminal t) = false
 
 -- the nodes are the plan's switches, and then its terminals
 abbrev pub AreInPlace : {A : Type 0} → Plan → List (Node A) → Type 0
-AreInPlace plan nodes = map is_switch nodes ≡ replicate (length plan.switches) true ++ replicate (length plan.terminals) false
+AreInPlace plan nodes =
+    map is_switch nodes
+    ≡ replicate (length plan.switches) true ++ replicate (length plan.terminals) false
 
 -- what the type of a network keeps: each node at its place, and the balance
 pub record IsSteady {A : Type 0} (net : Network A) : Type 0 where

@@ -7,3 +7,4 @@ pub mod Network
 pub mod Balance
 pub mod Finished
 pub mod Rounds
+pub mod PlaceFaults

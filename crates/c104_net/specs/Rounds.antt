@@ -2,6 +2,7 @@
 -- first fault.
 use Rattle.std.specs.Prelude.{ℕ, suc, zero, ◌≡◌, ◌⊎◌, Bool, true, false, List, [], ◌∷◌, ◌++◌, length, map, filter, is_some, Result, Ok, Err}
 use Rattle.std.specs.List.{range_with_len, flat_map}
+use Rattle.c104_regs.specs.declared.registers.TheConstants.{LINKS}
 use Rattle.c104_token.specs.Kinds.{Kind}
 use Rattle.c104_switch.specs.declared.actions.Reply.{Reply}
 use Rattle.c104_switch.specs.declared.actions.Reply.TheVariants as reply
@@ -17,7 +18,7 @@ use Rattle.c104_net.specs.Network.{Network, WouldBeDone, answered}
 
 -- the numbers of a switch's links
 unfoldable pub link_numbers : List ℕ
-link_numbers = range_with_len 0 32
+link_numbers = range_with_len 0 LINKS
 
 -- whether a port is wired
 abbrev pub is_wired : Plan → Port → Bool
@@ -29,11 +30,13 @@ wired_links plan s = filter (is_wired plan) (map (port.Switch s) link_numbers)
 
 -- the wired ports of the terminals
 abbrev pub wired_terminals : Plan → List Port
-wired_terminals plan = filter (is_wired plan) (map port.Terminal (range_with_len 0 (length plan.terminals)))
+wired_terminals plan =
+    filter (is_wired plan) (map port.Terminal (range_with_len 0 (length plan.terminals)))
 
 -- the wired ports: those of the switches by switch and link, and then the terminals
 abbrev pub wired_ports : Plan → List Port
-wired_ports plan = flat_map (wired_links plan) (range_with_len 0 (length plan.switches)) ++ wired_terminals plan
+wired_ports plan =
+    flat_map (wired_links plan) (range_with_len 0 (length plan.switches)) ++ wired_terminals plan
 
 -- a turn of the input at a port, with word 0; a terminal has no input
 abbrev pub turn_at : Port → List Event
@@ -48,6 +51,14 @@ claims_of s i = map (event.Claim s i) link_numbers
 abbrev pub switch_claims : ℕ → List Event
 switch_claims s = flat_map (claims_of s) link_numbers
 
+-- the claims of so many switches
+abbrev pub all_claims : ℕ → List Event
+all_claims switches = flat_map switch_claims (range_with_len 0 switches)
+
+-- a token's arrival at each of so many terminals
+abbrev pub all_drains : ℕ → List Event
+all_drains terminals = map event.Drain (range_with_len 0 terminals)
+
 -- a round: credit at every wired port, crossings from every wired port, a turn of every wired input,
 -- all claims of every switch, and a token's arrival at every terminal
 abbrev pub round : Plan → List Event
@@ -55,8 +66,8 @@ round plan =
     map event.Credit (wired_ports plan)
     ++ map event.Cross (wired_ports plan)
     ++ flat_map turn_at (wired_ports plan)
-    ++ flat_map switch_claims (range_with_len 0 (length plan.switches))
-    ++ map event.Drain (range_with_len 0 (length plan.terminals))
+    ++ all_claims (length plan.switches)
+    ++ all_drains (length plan.terminals)
 
 -- so many rounds
 abbrev pub rounds : Plan → ℕ → List Event
@@ -73,7 +84,8 @@ abbrev pub Outcome : (A : Type 0) → Type 0
 Outcome A = Result (Unit {0}) EventFault × Network A
 
 -- after a fault nothing more happens
-abbrev pub unless_fault : {A X : Type 0} → Result X EventFault → Network A → (Network A → Outcome A) → Outcome A
+abbrev pub unless_fault : {A X : Type 0} → Result X EventFault → Network A → (Network A → Outcome A)
+    → Outcome A
 unless_fault (Ok x) net more = more net
 unless_fault (Err f) net more = (Err f, net)
 
@@ -81,10 +93,12 @@ module _ {A : Type 0} (kind : Kind A) where
   -- a run of events in turn, up to the first that a fault refuses
   abbrev pub run_until : Network A → List Event → Outcome A
   run_until net [] = (Ok tt, net)
-  run_until net (e ∷ events) = unless_fault (answered kind net e).0 (answered kind net e).1 (λ next. run_until next events)
+  run_until net (e ∷ events) =
+      unless_fault (answered kind net e).0 (answered kind net e).1 (λ next. run_until next events)
 
-  -- memory was wanted and refused for an event that would be done, and each event before it stands
-  pub record StopsShort (net : Network A) (events : List Event) (result : Result (Unit {0}) EventFault) (after : Network A) : Type 0 where
+  -- out of memory for an event that would be done, and each event before it stands
+  pub record StopsShort (net : Network A) (events : List Event)
+      (result : Result (Unit {0}) EventFault) (after : Network A) : Type 0 where
     pub refused : result ≡ Err fault.NoMemory
     pub front : List Event
     pub event : Event
@@ -93,11 +107,15 @@ module _ {A : Type 0} (kind : Kind A) where
     pub stands : run_until net front ≡ (Ok tt, after)
     pub wanted : WouldBeDone kind after event
 
-  -- how a run ends: with what is due, or short of it for want of memory
+  -- how a run ends: with what is due, or short of it when out of memory
   abbrev pub RunEnds : Network A → List Event → Result (Unit {0}) EventFault → Network A → Type 0
-  RunEnds net events result after = (◌≡◌ {A = Outcome A} (result, after) (run_until net events)) ⊎ StopsShort net events result after
+  RunEnds net events result after =
+      (◌≡◌ {A = Outcome A} (result, after) (run_until net events))
+      ⊎ StopsShort net events result after
 
-  -- how so many rounds end: as the run of their events, or with no memory for the list of these and
+  -- how so many rounds end: as the run of their events, or out of memory for the list of these and
   -- nothing changed
   abbrev pub RoundsEnd : Network A → ℕ → Result (Unit {0}) EventFault → Network A → Type 0
-  RoundsEnd net n result after = RunEnds net (rounds net.plan n) result after ⊎ ((result ≡ Err fault.NoMemory) × (after ≡ net))
+  RoundsEnd net n result after =
+      RunEnds net (rounds net.plan n) result after
+      ⊎ ((result ≡ Err fault.NoMemory) × (after ≡ net))

@@ -61,7 +61,8 @@ module _ {A : Type 0} (kind : Kind A) where
   -- these tokens of a packet from a place on, as a terminal sends them
   abbrev pub sent_from : ℕ → ℕ → ℕ → List Token → List A
   sent_from terminal number place [] = []
-  sent_from terminal number place (x ∷ xs) = kind.sent terminal number place x ∷ sent_from terminal number (suc place) xs
+  sent_from terminal number place (x ∷ xs) =
+      kind.sent terminal number place x ∷ sent_from terminal number (suc place) xs
 
   -- the tokens of a terminal's packet of this number
   abbrev pub sent_tokens : ℕ → ℕ → Packet → List A
@@ -70,6 +71,9 @@ module _ {A : Type 0} (kind : Kind A) where
   -- a packet's tokens join those that wait to go out; packets are numbered from 0 as they are sent
   abbrev pub send : ℕ → Packet → Terminal A → Terminal A
   send terminal packet t = record t {
-    output = record { items = t.output.items ++ sent_tokens terminal (length t.sent) packet; credit = t.output.credit };
+    output = record {
+      items = t.output.items ++ sent_tokens terminal (length t.sent) packet;
+      credit = t.output.credit;
+    };
     sent = t.sent ++ packet ∷ [];
   }

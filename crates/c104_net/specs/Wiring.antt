@@ -14,7 +14,9 @@ pub record Wire : Type 0 where
 -- the wires of terminals, the first of which has number n
 abbrev pub terminal_wires : ℕ → List Terminal → List Wire
 terminal_wires n [] = []
-terminal_wires n (t ∷ terminals) = record { here = port.Terminal n; there = port.Switch t.switch t.link } ∷ terminal_wires (suc n) terminals
+terminal_wires n (t ∷ terminals) =
+    record { here = port.Terminal n; there = port.Switch t.switch t.link }
+    ∷ terminal_wires (suc n) terminals
 
 -- all wires: each terminal's link
 abbrev pub wires : Plan → List Wire
@@ -29,7 +31,10 @@ is_port (port.Terminal t) (port.Switch s l) = false
 -- the other end of the first of these wires that has this port
 abbrev pub other_end : List Wire → Port → Option Port
 other_end [] p = None
-other_end (w ∷ ws) p = if is_port w.here p then Some w.there else (if is_port w.there p then Some w.here else other_end ws p)
+other_end (w ∷ ws) p =
+    if is_port w.here p then Some w.there
+    else (if is_port w.there p then Some w.here
+    else other_end ws p)
 
 -- the port that a port is wired to, if it is
 abbrev pub peer : Plan → Port → Option Port

@@ -2,11 +2,9 @@
 ghost use Rattle.std.specs.Prelude.{◌≡◌};
 ghost use Rattle.c104_net.specs.EventFaults.{event_fault_name, event_fault_number};
 ghost use Rattle.c104_net.specs.declared.events.EventFault.TheVariants as fault;
-ghost use Rattle.c104_net.specs.declared.events.PlaceFault.TheVariants as place;
 
 use c104_control::ControlBytes;
 use c104_token::{NoMemory as WantOfMemory, Packet};
-use std::alloc::{AllocError, AllocFailed};
 use thiserror::Error;
 
 /// One end of a wire. Switches and terminals are numbered from 0 in the order of the plan, links
@@ -111,40 +109,5 @@ impl From<WantOfMemory> for EventFault {
 
     fn from(_error: WantOfMemory) -> EventFault {
         EventFault::NoMemory
-    }
-}
-
-/// Why a network was not made.
-#[derive(Clone, Copy, Debug, PartialEq, Eq, Error)]
-pub enum PlaceFault {
-    /// The image has other counts of switches or terminals than the plan.
-    #[error("the image doesn't fit the plan")]
-    NotFitting = 1,
-    /// Memory was wanted and refused.
-    #[error("no memory")]
-    NoMemory = 2,
-}
-
-impl From<WantOfMemory> for PlaceFault {
-    ghost from_gives = { λ _ e. e ≡ place.NoMemory };
-
-    fn from(_error: WantOfMemory) -> PlaceFault {
-        PlaceFault::NoMemory
-    }
-}
-
-impl From<AllocError> for PlaceFault {
-    ghost from_gives = { λ _ e. e ≡ place.NoMemory };
-
-    fn from(_error: AllocError) -> PlaceFault {
-        PlaceFault::NoMemory
-    }
-}
-
-impl<T: Drop> From<AllocFailed<T>> for PlaceFault {
-    ghost from_gives = { λ _ e. e ≡ place.NoMemory };
-
-    fn from(_error: AllocFailed<T>) -> PlaceFault {
-        PlaceFault::NoMemory
     }
 }

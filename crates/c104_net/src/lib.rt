@@ -1,7 +1,17 @@
 //! Networks of switches and terminals, run event by event.
+//!
+//! A `NetOf` (a `Net`, over plain tokens) is the switches and the terminals of a plan. It keeps that
+//! each stands at its place, the switches first, and that at the two ends of each wire the credit of
+//! the one is what the other has granted. An event is done as a whole, at both ends of its wire, or
+//! it is answered with NotReady or refused, and then nothing has changed.
+//!
+//! A network can't be dropped, since its switches hold claims: `finish` ends it, and gives a `RunOf`
+//! (a `Run`), which keeps the plan and what had arrived at each of its terminals. A `PlaceFault` is
+//! why a network was not made. `rounds` does the events of all parts in turn, again and again.
 #![tactic(auto)]
 
 mod events;
+mod faults;
 mod net;
 mod node;
 mod nodes;
@@ -10,7 +20,8 @@ mod rounds;
 mod run;
 mod terminal;
 
-pub use events::{Event, EventFault, PlaceFault, Port};
+pub use events::{Event, EventFault, Port};
+pub use faults::PlaceFault;
 pub use net::{Net, NetOf};
 pub use run::{Run, RunOf};
 

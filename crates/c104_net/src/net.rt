@@ -1,5 +1,6 @@
 //! A network of switches and terminals.
-ghost use Rattle.std.specs.Prelude.{◌≡◌, ◌≤◌, ℕ, length, slice_get, option_map, MatchResult, IfOk, OnOk, IsErrOf, IfSome, Some, None};
+ghost use Rattle.std.specs.Prelude.{◌≡◌, ◌≤◌, ℕ, length, slice_get, option_map, Some, None};
+ghost use Rattle.std.specs.Prelude.{MatchResult, IfOk, OnOk, OnErr, IsErrOf, IfSome};
 ghost use Rattle.std.specs.Option.{option_copied};
 ghost use Rattle.c104_describe.specs.Plans.{IsPlan};
 ghost use Rattle.c104_net.specs.Wiring.{peer, end_of, other_end, terminal_wires, IsInPlan};
@@ -8,9 +9,11 @@ ghost use Rattle.c104_switch.specs.Actions.{reply_of, reply_with};
 ghost use Rattle.c104_describe.specs.PlanImage.{Fits};
 ghost use Rattle.c104_net.specs.Balance.{IsBalanced};
 ghost use Rattle.c104_net.specs.Finished.{finished, arrived_in};
-ghost use Rattle.c104_net.specs.Network.{first_network, placed, arrived_of, register_of, reply_by, Answers, Runs, event_fault, port_fault, wire_fault, terminal_place};
+ghost use Rattle.c104_net.specs.Network.{first_network, placed, arrived_of, register_of, reply_by};
+ghost use Rattle.c104_net.specs.Network.{Answers, Runs, event_fault, wired_fault, terminal_place};
 
-use crate::events::{Event, EventFault, PlaceFault, Port};
+use crate::events::{Event, EventFault, Port};
+use crate::faults::PlaceFault;
 use crate::nodes::{End, NodesOf};
 use crate::placing::{place, place_new, retire_all};
 use crate::run::RunOf;
@@ -30,7 +33,7 @@ const INBOX_LIMIT: usize = 262_144;
 
 /// A network over any kind of token.
 ///
-/// Each event is done as a whole, or refused with nothing changed. A network can't be let go of while
+/// Each event is done as a whole, or refused with nothing changed. A network can't be dropped, since
 /// its switches hold claims: `finish` retires them.
 pub struct NetOf<T: TokenKind> {
     plan: Plan,
@@ -55,12 +58,15 @@ impl<T: TokenKind> Model for NetOf<T> {
 
     ghost view = { λ net. record { plan = net.plan; nodes = net.nodes } };
 
-    ghost invariant = { λ net. IsSteady (record { plan = net.plan; nodes = net.nodes }) × (net.room.items ≡ []) × (length net.plan.terminals ≤ vec_capacity net.room) };
+    ghost invariant = { λ net.
+        IsSteady (record { plan = net.plan; nodes = net.nodes })
+        × (net.room.items ≡ [])
+        × (length net.plan.terminals ≤ vec_capacity net.room) };
 }
 
 impl<T: TokenKind> NetOf<T> {
     /// A network of this plan, each switch of which is reset and not started, and no token anywhere.
-    /// Only want of memory is refused.
+    /// The only error is out of memory.
     pub fn new(alloc: Global, plan: &Plan) -> Result<Self, NoMemory>
         ensures { IfOk result (λ net. net ≡ first_network plan.now) }
     {
@@ -81,7 +87,8 @@ impl<T: TokenKind> NetOf<T> {
     }
 
     /// A network of this plan, each switch of which is started with the image's settings, and no
-    /// token anywhere. NotFitting exactly where the image doesn't fit the plan.
+    /// token anywhere. NotFitting exactly where the image has other counts of switches or terminals
+    /// than the plan; else the only error is out of memory.
     pub fn placed(alloc: Global, plan: &Plan, image: &Image) -> Result<Self, PlaceFault>
         ensures placed { IfOk result (λ net. net ≡ placed plan.now image.now) }
         ensures fits { OnOk result (Fits image.now plan.now) }
@@ -91,6 +98,15 @@ impl<T: TokenKind> NetOf<T> {
         if !image.fits(plan) {
             return Err(PlaceFault::NotFitting);
         }
+        let net = NetOf::started(alloc, plan, image)?;
+        Ok(net)
+    }
+
+    /// A network of this plan, with an image that fits it.
+    fn started(alloc: Global, plan: &Plan, image: &Image) -> Result<Self, NoMemory>
+        requires { Fits image.now plan.now }
+        ensures { IfOk result (λ net. net ≡ placed plan.now image.now) }
+    {
         let plan = plan.clone()?;
         let room = Vec::with_capacity(alloc, plan.terminals().len())?;
         let mut list = Vec::new(alloc);
@@ -102,7 +118,7 @@ impl<T: TokenKind> NetOf<T> {
             }),
             Err(error) => {
                 retire_all(list);
-                Err(PlaceFault::from(error))
+                Err(error)
             }
         }
     }
@@ -136,8 +152,8 @@ impl<T: TokenKind> NetOf<T> {
         self.nodes.arrived(self.plan.switches().len() + terminal)
     }
 
-    /// The value of the register at this address of a switch. None where the plan has no such switch,
-    /// or no register has the address.
+    /// The value of the register at this address of a switch. None where the plan has no such
+    /// switch, or no register has the address.
     pub fn peek(&self, switch: usize, addr: u16) -> Option<u32>
         ensures { result ≡ register_of self.now switch addr }
     {
@@ -148,7 +164,9 @@ impl<T: TokenKind> NetOf<T> {
     }
 
     /// Does an event, and answers what came of it, or NotReady where one of its conditions doesn't
-    /// hold; or refuses it. Where it isn't done nothing has changed.
+    /// hold; or refuses it. Where it isn't done nothing has changed. Tested in this order: NoNode,
+    /// NoLink, NotWired and TooLong; then whether it is ready; then OutboxFull, InboxFull and
+    /// NoMemory.
     pub fn apply(&mut self, event: &Event) -> Result<Reply, EventFault>
         ensures { Answers T.kind self.old event.now result self.new }
     {
@@ -167,14 +185,16 @@ impl<T: TokenKind> NetOf<T> {
         }
     }
 
-    /// Applies events in turn, and gives their answers. Where there is no memory for the answers,
-    /// nothing has changed.
+    /// Applies events in turn, and gives their answers. The only error is out of memory for the
+    /// answers, and then nothing has changed.
     pub fn apply_all(
         &mut self,
         alloc: Global,
         events: &[Event],
     ) -> Result<Vec<Result<Reply, EventFault>>, AllocError>
-        ensures { MatchResult result (λ answers. Runs T.kind self.old events.now answers.items self.new) (λ _. self.new ≡ self.old) }
+        ensures done { IfOk result (λ answers.
+            Runs T.kind self.old events.now answers.items self.new) }
+        ensures kept { OnErr result (self.new ≡ self.old) }
     {
         let mut answers = Vec::with_capacity(alloc, events.len())?;
         for event in events {
@@ -186,6 +206,7 @@ impl<T: TokenKind> NetOf<T> {
         Ok(answers)
     }
 
+    /// A token crosses the wire at a port.
     fn cross(&mut self, port: Port) -> Result<Reply, EventFault>
         ensures { Answers T.kind self.old (event.Cross port) result self.new }
     {
@@ -193,6 +214,7 @@ impl<T: TokenKind> NetOf<T> {
         Ok(gave(self.nodes.cross(ends.near, ends.far)))
     }
 
+    /// A port grants eight more tokens to the other end of its wire.
     fn credit(&mut self, port: Port) -> Result<Reply, EventFault>
         ensures { Answers T.kind self.old (event.Credit port) result self.new }
     {
@@ -200,6 +222,7 @@ impl<T: TokenKind> NetOf<T> {
         Ok(done(self.nodes.credit(ends.near, ends.far)))
     }
 
+    /// A terminal sends a packet.
     fn send(&mut self, terminal: usize, packet: &Packet) -> Result<Reply, EventFault>
         ensures { Answers T.kind self.old (event.Send terminal packet.now) result self.new }
     {
@@ -220,6 +243,7 @@ impl<T: TokenKind> NetOf<T> {
         Ok(done(self.nodes.send(place, terminal, packet)?))
     }
 
+    /// The first token that came in at a terminal arrives.
     fn drain(&mut self, terminal: usize) -> Result<Reply, EventFault>
         ensures { Answers T.kind self.old (event.Drain terminal) result self.new }
     {
@@ -239,6 +263,7 @@ impl<T: TokenKind> NetOf<T> {
         Ok(gave(self.nodes.drain(place)?))
     }
 
+    /// An input of a switch takes a turn.
     fn input(&mut self, switch: usize, link: usize, word: u32) -> Result<Reply, EventFault>
         ensures { Answers T.kind self.old (event.Input switch link word) result self.new }
     {
@@ -251,6 +276,7 @@ impl<T: TokenKind> NetOf<T> {
         Ok(done(self.nodes.input(switch, link, word)))
     }
 
+    /// An input of a switch claims an output.
     fn claim(&mut self, switch: usize, input: usize, output: usize) -> Result<Reply, EventFault>
         ensures { Answers T.kind self.old (event.Claim switch input output) result self.new }
     {
@@ -263,6 +289,7 @@ impl<T: TokenKind> NetOf<T> {
         Ok(done(self.nodes.claim(switch, input, output)))
     }
 
+    /// A control command comes to a switch.
     fn control(&mut self, switch: usize, bytes: &ControlBytes) -> Result<Reply, EventFault>
         ensures { Answers T.kind self.old (event.Control switch bytes.now) result self.new }
     {
@@ -273,12 +300,14 @@ impl<T: TokenKind> NetOf<T> {
     }
 }
 
+/// The reply to an event of which nothing else comes.
 fn done(made: bool) -> Reply
     ensures { result ≡ reply_of made }
 {
     if made { Reply::Done } else { Reply::NotReady }
 }
 
+/// The reply to an event of which a token comes.
 fn gave<T: TokenKind>(token: Option<T>) -> Reply
     ensures { result ≡ reply_with (option_map T.kind.plain token) }
 {
@@ -288,6 +317,7 @@ fn gave<T: TokenKind>(token: Option<T>) -> Reply
     }
 }
 
+/// The reply to a command.
 fn replied(bytes: Option<ControlBytes>) -> Reply
     ensures { result ≡ reply_by bytes }
 {
@@ -304,11 +334,14 @@ struct Ends {
     far: End,
 }
 
-/// The ends of the wire at a port.
+/// The ends of the wire at a port. NoNode, NoLink or NotWired where there is none.
 fn wired_ends(plan: &Plan, port: Port) -> Result<Ends, EventFault>
-    ensures fault { MatchResult result (λ ends. port_fault plan.now port None ≡ None) (λ fault. port_fault plan.now port (wire_fault (peer plan.now port)) ≡ Some fault) }
+    ensures fault { MatchResult result
+        (λ ends. wired_fault plan.now port ≡ None)
+        (λ fault. wired_fault plan.now port ≡ Some fault) }
     ensures near { IfOk result (λ ends. ends.near ≡ end_of plan.now port) }
-    ensures far { IfOk result (λ ends. option_map (end_of plan.now) (peer plan.now port) ≡ Some ends.far) }
+    ensures far { IfOk result (λ ends.
+        option_map (end_of plan.now) (peer plan.now port) ≡ Some ends.far) }
     ensures kept { IfOk result (λ ends. IsPlan plan.now) }
 {
     match port {
@@ -330,7 +363,7 @@ fn wired_ends(plan: &Plan, port: Port) -> Result<Ends, EventFault>
     })
 }
 
-/// The port that a port is wired to.
+/// The port that a port is wired to. None where it has no wire.
 pub fn peer(plan: &Plan, port: Port) -> Option<Port>
     ensures value { result ≡ peer plan.now port }
     ensures kept { IsPlan plan.now }
@@ -339,6 +372,7 @@ pub fn peer(plan: &Plan, port: Port) -> Option<Port>
     peer_among(plan.terminals(), port)
 }
 
+/// The other end of the first wire of a terminal that has this port.
 fn peer_among(terminals: &[Terminal], port: Port) -> Option<Port>
     ensures value { result ≡ other_end (terminal_wires 0 terminals.now) port }
     ensures inside { IfSome result (IsInPlan terminals.now) }

@@ -1,8 +1,10 @@
 //! A node of a network: a switch or a terminal.
-ghost use Rattle.std.specs.Prelude.{◌≡◌, ◌≤◌, ◌∷◌, [], length, is_some, MatchResult};
+ghost use Rattle.std.specs.Prelude.{◌≡◌, ◌≤◌, ◌∷◌, [], length, is_some, IfOk, OnErr};
 ghost use Rattle.std.specs.Option.{option_copied, option_to_list};
+ghost use Rattle.c104_token.specs.declared.text.TheConstants.{MAX_PACKET_BYTES};
 ghost use Rattle.c104_link.specs.Steps.{tried, taken};
-ghost use Rattle.c104_net.specs.Nodes.{Node, enter, leave, credit_out, credit_in, input, claim, control, send, drain, waiting_count, arrived_list, register_value};
+ghost use Rattle.c104_net.specs.Nodes.{Node, enter, leave, credit_out, credit_in, input, claim, control};
+ghost use Rattle.c104_net.specs.Nodes.{send, drain, waiting_count, arrived_list, register_value};
 ghost use Rattle.c104_net.specs.Finished.{terminals_of};
 
 use crate::terminal::TerminalOf;
@@ -120,7 +122,8 @@ impl<T: TokenKind> NodeOf<T> {
         }
     }
 
-    /// The value of the register at this address. None where there is none, or the node is no switch.
+    /// The value of the register at this address. None where there is none, or the node is no
+    /// switch.
     pub fn peek(&self, addr: u16) -> Option<u32>
         ensures { result ≡ register_value addr self.now }
     {
@@ -132,8 +135,10 @@ impl<T: TokenKind> NodeOf<T> {
 
     /// The terminal of this number sends a packet. False where the node is no terminal.
     pub fn send(&mut self, number: usize, packet: &Packet) -> Result<bool, NoMemory>
-        requires { length packet.now.bytes ≤ 4096 }
-        ensures { MatchResult result (λ sent. (sent, self.new) ≡ tried (send T.kind number packet.now self.old) self.old) (λ _. self.new ≡ self.old) }
+        requires { length packet.now.bytes ≤ MAX_PACKET_BYTES }
+        ensures done { IfOk result (λ sent.
+            (sent, self.new) ≡ tried (send T.kind number packet.now self.old) self.old) }
+        ensures kept { OnErr result (self.new ≡ self.old) }
     {
         match self {
             NodeOf::Switch(_) => Ok(false),
@@ -146,7 +151,9 @@ impl<T: TokenKind> NodeOf<T> {
 
     /// A token arrives. None where the node is no terminal, or nothing came in.
     pub fn drain(&mut self) -> Result<Option<T>, NoMemory>
-        ensures { MatchResult result (λ token. (token, self.new) ≡ taken (drain self.old) self.old) (λ _. self.new ≡ self.old) }
+        ensures done { IfOk result (λ token.
+            (token, self.new) ≡ taken (drain self.old) self.old) }
+        ensures kept { OnErr result (self.new ≡ self.old) }
     {
         match self {
             NodeOf::Switch(_) => Ok(None),

@@ -1,8 +1,10 @@
 //! The nodes of a network, in order: the switches, and then the terminals.
-ghost use Rattle.std.specs.Prelude.{◌≡◌, ◌≤◌, [], length, is_some, MatchResult};
+ghost use Rattle.std.specs.Prelude.{◌≡◌, ◌≤◌, [], length, is_some, IfOk, OnErr};
 ghost use Rattle.std.specs.Option.{option_copied};
+ghost use Rattle.c104_token.specs.declared.text.TheConstants.{MAX_PACKET_BYTES};
 ghost use Rattle.c104_link.specs.Steps.{tried, taken, at_place, from_place};
-ghost use Rattle.c104_net.specs.Nodes.{enter, leave, credit_out, credit_in, input, claim, control, send, drain, waiting_at, arrived_at, register_at};
+ghost use Rattle.c104_net.specs.Nodes.{enter, leave, credit_out, credit_in, input, claim, control, send, drain};
+ghost use Rattle.c104_net.specs.Nodes.{outcome_at, yield_at, waiting_at, arrived_at, register_at};
 ghost use Rattle.c104_net.specs.Wires.{crossed, credited};
 ghost use Rattle.c104_net.specs.Finished.{terminals_of};
 ghost use Rattle.std.specs.Vec.{vec_capacity};
@@ -54,7 +56,7 @@ impl<T: TokenKind> NodesOf<T> {
 
     /// A token comes in at an end of a wire.
     pub fn enter(&mut self, end: End, token: T) -> bool
-        ensures { (result, self.new) ≡ tried (at_place self.old end.node (enter token end.link)) self.old }
+        ensures { (result, self.new) ≡ outcome_at end.node (enter token end.link) self.old }
     {
         let list = &mut self.list;
         if end.node >= list.len() {
@@ -66,7 +68,7 @@ impl<T: TokenKind> NodesOf<T> {
 
     /// A token goes out at an end of a wire.
     pub fn leave(&mut self, end: End) -> Option<T>
-        ensures { (result, self.new) ≡ taken (from_place self.old end.node (leave end.link)) self.old }
+        ensures { (result, self.new) ≡ yield_at end.node (leave end.link) self.old }
     {
         let list = &mut self.list;
         if end.node >= list.len() {
@@ -78,7 +80,7 @@ impl<T: TokenKind> NodesOf<T> {
 
     /// An end of a wire grants eight more tokens.
     pub fn credit_out(&mut self, end: End) -> bool
-        ensures { (result, self.new) ≡ tried (at_place self.old end.node (credit_out end.link)) self.old }
+        ensures { (result, self.new) ≡ outcome_at end.node (credit_out end.link) self.old }
     {
         let list = &mut self.list;
         if end.node >= list.len() {
@@ -90,7 +92,7 @@ impl<T: TokenKind> NodesOf<T> {
 
     /// An end of a wire may send eight more tokens.
     pub fn credit_in(&mut self, end: End) -> bool
-        ensures { (result, self.new) ≡ tried (at_place self.old end.node (credit_in end.link)) self.old }
+        ensures { (result, self.new) ≡ outcome_at end.node (credit_in end.link) self.old }
     {
         let list = &mut self.list;
         if end.node >= list.len() {
@@ -102,7 +104,7 @@ impl<T: TokenKind> NodesOf<T> {
 
     /// A turn of an input of a switch.
     pub fn input(&mut self, place: usize, link: usize, word: u32) -> bool
-        ensures { (result, self.new) ≡ tried (at_place self.old place (input T.kind link word)) self.old }
+        ensures { (result, self.new) ≡ outcome_at place (input T.kind link word) self.old }
     {
         let list = &mut self.list;
         if place >= list.len() {
@@ -114,7 +116,7 @@ impl<T: TokenKind> NodesOf<T> {
 
     /// An input of a switch claims an output.
     pub fn claim(&mut self, place: usize, link: usize, output: usize) -> bool
-        ensures { (result, self.new) ≡ tried (at_place self.old place (claim link output)) self.old }
+        ensures { (result, self.new) ≡ outcome_at place (claim link output) self.old }
     {
         let list = &mut self.list;
         if place >= list.len() {
@@ -126,7 +128,7 @@ impl<T: TokenKind> NodesOf<T> {
 
     /// A control command comes to the node at this place. None where it is no switch.
     pub fn control(&mut self, place: usize, bytes: &[u8]) -> Option<ControlBytes>
-        ensures { (result, self.new) ≡ taken (from_place self.old place (control bytes.now)) self.old }
+        ensures { (result, self.new) ≡ yield_at place (control bytes.now) self.old }
     {
         let list = &mut self.list;
         if place >= list.len() {
@@ -145,7 +147,8 @@ impl<T: TokenKind> NodesOf<T> {
 
     /// Whether a token can come in at an end of a wire.
     pub fn can_enter(&self, end: End) -> bool
-        ensures { (token : T) → result ≡ is_some (at_place self.now end.node (enter token end.link)) }
+        ensures { (token : T) →
+            result ≡ is_some (at_place self.now end.node (enter token end.link)) }
     {
         match self.list.get(end.node) {
             Some(node) => node.can_enter(end.link),
@@ -165,8 +168,10 @@ impl<T: TokenKind> NodesOf<T> {
 
     /// The terminal at this place, which has this number, sends a packet.
     pub fn send(&mut self, place: usize, number: usize, packet: &Packet) -> Result<bool, NoMemory>
-        requires { length packet.now.bytes ≤ 4096 }
-        ensures { MatchResult result (λ sent. (sent, self.new) ≡ tried (at_place self.old place (send T.kind number packet.now)) self.old) (λ _. self.new ≡ self.old) }
+        requires { length packet.now.bytes ≤ MAX_PACKET_BYTES }
+        ensures done { IfOk result (λ sent.
+            (sent, self.new) ≡ outcome_at place (send T.kind number packet.now) self.old) }
+        ensures kept { OnErr result (self.new ≡ self.old) }
     {
         let list = &mut self.list;
         if place >= list.len() {
@@ -179,7 +184,9 @@ impl<T: TokenKind> NodesOf<T> {
 
     /// A token arrives at the terminal at this place.
     pub fn drain(&mut self, place: usize) -> Result<Option<T>, NoMemory>
-        ensures { MatchResult result (λ token. (token, self.new) ≡ taken (from_place self.old place drain) self.old) (λ _. self.new ≡ self.old) }
+        ensures done { IfOk result (λ token.
+            (token, self.new) ≡ yield_at place drain self.old) }
+        ensures kept { OnErr result (self.new ≡ self.old) }
     {
         let list = &mut self.list;
         if place >= list.len() {
@@ -200,7 +207,8 @@ impl<T: TokenKind> NodesOf<T> {
         }
     }
 
-    /// How many tokens wait to go out of the terminal at this place. None where there is no terminal.
+    /// How many tokens wait to go out of the terminal at this place. None where there is no
+    /// terminal.
     pub fn waiting(&self, place: usize) -> Option<usize>
         ensures { result ≡ waiting_at self.now place }
     {

@@ -1,6 +1,6 @@
 //! The nodes of a network at first.
 ghost use Rattle.std.specs.Prelude.{◌≡◌, ◌++◌, [], length, All, OnOk};
-ghost use Rattle.c104_net.specs.Network.{first_switches, switch_nodes, terminal_nodes};
+ghost use Rattle.c104_net.specs.Network.{first_network, first_switches, placed, switch_nodes, terminal_nodes};
 ghost use Rattle.c104_describe.specs.PlanImage.{AreSettings};
 
 use crate::node::NodeOf;
@@ -14,8 +14,8 @@ use std::alloc::Global;
 /// How many tokens each input buffer has room for.
 const BUFFER_SIZE: usize = 16;
 
-/// The nodes of a network of this plan join an empty list: the switches, each started with the image's
-/// settings, and then the terminals.
+/// The nodes of a network of this plan join an empty list: the switches, each started with the
+/// image's settings, and then the terminals. The only error is out of memory.
 pub fn place<T: TokenKind>(
     alloc: Global,
     plan: &Plan,
@@ -23,21 +23,21 @@ pub fn place<T: TokenKind>(
     list: &mut Vec<NodeOf<T>>,
 ) -> Result<(), NoMemory>
     requires { list.old.items ≡ [] }
-    ensures { OnOk result (list.new.items ≡ switch_nodes image.now.settings ++ terminal_nodes plan.now.terminals) }
+    ensures { OnOk result (list.new.items ≡ (placed plan.now image.now).nodes) }
 {
     add_switches(alloc, image.all_settings(), list)?;
     add_terminals(alloc, plan.terminals(), list)
 }
 
-/// The nodes of a new network of this plan join an empty list: the switches, reset and not started, and
-/// then the terminals.
+/// The nodes of a new network of this plan join an empty list: the switches, reset and not started,
+/// and then the terminals. The only error is out of memory.
 pub fn place_new<T: TokenKind>(
     alloc: Global,
     plan: &Plan,
     list: &mut Vec<NodeOf<T>>,
 ) -> Result<(), NoMemory>
     requires { list.old.items ≡ [] }
-    ensures { OnOk result (list.new.items ≡ first_switches plan.now.switches ++ terminal_nodes plan.now.terminals) }
+    ensures { OnOk result (list.new.items ≡ (first_network plan.now).nodes) }
 {
     add_new_switches(alloc, plan.switches(), list)?;
     add_terminals(alloc, plan.terminals(), list)

@@ -1,7 +1,7 @@
 //! Rounds, in which every part of a network takes its turn.
 ghost use Rattle.std.specs.Prelude.{◌≡◌, [], ◌∷◌, ◌++◌, filter, map, flat_map, Ok, IfOk, OnOk, MatchResult};
-ghost use Rattle.std.specs.List.{range_with_len};
-ghost use Rattle.c104_net.specs.Rounds.{claims_of, is_wired, round, switch_claims, turn_at, was_done, wired_links, wired_ports, wired_terminals};
+ghost use Rattle.c104_net.specs.Rounds.{all_claims, all_drains, claims_of, is_wired, round, switch_claims};
+ghost use Rattle.c104_net.specs.Rounds.{turn_at, was_done, wired_links, wired_ports, wired_terminals};
 ghost use Rattle.c104_net.specs.declared.events.Event.TheVariants as event;
 
 use crate::events::{Event, EventFault, Port};
@@ -18,10 +18,10 @@ impl<T: TokenKind> NetOf<T> {
     /// Does so many rounds, up to the first fault of an event. A round is Credit of each wired port,
     /// those of the switches by switch and link and then the terminals; Cross of the same; Input of
     /// each wired input, with word 0; Claim of each input and output of each switch; and Drain of
-    /// each terminal. An event that isn't ready stops nothing.
+    /// each terminal. An event that isn't ready stops nothing. The order is this emulator's own.
     ///
-    /// The events before a fault stand. NoMemory comes before the first event, or at an event that
-    /// would be done.
+    /// The events before a fault stand. NoMemory comes when out of memory for the list of a round's
+    /// events, before the first of them, or at an event that would be done.
     pub fn rounds(&mut self, alloc: Global, count: u32) -> Result<(), EventFault>
         ensures { RoundsEnd T.kind self.old count result self.new }
     {
@@ -38,7 +38,9 @@ impl<T: TokenKind> NetOf<T> {
 
     /// Does events in turn, up to the first fault, and tells whether any of them was done.
     fn apply_until(&mut self, events: &[Event]) -> Result<bool, EventFault>
-        ensures ends { MatchResult result (λ _. RunEnds T.kind self.old events.now (Ok tt) self.new) (λ fault. RunEnds T.kind self.old events.now (Err fault) self.new) }
+        ensures ends { MatchResult result
+            (λ _. RunEnds T.kind self.old events.now (Ok tt) self.new)
+            (λ fault. RunEnds T.kind self.old events.now (Err fault) self.new) }
         ensures unchanged { result ≡ Ok false → self.new ≡ self.old }
     {
         let mut changed = false;
@@ -52,6 +54,7 @@ impl<T: TokenKind> NetOf<T> {
     }
 }
 
+/// Whether an event that was answered so was done.
 fn was_done(reply: Reply) -> bool
     ensures { result ≡ was_done reply }
 {
@@ -87,6 +90,7 @@ fn wired_ports(alloc: Global, plan: &Plan) -> Result<Vec<Port>, NoMemory>
     Ok(ports)
 }
 
+/// The wired links of a switch.
 fn add_wired_links(ports: &mut Vec<Port>, plan: &Plan, switch: usize) -> Result<(), NoMemory>
     ensures { OnOk result (ports.new.items ≡ ports.old.items ++ wired_links plan.now switch) }
 {
@@ -96,6 +100,7 @@ fn add_wired_links(ports: &mut Vec<Port>, plan: &Plan, switch: usize) -> Result<
     Ok(())
 }
 
+/// The wired terminals.
 fn add_wired_terminals(ports: &mut Vec<Port>, plan: &Plan) -> Result<(), NoMemory>
     ensures { OnOk result (ports.new.items ≡ ports.old.items ++ wired_terminals plan.now) }
 {
@@ -105,8 +110,10 @@ fn add_wired_terminals(ports: &mut Vec<Port>, plan: &Plan) -> Result<(), NoMemor
     Ok(())
 }
 
+/// A port, if it is wired.
 fn add_if_wired(ports: &mut Vec<Port>, plan: &Plan, port: Port) -> Result<(), NoMemory>
-    ensures { OnOk result (ports.new.items ≡ ports.old.items ++ filter (is_wired plan.now) (port ∷ [])) }
+    ensures { OnOk result
+        (ports.new.items ≡ ports.old.items ++ filter (is_wired plan.now) (port ∷ [])) }
 {
     if peer(plan, port).is_some() {
         ports.push(port)?;
@@ -114,6 +121,7 @@ fn add_if_wired(ports: &mut Vec<Port>, plan: &Plan, port: Port) -> Result<(), No
     Ok(())
 }
 
+/// Credit of each of these ports.
 fn add_credits(events: &mut Vec<Event>, ports: &[Port]) -> Result<(), NoMemory>
     ensures { OnOk result (events.new.items ≡ events.old.items ++ map event.Credit ports.now) }
 {
@@ -123,6 +131,7 @@ fn add_credits(events: &mut Vec<Event>, ports: &[Port]) -> Result<(), NoMemory>
     Ok(())
 }
 
+/// A crossing from each of these ports.
 fn add_crossings(events: &mut Vec<Event>, ports: &[Port]) -> Result<(), NoMemory>
     ensures { OnOk result (events.new.items ≡ events.old.items ++ map event.Cross ports.now) }
 {
@@ -150,7 +159,7 @@ fn add_turns(events: &mut Vec<Event>, ports: &[Port]) -> Result<(), NoMemory>
 
 /// The claims of each of so many switches.
 fn add_claims(events: &mut Vec<Event>, switches: usize) -> Result<(), NoMemory>
-    ensures { OnOk result (events.new.items ≡ events.old.items ++ flat_map switch_claims (range_with_len 0 switches)) }
+    ensures { OnOk result (events.new.items ≡ events.old.items ++ all_claims switches) }
 {
     for switch in 0..switches {
         add_switch_claims(events, switch)?;
@@ -158,6 +167,7 @@ fn add_claims(events: &mut Vec<Event>, switches: usize) -> Result<(), NoMemory>
     Ok(())
 }
 
+/// The claims of a switch, by input and output.
 fn add_switch_claims(events: &mut Vec<Event>, switch: usize) -> Result<(), NoMemory>
     ensures { OnOk result (events.new.items ≡ events.old.items ++ switch_claims switch) }
 {
@@ -167,6 +177,7 @@ fn add_switch_claims(events: &mut Vec<Event>, switch: usize) -> Result<(), NoMem
     Ok(())
 }
 
+/// The claims of an input, of each output.
 fn add_input_claims(events: &mut Vec<Event>, switch: usize, input: usize) -> Result<(), NoMemory>
     ensures { OnOk result (events.new.items ≡ events.old.items ++ claims_of switch input) }
 {
@@ -182,7 +193,7 @@ fn add_input_claims(events: &mut Vec<Event>, switch: usize, input: usize) -> Res
 
 /// A token's arrival at each of so many terminals.
 fn add_drains(events: &mut Vec<Event>, terminals: usize) -> Result<(), NoMemory>
-    ensures { OnOk result (events.new.items ≡ events.old.items ++ map event.Drain (range_with_len 0 terminals)) }
+    ensures { OnOk result (events.new.items ≡ events.old.items ++ all_drains terminals) }
 {
     for terminal in 0..terminals {
         events.push(Event::Drain { terminal })?;

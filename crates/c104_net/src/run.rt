@@ -8,7 +8,8 @@ use c104_describe::Plan;
 use c104_token::{Token, TokenKind};
 use std::marker::Model;
 
-/// What a run of a network left, over any kind of token: what had arrived at each terminal.
+/// What a run of a network left, over any kind of token: its plan, and what had arrived at each of
+/// its terminals.
 #[derive(Drop)]
 pub struct RunOf<T: TokenKind> {
     pub(crate) plan: Plan,

@@ -1,10 +1,12 @@
 //! A terminal: where packets are sent and received.
-ghost use Rattle.std.specs.Prelude.{◌≡◌, ◌<◌, ◌≤◌, ◌+◌, ◌++◌, length, map, is_some, IfOk, MatchResult};
+ghost use Rattle.std.specs.Prelude.{◌≡◌, ◌<◌, ◌≤◌, ◌+◌, ◌++◌, length, map, is_some, IfOk, OnOk, OnErr};
 ghost use Rattle.std.specs.VecDeque.{deque_len, deque_capacity};
+ghost use Rattle.c104_token.specs.declared.text.TheConstants.{MAX_PACKET_BYTES};
 ghost use Rattle.c104_token.specs.declared.tokens.Token.TheVariants.{Byte};
 ghost use Rattle.c104_link.specs.Buffers.{IsValidCap};
 ghost use Rattle.c104_link.specs.Steps.{tried, taken};
-ghost use Rattle.c104_net.specs.Terminals.{first_terminal, enter, leave, credit_out, credit_in, drain, send, sent_from, sent_tokens};
+ghost use Rattle.c104_net.specs.Terminals.{first_terminal, enter, leave, credit_out, credit_in, drain};
+ghost use Rattle.c104_net.specs.Terminals.{send, sent_from, sent_tokens};
 
 use c104_link::{CREDIT_LIMIT, InBufferOf, TOKENS_OF_A_GRANT};
 use c104_token::{NoMemory, Packet, Token, TokenKind};
@@ -24,17 +26,24 @@ pub struct TerminalOf<T: TokenKind> {
 
 impl<T: TokenKind> Model for TerminalOf<T> {
     ghost use Rattle.std.specs.Prelude.{◌≤◌};
+    ghost use Rattle.c104_link.specs.declared.outgoing.TheConstants.{CREDIT_LIMIT};
     ghost use Rattle.c104_net.specs.Terminals.{Terminal};
 
     ghost Value = { Terminal T };
 
-    ghost view = { λ t. record { input = t.input; output = record { items = t.outbox.items; credit = t.credit }; sent = t.sent.items; arrived = t.arrived.items } };
+    ghost view = { λ t. record {
+      input = t.input;
+      output = record { items = t.outbox.items; credit = t.credit };
+      sent = t.sent.items;
+      arrived = t.arrived.items;
+    } };
 
-    ghost invariant = { λ t. t.credit ≤ 64 };
+    ghost invariant = { λ t. t.credit ≤ CREDIT_LIMIT };
 }
 
 impl<T: TokenKind> TerminalOf<T> {
-    /// A terminal at first.
+    /// A terminal at first, whose input buffer has room for so many tokens. The only error is out of
+    /// memory.
     pub fn new(alloc: Global, cap: usize) -> Result<Self, NoMemory>
         requires { IsValidCap cap }
         ensures { IfOk result (λ t. t ≡ first_terminal cap) }
@@ -63,7 +72,7 @@ impl<T: TokenKind> TerminalOf<T> {
         self.arrived.as_slice()
     }
 
-    /// A token comes in from the wire.
+    /// A token comes in from the wire. False where none was granted.
     pub fn enter(&mut self, token: T) -> bool
         ensures { (result, self.new) ≡ tried (enter token self.old) self.old }
     {
@@ -77,7 +86,7 @@ impl<T: TokenKind> TerminalOf<T> {
         self.input.granted() > 0
     }
 
-    /// The first token that waits goes out.
+    /// The first token that waits goes out. None where none waits, or there is no credit.
     pub fn leave(&mut self) -> Option<T>
         ensures { (result, self.new) ≡ taken (leave self.old) self.old }
     {
@@ -89,14 +98,14 @@ impl<T: TokenKind> TerminalOf<T> {
         Some(token)
     }
 
-    /// The terminal grants eight more tokens.
+    /// The terminal grants eight more tokens. False where its input buffer has no room for them.
     pub fn credit_out(&mut self) -> bool
         ensures { (result, self.new) ≡ tried (credit_out self.old) self.old }
     {
         self.input.grant()
     }
 
-    /// The terminal may send eight more tokens.
+    /// The terminal may send eight more tokens. False where its credit would pass 64.
     pub fn credit_in(&mut self) -> bool
         ensures { (result, self.new) ≡ tried (credit_in self.old) self.old }
     {
@@ -121,9 +130,11 @@ impl<T: TokenKind> TerminalOf<T> {
         self.input.len() > 0
     }
 
-    /// The first token that came in arrives. None where none came in.
+    /// The first token that came in arrives. None where none came in. Out of memory nothing changes.
     pub fn drain(&mut self) -> Result<Option<T>, NoMemory>
-        ensures { MatchResult result (λ token. (token, self.new) ≡ taken (drain self.old) self.old) (λ _. self.new ≡ self.old) }
+        ensures done { IfOk result (λ token.
+            (token, self.new) ≡ taken (drain self.old) self.old) }
+        ensures kept { OnErr result (self.new ≡ self.old) }
     {
         if self.input.is_empty() {
             return Ok(None);
@@ -138,10 +149,12 @@ impl<T: TokenKind> TerminalOf<T> {
         Ok(Some(token))
     }
 
-    /// Sends a packet of at most 4,096 bytes: its tokens join those that wait to go out.
+    /// Sends a packet of at most 4,096 bytes: its tokens join those that wait to go out. Out of memory
+    /// nothing changes.
     pub fn send(&mut self, terminal: usize, packet: &Packet) -> Result<(), NoMemory>
-        requires { length packet.now.bytes ≤ 4096 }
-        ensures { MatchResult result (λ _. self.new ≡ send T.kind terminal packet.now self.old) (λ _. self.new ≡ self.old) }
+        requires { length packet.now.bytes ≤ MAX_PACKET_BYTES }
+        ensures done { OnOk result (self.new ≡ send T.kind terminal packet.now self.old) }
+        ensures kept { OnErr result (self.new ≡ self.old) }
     {
         let copy = packet.clone()?;
         self.sent.reserve(1)?;
@@ -161,7 +174,8 @@ fn put_packet<T: TokenKind>(
     number: usize,
     packet: &Packet,
 )
-    requires room { deque_len outbox.old + (length packet.now.bytes + 1) ≤ deque_capacity outbox.old }
+    requires room { deque_len outbox.old + (length packet.now.bytes + 1)
+        ≤ deque_capacity outbox.old }
     ensures { outbox.new.items ≡ outbox.old.items ++ sent_tokens T.kind terminal number packet.now }
 {
     let bytes = packet.bytes.as_slice();
@@ -173,7 +187,8 @@ fn put_packet<T: TokenKind>(
 /// The tokens of a packet's bytes join a list that has room for them and for one more.
 fn put_bytes<T: TokenKind>(outbox: &mut VecDeque<T>, terminal: usize, number: usize, bytes: &[u8])
     requires { deque_len outbox.old + (length bytes.now + 1) ≤ deque_capacity outbox.old }
-    ensures items { outbox.new.items ≡ outbox.old.items ++ sent_from T.kind terminal number 0 (map Byte bytes.now) }
+    ensures items { outbox.new.items
+        ≡ outbox.old.items ++ sent_from T.kind terminal number 0 (map Byte bytes.now) }
     ensures room { deque_len outbox.new < deque_capacity outbox.new }
 {
     for (place, byte) in bytes.iter().enumerate() {
