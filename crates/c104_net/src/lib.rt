@@ -1,7 +1,7 @@
 //! Networks of switches and terminals, run event by event.
 #![tactic(auto)]
 
-mod events;
+mod faults;
 mod net;
 mod node;
 mod nodes;
@@ -10,7 +10,8 @@ mod rounds;
 mod run;
 mod terminal;
 
-pub use events::{Event, EventFault, PlaceFault, Port};
+pub use c104_event::{Event, EventFault, Port};
+pub use faults::PlaceFault;
 pub use net::{Net, NetOf};
 pub use run::{Run, RunOf};
 
