@@ -1,7 +1,8 @@
 -- How the first part of a text is read, byte by byte.
 use Rattle.std.proofs.Common.{◌≡◌, ℕ, List, [], Option, None, Some, refl, sym, ap, ◌∙◌, inl}
 use Rattle.std.specs.Io.KnownBytes.{Keeps, IsAtEnd}
-use Rattle.c104_script.specs.Parts.{parts, parts_within, most_description}
+use Rattle.c104_describe.specs.PlanText.{most_bytes}
+use Rattle.c104_script.specs.Parts.{parts, parts_within}
 use Rattle.c104_script.specs.Parts.{TakesFirstPart}
 
 -- with so many bytes to go, what is left gives the parts of the whole text
@@ -11,7 +12,7 @@ GivesParts left (Some text) None front line = ⊥
 GivesParts left (Some text) (Some rest) front line = parts text ≡ parts_within left front line rest
 
 -- so it is before the first byte
-pub gives_all : (known : Option (List ℕ)) → GivesParts most_description known known [] []
+pub gives_all : (known : Option (List ℕ)) → GivesParts most_bytes known known [] []
 unfolding parts
 gives_all None = tt
 gives_all (Some text) = refl

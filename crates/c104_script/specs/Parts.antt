@@ -1,6 +1,7 @@
 -- The two parts of a text that comes byte by byte: a description, and a script.
 use Rattle.std.specs.Prelude.{ℕ, zero, suc, ◌==◌, ◌≡◌, ◌<◌, ◌⊎◌, ⊤, Bool, false, List, [], ◌∷◌, ◌++◌, length, bytes_eq, codes, if◌then◌else◌, Option, Some, None}
 use Rattle.c104_describe.specs.TextCut.{uncommented, words}
+use Rattle.c104_describe.specs.PlanText.{most_bytes}
 
 -- the only word of a line is `script`
 abbrev pub is_script_word : List (List ℕ) → Bool
@@ -29,12 +30,9 @@ parts_within (suc bytes) front line (byte ∷ text) =
     else parts_within bytes (front ++ line ++ 10 ∷ []) [] text)
     else parts_within bytes front (line ++ byte ∷ []) text
 
--- the most bytes of a description, and of one with its line `script`: 1 MiB
-abbrev pub most_description : ℕ
-most_description = 1048576
-
+-- the line `script` has to end within as many bytes as a description may have
 unfoldable pub parts : List ℕ → Parts
-parts text = parts_within most_description [] [] text
+parts text = parts_within most_bytes [] [] text
 
 -- a description was taken, and what is left is the script; or more than a description may have
 abbrev pub TakesFirstPart : Option (List ℕ) → Option (List ℕ) → List ℕ → Type 0
@@ -42,4 +40,4 @@ TakesFirstPart None new taken = ⊤
 TakesFirstPart (Some text) None taken = ⊥
 TakesFirstPart (Some text) (Some rest) taken =
     (parts text ≡ record { description = taken; script = rest }) ⊎
-    ((most_description < length taken) × (most_description < length (parts text).description))
+    ((most_bytes < length taken) × (most_bytes < length (parts text).description))

@@ -6,6 +6,7 @@ use Rattle.c104_token.specs.declared.faults.TokenFault.{TokenFault}
 use Rattle.c104_token.specs.declared.faults.TokenFault.TheVariants as token_fault
 use Rattle.c104_token.specs.Text.{byte_spelled, parsed_words}
 use Rattle.c104_token.specs.declared.packets.Packet.{Packet}
+use Rattle.c104_control.specs.declared.bytes.TheConstants.{MAX_CONTROL_BYTES}
 use Rattle.c104_describe.specs.declared.text.Dots.{Dots}
 use Rattle.c104_describe.specs.declared.text.Dots.TheVariants.{Without, At, Several}
 use Rattle.c104_event.specs.declared.events.Port.{Port}
@@ -165,14 +166,10 @@ bytes_after bytes (word ∷ more) = do
   byte ← wanted (byte_spelled word) fault.BadHex
   bytes_after (bytes ++ byte ∷ []) more
 
--- the most bytes of a control command
-abbrev pub most_control : ℕ
-most_control = 8
-
 -- `control S HEX..`
 abbrev pub control_line : Plan → List ℕ → List (List ℕ) → Result Request LineFault
 control_line plan node byte_words = do
-  require (nat_le (length byte_words) most_control) fault.BadShape
+  require (nat_le (length byte_words) MAX_CONTROL_BYTES) fault.BadShape
   place ← place_word node
   bytes ← bytes_after [] byte_words
   Ok (request_of (switch_at plan place) (λ s. event.Control s bytes))

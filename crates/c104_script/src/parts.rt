@@ -98,7 +98,7 @@ impl FirstPart {
 }
 
 /// Whether the only word of a line is `script`.
-#[tactic(auto, unfolding(crate::specs::Lines::is_script_line))]
+#[tactic(auto, unfolding(crate::specs::Parts::is_script_line))]
 fn is_script_line(alloc: Global, line: &[u8]) -> Result<bool, AllocError>
     ensures { IfOk result (λ found. found ≡ is_script_line line.now) }
 {

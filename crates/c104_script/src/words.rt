@@ -65,7 +65,7 @@ pub(crate) fn read_number_word(word: &[u8]) -> Result<u32, LineFault>
 
 /// Reads at most eight bytes, each of two hexadecimal digits.
 pub(crate) fn read_bytes(words: &[&[u8]]) -> Result<ControlBytes, LineFault>
-    requires { length words.now ≤ 8 }
+    requires { length words.now ≤ MAX_CONTROL_BYTES }
     ensures { result ≡ bytes_after [] (map (λ word. word.now) words.now) }
 {
     let mut bytes = ArrayVec::<u8, MAX_CONTROL_BYTES>::new();

@@ -14,7 +14,9 @@ use Rattle.c104_net.specs.Network.{Network, placed, answered}
 use Rattle.c104_net.specs.Finished.{Finished, finished, arrived_in}
 use Rattle.c104_net.specs.Rounds.{rounds, run_until}
 use Rattle.c104_session.specs.Lines.{script_lines, is_long}
-use Rattle.c104_script.specs.Script.{LineFault, Request, read_line}
+use Rattle.c104_script.specs.Script.{read_line}
+use Rattle.c104_script.specs.declared.faults.LineFault.{LineFault}
+use Rattle.c104_script.specs.declared.places.Request.{Request}
 use Rattle.c104_script.specs.declared.places.Request.TheVariants.{Asked, Refused, Rounds}
 use Rattle.c104_session.specs.declared.session.Session.{Session}
 use Rattle.c104_script.specs.Texts.{token_text, answer_text, line_fault_text, numbered, description_text, script_too_long}

@@ -7,6 +7,7 @@ ghost use Rattle.c104_session.specs.Runs.{AnswersScript, LineAnswered, LineStops
 
 use crate::session::Session;
 use c104_stream::{Ahead, Halt, write_whole};
+use c104_token::NoMemory;
 use std::alloc::Global;
 use std::io::{Read, Write};
 
@@ -39,7 +40,7 @@ pub fn answer_script<S: Read, W: Write>(
             line.clear();
             number += 1;
         } else {
-            line.push(byte)?;
+            line.push(byte).map_err(NoMemory::from)?;
         }
         left -= 1;
     }

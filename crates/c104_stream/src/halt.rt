@@ -6,7 +6,6 @@ ghost use Rattle.c104_stream.specs.Halts.{halt_of};
 use crate::reading::ReadFault;
 use crate::writing::CannotWrite;
 use c104_token::NoMemory;
-use std::alloc::{AllocError, AllocFailed};
 
 /// Why what reads and writes ended before its text.
 #[derive(Clone, Copy, Debug, PartialEq, Eq)]
@@ -42,22 +41,6 @@ impl From<NoMemory> for Halt {
     ghost from_gives = { λ _ e. e ≡ halt.NoMemory };
 
     fn from(_error: NoMemory) -> Halt {
-        Halt::NoMemory
-    }
-}
-
-impl From<AllocError> for Halt {
-    ghost from_gives = { λ _ e. e ≡ halt.NoMemory };
-
-    fn from(_error: AllocError) -> Halt {
-        Halt::NoMemory
-    }
-}
-
-impl<T: Drop> From<AllocFailed<T>> for Halt {
-    ghost from_gives = { λ _ e. e ≡ halt.NoMemory };
-
-    fn from(_error: AllocFailed<T>) -> Halt {
         Halt::NoMemory
     }
 }

@@ -4,7 +4,7 @@ ghost use Rattle.std.specs.Io.KnownBytes.{Consumes, Keeps, IsAtEnd, prepend_know
 ghost use Rattle.c104_stream.specs.Reading.{GivesByte, TakesUpTo};
 ghost use Rattle.c104_stream.specs.declared.reading.ReadFault.TheVariants as fault;
 
-use std::alloc::{AllocError, AllocFailed, Global};
+use std::alloc::{AllocError, Global};
 use std::io::Read;
 use std::marker::Model;
 
@@ -24,14 +24,6 @@ impl From<AllocError> for ReadFault {
     ghost from_gives = { λ _ e. e ≡ fault.NoMemory };
 
     fn from(_error: AllocError) -> ReadFault {
-        ReadFault::NoMemory
-    }
-}
-
-impl<T: Drop> From<AllocFailed<T>> for ReadFault {
-    ghost from_gives = { λ _ e. e ≡ fault.NoMemory };
-
-    fn from(_error: AllocFailed<T>) -> ReadFault {
         ReadFault::NoMemory
     }
 }
@@ -113,7 +105,7 @@ pub fn read_up_to<R: Read>(alloc: Global, most: usize, reader: &mut R) -> Result
         let Some(byte) = ahead.next_byte(reader)? else {
             return Ok(bytes);
         };
-        bytes.push(byte)?;
+        bytes.push(byte).map_err(AllocError::from)?;
     }
     Ok(bytes)
 }
