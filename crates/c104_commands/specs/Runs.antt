@@ -11,7 +11,7 @@ use Rattle.c104_session.specs.Runs.{AnswersFront}
 use Rattle.c104_commands.specs.declared.status.Status.{Status}
 use Rattle.c104_commands.specs.declared.status.Status.TheVariants as status
 
--- the lines that a run may have answered where memory was refused: none of a refused description
+-- the lines that a run may have answered where it is out of memory: none of a refused description
 abbrev pub answerable : Result Plan PlanFault → List ℕ → List ℕ
 answerable (Err fault) script = []
 answerable (Ok plan) script = (answers (first_session plan) script).0
@@ -21,8 +21,8 @@ abbrev pub FailsInScript : Result Plan PlanFault → List ℕ → Option (List �
 FailsInScript (Err fault) script left held holds = ⊥
 FailsInScript (Ok plan) script left held holds = AnswersFront (first_session plan) script left held holds
 
--- what a run has written when it ends so: all that it shows; or, where a writer failed, a front of
--- that; where memory was refused, a front of the answers; where the script's reader failed, the answers
+-- what a run has written when it ends so: all that it shows; or, where a writer failed, a prefix of
+-- that; where it is out of memory, a prefix of the answers; where the script's reader failed, the answers
 -- to the lines that had ended; and where the description's reader failed, nothing
 abbrev pub RunEnds : Result Plan PlanFault → List ℕ → Option (List ℕ) → Option (List ℕ) → Option (List ℕ) → Status → Type 0
 RunEnds due script left held holds status.Done = Appends held holds (shown due script).0 × ((shown due script).1 ≡ false)

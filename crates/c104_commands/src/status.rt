@@ -16,7 +16,7 @@ pub enum Status {
     CannotRead(u8),
     /// A write failed: exit status 3.
     CannotWrite,
-    /// Memory was wanted and refused: exit status 4.
+    /// Out of memory: exit status 4.
     NoMemory,
 }
 

@@ -28,8 +28,8 @@ pub enum EventFault {
     /// 262,144 tokens have arrived at the terminal.
     #[error("the terminal has no room for one more token that arrives")]
     InboxFull = 6,
-    /// Memory was wanted and refused.
-    #[error("no memory")]
+    /// Out of memory.
+    #[error("out of memory")]
     NoMemory = 8,
 }
 

@@ -62,23 +62,17 @@ place_at word (At at) = do
 abbrev pub place_word : List ℕ → Result (List ℕ × Option ℕ) LineFault
 place_word word = place_at word (dots word)
 
--- a terminal is named without a link
-abbrev pub terminal_with : Option ℕ → Option ℕ → Result ℕ EventFault
-terminal_with None link = Err NoNode
-terminal_with (Some t) None = Ok t
-terminal_with (Some t) (Some l) = Err NoLink
+-- a node that is named without a link
+abbrev pub node_with : Option ℕ → Option ℕ → Result ℕ EventFault
+node_with None link = Err NoNode
+node_with (Some n) None = Ok n
+node_with (Some n) (Some l) = Err NoLink
 
 abbrev pub terminal_at : Plan → List ℕ × Option ℕ → Result ℕ EventFault
-terminal_at plan place = terminal_with (terminal_number plan place.0) place.1
-
--- a switch is named without a link
-abbrev pub switch_with : Option ℕ → Option ℕ → Result ℕ EventFault
-switch_with None link = Err NoNode
-switch_with (Some s) None = Ok s
-switch_with (Some s) (Some l) = Err NoLink
+terminal_at plan place = node_with (terminal_number plan place.0) place.1
 
 abbrev pub switch_at : Plan → List ℕ × Option ℕ → Result ℕ EventFault
-switch_at plan place = switch_with (switch_number plan place.0) place.1
+switch_at plan place = node_with (switch_number plan place.0) place.1
 
 -- an input is a switch's link, and named with it
 abbrev pub input_with : Option ℕ → Option ℕ → Result (ℕ × ℕ) EventFault
@@ -234,6 +228,6 @@ read_line plan line =
     if nat_le (length line) most_line then words_line plan (plain (uncommented line)) (words (uncommented line))
     else Err fault.LineTooLong
 
--- what is due, or that memory was wanted and refused
+-- what is due, or out of memory
 abbrev pub GivesOrNoMemory : {X : Type 0} → Result X LineFault → Result X LineFault → Type 0
 GivesOrNoMemory result due = (result ≡ due) ⊎ (result ≡ Err fault.NoMemory)

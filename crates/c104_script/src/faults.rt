@@ -8,7 +8,7 @@ use c104_token::TokenFault;
 use std::alloc::AllocError;
 use thiserror::Error;
 
-/// What is wrong with a line, by this profile's numbers. Of all that is wrong the least number is
+/// What is wrong with a line, by this emulator's own numbers. Of all that is wrong the least number is
 /// answered, but BadHex to PacketTooLong come as the packet is read from the left.
 #[derive(Clone, Copy, Debug, PartialEq, Eq, Error)]
 pub enum LineFault {
@@ -37,8 +37,8 @@ pub enum LineFault {
     /// A packet has a 4,097th byte.
     #[error("the packet has more than 4096 bytes")]
     PacketTooLong = 8,
-    /// Memory was wanted and refused. It is no fault of the line, and ends the run.
-    #[error("no memory")]
+    /// Out of memory. It is no fault of the line, and ends the run.
+    #[error("out of memory")]
     NoMemory = 9,
 }
 

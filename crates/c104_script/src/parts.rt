@@ -8,7 +8,7 @@ use c104_stream::{Ahead, ReadFault};
 use std::alloc::{AllocError, Global};
 use std::io::Read;
 
-/// The description at the front of a text: what stands before the first line whose only word is
+/// The first part of a text, its description: what stands before the first line whose only word is
 /// `script`. That line is read and left out; what follows it is the script, and is left. Where the
 /// line hasn't ended within 1 MiB, one byte more than a description may have.
 pub fn read_first_part<R: Read>(

@@ -1,6 +1,6 @@
 //! What the names of a script's line stand for.
 ghost use Rattle.std.specs.Prelude.{◌≡◌};
-ghost use Rattle.c104_script.specs.Script.{input_at, port_at, switch_at, terminal_at};
+ghost use Rattle.c104_script.specs.Script.{input_at, node_with, port_at, switch_at, terminal_at};
 
 use crate::words::PlaceWord;
 use c104_describe::Plan;
@@ -18,29 +18,28 @@ pub enum Request {
     Refused(EventFault),
 }
 
-/// The terminal of this name, which has no link.
+/// The terminal of this name, without a link.
 pub(crate) fn find_terminal(plan: &Plan, place: PlaceWord<'_>) -> Result<usize, EventFault>
     ensures { result ≡ terminal_at plan.now (place.entry.name.now, place.entry.link) }
 {
-    let Some(terminal) = plan.terminal_number(place.name) else {
-        return Err(EventFault::NoNode);
-    };
-    match place.link {
-        None => Ok(terminal),
-        Some(_) => Err(EventFault::NoLink),
-    }
+    without_link(plan.terminal_number(place.name), place.link)
 }
 
 /// The switch of this name, without a link.
 pub(crate) fn find_switch(plan: &Plan, place: PlaceWord<'_>) -> Result<usize, EventFault>
     ensures { result ≡ switch_at plan.now (place.entry.name.now, place.entry.link) }
 {
-    let Some(switch) = plan.switch_number(place.name) else {
-        return Err(EventFault::NoNode);
-    };
-    match place.link {
-        None => Ok(switch),
-        Some(_) => Err(EventFault::NoLink),
+    without_link(plan.switch_number(place.name), place.link)
+}
+
+/// The node that was found, where it is named without a link.
+fn without_link(node: Option<usize>, link: Option<u32>) -> Result<usize, EventFault>
+    ensures { result ≡ node_with node link }
+{
+    match (node, link) {
+        (None, _) => Err(EventFault::NoNode),
+        (Some(node), None) => Ok(node),
+        (Some(_), Some(_)) => Err(EventFault::NoLink),
     }
 }
 

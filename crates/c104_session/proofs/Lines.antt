@@ -28,7 +28,7 @@ pub last_feed : (front text : List ℕ) → last_line front (text ++ 10 ∷ []) 
 last_feed front [] = refl
 last_feed front (b ∷ text) = by_test (λ line x. []) (b == 10) _ _ b b b b (last_feed [] text) (last_feed (front ++ b ∷ []) text)
 
--- the lines of a front of a script, and then those of the rest
+-- the lines of a prefix of a script, and then those of the rest
 pub lines_after : (bytes : ℕ) (front read rest : List ℕ) → length read ≤ bytes → lines_within bytes front (read ++ rest) ≡ whole_lines front read ++ lines_within (bytes - length read) (last_line front read) rest
 lines_after bytes front [] rest room =
     let same : bytes - 0 ≡ bytes = omega arith in

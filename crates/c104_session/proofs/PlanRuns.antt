@@ -13,7 +13,7 @@ use Rattle.c104_session.specs.Shown.{answers, ended, first_session, summary}
 use Rattle.c104_script.specs.Texts.{script_too_long}
 use Rattle.c104_session.specs.Runs.{AnswersScript, RunsPlan}
 use Rattle.std.proofs.KnownBytes.{Appends-trans}
-use Rattle.c104_stream.proofs.Fronts.{front_next, front_longer}
+use Rattle.c104_stream.proofs.Prefixes.{prefix_next, prefix_longer}
 
 -- what is shown after the answers
 after_answers : Bool → List ℕ × Session → List ℕ
@@ -31,10 +31,10 @@ plan_stops plan None left held holds after kind stopped = tt
 plan_stops plan (Some script) left held holds after halt.CannotRead stopped = stopped
 plan_stops plan (Some script) left held holds after halt.CannotWrite stopped =
     let r : List ℕ × Session = answers (first_session plan) script in
-    subst (λ text. AppendsFront held holds text) (sym (ended_text (is_long script) r)) (front_longer held holds r.0 (after_answers (is_long script) r) stopped)
+    subst (λ text. AppendsFront held holds text) (sym (ended_text (is_long script) r)) (prefix_longer held holds r.0 (after_answers (is_long script) r) stopped)
 plan_stops plan (Some script) left held holds after halt.NoMemory stopped = stopped
 
--- the script is too long, and that was written, or a front of it
+-- the script is too long, and that was written, or a prefix of it
 pub long_ends : (plan : Plan) (all left held now holds : Option (List ℕ)) (after : Session) → AnswersScript (first_session plan) all left held now after (Ok true) → Appends now holds script_too_long → RunsPlan plan all left held holds (Ok true)
 long_ends plan None left held now holds after answered wrote = tt
 long_ends plan (Some script) left held now holds after answered wrote =
@@ -47,9 +47,9 @@ pub long_stops : (plan : Plan) (all left held now holds : Option (List ℕ)) (af
 long_stops plan None left held now holds after answered wrote = tt
 long_stops plan (Some script) left held now holds after answered wrote =
     let r : List ℕ × Session = answers (first_session plan) script in
-    subst (λ long. AppendsFront held holds (ended long r).0) answered.0 (front_next held now holds r.0 script_too_long answered.2 wrote)
+    subst (λ long. AppendsFront held holds (ended long r).0) answered.0 (prefix_next held now holds r.0 script_too_long answered.2 wrote)
 
--- the summary was written, or a front of it
+-- the summary was written, or a prefix of it
 pub summary_ends : (plan : Plan) (all left held now holds : Option (List ℕ)) (after : Session) → AnswersScript (first_session plan) all left held now after (Ok false) → Appends now holds (summary (finished after.net)) → RunsPlan plan all left held holds (Ok after.faulty)
 summary_ends plan None left held now holds after answered wrote = tt
 summary_ends plan (Some script) left held now holds after answered wrote =
@@ -62,7 +62,7 @@ pub summary_stops : (plan : Plan) (all left held now holds : Option (List ℕ)) 
 summary_stops plan None left held now holds after answered wrote = tt
 summary_stops plan (Some script) left held now holds after answered wrote =
     let r : List ℕ × Session = answers (first_session plan) script in
-    subst (λ long. AppendsFront held holds (ended long r).0) answered.0 (front_next held now holds r.0 (summary (finished r.1.net)) answered.2 (subst (λ (s : Session). AppendsFront now holds (summary (finished s.net))) answered.1 wrote))
+    subst (λ long. AppendsFront held holds (ended long r).0) answered.0 (prefix_next held now holds r.0 (summary (finished r.1.net)) answered.2 (subst (λ (s : Session). AppendsFront now holds (summary (finished s.net))) answered.1 wrote))
 
 -- memory for the summary was refused
 pub summary_unmade : (plan : Plan) (all left held now : Option (List ℕ)) (after : Session) → AnswersScript (first_session plan) all left held now after (Ok false) → RunsPlan plan all left held now (Err halt.NoMemory)

@@ -12,7 +12,7 @@ use Rattle.c104_stream.specs.Writing.{AppendsFront}
 use Rattle.c104_session.specs.Shown.{line_shown, lines_shown}
 use Rattle.c104_session.specs.Runs.{ScriptEnds, LineStops}
 use Rattle.std.proofs.KnownBytes.{Consumes-trans, Consumes-nil, Appends-trans, Appends-nil, Appends-kept}
-use Rattle.c104_stream.proofs.Fronts.{front_after, front_only}
+use Rattle.c104_stream.proofs.Prefixes.{prefix_after, prefix_only}
 use Rattle.c104_session.proofs.Lines.{whole_byte, last_byte, whole_feed, last_feed, lines_after, shown_after, text_on, session_on}
 
 -- one more line after these
@@ -104,15 +104,15 @@ module _ {all now held holds : Option (List ℕ)} {start session : Session} {num
   pub memory_stops : (script rest : List ℕ) (remains wrote : Option (List ℕ)) (after : Session) → script ≡ reached.read ++ rest → Keeps holds wrote → ScriptEnds start script remains held wrote after (Err halt.NoMemory)
   memory_stops script rest remains wrote after is kept =
       subst (λ text. AppendsFront held wrote text) (sym (ap (λ xs. (lines_shown 1 start xs).0) (cut script rest is) ∙ text_on 1 start (whole_lines [] reached.read) (lines_within left line rest)))
-      (front_only held wrote so_far.0 (shown_after 1 start (whole_lines [] reached.read) (lines_within left line rest)).0 (Appends-kept held holds wrote so_far.0 reached.wrote kept))
+      (prefix_only held wrote so_far.0 (shown_after 1 start (whole_lines [] reached.read) (lines_within left line rest)).0 (Appends-kept held holds wrote so_far.0 reached.wrote kept))
 
-  -- the answer to the next line isn't written, or a front of it
+  -- the answer to the next line isn't written, or a prefix of it
   pub stops_at : (script rest : List ℕ) (more : List (List ℕ)) (remains wrote : Option (List ℕ)) (last : Session) (kind : Halt) → script ≡ reached.read ++ rest → lines_within left line rest ≡ line ∷ more
       → LineStops session number line holds wrote kind → ScriptEnds start script remains held wrote last (Err kind)
   stops_at script rest more remains wrote last halt.CannotRead is next stopped = absurd stopped
   stops_at script rest more remains wrote last halt.CannotWrite is next stopped =
       subst (λ text. AppendsFront held wrote text) (sym (ap (λ xs. (lines_shown 1 start xs).0) (cut script rest is ∙ ap (λ xs. whole_lines [] reached.read ++ xs) next) ∙ text_with start session (whole_lines [] reached.read) number line reached.is_number reached.is_session more))
-      (front_after held holds wrote so_far.0 (line_shown number session line).0 (lines_shown (suc (1 + length (whole_lines [] reached.read))) (line_shown number session line).1 more).0 reached.wrote stopped)
+      (prefix_after held holds wrote so_far.0 (line_shown number session line).0 (lines_shown (suc (1 + length (whole_lines [] reached.read))) (line_shown number session line).1 more).0 reached.wrote stopped)
   stops_at script rest more remains wrote last halt.NoMemory is next stopped = memory_stops script rest remains wrote last is stopped
 
   -- the whole script is read and answered

@@ -14,13 +14,13 @@ use Rattle.c104_session.specs.Shown.{line_shown, lines_shown, answers, first_ses
 abbrev pub LineAnswered : Session → ℕ → List ℕ → Option (List ℕ) → Option (List ℕ) → Session → Type 0
 LineAnswered session number line held holds after = (after ≡ (line_shown number session line).1) × Appends held holds (line_shown number session line).0
 
--- a line's answer wasn't written: for want of memory, or because the writer failed
+-- a line's answer wasn't written: there was no memory, or because the writer failed
 abbrev pub LineStops : Session → ℕ → List ℕ → Option (List ℕ) → Option (List ℕ) → Halt → Type 0
 LineStops session number line held holds halt.CannotRead = ⊥
 LineStops session number line held holds halt.CannotWrite = AppendsFront held holds (line_shown number session line).0
 LineStops session number line held holds halt.NoMemory = Keeps held holds
 
--- the reader failed after a front of the script: each line that had ended is answered, and no more
+-- the reader failed after a prefix of the script: each line that had ended is answered, and no more
 -- is written
 pub record AnswersFront (session : Session) (script : List ℕ) (left held holds : Option (List ℕ)) : Type 0 where
   pub front : List ℕ

@@ -1,5 +1,5 @@
 //! A script, read and answered line by line.
-ghost use Rattle.std.specs.Prelude.{◌≡◌, MatchResult};
+ghost use Rattle.std.specs.Prelude.{◌≡◌, [], ◌∷◌, ◌++◌, MatchResult, OnOk};
 ghost use Rattle.std.specs.Io.KnownBytes.{Appends, prepend_known};
 ghost use Rattle.c104_stream.specs.Writing.{AppendsFront};
 ghost use Rattle.c104_session.specs.Shown.{line_shown};
@@ -40,7 +40,7 @@ pub fn answer_script<S: Read, W: Write>(
             line.clear();
             number += 1;
         } else {
-            line.push(byte).map_err(NoMemory::from)?;
+            add_byte(&mut line, byte)?;
         }
         left -= 1;
     }
@@ -67,5 +67,13 @@ fn answer_line<W: Write>(
 {
     let text = session.answer(alloc, number, line)?;
     write_whole(writer, text.as_bytes())?;
+    Ok(())
+}
+
+/// The byte joins the line. The only error is out of memory.
+fn add_byte(line: &mut Vec<u8>, byte: u8) -> Result<(), NoMemory>
+    ensures { OnOk result (line.new.items ≡ line.old.items ++ byte ∷ []) }
+{
+    line.push(byte)?;
     Ok(())
 }

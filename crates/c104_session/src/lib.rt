@@ -6,7 +6,7 @@
 //! `run_plan` does both on the network of a plan.
 //!
 //! Each line is answered, and its answer written, before the next line is read. A faulty line changes
-//! nothing but that there was one; want of memory and a failing reader or writer end the script.
+//! nothing but that there was one; running out of memory and a failing reader or writer end the script.
 #![tactic(auto)]
 
 mod answering;

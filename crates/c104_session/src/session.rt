@@ -37,8 +37,8 @@ pub struct Ended {
 }
 
 impl Session {
-    /// The network of a plan with its own image, before the first line. Only want of memory is
-    /// refused.
+    /// The network of a plan with its own image, before the first line. The only error
+    /// is out of memory.
     pub fn new(alloc: Global, plan: &Plan) -> Result<Self, NoMemory>
         ensures { IfOk result (λ session. session ≡ first_session plan.now) }
     {
@@ -63,7 +63,7 @@ impl Session {
     }
 
     /// Does what a line asks and gives the line that answers it, or no text where it asks nothing.
-    /// Only want of memory is refused; an event may be done by then.
+    /// The only error is out of memory; an event may be done by then.
     #[tactic(auto, unfolding(crate::specs::Shown::line_shown))]
     pub fn answer(&mut self, alloc: Global, number: usize, line: &[u8]) -> Result<String, NoMemory>
         ensures { IfOk result (λ text. ◌≡◌ {A = List ℕ × TheSession} (string_bytes text, self.new) (line_shown number self.old line.now)) }

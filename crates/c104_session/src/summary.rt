@@ -8,7 +8,8 @@ use c104_token::{NoMemory, Packet, Token, cut_packets, print_packet};
 use std::alloc::Global;
 
 /// A line for each whole packet that arrived, by terminal in the plan's order and then as they
-/// came. It is made whole before any of it is written, so that want of memory leaves none of it.
+/// came. It is made whole before any of it is written, so that none of it is where memory runs out. The
+/// only error is out of memory.
 #[tactic(auto, unfolding(crate::specs::Shown::summary))]
 pub fn summary_text(alloc: Global, run: &Run) -> Result<Vec<u8>, NoMemory>
     ensures { IfOk result (λ text. text.items ≡ summary run.now) }

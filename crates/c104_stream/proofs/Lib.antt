@@ -1,2 +1,2 @@
 pub mod KnownReads
-pub mod Fronts
+pub mod Prefixes

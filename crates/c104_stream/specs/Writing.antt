@@ -2,7 +2,7 @@
 use Rattle.std.specs.Prelude.{ℕ, ◌≡◌, List, ◌++◌, Option}
 use Rattle.std.specs.Io.KnownBytes.{Appends}
 
--- what a writer holds grew by a front of these bytes
+-- what a writer holds grew by a prefix of these bytes
 pub record AppendsFront (old new : Option (List ℕ)) (bytes : List ℕ) : Type 0 where
   pub written : List ℕ
   pub unwritten : List ℕ

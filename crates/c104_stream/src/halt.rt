@@ -14,7 +14,7 @@ pub enum Halt {
     CannotRead,
     /// The writer answered an error, or took nothing.
     CannotWrite,
-    /// Memory was wanted and refused.
+    /// Out of memory.
     NoMemory,
 }
 

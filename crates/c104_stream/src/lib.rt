@@ -7,7 +7,7 @@
 //!
 //! A reader and a writer are asked once for each piece: every error, and a writer that takes nothing,
 //! is a fault at once and is not tried again. Contracts speak of bytes where the reader and the writer
-//! tell theirs; `proofs/Fronts.antt` is for the proofs of the crates above.
+//! tell theirs; `proofs/Prefixes.antt` is for the proofs of the crates above.
 #![tactic(auto)]
 
 mod halt;

@@ -16,7 +16,7 @@ const PIECE: usize = 8192;
 pub enum ReadFault {
     /// The reader answered an error. It isn't asked again.
     CannotRead,
-    /// Memory was wanted and refused.
+    /// Out of memory.
     NoMemory,
 }
 

@@ -2,7 +2,7 @@ use Rattle.std.proofs.Common.{arith}
 use Rattle.c104_session.proofs.ScriptEnds.{err_is, read_halts, byte_halts, line_halts, last_halts, script_ends, script_is_long}
 use Rattle.c104_session.proofs.ScriptSoFar.{reached_byte, reached_line, reached_text}
 use Rattle.c104_session.proofs.answering.answer_script.Goals as goal
-use Rattle.c104_session.proofs.answering.answer_script.Goals.{then-byte-eq10+in_ok-answer_line-2, else-byte-eq10+in_ok-push}
+use Rattle.c104_session.proofs.answering.answer_script.Goals.{then-byte-eq10+in_ok-answer_line-2, else-byte-eq10+in_ok-add_byte}
 
 pub returns-in_err-byte : goal.returns-in_err-byte
 returns-in_err-byte g c =
@@ -25,9 +25,9 @@ returns-in_err-answer_line-2 g c =
     rw (err_is _ _ c.from_residual-in_err-answer_line-2.ensures)
     (line_halts _ _ _ _ _ _ _ _ _ _ _ _ _ c.in_err-answer_line-2.field-0.0 (reached_text _ _ c.as_slice-then-byte-eq10.ensures.value c.loop-left.invariant) (omega arith) took c.in_err-answer_line-2.ensures)
 
-pub returns-in_err-push : goal.returns-in_err-push
-returns-in_err-push g c =
-    rw (err_is _ _ c.from_residual-in_err-push.ensures)
+pub returns-in_err-add_byte : goal.returns-in_err-add_byte
+returns-in_err-add_byte g c =
+    rw (err_is _ _ c.from_residual-in_err-add_byte.ensures)
     (byte_halts _ _ _ _ _ _ _ _ _ _ c.loop-left.invariant)
 
 pub loop-left-preserved : goal.loop-left-preserved
@@ -36,9 +36,9 @@ loop-left-preserved g c = elim c.if-byte-eq10.branch [
       let took = rw (c.in-Some.is, w.if-byte-eq10.true) at c.in_ok-byte.ensures in
       rw (w.session-is, w.writer-is, w.line-is, w.number-is, w.clear.ensures.items)
       (reached_line (reached_text _ _ w.as_slice-then-byte-eq10.ensures.value c.loop-left.invariant) _ _ _ (omega arith) took w.in_ok-answer_line-2.ensures.0 w.in_ok-answer_line-2.ensures.1)
-  | else-byte-eq10+in_ok-push w ↦
+  | else-byte-eq10+in_ok-add_byte w ↦
       let took = rw c.in-Some.is at c.in_ok-byte.ensures in
-      rw (w.session-is, w.writer-is, w.line-is, w.number-is, w.in_ok-push.ensures.items)
+      rw (w.session-is, w.writer-is, w.line-is, w.number-is, w.in_ok-add_byte.ensures)
       (reached_byte c.loop-left.invariant _ c.in-Some.byte (omega arith) took w.if-byte-eq10.false)
 ]
 
