@@ -22,7 +22,8 @@ pub fn run<D: Read, S: Read, W: Write>(
     script: &mut S,
     writer: &mut W,
 ) -> Status
-    ensures { Runs (D.remaining description.old) (S.remaining script.old) (S.remaining script.new) (W.contents writer.old) (W.contents writer.new) result }
+    ensures { Runs (D.remaining description.old) (S.remaining script.old) (S.remaining script.new)
+        (W.contents writer.old) (W.contents writer.new) result }
 {
     let text = match read_up_to(alloc, MAX_DESCRIPTION, description) {
         Ok(text) => text,
@@ -38,7 +39,8 @@ pub fn run<D: Read, S: Read, W: Write>(
 /// script follows that line. Where there is no such line the script is empty, and where it hasn't
 /// ended within 1 MiB the description is too long.
 pub fn run_text<R: Read, W: Write>(alloc: Global, text: &mut R, writer: &mut W) -> Status
-    ensures { RunsText (R.remaining text.old) (R.remaining text.new) (W.contents writer.old) (W.contents writer.new) result }
+    ensures { RunsText (R.remaining text.old) (R.remaining text.new)
+        (W.contents writer.old) (W.contents writer.new) result }
 {
     let Ok(mut ahead) = Ahead::new(alloc) else {
         return Status::NoMemory;
@@ -58,7 +60,9 @@ fn run_description<S: Read, W: Write>(
     script: &mut S,
     writer: &mut W,
 ) -> Status
-    ensures { RunsDescription (described description.now) (prepend_known ahead.old (S.remaining script.old)) (S.remaining script.new) (W.contents writer.old) (W.contents writer.new) result }
+    ensures { RunsDescription (described description.now)
+        (prepend_known ahead.old (S.remaining script.old)) (S.remaining script.new)
+        (W.contents writer.old) (W.contents writer.new) result }
 {
     let fault = match read_description(alloc, description) {
         Ok(plan) => {

@@ -20,7 +20,9 @@ pub fn run_plan<S: Read, W: Write>(
     script: &mut S,
     writer: &mut W,
 ) -> Result<bool, Halt>
-    ensures { RunsPlan plan.now (prepend_known ahead.old (S.remaining script.old)) (S.remaining script.new) (W.contents writer.old) (W.contents writer.new) result }
+    ensures { RunsPlan plan.now
+        (prepend_known ahead.old (S.remaining script.old)) (S.remaining script.new)
+        (W.contents writer.old) (W.contents writer.new) result }
 {
     let mut session = Session::new(alloc, plan)?;
     let answered = answer_script(alloc, &mut session, ahead, script, writer);

@@ -1,9 +1,7 @@
 use c104_control::ControlBytes;
 use c104_describe::{PlanFault, PlanFaultKind};
 use c104_event::EventFault;
-use c104_script::{
-    LineFault, description_text, fault_text, numbered, refusal_text, reply_text,
-};
+use c104_script::{LineFault, description_text, fault_text, numbered, refusal_text, reply_text};
 use c104_switch::Reply;
 use c104_token::Token;
 use std::test::Fail;
