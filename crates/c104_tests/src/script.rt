@@ -56,7 +56,7 @@ fn faulty_lines(rt: HostRuntime) -> Result<(), Fail> {
         assert!(rt; found.as_str() == message);
     }
     let none = format!(in rt.alloc(); "{}", LineFault::NoMemory)?;
-    assert!(rt; none.as_str() == "no memory");
+    assert!(rt; none.as_str() == "out of memory");
     Ok(())
 }
 
