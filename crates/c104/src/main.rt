@@ -1,18 +1,11 @@
 //! The program: reads a description of a network and a script, and shows what the network answers.
+//!
+//! `main` reads the command line, calls the function of a command and says what that function's `Status`
+//! means: a message on standard error and an exit status. Nothing is kept here. The functions of the
+//! commands are those of `c104_commands`.
 #![tactic(auto)]
 
-mod answering;
-mod halt;
-mod reading;
-mod runs;
-mod script;
-mod session;
-mod summary;
-mod texts;
-mod writing;
-
-use halt::Status;
-use runs::run_text;
+pub use c104_commands::{Status, run, run_text};
 use std::process::ExitCode;
 use std::{env, io};
 
@@ -51,6 +44,3 @@ fn fault_message(status: Status) -> Option<&'static str> {
         Status::NoMemory => Some("c104: no memory"),
     }
 }
-
-#[cfg(test)]
-mod tests;

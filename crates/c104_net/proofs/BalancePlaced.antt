@@ -6,8 +6,8 @@ use Rattle.c104_link.specs.Steps.{◌>>=◌}
 use Rattle.c104_regs.specs.declared.settings.Settings.{Settings}
 use Rattle.c104_regs.specs.Settings.{reset_settings}
 use Rattle.c104_switch.specs.Switch.{first_with, first_input}
-use Rattle.c104_net.specs.declared.events.Port.{Port}
-use Rattle.c104_net.specs.declared.events.Port.TheVariants as port
+use Rattle.c104_event.specs.declared.events.Port.{Port}
+use Rattle.c104_event.specs.declared.events.Port.TheVariants as port
 use Rattle.c104_net.specs.declared.nodes.End.{End}
 use Rattle.c104_net.specs.declared.node.NodeOf.TheVariants.{Switch, Terminal}
 use Rattle.c104_describe.specs.Plans.{Plan, IsPlan, IsPort}

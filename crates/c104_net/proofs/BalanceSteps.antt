@@ -3,7 +3,7 @@ use Rattle.std.proofs.Common.{◌≡◌, ◌≢◌, ℕ, Bool, inl, inr, List, O
 use Rattle.std.specs.Option.{option_map}
 use Rattle.c104_link.specs.Steps.{at_place, from_place, tried, taken}
 use Rattle.c104_switch.proofs.SoundnessSteps.{given, at_place_made, from_place_made, holds_tried, holds_taken}
-use Rattle.c104_net.specs.declared.events.Port.{Port}
+use Rattle.c104_event.specs.declared.events.Port.{Port}
 use Rattle.c104_net.specs.declared.nodes.End.{End}
 use Rattle.c104_describe.specs.Plans.{Plan, IsPlan}
 use Rattle.c104_net.specs.Nodes.{Node, enter, leave, credit_out, credit_in}

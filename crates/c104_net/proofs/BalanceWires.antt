@@ -5,8 +5,8 @@ use Rattle.std.proofs.lemmas.Bool.{cases_eq, and_parts}
 use Rattle.std.proofs.lemmas.Bool.Decides.{nat_tests}
 use Rattle.std.proofs.lemmas.Option.{slice_get_within, get_or_from_slice_get}
 use Rattle.c104_switch.proofs.SoundnessSteps.{All-place}
-use Rattle.c104_net.specs.declared.events.Port.{Port}
-use Rattle.c104_net.specs.declared.events.Port.TheVariants as port
+use Rattle.c104_event.specs.declared.events.Port.{Port}
+use Rattle.c104_event.specs.declared.events.Port.TheVariants as port
 use Rattle.c104_net.specs.declared.nodes.End.{End}
 use Rattle.c104_describe.specs.declared.plans.Terminal.{Terminal}
 use Rattle.c104_describe.specs.Plans.{Plan, IsPlan, IsPort}

@@ -5,11 +5,11 @@ use Rattle.c104_token.specs.Kinds.{Kind}
 use Rattle.c104_switch.specs.declared.actions.Reply.{Reply}
 use Rattle.c104_switch.specs.declared.actions.Reply.TheVariants as reply
 use Rattle.c104_link.specs.Steps.{◌>>=◌, at_place, from_place}
-use Rattle.c104_net.specs.declared.events.Port.{Port}
-use Rattle.c104_net.specs.declared.events.Event.{Event}
-use Rattle.c104_net.specs.declared.events.Event.TheVariants as event
-use Rattle.c104_net.specs.declared.events.EventFault.{EventFault}
-use Rattle.c104_net.specs.declared.events.EventFault.TheVariants as fault
+use Rattle.c104_event.specs.declared.events.Port.{Port}
+use Rattle.c104_event.specs.declared.events.Event.{Event}
+use Rattle.c104_event.specs.declared.events.Event.TheVariants as event
+use Rattle.c104_event.specs.declared.faults.EventFault.{EventFault}
+use Rattle.c104_event.specs.declared.faults.EventFault.TheVariants as fault
 use Rattle.c104_net.specs.Nodes.{Node, input, claim, control, send, drain}
 use Rattle.c104_net.specs.Wires.{crossed, credited}
 use Rattle.c104_net.specs.Wiring.{peer, end_of}

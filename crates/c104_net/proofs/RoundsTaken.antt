@@ -1,8 +1,8 @@
 -- A run of several rounds, round by round.
 use Rattle.std.proofs.Common.{ℕ, zero, suc, ◌≡◌, ◌+◌, ◌<◌, ◌-◌, List, ◌∷◌, ◌++◌, Result, Ok, Err, refl, sym, subst, ap, ◌∙◌, append_assoc, append-nil, arith, inl, inr}
 use Rattle.c104_token.specs.Kinds.{Kind}
-use Rattle.c104_net.specs.declared.events.Event.{Event}
-use Rattle.c104_net.specs.declared.events.EventFault.{EventFault}
+use Rattle.c104_event.specs.declared.events.Event.{Event}
+use Rattle.c104_event.specs.declared.faults.EventFault.{EventFault}
 use Rattle.c104_describe.specs.Plans.{Plan}
 use Rattle.c104_net.specs.Network.{Network}
 use Rattle.c104_net.specs.Rounds.{Outcome, RunEnds, round, rounds, run_until, unless_fault}

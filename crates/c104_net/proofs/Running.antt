@@ -2,8 +2,8 @@
 use Rattle.std.proofs.Common.{List, [], ◌∷◌, ◌++◌, Result, refl, subst}
 use Rattle.c104_token.specs.Kinds.{Kind}
 use Rattle.c104_switch.specs.declared.actions.Reply.{Reply}
-use Rattle.c104_net.specs.declared.events.Event.{Event}
-use Rattle.c104_net.specs.declared.events.EventFault.{EventFault}
+use Rattle.c104_event.specs.declared.events.Event.{Event}
+use Rattle.c104_event.specs.declared.faults.EventFault.{EventFault}
 use Rattle.c104_net.specs.Network.{Network, Answers, Runs}
 
 module _ {A : Type 0} (kind : Kind A) where

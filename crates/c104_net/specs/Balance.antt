@@ -3,7 +3,7 @@
 use Rattle.std.specs.Prelude.{ℕ, ◌≡◌, ◌++◌, Bool, true, false, List, Option, Some, length, map, replicate, slice_get}
 use Rattle.c104_link.specs.Steps.{◌>>=◌}
 use Rattle.c104_net.specs.declared.node.NodeOf.TheVariants.{Switch, Terminal}
-use Rattle.c104_net.specs.declared.events.Port.{Port}
+use Rattle.c104_event.specs.declared.events.Port.{Port}
 use Rattle.c104_net.specs.declared.nodes.End.{End}
 use Rattle.c104_net.specs.Nodes.{Node}
 use Rattle.c104_describe.specs.Plans.{Plan}

@@ -2,7 +2,6 @@ pub mod Terminals
 pub mod Nodes
 pub mod Wires
 pub mod Wiring
-pub mod EventFaults
 pub mod Network
 pub mod Balance
 pub mod Finished

@@ -13,12 +13,12 @@ use Rattle.c104_describe.specs.Plans.{Plan}
 use Rattle.c104_describe.specs.PlanImage.{Image}
 use Rattle.c104_net.specs.Terminals.{first_terminal}
 use Rattle.c104_net.specs.declared.node.NodeOf.TheVariants as node
-use Rattle.c104_net.specs.declared.events.Port.{Port}
-use Rattle.c104_net.specs.declared.events.Port.TheVariants as port
-use Rattle.c104_net.specs.declared.events.Event.{Event}
-use Rattle.c104_net.specs.declared.events.Event.TheVariants as event
-use Rattle.c104_net.specs.declared.events.EventFault.{EventFault}
-use Rattle.c104_net.specs.declared.events.EventFault.TheVariants as fault
+use Rattle.c104_event.specs.declared.events.Port.{Port}
+use Rattle.c104_event.specs.declared.events.Port.TheVariants as port
+use Rattle.c104_event.specs.declared.events.Event.{Event}
+use Rattle.c104_event.specs.declared.events.Event.TheVariants as event
+use Rattle.c104_event.specs.declared.faults.EventFault.{EventFault}
+use Rattle.c104_event.specs.declared.faults.EventFault.TheVariants as fault
 use Rattle.c104_net.specs.Nodes.{Node, input, claim, control, send, drain, waiting, arrived, arrived_at, register_at}
 use Rattle.c104_net.specs.Wires.{crossed, credited}
 use Rattle.c104_net.specs.Wiring.{peer, end_of}

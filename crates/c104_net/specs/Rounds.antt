@@ -7,12 +7,12 @@ use Rattle.c104_token.specs.Kinds.{Kind}
 use Rattle.c104_switch.specs.declared.actions.Reply.{Reply}
 use Rattle.c104_switch.specs.declared.actions.Reply.TheVariants as reply
 use Rattle.c104_describe.specs.Plans.{Plan}
-use Rattle.c104_net.specs.declared.events.Port.{Port}
-use Rattle.c104_net.specs.declared.events.Port.TheVariants as port
-use Rattle.c104_net.specs.declared.events.Event.{Event}
-use Rattle.c104_net.specs.declared.events.Event.TheVariants as event
-use Rattle.c104_net.specs.declared.events.EventFault.{EventFault}
-use Rattle.c104_net.specs.declared.events.EventFault.TheVariants as fault
+use Rattle.c104_event.specs.declared.events.Port.{Port}
+use Rattle.c104_event.specs.declared.events.Port.TheVariants as port
+use Rattle.c104_event.specs.declared.events.Event.{Event}
+use Rattle.c104_event.specs.declared.events.Event.TheVariants as event
+use Rattle.c104_event.specs.declared.faults.EventFault.{EventFault}
+use Rattle.c104_event.specs.declared.faults.EventFault.TheVariants as fault
 use Rattle.c104_net.specs.Wiring.{peer}
 use Rattle.c104_net.specs.Network.{Network, WouldBeDone, answered}
 

@@ -10,7 +10,6 @@
 //! why a network was not made. `rounds` does the events of all parts in turn, again and again.
 #![tactic(auto)]
 
-mod events;
 mod faults;
 mod net;
 mod node;
@@ -20,7 +19,7 @@ mod rounds;
 mod run;
 mod terminal;
 
-pub use events::{Event, EventFault, Port};
+pub use c104_event::{Event, EventFault, Port};
 pub use faults::PlaceFault;
 pub use net::{Net, NetOf};
 pub use run::{Run, RunOf};

@@ -4,7 +4,7 @@ ghost use Rattle.std.specs.Prelude.{MatchResult, IfOk, OnOk, OnErr, IsErrOf, IfS
 ghost use Rattle.std.specs.Option.{option_copied};
 ghost use Rattle.c104_describe.specs.Plans.{IsPlan};
 ghost use Rattle.c104_net.specs.Wiring.{peer, end_of, other_end, terminal_wires, IsInPlan};
-ghost use Rattle.c104_net.specs.declared.events.Event.TheVariants as event;
+ghost use Rattle.c104_event.specs.declared.events.Event.TheVariants as event;
 ghost use Rattle.c104_switch.specs.Actions.{reply_of, reply_with};
 ghost use Rattle.c104_describe.specs.PlanImage.{Fits};
 ghost use Rattle.c104_net.specs.Balance.{IsBalanced};
@@ -12,7 +12,6 @@ ghost use Rattle.c104_net.specs.Finished.{finished, arrived_in};
 ghost use Rattle.c104_net.specs.Network.{first_network, placed, arrived_of, register_of, reply_by};
 ghost use Rattle.c104_net.specs.Network.{Answers, Runs, event_fault, wired_fault, terminal_place};
 
-use crate::events::{Event, EventFault, Port};
 use crate::faults::PlaceFault;
 use crate::nodes::{End, NodesOf};
 use crate::placing::{place, place_new, retire_all};
@@ -20,6 +19,7 @@ use crate::run::RunOf;
 use crate::terminal::TerminalOf;
 use c104_control::ControlBytes;
 use c104_describe::{Image, Plan, Terminal};
+use c104_event::{Event, EventFault, Port};
 use c104_switch::{LINKS, Reply};
 use c104_token::{MAX_PACKET_BYTES, NoMemory, Packet, Token, TokenKind};
 use std::alloc::{AllocError, Global};
@@ -46,7 +46,7 @@ pub struct NetOf<T: TokenKind> {
 pub type Net = NetOf<Token>;
 
 impl<T: TokenKind> Model for NetOf<T> {
-    ghost use Rattle.c104_net.specs.declared.events.Event.TheVariants as event;
+    ghost use Rattle.c104_event.specs.declared.events.Event.TheVariants as event;
     ghost use Rattle.c104_switch.specs.Actions.{reply_of, reply_with};
     ghost use Rattle.c104_describe.specs.PlanImage.{Fits};
     ghost use Rattle.c104_net.specs.Network.{placed, arrived_of, Network};

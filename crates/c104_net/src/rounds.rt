@@ -2,11 +2,11 @@
 ghost use Rattle.std.specs.Prelude.{◌≡◌, [], ◌∷◌, ◌++◌, filter, map, flat_map, Ok, IfOk, OnOk, MatchResult};
 ghost use Rattle.c104_net.specs.Rounds.{all_claims, all_drains, claims_of, is_wired, round, switch_claims};
 ghost use Rattle.c104_net.specs.Rounds.{turn_at, was_done, wired_links, wired_ports, wired_terminals};
-ghost use Rattle.c104_net.specs.declared.events.Event.TheVariants as event;
+ghost use Rattle.c104_event.specs.declared.events.Event.TheVariants as event;
 
-use crate::events::{Event, EventFault, Port};
 use crate::net::{NetOf, peer};
 use c104_describe::Plan;
+use c104_event::{Event, EventFault, Port};
 use c104_switch::{LINKS, Reply};
 use c104_token::{NoMemory, TokenKind};
 use std::alloc::Global;

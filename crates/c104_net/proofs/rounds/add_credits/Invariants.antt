@@ -1,5 +1,5 @@
 use Rattle.std.proofs.Common.{◌≡◌, ◌++◌, map, take}
-use Rattle.c104_net.specs.declared.events.Event.TheVariants as event
+use Rattle.c104_event.specs.declared.events.Event.TheVariants as event
 use Rattle.c104_net.proofs.rounds.add_credits.Given as goal
 
 -- the credits of the ports so far

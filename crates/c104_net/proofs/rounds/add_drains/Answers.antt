@@ -1,4 +1,4 @@
-use Rattle.c104_net.specs.declared.events.Event.TheVariants as event
+use Rattle.c104_event.specs.declared.events.Event.TheVariants as event
 use Rattle.c104_net.proofs.RoundLists.{map_next}
 use Rattle.c104_net.proofs.rounds.add_drains.Goals as goal
 

@@ -1,5 +1,5 @@
 use Rattle.std.proofs.Common.{◌++◌, ◌∙◌, map, ap, arith}
-use Rattle.c104_net.specs.declared.events.Event.TheVariants as event
+use Rattle.c104_event.specs.declared.events.Event.TheVariants as event
 use Rattle.c104_net.proofs.RoundLists.{map_next, links_passed}
 use Rattle.c104_net.proofs.rounds.add_input_claims.Goals as goal
 

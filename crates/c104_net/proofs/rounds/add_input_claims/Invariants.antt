@@ -1,6 +1,6 @@
 use Rattle.std.proofs.Common.{◌≡◌, ◌++◌, map}
 use Rattle.std.specs.List.{range_with_len}
-use Rattle.c104_net.specs.declared.events.Event.TheVariants as event
+use Rattle.c104_event.specs.declared.events.Event.TheVariants as event
 use Rattle.c104_net.proofs.rounds.add_input_claims.Given as goal
 
 -- the claims of the outputs so far

@@ -1,6 +1,6 @@
 use Rattle.std.proofs.Common.{◌≡◌, ◌+◌, ◌++◌, [], ◌∷◌, List, take, arith, ap, ◌∙◌, sym}
 use Rattle.std.proofs.lemmas.List.{take_more}
-use Rattle.c104_net.specs.declared.events.Event.{Event}
+use Rattle.c104_event.specs.declared.events.Event.{Event}
 use Rattle.c104_net.proofs.Running.{run_on}
 use Rattle.c104_net.proofs.net.NetOf.apply_all.Goals as goal
 

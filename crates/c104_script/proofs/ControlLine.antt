@@ -1,0 +1,40 @@
+-- The bytes of a control line are read word by word.
+use Rattle.std.proofs.Common.{◌≡◌, ◌<◌, ◌≤◌, ℕ, ◌+◌, List, [], ◌∷◌, ◌++◌, length, map, drop, get_or, Bor, Option, Some, None, Result, Ok, Err, refl, sym, ◌∙◌, ap, add-one, arith}
+use Rattle.std.proofs.Math.Seq.{drop-cons}
+use Rattle.std.proofs.lemmas.List.{at_drop_all, get_or-map, length-map}
+use Rattle.c104_token.specs.Text.{byte_spelled}
+use Rattle.c104_script.specs.declared.faults.LineFault.{LineFault}
+use Rattle.c104_script.specs.declared.faults.LineFault.TheVariants as fault
+use Rattle.c104_script.specs.Script.{bytes_after, wanted, ◌>>=◌}
+
+-- the words of lent slices
+abbrev pub texts : List (Bor (List ℕ)) → List (List ℕ)
+texts list = map (λ w. w.now) list
+
+-- at a place of the list, with the bytes read so far
+module _ (list : List (Bor (List ℕ))) (i : ℕ) (d : Bor (List ℕ)) (inside : i < length list) (bytes : List ℕ) (due : bytes_after bytes (drop i (texts list)) ≡ bytes_after [] (texts list)) where
+  -- the words from the place on begin with the word there
+  from_place : drop i (texts list) ≡ (get_or list i d).now ∷ drop (i + 1) (texts list)
+  from_place =
+      let here : get_or (texts list) i d.now ≡ (get_or list i d).now = get_or-map (λ (w : Bor (List ℕ)). w.now) list i d d.now inside in
+      let room : i < length (texts list) = omega (arith, length-map list (λ (w : Bor (List ℕ)). w.now)) in
+      rw (add-one, drop-cons (texts list) i d.now room, here) refl
+
+  -- what is due, by the byte that it spells, if it does
+  abbrev then_more : Option ℕ → Result (List ℕ) LineFault
+  then_more o = wanted o fault.BadHex >>= (λ byte. bytes_after (bytes ++ byte ∷ []) (drop (i + 1) (texts list)))
+
+  by_word : (o : Option ℕ) → o ≡ byte_spelled (get_or list i d).now → bytes_after [] (texts list) ≡ then_more o
+  by_word o is = sym due ∙ ap (bytes_after bytes) from_place ∙ ap then_more (sym is)
+
+  pub next_byte : (b : ℕ) → Some b ≡ byte_spelled (get_or list i d).now → bytes_after (bytes ++ b ∷ []) (drop (i + 1) (texts list)) ≡ bytes_after [] (texts list)
+  next_byte b is = sym (by_word (Some b) is)
+
+  pub no_byte : None ≡ byte_spelled (get_or list i d).now → Err fault.BadHex ≡ bytes_after [] (texts list)
+  no_byte is = sym (by_word None is)
+
+-- at the end all is read
+pub all_read : (list : List (Bor (List ℕ))) (i : ℕ) (bytes : List ℕ) → length list ≤ i → bytes_after bytes (drop i (texts list)) ≡ bytes_after [] (texts list) → Ok bytes ≡ bytes_after [] (texts list)
+all_read list i bytes past due =
+    let room : length (texts list) ≤ i = omega (arith, past, length-map list (λ (w : Bor (List ℕ)). w.now)) in
+    sym (at_drop_all (bytes_after bytes) (texts list) i room) ∙ due

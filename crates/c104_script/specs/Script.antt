@@ -1,0 +1,233 @@
+-- The grammar of a script: what a line asks of a network of this plan. Of all that is wrong with a
+-- line the fault of the least number is answered, so conditions stand in the order of the faults'
+-- numbers; but a packet's words are read from the left, after all else.
+use Rattle.std.specs.Prelude.{ℕ, ◌+◌, ◌&&◌, ◌≡◌, ◌⊎◌, Bool, true, false, List, [], ◌∷◌, ◌++◌, length, take, drop, nat_le, bytes_eq, codes, if◌then◌else◌, Option, Some, None, Result, Ok, Err}
+use Rattle.c104_token.specs.declared.faults.TokenFault.{TokenFault}
+use Rattle.c104_token.specs.declared.faults.TokenFault.TheVariants as token_fault
+use Rattle.c104_token.specs.Text.{byte_spelled, parsed_words}
+use Rattle.c104_token.specs.declared.packets.Packet.{Packet}
+use Rattle.c104_control.specs.declared.bytes.TheConstants.{MAX_CONTROL_BYTES}
+use Rattle.c104_describe.specs.declared.text.Dots.{Dots}
+use Rattle.c104_describe.specs.declared.text.Dots.TheVariants.{Without, At, Several}
+use Rattle.c104_event.specs.declared.events.Port.{Port}
+use Rattle.c104_event.specs.declared.events.Port.TheVariants as port
+use Rattle.c104_event.specs.declared.events.Event.{Event}
+use Rattle.c104_event.specs.declared.events.Event.TheVariants as event
+use Rattle.c104_event.specs.declared.faults.EventFault.{EventFault}
+use Rattle.c104_event.specs.declared.faults.EventFault.TheVariants.{NoNode, NoLink}
+use Rattle.c104_describe.specs.TextCut.{uncommented, words, plain}
+use Rattle.c104_describe.specs.TextWords.{number, dots}
+use Rattle.c104_describe.specs.Plans.{Plan, switch_number, terminal_number}
+pub use Rattle.c104_script.specs.declared.faults.LineFault.{LineFault}
+use Rattle.c104_script.specs.declared.faults.LineFault.TheVariants as fault
+use Rattle.c104_script.specs.declared.words.Verb.{Verb}
+use Rattle.c104_script.specs.declared.words.Verb.TheVariants as verb
+pub use Rattle.c104_script.specs.declared.places.Request.{Request}
+use Rattle.c104_script.specs.declared.places.Request.TheVariants.{Asked, Refused, Rounds}
+
+infixl 20 ◌>>=◌
+infixl 20 ◌>>◌
+-- what is read, and then what is read by it
+abbrev pub ◌>>=◌ : {X Y : Type 0} → Result X LineFault → (X → Result Y LineFault) → Result Y LineFault
+Ok x >>= f = f x
+Err kind >>= f = Err kind
+
+-- a condition, and then what is read where it holds
+abbrev pub ◌>>◌ : {Y : Type 0} → Result Bool LineFault → Result Y LineFault → Result Y LineFault
+Ok x >> r = r
+Err kind >> r = Err kind
+
+-- a condition, and the fault where it doesn't hold
+abbrev pub require : Bool → LineFault → Result Bool LineFault
+require true kind = Ok true
+require false kind = Err kind
+
+-- a value, and the fault where there is none
+abbrev pub wanted : {X : Type 0} → Option X → LineFault → Result X LineFault
+wanted (Some x) kind = Ok x
+wanted None kind = Err kind
+
+abbrev pub number_word : List ℕ → Result ℕ LineFault
+number_word word = wanted (number word) fault.BadNumber
+
+-- the two sides of a word's dot, by where it is; a word without a dot names no link
+abbrev pub place_at : List ℕ → Dots → Result (List ℕ × Option ℕ) LineFault
+place_at word Without = Ok (word, None)
+place_at word Several = Err fault.BadShape
+place_at word (At at) = do
+  link ← number_word (drop (at + 1) word)
+  Ok (take at word, Some link)
+
+-- a node, `NAME`, or a port, `NAME.NUMBER`: what stands for the name, and the link
+abbrev pub place_word : List ℕ → Result (List ℕ × Option ℕ) LineFault
+place_word word = place_at word (dots word)
+
+-- a node that is named without a link
+abbrev pub node_with : Option ℕ → Option ℕ → Result ℕ EventFault
+node_with None link = Err NoNode
+node_with (Some n) None = Ok n
+node_with (Some n) (Some l) = Err NoLink
+
+abbrev pub terminal_at : Plan → List ℕ × Option ℕ → Result ℕ EventFault
+terminal_at plan place = node_with (terminal_number plan place.0) place.1
+
+abbrev pub switch_at : Plan → List ℕ × Option ℕ → Result ℕ EventFault
+switch_at plan place = node_with (switch_number plan place.0) place.1
+
+-- an input is a switch's link, and named with it
+abbrev pub input_with : Option ℕ → Option ℕ → Result (ℕ × ℕ) EventFault
+input_with None link = Err NoNode
+input_with (Some s) None = Err NoLink
+input_with (Some s) (Some l) = Ok (s, l)
+
+abbrev pub input_at : Plan → List ℕ × Option ℕ → Result (ℕ × ℕ) EventFault
+input_at plan place = input_with (switch_number plan place.0) place.1
+
+-- a port is a terminal, or a switch's link
+abbrev pub port_of_input : Result (ℕ × ℕ) EventFault → Result Port EventFault
+port_of_input (Ok r) = Ok (port.Switch r.0 r.1)
+port_of_input (Err f) = Err f
+
+abbrev pub port_with : Option ℕ → Option ℕ → Option ℕ → Result Port EventFault
+port_with (Some t) switch None = Ok (port.Terminal t)
+port_with (Some t) switch (Some l) = Err NoLink
+port_with None switch link = port_of_input (input_with switch link)
+
+abbrev pub port_at : Plan → List ℕ × Option ℕ → Result Port EventFault
+port_at plan place = port_with (terminal_number plan place.0) (switch_number plan place.0) place.1
+
+-- an event of what was found, or the refusal where nothing was
+abbrev pub request_of : {X : Type 0} → Result X EventFault → (X → Event) → Request
+request_of (Ok x) f = Asked (f x)
+request_of (Err kind) f = Refused kind
+
+-- what is wrong with a packet's words
+abbrev pub packet_fault : TokenFault → LineFault
+packet_fault token_fault.BadHex = fault.BadHex
+packet_fault token_fault.NoEnd = fault.NoEnd
+packet_fault token_fault.AfterEnd = fault.AfterEnd
+packet_fault token_fault.TooLong = fault.PacketTooLong
+packet_fault token_fault.NoMemory = fault.NoMemory
+
+abbrev pub packet_of : Result Packet TokenFault → Result Packet LineFault
+packet_of (Ok packet) = Ok packet
+packet_of (Err kind) = Err (packet_fault kind)
+
+-- `send T PACKET`
+abbrev pub send_line : Plan → List ℕ → List (List ℕ) → Result Request LineFault
+send_line plan node packet_words = do
+  place ← place_word node
+  packet ← packet_of (parsed_words packet_words)
+  Ok (request_of (terminal_at plan place) (λ t. event.Send t packet))
+
+-- `drain T`
+abbrev pub drain_line : Plan → List ℕ → Result Request LineFault
+drain_line plan node = do
+  place ← place_word node
+  Ok (request_of (terminal_at plan place) event.Drain)
+
+-- `cross P`
+abbrev pub cross_line : Plan → List ℕ → Result Request LineFault
+cross_line plan node = do
+  place ← place_word node
+  Ok (request_of (port_at plan place) event.Cross)
+
+-- `credit P`
+abbrev pub credit_line : Plan → List ℕ → Result Request LineFault
+credit_line plan node = do
+  place ← place_word node
+  Ok (request_of (port_at plan place) event.Credit)
+
+-- `input S.l`, with the word that is handed in
+abbrev pub input_line : Plan → List ℕ → Result ℕ LineFault → Result Request LineFault
+input_line plan node handed = do
+  place ← place_word node
+  word ← handed
+  Ok (request_of (input_at plan place) (λ r. event.Input r.0 r.1 word))
+
+-- `claim S i o`
+abbrev pub claim_line : Plan → List ℕ → List ℕ → List ℕ → Result Request LineFault
+claim_line plan node input_word output_word = do
+  place ← place_word node
+  input ← number_word input_word
+  output ← number_word output_word
+  Ok (request_of (switch_at plan place) (λ s. event.Claim s input output))
+
+-- the bytes that words spell, after these: each is two hexadecimal digits
+abbrev pub bytes_after : List ℕ → List (List ℕ) → Result (List ℕ) LineFault
+bytes_after bytes [] = Ok bytes
+bytes_after bytes (word ∷ more) = do
+  byte ← wanted (byte_spelled word) fault.BadHex
+  bytes_after (bytes ++ byte ∷ []) more
+
+-- `control S HEX..`
+abbrev pub control_line : Plan → List ℕ → List (List ℕ) → Result Request LineFault
+control_line plan node byte_words = do
+  require (nat_le (length byte_words) MAX_CONTROL_BYTES) fault.BadShape
+  place ← place_word node
+  bytes ← bytes_after [] byte_words
+  Ok (request_of (switch_at plan place) (λ s. event.Control s bytes))
+
+-- the most rounds that a line asks for
+abbrev pub most_rounds : ℕ
+most_rounds = 10000
+
+-- `rounds N`
+abbrev pub rounds_line : List ℕ → Result Request LineFault
+rounds_line count_word = do
+  count ← number_word count_word
+  require (nat_le 1 count && nat_le count most_rounds) fault.BadNumber
+  Ok (Rounds count)
+
+-- what the first word of a line asks for
+abbrev pub verb_of : List ℕ → Option Verb
+verb_of word =
+    if bytes_eq word (codes "send") then Some verb.Send
+    else (if bytes_eq word (codes "drain") then Some verb.Drain
+    else (if bytes_eq word (codes "cross") then Some verb.Cross
+    else (if bytes_eq word (codes "credit") then Some verb.Credit
+    else (if bytes_eq word (codes "input") then Some verb.Input
+    else (if bytes_eq word (codes "claim") then Some verb.Claim
+    else (if bytes_eq word (codes "control") then Some verb.Control
+    else (if bytes_eq word (codes "rounds") then Some verb.Rounds
+    else None)))))))
+
+-- a line, by what its first word asks for and the words after it
+abbrev pub verb_line : Verb → Plan → List (List ℕ) → Result Request LineFault
+verb_line verb.Send plan (node ∷ packet_words) = send_line plan node packet_words
+verb_line verb.Drain plan (node ∷ []) = drain_line plan node
+verb_line verb.Cross plan (node ∷ []) = cross_line plan node
+verb_line verb.Credit plan (node ∷ []) = credit_line plan node
+verb_line verb.Input plan (node ∷ []) = input_line plan node (Ok 0)
+verb_line verb.Input plan (node ∷ word ∷ []) = input_line plan node (number_word word)
+verb_line verb.Claim plan (node ∷ input_word ∷ output_word ∷ []) = claim_line plan node input_word output_word
+verb_line verb.Control plan (node ∷ byte_words) = control_line plan node byte_words
+verb_line verb.Rounds plan (count_word ∷ []) = rounds_line count_word
+verb_line verb plan rest = Err fault.BadShape
+
+-- a line with words
+abbrev pub some_request : Result Request LineFault → Result (Option Request) LineFault
+some_request (Ok request) = Ok (Some request)
+some_request (Err kind) = Err kind
+
+-- a line, by its words; is_plain says that it has no byte that no line may have
+abbrev pub words_line : Plan → Bool → List (List ℕ) → Result (Option Request) LineFault
+words_line plan is_plain [] = Ok None
+words_line plan is_plain (first ∷ rest) = do
+  verb ← wanted (verb_of first) fault.UnknownWord
+  require is_plain fault.BadShape
+  some_request (verb_line verb plan rest)
+
+-- the most bytes of a line, its line feed left out
+abbrev pub most_line : ℕ
+most_line = 16384
+
+-- what a line asks, which is nothing where it has no words, or what is wrong with it
+unfoldable pub read_line : Plan → List ℕ → Result (Option Request) LineFault
+read_line plan line =
+    if nat_le (length line) most_line then words_line plan (plain (uncommented line)) (words (uncommented line))
+    else Err fault.LineTooLong
+
+-- what is due, or out of memory
+abbrev pub GivesOrNoMemory : {X : Type 0} → Result X LineFault → Result X LineFault → Type 0
+GivesOrNoMemory result due = (result ≡ due) ⊎ (result ≡ Err fault.NoMemory)

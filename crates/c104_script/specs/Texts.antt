@@ -1,0 +1,81 @@
+-- What is printed: tokens, replies, refusals and faults.
+use Rattle.std.specs.Prelude.{ℕ, ◌/◌, ◌%◌, List, [], ◌∷◌, ◌++◌, flat_map, codes, Result, Ok, Err}
+use Rattle.std.specs.Fmt.{decimal}
+use Rattle.c104_token.specs.declared.tokens.Token.{Token}
+use Rattle.c104_token.specs.declared.tokens.Token.TheVariants as token
+use Rattle.c104_token.specs.declared.tokens.Mark.TheVariants as mark
+use Rattle.c104_token.specs.Text.{hex_digit, mark_word}
+use Rattle.c104_switch.specs.declared.actions.Reply.{Reply}
+use Rattle.c104_switch.specs.declared.actions.Reply.TheVariants as reply
+use Rattle.c104_event.specs.declared.faults.EventFault.{EventFault}
+use Rattle.c104_event.specs.EventFaults.{event_fault_number, event_fault_name}
+use Rattle.c104_describe.specs.declared.faults.PlanFault.{PlanFault}
+use Rattle.c104_describe.specs.PlanFaults.{kind_number, kind_name}
+use Rattle.c104_script.specs.declared.faults.LineFault.{LineFault}
+use Rattle.c104_script.specs.declared.faults.LineFault.TheVariants as fault
+
+-- the number that is printed
+abbrev pub line_fault_number : LineFault → ℕ
+line_fault_number fault.LineTooLong = 1
+line_fault_number fault.UnknownWord = 2
+line_fault_number fault.BadShape = 3
+line_fault_number fault.BadNumber = 4
+line_fault_number fault.BadHex = 5
+line_fault_number fault.NoEnd = 6
+line_fault_number fault.AfterEnd = 7
+line_fault_number fault.PacketTooLong = 8
+line_fault_number fault.NoMemory = 9
+
+-- the name that is printed
+abbrev pub line_fault_name : LineFault → List ℕ
+line_fault_name fault.LineTooLong = codes "LineTooLong"
+line_fault_name fault.UnknownWord = codes "UnknownWord"
+line_fault_name fault.BadShape = codes "BadShape"
+line_fault_name fault.BadNumber = codes "BadNumber"
+line_fault_name fault.BadHex = codes "BadHex"
+line_fault_name fault.NoEnd = codes "NoEnd"
+line_fault_name fault.AfterEnd = codes "AfterEnd"
+line_fault_name fault.PacketTooLong = codes "PacketTooLong"
+line_fault_name fault.NoMemory = codes "NoMemory"
+
+-- a byte: its two hexadecimal digits
+abbrev pub byte_text : ℕ → List ℕ
+byte_text byte = hex_digit (byte / 16) ∷ hex_digit (byte % 16) ∷ []
+
+-- a token: a byte, or its terminator's word
+abbrev pub token_text : Token → List ℕ
+token_text (token.Byte byte) = byte_text byte
+token_text token.Eop = mark_word mark.Eop
+token_text token.Eom = mark_word mark.Eom
+
+-- a byte of a reply to a command, after a space
+abbrev pub spaced_byte : ℕ → List ℕ
+spaced_byte byte = 32 ∷ byte_text byte
+
+-- what a reply to an event is printed as
+abbrev pub reply_text : Reply → List ℕ
+reply_text reply.Done = codes "done"
+reply_text reply.NotReady = codes "not ready"
+reply_text (reply.Token x) = codes "token " ++ token_text x
+reply_text (reply.Control bytes) = codes "control" ++ flat_map spaced_byte bytes
+
+-- what an event's answer is printed as, a refusal by its number and name
+abbrev pub answer_text : Result Reply EventFault → List ℕ
+answer_text (Ok r) = reply_text r
+answer_text (Err kind) = codes "refused " ++ (decimal (event_fault_number kind) ++ (codes " " ++ event_fault_name kind))
+
+-- what a line's fault is printed as
+abbrev pub line_fault_text : LineFault → List ℕ
+line_fault_text kind = codes "fault " ++ (decimal (line_fault_number kind) ++ (codes " " ++ line_fault_name kind))
+
+-- an answer's line, by the number of the line that it answers
+abbrev pub numbered : ℕ → List ℕ → List ℕ
+numbered line text = decimal line ++ (codes ": " ++ (text ++ codes "\n"))
+
+-- the line of a refused description
+abbrev pub description_text : PlanFault → List ℕ
+description_text fault = codes "description " ++ (decimal fault.line ++ (codes ": " ++ (decimal (kind_number fault.kind) ++ (codes " " ++ (kind_name fault.kind ++ codes "\n")))))
+
+-- what stands in the summary's place where a script is too long
+abbrev pub script_too_long : List ℕ
+script_too_long = codes "script too long\n"

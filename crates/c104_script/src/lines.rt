@@ -1,0 +1,189 @@
+//! A script, line by line.
+ghost use Rattle.std.specs.Prelude.{◌≡◌, map};
+ghost use Rattle.c104_script.specs.Script.{claim_line, control_line, credit_line, cross_line, drain_line, input_line, number_word, read_line, request_of, rounds_line, send_line, verb_line, words_line, GivesOrNoMemory};
+ghost use Rattle.c104_event.specs.declared.events.Event.TheVariants as event;
+
+use crate::faults::LineFault;
+use crate::places::{Request, find_input, find_port, find_switch, find_terminal};
+use crate::words::{Verb, read_bytes, read_number_word, read_place, read_verb};
+use c104_control::MAX_CONTROL_BYTES;
+use c104_describe::{Plan, cut_words, is_plain, uncommented};
+use c104_event::{Event, Port};
+use c104_token::parse_words;
+use std::alloc::Global;
+
+/// The most rounds that a line asks for.
+const MAX_ROUNDS: u32 = 10_000;
+
+/// The most bytes of a script's line, its line feed left out.
+pub const MAX_LINE: usize = 16_384;
+
+/// What a line asks of a network of this plan. None where it has no words.
+///
+/// A fault is the least that applies, but those of a packet come as its words are read from the left.
+/// NoMemory may come in place of any answer.
+#[tactic(auto, unfolding(crate::specs::Script::read_line))]
+pub fn read_line(alloc: Global, plan: &Plan, line: &[u8]) -> Result<Option<Request>, LineFault>
+    ensures { GivesOrNoMemory result (read_line plan.now line.now) }
+{
+    if line.len() > MAX_LINE {
+        return Err(LineFault::LineTooLong);
+    }
+    let line = uncommented(line);
+    let words = cut_words(alloc, line)?;
+    read_words(alloc, plan, is_plain(line), words.as_slice())
+}
+
+/// Reads the words of a line, whose bytes are all plain or not.
+fn read_words(
+    alloc: Global,
+    plan: &Plan,
+    is_plain: bool,
+    words: &[&[u8]],
+) -> Result<Option<Request>, LineFault>
+    ensures { GivesOrNoMemory result (words_line plan.now is_plain (map (λ word. word.now) words.now)) }
+{
+    let [first, rest @ ..] = words else {
+        return Ok(None);
+    };
+    let Some(verb) = read_verb(first) else {
+        return Err(LineFault::UnknownWord);
+    };
+    if !is_plain {
+        return Err(LineFault::BadShape);
+    }
+    let request = read_request(alloc, plan, verb, rest)?;
+    Ok(Some(request))
+}
+
+/// Reads the words after the first.
+fn read_request(
+    alloc: Global,
+    plan: &Plan,
+    verb: Verb,
+    words: &[&[u8]],
+) -> Result<Request, LineFault>
+    ensures { GivesOrNoMemory result (verb_line verb plan.now (map (λ word. word.now) words.now)) }
+{
+    match (verb, words) {
+        (Verb::Send, [node, packet @ ..]) => read_send(alloc, plan, node, packet),
+        (Verb::Drain, [node]) => read_drain(plan, node),
+        (Verb::Cross, [node]) => read_cross(plan, node),
+        (Verb::Credit, [node]) => read_credit(plan, node),
+        (Verb::Input, [node]) => read_input(plan, node, Ok(0)),
+        (Verb::Input, [node, word]) => read_input(plan, node, read_number_word(word)),
+        (Verb::Claim, [node, input, output]) => read_claim(plan, node, input, output),
+        (Verb::Control, [node, bytes @ ..]) => read_control(plan, node, bytes),
+        (Verb::Rounds, [count]) => read_rounds(count),
+        _ => Err(LineFault::BadShape),
+    }
+}
+
+/// Reads `send T PACKET`.
+fn read_send(
+    alloc: Global,
+    plan: &Plan,
+    node: &[u8],
+    packet: &[&[u8]],
+) -> Result<Request, LineFault>
+    ensures { GivesOrNoMemory result (send_line plan.now node.now (map (λ word. word.now) packet.now)) }
+{
+    let place = read_place(node)?;
+    let packet = parse_words(alloc, packet)?;
+    Ok(match find_terminal(plan, place) {
+        Ok(terminal) => Request::Asked(Event::Send { terminal, packet }),
+        Err(fault) => Request::Refused(fault),
+    })
+}
+
+/// Reads `drain T`.
+fn read_drain(plan: &Plan, node: &[u8]) -> Result<Request, LineFault>
+    ensures { result ≡ drain_line plan.now node.now }
+{
+    let place = read_place(node)?;
+    Ok(match find_terminal(plan, place) {
+        Ok(terminal) => Request::Asked(Event::Drain { terminal }),
+        Err(fault) => Request::Refused(fault),
+    })
+}
+
+/// Reads `cross P`.
+fn read_cross(plan: &Plan, node: &[u8]) -> Result<Request, LineFault>
+    ensures { result ≡ cross_line plan.now node.now }
+{
+    let place = read_place(node)?;
+    Ok(match find_port(plan, place) {
+        Ok(port) => Request::Asked(Event::Cross(port)),
+        Err(fault) => Request::Refused(fault),
+    })
+}
+
+/// Reads `credit P`.
+fn read_credit(plan: &Plan, node: &[u8]) -> Result<Request, LineFault>
+    ensures { result ≡ credit_line plan.now node.now }
+{
+    let place = read_place(node)?;
+    Ok(match find_port(plan, place) {
+        Ok(port) => Request::Asked(Event::Credit(port)),
+        Err(fault) => Request::Refused(fault),
+    })
+}
+
+/// Reads `input S.l`, with the word that is handed in.
+fn read_input(
+    plan: &Plan,
+    node: &[u8],
+    handed: Result<u32, LineFault>,
+) -> Result<Request, LineFault>
+    ensures { result ≡ input_line plan.now node.now handed }
+{
+    let place = read_place(node)?;
+    let word = handed?;
+    Ok(match find_input(plan, place) {
+        Ok((switch, link)) => Request::Asked(Event::Input { switch, link, word }),
+        Err(fault) => Request::Refused(fault),
+    })
+}
+
+/// Reads `claim S i o`.
+fn read_claim(plan: &Plan, node: &[u8], input: &[u8], output: &[u8]) -> Result<Request, LineFault>
+    ensures { result ≡ claim_line plan.now node.now input.now output.now }
+{
+    let place = read_place(node)?;
+    let input = read_number_word(input)? as usize;
+    let output = read_number_word(output)? as usize;
+    Ok(match find_switch(plan, place) {
+        Ok(switch) => Request::Asked(Event::Claim {
+            switch,
+            input,
+            output,
+        }),
+        Err(fault) => Request::Refused(fault),
+    })
+}
+
+/// Reads `control S HEX..`.
+fn read_control(plan: &Plan, node: &[u8], words: &[&[u8]]) -> Result<Request, LineFault>
+    ensures { result ≡ control_line plan.now node.now (map (λ word. word.now) words.now) }
+{
+    if words.len() > MAX_CONTROL_BYTES {
+        return Err(LineFault::BadShape);
+    }
+    let place = read_place(node)?;
+    let bytes = read_bytes(words)?;
+    Ok(match find_switch(plan, place) {
+        Ok(switch) => Request::Asked(Event::Control { switch, bytes }),
+        Err(fault) => Request::Refused(fault),
+    })
+}
+
+/// Reads `rounds N`.
+fn read_rounds(word: &[u8]) -> Result<Request, LineFault>
+    ensures { result ≡ rounds_line word.now }
+{
+    let count = read_number_word(word)?;
+    if count < 1 || count > MAX_ROUNDS {
+        return Err(LineFault::BadNumber);
+    }
+    Ok(Request::Rounds(count))
+}

@@ -1,0 +1,117 @@
+//! The two parts of a text: a description, and the script that follows the line `script`.
+ghost use Rattle.std.specs.Prelude.{ℕ, suc, ◌≡◌, ◌+◌, false, List, [], ◌∷◌, ◌++◌, length, map, IfOk, if◌then◌else◌};
+ghost use Rattle.std.specs.Io.KnownBytes.{prepend_known};
+ghost use Rattle.c104_script.specs.Parts.{is_script_word, is_script_line, parts_within, TakesFirstPart};
+
+use c104_describe::{MAX_DESCRIPTION, cut_words, uncommented};
+use c104_stream::{Ahead, ReadFault};
+use std::alloc::{AllocError, Global};
+use std::io::Read;
+
+/// The first part of a text, its description: what stands before the first line whose only word is
+/// `script`. That line is read and left out; what follows it is the script, and is left. Where the
+/// line hasn't ended within 1 MiB, one byte more than a description may have.
+pub fn read_first_part<R: Read>(
+    alloc: Global,
+    ahead: &mut Ahead,
+    reader: &mut R,
+) -> Result<Vec<u8>, ReadFault>
+    ensures { IfOk result (λ bytes. TakesFirstPart (prepend_known ahead.old (R.remaining reader.old)) (prepend_known ahead.new (R.remaining reader.new)) bytes.items) }
+{
+    let mut part = FirstPart::new(alloc);
+    let mut left = MAX_DESCRIPTION;
+    while left > 0 {
+        let Some(byte) = ahead.next_byte(reader)? else {
+            return Ok(part.into_front(alloc)?);
+        };
+        if part.take_byte(alloc, byte)? {
+            return Ok(part.front);
+        }
+        left -= 1;
+    }
+    match ahead.next_byte(reader)? {
+        None => Ok(part.into_front(alloc)?),
+        Some(byte) => Ok(part.into_front_with(byte)?),
+    }
+}
+
+/// What was read of a text while its line `script` is looked for: the lines before, and what was read
+/// of the present one.
+#[derive(Drop)]
+struct FirstPart {
+    front: Vec<u8>,
+    line: Vec<u8>,
+}
+
+impl FirstPart {
+    fn new(alloc: Global) -> FirstPart
+        ensures front { result.front.items ≡ [] }
+        ensures line { result.line.items ≡ [] }
+    {
+        FirstPart {
+            front: Vec::new(alloc),
+            line: Vec::new(alloc),
+        }
+    }
+
+    /// Takes a byte, and says whether it ended the line `script`, which isn't kept.
+    fn take_byte(&mut self, alloc: Global, byte: u8) -> Result<bool, AllocError>
+        ensures steps { IfOk result (λ is_over. (left : ℕ) (text : List ℕ) →
+            parts_within (suc left) self.old.front.items self.old.line.items (byte ∷ text) ≡
+            (if is_over then record { description = self.new.front.items; script = text }
+            else parts_within left self.new.front.items self.new.line.items text)) }
+        ensures grows { IfOk result (λ is_over. is_over ≡ false →
+            length self.new.front.items + length self.new.line.items ≡ length self.old.front.items + length self.old.line.items + 1) }
+    {
+        if byte != b'\n' {
+            self.line.push(byte)?;
+            return Ok(false);
+        }
+        if is_script_line(alloc, self.line.as_slice())? {
+            return Ok(true);
+        }
+        self.front.extend_from_slice(self.line.as_slice())?;
+        self.front.push(b'\n')?;
+        self.line.clear();
+        Ok(false)
+    }
+
+    /// All that was read, where the text ends here; but not the line `script`.
+    fn into_front(mut self, alloc: Global) -> Result<Vec<u8>, AllocError>
+        ensures { IfOk result (λ bytes. (left : ℕ) →
+            parts_within left self.front.items self.line.items [] ≡ record { description = bytes.items; script = [] }) }
+    {
+        if !is_script_line(alloc, self.line.as_slice())? {
+            self.front.extend_from_slice(self.line.as_slice())?;
+        }
+        Ok(self.front)
+    }
+
+    /// All that was read, and one byte more.
+    fn into_front_with(mut self, byte: u8) -> Result<Vec<u8>, AllocError>
+        ensures { IfOk result (λ bytes. bytes.items ≡ self.front.items ++ self.line.items ++ byte ∷ []) }
+    {
+        self.front.extend_from_slice(self.line.as_slice())?;
+        self.front.push(byte)?;
+        Ok(self.front)
+    }
+}
+
+/// Whether the only word of a line is `script`.
+#[tactic(auto, unfolding(crate::specs::Parts::is_script_line))]
+fn is_script_line(alloc: Global, line: &[u8]) -> Result<bool, AllocError>
+    ensures { IfOk result (λ found. found ≡ is_script_line line.now) }
+{
+    let words = cut_words(alloc, uncommented(line))?;
+    Ok(is_script_word(words.as_slice()))
+}
+
+/// Whether the only word is `script`.
+fn is_script_word(words: &[&[u8]]) -> bool
+    ensures { result ≡ is_script_word (map (λ word. word.now) words.now) }
+{
+    match words {
+        [word] => *word == b"script".as_slice(),
+        _ => false,
+    }
+}

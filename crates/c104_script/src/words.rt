@@ -1,0 +1,100 @@
+//! The words of a script's line.
+ghost use Rattle.std.specs.Prelude.{◌≡◌, ◌≤◌, [], length, map, Err, MatchResult, Ok};
+ghost use Rattle.c104_script.specs.Script.{bytes_after, number_word, place_word, verb_of};
+
+use crate::faults::LineFault;
+use arrayvec::ArrayVec;
+use c104_control::{ControlBytes, MAX_CONTROL_BYTES};
+use c104_describe::{Dots, find_dots, read_number};
+use c104_token::read_byte;
+
+/// What the first word of a line asks for.
+#[derive(Clone, Copy)]
+pub(crate) enum Verb {
+    Send,
+    Drain,
+    Cross,
+    Credit,
+    Input,
+    Claim,
+    Control,
+    Rounds,
+}
+
+/// A node or a port as a line names it.
+#[derive(Clone, Copy)]
+pub(crate) struct PlaceWord<'a> {
+    /// What stands for the node's name.
+    pub(crate) name: &'a [u8],
+    /// The link's number, where there is one.
+    pub(crate) link: Option<u32>,
+}
+
+pub(crate) fn read_verb(word: &[u8]) -> Option<Verb>
+    ensures { result ≡ verb_of word.now }
+{
+    if word == b"send".as_slice() {
+        Some(Verb::Send)
+    } else if word == b"drain".as_slice() {
+        Some(Verb::Drain)
+    } else if word == b"cross".as_slice() {
+        Some(Verb::Cross)
+    } else if word == b"credit".as_slice() {
+        Some(Verb::Credit)
+    } else if word == b"input".as_slice() {
+        Some(Verb::Input)
+    } else if word == b"claim".as_slice() {
+        Some(Verb::Claim)
+    } else if word == b"control".as_slice() {
+        Some(Verb::Control)
+    } else if word == b"rounds".as_slice() {
+        Some(Verb::Rounds)
+    } else {
+        None
+    }
+}
+
+pub(crate) fn read_number_word(word: &[u8]) -> Result<u32, LineFault>
+    ensures { result ≡ number_word word.now }
+{
+    let Some(value) = read_number(word) else {
+        return Err(LineFault::BadNumber);
+    };
+    Ok(value)
+}
+
+/// Reads at most eight bytes, each of two hexadecimal digits.
+pub(crate) fn read_bytes(words: &[&[u8]]) -> Result<ControlBytes, LineFault>
+    requires { length words.now ≤ MAX_CONTROL_BYTES }
+    ensures { result ≡ bytes_after [] (map (λ word. word.now) words.now) }
+{
+    let mut bytes = ArrayVec::<u8, MAX_CONTROL_BYTES>::new();
+    for word in words {
+        let Some(byte) = read_byte(word) else {
+            return Err(LineFault::BadHex);
+        };
+        bytes.push(byte);
+    }
+    Ok(ControlBytes::new(bytes.as_slice()))
+}
+
+/// Reads `NAME` or `NAME.NUMBER`. Whether anything has the name is not tested.
+pub(crate) fn read_place(word: &[u8]) -> Result<PlaceWord<'_>, LineFault>
+    ensures { MatchResult result (λ place. place_word word.now ≡ Ok (place.name.now, place.link))
+        (λ kind. place_word word.now ≡ Err kind) }
+{
+    match find_dots(word) {
+        Dots::Without => Ok(PlaceWord {
+            name: word,
+            link: None,
+        }),
+        Dots::Several => Err(LineFault::BadShape),
+        Dots::At(dot) => {
+            let link = read_number_word(&word[dot + 1..])?;
+            Ok(PlaceWord {
+                name: &word[..dot],
+                link: Some(link),
+            })
+        }
+    }
+}

@@ -1,0 +1,5 @@
+pub mod Printing
+pub mod Lines
+pub mod ScriptSoFar
+pub mod ScriptEnds
+pub mod PlanRuns

@@ -1,0 +1,60 @@
+-- Lines, as a text grows byte by byte, and what they show.
+use Rattle.std.proofs.Common.{◌≡◌, ℕ, zero, suc, ◌+◌, ◌-◌, ◌≤◌, ◌==◌, Bool, true, false, List, [], ◌∷◌, ◌++◌, length, if◌then◌else◌, sym, ap, ◌∙◌, refl, arith}
+use mathlib.Core.List.{append_assoc}
+use Rattle.c104_session.specs.declared.session.Session.{Session}
+use Rattle.c104_session.specs.Lines.{whole_lines, last_line, lines_within}
+use Rattle.c104_session.specs.Shown.{line_shown, lines_shown}
+
+-- a choice on both sides, by the same test
+by_test : {A B C : Type 0} (f : B → C → A) (test : Bool) (x y : A) (u v : B) (s t : C) → x ≡ f u s → y ≡ f v t → (if test then x else y) ≡ f (if test then u else v) (if test then s else t)
+by_test f true x y u v s t met unmet = met
+by_test f false x y u v s t met unmet = unmet
+
+-- a byte that is no line feed
+pub whole_byte : (front text : List ℕ) (byte : ℕ) → (byte == 10) ≡ false → whole_lines front (text ++ byte ∷ []) ≡ whole_lines front text
+whole_byte front [] byte other = rw (other)
+whole_byte front (b ∷ text) byte other = by_test (λ lines line. lines) (b == 10) _ _ _ _ b b (ap (λ lines. front ∷ lines) (whole_byte [] text byte other)) (whole_byte (front ++ b ∷ []) text byte other)
+
+pub last_byte : (front text : List ℕ) (byte : ℕ) → (byte == 10) ≡ false → last_line front (text ++ byte ∷ []) ≡ last_line front text ++ byte ∷ []
+last_byte front [] byte other = rw (other)
+last_byte front (b ∷ text) byte other = by_test (λ line x. line ++ byte ∷ []) (b == 10) _ _ _ _ b b (last_byte [] text byte other) (last_byte (front ++ b ∷ []) text byte other)
+
+-- a line feed
+pub whole_feed : (front text : List ℕ) → whole_lines front (text ++ 10 ∷ []) ≡ whole_lines front text ++ last_line front text ∷ []
+whole_feed front [] = refl
+whole_feed front (b ∷ text) = by_test (λ lines line. lines ++ line ∷ []) (b == 10) _ _ _ _ _ _ (ap (λ lines. front ∷ lines) (whole_feed [] text)) (whole_feed (front ++ b ∷ []) text)
+
+pub last_feed : (front text : List ℕ) → last_line front (text ++ 10 ∷ []) ≡ []
+last_feed front [] = refl
+last_feed front (b ∷ text) = by_test (λ line x. []) (b == 10) _ _ b b b b (last_feed [] text) (last_feed (front ++ b ∷ []) text)
+
+-- the lines of a prefix of a script, and then those of the rest
+pub lines_after : (bytes : ℕ) (front read rest : List ℕ) → length read ≤ bytes → lines_within bytes front (read ++ rest) ≡ whole_lines front read ++ lines_within (bytes - length read) (last_line front read) rest
+lines_after bytes front [] rest room =
+    let same : bytes - 0 ≡ bytes = omega arith in
+    sym (ap (λ n. lines_within n front rest) same)
+lines_after zero front (b ∷ read) rest room = absurd (omega arith)
+lines_after (suc bytes) front (b ∷ read) rest room =
+    let less : length read ≤ bytes = omega arith in
+    let same : suc bytes - suc (length read) ≡ bytes - length read = omega arith in
+    by_test (λ lines line. lines ++ lines_within (bytes - length read) line rest) (b == 10) _ _ _ _ _ _ (ap (λ lines. front ∷ lines) (lines_after bytes [] read rest less)) (lines_after bytes (front ++ b ∷ []) read rest less)
+    ∙ ap (λ n. whole_lines front (b ∷ read) ++ lines_within n (last_line front (b ∷ read)) rest) (sym same)
+
+-- what more lines show, after these
+abbrev pub shown_after : ℕ → Session → List (List ℕ) → List (List ℕ) → List ℕ × Session
+shown_after line session lines more = lines_shown (line + length lines) (lines_shown line session lines).1 more
+
+pub text_on : (line : ℕ) (session : Session) (lines more : List (List ℕ)) → (lines_shown line session (lines ++ more)).0 ≡ (lines_shown line session lines).0 ++ (shown_after line session lines more).0
+text_on line session [] more = ap (λ n. (lines_shown n session more).0) (omega arith)
+text_on line session (text ∷ lines) more =
+    let this : List ℕ × Session = line_shown line session text in
+    let next : suc line + length lines ≡ line + suc (length lines) = omega arith in
+    ap (λ rest. this.0 ++ rest) (text_on (suc line) this.1 lines more) ∙ sym (append_assoc this.0 (lines_shown (suc line) this.1 lines).0 (shown_after (suc line) this.1 lines more).0)
+    ∙ ap (λ n. (this.0 ++ (lines_shown (suc line) this.1 lines).0) ++ (lines_shown n (lines_shown (suc line) this.1 lines).1 more).0) next
+
+pub session_on : (line : ℕ) (session : Session) (lines more : List (List ℕ)) → (lines_shown line session (lines ++ more)).1 ≡ (shown_after line session lines more).1
+session_on line session [] more = ap (λ n. (lines_shown n session more).1) (omega arith)
+session_on line session (text ∷ lines) more =
+    let this : List ℕ × Session = line_shown line session text in
+    let next : suc line + length lines ≡ line + suc (length lines) = omega arith in
+    session_on (suc line) this.1 lines more ∙ ap (λ n. (lines_shown n (lines_shown (suc line) this.1 lines).1 more).1) next

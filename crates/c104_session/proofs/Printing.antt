@@ -1,0 +1,35 @@
+-- A packet's tokens are printed as the packet is.
+use Rattle.std.proofs.Common.{◌≡◌, ℕ, List, [], ◌∷◌, ◌++◌, ◌/◌, ◌%◌, map, flat_map, codes, sym, ap, ◌∙◌, refl}
+use mathlib.Core.List.{append_assoc}
+use Rattle.c104_token.specs.declared.packets.Packet.{Packet}
+use Rattle.c104_token.specs.declared.tokens.Mark.{Mark}
+use Rattle.c104_token.specs.declared.tokens.Mark.TheVariants as mark
+use Rattle.c104_token.specs.declared.tokens.Token.{Token}
+use Rattle.c104_token.specs.declared.tokens.Token.TheVariants.{Byte}
+use Rattle.c104_token.specs.Tokens.{end_token}
+use Rattle.c104_token.specs.Packets.{tokens}
+use Rattle.c104_token.specs.Text.{hex_digit, mark_word, printed}
+use Rattle.c104_script.specs.Texts.{token_text}
+use Rattle.c104_session.specs.Shown.{tokens_text, received_text}
+
+-- a space stands before whatever follows a token
+after_one : (x : Token) (bytes : List ℕ) (end : Token) → tokens_text (x ∷ (map Byte bytes ++ end ∷ [])) ≡ token_text x ++ 32 ∷ tokens_text (map Byte bytes ++ end ∷ [])
+after_one x [] end = refl
+after_one x (b ∷ bytes) end = refl
+
+of_end : (m : Mark) → tokens_text (end_token m ∷ []) ≡ mark_word m
+of_end mark.Eop = refl
+of_end mark.Eom = refl
+
+of_bytes : (bytes : List ℕ) (m : Mark) → tokens_text (map Byte bytes ++ end_token m ∷ []) ≡ flat_map (λ b. hex_digit (b / 16) ∷ hex_digit (b % 16) ∷ 32 ∷ []) bytes ++ mark_word m
+of_bytes [] m = of_end m
+of_bytes (b ∷ bytes) m = after_one (Byte b) bytes (end_token m) ∙ ap (λ text. hex_digit (b / 16) ∷ hex_digit (b % 16) ∷ 32 ∷ text) (of_bytes bytes m)
+
+pub printed_tokens : (packet : Packet) → tokens_text (tokens packet) ≡ printed packet
+printed_tokens packet = of_bytes packet.bytes packet.mark
+
+-- the parts of a packet's line, each joined to what stood before
+pub joined : (old first second third last name text : List ℕ) (packet : Packet) → first ≡ old ++ name → second ≡ first ++ codes ": " → third ≡ second ++ text → last ≡ third ++ codes "\n" → text ≡ printed packet → last ≡ old ++ received_text name (tokens packet)
+joined old first second third last name text packet is_first is_second is_third is_last is_text =
+    let as_text : text ≡ tokens_text (tokens packet) = is_text ∙ sym (printed_tokens packet) in
+    rw (is_last, is_third, is_second, is_first, as_text, append_assoc, append_assoc, append_assoc)

@@ -1,0 +1,138 @@
+-- A script as it is read and answered: how far it is, and what it comes to.
+use Rattle.std.proofs.Common.{◌≡◌, ℕ, zero, suc, ◌+◌, ◌-◌, ◌<◌, ◌≤◌, ◌==◌, false, true, List, [], ◌∷◌, ◌++◌, length, nat_lt, Option, Ok, Err, sym, ap, ◌∙◌, refl, subst, arith}
+use Rattle.std.proofs.lemmas.Bool.Decides.{nat_tests}
+use mathlib.Core.List.{append-nil}
+use Rattle.std.proofs.lemmas.List.{length-append}
+use Rattle.std.specs.Io.KnownBytes.{Appends, Consumes, Keeps}
+use Rattle.c104_stream.specs.declared.halt.Halt.{Halt}
+use Rattle.c104_stream.specs.declared.halt.Halt.TheVariants as halt
+use Rattle.c104_session.specs.declared.session.Session.{Session}
+use Rattle.c104_session.specs.Lines.{whole_lines, last_line, lines_within, script_lines, most_script}
+use Rattle.c104_stream.specs.Writing.{AppendsFront}
+use Rattle.c104_session.specs.Shown.{line_shown, lines_shown}
+use Rattle.c104_session.specs.Runs.{ScriptEnds, LineStops}
+use Rattle.std.proofs.KnownBytes.{Consumes-trans, Consumes-nil, Appends-trans, Appends-nil, Appends-kept}
+use Rattle.c104_stream.proofs.Prefixes.{prefix_after, prefix_only}
+use Rattle.c104_session.proofs.Lines.{whole_byte, last_byte, whole_feed, last_feed, lines_after, shown_after, text_on, session_on}
+
+-- one more line after these
+module _ (start session : Session) (lines : List (List ℕ)) (number : ℕ) (line : List ℕ) (is_number : number ≡ 1 + length lines) (is_session : session ≡ (lines_shown 1 start lines).1) where
+  here : line_shown (1 + length lines) (lines_shown 1 start lines).1 line ≡ line_shown number session line
+  here = ap (λ n. line_shown n (lines_shown 1 start lines).1 line) (sym is_number) ∙ ap (λ s. line_shown number s line) (sym is_session)
+
+  pub text_with : (more : List (List ℕ)) → (lines_shown 1 start (lines ++ line ∷ more)).0 ≡ (lines_shown 1 start lines).0 ++ ((line_shown number session line).0 ++ (lines_shown (suc (1 + length lines)) (line_shown number session line).1 more).0)
+  text_with more = text_on 1 start lines (line ∷ more) ∙ ap (λ r. (lines_shown 1 start lines).0 ++ (r.0 ++ (lines_shown (suc (1 + length lines)) r.1 more).0)) here
+
+  pub text_more : (lines_shown 1 start (lines ++ line ∷ [])).0 ≡ (lines_shown 1 start lines).0 ++ (line_shown number session line).0
+  text_more = text_with [] ∙ ap (λ text. (lines_shown 1 start lines).0 ++ text) (append-nil (line_shown number session line).0)
+
+  pub session_more : (lines_shown 1 start (lines ++ line ∷ [])).1 ≡ (line_shown number session line).1
+  session_more = session_on 1 start lines (line ∷ []) ∙ ap (λ r. r.1) here
+
+-- a line feed ends the line
+pub fed : (left : ℕ) (line rest : List ℕ) → 0 < left → lines_within left line (10 ∷ rest) ≡ line ∷ lines_within (left - 1) [] rest
+fed zero line rest some = absurd (omega arith)
+fed (suc left) line rest some =
+    let same : left ≡ suc left - 1 = omega arith in
+    ap (λ n. line ∷ lines_within n [] rest) same
+
+-- how far a script is read and answered: the lines that had ended are answered, and left bytes may
+-- still be read
+pub record Reached (all now held holds : Option (List ℕ)) (start session : Session) (number : ℕ) (line : List ℕ) (left : ℕ) : Type 0 where
+  pub read : List ℕ
+  pub consumed : Consumes all now read
+  pub counted : length read + left ≡ most_script
+  pub is_line : line ≡ last_line [] read
+  pub is_number : number ≡ 1 + length (whole_lines [] read)
+  pub is_session : session ≡ (lines_shown 1 start (whole_lines [] read)).1
+  pub wrote : Appends held holds (lines_shown 1 start (whole_lines [] read)).0
+  pub few : number + left ≤ 1 + most_script
+
+-- the line by another name
+pub reached_text : {all now held holds : Option (List ℕ)} {start session : Session} {number left : ℕ} (line text : List ℕ) → text ≡ line → Reached all now held holds start session number line left → Reached all now held holds start session number text left
+reached_text line text is reached = record { read = reached.read; consumed = reached.consumed; counted = reached.counted; is_line = is ∙ reached.is_line; is_number = reached.is_number; is_session = reached.is_session; wrote = reached.wrote; few = reached.few }
+
+pub reached_first : (all held : Option (List ℕ)) (start : Session) → Reached all all held held start start 1 [] most_script
+reached_first all held start = record { read = []; consumed = Consumes-nil all; counted = omega arith; is_line = refl; is_number = refl; is_session = refl; wrote = Appends-nil held; few = omega arith }
+
+module _ {all now held holds : Option (List ℕ)} {start session : Session} {number left : ℕ} {line : List ℕ} (reached : Reached all now held holds start session number line left) where
+  abbrev so_far : List ℕ × Session
+  so_far = lines_shown 1 start (whole_lines [] reached.read)
+
+  -- a byte of a line
+  pub reached_byte : (new : Option (List ℕ)) (byte : ℕ) → 0 < left → Consumes now new (byte ∷ []) → (byte ≡ 10 → ⊥) → Reached all new held holds start session number (line ++ byte ∷ []) (left - 1)
+  reached_byte new byte some took no_feed =
+      let other : (byte == 10) ≡ false = grind (arith, nat_tests, no_feed) in
+      let lines : whole_lines [] (reached.read ++ byte ∷ []) ≡ whole_lines [] reached.read = whole_byte [] reached.read byte other in
+      record {
+        read = reached.read ++ byte ∷ [];
+        consumed = Consumes-trans all now new reached.read (byte ∷ []) reached.consumed took;
+        counted = omega (arith, reached.counted, length-append reached.read (byte ∷ []));
+        is_line = ap (λ xs. xs ++ byte ∷ []) reached.is_line ∙ sym (last_byte [] reached.read byte other);
+        is_number = reached.is_number ∙ ap (λ xs. 1 + length xs) (sym lines);
+        is_session = reached.is_session ∙ ap (λ xs. (lines_shown 1 start xs).1) (sym lines);
+        wrote = subst (λ xs. Appends held holds (lines_shown 1 start xs).0) (sym lines) reached.wrote;
+        few = omega (arith, reached.few);
+      }
+
+  -- a line feed, and the line was answered
+  pub reached_line : (new wrote : Option (List ℕ)) (after : Session) → 0 < left → Consumes now new (10 ∷ []) → after ≡ (line_shown number session line).1 → Appends holds wrote (line_shown number session line).0 → Reached all new held wrote start after (number + 1) [] (left - 1)
+  reached_line new wrote after some took is_after writes =
+      let lines : whole_lines [] (reached.read ++ 10 ∷ []) ≡ whole_lines [] reached.read ++ line ∷ [] = whole_feed [] reached.read ∙ ap (λ l. whole_lines [] reached.read ++ l ∷ []) (sym reached.is_line) in
+      record {
+        read = reached.read ++ 10 ∷ [];
+        consumed = Consumes-trans all now new reached.read (10 ∷ []) reached.consumed took;
+        counted = omega (arith, reached.counted, length-append reached.read (10 ∷ []));
+        is_line = sym (last_feed [] reached.read);
+        is_number = omega (arith, reached.is_number, ap length lines, length-append (whole_lines [] reached.read) (line ∷ []));
+        is_session = is_after ∙ sym (session_more start session (whole_lines [] reached.read) number line reached.is_number reached.is_session) ∙ ap (λ xs. (lines_shown 1 start xs).1) (sym lines);
+        wrote = subst (λ text. Appends held wrote text) (sym (text_more start session (whole_lines [] reached.read) number line reached.is_number reached.is_session) ∙ ap (λ xs. (lines_shown 1 start xs).0) (sym lines)) (Appends-trans held holds wrote so_far.0 (line_shown number session line).0 reached.wrote writes);
+        few = omega (arith, reached.few);
+      }
+
+  -- the lines of the whole script: those that had ended, and those of what is left
+  cut : (script rest : List ℕ) → script ≡ reached.read ++ rest → script_lines script ≡ whole_lines [] reached.read ++ lines_within left line rest
+  unfolding script_lines
+  cut script rest is =
+      let room : length reached.read ≤ most_script = omega (arith, reached.counted) in
+      let same : most_script - length reached.read ≡ left = omega (arith, reached.counted) in
+      ap (lines_within most_script []) is ∙ lines_after most_script [] reached.read rest room
+      ∙ ap (λ n. whole_lines [] reached.read ++ lines_within n (last_line [] reached.read) rest) same
+      ∙ ap (λ l. whole_lines [] reached.read ++ lines_within left l rest) (sym reached.is_line)
+
+  -- no more is written
+  pub memory_stops : (script rest : List ℕ) (remains wrote : Option (List ℕ)) (after : Session) → script ≡ reached.read ++ rest → Keeps holds wrote → ScriptEnds start script remains held wrote after (Err halt.NoMemory)
+  memory_stops script rest remains wrote after is kept =
+      subst (λ text. AppendsFront held wrote text) (sym (ap (λ xs. (lines_shown 1 start xs).0) (cut script rest is) ∙ text_on 1 start (whole_lines [] reached.read) (lines_within left line rest)))
+      (prefix_only held wrote so_far.0 (shown_after 1 start (whole_lines [] reached.read) (lines_within left line rest)).0 (Appends-kept held holds wrote so_far.0 reached.wrote kept))
+
+  -- the answer to the next line isn't written, or a prefix of it
+  pub stops_at : (script rest : List ℕ) (more : List (List ℕ)) (remains wrote : Option (List ℕ)) (last : Session) (kind : Halt) → script ≡ reached.read ++ rest → lines_within left line rest ≡ line ∷ more
+      → LineStops session number line holds wrote kind → ScriptEnds start script remains held wrote last (Err kind)
+  stops_at script rest more remains wrote last halt.CannotRead is next stopped = absurd stopped
+  stops_at script rest more remains wrote last halt.CannotWrite is next stopped =
+      subst (λ text. AppendsFront held wrote text) (sym (ap (λ xs. (lines_shown 1 start xs).0) (cut script rest is ∙ ap (λ xs. whole_lines [] reached.read ++ xs) next) ∙ text_with start session (whole_lines [] reached.read) number line reached.is_number reached.is_session more))
+      (prefix_after held holds wrote so_far.0 (line_shown number session line).0 (lines_shown (suc (1 + length (whole_lines [] reached.read))) (line_shown number session line).1 more).0 reached.wrote stopped)
+  stops_at script rest more remains wrote last halt.NoMemory is next stopped = memory_stops script rest remains wrote last is stopped
+
+  -- the whole script is read and answered
+  pub all_answered : (script : List ℕ) (remains wrote : Option (List ℕ)) (after : Session) → script ≡ reached.read ++ [] → after ≡ (line_shown number session line).1 → Appends holds wrote (line_shown number session line).0 → ScriptEnds start script remains held wrote after (Ok false)
+  all_answered script remains wrote after is is_after writes =
+      let lines : script_lines script ≡ whole_lines [] reached.read ++ line ∷ [] = cut script [] is in
+      let size : length script ≡ length reached.read + 0 = ap length is ∙ length-append reached.read [] in
+      let short : nat_lt most_script (length script) ≡ false = grind (arith, nat_tests, reached.counted, size) in (
+        sym short,
+        is_after ∙ sym (session_more start session (whole_lines [] reached.read) number line reached.is_number reached.is_session) ∙ ap (λ xs. (lines_shown 1 start xs).1) (sym lines),
+        subst (λ text. Appends held wrote text) (sym (text_more start session (whole_lines [] reached.read) number line reached.is_number reached.is_session) ∙ ap (λ xs. (lines_shown 1 start xs).0) (sym lines)) (Appends-trans held holds wrote so_far.0 (line_shown number session line).0 reached.wrote writes),
+      )
+
+  -- a byte more than a script may have
+  pub longer : (script rest : List ℕ) (remains : Option (List ℕ)) (byte : ℕ) → left ≡ 0 → script ≡ reached.read ++ byte ∷ rest → ScriptEnds start script remains held holds session (Ok true)
+  longer script rest remains byte none is =
+      let lines : script_lines script ≡ whole_lines [] reached.read = cut script (byte ∷ rest) is ∙ ap (λ n. whole_lines [] reached.read ++ lines_within n line (byte ∷ rest)) none ∙ append-nil (whole_lines [] reached.read) in
+      let size : length script ≡ length reached.read + suc (length rest) = ap length is ∙ length-append reached.read (byte ∷ rest) in
+      let long : nat_lt most_script (length script) ≡ true = grind (arith, nat_tests, reached.counted, size, none) in (
+        sym long,
+        reached.is_session ∙ ap (λ xs. (lines_shown 1 start xs).1) (sym lines),
+        subst (λ text. Appends held holds text) (ap (λ xs. (lines_shown 1 start xs).0) (sym lines)) reached.wrote,
+      )

@@ -1,0 +1,33 @@
+-- The lines of a script that comes byte by byte.
+use Rattle.std.specs.Prelude.{ℕ, zero, suc, ◌==◌, Bool, List, [], ◌∷◌, ◌++◌, length, nat_lt, if◌then◌else◌}
+
+-- the lines of a text that end in a line feed; front is what was read of the first
+abbrev pub whole_lines : List ℕ → List ℕ → List (List ℕ)
+whole_lines front [] = []
+whole_lines front (byte ∷ text) =
+    if byte == 10 then front ∷ whole_lines [] text else whole_lines (front ++ byte ∷ []) text
+
+-- what follows the last line feed
+abbrev pub last_line : List ℕ → List ℕ → List ℕ
+last_line front [] = front
+last_line front (byte ∷ text) =
+    if byte == 10 then last_line [] text else last_line (front ++ byte ∷ []) text
+
+-- the most bytes of a script: 16 MiB
+abbrev pub most_script : ℕ
+most_script = 16777216
+
+-- the lines of a script that are answered: those that end within so many bytes by a line feed or with
+-- the script. front is what was read of the first.
+abbrev pub lines_within : ℕ → List ℕ → List ℕ → List (List ℕ)
+lines_within bytes front [] = front ∷ []
+lines_within zero front (byte ∷ script) = []
+lines_within (suc bytes) front (byte ∷ script) =
+    if byte == 10 then front ∷ lines_within bytes [] script else lines_within bytes (front ++ byte ∷ []) script
+
+unfoldable pub script_lines : List ℕ → List (List ℕ)
+script_lines script = lines_within most_script [] script
+
+-- whether a script is too long
+abbrev pub is_long : List ℕ → Bool
+is_long script = nat_lt most_script (length script)

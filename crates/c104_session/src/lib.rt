@@ -1,0 +1,21 @@
+//! Scripts that are answered by a network.
+//!
+//! A `Session` is a network in the midst of a script: it keeps the `Net` and whether a line was
+//! faulty so far. It can't be dropped; `finish` gives what is left at its end, an `Ended`.
+//! `answer_script` answers the lines of a script as they are read, `summary_text` tells what arrived
+//! at each terminal, and `run_plan` does both on the network of a plan.
+//!
+//! Each line is answered, and its answer written, before the next line is read. A faulty line
+//! changes nothing but that there was one; running out of memory ends the script, and so does a
+//! failing reader or writer.
+#![tactic(auto)]
+
+mod answering;
+mod runs;
+mod session;
+mod summary;
+
+pub use answering::{MAX_SCRIPT, answer_script};
+pub use runs::run_plan;
+pub use session::{Ended, Session};
+pub use summary::summary_text;

@@ -1,0 +1,112 @@
+//! A run of a network, line by line.
+ghost use Rattle.std.specs.Prelude.{◌≡◌, ◌⊎◌, ℕ, List, Result, Err, IfOk};
+ghost use Rattle.std.specs.String.{string_bytes};
+ghost use Rattle.c104_token.specs.declared.tokens.Token.{Token};
+ghost use Rattle.c104_switch.specs.declared.actions.Reply.{Reply as TheReply};
+ghost use Rattle.c104_event.specs.declared.faults.EventFault.{EventFault as TheFault};
+ghost use Rattle.c104_event.specs.declared.faults.EventFault.TheVariants as fault;
+ghost use Rattle.c104_net.specs.Finished.{finished};
+ghost use Rattle.c104_describe.specs.PlanImage.{hand_image};
+ghost use Rattle.c104_net.specs.Network.{Network};
+ghost use Rattle.c104_session.specs.Shown.{first_session, line_shown, request_shown, rounds_answered};
+ghost use Rattle.c104_session.specs.declared.session.Session.{Session as TheSession};
+
+use c104_describe::{Plan, hand_image};
+use c104_event::EventFault;
+use c104_net::{Net, PlaceFault, Run};
+use c104_script::{LineFault, Request, fault_text, numbered, read_line, refusal_text, reply_text};
+use c104_switch::Reply;
+use c104_token::NoMemory;
+use std::alloc::Global;
+
+/// A network that a script is run on. It can't be let go of: `finish` ends it.
+pub struct Session {
+    /// The network.
+    pub net: Net,
+    /// Whether a line was faulty so far.
+    pub faulty: bool,
+}
+
+/// What a script's run came to.
+#[derive(Drop)]
+pub struct Ended {
+    /// The run, at its end.
+    pub run: Run,
+    /// Whether a line was faulty.
+    pub faulty: bool,
+}
+
+impl Session {
+    /// The network of a plan with its own image, before the first line. The only error
+    /// is out of memory.
+    pub fn new(alloc: Global, plan: &Plan) -> Result<Self, NoMemory>
+        ensures { IfOk result (λ session. session ≡ first_session plan.now) }
+    {
+        let image = hand_image(alloc, plan)?;
+        match Net::placed(alloc, plan, &image) {
+            Ok(net) => Ok(Session { net, faulty: false }),
+            Err(PlaceFault::NoMemory) => Err(NoMemory),
+            Err(PlaceFault::NotFitting) => unreachable!(),
+        }
+    }
+
+    /// Ends the run.
+    pub fn finish(self) -> Ended
+        ensures run { result.run ≡ finished self.net }
+        ensures faulty { result.faulty ≡ self.faulty }
+    {
+        let Session { net, faulty } = self;
+        Ended {
+            run: net.finish(),
+            faulty,
+        }
+    }
+
+    /// Does what a line asks and gives the line that answers it, or no text where it asks nothing.
+    /// The only error is out of memory; an event may be done by then.
+    #[tactic(auto, unfolding(crate::specs::Shown::line_shown))]
+    pub fn answer(&mut self, alloc: Global, number: usize, line: &[u8]) -> Result<String, NoMemory>
+        ensures { IfOk result (λ text. ◌≡◌ {A = List ℕ × TheSession} (string_bytes text, self.new) (line_shown number self.old line.now)) }
+    {
+        match read_line(alloc, self.net.plan(), line) {
+            Ok(None) => Ok(String::new(alloc)),
+            Ok(Some(request)) => self.answer_request(alloc, number, &request),
+            Err(LineFault::NoMemory) => Err(NoMemory),
+            Err(fault) => {
+                self.faulty = true;
+                let text = fault_text(alloc, fault)?;
+                Ok(numbered(alloc, number, text.as_str())?)
+            }
+        }
+    }
+
+    /// Does what a line asks and gives the line that answers it.
+    fn answer_request(
+        &mut self,
+        alloc: Global,
+        number: usize,
+        request: &Request,
+    ) -> Result<String, NoMemory>
+        ensures { IfOk result (λ text. ◌≡◌ {A = List ℕ × TheSession} (string_bytes text, self.new) (request_shown number self.old request.now)) }
+    {
+        let answer = match request {
+            Request::Asked(event) => self.net.apply(event),
+            Request::Rounds(count) => do_rounds(alloc, &mut self.net, *count),
+            Request::Refused(fault) => Err(*fault),
+        };
+        let text = match answer {
+            Ok(reply) => reply_text(alloc, reply)?,
+            Err(EventFault::NoMemory) => return Err(NoMemory),
+            Err(fault) => refusal_text(alloc, fault)?,
+        };
+        Ok(numbered(alloc, number, text.as_str())?)
+    }
+}
+
+/// Does so many rounds, up to the first event that is refused.
+fn do_rounds(alloc: Global, net: &mut Net, count: u32) -> Result<Reply, EventFault>
+    ensures { (◌≡◌ {A = Result TheReply TheFault × Network Token} (result, net.new) (rounds_answered net.old count)) ⊎ (result ≡ Err fault.NoMemory) }
+{
+    net.rounds(alloc, count)?;
+    Ok(Reply::Done)
+}

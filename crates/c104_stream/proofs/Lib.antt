@@ -1,0 +1,2 @@
+pub mod KnownReads
+pub mod Prefixes

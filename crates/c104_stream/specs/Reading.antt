@@ -1,0 +1,14 @@
+-- What is known of the bytes that a reader gives.
+use Rattle.std.specs.Prelude.{ℕ, ◌+◌, ◌≡◌, ◌≤◌, ◌⊎◌, List, [], ◌∷◌, ◌++◌, length, Option, Some, None, IfSome}
+use Rattle.std.specs.Io.KnownBytes.{Consumes, Keeps, IsAtEnd}
+
+-- a byte was taken, or none is left
+abbrev pub GivesByte : Option (List ℕ) → Option (List ℕ) → Option ℕ → Type 0
+GivesByte old new None = Keeps old new × IsAtEnd new
+GivesByte old new (Some byte) = Consumes old new (byte ∷ [])
+
+-- all that was left was taken; or one byte more than there may be, and then more may be lost
+abbrev pub TakesUpTo : ℕ → Option (List ℕ) → Option (List ℕ) → List ℕ → Type 0
+TakesUpTo most old new taken =
+    (IfSome old (λ text. text ≡ taken) × IsAtEnd new × (length taken ≤ most)) ⊎
+    (IfSome old (λ text. (rest : List ℕ) × (text ≡ taken ++ rest)) × (length taken ≡ most + 1))

@@ -1,0 +1,19 @@
+//! Bytes from a reader, one by one, and bytes to a writer.
+//!
+//! `Ahead` keeps what a reader gave and nobody has taken yet, at most one piece of 8,192 bytes.
+//! `read_up_to` and `write_whole` read to the end of a text and write all of one. A `ReadFault`, a
+//! `CannotWrite` and a `Halt`, which stands for either, say why a text was not read or written to its
+//! end.
+//!
+//! A reader and a writer are asked once for each piece: every error, and a writer that takes nothing,
+//! is a fault at once and is not tried again. Contracts speak of bytes where the reader and the writer
+//! tell theirs; `proofs/Prefixes.antt` is for the proofs of the crates above.
+#![tactic(auto)]
+
+mod halt;
+mod reading;
+mod writing;
+
+pub use halt::Halt;
+pub use reading::{Ahead, ReadFault, read_up_to};
+pub use writing::{CannotWrite, write_whole};

@@ -1,0 +1,111 @@
+//! Bytes, one by one, from a reader that is asked once for each piece of them.
+ghost use Rattle.std.specs.Prelude.{◌≡◌, [], MatchResult, IfOk};
+ghost use Rattle.std.specs.Io.KnownBytes.{Consumes, Keeps, IsAtEnd, prepend_known};
+ghost use Rattle.c104_stream.specs.Reading.{GivesByte, TakesUpTo};
+ghost use Rattle.c104_stream.specs.declared.reading.ReadFault.TheVariants as fault;
+
+use std::alloc::{AllocError, Global};
+use std::io::Read;
+use std::marker::Model;
+
+/// The most bytes that a reader is asked for at once.
+const PIECE: usize = 8192;
+
+/// Why a text can't be read.
+#[derive(Clone, Copy, Debug, PartialEq, Eq)]
+pub enum ReadFault {
+    /// The reader answered an error. It isn't asked again.
+    CannotRead,
+    /// Out of memory.
+    NoMemory,
+}
+
+impl From<AllocError> for ReadFault {
+    ghost from_gives = { λ _ e. e ≡ fault.NoMemory };
+
+    fn from(_error: AllocError) -> ReadFault {
+        ReadFault::NoMemory
+    }
+}
+
+/// What was read from a reader and not yet taken. Contracts see it as the list of those bytes.
+#[derive(Drop)]
+pub struct Ahead {
+    piece: Vec<u8>,
+    start: usize,
+    end: usize,
+}
+
+impl Model for Ahead {
+    ghost use Rattle.std.specs.Prelude.{ℕ, ◌≡◌, ◌≤◌, List, vec_len, slice_range};
+
+    ghost Value = { List ℕ };
+
+    ghost view = { λ ahead. slice_range ahead.piece.items ahead.start ahead.end };
+
+    ghost invariant = { λ ahead. (ahead.start ≤ ahead.end) × (ahead.end ≤ vec_len ahead.piece) × (vec_len ahead.piece ≡ 8192) };
+}
+
+impl Ahead {
+    /// Nothing is read yet.
+    pub fn new(alloc: Global) -> Result<Self, AllocError>
+        ensures { IfOk result (λ ahead. ahead ≡ []) }
+    {
+        let piece = vec![in alloc; 0u8; PIECE]?;
+        Ok(Ahead {
+            piece,
+            start: 0,
+            end: 0,
+        })
+    }
+
+    /// The next byte, or None at the end. The reader is asked where nothing is left of what it gave
+    /// before, and once only.
+    pub fn next_byte<R: Read>(&mut self, reader: &mut R) -> Result<Option<u8>, ReadFault>
+        ensures { MatchResult result
+            (λ next. GivesByte (prepend_known self.old (R.remaining reader.old)) (prepend_known self.new (R.remaining reader.new)) next)
+            (λ _. (self.new ≡ []) × Keeps (prepend_known self.old (R.remaining reader.old)) (R.remaining reader.new)) }
+    {
+        if self.start >= self.end {
+            self.read_piece(reader)?;
+        }
+        if self.start >= self.end {
+            return Ok(None);
+        }
+        let byte = self.piece[self.start];
+        self.start += 1;
+        Ok(Some(byte))
+    }
+
+    /// Asks the reader for one piece, in place of what was left.
+    fn read_piece<R: Read>(&mut self, reader: &mut R) -> Result<(), ReadFault>
+        ensures { MatchResult result
+            (λ _. Consumes (R.remaining reader.old) (R.remaining reader.new) self.new × (self.new ≡ [] → IsAtEnd (R.remaining reader.new)))
+            (λ _. (self.new ≡ []) × Keeps (R.remaining reader.old) (R.remaining reader.new)) }
+    {
+        self.start = 0;
+        self.end = 0;
+        match reader.read(self.piece.as_mut_slice()) {
+            Ok(count) => {
+                self.end = count;
+                Ok(())
+            }
+            Err(_) => Err(ReadFault::CannotRead),
+        }
+    }
+}
+
+/// All bytes to the end, or one more than there may be.
+pub fn read_up_to<R: Read>(alloc: Global, most: usize, reader: &mut R) -> Result<Vec<u8>, ReadFault>
+    ensures { IfOk result (λ bytes. TakesUpTo most (R.remaining reader.old) (R.remaining reader.new) bytes.items) }
+{
+    let mut ahead = Ahead::new(alloc)?;
+    let mut bytes = Vec::new(alloc);
+    while bytes.len() <= most {
+        let Some(byte) = ahead.next_byte(reader)? else {
+            return Ok(bytes);
+        };
+        bytes.push(byte).map_err(AllocError::from)?;
+    }
+    Ok(bytes)
+}

@@ -1,0 +1,25 @@
+//! Bytes to a writer.
+ghost use Rattle.std.specs.Prelude.{OnOk, OnErr};
+ghost use Rattle.std.specs.Io.KnownBytes.{Appends};
+ghost use Rattle.c104_stream.specs.Writing.{AppendsFront};
+
+use std::io::Write;
+
+/// The writer answered an error, or took nothing. It isn't asked again.
+#[derive(Clone, Copy, Debug, PartialEq, Eq)]
+pub struct CannotWrite;
+
+/// Writes all of the bytes, or a prefix of them.
+pub fn write_whole<W: Write>(writer: &mut W, bytes: &[u8]) -> Result<(), CannotWrite>
+    ensures all { OnOk result (Appends (W.contents writer.old) (W.contents writer.new) bytes.now) }
+    ensures front { OnErr result (AppendsFront (W.contents writer.old) (W.contents writer.new) bytes.now) }
+{
+    let mut rest = bytes;
+    while !rest.is_empty() {
+        match writer.write(rest) {
+            Ok(0) | Err(_) => return Err(CannotWrite),
+            Ok(count) => rest = &rest[count..],
+        }
+    }
+    Ok(())
+}
