@@ -6,8 +6,6 @@
 
 mod crossbar;
 mod group;
-#[cfg(test)]
-mod tests;
 
 pub use crossbar::{Claim, Crossbar};
 pub use group::Group;

@@ -13,6 +13,3 @@ mod terminal;
 pub use events::{Event, EventFault, PlaceFault, Port};
 pub use net::{Net, NetOf};
 pub use run::{Run, RunOf};
-
-#[cfg(test)]
-mod tests;

@@ -17,6 +17,3 @@ pub use switches::{Switch, SwitchOf};
 
 /// How many links a switch has.
 pub const LINKS: usize = 32;
-
-#[cfg(test)]
-mod tests;
