@@ -20,6 +20,3 @@ pub use bytes::{ControlBytes, MAX_CONTROL_BYTES};
 pub use commands::{Command, read_command, write_command};
 pub use faults::CommandFault;
 pub use replies::{ALREADY_STARTED, Answer, DEVICE_ID, read_reply, write_reply};
-
-#[cfg(test)]
-mod tests;

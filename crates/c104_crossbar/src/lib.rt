@@ -12,8 +12,6 @@
 
 mod crossbar;
 mod group;
-#[cfg(test)]
-mod tests;
 
 pub use crossbar::{Claim, Crossbar};
 pub use group::Group;

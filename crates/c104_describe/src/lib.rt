@@ -30,6 +30,3 @@ pub use plans::{Name, Plan, PlanPort, PlanRow, Terminal};
 pub use text::{
     Dots, cut_lines, cut_words, find_dots, is_name, is_plain, read_number, uncommented,
 };
-
-#[cfg(test)]
-mod tests;

@@ -11,7 +11,5 @@
 #![tactic(auto)]
 
 mod intervals;
-#[cfg(test)]
-mod tests;
 
 pub use intervals::{ROWS, Row, Select, Table};

@@ -21,6 +21,3 @@ pub use outgoing::{CREDIT_LIMIT, OutBuffer, OutBufferOf};
 
 /// The tokens that one flow-control token grants (the data sheet's rule).
 pub const TOKENS_OF_A_GRANT: usize = 8;
-
-#[cfg(test)]
-mod tests;

@@ -23,6 +23,3 @@ pub use c104_event::{Event, EventFault, Port};
 pub use faults::PlaceFault;
 pub use net::{Net, NetOf};
 pub use run::{Run, RunOf};
-
-#[cfg(test)]
-mod tests;

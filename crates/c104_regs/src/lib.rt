@@ -23,6 +23,3 @@ pub use faults::RegFault;
 pub use registers::{DEVICE_ID, LINKS, Registers};
 pub use settings::Settings;
 pub use status::Status;
-
-#[cfg(test)]
-mod tests;

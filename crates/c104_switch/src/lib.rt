@@ -34,6 +34,3 @@ pub use switches::{Switch, SwitchOf};
 const _: () = prove!(c104_crossbar::LINKS == LINKS);
 
 const _: () = prove!(c104_control::DEVICE_ID == c104_regs::DEVICE_ID);
-
-#[cfg(test)]
-mod tests;

@@ -23,6 +23,3 @@ pub use list::{Bytes, Items};
 pub use packets::{Packet, cut_packets, packet_tokens};
 pub use text::{MAX_PACKET_BYTES, digit_of, parse_packet, parse_words, print_packet, read_byte};
 pub use tokens::{Mark, Token};
-
-#[cfg(test)]
-mod tests;

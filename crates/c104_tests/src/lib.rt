@@ -1,0 +1,29 @@
+//! Tests of the library crates: a module for each crate, and one for the texts of all faults.
+//!
+//! A crate with tests is proved twice, so the tests stand here, above all the crates, and the crates
+//! have none. What a contract says needs no test. These show what no contract can: that a call which
+//! takes memory succeeds where there is some, that the definitions agree with examples that were
+//! worked out elsewhere, and what is printed of faults. What the program can show is a case in
+//! `tests/cases`.
+#![tactic(auto)]
+
+#[cfg(test)]
+mod control;
+#[cfg(test)]
+mod crossbar;
+#[cfg(test)]
+mod describe;
+#[cfg(test)]
+mod faults;
+#[cfg(test)]
+mod interval;
+#[cfg(test)]
+mod link;
+#[cfg(test)]
+mod net;
+#[cfg(test)]
+mod regs;
+#[cfg(test)]
+mod switch;
+#[cfg(test)]
+mod token;
