@@ -8,89 +8,9 @@ import os
 import re
 import shutil
 
-# A clause of a contract stands before a body, and its braces aren't the body's.
-CLAUSE = re.compile(r'\b(requires|ensures|ghost|decreases)\b\s*\*?\s*[\w-]*\s*:?\s*\Z')
-COMMENT_OR_LITERAL = re.compile(r'//[^\n]*|"(?:\\.|[^"\\])*"|b?\'(?:\\.[^\']*|[^\'\\\n])\'', re.DOTALL)
-BLOCK = re.compile(r'^(?:pub )?(?:impl|trait)\b[^{;]*', re.MULTILINE)
-HEAD = re.compile(r'^[ \t]*(?:pub(?:\([^)]*\))? )?(?:const )?fn (\w+)', re.MULTILINE)
+from sources import functions_of, read_text, write_text
+
 ROOTS = ('lib', 'main')
-
-
-# Functions and their places in a text
-
-def blank(text):
-    """The text with spaces for its comments and its literals."""
-    return COMMENT_OR_LITERAL.sub(lambda it: re.sub(r'[^\n]', ' ', it.group()), text)
-
-
-def past_bracket(text, at):
-    """The place past the bracket that closes the one at a place."""
-    depth = 0
-    for place in range(at, len(text)):
-        depth += (text[place] in '{([') - (text[place] in '})]')
-        if depth == 0:
-            return place + 1
-    return len(text)
-
-
-def body_after(text, at):
-    """The place of the body of a function whose name ends at a place, or None where it has none."""
-    clause = at
-    while at < len(text) and text[at] != ';':
-        if text[at] == '{' and not CLAUSE.search(text[clause:at]):
-            return at
-        if text[at] in '{([':
-            clause = past_bracket(text, at) if text[at] == '{' else clause
-            at = past_bracket(text, at)
-        else:
-            at += 1
-    return None
-
-
-def start_with_attributes(text, start):
-    """Where the attributes right above a line begin, or where the line does."""
-    while start > 0:
-        above = text.rfind('\n', 0, start - 1) + 1
-        if text[above:start].strip()[-1:] not in (']', ',', '('):
-            return start
-        start = above
-    return start
-
-
-class Function:
-    """A function with a body: its name, its places in the text, and the type whose method it is."""
-
-    def __init__(self, text, head, body, block):
-        self.name, self.name_at = head.group(1), head.start(1)
-        self.start, self.body, self.end = start_with_attributes(text, head.start()), body, past_bracket(text, body)
-        self.is_of_trait = bool(re.search(r'\bfor\b|\btrait\b', block))
-        bare = re.sub(r'<[^<>]*>', '', re.sub(r'<[^<>]*>', '', block))
-        self.owner = ''.join(re.findall(r'\w+', bare)[1:2])
-
-
-def functions_of(text):
-    """The functions of a file that have bodies."""
-    text = blank(text)
-    blocks = [(it.end(), past_bracket(text, it.end()), it.group()) for it in BLOCK.finditer(text)]
-    found = []
-    for head in HEAD.finditer(text):
-        body = body_after(text, head.end())
-        if body is not None:
-            block = next((it for start, end, it in blocks if start <= head.start() < end), '')
-            found.append(Function(text, head, body, block))
-    return found
-
-
-# Edits
-
-def read_text(*path):
-    with open(os.path.join(*path), encoding='utf-8') as file:
-        return file.read()
-
-
-def write_text(text, *path):
-    with open(os.path.join(*path), 'w', encoding='utf-8') as file:
-        file.write(text)
 
 
 def edited_texts(lines, folder):
