@@ -10,6 +10,7 @@ import shutil
 
 from sources import functions_of, read_text, write_text
 
+ENDING = '.edit'
 ROOTS = ('lib', 'main')
 
 
@@ -21,9 +22,11 @@ def edited_texts(lines, folder):
         rest = rest[1:] if rest.startswith(' ') else rest
         if word == 'file':
             path = rest.strip()
-        elif word == 'old':
+        elif word == 'old' and old is None:
             old = rest
-        elif word == 'new':
+        elif word != 'new':
+            raise ValueError('a line is none of `file:`, `old:` and then `new:`: %r' % line)
+        else:
             if path is None or not old:
                 raise ValueError('a line `new:` stands before any `file:` or `old:`')
             if path not in texts:
@@ -31,8 +34,8 @@ def edited_texts(lines, folder):
             if texts[path].count(old) != 1:
                 raise ValueError('%r is in %s %d times, and not once' % (old, path, texts[path].count(old)))
             texts[path], old = texts[path].replace(old, rest), None
-    if not texts:
-        raise ValueError('it has no lines `old:` and `new:`')
+    if not texts or old is not None:
+        raise ValueError('it has no pair of lines `old:` and `new:`, or half of one')
     return texts
 
 
@@ -52,6 +55,8 @@ class Edit:
         self.crate, self.label = crate, '%s/%s' % (crate.name, os.path.basename(path))
         self.texts, self.wrong, self.path, self.function, self.is_refused = {}, None, None, None, None
         try:
+            if not path.endswith(ENDING):
+                raise ValueError('its name does not end in %s' % ENDING)
             self.texts = edited_texts(read_text(path).splitlines(), crate.folder)
         except (ValueError, OSError) as error:
             self.wrong = str(error)
