@@ -1,7 +1,9 @@
 """Edits that the prover must refuse, and copies of the functions that they change.
 
 An edit is a file of lines `file: src/..`, `old: TEXT` and `new: TEXT`: in the file, the old text, which
-stands there once, gives way to the new one. A file may have several pairs of old and new.
+stands there once, gives way to the new one. A line `fn: NAME` or `fn: TYPE::NAME` after that of the file
+means the text of this function, in which the old text then stands once. There may be several pairs of old
+and new.
 """
 
 import os
@@ -16,27 +18,38 @@ ROOTS = ('lib', 'main')
 
 def edited_texts(lines, folder):
     """The texts that an edit makes, by their path in the crate. A ValueError says why it can't be applied."""
-    texts, path, old = {}, None, None
+    texts, said, old = {}, {}, None
     for line in lines:
         word, _, rest = line.partition(':')
         rest = rest[1:] if rest.startswith(' ') else rest
         if word == 'file':
-            path = rest.strip()
-        elif word == 'old' and old is None:
+            said = {'file': rest.strip()}
+        elif word == 'fn' and 'file' in said:
+            said['fn'] = rest.strip()
+        elif word == 'old' and old is None and rest and 'file' in said:
             old = rest
-        elif word != 'new':
-            raise ValueError('a line is none of `file:`, `old:` and then `new:`: %r' % line)
+        elif word == 'new' and old is not None:
+            path = said['file']
+            text = texts[path] if path in texts else text_to_edit(folder, path)
+            texts[path], old = replaced(text, said.get('fn'), old, rest), None
         else:
-            if path is None or not old:
-                raise ValueError('a line `new:` stands before any `file:` or `old:`')
-            if path not in texts:
-                texts[path] = text_to_edit(folder, path)
-            if texts[path].count(old) != 1:
-                raise ValueError('%r is in %s %d times, and not once' % (old, path, texts[path].count(old)))
-            texts[path], old = texts[path].replace(old, rest), None
+            raise ValueError('a line is none of `file:`, `fn:`, `old:` and then `new:`, in this order: %r' % line)
     if not texts or old is not None:
         raise ValueError('it has no pair of lines `old:` and `new:`, or half of one')
     return texts
+
+
+def replaced(text, name, old, new):
+    """The text with one piece replaced, which stands once in it, or in the function of this name."""
+    start, end = 0, len(text)
+    if name is not None:
+        named = [it for it in functions_of(text) if name in (it.name, '%s::%s' % (it.owner, it.name))]
+        if len(named) != 1:
+            raise ValueError('there are %d functions %s, and not one' % (len(named), name))
+        start, end = named[0].start, named[0].end
+    if text.count(old, start, end) != 1:
+        raise ValueError('%r is there %d times, and not once' % (old, text.count(old, start, end)))
+    return text[:start] + text[start:end].replace(old, new) + text[end:]
 
 
 def text_to_edit(folder, path):

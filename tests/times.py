@@ -14,6 +14,13 @@ def shown(seconds):
     return '%d m %02d s' % divmod(round(seconds), 60)
 
 
+def wait_for(process):
+    """Waits for a process that was started, and returns the processor seconds of it and of all that it waited for."""
+    _, status, usage = os.wait4(process.pid, 0)
+    process.returncode = -os.WTERMSIG(status) if os.WIFSIGNALED(status) else os.WEXITSTATUS(status)
+    return usage.ru_utime + usage.ru_stime
+
+
 def run_part(words, folder, watch=None):
     """Runs a command and shows what it prints as it comes. Its exit status, its lines, and its processor
     and wall seconds. `watch` is told the number of its process."""
@@ -28,9 +35,8 @@ def run_part(words, folder, watch=None):
             lines.append(line.rstrip('\n'))
     if watch:
         watch.stop()
-    _, status, usage = os.wait4(process.pid, 0)
-    process.returncode = -os.WTERMSIG(status) if os.WIFSIGNALED(status) else os.WEXITSTATUS(status)
-    return process.returncode, lines, usage.ru_utime + usage.ru_stime, time.monotonic() - began
+    processor = wait_for(process)
+    return process.returncode, lines, processor, time.monotonic() - began
 
 
 # Processes, as /proc tells of them

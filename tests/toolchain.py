@@ -14,6 +14,8 @@ import subprocess
 import tempfile
 import time
 
+from times import wait_for
+
 TOP = os.path.dirname(os.path.dirname(os.path.abspath(__file__)))
 # A check that reached the prover ends in a line that begins so.
 LAST_LINES = ('logic=', 'only=')
@@ -76,9 +78,8 @@ def run_measured(words, folder):
                                stderr=subprocess.STDOUT)
     with process.stdout:
         output = process.stdout.read()
-    _, status, usage = os.wait4(process.pid, 0)
-    process.returncode = -os.WTERMSIG(status) if os.WIFSIGNALED(status) else os.WEXITSTATUS(status)
-    return process.returncode, output, usage.ru_utime + usage.ru_stime
+    processor = wait_for(process)
+    return process.returncode, output, processor
 
 
 class Check:
