@@ -1,26 +1,45 @@
-# make        builds the proved program, build/c104, as soon as there is one
-# make run    builds it and runs the first example
-# make test   runs every proof, test and case; its last line is "N passed, M failed"
+# make                        proves and builds the program, build/c104
+# make run                    builds it and runs the first example
+# make try                    runs the first example without proving anything
+# make check                  proves what has changed, over kept work, and runs the cases over the program
+# make edits CRATE=c104_link  tries the edits of one crate that the prover must refuse
+# make test                   runs every proof, test, edit and case from nothing;
+#                             its last line is "N passed, M failed"
 
 program := build/c104
 example := examples/first-network.txt
+cases := run_cases description_cases large_cases stream_cases
+sources := $(shell find crates crates.txt -path '*/out' -prune -o -type f -print)
 
-.PHONY: all run test
+.PHONY: all run try check edits test
 
-ifneq ($(wildcard crates/c104/src/main.rt),)
 all: $(program)
 
-$(program): $(shell find crates crates.txt -path '*/out' -prune -o -type f -print)
-	mkdir -p build
-	cd crates/c104 && rt run < /dev/null > /dev/null
-	cp crates/c104/out/c104 $@
+$(program): $(sources)
+	@tests/build_program $@
 
 run: $(program)
 	$(program) < $(example)
-else
-all run:
-	@echo 'there is no program yet: the crates so far are libraries (make test proves them)'
-endif
+
+# The interpreter, which rt also tries, is no use to a program that reads.
+try:
+	@mkdir -p build
+	@cd crates/c104 && rt try --steps 1 < ../../$(example) 2> ../../build/try-log \
+	    || { cat ../../build/try-log; exit 1; }
+
+check:
+	@mkdir -p build
+	@echo 'rt all check: what it prints goes to build/check-log'
+	@rt all check > build/check-log 2>&1 || { grep -E '^(== |[^ ]+: (failed|not run)|.*error)' build/check-log; exit 1; }
+	@tail -n 1 build/check-log
+	@$(MAKE) --no-print-directory all
+	@for cases in $(cases); do echo $$cases; tests/$$cases $(program) || failed=1; done; [ -z "$$failed" ]
+
+edits:
+	@[ -n "$(CRATE)" ] || { echo 'which crate? for example: make edits CRATE=c104_link'; exit 2; }
+	@mkdir -p build
+	@cd crates/$(CRATE) && rt check > ../../build/edits-log 2>&1 || { tail -n 30 ../../build/edits-log; exit 1; }
+	@tests/refused_edits --only --kept build/edits $(CRATE)
 
 test:
 	@tests/all
