@@ -6,7 +6,9 @@ use Rattle.c104_link.specs.Steps.{◌>>=◌, ◌>>◌, require, at_place}
 use Rattle.c104_link.specs.Buffers as buffer
 use Rattle.c104_link.specs.Buffers.{Incoming, Outgoing, put, put_all}
 use Rattle.c104_switch.specs.Group.{in_group}
-use Rattle.c104_switch.specs.Switch.{Phase, Fresh, Head, Want, Stream, Sinking, Input, with_buffer, accepted, granted}
+use Rattle.c104_switch.specs.declared.phase.Phase.{Phase}
+use Rattle.c104_switch.specs.declared.phase.Phase.TheVariants.{Fresh, Head, Want, Stream, Sinking}
+use Rattle.c104_switch.specs.Switch.{Input, with_buffer, accepted, granted}
 use Rattle.c104_switch.specs.Headers.{read}
 use Rattle.c104_switch.specs.Turns.{used, after, on_header, on_random, by_phase, turn}
 use Rattle.c104_switch.specs.Claims.{streaming, put_header, claimed}
