@@ -8,6 +8,8 @@
 #![tactic(auto)]
 
 #[cfg(test)]
+mod commands;
+#[cfg(test)]
 mod control;
 #[cfg(test)]
 mod crossbar;
@@ -23,6 +25,8 @@ mod link;
 mod net;
 #[cfg(test)]
 mod regs;
+#[cfg(test)]
+mod script;
 #[cfg(test)]
 mod switch;
 #[cfg(test)]
