@@ -6,10 +6,10 @@ use Rattle.c104_commands.specs.declared.status.Status.{Status}
 use Rattle.c104_commands.specs.declared.status.Status.TheVariants as status
 
 -- the number says what was read
-abbrev pub status_of : Halt → ℕ → Status
-status_of halt.CannotRead number = status.CannotRead number
-status_of halt.CannotWrite number = status.CannotWrite
-status_of halt.NoMemory number = status.NoMemory
+abbrev pub halt_status : Halt → ℕ → Status
+halt_status halt.CannotRead number = status.CannotRead number
+halt_status halt.CannotWrite number = status.CannotWrite
+halt_status halt.NoMemory number = status.NoMemory
 
 -- the program's exit status
 abbrev pub exit_code : Status → ℕ

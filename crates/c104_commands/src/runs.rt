@@ -1,7 +1,7 @@
 //! Runs: a description, and a script that is answered on its network.
 ghost use Rattle.std.specs.Io.KnownBytes.{prepend_known};
-ghost use Rattle.c104_describe.specs.PlanText.{described};
-ghost use Rattle.c104_commands.specs.Runs.{Runs, RunsDescription, RunsText};
+ghost use Rattle.c104_describe.specs.PlanText.{read_description};
+ghost use Rattle.c104_commands.specs.Runs.{RunsParts, RunsDescription, RunsText};
 
 use crate::status::Status;
 use c104_describe::{MAX_DESCRIPTION, PlanFaultKind, read_description};
@@ -22,7 +22,8 @@ pub fn run<D: Read, S: Read, W: Write>(
     script: &mut S,
     writer: &mut W,
 ) -> Status
-    ensures { Runs (D.remaining description.old) (S.remaining script.old) (S.remaining script.new)
+    ensures { RunsParts (D.remaining description.old) (S.remaining script.old)
+        (S.remaining script.new)
         (W.contents writer.old) (W.contents writer.new) result }
 {
     let text = match read_up_to(alloc, MAX_DESCRIPTION, description) {
@@ -60,7 +61,7 @@ fn run_description<S: Read, W: Write>(
     script: &mut S,
     writer: &mut W,
 ) -> Status
-    ensures { RunsDescription (described description.now)
+    ensures { RunsDescription (read_description description.now)
         (prepend_known ahead.old (S.remaining script.old)) (S.remaining script.new)
         (W.contents writer.old) (W.contents writer.new) result }
 {

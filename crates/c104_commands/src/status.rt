@@ -1,6 +1,6 @@
 //! How a command ends.
 ghost use Rattle.std.specs.Prelude.{◌≡◌};
-ghost use Rattle.c104_commands.specs.Statuses.{exit_code, status_of};
+ghost use Rattle.c104_commands.specs.Statuses.{exit_code, halt_status};
 
 use c104_stream::Halt;
 
@@ -24,7 +24,7 @@ impl Status {
     /// How a command ends that stopped so. The number says what was read, 0 for the description and 1
     /// for the script.
     pub fn of_halt(halt: Halt, number: u8) -> Self
-        ensures { result ≡ status_of halt number }
+        ensures { result ≡ halt_status halt number }
     {
         match halt {
             Halt::CannotRead => Status::CannotRead(number),

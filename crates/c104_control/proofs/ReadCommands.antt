@@ -3,14 +3,14 @@ use Rattle.std.proofs.Common.{◌≡◌, ◌≢◌, ◌↔◌, ℕ, zero, suc, �
 use Rattle.std.proofs.lemmas.Bool.Decides.{nat_tests}
 use Rattle.std.proofs.lemmas.Nat.{from_le_bytes-to_le_bytes_2, from_le_bytes-to_le_bytes_4, le_bytes_2, le_bytes_4}
 use Rattle.std.specs.Int.{w16, w32, to_le_bytes, from_le_bytes}
-use Rattle.c104_control.specs.Table.{Command, IsCommand, IsUnknownCode, bytes_of, line}
+use Rattle.c104_control.specs.Table.{Command, IsCommand, IsUnknownCode, command_bytes, command_format}
 use Rattle.c104_control.specs.declared.commands.Command.TheVariants.{Start, Reset, Identify, CPeek, CPoke}
-use Rattle.c104_control.specs.Reading.{alone, peek_of, poke_of, read}
+use Rattle.c104_control.specs.Reading.{alone, peek_of, poke_of, read_command}
 use Rattle.c104_control.specs.Faults.{CommandFault}
 use Rattle.c104_control.specs.declared.faults.CommandFault.TheVariants.{UnknownCode, WrongLength}
 
 -- what was written is read back
-pub read_back : (c : Command) → IsCommand c → read (bytes_of c) ≡ Ok c
+pub read_back : (c : Command) → IsCommand c → read_command (command_bytes c) ≡ Ok c
 read_back Start is = refl
 read_back Reset is = refl
 read_back Identify is = refl
@@ -23,7 +23,7 @@ AreBytes bytes = (i : ℕ) → get_or bytes i 0 < 256
 
 -- what says that a command was read from these bytes
 abbrev pub IsRead : List ℕ → Command → Type 0
-IsRead bytes c = IsCommand c × (bytes_of c ≡ bytes)
+IsRead bytes c = IsCommand c × (command_bytes c ≡ bytes)
 
 -- a command, or why bytes are none
 abbrev pub Read : Type 0
@@ -99,15 +99,15 @@ read_by code operands c false false false false true are is_start is_reset is_id
 read_by code operands c false false false false false are is_start is_reset is_identify is_peek is_poke at = cc
 
 -- what was read is in the table
-pub is_read : (bytes : List ℕ) (c : Command) → AreBytes bytes → read bytes ≡ Ok c → IsRead bytes c
+pub is_read : (bytes : List ℕ) (c : Command) → AreBytes bytes → read_command bytes ≡ Ok c → IsRead bytes c
 is_read [] c are at = cc
 is_read (code ∷ operands) c are at = read_by code operands c _ _ _ _ _ (λ i. are (suc i)) refl refl refl refl refl at
 
 -- exactly the table's commands are read
-pub is_table : (bytes : List ℕ) (c : Command) → AreBytes bytes → (read bytes ≡ Ok c) ↔ (IsCommand c × (bytes_of c ≡ bytes))
+pub is_table : (bytes : List ℕ) (c : Command) → AreBytes bytes → (read_command bytes ≡ Ok c) ↔ (IsCommand c × (command_bytes c ≡ bytes))
 is_table bytes c are = (is_read bytes c are, λ was. rw (sym was.1) (read_back c was.0))
 
-known : (code k : ℕ) (c : Command) (answer : Result Command CommandFault) → k ≡ code → (line c).code ≡ k → (answer ≡ Err UnknownCode → ⊥) → (answer ≡ Err UnknownCode) ↔ ((d : Command) → (line d).code ≢ code)
+known : (code k : ℕ) (c : Command) (answer : Result Command CommandFault) → k ≡ code → (command_format c).code ≡ k → (answer ≡ Err UnknownCode → ⊥) → (answer ≡ Err UnknownCode) ↔ ((d : Command) → (command_format d).code ≢ code)
 known code k c answer is of_c not_unknown = (λ at. absurd (not_unknown at), λ none. absurd (none c (of_c ∙ is)))
 
 alone_known : (d : Command) (operands : List ℕ) → alone d operands ≡ Err UnknownCode → ⊥
@@ -116,7 +116,7 @@ alone_known d (b ∷ operands) at = cc
 
 unknown_by : (code : ℕ) (operands : List ℕ) (start reset identify peek poke : Bool)
     → start ≡ nat_eq code 1 → reset ≡ nat_eq code 2 → identify ≡ nat_eq code 3 → peek ≡ nat_eq code 4 → poke ≡ nat_eq code 5
-    → ((if start then alone Start operands else (if reset then alone Reset operands else (if identify then alone Identify operands else (if peek then peek_of operands else (if poke then poke_of operands else Err UnknownCode))))) ≡ Err UnknownCode) ↔ ((d : Command) → (line d).code ≢ code)
+    → ((if start then alone Start operands else (if reset then alone Reset operands else (if identify then alone Identify operands else (if peek then peek_of operands else (if poke then poke_of operands else Err UnknownCode))))) ≡ Err UnknownCode) ↔ ((d : Command) → (command_format d).code ≢ code)
 unknown_by code operands true reset identify peek poke is_start is_reset is_identify is_peek is_poke = known code 1 Start _ (grind (arith, nat_tests)) refl (alone_known Start operands)
 unknown_by code operands false true identify peek poke is_start is_reset is_identify is_peek is_poke = known code 2 Reset _ (grind (arith, nat_tests)) refl (alone_known Reset operands)
 unknown_by code operands false false true peek poke is_start is_reset is_identify is_peek is_poke = known code 3 Identify _ (grind (arith, nat_tests)) refl (alone_known Identify operands)
@@ -140,7 +140,7 @@ unknown_by code operands false false false false true is_start is_reset is_ident
     poke_known (a ∷ b ∷ v ∷ w ∷ x ∷ y ∷ z ∷ operands) at = cc
 unknown_by code operands false false false false false is_start is_reset is_identify is_peek is_poke = (λ at. none, λ none. refl)
   where
-    none : (d : Command) → (line d).code ≢ code
+    none : (d : Command) → (command_format d).code ≢ code
     none Start = λ is. grind (arith, nat_tests)
     none Reset = λ is. grind (arith, nat_tests)
     none Identify = λ is. grind (arith, nat_tests)
@@ -148,6 +148,6 @@ unknown_by code operands false false false false false is_start is_reset is_iden
     none (CPoke a v) = λ is. grind (arith, nat_tests)
 
 -- exactly bytes whose first begins no command are unknown
-pub is_unknown : (bytes : List ℕ) → (read bytes ≡ Err UnknownCode) ↔ IsUnknownCode bytes
+pub is_unknown : (bytes : List ℕ) → (read_command bytes ≡ Err UnknownCode) ↔ IsUnknownCode bytes
 is_unknown [] = (λ at. cc, λ none. absurd none)
 is_unknown (code ∷ operands) = unknown_by code operands _ _ _ _ _ refl refl refl refl refl

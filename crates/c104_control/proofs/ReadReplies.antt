@@ -4,10 +4,10 @@ use Rattle.std.proofs.lemmas.Bool.Decides.{nat_tests}
 use Rattle.std.proofs.lemmas.Nat.{from_le_bytes-to_le_bytes_4, le_bytes_4}
 use Rattle.std.specs.List.{list_any}
 use Rattle.std.specs.Int.{w32, to_le_bytes, from_le_bytes}
-use Rattle.c104_control.specs.Table.{Command, Answer, IsAnswer, IsAnswerTo, IsReply, device_id, line, reply_bytes}
+use Rattle.c104_control.specs.Table.{Command, Answer, IsAnswer, IsAnswerTo, IsReply, device_id, command_format, reply_bytes}
 use Rattle.c104_control.specs.declared.commands.Command.TheVariants.{Start, Reset, Identify, CPeek, CPoke}
 use Rattle.c104_control.specs.declared.replies.Answer.TheVariants.{Started, WasReset, Identity, Value, Poked, Refused}
-use Rattle.c104_control.specs.Reading.{answer_alone, answer_with, identity_of, refused_of, read_answer}
+use Rattle.c104_control.specs.Reading.{answer_alone, answer_with, identity_of, refused_of, read_reply}
 use Rattle.c104_control.proofs.ReadCommands.{AreBytes}
 
 -- the numbers of refusals are those of the table, and of bytes that are no command
@@ -38,14 +38,14 @@ is_answer Poked is = inl (CPoke 0 0, (omega arith, omega arith), inl (0, omega a
 is_answer (Refused n) is = refusal_is n is.0 is.1
 
 -- the numbers of a command's refusals
-numbered : (c : Command) (n : ℕ) → IsTrue (list_any (λ m. m == n) (line c).refusals) → (1 ≤ n) × (n ≤ 7)
+numbered : (c : Command) (n : ℕ) → IsTrue (list_any (λ m. m == n) (command_format c).refusals) → (1 ≤ n) × (n ≤ 7)
 numbered Start n among = grind (arith, nat_tests)
 numbered Reset n among = cc
 numbered Identify n among = cc
 numbered (CPeek a) n among = grind (arith, nat_tests)
 numbered (CPoke a v) n among = grind (arith, nat_tests)
 
-done_reply : (c : Command) (v : ℕ) → v < 2 ^ 32 → IsReply ((line c).answer v)
+done_reply : (c : Command) (v : ℕ) → v < 2 ^ 32 → IsReply ((command_format c).answer v)
 done_reply Start v below = tt
 done_reply Reset v below = tt
 done_reply Identify v below = refl
@@ -73,7 +73,7 @@ refused_back n is = by (nat_le 1 n && nat_le n 7) (grind (arith, nat_tests))
     by true is = refl
     by false is = cc
 
-pub reply_back : (a : Answer) → IsReply a → read_answer (reply_bytes a) ≡ Some a
+pub reply_back : (a : Answer) → IsReply a → read_reply (reply_bytes a) ≡ Some a
 reply_back Started is = refl
 reply_back WasReset is = refl
 reply_back (Identity n) is = rw (from_le_bytes-to_le_bytes_4 n (below n is)) (identity_back n is)
@@ -154,10 +154,10 @@ read_by code operands a false false false false false true are is_started is_res
     subst (λ k. IsReadReply (k ∷ operands) a) is (refused_read operands a at)
 read_by code operands a false false false false false false are is_started is_reset is_identity is_value is_poked is_refused at = cc
 
-is_read : (bytes : List ℕ) (a : Answer) → AreBytes bytes → read_answer bytes ≡ Some a → IsReadReply bytes a
+is_read : (bytes : List ℕ) (a : Answer) → AreBytes bytes → read_reply bytes ≡ Some a → IsReadReply bytes a
 is_read [] a are at = cc
 is_read (code ∷ operands) a are at = read_by code operands a _ _ _ _ _ _ (λ i. are (suc i)) refl refl refl refl refl refl at
 
 -- exactly the table's answers are read
-pub is_table : (bytes : List ℕ) (a : Answer) → AreBytes bytes → (read_answer bytes ≡ Some a) ↔ (IsAnswer a × (reply_bytes a ≡ bytes))
-is_table bytes a are = (λ at. let was = is_read bytes a are at in (is_answer a was.0, was.1), λ was. subst (λ xs. read_answer xs ≡ Some a) was.1 (reply_back a (is_reply a was.0)))
+pub is_table : (bytes : List ℕ) (a : Answer) → AreBytes bytes → (read_reply bytes ≡ Some a) ↔ (IsAnswer a × (reply_bytes a ≡ bytes))
+is_table bytes a are = (λ at. let was = is_read bytes a are at in (is_answer a was.0, was.1), λ was. subst (λ xs. read_reply xs ≡ Some a) was.1 (reply_back a (is_reply a was.0)))

@@ -4,11 +4,11 @@ pub use Rattle.c104_control.specs.declared.faults.CommandFault.{CommandFault}
 use Rattle.c104_control.specs.declared.faults.CommandFault.TheVariants.{UnknownCode, WrongLength}
 
 -- the number that a refusal of a command gives
-abbrev pub fault_number : CommandFault → ℕ
-fault_number UnknownCode = 1
-fault_number WrongLength = 2
+abbrev pub command_fault_number : CommandFault → ℕ
+command_fault_number UnknownCode = 1
+command_fault_number WrongLength = 2
 
 -- the name of a fault
-abbrev pub fault_name : CommandFault → List ℕ
-fault_name UnknownCode = codes "UnknownCode"
-fault_name WrongLength = codes "WrongLength"
+abbrev pub command_fault_name : CommandFault → List ℕ
+command_fault_name UnknownCode = codes "UnknownCode"
+command_fault_name WrongLength = codes "WrongLength"

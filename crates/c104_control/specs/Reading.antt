@@ -25,9 +25,9 @@ poke_of (low ∷ high ∷ a ∷ b ∷ c ∷ d ∷ []) =
 poke_of operands = Err WrongLength
 
 -- the command that these bytes are, or why they are none
-abbrev pub read : List ℕ → Result Command CommandFault
-read [] = Err WrongLength
-read (code ∷ operands) =
+abbrev pub read_command : List ℕ → Result Command CommandFault
+read_command [] = Err WrongLength
+read_command (code ∷ operands) =
     if code == 0x01 then alone Start operands
     else (if code == 0x02 then alone Reset operands
     else (if code == 0x03 then alone Identify operands
@@ -55,9 +55,9 @@ refused_of (n ∷ []) = if nat_le 1 n && nat_le n ALREADY_STARTED then Some (Ref
 refused_of operands = None
 
 -- the answer that these bytes are, if they are one
-abbrev pub read_answer : List ℕ → Option Answer
-read_answer [] = None
-read_answer (code ∷ operands) =
+abbrev pub read_reply : List ℕ → Option Answer
+read_reply [] = None
+read_reply (code ∷ operands) =
     if code == 0x81 then answer_alone Started operands
     else (if code == 0x82 then answer_alone WasReset operands
     else (if code == 0x83 then answer_with identity_of operands

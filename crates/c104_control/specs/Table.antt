@@ -1,6 +1,6 @@
 -- The table of commands: the bytes of each, and the answers to it with theirs. Addresses have two bytes
 -- and values four, low byte first.
---     line c      the table's line of command c
+--     command_format c      the table's line of command c
 --     reply_bytes a      the bytes of answer a
 --     IsAnswerTo c a      a is an answer to command c
 use Rattle.std.specs.Prelude.{◌≡◌, ◌≢◌, ℕ, ◌<◌, ◌≤◌, ◌^◌, ◌⊎◌, ◌==◌, List, [], ◌∷◌, ◌++◌, IsTrue}
@@ -17,47 +17,47 @@ abbrev pub device_id : ℕ
 device_id = DEVICE_ID
 
 -- why a switch refuses what a peek or a poke asks of a register
-abbrev pub no_register : ℕ
-no_register = 3
+abbrev pub no_register_number : ℕ
+no_register_number = 3
 
-abbrev pub read_only : ℕ
-read_only = 4
+abbrev pub read_only_number : ℕ
+read_only_number = 4
 
-abbrev pub out_of_range : ℕ
-out_of_range = 5
+abbrev pub out_of_range_number : ℕ
+out_of_range_number = 5
 
-abbrev pub busy : ℕ
-busy = 6
+abbrev pub busy_number : ℕ
+busy_number = 6
 
 -- a line of the table: a command's first byte and those that follow, what is answered where it is done,
 -- by the value that it reads if it does, and the numbers of the refusals that it may meet
-pub record Line : Type 0 where
+pub record CommandFormat : Type 0 where
   pub code : ℕ
   pub operands : List ℕ
   pub answer : ℕ → Answer
   pub refusals : List ℕ
 
 -- the table
-abbrev pub line : Command → Line
-line Start = record {
+abbrev pub command_format : Command → CommandFormat
+command_format Start = record {
   code = 0x01;
   operands = [];
   answer = λ v. Started;
   refusals = ALREADY_STARTED ∷ [];
 }
-line Reset = record { code = 0x02; operands = []; answer = λ v. WasReset; refusals = [] }
-line Identify = record { code = 0x03; operands = []; answer = λ v. Identity device_id; refusals = [] }
-line (CPeek a) = record {
+command_format Reset = record { code = 0x02; operands = []; answer = λ v. WasReset; refusals = [] }
+command_format Identify = record { code = 0x03; operands = []; answer = λ v. Identity device_id; refusals = [] }
+command_format (CPeek a) = record {
   code = 0x04;
   operands = to_le_bytes w16 a;
   answer = Value;
-  refusals = no_register ∷ [];
+  refusals = no_register_number ∷ [];
 }
-line (CPoke a v) = record {
+command_format (CPoke a v) = record {
   code = 0x05;
   operands = to_le_bytes w16 a ++ to_le_bytes w32 v;
   answer = λ v. Poked;
-  refusals = no_register ∷ read_only ∷ out_of_range ∷ busy ∷ [];
+  refusals = no_register_number ∷ read_only_number ∷ out_of_range_number ∷ busy_number ∷ [];
 }
 
 -- the bytes of the answers
@@ -70,8 +70,8 @@ reply_bytes Poked = 0x85 ∷ []
 reply_bytes (Refused n) = 0xff ∷ n ∷ []
 
 -- the bytes of a command
-abbrev pub bytes_of : Command → List ℕ
-bytes_of c = (line c).code ∷ (line c).operands
+abbrev pub command_bytes : Command → List ℕ
+command_bytes c = (command_format c).code ∷ (command_format c).operands
 
 -- there is such a command: an address has 16 bits, and a value 32
 abbrev pub IsCommand : Command → Type 0
@@ -82,8 +82,8 @@ IsCommand c = Unit {0}
 -- an answer to a command: that it was done, with some value, or one of its refusals
 abbrev pub IsAnswerTo : Command → Answer → Type 0
 IsAnswerTo c a =
-    ((v : ℕ) × (v < 2 ^ 32) × (a ≡ (line c).answer v))
-    ⊎ ((n : ℕ) × IsTrue (list_any (λ m. m == n) (line c).refusals) × (a ≡ Refused n))
+    ((v : ℕ) × (v < 2 ^ 32) × (a ≡ (command_format c).answer v))
+    ⊎ ((n : ℕ) × IsTrue (list_any (λ m. m == n) (command_format c).refusals) × (a ≡ Refused n))
 
 -- an answer to bytes that are no command: the number of their fault
 abbrev pub IsRefusal : Answer → Type 0
@@ -103,4 +103,4 @@ IsReply a = Unit {0}
 -- the first of these bytes is one with which no command begins
 abbrev pub IsUnknownCode : List ℕ → Type 0
 IsUnknownCode [] = ⊥
-IsUnknownCode (b ∷ bytes) = (c : Command) → (line c).code ≢ b
+IsUnknownCode (b ∷ bytes) = (c : Command) → (command_format c).code ≢ b

@@ -1,7 +1,7 @@
 //! Commands, and their bytes.
 ghost use Rattle.std.specs.Prelude.{◌≡◌, ◌↔◌, Ok, Err};
-ghost use Rattle.c104_control.specs.Table.{IsCommand, IsUnknownCode, bytes_of};
-ghost use Rattle.c104_control.specs.Reading.{read};
+ghost use Rattle.c104_control.specs.Table.{IsCommand, IsUnknownCode, command_bytes};
+ghost use Rattle.c104_control.specs.Reading.{read_command};
 ghost use Rattle.c104_control.specs.declared.faults.CommandFault.TheVariants as fault;
 
 use crate::bytes::ControlBytes;
@@ -25,17 +25,18 @@ pub enum Command {
 /// The command that these bytes are. UnknownCode where no command begins with the first byte;
 /// WrongLength where the command that does has another length, and where there are no bytes.
 pub fn read_command(bytes: &[u8]) -> Result<Command, CommandFault>
-    ensures read { result ≡ read bytes.now }
+    ensures read { result ≡ read_command bytes.now }
 
     // Exactly the table's commands are read, each from its bytes.
-    ensures table { (c : Command) → (result ≡ Ok c) ↔ (IsCommand c × (bytes_of c ≡ bytes.now)) }
+    ensures table { (c : Command) → (result ≡ Ok c) ↔
+        (IsCommand c × (command_bytes c ≡ bytes.now)) }
     ensures unknown { (result ≡ Err fault.UnknownCode) ↔ IsUnknownCode bytes.now }
 {
     read(bytes)
 }
 
 fn read(bytes: &[u8]) -> Result<Command, CommandFault>
-    ensures { result ≡ read bytes.now }
+    ensures { result ≡ read_command bytes.now }
 {
     match bytes {
         [0x01] => Ok(Command::Start),
@@ -54,8 +55,8 @@ fn read(bytes: &[u8]) -> Result<Command, CommandFault>
 
 /// The bytes of a command.
 pub fn write_command(command: &Command) -> ControlBytes
-    ensures bytes { result ≡ bytes_of command.now }
-    ensures read_back { read result ≡ Ok command.now }
+    ensures bytes { result ≡ command_bytes command.now }
+    ensures read_back { read_command result ≡ Ok command.now }
 {
     match *command {
         Command::Start => ControlBytes::new(&[0x01]),

@@ -1,6 +1,6 @@
 //! Why bytes are no command.
 ghost use Rattle.std.specs.Prelude.{◌≡◌};
-ghost use Rattle.c104_control.specs.Faults.{fault_name, fault_number};
+ghost use Rattle.c104_control.specs.Faults.{command_fault_name, command_fault_number};
 
 use thiserror::Error;
 
@@ -18,14 +18,14 @@ pub enum CommandFault {
 impl CommandFault {
     /// The fault's number, 1 or 2, which is that of the refusal that a switch replies.
     pub fn number(self) -> u8
-        ensures { result ≡ fault_number self }
+        ensures { result ≡ command_fault_number self }
     {
         self as u8
     }
 
     /// The fault's name.
     pub fn name(self) -> &'static str
-        ensures { result.now ≡ fault_name self }
+        ensures { result.now ≡ command_fault_name self }
     {
         match self {
             CommandFault::UnknownCode => "UnknownCode",

@@ -2,7 +2,7 @@
 ghost use Rattle.std.specs.Prelude.{◌≡◌, ◌↔◌, ◌∷◌, Some};
 ghost use Rattle.std.specs.Int.{w32, to_le_bytes};
 ghost use Rattle.c104_control.specs.Table.{IsAnswer, IsReply, reply_bytes};
-ghost use Rattle.c104_control.specs.Reading.{read_answer};
+ghost use Rattle.c104_control.specs.Reading.{read_reply};
 
 use crate::bytes::ControlBytes;
 
@@ -33,7 +33,7 @@ pub enum Answer {
 
 /// The answer whose bytes these are. None where they are no answer's.
 pub fn read_reply(bytes: &[u8]) -> Option<Answer>
-    ensures read { result ≡ read_answer bytes.now }
+    ensures read { result ≡ read_reply bytes.now }
 
     // Exactly the table's answers are read, each from its bytes.
     ensures table { (a : Answer) → (result ≡ Some a) ↔ (IsAnswer a × (reply_bytes a ≡ bytes.now)) }
@@ -42,7 +42,7 @@ pub fn read_reply(bytes: &[u8]) -> Option<Answer>
 }
 
 fn read(bytes: &[u8]) -> Option<Answer>
-    ensures { result ≡ read_answer bytes.now }
+    ensures { result ≡ read_reply bytes.now }
 {
     match bytes {
         [0x81] => Some(Answer::Started),
@@ -67,7 +67,7 @@ fn read(bytes: &[u8]) -> Option<Answer>
 pub fn write_reply(answer: &Answer) -> ControlBytes
     requires { IsReply answer.now }
     ensures bytes { result ≡ reply_bytes answer.now }
-    ensures read_back { read_answer result ≡ Some answer.now }
+    ensures read_back { read_reply result ≡ Some answer.now }
 {
     match *answer {
         Answer::Started => ControlBytes::new(&[0x81]),

@@ -2,16 +2,16 @@
 use Rattle.std.proofs.Common.{◌≡◌, ◌<◌, ◌≤◌, ◌==◌, ℕ, zero, suc, ◌+◌, ◌-◌, ◌^◌, ◌&&◌, Bool, true, false, nat_le, inl, inr, refl, ap, ◌∙◌, arith}
 use Rattle.std.proofs.lemmas.Bool.{and_from, and_left, and_right, both_ways, cases_eq, cases_lt, le-leb, lt-leb}
 use Rattle.std.proofs.lemmas.Nat.Bits.{bit_at_above}
-use Rattle.c104_crossbar.specs.Groups.{IsGroup, has_bit, in_group, joined}
+use Rattle.c104_crossbar.specs.Groups.{IsGroup, has_bit, group_contains, is_joined_run}
 
 -- a run is joined where each link after its first continues
-joined-true : (continues : ℕ → Bool) (low n : ℕ) → ((k : ℕ) → low < k → k ≤ low + n → continues k ≡ true) → joined continues low n ≡ true
+joined-true : (continues : ℕ → Bool) (low n : ℕ) → ((k : ℕ) → low < k → k ≤ low + n → continues k ≡ true) → is_joined_run continues low n ≡ true
 joined-true continues low zero all = refl
 joined-true continues low (suc n) all =
     and_from _ _ (all (low + suc n) (omega arith) (omega arith)) (joined-true continues low n (λ k above upto. all k above (omega arith)))
 
 -- and isn't where one doesn't
-joined-false : (continues : ℕ → Bool) (low n k : ℕ) → low < k → k ≤ low + n → continues k ≡ false → joined continues low n ≡ false
+joined-false : (continues : ℕ → Bool) (low n k : ℕ) → low < k → k ≤ low + n → continues k ≡ false → is_joined_run continues low n ≡ false
 joined-false continues low zero k above upto stops = absurd (omega arith)
 joined-false continues low (suc n) k above upto stops =
     elim (cases_eq k (low + suc n)) [
@@ -27,20 +27,20 @@ module _ (continues : ℕ → Bool) (g first last : ℕ) (is : IsGroup continues
   ends : ((l : ℕ) → 32 ≤ l → continues l ≡ false) → continues (last + 1) ≡ false
   ends none_past = elim (cases_lt (last + 1) 32) [ inl below ↦ is.not_after below | inr past ↦ none_past (last + 1) past ]
 
-  above-in : (o : ℕ) → g ≤ o → o ≤ last → joined continues g (o - g) ≡ true
+  above-in : (o : ℕ) → g ≤ o → o ≤ last → is_joined_run continues g (o - g) ≡ true
   above-in o up within = joined-true continues g (o - g) (λ k above upto. is.is_joined k (omega (arith, is.from_first)) (omega arith))
 
-  above-out : ((l : ℕ) → 32 ≤ l → continues l ≡ false) → (o : ℕ) → g ≤ o → last < o → joined continues g (o - g) ≡ false
+  above-out : ((l : ℕ) → 32 ≤ l → continues l ≡ false) → (o : ℕ) → g ≤ o → last < o → is_joined_run continues g (o - g) ≡ false
   above-out none_past o up past = joined-false continues g (o - g) (last + 1) (omega (arith, is.to_last)) (omega arith) (ends none_past)
 
-  below-in : (o : ℕ) → o < g → first ≤ o → joined continues o (g - o) ≡ true
+  below-in : (o : ℕ) → o < g → first ≤ o → is_joined_run continues o (g - o) ≡ true
   below-in o down within = joined-true continues o (g - o) (λ k above upto. is.is_joined k (omega arith) (omega (arith, is.to_last)))
 
-  below-out : (o : ℕ) → o < g → o < first → joined continues o (g - o) ≡ false
+  below-out : (o : ℕ) → o < g → o < first → is_joined_run continues o (g - o) ≡ false
   below-out o down past = joined-false continues o (g - o) first past (omega (arith, is.from_first)) (is.not_before (omega arith))
 
   -- the test of a link says whether it is from the first to the last, where none past link 31 continues
-  pub in_group-is : ((l : ℕ) → 32 ≤ l → continues l ≡ false) → (o : ℕ) → in_group continues g o ≡ (nat_le first o && nat_le o last)
+  pub in_group-is : ((l : ℕ) → 32 ≤ l → continues l ≡ false) → (o : ℕ) → group_contains continues g o ≡ (nat_le first o && nat_le o last)
   in_group-is none_past o =
       elim (cases_lt o g) [
         | inl down ↦ elim (cases_lt o first) [

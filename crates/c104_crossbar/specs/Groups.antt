@@ -2,20 +2,20 @@
 -- continues the group of the link before it. Any link of it stands for the whole group. Which links
 -- continue is a test of the link's number, so this serves whatever says it.
 --     IsGroup continues g first last      the group of g, as a relation
---     in_group continues g o      whether o is in it, as a computation; `Group::of` ties the two
+--     group_contains continues g o      whether o is in it, as a computation; `Group::of` ties the two
 use Rattle.std.specs.Prelude.{◌≡◌, ℕ, zero, suc, ◌+◌, ◌-◌, ◌<◌, ◌≤◌, ◌==◌, ◌&&◌, Bool, true, false, nat_le, if◌then◌else◌}
 use Rattle.std.specs.Int.{bit_at}
 use Rattle.c104_crossbar.specs.declared.TheConstants.{LINKS}
 
 -- the n links after this one all continue the group
-abbrev pub joined : (ℕ → Bool) → ℕ → ℕ → Bool
-joined continues low zero = true
-joined continues low (suc n) = continues (low + suc n) && joined continues low n
+abbrev pub is_joined_run : (ℕ → Bool) → ℕ → ℕ → Bool
+is_joined_run continues low zero = true
+is_joined_run continues low (suc n) = continues (low + suc n) && is_joined_run continues low n
 
 -- link o is in the group of link g: each link after the lower of the two, up to the higher, continues
-abbrev pub in_group : (ℕ → Bool) → ℕ → ℕ → Bool
-in_group continues g o =
-    if nat_le g o then joined continues g (o - g) else joined continues o (g - o)
+abbrev pub group_contains : (ℕ → Bool) → ℕ → ℕ → Bool
+group_contains continues g o =
+    if nat_le g o then is_joined_run continues g (o - g) else is_joined_run continues o (g - o)
 
 -- bit l of a word is set
 abbrev pub has_bit : ℕ → ℕ → Bool
@@ -34,7 +34,7 @@ pub record IsGroup (continues : ℕ → Bool) (g first last : ℕ) : Type 0 wher
 -- the links from first to last, and no others, are in the group of link g
 abbrev pub AreMembers : (ℕ → Bool) → ℕ → ℕ → ℕ → Type 0
 AreMembers continues g first last =
-    (o : ℕ) → in_group continues g o ≡ (nat_le first o && nat_le o last)
+    (o : ℕ) → group_contains continues g o ≡ (nat_le first o && nat_le o last)
 
 -- no other run of links is the group of link g
 abbrev pub IsOnlyGroup : (ℕ → Bool) → ℕ → ℕ → ℕ → Type 0

@@ -12,37 +12,37 @@ abbrev pub is_free : List Bool → ℕ → Bool
 is_free marks o = not (slice_index_or marks o true)
 
 -- a claim of output o, and the marks after it: none where the output isn't free
-abbrev pub claimed : List Bool → ℕ → Option ℕ × List Bool
-claimed marks o = if is_free marks o then (Some o, slice_set marks o true) else (None, marks)
+abbrev pub crossbar_claim : List Bool → ℕ → Option ℕ × List Bool
+crossbar_claim marks o = if is_free marks o then (Some o, slice_set marks o true) else (None, marks)
 
 -- the marks after a claim of output o was given back
-abbrev pub released : List Bool → ℕ → List Bool
-released marks o = slice_set marks o false
+abbrev pub crossbar_release : List Bool → ℕ → List Bool
+crossbar_release marks o = slice_set marks o false
 
 -- 1 for true, 0 for false
-abbrev pub number : Bool → ℕ
-number true = 1
-number false = 0
+abbrev pub bool_number : Bool → ℕ
+bool_number true = 1
+bool_number false = 0
 
 -- how many of these claims are of output o
 abbrev pub times : ℕ → List ℕ → ℕ
 times o [] = 0
-times o (claim ∷ claims) = number (o == claim) + times o claims
+times o (claim ∷ claims) = bool_number (o == claim) + times o claims
 
 -- these claims and the free outputs are the 32 outputs, each once, and nothing else
 abbrev pub ArePartition : List ℕ → List Bool → Type 0
 ArePartition claims marks =
-    (o : ℕ) → times o claims + number (is_free marks o) ≡ number (nat_lt o LINKS)
+    (o : ℕ) → times o claims + bool_number (is_free marks o) ≡ bool_number (nat_lt o LINKS)
 
 -- the claim that was made, or none
-abbrev pub list_of : Option ℕ → List ℕ
-list_of None = []
-list_of (Some claim) = claim ∷ []
+abbrev pub claim_list : Option ℕ → List ℕ
+claim_list None = []
+claim_list (Some claim) = claim ∷ []
 
 -- whatever other claims there are, the outputs stay a partition where this claim, if any, was made
 abbrev pub ClaimKeepsPartition : List Bool → Option ℕ → List Bool → Type 0
 ClaimKeepsPartition marks claim after =
-    (claims : List ℕ) → ArePartition claims marks → ArePartition (list_of claim ++ claims) after
+    (claims : List ℕ) → ArePartition claims marks → ArePartition (claim_list claim ++ claims) after
 
 -- and where this claim was given back
 abbrev pub ReleaseKeepsPartition : List Bool → ℕ → List Bool → Type 0

@@ -1,5 +1,5 @@
 ghost use Rattle.std.specs.Prelude.{◌≡◌, ◌<◌, false, []};
-ghost use Rattle.c104_crossbar.specs.Marks.{ArePartition, ClaimKeepsPartition, ReleaseKeepsPartition, all_free, claimed, is_free, released};
+ghost use Rattle.c104_crossbar.specs.Marks.{ArePartition, ClaimKeepsPartition, ReleaseKeepsPartition, all_free, crossbar_claim, is_free, crossbar_release};
 
 use crate::LINKS;
 use std::marker::Model;
@@ -55,7 +55,7 @@ impl Crossbar {
     /// Claims an output. The answer is `None`, and nothing changes, where the output is taken
     /// or its number is 32 or more.
     pub fn claim(&mut self, output: usize) -> Option<Claim>
-        ensures claimed { (result, self.new) ≡ claimed self.old output }
+        ensures claimed { (result, self.new) ≡ crossbar_claim self.old output }
         ensures partition { ClaimKeepsPartition self.old result self.new }
     {
         if !self.free(output) {
@@ -71,7 +71,7 @@ impl Crossbar {
     /// it as taken, which it does where it made the claim.
     pub fn release(&mut self, claim: Claim)
         requires { is_free self.old claim ≡ false }
-        ensures released { self.new ≡ released self.old claim }
+        ensures released { self.new ≡ crossbar_release self.old claim }
         ensures partition { ReleaseKeepsPartition self.old claim self.new }
     {
         let Claim { output } = claim;

@@ -7,7 +7,7 @@ use Rattle.std.proofs.lemmas.List.Kept.{AllPairs-cons}
 use Rattle.std.proofs.lemmas.List.Quantifiers.{all_pairs_push}
 use Rattle.c104_describe.specs.TextWords.{is_name}
 use Rattle.std.specs.List.{list_any}
-use Rattle.c104_describe.specs.Plans.{Plan, PlanPort, PlanRow, Terminal, IsPlan, IsPort, IsRange, IsSelectable, names, is_taken, is_linked, is_continued, is_deleted, rows_of}
+use Rattle.c104_describe.specs.Plans.{Plan, PlanPort, PlanRow, Terminal, IsPlan, IsPort, IsRange, IsPlanSelect, names, is_taken, is_linked, is_continued, is_deleted, rows_of}
 use Rattle.c104_describe.proofs.PlanNames.{names-free, none_pass}
 
 All-inserted : {X : Type 0} (P : X → Type 0) (xs ys : List X) (x : X) → All P (xs ++ ys) → P x → All P ((xs ++ x ∷ []) ++ ys)
@@ -152,7 +152,7 @@ module _ (plan : Plan) (kept : IsPlan plan) where
       let test : PlanRow → Bool = λ (q : PlanRow). q.switch == switch && q.link == link in
       rw (filter-append test plan.rows (r ∷ [])) (few-row_by r switch link (test r) refl room)
 
-  pub with_row : (r : PlanRow) → r.switch < length plan.switches → r.link < 32 → r.limit ≤ 65536 → IsSelectable r.select → length (rows_of plan r.switch r.link) < 36 → IsPlan (record plan { rows = plan.rows ++ r ∷ [] })
+  pub with_row : (r : PlanRow) → r.switch < length plan.switches → r.link < 32 → r.limit ≤ 65536 → IsPlanSelect r.select → length (rows_of plan r.switch r.link) < 36 → IsPlan (record plan { rows = plan.rows ++ r ∷ [] })
   with_row r on_switch is_link limit selectable room = record {
     few_switches = kept.few_switches;
     few_terminals = kept.few_terminals;
@@ -167,5 +167,5 @@ module _ (plan : Plan) (kept : IsPlan plan) where
     deletes_are = kept.deletes_are;
     deletes_differ = kept.deletes_differ;
     inputs = All-push (λ (q : PlanRow). IsPort plan q.switch q.link) plan.rows r kept.inputs (on_switch, is_link);
-    rows_are = All-push (λ (q : PlanRow). (q.limit ≤ 65536) × IsSelectable q.select) plan.rows r kept.rows_are (limit, selectable);
+    rows_are = All-push (λ (q : PlanRow). (q.limit ≤ 65536) × IsPlanSelect q.select) plan.rows r kept.rows_are (limit, selectable);
   }

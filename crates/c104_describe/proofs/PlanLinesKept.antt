@@ -12,13 +12,13 @@ use Rattle.c104_describe.specs.declared.text.Dots.TheVariants.{Without, At, Seve
 use Rattle.c104_describe.specs.declared.words.Keyword.{Keyword}
 use Rattle.c104_describe.specs.declared.words.Keyword.TheVariants as keyword
 use Rattle.c104_describe.specs.declared.faults.PlanFaultKind.TheVariants.{BadName, BadNumber, BadShape, LinkTaken, NameTaken, TooMany, Twice, UnknownName, UnknownWord}
-use Rattle.c104_describe.specs.TextCut.{plain, uncommented, words}
-use Rattle.c104_describe.specs.TextWords.{number, is_name, dots}
+use Rattle.c104_describe.specs.TextCut.{is_plain_line, uncommented_line, line_words}
+use Rattle.c104_describe.specs.TextWords.{read_number, is_name, dots}
 use Rattle.c104_describe.specs.PlanFaults.{PlanFault, PlanFaultKind}
-use Rattle.c104_describe.specs.Plans.{Plan, PlanPort, PlanRow, Terminal, IsPlan, IsSelectable, switch_number, terminal_number, is_taken, is_linked, is_continued, is_deleted, rows_of, most_switches, most_terminals, label_count, last_link}
-use Rattle.c104_describe.specs.Checks.{◌>>=◌, ◌>>◌, require, wanted}
-use Rattle.c104_describe.specs.PlanLines.{number_to, select_word, port_at, port_word, switch_line, terminal_line, continue_line, delete_line, row_line, keyword_of, keyword_line, words_line, read_line}
-use Rattle.c104_describe.specs.PlanText.{after, empty_plan, read_lines}
+use Rattle.c104_describe.specs.Plans.{Plan, PlanPort, PlanRow, Terminal, IsPlan, IsPlanSelect, switch_number, terminal_number, is_taken, is_linked, is_continued, is_deleted, rows_of, most_switches, most_terminals, label_count, last_link}
+use Rattle.c104_describe.specs.Checks.{◌>>=◌, ◌>>◌, require, value_or_fault}
+use Rattle.c104_describe.specs.PlanLines.{number_to, select_word, port_of_dots, port_word, switch_line, terminal_line, continue_line, delete_line, row_line, keyword_of, keyword_line, read_plan_words, read_plan_line}
+use Rattle.c104_describe.specs.PlanText.{plan_after_line, empty_plan, read_plan_lines}
 use Rattle.c104_describe.proofs.PlanKept.{with_switch, with_terminal, with_continue, with_delete, with_row}
 
 -- what was read, where all was
@@ -30,7 +30,7 @@ held : {Y : Type 0} (b : Bool) (kind : PlanFaultKind) (r : Result Y PlanFaultKin
 held true kind r y P is go = go refl is
 held false kind r y P is go = cc
 
-found : {X : Type 0} (o : Option X) (kind : PlanFaultKind) (x : X) → wanted o kind ≡ Ok x → o ≡ Some x
+found : {X : Type 0} (o : Option X) (kind : PlanFaultKind) (x : X) → value_or_fault o kind ≡ Ok x → o ≡ Some x
 found (Some y) kind x is = cc
 found None kind x is = cc
 
@@ -40,11 +40,11 @@ both-first false b is = is
 
 number_to-le : (most : ℕ) (word : List ℕ) (value : ℕ) → number_to most word ≡ Ok value → value ≤ most
 number_to-le most word value is =
-    given (wanted (number word) BadNumber) _ value (value ≤ most) is (λ v was is1.
+    given (value_or_fault (read_number word) BadNumber) _ value (value ≤ most) is (λ v was is1.
     held (nat_le v most) BadNumber _ value (value ≤ most) is1 (λ low is2.
     let same : v ≡ value = cc in grind (arith, nat_tests)))
 
-port_at-small : (word : List ℕ) (place : Dots) (port : List ℕ × ℕ) → port_at word place ≡ Ok port → port.1 < 32
+port_at-small : (word : List ℕ) (place : Dots) (port : List ℕ × ℕ) → port_of_dots word place ≡ Ok port → port.1 < 32
 port_at-small word Without port is = cc
 port_at-small word Several port is = cc
 port_at-small word (At at) port is =
@@ -54,16 +54,16 @@ port_at-small word (At at) port is =
     let IsSmall : List ℕ × ℕ → Type 0 = λ p. p.1 < 32 in
     subst IsSmall made (omega arith))
 
-select_word-is : (word : List ℕ) (select : Select) → select_word word ≡ Ok select → IsSelectable select
+select_word-is : (word : List ℕ) (select : Select) → select_word word ≡ Ok select → IsPlanSelect select
 select_word-is word select is = by_test (bytes_eq word (codes "sink")) is
   where
-    by_test : (b : Bool) → (if b then Ok Sink else (number_to last_link word >>= λ link. Ok (Link link))) ≡ Ok select → IsSelectable select
-    by_test true here = let made : Sink ≡ select = cc in subst IsSelectable made tt
+    by_test : (b : Bool) → (if b then Ok Sink else (number_to last_link word >>= λ link. Ok (Link link))) ≡ Ok select → IsPlanSelect select
+    by_test true here = let made : Sink ≡ select = cc in subst IsPlanSelect made tt
     by_test false here =
-        given (number_to last_link word) _ select (IsSelectable select) here (λ link was here1.
+        given (number_to last_link word) _ select (IsPlanSelect select) here (λ link was here1.
         let low : link ≤ last_link = number_to-le last_link word link was in
         let made : Link link ≡ select = cc in
-        subst IsSelectable made (omega arith))
+        subst IsPlanSelect made (omega arith))
 
 switch_number-inside : (plan : Plan) (name : List ℕ) (switch : ℕ) → switch_number plan name ≡ Some switch → switch < length plan.switches
 unfolding switch_number
@@ -90,7 +90,7 @@ module _ (plan next : Plan) (kept : IsPlan plan) where
       given (port_word word) _ next (IsPlan next) is (λ port was is1.
       held (is_name name && is_name port.0) BadName _ next (IsPlan next) is1 (λ named is2.
       held (not (is_taken plan name)) NameTaken _ next (IsPlan next) is2 (λ free is3.
-      given (wanted (switch_number plan port.0) UnknownName) _ next (IsPlan next) is3 (λ switch known is4.
+      given (value_or_fault (switch_number plan port.0) UnknownName) _ next (IsPlan next) is3 (λ switch known is4.
       held (not (is_linked plan switch port.1)) LinkTaken _ next (IsPlan next) is4 (λ unlinked is5.
       held (nat_lt (length plan.terminals) most_terminals) TooMany _ next (IsPlan next) is5 (λ room is6.
       let t : Terminal = record { name = name; switch = switch; link = port.1; first = length plan.terminals; count = 1 } in
@@ -102,7 +102,7 @@ module _ (plan next : Plan) (kept : IsPlan plan) where
       given (port_word word) _ next (IsPlan next) is (λ port was is1.
       held (not (port.1 == 0)) BadNumber _ next (IsPlan next) is1 (λ above is2.
       held (is_name port.0) BadName _ next (IsPlan next) is2 (λ named is3.
-      given (wanted (switch_number plan port.0) UnknownName) _ next (IsPlan next) is3 (λ switch known is4.
+      given (value_or_fault (switch_number plan port.0) UnknownName) _ next (IsPlan next) is3 (λ switch known is4.
       held (not (is_continued plan switch port.1)) Twice _ next (IsPlan next) is4 (λ once is5.
       let p : PlanPort = record { switch = switch; link = port.1 } in
       let made : record plan { continues = plan.continues ++ p ∷ [] } ≡ next = cc in
@@ -111,7 +111,7 @@ module _ (plan next : Plan) (kept : IsPlan plan) where
   delete_line-kept : (name : List ℕ) → delete_line plan name ≡ Ok next → IsPlan next
   delete_line-kept name is =
       held (is_name name) BadName _ next (IsPlan next) is (λ named is1.
-      given (wanted (terminal_number plan name) UnknownName) _ next (IsPlan next) is1 (λ terminal known is2.
+      given (value_or_fault (terminal_number plan name) UnknownName) _ next (IsPlan next) is1 (λ terminal known is2.
       held (not (is_deleted plan terminal)) Twice _ next (IsPlan next) is2 (λ once is3.
       let made : record plan { deletes = plan.deletes ++ terminal ∷ [] } ≡ next = cc in
       subst IsPlan made (with_delete plan kept terminal (terminal_number-inside plan name terminal (found _ UnknownName terminal known)) (not-true _ once)))))
@@ -122,7 +122,7 @@ module _ (plan next : Plan) (kept : IsPlan plan) where
       given (number_to label_count most) _ next (IsPlan next) is1 (λ limit numbered is2.
       given (select_word selected) _ next (IsPlan next) is2 (λ select selects is3.
       held (is_name port.0) BadName _ next (IsPlan next) is3 (λ named is4.
-      given (wanted (switch_number plan port.0) UnknownName) _ next (IsPlan next) is4 (λ switch known is5.
+      given (value_or_fault (switch_number plan port.0) UnknownName) _ next (IsPlan next) is4 (λ switch known is5.
       held (nat_lt (length (rows_of plan switch port.1)) ROWS) TooMany _ next (IsPlan next) is5 (λ room is6.
       let r : PlanRow = record { switch = switch; link = port.1; limit = limit; select = select } in
       let made : record plan { rows = plan.rows ++ r ∷ [] } ≡ next = cc in
@@ -148,24 +148,24 @@ module _ (plan next : Plan) (kept : IsPlan plan) where
   keyword_line-kept keyword.Row (port ∷ limit ∷ select ∷ []) is = row_line-kept port limit select is
   keyword_line-kept keyword.Row (a ∷ b ∷ c ∷ d ∷ more) is = cc
 
-  words_line-kept : (is_plain : Bool) (list : List (List ℕ)) → words_line plan is_plain list ≡ Ok next → IsPlan next
+  words_line-kept : (is_plain : Bool) (list : List (List ℕ)) → read_plan_words plan is_plain list ≡ Ok next → IsPlan next
   words_line-kept is_plain [] is = let made : plan ≡ next = cc in subst IsPlan made kept
   words_line-kept is_plain (first ∷ rest) is =
-      given (wanted (keyword_of first) UnknownWord) _ next (IsPlan next) is (λ k known is1.
+      given (value_or_fault (keyword_of first) UnknownWord) _ next (IsPlan next) is (λ k known is1.
       held is_plain BadShape _ next (IsPlan next) is1 (λ shaped is2. keyword_line-kept k rest is2))
 
-  read_line-kept : (line : List ℕ) → read_line plan line ≡ Ok next → IsPlan next
-  read_line-kept line is = words_line-kept (plain (uncommented line)) (words (uncommented line)) is
+  read_line-kept : (line : List ℕ) → read_plan_line plan line ≡ Ok next → IsPlan next
+  read_line-kept line is = words_line-kept (is_plain_line (uncommented_line line)) (line_words (uncommented_line line)) is
 
 -- after one line, where the same holds of the rest
-after-kept : (n : ℕ) (said : Result Plan PlanFaultKind) (rest : Plan → Result Plan PlanFault) (last : Plan) → after n said rest ≡ Ok last → ((next : Plan) → said ≡ Ok next → rest next ≡ Ok last → IsPlan last) → IsPlan last
+after-kept : (n : ℕ) (said : Result Plan PlanFaultKind) (rest : Plan → Result Plan PlanFault) (last : Plan) → plan_after_line n said rest ≡ Ok last → ((next : Plan) → said ≡ Ok next → rest next ≡ Ok last → IsPlan last) → IsPlan last
 after-kept n (Ok next) rest last is go = go next refl is
 after-kept n (Err kind) rest last is go = cc
 
-pub read_lines-kept : (n : ℕ) (list : List (List ℕ)) (plan last : Plan) → IsPlan plan → read_lines n list plan ≡ Ok last → IsPlan last
+pub read_lines-kept : (n : ℕ) (list : List (List ℕ)) (plan last : Plan) → IsPlan plan → read_plan_lines n list plan ≡ Ok last → IsPlan last
 read_lines-kept n [] plan last kept is = let made : plan ≡ last = cc in subst IsPlan made kept
 read_lines-kept n (line ∷ more) plan last kept is =
-    after-kept n (read_line plan line) (λ next. read_lines (n + 1) more next) last is (λ next said rest. read_lines-kept (n + 1) more next last (read_line-kept plan next kept line said) rest)
+    after-kept n (read_plan_line plan line) (λ next. read_plan_lines (n + 1) more next) last is (λ next said rest. read_lines-kept (n + 1) more next last (read_line-kept plan next kept line said) rest)
 
 pub empty-kept : IsPlan empty_plan
 unfolding rows_of

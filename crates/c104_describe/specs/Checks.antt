@@ -19,6 +19,6 @@ require true fault = Ok true
 require false fault = Err fault
 
 -- a value, and the fault where there is none
-abbrev pub wanted : {X Fault : Type 0} → Option X → Fault → Result X Fault
-wanted (Some x) fault = Ok x
-wanted None fault = Err fault
+abbrev pub value_or_fault : {X Fault : Type 0} → Option X → Fault → Result X Fault
+value_or_fault (Some x) fault = Ok x
+value_or_fault None fault = Err fault

@@ -5,36 +5,36 @@ pub use Rattle.c104_describe.specs.declared.faults.PlanFaultKind.{PlanFaultKind}
 use Rattle.c104_describe.specs.declared.faults.PlanFaultKind.TheVariants as kind
 
 -- the number that is printed
-abbrev pub kind_number : PlanFaultKind → ℕ
-kind_number kind.TooLong = 1
-kind_number kind.UnknownWord = 2
-kind_number kind.BadShape = 3
-kind_number kind.BadNumber = 4
-kind_number kind.BadName = 5
-kind_number kind.NameTaken = 6
-kind_number kind.UnknownName = 7
-kind_number kind.SelfWire = 8
-kind_number kind.LinkTaken = 9
-kind_number kind.TooMany = 10
-kind_number kind.Twice = 11
-kind_number kind.MixedStyle = 12
-kind_number kind.NoMemory = 13
+abbrev pub plan_fault_number : PlanFaultKind → ℕ
+plan_fault_number kind.TooLong = 1
+plan_fault_number kind.UnknownWord = 2
+plan_fault_number kind.BadShape = 3
+plan_fault_number kind.BadNumber = 4
+plan_fault_number kind.BadName = 5
+plan_fault_number kind.NameTaken = 6
+plan_fault_number kind.UnknownName = 7
+plan_fault_number kind.SelfWire = 8
+plan_fault_number kind.LinkTaken = 9
+plan_fault_number kind.TooMany = 10
+plan_fault_number kind.Twice = 11
+plan_fault_number kind.MixedStyle = 12
+plan_fault_number kind.NoMemory = 13
 
 -- the name that is printed
-abbrev pub kind_name : PlanFaultKind → List ℕ
-kind_name kind.TooLong = codes "TooLong"
-kind_name kind.UnknownWord = codes "UnknownWord"
-kind_name kind.BadShape = codes "BadShape"
-kind_name kind.BadNumber = codes "BadNumber"
-kind_name kind.BadName = codes "BadName"
-kind_name kind.NameTaken = codes "NameTaken"
-kind_name kind.UnknownName = codes "UnknownName"
-kind_name kind.SelfWire = codes "SelfWire"
-kind_name kind.LinkTaken = codes "LinkTaken"
-kind_name kind.TooMany = codes "TooMany"
-kind_name kind.Twice = codes "Twice"
-kind_name kind.MixedStyle = codes "MixedStyle"
-kind_name kind.NoMemory = codes "NoMemory"
+abbrev pub plan_fault_name : PlanFaultKind → List ℕ
+plan_fault_name kind.TooLong = codes "TooLong"
+plan_fault_name kind.UnknownWord = codes "UnknownWord"
+plan_fault_name kind.BadShape = codes "BadShape"
+plan_fault_name kind.BadNumber = codes "BadNumber"
+plan_fault_name kind.BadName = codes "BadName"
+plan_fault_name kind.NameTaken = codes "NameTaken"
+plan_fault_name kind.UnknownName = codes "UnknownName"
+plan_fault_name kind.SelfWire = codes "SelfWire"
+plan_fault_name kind.LinkTaken = codes "LinkTaken"
+plan_fault_name kind.TooMany = codes "TooMany"
+plan_fault_name kind.Twice = codes "Twice"
+plan_fault_name kind.MixedStyle = codes "MixedStyle"
+plan_fault_name kind.NoMemory = codes "NoMemory"
 
 -- out of memory, at whatever line
 abbrev pub no_memory : PlanFault

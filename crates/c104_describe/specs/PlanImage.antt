@@ -22,12 +22,12 @@ abbrev pub table_row : PlanRow → Row
 table_row row = record { limit = row.limit; select = row.select }
 
 -- rows, and then reset ones up to as many as a table has
-abbrev pub filled : List Row → List Row
-filled rows = rows ++ replicate (ROWS - length rows) reset_row
+abbrev pub padded_rows : List Row → List Row
+padded_rows rows = rows ++ replicate (ROWS - length rows) reset_row
 
 -- the table of an input: base 0, its rows in order, and all other rows as after a reset
 unfoldable pub table_of : Plan → ℕ → ℕ → Table
-table_of plan switch link = record { base = 0; rows = filled (map table_row (rows_of plan switch link)) }
+table_of plan switch link = record { base = 0; rows = padded_rows (map table_row (rows_of plan switch link)) }
 
 -- what is set at a link: the table of its rows; headers are deleted where a terminal of the deletes is on
 -- it; it continues a group where it is among the continues; and all else is as after a reset

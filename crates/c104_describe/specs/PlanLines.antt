@@ -10,16 +10,16 @@ use Rattle.c104_describe.specs.declared.text.Dots.TheVariants.{Without, At, Seve
 use Rattle.c104_describe.specs.declared.words.Keyword.{Keyword}
 use Rattle.c104_describe.specs.declared.words.Keyword.TheVariants as keyword
 use Rattle.c104_describe.specs.declared.faults.PlanFaultKind.TheVariants.{BadName, BadNumber, BadShape, LinkTaken, NameTaken, TooMany, Twice, UnknownName, UnknownWord}
-use Rattle.c104_describe.specs.Checks.{◌>>=◌, ◌>>◌, require, wanted}
-use Rattle.c104_describe.specs.TextCut.{uncommented, words, plain}
-use Rattle.c104_describe.specs.TextWords.{number, is_name, dots}
+use Rattle.c104_describe.specs.Checks.{◌>>=◌, ◌>>◌, require, value_or_fault}
+use Rattle.c104_describe.specs.TextCut.{uncommented_line, line_words, is_plain_line}
+use Rattle.c104_describe.specs.TextWords.{read_number, is_name, dots}
 use Rattle.c104_describe.specs.PlanFaults.{PlanFaultKind}
 use Rattle.c104_describe.specs.Plans.{Plan, switch_number, terminal_number, is_taken, is_linked, is_continued, is_deleted, rows_of, most_switches, most_terminals, label_count, last_link}
 
 -- a number that is at most so much
 abbrev pub number_to : ℕ → List ℕ → Result ℕ PlanFaultKind
 number_to most word = do
-  value ← wanted (number word) BadNumber
+  value ← value_or_fault (read_number word) BadNumber
   require (nat_le value most) BadNumber
   Ok value
 
@@ -32,16 +32,16 @@ select_word word =
       Ok (Link link))
 
 -- the two sides of a port's dot, by where it is
-abbrev pub port_at : List ℕ → Dots → Result (List ℕ × ℕ) PlanFaultKind
-port_at word Without = Err BadShape
-port_at word Several = Err BadShape
-port_at word (At at) = do
+abbrev pub port_of_dots : List ℕ → Dots → Result (List ℕ × ℕ) PlanFaultKind
+port_of_dots word Without = Err BadShape
+port_of_dots word Several = Err BadShape
+port_of_dots word (At at) = do
   link ← number_to last_link (drop (at + 1) word)
   Ok (take at word, link)
 
 -- a port, `NAME.NUMBER`: what stands for the name, which may be none, and the link
 abbrev pub port_word : List ℕ → Result (List ℕ × ℕ) PlanFaultKind
-port_word word = port_at word (dots word)
+port_word word = port_of_dots word (dots word)
 
 -- `switch N`
 abbrev pub switch_line : Plan → List ℕ → Result Plan PlanFaultKind
@@ -57,7 +57,7 @@ terminal_line plan name word = do
   port ← port_word word
   require (is_name name && is_name port.0) BadName
   require (not (is_taken plan name)) NameTaken
-  switch ← wanted (switch_number plan port.0) UnknownName
+  switch ← value_or_fault (switch_number plan port.0) UnknownName
   require (not (is_linked plan switch port.1)) LinkTaken
   require (nat_lt (length plan.terminals) most_terminals) TooMany
   Ok (record plan {
@@ -76,7 +76,7 @@ continue_line plan word = do
   port ← port_word word
   require (not (port.1 == 0)) BadNumber
   require (is_name port.0) BadName
-  switch ← wanted (switch_number plan port.0) UnknownName
+  switch ← value_or_fault (switch_number plan port.0) UnknownName
   require (not (is_continued plan switch port.1)) Twice
   Ok (record plan { continues = plan.continues ++ record { switch = switch; link = port.1 } ∷ [] })
 
@@ -84,7 +84,7 @@ continue_line plan word = do
 abbrev pub delete_line : Plan → List ℕ → Result Plan PlanFaultKind
 delete_line plan name = do
   require (is_name name) BadName
-  terminal ← wanted (terminal_number plan name) UnknownName
+  terminal ← value_or_fault (terminal_number plan name) UnknownName
   require (not (is_deleted plan terminal)) Twice
   Ok (record plan { deletes = plan.deletes ++ terminal ∷ [] })
 
@@ -95,7 +95,7 @@ row_line plan word limit select = do
   limit ← number_to label_count limit
   select ← select_word select
   require (is_name port.0) BadName
-  switch ← wanted (switch_number plan port.0) UnknownName
+  switch ← value_or_fault (switch_number plan port.0) UnknownName
   require (nat_lt (length (rows_of plan switch port.1)) ROWS) TooMany
   Ok (record plan {
     rows = plan.rows ++ record {
@@ -126,13 +126,13 @@ keyword_line keyword.Row plan (port ∷ limit ∷ select ∷ []) = row_line plan
 keyword_line keyword plan rest = Err BadShape
 
 -- a line, by its words; is_plain says that it has no byte that no line may have
-abbrev pub words_line : Plan → Bool → List (List ℕ) → Result Plan PlanFaultKind
-words_line plan is_plain [] = Ok plan
-words_line plan is_plain (first ∷ rest) = do
-  keyword ← wanted (keyword_of first) UnknownWord
+abbrev pub read_plan_words : Plan → Bool → List (List ℕ) → Result Plan PlanFaultKind
+read_plan_words plan is_plain [] = Ok plan
+read_plan_words plan is_plain (first ∷ rest) = do
+  keyword ← value_or_fault (keyword_of first) UnknownWord
   require is_plain BadShape
   keyword_line keyword plan rest
 
 -- the plan after a line, or what is wrong with it
-abbrev pub read_line : Plan → List ℕ → Result Plan PlanFaultKind
-read_line plan line = words_line plan (plain (uncommented line)) (words (uncommented line))
+abbrev pub read_plan_line : Plan → List ℕ → Result Plan PlanFaultKind
+read_plan_line plan line = read_plan_words plan (is_plain_line (uncommented_line line)) (line_words (uncommented_line line))

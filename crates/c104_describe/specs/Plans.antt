@@ -82,10 +82,10 @@ abbrev pub last_link : ℕ
 last_link = LINKS - 1
 
 -- a row may select a link of the switch, or the sink
-abbrev pub IsSelectable : Select → Type 0
-IsSelectable (Link link) = link < LINKS
-IsSelectable Discard = ⊥
-IsSelectable Sink = Unit {0}
+abbrev pub IsPlanSelect : Select → Type 0
+IsPlanSelect (Link link) = link < LINKS
+IsPlanSelect Discard = ⊥
+IsPlanSelect Sink = Unit {0}
 
 -- a switch of the plan, and one of its links
 abbrev pub IsPort : Plan → ℕ → ℕ → Type 0
@@ -110,4 +110,4 @@ pub record IsPlan (plan : Plan) : Type 0 where
   pub deletes_are : All (λ terminal. terminal < length plan.terminals) plan.deletes
   pub deletes_differ : AllPairs (λ (t u : ℕ). t ≢ u) plan.deletes
   pub inputs : All (λ (r : PlanRow). IsPort plan r.switch r.link) plan.rows
-  pub rows_are : All (λ (r : PlanRow). (r.limit ≤ label_count) × IsSelectable r.select) plan.rows
+  pub rows_are : All (λ (r : PlanRow). (r.limit ≤ label_count) × IsPlanSelect r.select) plan.rows

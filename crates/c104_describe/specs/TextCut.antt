@@ -7,17 +7,17 @@ abbrev pub lines : List ℕ → List (List ℕ)
 lines text = slice_split (λ byte. byte == 0x0a) text
 
 -- what stands before the first `#` (0x23), or all where there is none
-abbrev pub uncommented : List ℕ → List ℕ
-uncommented line = before_first (λ byte. byte == 0x23) line
+abbrev pub uncommented_line : List ℕ → List ℕ
+uncommented_line line = before_first (λ byte. byte == 0x23) line
 
 -- whether a byte parts words: space (0x20), tab (0x09), carriage return (0x0d)
 abbrev pub parts_words : ℕ → Bool
 parts_words byte = byte == 0x20 || (byte == 0x09 || byte == 0x0d)
 
 -- the words of a line: the pieces between bytes that part words, but for the empty ones
-abbrev pub words : List ℕ → List (List ℕ)
-words line = filter (λ piece. not (length piece == 0)) (slice_split parts_words line)
+abbrev pub line_words : List ℕ → List (List ℕ)
+line_words line = filter (λ piece. not (length piece == 0)) (slice_split parts_words line)
 
 -- whether each byte is a printable one of ASCII or parts words
-abbrev pub plain : List ℕ → Bool
-plain line = list_all (λ byte. (nat_le 0x20 byte && nat_le byte 0x7e) || parts_words byte) line
+abbrev pub is_plain_line : List ℕ → Bool
+is_plain_line line = list_all (λ byte. (nat_le 0x20 byte && nat_le byte 0x7e) || parts_words byte) line

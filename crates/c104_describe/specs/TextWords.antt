@@ -21,8 +21,8 @@ abbrev pub value_of : List ℕ → ℕ
 value_of digits = fold (λ value digit. 10 * value + (digit - 0x30)) 0 digits
 
 -- the value of a number: decimal digits, at least one
-abbrev pub number : List ℕ → Option ℕ
-number word =
+abbrev pub read_number : List ℕ → Option ℕ
+read_number word =
     if (nat_le 1 (length word) && nat_le (length word) most_digits) && list_all is_digit word
     then Some (value_of word)
     else None

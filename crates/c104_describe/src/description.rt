@@ -3,8 +3,8 @@ ghost use Rattle.std.specs.Prelude.{◌≡◌, ◌<◌, ◌⊎◌, length, map, 
 ghost use Rattle.c104_describe.specs.declared.faults.PlanFaultKind.TheVariants.{TooLong};
 ghost use Rattle.c104_describe.specs.PlanFaults.{fault_at, no_memory};
 ghost use Rattle.c104_describe.specs.PlanLists.{plan_of};
-ghost use Rattle.c104_describe.specs.PlanText.{described, empty_plan, most_bytes, read_lines};
-ghost use Rattle.c104_describe.specs.PlanText.{GivesLists, GivesOrNoMemory, IsDue};
+ghost use Rattle.c104_describe.specs.PlanText.{read_description, empty_plan, most_bytes, read_plan_lines};
+ghost use Rattle.c104_describe.specs.PlanText.{GivesListsOrNoMemory, GivesPlanOrNoMemory, IsDue};
 ghost use Rattle.c104_describe.specs.Plans.{IsPlan};
 
 use crate::faults::{PlanFault, PlanFaultKind};
@@ -24,7 +24,7 @@ pub const MAX_DESCRIPTION: usize = 1_048_576;
 /// TooLong at line 0 where the text has more than 1 MiB, whatever its lines say; else the first
 /// faulty line, with the least of its faults; or NoMemory at line 0 when out of memory.
 pub fn read_description(alloc: Global, text: &[u8]) -> Result<Plan, PlanFault>
-    ensures described { GivesOrNoMemory result (described text.now) }
+    ensures described { GivesPlanOrNoMemory result (read_description text.now) }
     ensures too_long { most_bytes < length text.now → result ≡ Err (fault_at 0 TooLong) }
     ensures kept { IfOk result IsPlan }
 
@@ -41,7 +41,8 @@ pub fn read_description(alloc: Global, text: &[u8]) -> Result<Plan, PlanFault>
 
 /// Reads the lines of a description, the first of which is line 1.
 fn read_lines(alloc: Global, lines: &[&[u8]]) -> Result<Lists, PlanFault>
-    ensures { GivesLists result (read_lines 1 (map (λ line. line.now) lines.now) empty_plan) }
+    ensures { GivesListsOrNoMemory result
+        (read_plan_lines 1 (map (λ line. line.now) lines.now) empty_plan) }
 {
     let mut lists = Lists::new(alloc);
     for (index, line) in lines.iter().enumerate() {

@@ -1,6 +1,6 @@
 //! Why a description is refused.
 ghost use Rattle.std.specs.Prelude.{◌≡◌};
-ghost use Rattle.c104_describe.specs.PlanFaults.{kind_name, kind_number};
+ghost use Rattle.c104_describe.specs.PlanFaults.{plan_fault_name, plan_fault_number};
 ghost use Rattle.c104_describe.specs.declared.faults.PlanFaultKind.TheVariants as kind;
 
 use std::alloc::AllocError;
@@ -55,14 +55,14 @@ pub enum PlanFaultKind {
 impl PlanFaultKind {
     /// The fault's number, 1 to 13.
     pub fn number(self) -> u8
-        ensures { result ≡ kind_number self }
+        ensures { result ≡ plan_fault_number self }
     {
         self as u8
     }
 
     /// The fault's name, as it is printed.
     pub fn name(self) -> &'static str
-        ensures { result.now ≡ kind_name self }
+        ensures { result.now ≡ plan_fault_name self }
     {
         match self {
             PlanFaultKind::TooLong => "TooLong",

@@ -1,6 +1,6 @@
 //! Descriptions, line by line.
 ghost use Rattle.std.specs.Prelude.{◌≡◌, [], ◌∷◌, ◌++◌, map, OnOk};
-ghost use Rattle.c104_describe.specs.PlanLines.{read_line, words_line};
+ghost use Rattle.c104_describe.specs.PlanLines.{read_plan_line, read_plan_words};
 ghost use Rattle.c104_describe.specs.PlanLines.{continue_line, delete_line, row_line, switch_line, terminal_line};
 ghost use Rattle.c104_describe.specs.PlanLists.{plan_of};
 ghost use Rattle.c104_describe.specs.PlanText.{ReadsLine};
@@ -23,7 +23,7 @@ const MAX_LIMIT: u32 = 0x10000;
 
 /// Reads a line after those before it.
 pub(crate) fn read_line(alloc: Global, lists: &mut Lists, line: &[u8]) -> Result<(), PlanFaultKind>
-    ensures { ReadsLine result (plan_of lists.new) (read_line (plan_of lists.old) line.now) }
+    ensures { ReadsLine result (plan_of lists.new) (read_plan_line (plan_of lists.old) line.now) }
 {
     let line = uncommented(line);
     let words = cut_words(alloc, line)?;
@@ -38,7 +38,7 @@ fn read_words(
     words: &[&[u8]],
 ) -> Result<(), PlanFaultKind>
     ensures { ReadsLine result (plan_of lists.new)
-        (words_line (plan_of lists.old) is_plain (map (λ word. word.now) words.now)) }
+        (read_plan_words (plan_of lists.old) is_plain (map (λ word. word.now) words.now)) }
 {
     let [first, rest @ ..] = words else {
         return Ok(());

@@ -1,8 +1,8 @@
 //! The words of a text: how it is cut into lines and words, and what a number and a name are.
 ghost use Rattle.std.specs.Prelude.{◌≡◌, ◌^◌, ◌<◌, ◌==◌, length, map, position, IfOk, IfSome};
 ghost use Rattle.std.specs.List.{list_all};
-ghost use Rattle.c104_describe.specs.TextCut.{lines, uncommented, words, plain};
-ghost use Rattle.c104_describe.specs.TextWords.{number, most_digits, is_name, is_name_byte, dots, IsInside};
+ghost use Rattle.c104_describe.specs.TextCut.{lines, uncommented_line, line_words, is_plain_line};
+ghost use Rattle.c104_describe.specs.TextWords.{read_number, most_digits, is_name, is_name_byte, dots, IsInside};
 
 use std::alloc::{AllocError, Global};
 
@@ -33,7 +33,7 @@ pub fn cut_lines<'a>(alloc: Global, text: &'a [u8]) -> Result<Vec<&'a [u8]>, All
 
 /// A line without its comment, which begins at the first `#`.
 pub fn uncommented(line: &[u8]) -> &[u8]
-    ensures { result.now ≡ uncommented line.now }
+    ensures { result.now ≡ uncommented_line line.now }
 {
     match place_of(b'#', line) {
         Some(at) => &line[..at],
@@ -43,7 +43,7 @@ pub fn uncommented(line: &[u8]) -> &[u8]
 
 /// The words of a line, which spaces, tabs and carriage returns part. The only error is out of memory.
 pub fn cut_words<'a>(alloc: Global, line: &'a [u8]) -> Result<Vec<&'a [u8]>, AllocError>
-    ensures { IfOk result (λ list. map (λ word. word.now) list.items ≡ words line.now) }
+    ensures { IfOk result (λ list. map (λ word. word.now) list.items ≡ line_words line.now) }
 {
     line.split(|byte| *byte == b' ' || *byte == b'\t' || *byte == b'\r')
         .filter(|word| !word.is_empty())
@@ -52,7 +52,7 @@ pub fn cut_words<'a>(alloc: Global, line: &'a [u8]) -> Result<Vec<&'a [u8]>, All
 
 /// Whether each byte is a printable one of ASCII, 32 to 126, or parts words.
 pub fn is_plain(line: &[u8]) -> bool
-    ensures { result ≡ plain line.now }
+    ensures { result ≡ is_plain_line line.now }
 {
     line.iter()
         .all(|byte| matches!(*byte, b' '..=b'~' | b'\t' | b'\r'))
@@ -60,7 +60,7 @@ pub fn is_plain(line: &[u8]) -> bool
 
 /// The value of a number, 1 to 7 decimal digits. None for every other word.
 pub fn read_number(word: &[u8]) -> Option<u32>
-    ensures value { result ≡ number word.now }
+    ensures value { result ≡ read_number word.now }
     ensures range { IfSome result (λ value. value < 10 ^ most_digits) }
 {
     if word.is_empty() || word.len() > MAX_DIGITS {

@@ -34,22 +34,22 @@ pub record IsWithinLimits {A : Type 0} (q : Outgoing A) : Type 0 where
   pub credit : q.credit ≤ CREDIT_LIMIT
 
 -- a new input buffer: no tokens, and none granted
-abbrev pub empty_in : {A : Type 0} → ℕ → Incoming A
-empty_in n = record { cap = n; items = []; granted = 0 }
+abbrev pub empty_incoming : {A : Type 0} → ℕ → Incoming A
+empty_incoming n = record { cap = n; items = []; granted = 0 }
 
 -- a new output buffer: no tokens, and no credit
-abbrev pub empty_out : {A : Type 0} → Outgoing A
-empty_out = record { items = []; credit = 0 }
+abbrev pub empty_outgoing : {A : Type 0} → Outgoing A
+empty_outgoing = record { items = []; credit = 0 }
 
 -- eight more tokens are granted, where there is room for all that would then be granted
-abbrev pub grant : {A : Type 0} → Incoming A → Option (Incoming A)
-grant b = do
+abbrev pub incoming_grant : {A : Type 0} → Incoming A → Option (Incoming A)
+incoming_grant b = do
   require (nat_le (length b.items + b.granted + TOKENS_OF_A_GRANT) b.cap)
   Some (record { cap = b.cap; items = b.items; granted = b.granted + TOKENS_OF_A_GRANT })
 
 -- a token comes in, where one is granted
-abbrev pub enter : {A : Type 0} → A → Incoming A → Option (Incoming A)
-enter x b = do
+abbrev pub incoming_accept : {A : Type 0} → A → Incoming A → Option (Incoming A)
+incoming_accept x b = do
   require (nat_lt 0 b.granted)
   Some (record { cap = b.cap; items = b.items ++ x ∷ []; granted = b.granted - 1 })
 
@@ -58,40 +58,40 @@ abbrev pub without_first : {A : Type 0} → Incoming A → Incoming A
 without_first b = record { cap = b.cap; items = drop 1 b.items; granted = b.granted }
 
 -- the first token goes, where there is one
-abbrev pub take_first : {A : Type 0} → Incoming A → Option (A × Incoming A)
-take_first b = do
+abbrev pub incoming_take : {A : Type 0} → Incoming A → Option (A × Incoming A)
+incoming_take b = do
   x ← slice_get b.items 0
   Some (x, without_first b)
 
 -- the buffer without its tokens: what it granted stays
-abbrev pub cleared_in : {A : Type 0} → Incoming A → Incoming A
-cleared_in b = record { cap = b.cap; items = []; granted = b.granted }
+abbrev pub incoming_clear : {A : Type 0} → Incoming A → Incoming A
+incoming_clear b = record { cap = b.cap; items = []; granted = b.granted }
 
 -- a token joins, where the buffer holds fewer than eight
-abbrev pub put : {A : Type 0} → A → Outgoing A → Option (Outgoing A)
-put x q = do
+abbrev pub outgoing_put : {A : Type 0} → A → Outgoing A → Option (Outgoing A)
+outgoing_put x q = do
   require (nat_lt (length q.items) OUTPUT_CAP)
   Some (record { items = q.items ++ x ∷ []; credit = q.credit })
 
 -- several tokens join as a whole, where the buffer then holds at most eight
-abbrev pub put_all : {A : Type 0} → List A → Outgoing A → Option (Outgoing A)
-put_all xs q = do
+abbrev pub outgoing_put_all : {A : Type 0} → List A → Outgoing A → Option (Outgoing A)
+outgoing_put_all xs q = do
   require (nat_le (length q.items + length xs) OUTPUT_CAP)
   Some (record { items = q.items ++ xs; credit = q.credit })
 
 -- the first token goes out and spends one credit, where there are both
-abbrev pub leave : {A : Type 0} → Outgoing A → Option (A × Outgoing A)
-leave q = do
+abbrev pub outgoing_emit : {A : Type 0} → Outgoing A → Option (A × Outgoing A)
+outgoing_emit q = do
   x ← slice_get q.items 0
   require (nat_lt 0 q.credit)
   Some (x, record { items = drop 1 q.items; credit = q.credit - 1 })
 
 -- a flow-control token comes over the wire: eight more credits, where they are then at most 64
-abbrev pub credited : {A : Type 0} → Outgoing A → Option (Outgoing A)
-credited q = do
+abbrev pub outgoing_credited : {A : Type 0} → Outgoing A → Option (Outgoing A)
+outgoing_credited q = do
   require (nat_le (q.credit + TOKENS_OF_A_GRANT) CREDIT_LIMIT)
   Some (record { items = q.items; credit = q.credit + TOKENS_OF_A_GRANT })
 
 -- the buffer without its tokens: its credit stays
-abbrev pub cleared_out : {A : Type 0} → Outgoing A → Outgoing A
-cleared_out q = record { items = []; credit = q.credit }
+abbrev pub outgoing_clear : {A : Type 0} → Outgoing A → Outgoing A
+outgoing_clear q = record { items = []; credit = q.credit }

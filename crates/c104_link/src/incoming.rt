@@ -1,7 +1,7 @@
 //! The input buffer of a link.
 ghost use Rattle.std.specs.Prelude.{◌≡◌, ◌↔◌, [], length, slice_get, is_some, IsTrue, IfOk};
-ghost use Rattle.c104_link.specs.Steps.{tried, taken, offered};
-ghost use Rattle.c104_link.specs.Buffers.{IsValidCap, IsWithinCap, empty_in, grant, enter, without_first, take_first, cleared_in};
+ghost use Rattle.c104_link.specs.Steps.{bool_outcome, option_outcome, result_outcome};
+ghost use Rattle.c104_link.specs.Buffers.{IsValidCap, IsWithinCap, empty_incoming, incoming_grant, incoming_accept, without_first, incoming_take, incoming_clear};
 
 use crate::TOKENS_OF_A_GRANT;
 use crate::outgoing::CREDIT_LIMIT;
@@ -45,7 +45,7 @@ impl<T: TokenKind> InBufferOf<T> {
     /// of memory.
     pub fn new(alloc: Global, cap: usize) -> Result<Self, NoMemory>
         requires { IsValidCap cap }
-        ensures { IfOk result (λ b. b ≡ empty_in cap) }
+        ensures { IfOk result (λ b. b ≡ empty_incoming cap) }
     {
         let ring = HeapCircularBuffer::with_capacity(alloc, cap)?;
         Ok(InBufferOf { ring, granted: 0 })
@@ -94,7 +94,7 @@ impl<T: TokenKind> InBufferOf<T> {
     /// False, and nothing changes, where the buffer has no room for all that would then be granted
     /// (the data sheet's rule).
     pub fn grant(&mut self) -> bool
-        ensures { (result, self.new) ≡ tried (grant self.old) self.old }
+        ensures { (result, self.new) ≡ bool_outcome (incoming_grant self.old) self.old }
     {
         if !self.can_grant() {
             return false;
@@ -105,7 +105,7 @@ impl<T: TokenKind> InBufferOf<T> {
 
     /// Whether `grant` would grant.
     pub fn can_grant(&self) -> bool
-        ensures { result ≡ is_some (grant self.now) }
+        ensures { result ≡ is_some (incoming_grant self.now) }
     {
         let room = self.ring.capacity() - self.ring.len() - self.granted;
         room >= TOKENS_OF_A_GRANT
@@ -114,7 +114,8 @@ impl<T: TokenKind> InBufferOf<T> {
     /// Takes in a token that came over the wire, which uses one of those granted. Where none is
     /// granted, hands the token back and changes nothing.
     pub fn accept(&mut self, token: T) -> Result<(), T>
-        ensures { (result, self.new) ≡ offered token (enter token self.old) self.old }
+        ensures { (result, self.new) ≡
+            result_outcome token (incoming_accept token self.old) self.old }
     {
         if self.granted == 0 {
             return Err(token);
@@ -127,7 +128,7 @@ impl<T: TokenKind> InBufferOf<T> {
     /// Takes the first token out, if there is one. Its room is for a later grant: what is granted
     /// stays as it is.
     pub fn take(&mut self) -> Option<T>
-        ensures taken { (result, self.new) ≡ taken (take_first self.old) self.old }
+        ensures taken { (result, self.new) ≡ option_outcome (incoming_take self.old) self.old }
         ensures rest { self.new ≡ without_first self.old }
     {
         self.ring.pop_front()
@@ -136,7 +137,7 @@ impl<T: TokenKind> InBufferOf<T> {
     /// Throws the tokens away. What is granted stays, since the other end of the wire may still
     /// send it.
     pub fn clear(&mut self)
-        ensures { self.new ≡ cleared_in self.old }
+        ensures { self.new ≡ incoming_clear self.old }
     {
         self.ring.clear();
     }

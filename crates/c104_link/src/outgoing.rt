@@ -1,7 +1,7 @@
 //! The output buffer of a link.
 ghost use Rattle.std.specs.Prelude.{◌≡◌, ◌↔◌, [], length, is_some, IsTrue, IfOk};
-ghost use Rattle.c104_link.specs.Steps.{tried, taken, offered};
-ghost use Rattle.c104_link.specs.Buffers.{IsWithinLimits, empty_out, put, put_all, leave, credited, cleared_out};
+ghost use Rattle.c104_link.specs.Steps.{bool_outcome, option_outcome, result_outcome};
+ghost use Rattle.c104_link.specs.Buffers.{IsWithinLimits, empty_outgoing, outgoing_put, outgoing_put_all, outgoing_emit, outgoing_credited, outgoing_clear};
 
 use crate::TOKENS_OF_A_GRANT;
 use c104_token::{NoMemory, Token, TokenKind};
@@ -45,7 +45,7 @@ impl<T: TokenKind> Model for OutBufferOf<T> {
 impl<T: TokenKind> OutBufferOf<T> {
     /// An empty buffer, with no credit. It fails only out of memory.
     pub fn new(alloc: Global) -> Result<Self, NoMemory>
-        ensures { IfOk result (λ q. q ≡ empty_out) }
+        ensures { IfOk result (λ q. q ≡ empty_outgoing) }
     {
         let ring = HeapCircularBuffer::with_capacity(alloc, OUTPUT_CAP)?;
         Ok(OutBufferOf { ring, credit: 0 })
@@ -77,21 +77,21 @@ impl<T: TokenKind> OutBufferOf<T> {
 
     /// Whether `put` would append a token.
     pub fn can_put(&self) -> bool
-        ensures { (token : T) → result ≡ is_some (put token self.now) }
+        ensures { (token : T) → result ≡ is_some (outgoing_put token self.now) }
     {
         !self.ring.is_full()
     }
 
     /// Appends a token. Where the buffer holds eight, hands the token back and changes nothing.
     pub fn put(&mut self, token: T) -> Result<(), T>
-        ensures { (result, self.new) ≡ offered token (put token self.old) self.old }
+        ensures { (result, self.new) ≡ result_outcome token (outgoing_put token self.old) self.old }
     {
         self.ring.try_push_back(token)
     }
 
     /// Whether `put_all` would append these tokens.
     pub fn can_put_all(&self, tokens: &[T]) -> bool
-        ensures { result ≡ is_some (put_all tokens.now self.now) }
+        ensures { result ≡ is_some (outgoing_put_all tokens.now self.now) }
     {
         tokens.len() <= OUTPUT_CAP - self.ring.len()
     }
@@ -99,7 +99,8 @@ impl<T: TokenKind> OutBufferOf<T> {
     /// Appends several tokens as a whole. False, and nothing changes, where the buffer would then
     /// hold more than eight.
     pub fn put_all(&mut self, tokens: &[T]) -> bool
-        ensures { (result, self.new) ≡ tried (put_all tokens.now self.old) self.old }
+        ensures { (result, self.new) ≡
+            bool_outcome (outgoing_put_all tokens.now self.old) self.old }
     {
         if !self.can_put_all(tokens) {
             return false;
@@ -110,7 +111,7 @@ impl<T: TokenKind> OutBufferOf<T> {
 
     /// Whether `emit` would give a token.
     pub fn can_emit(&self) -> bool
-        ensures { result ≡ is_some (leave self.now) }
+        ensures { result ≡ is_some (outgoing_emit self.now) }
     {
         !self.ring.is_empty() && self.credit > 0
     }
@@ -118,7 +119,7 @@ impl<T: TokenKind> OutBufferOf<T> {
     /// Takes out the first token to send it, which spends one credit. None, and nothing changes,
     /// where the buffer is empty or has no credit.
     pub fn emit(&mut self) -> Option<T>
-        ensures { (result, self.new) ≡ taken (leave self.old) self.old }
+        ensures { (result, self.new) ≡ option_outcome (outgoing_emit self.old) self.old }
     {
         if self.credit == 0 {
             return None;
@@ -130,7 +131,7 @@ impl<T: TokenKind> OutBufferOf<T> {
 
     /// Whether `credited` would add the credits.
     pub fn can_be_credited(&self) -> bool
-        ensures { result ≡ is_some (credited self.now) }
+        ensures { result ≡ is_some (outgoing_credited self.now) }
     {
         CREDIT_LIMIT - self.credit >= TOKENS_OF_A_GRANT
     }
@@ -138,7 +139,7 @@ impl<T: TokenKind> OutBufferOf<T> {
     /// Adds the eight credits of a flow-control token that came over the wire. False, and nothing
     /// changes, where the credit would then pass 64.
     pub fn credited(&mut self) -> bool
-        ensures { (result, self.new) ≡ tried (credited self.old) self.old }
+        ensures { (result, self.new) ≡ bool_outcome (outgoing_credited self.old) self.old }
     {
         if !self.can_be_credited() {
             return false;
@@ -150,7 +151,7 @@ impl<T: TokenKind> OutBufferOf<T> {
     /// Throws the tokens away. The credit stays, since the other end of the wire keeps room for
     /// it.
     pub fn clear(&mut self)
-        ensures { self.new ≡ cleared_out self.old }
+        ensures { self.new ≡ outgoing_clear self.old }
     {
         self.ring.clear();
     }

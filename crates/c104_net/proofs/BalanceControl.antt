@@ -1,16 +1,16 @@
 -- A control command keeps what each input has granted and what credit each output has.
 use Rattle.std.proofs.Common.{◌≡◌, ℕ, zero, suc, Bool, true, false, List, [], ◌∷◌, Option, Result, Ok, Err, map, slice_get, refl, if◌then◌else◌}
 use Rattle.c104_link.specs.Steps.{◌>>=◌}
-use Rattle.c104_link.specs.Buffers.{cleared_out}
+use Rattle.c104_link.specs.Buffers.{outgoing_clear}
 use Rattle.c104_control.specs.declared.commands.Command.{Command}
 use Rattle.c104_control.specs.declared.replies.Answer.{Answer}
 use Rattle.c104_control.specs.declared.commands.Command.TheVariants.{Start, Reset, Identify, CPeek, CPoke}
 use Rattle.c104_control.specs.declared.replies.Answer.TheVariants.{Started, Refused}
 use Rattle.c104_control.specs.declared.faults.CommandFault.{CommandFault}
-use Rattle.c104_control.specs.Reading.{read}
+use Rattle.c104_control.specs.Reading.{read_command}
 use Rattle.c104_switch.specs.Switch as switch
-use Rattle.c104_switch.specs.Commands.{reset, reset_input}
-use Rattle.c104_switch.specs.Control.{control, obeyed, obeyed_if_read, started_again}
+use Rattle.c104_switch.specs.Commands.{switch_reset, input_reset}
+use Rattle.c104_switch.specs.Control.{switch_control, switch_obey, switch_obey_if_read, already_started_number}
 use Rattle.c104_net.specs.declared.node.NodeOf.TheVariants.{Switch}
 use Rattle.c104_net.proofs.BalancePlaces.{Rests}
 use Rattle.c104_net.proofs.BalanceTurns.{credit_seen, granted_seen}
@@ -27,11 +27,11 @@ module _ {A : Type 0} (s : switch.Switch A) where
   same_sides started settings = record { in_place = refl; credit = λ k. refl; granted = λ k. refl }
 
   -- a reset keeps credit and what was granted
-  reset_rests : Rests (Switch s) (Switch (reset s))
+  reset_rests : Rests (Switch s) (Switch (switch_reset s))
   reset_rests = record {
     in_place = refl;
-    credit = seen_of_map cleared_out credit_seen (λ q. refl) s.outputs;
-    granted = seen_of_map reset_input granted_seen (λ p. refl) s.inputs;
+    credit = seen_of_map outgoing_clear credit_seen (λ q. refl) s.outputs;
+    granted = seen_of_map input_reset granted_seen (λ p. refl) s.inputs;
   }
 
   -- a start changes the sides of no link
@@ -39,16 +39,16 @@ module _ {A : Type 0} (s : switch.Switch A) where
   start_rests true again first = same_sides s.started s.settings
   start_rests false again first = same_sides true s.settings
 
-  obeyed_rests : (c : Command) → Rests (Switch s) (Switch (obeyed s c).1)
-  obeyed_rests Start = start_rests s.started (Refused started_again) Started
+  obeyed_rests : (c : Command) → Rests (Switch s) (Switch (switch_obey s c).1)
+  obeyed_rests Start = start_rests s.started (Refused already_started_number) Started
   obeyed_rests Reset = reset_rests
   obeyed_rests Identify = same_sides s.started s.settings
   obeyed_rests (CPeek a) = same_sides s.started s.settings
   obeyed_rests (CPoke a v) = same_sides s.started _
 
-  read_rests : (c : Result Command CommandFault) → Rests (Switch s) (Switch (obeyed_if_read s c).1)
+  read_rests : (c : Result Command CommandFault) → Rests (Switch s) (Switch (switch_obey_if_read s c).1)
   read_rests (Ok c) = obeyed_rests c
   read_rests (Err e) = same_sides s.started s.settings
 
-  pub control_keeps : (bytes : List ℕ) → Rests (Switch s) (Switch (control s bytes).1)
-  control_keeps bytes = read_rests (read bytes)
+  pub control_keeps : (bytes : List ℕ) → Rests (Switch s) (Switch (switch_control s bytes).1)
+  control_keeps bytes = read_rests (read_command bytes)

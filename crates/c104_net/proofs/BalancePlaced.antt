@@ -1,11 +1,11 @@
 -- A network is in balance at first: no link has any credit, and none has granted any.
 use Rattle.std.proofs.Common.{◌≡◌, ◌<◌, ◌+◌, ℕ, zero, suc, Bool, true, false, List, [], ◌∷◌, ◌++◌, Some, length, map, replicate, slice_get, refl, sym, ◌∙◌, ap, subst, arith}
 use Rattle.std.proofs.lemmas.List.{length-map}
-use Rattle.c104_link.specs.Buffers.{empty_out}
+use Rattle.c104_link.specs.Buffers.{empty_outgoing}
 use Rattle.c104_link.specs.Steps.{◌>>=◌}
 use Rattle.c104_regs.specs.declared.settings.Settings.{Settings}
 use Rattle.c104_regs.specs.Settings.{reset_settings}
-use Rattle.c104_switch.specs.Switch.{first_with, first_input}
+use Rattle.c104_switch.specs.Switch.{new_switch_with, new_input}
 use Rattle.c104_event.specs.declared.events.Port.{Port}
 use Rattle.c104_event.specs.declared.events.Port.TheVariants as port
 use Rattle.c104_net.specs.declared.nodes.End.{End}
@@ -13,10 +13,10 @@ use Rattle.c104_net.specs.declared.node.NodeOf.TheVariants.{Switch, Terminal}
 use Rattle.c104_describe.specs.Plans.{Plan, IsPlan, IsPort}
 use Rattle.c104_describe.specs.declared.plans.Terminal as plans
 use Rattle.c104_describe.specs.PlanImage.{Image, Fits}
-use Rattle.c104_net.specs.Terminals.{first_terminal}
+use Rattle.c104_net.specs.Terminals.{new_terminal}
 use Rattle.c104_net.specs.Nodes.{Node}
 use Rattle.c104_net.specs.Wiring.{peer, end_of}
-use Rattle.c104_net.specs.Network.{first_switches, switch_nodes, terminal_nodes, buffer_size}
+use Rattle.c104_net.specs.Network.{new_switch_nodes, switch_nodes, terminal_nodes, buffer_size}
 use Rattle.c104_net.specs.Balance.{credit_of, granted_of, credit_at, granted_at, is_switch, IsSteady}
 use Rattle.c104_net.proofs.BalanceWires.{peer_back, switch_inside, terminal_inside}
 
@@ -47,10 +47,10 @@ get_map f (x ∷ xs) (suc i) inside then = get_map f xs i (omega arith) then
 module _ {A : Type 0} where
   -- a switch at first, started or not and with these settings, and a terminal at first
   abbrev made_switch : List Settings × Bool → Node A
-  made_switch made = Switch (first_with buffer_size made.0 made.1)
+  made_switch made = Switch (new_switch_with buffer_size made.0 made.1)
 
   abbrev made_terminal : plans.Terminal → Node A
-  made_terminal t = Terminal (first_terminal buffer_size)
+  made_terminal t = Terminal (new_terminal buffer_size)
 
   -- no credit at an end of a wire, and none granted
   abbrev IsIdle : List (Node A) → End → Type 0
@@ -59,8 +59,8 @@ module _ {A : Type 0} where
   -- a link of a switch at first, and of a terminal at first
   idle_switch : (nodes : List (Node A)) (made : List Settings × Bool) (s l : ℕ) → slice_get nodes s ≡ Some (made_switch made) → l < 32 → IsIdle nodes (record { node = s; link = l })
   idle_switch nodes made s l is inside = (
-    ap (λ o. o >>= credit_of l) is ∙ ap (λ o. o >>= (λ q. Some q.credit)) (get_replicate 32 l (empty_out {A = A}) inside),
-    ap (λ o. o >>= granted_of l) is ∙ ap (λ o. o >>= (λ p. Some p.buffer.granted)) (get_replicate 32 l (first_input {A = A} buffer_size) inside),
+    ap (λ o. o >>= credit_of l) is ∙ ap (λ o. o >>= (λ q. Some q.credit)) (get_replicate 32 l (empty_outgoing {A = A}) inside),
+    ap (λ o. o >>= granted_of l) is ∙ ap (λ o. o >>= (λ p. Some p.buffer.granted)) (get_replicate 32 l (new_input {A = A} buffer_size) inside),
   )
 
   idle_terminal : (nodes : List (Node A)) (t : plans.Terminal) (place l : ℕ) → slice_get nodes place ≡ Some (made_terminal t) → IsIdle nodes (record { node = place; link = l })
@@ -122,5 +122,5 @@ steady_made {A} plan copy image nodes copied made fits is_plan =
     subst (λ (n : List (Node A)). IsSteady (record { plan = copy; nodes = n })) (sym made) (balanced_first {A = A} copy image.settings (λ settings. (settings, true)) each is_plan)
 
 -- a new network of a copy of the plan
-pub steady_new : {A : Type 0} (plan : Plan) (nodes : List (Node A)) → nodes ≡ first_switches plan.switches ++ terminal_nodes plan.terminals → IsPlan plan → IsSteady (record { plan = plan; nodes = nodes })
+pub steady_new : {A : Type 0} (plan : Plan) (nodes : List (Node A)) → nodes ≡ new_switch_nodes plan.switches ++ terminal_nodes plan.terminals → IsPlan plan → IsSteady (record { plan = plan; nodes = nodes })
 steady_new {A} plan nodes made is_plan = subst (λ (n : List (Node A)). IsSteady (record { plan = plan; nodes = n })) (sym made) (balanced_first {A = A} plan plan.switches (λ name. (replicate 32 reset_settings, false)) refl is_plan)

@@ -1,13 +1,13 @@
 -- What crosses a wire keeps every network in balance, and so does each step of one node.
 use Rattle.std.proofs.Common.{◌≡◌, ◌≢◌, ℕ, Bool, inl, inr, List, Option, Some, None, length, slice_get, slice_set, refl, sym, ◌∙◌, ap, subst}
 use Rattle.std.specs.Option.{option_map}
-use Rattle.c104_link.specs.Steps.{at_place, from_place, tried, taken}
+use Rattle.c104_link.specs.Steps.{step_at, yield_step_at, bool_outcome, option_outcome}
 use Rattle.c104_switch.proofs.SoundnessSteps.{given, at_place_made, from_place_made, holds_tried, holds_taken}
 use Rattle.c104_event.specs.declared.events.Port.{Port}
 use Rattle.c104_net.specs.declared.nodes.End.{End}
 use Rattle.c104_describe.specs.Plans.{Plan, IsPlan}
-use Rattle.c104_net.specs.Nodes.{Node, enter, leave, credit_out, credit_in}
-use Rattle.c104_net.specs.Wires.{crossed, credited}
+use Rattle.c104_net.specs.Nodes.{Node, node_enter, node_leave, node_credit_out, node_credit_in}
+use Rattle.c104_net.specs.Wires.{nodes_cross, nodes_credit}
 use Rattle.c104_net.specs.Wiring.{peer, end_of}
 use Rattle.c104_net.specs.Network.{Network}
 use Rattle.c104_net.specs.Balance.{credit_of, granted_of, AreLevel, IsSteady}
@@ -35,11 +35,11 @@ module _ {A : Type 0} (plan : Plan) where
   }
 
   -- a step at one place
-  pub steady_at : (nodes after : List (Node A)) (i : ℕ) (f : Node A → Option (Node A)) → at_place nodes i f ≡ Some after → ((n m : Node A) → f n ≡ Some m → Rests n m) → IsSteady (network_of plan nodes) → IsSteady (network_of plan after)
+  pub steady_at : (nodes after : List (Node A)) (i : ℕ) (f : Node A → Option (Node A)) → step_at nodes i f ≡ Some after → ((n m : Node A) → f n ≡ Some m → Rests n m) → IsSteady (network_of plan nodes) → IsSteady (network_of plan after)
   steady_at nodes after i f is rests steady = at_place_made nodes i f after is (λ n m here made set. subst (λ ns. IsSteady (network_of plan ns)) set (rest_steady nodes i n m here (rests n m made) steady))
 
   -- the same, where something comes of it
-  pub steady_from : {Y : Type 0} (nodes : List (Node A)) (i : ℕ) (f : Node A → Option (Y × Node A)) (r : Y × List (Node A)) → from_place nodes i f ≡ Some r → ((n : Node A) (v : Y × Node A) → f n ≡ Some v → Rests n v.1) → IsSteady (network_of plan nodes) → IsSteady (network_of plan r.1)
+  pub steady_from : {Y : Type 0} (nodes : List (Node A)) (i : ℕ) (f : Node A → Option (Y × Node A)) (r : Y × List (Node A)) → yield_step_at nodes i f ≡ Some r → ((n : Node A) (v : Y × Node A) → f n ≡ Some v → Rests n v.1) → IsSteady (network_of plan nodes) → IsSteady (network_of plan r.1)
   steady_from {Y} nodes i f r is rests steady = from_place_made nodes i f r is (λ n v here made set. subst (λ (r : Y × List (Node A)). IsSteady (network_of plan r.1)) set (rest_steady nodes i n v.1 here (rests n v made) steady))
 
   module _ (is_plan : IsPlan plan) (p q : Port) (wired : peer plan p ≡ Some q) (change : ℕ → ℕ) (nodes mid after : List (Node A)) where
@@ -109,36 +109,36 @@ module _ {A : Type 0} (plan : Plan) where
 
   module _ (is_plan : IsPlan plan) (p q : Port) (wired : peer plan p ≡ Some q) (nodes : List (Node A)) where
     -- a token crosses a wire
-    pub steady_crossed : (r : A × List (Node A)) → crossed nodes (end_of plan p) (end_of plan q) ≡ Some r → IsSteady (network_of plan nodes) → IsSteady (network_of plan r.1)
+    pub steady_crossed : (r : A × List (Node A)) → nodes_cross nodes (end_of plan p) (end_of plan q) ≡ Some r → IsSteady (network_of plan nodes) → IsSteady (network_of plan r.1)
     steady_crossed r is steady =
         let from : End = end_of plan p in
         let to : End = end_of plan q in
-        given (from_place nodes from.node (leave from.link)) _ r is (λ v left more. given (at_place v.1 to.node (enter v.0 to.link)) _ r more (λ after came last.
-        from_place_made nodes from.node (leave from.link) v left (λ n y here gone set. at_place_made v.1 to.node (enter v.0 to.link) after came (λ o m there entered made.
+        given (yield_step_at nodes from.node (node_leave from.link)) _ r is (λ v left more. given (step_at v.1 to.node (node_enter v.0 to.link)) _ r more (λ after came last.
+        from_place_made nodes from.node (node_leave from.link) v left (λ n y here gone set. at_place_made v.1 to.node (node_enter v.0 to.link) after came (λ o m there entered made.
         let first : ActsAt granted_of credit_of lower (length plan.switches) from nodes v.1 = subst (λ (v : A × List (Node A)). ActsAt granted_of credit_of lower (length plan.switches) from nodes v.1) set (acts_at granted_of credit_of lower (length plan.switches) from nodes n y.1 here (leave_acts from.link n y gone)) in
         let second : ActsAt credit_of granted_of lower (length plan.switches) to v.1 after = subst (ActsAt credit_of granted_of lower (length plan.switches) to v.1) made (acts_at credit_of granted_of lower (length plan.switches) to v.1 o m there (enter_acts v.0 to.link o m entered)) in
         let same : ◌≡◌ {A = A × List (Node A)} (v.0, after) r = cc in
         subst (λ (r : A × List (Node A)). IsSteady (network_of plan r.1)) same (credit_then_granted is_plan p q wired lower nodes v.1 after first second steady)))))
 
     -- credit crosses a wire
-    pub steady_credited : (after : List (Node A)) → credited nodes (end_of plan p) (end_of plan q) ≡ Some after → IsSteady (network_of plan nodes) → IsSteady (network_of plan after)
+    pub steady_credited : (after : List (Node A)) → nodes_credit nodes (end_of plan p) (end_of plan q) ≡ Some after → IsSteady (network_of plan nodes) → IsSteady (network_of plan after)
     steady_credited after is steady =
         let from : End = end_of plan p in
         let to : End = end_of plan q in
-        given (at_place nodes from.node (credit_out from.link)) _ after is (λ mid out more.
-        at_place_made nodes from.node (credit_out from.link) mid out (λ n y here gone set. at_place_made mid to.node (credit_in to.link) after more (λ o m there came made.
+        given (step_at nodes from.node (node_credit_out from.link)) _ after is (λ mid out more.
+        at_place_made nodes from.node (node_credit_out from.link) mid out (λ n y here gone set. at_place_made mid to.node (node_credit_in to.link) after more (λ o m there came made.
         let first : ActsAt credit_of granted_of raise (length plan.switches) from nodes mid = subst (ActsAt credit_of granted_of raise (length plan.switches) from nodes) set (acts_at credit_of granted_of raise (length plan.switches) from nodes n y here (credit_out_acts from.link n y gone)) in
         let second : ActsAt granted_of credit_of raise (length plan.switches) to mid after = subst (ActsAt granted_of credit_of raise (length plan.switches) to mid) made (acts_at granted_of credit_of raise (length plan.switches) to mid o m there (credit_in_acts to.link o m came)) in
         granted_then_credit is_plan p q wired raise nodes mid after first second steady)))
 
 module _ {A : Type 0} (plan : Plan) (nodes : List (Node A)) where
   -- a step at one place that was tried
-  pub steady_tried : (b : Bool) (after : List (Node A)) (i : ℕ) (f : Node A → Option (Node A)) → ◌≡◌ {A = Bool × List (Node A)} (b, after) (tried (at_place nodes i f) nodes) → ((n m : Node A) → f n ≡ Some m → Rests n m) → IsSteady (network_of plan nodes) → IsSteady (network_of plan after)
-  steady_tried b after i f is rests steady = holds_tried (λ ns. IsSteady (network_of plan ns)) b (at_place nodes i f) nodes after is steady (λ ns made. steady_at plan nodes ns i f made rests steady)
+  pub steady_tried : (b : Bool) (after : List (Node A)) (i : ℕ) (f : Node A → Option (Node A)) → ◌≡◌ {A = Bool × List (Node A)} (b, after) (bool_outcome (step_at nodes i f) nodes) → ((n m : Node A) → f n ≡ Some m → Rests n m) → IsSteady (network_of plan nodes) → IsSteady (network_of plan after)
+  steady_tried b after i f is rests steady = holds_tried (λ ns. IsSteady (network_of plan ns)) b (step_at nodes i f) nodes after is steady (λ ns made. steady_at plan nodes ns i f made rests steady)
 
   -- the same, where something comes of it
-  pub steady_taken : {Y : Type 0} (o : Option Y) (after : List (Node A)) (i : ℕ) (f : Node A → Option (Y × Node A)) → ◌≡◌ {A = Option Y × List (Node A)} (o, after) (taken (from_place nodes i f) nodes) → ((n : Node A) (v : Y × Node A) → f n ≡ Some v → Rests n v.1) → IsSteady (network_of plan nodes) → IsSteady (network_of plan after)
-  steady_taken o after i f is rests steady = holds_taken (λ ns. IsSteady (network_of plan ns)) o (from_place nodes i f) nodes after is steady (λ r made. steady_from plan nodes i f r made rests steady)
+  pub steady_taken : {Y : Type 0} (o : Option Y) (after : List (Node A)) (i : ℕ) (f : Node A → Option (Y × Node A)) → ◌≡◌ {A = Option Y × List (Node A)} (o, after) (option_outcome (yield_step_at nodes i f) nodes) → ((n : Node A) (v : Y × Node A) → f n ≡ Some v → Rests n v.1) → IsSteady (network_of plan nodes) → IsSteady (network_of plan after)
+  steady_taken o after i f is rests steady = holds_taken (λ ns. IsSteady (network_of plan ns)) o (yield_step_at nodes i f) nodes after is steady (λ r made. steady_from plan nodes i f r made rests steady)
 
   module _ (is_plan : IsPlan plan) (p : Port) (near far : End) (at_near : near ≡ end_of plan p) (at_far : option_map (end_of plan) (peer plan p) ≡ Some far) where
     -- the wire of a port, by its ends
@@ -150,13 +150,13 @@ module _ {A : Type 0} (plan : Plan) (nodes : List (Node A)) where
         by_peer None wired ends = cc
 
     -- a token was to cross a wire
-    pub steady_cross : (o : Option A) (after : List (Node A)) → ◌≡◌ {A = Option A × List (Node A)} (o, after) (taken (crossed nodes near far) nodes) → IsSteady (network_of plan nodes) → IsSteady (network_of plan after)
+    pub steady_cross : (o : Option A) (after : List (Node A)) → ◌≡◌ {A = Option A × List (Node A)} (o, after) (option_outcome (nodes_cross nodes near far) nodes) → IsSteady (network_of plan nodes) → IsSteady (network_of plan after)
     steady_cross o after is steady = by_ends (λ q wired one.
-        holds_taken (λ ns. IsSteady (network_of plan ns)) o (crossed nodes near far) nodes after is steady (λ r made.
-        steady_crossed plan is_plan p q wired nodes r (ap (crossed nodes (end_of plan p)) (sym one) ∙ ap (λ e. crossed nodes e far) (sym at_near) ∙ made) steady))
+        holds_taken (λ ns. IsSteady (network_of plan ns)) o (nodes_cross nodes near far) nodes after is steady (λ r made.
+        steady_crossed plan is_plan p q wired nodes r (ap (nodes_cross nodes (end_of plan p)) (sym one) ∙ ap (λ e. nodes_cross nodes e far) (sym at_near) ∙ made) steady))
 
     -- credit was to cross a wire
-    pub steady_credit : (b : Bool) (after : List (Node A)) → ◌≡◌ {A = Bool × List (Node A)} (b, after) (tried (credited nodes near far) nodes) → IsSteady (network_of plan nodes) → IsSteady (network_of plan after)
+    pub steady_credit : (b : Bool) (after : List (Node A)) → ◌≡◌ {A = Bool × List (Node A)} (b, after) (bool_outcome (nodes_credit nodes near far) nodes) → IsSteady (network_of plan nodes) → IsSteady (network_of plan after)
     steady_credit b after is steady = by_ends (λ q wired one.
-        holds_tried (λ ns. IsSteady (network_of plan ns)) b (credited nodes near far) nodes after is steady (λ ns made.
-        steady_credited plan is_plan p q wired nodes ns (ap (credited nodes (end_of plan p)) (sym one) ∙ ap (λ e. credited nodes e far) (sym at_near) ∙ made) steady))
+        holds_tried (λ ns. IsSteady (network_of plan ns)) b (nodes_credit nodes near far) nodes after is steady (λ ns made.
+        steady_credited plan is_plan p q wired nodes ns (ap (nodes_credit nodes (end_of plan p)) (sym one) ∙ ap (λ e. nodes_credit nodes e far) (sym at_near) ∙ made) steady))

@@ -7,10 +7,10 @@ use Rattle.c104_link.specs.Steps.{◌>>=◌}
 use Rattle.c104_net.specs.declared.node.NodeOf.TheVariants.{Switch, Terminal}
 use Rattle.c104_net.specs.Terminals as terminal
 use Rattle.c104_describe.specs.Plans.{Plan}
-use Rattle.c104_net.specs.Nodes.{Node, arrived_list}
-use Rattle.c104_net.specs.Network.{Network, arrived_of}
+use Rattle.c104_net.specs.Nodes.{Node, node_arrived}
+use Rattle.c104_net.specs.Network.{Network, network_arrived}
 use Rattle.c104_net.specs.Balance.{is_switch, AreInPlace}
-use Rattle.c104_net.specs.Finished.{terminals_of, finished, arrived_in}
+use Rattle.c104_net.specs.Finished.{terminals_of, network_finish, run_arrived}
 
 module _ {A : Type 0} where
   -- the terminals among nodes one after the other
@@ -49,17 +49,17 @@ module _ {A : Type 0} where
   abbrev arrived_from : Option (terminal.Terminal A) → Option (List A)
   arrived_from found = found >>= (λ t. Some t.arrived)
 
-  among_terminals : (b : ℕ) (nodes : List (Node A)) → map is_switch nodes ≡ replicate b false → (t : ℕ) → arrived_from (slice_get (terminals_of nodes) t) ≡ (slice_get nodes t >>= arrived_list)
+  among_terminals : (b : ℕ) (nodes : List (Node A)) → map is_switch nodes ≡ replicate b false → (t : ℕ) → arrived_from (slice_get (terminals_of nodes) t) ≡ (slice_get nodes t >>= node_arrived)
   among_terminals b [] are t = refl
   among_terminals zero (n ∷ nodes) are t = cc
   among_terminals (suc b) (Switch s ∷ nodes) are t = cc
   among_terminals (suc b) (Terminal x ∷ nodes) are zero = refl
   among_terminals (suc b) (Terminal x ∷ nodes) are (suc t) = among_terminals b nodes (let rest : map is_switch nodes ≡ replicate b false = cc in rest) t
 
-  among_nodes : (a b : ℕ) (nodes : List (Node A)) → map is_switch nodes ≡ replicate a true ++ replicate b false → (t : ℕ) → arrived_from (slice_get (terminals_of nodes) t) ≡ (slice_get nodes (a + t) >>= arrived_list)
-  among_nodes zero b nodes are t = among_terminals b nodes are t ∙ ap (λ k. slice_get nodes k >>= arrived_list) (let same : t ≡ 0 + t = omega arith in same)
+  among_nodes : (a b : ℕ) (nodes : List (Node A)) → map is_switch nodes ≡ replicate a true ++ replicate b false → (t : ℕ) → arrived_from (slice_get (terminals_of nodes) t) ≡ (slice_get nodes (a + t) >>= node_arrived)
+  among_nodes zero b nodes are t = among_terminals b nodes are t ∙ ap (λ k. slice_get nodes k >>= node_arrived) (let same : t ≡ 0 + t = omega arith in same)
   among_nodes (suc a) b [] are t = absurd (let no : ◌≡◌ {A = List Bool} [] (true ∷ replicate a true ++ replicate b false) = are in cc)
-  among_nodes (suc a) b (Switch s ∷ nodes) are t = among_nodes a b nodes (let rest : map is_switch nodes ≡ replicate a true ++ replicate b false = cc in rest) t ∙ ap (λ k. slice_get (Switch s ∷ nodes) k >>= arrived_list) (let same : suc (a + t) ≡ suc a + t = omega arith in same)
+  among_nodes (suc a) b (Switch s ∷ nodes) are t = among_nodes a b nodes (let rest : map is_switch nodes ≡ replicate a true ++ replicate b false = cc in rest) t ∙ ap (λ k. slice_get (Switch s ∷ nodes) k >>= node_arrived) (let same : suc (a + t) ≡ suc a + t = omega arith in same)
   among_nodes (suc a) b (Terminal x ∷ nodes) are t = absurd (let no : false ≡ true = cc in cc)
 
   -- there is a terminal for each of the plan
@@ -67,10 +67,10 @@ module _ {A : Type 0} where
   terminals_counted plan nodes are = count_terminals (length plan.switches) (length plan.terminals) nodes are
 
   -- what a run says of a terminal is what its network said
-  pub arrived_same : (net : Network A) → AreInPlace net.plan net.nodes → (t : ℕ) → arrived_in (finished net) t ≡ arrived_of net t
+  pub arrived_same : (net : Network A) → AreInPlace net.plan net.nodes → (t : ℕ) → run_arrived (network_finish net) t ≡ network_arrived net t
   arrived_same net are t = by_place (nat_lt t (length net.plan.terminals)) refl
     where
-      by_place : (inside : Bool) → nat_lt t (length net.plan.terminals) ≡ inside → arrived_in (finished net) t ≡ (if inside then (slice_get net.nodes (length net.plan.switches + t) >>= arrived_list) else None)
+      by_place : (inside : Bool) → nat_lt t (length net.plan.terminals) ≡ inside → run_arrived (network_finish net) t ≡ (if inside then (slice_get net.nodes (length net.plan.switches + t) >>= node_arrived) else None)
       by_place true inside = among_nodes (length net.plan.switches) (length net.plan.terminals) net.nodes are t
       by_place false past =
           let counted = terminals_counted net.plan net.nodes are in

@@ -4,17 +4,17 @@ use Rattle.std.proofs.lemmas.List.{drop_more, take-append-drop, take_more}
 use Rattle.c104_token.specs.Kinds.{Kind}
 use Rattle.c104_switch.specs.declared.actions.Reply.{Reply}
 use Rattle.c104_switch.specs.declared.actions.Reply.TheVariants as reply
-use Rattle.c104_link.specs.Steps.{◌>>=◌, at_place, from_place}
+use Rattle.c104_link.specs.Steps.{◌>>=◌, step_at, yield_step_at}
 use Rattle.c104_event.specs.declared.events.Port.{Port}
 use Rattle.c104_event.specs.declared.events.Event.{Event}
 use Rattle.c104_event.specs.declared.events.Event.TheVariants as event
 use Rattle.c104_event.specs.declared.faults.EventFault.{EventFault}
 use Rattle.c104_event.specs.declared.faults.EventFault.TheVariants as fault
-use Rattle.c104_net.specs.Nodes.{Node, input, claim, control, send, drain}
-use Rattle.c104_net.specs.Wires.{crossed, credited}
+use Rattle.c104_net.specs.Nodes.{Node, node_input, node_claim, node_control, node_send, node_drain}
+use Rattle.c104_net.specs.Wires.{nodes_cross, nodes_credit}
 use Rattle.c104_net.specs.Wiring.{peer, end_of}
-use Rattle.c104_net.specs.Network.{Answers, Network, WouldBeDone, answered, done, event_fault, if_ready, if_there, limit_fault, limited_node, moved, replied, step, terminal_place, within_limit}
-use Rattle.c104_net.specs.Rounds.{Outcome, RunEnds, run_until, unless_fault, was_done}
+use Rattle.c104_net.specs.Network.{AnswersEvent, Network, WouldBeDone, network_apply, done_step, event_fault, outcome_if_ready, outcome_if_possible, limit_fault, limited_node, token_step, control_step, network_step, terminal_place, outcome_within_limit}
+use Rattle.c104_net.specs.Rounds.{Outcome, EventsEnd, run_until, unless_fault, is_done_reply}
 
 pub err_is : {X E : Type 0} (result : Result X E) (e : E) → IsErr result × IsErrAnd result (λ d. d ≡ e) → result ≡ Err e
 err_is (Ok x) e is = absurd (cc is.0)
@@ -30,7 +30,7 @@ module _ {A : Type 0} (kind : Kind A) where
 
   pub run_append : (events more : List Event) (net : Network A) → run_until kind net (events ++ more) ≡ unless_fault (run_until kind net events).0 (run_until kind net events).1 (λ next. run_until kind next more)
   run_append [] more net = refl
-  run_append (e ∷ events) more net = unless_later events more (run_append events more) (answered kind net e).0 (answered kind net e).1
+  run_append (e ∷ events) more net = unless_later events more (run_append events more) (network_apply kind net e).0 (network_apply kind net e).1
 
   -- after a front without a fault
   pub run_from : (net mid : Network A) (events more : List Event) → run_until kind net events ≡ (Ok tt, mid) → run_until kind net (events ++ more) ≡ run_until kind mid more
@@ -38,17 +38,17 @@ module _ {A : Type 0} (kind : Kind A) where
 
   -- an event after such a front
   pub run_next : (net mid after : Network A) (events more : List Event) (e : Event) (answer : Result Reply EventFault) →
-      run_until kind net events ≡ (Ok tt, mid) → ◌≡◌ {A = Result Reply EventFault × Network A} (answer, after) (answered kind mid e) →
+      run_until kind net events ≡ (Ok tt, mid) → ◌≡◌ {A = Result Reply EventFault × Network A} (answer, after) (network_apply kind mid e) →
       run_until kind net (events ++ e ∷ more) ≡ unless_fault answer after (λ next. run_until kind next more)
   run_next net mid after events more e answer front last = run_from net mid events (e ∷ more) front ∙ ap (λ (r : Result Reply EventFault × Network A). unless_fault r.0 r.1 (λ next. run_until kind next more)) (sym last)
 
   pub run_fault : (net mid after : Network A) (events more : List Event) (e : Event) (f : EventFault) →
-      run_until kind net events ≡ (Ok tt, mid) → ◌≡◌ {A = Result Reply EventFault × Network A} (Err f, after) (answered kind mid e) →
+      run_until kind net events ≡ (Ok tt, mid) → ◌≡◌ {A = Result Reply EventFault × Network A} (Err f, after) (network_apply kind mid e) →
       run_until kind net (events ++ e ∷ more) ≡ (Err f, after)
   run_fault net mid after events more e f front last = run_next net mid after events more e (Err f) front last
 
   pub run_reply : (net mid after : Network A) (events : List Event) (e : Event) (r : Reply) →
-      run_until kind net events ≡ (Ok tt, mid) → ◌≡◌ {A = Result Reply EventFault × Network A} (Ok r, after) (answered kind mid e) →
+      run_until kind net events ≡ (Ok tt, mid) → ◌≡◌ {A = Result Reply EventFault × Network A} (Ok r, after) (network_apply kind mid e) →
       run_until kind net (events ++ e ∷ []) ≡ (Ok tt, after)
   run_reply net mid after events e r front last = run_next net mid after events [] e (Ok r) front last
 
@@ -56,15 +56,15 @@ module _ {A : Type 0} (kind : Kind A) where
   abbrev Replies : Option (Reply × Network A) → Type 0
   Replies made = (r : Reply × Network A) → made ≡ Some r → r.0 ≡ reply.NotReady → ⊥
 
-  done_replies : (net : Network A) (made : Option (List (Node A))) → Replies (done kind net made)
+  done_replies : (net : Network A) (made : Option (List (Node A))) → Replies (done_step kind net made)
   done_replies net None r made unready = cc
   done_replies net (Some nodes) r made unready = let reply : reply.Done ≡ r.0 = cc in cc
 
-  moved_replies : (net : Network A) (made : Option (A × List (Node A))) → Replies (moved kind net made)
+  moved_replies : (net : Network A) (made : Option (A × List (Node A))) → Replies (token_step kind net made)
   moved_replies net None r made unready = cc
   moved_replies net (Some m) r made unready = let reply : reply.Token (kind.plain m.0) ≡ r.0 = cc in cc
 
-  replied_replies : (net : Network A) (made : Option (List ℕ × List (Node A))) → Replies (replied kind net made)
+  replied_replies : (net : Network A) (made : Option (List ℕ × List (Node A))) → Replies (control_step kind net made)
   replied_replies net None r made unready = cc
   replied_replies net (Some m) r made unready = let reply : reply.Control m.0 ≡ r.0 = cc in cc
 
@@ -72,14 +72,14 @@ module _ {A : Type 0} (kind : Kind A) where
   wired_replies None made each r was unready = cc
   wired_replies (Some q) made each r was unready = each q r was unready
 
-  step_replies : (net : Network A) (e : Event) → Replies (step kind net e)
-  step_replies net (event.Cross p) = wired_replies (peer net.plan p) (λ q. moved kind net (crossed net.nodes (end_of net.plan p) (end_of net.plan q))) (λ q. moved_replies net (crossed net.nodes (end_of net.plan p) (end_of net.plan q)))
-  step_replies net (event.Credit p) = wired_replies (peer net.plan p) (λ q. done kind net (credited net.nodes (end_of net.plan p) (end_of net.plan q))) (λ q. done_replies net (credited net.nodes (end_of net.plan p) (end_of net.plan q)))
-  step_replies net (event.Input s l word) = done_replies net (at_place net.nodes s (input kind l word))
-  step_replies net (event.Claim s i o) = done_replies net (at_place net.nodes s (claim i o))
-  step_replies net (event.Control s bytes) = replied_replies net (from_place net.nodes s (control bytes))
-  step_replies net (event.Send t packet) = done_replies net (at_place net.nodes (terminal_place net.plan t) (send kind t packet))
-  step_replies net (event.Drain t) = moved_replies net (from_place net.nodes (terminal_place net.plan t) drain)
+  step_replies : (net : Network A) (e : Event) → Replies (network_step kind net e)
+  step_replies net (event.Cross p) = wired_replies (peer net.plan p) (λ q. token_step kind net (nodes_cross net.nodes (end_of net.plan p) (end_of net.plan q))) (λ q. moved_replies net (nodes_cross net.nodes (end_of net.plan p) (end_of net.plan q)))
+  step_replies net (event.Credit p) = wired_replies (peer net.plan p) (λ q. done_step kind net (nodes_credit net.nodes (end_of net.plan p) (end_of net.plan q))) (λ q. done_replies net (nodes_credit net.nodes (end_of net.plan p) (end_of net.plan q)))
+  step_replies net (event.Input s l word) = done_replies net (step_at net.nodes s (node_input kind l word))
+  step_replies net (event.Claim s i o) = done_replies net (step_at net.nodes s (node_claim i o))
+  step_replies net (event.Control s bytes) = replied_replies net (yield_step_at net.nodes s (node_control bytes))
+  step_replies net (event.Send t packet) = done_replies net (step_at net.nodes (terminal_place net.plan t) (node_send kind t packet))
+  step_replies net (event.Drain t) = moved_replies net (yield_step_at net.nodes (terminal_place net.plan t) node_drain)
 
   -- an event that isn't ready changes nothing
   abbrev Answered : Type 0
@@ -91,24 +91,24 @@ module _ {A : Type 0} (kind : Kind A) where
   same_network : (r s : Answered) → r ≡ s → r.1 ≡ s.1
   same_network r s same = ap (λ (t : Answered). t.1) same
 
-  limit_stays : (net after : Network A) (limit : Option EventFault) (r : Reply × Network A) → (r.0 ≡ reply.NotReady → ⊥) → ◌≡◌ {A = Answered} (Ok reply.NotReady, after) (within_limit kind net limit r) → after ≡ net
+  limit_stays : (net after : Network A) (limit : Option EventFault) (r : Reply × Network A) → (r.0 ≡ reply.NotReady → ⊥) → ◌≡◌ {A = Answered} (Ok reply.NotReady, after) (outcome_within_limit kind net limit r) → after ≡ net
   limit_stays net after None r replies was = let ok : Ok reply.NotReady ≡ Ok r.0 = same_answer _ _ was in let unready : r.0 ≡ reply.NotReady = cc in absurd (replies unready)
   limit_stays net after (Some f) r replies was = same_network _ _ was
 
-  ready_stays : (net after : Network A) (e : Event) (made : Option (Reply × Network A)) → Replies made → ◌≡◌ {A = Answered} (Ok reply.NotReady, after) (if_ready kind net e made) → after ≡ net
+  ready_stays : (net after : Network A) (e : Event) (made : Option (Reply × Network A)) → Replies made → ◌≡◌ {A = Answered} (Ok reply.NotReady, after) (outcome_if_ready kind net e made) → after ≡ net
   ready_stays net after e None replies was = same_network _ _ was
   ready_stays net after e (Some r) replies was = limit_stays net after (limit_fault (limited_node net e) e) r (replies r refl) was
 
-  there_stays : (net after : Network A) (e : Event) (f : Option EventFault) → ◌≡◌ {A = Answered} (Ok reply.NotReady, after) (if_there kind net e f) → after ≡ net
-  there_stays net after e None was = ready_stays net after e (step kind net e) (step_replies net e) was
+  there_stays : (net after : Network A) (e : Event) (f : Option EventFault) → ◌≡◌ {A = Answered} (Ok reply.NotReady, after) (outcome_if_possible kind net e f) → after ≡ net
+  there_stays net after e None was = ready_stays net after e (network_step kind net e) (step_replies net e) was
   there_stays net after e (Some f) was = same_network _ _ was
 
-  pub unready_stays : (net after : Network A) (e : Event) → ◌≡◌ {A = Result Reply EventFault × Network A} (Ok reply.NotReady, after) (answered kind net e) → after ≡ net
+  pub unready_stays : (net after : Network A) (e : Event) → ◌≡◌ {A = Result Reply EventFault × Network A} (Ok reply.NotReady, after) (network_apply kind net e) → after ≡ net
   unready_stays net after e was = there_stays net after e (event_fault net.plan e) was
 
   -- the run goes on by one event that wasn't refused
   pub goes_on : (net mid after : Network A) (events : List Event) (i : ℕ) (e : Event) (r : Reply) → i < length events → e ≡ get_or events i e →
-      run_until kind net (take i events) ≡ (Ok tt, mid) → Answers kind mid e (Ok r) after → run_until kind net (take (i + 1) events) ≡ (Ok tt, after)
+      run_until kind net (take i events) ≡ (Ok tt, mid) → AnswersEvent kind mid e (Ok r) after → run_until kind net (take (i + 1) events) ≡ (Ok tt, after)
   goes_on net mid after events i e r within is front answer =
       let one_more : take (i + 1) events ≡ take i events ++ e ∷ [] = take_more events i e within ∙ ap (λ (d : Event). take i events ++ d ∷ []) (sym is) in
       elim answer [
@@ -116,7 +116,7 @@ module _ {A : Type 0} (kind : Kind A) where
         | inr refused ↦ absurd (cc refused.0)
       ]
 
-  pub undone_leaves : (mid after : Network A) (e : Event) (r : Reply) → was_done r ≡ false → Answers kind mid e (Ok r) after → after ≡ mid
+  pub undone_leaves : (mid after : Network A) (e : Event) (r : Reply) → is_done_reply r ≡ false → AnswersEvent kind mid e (Ok r) after → after ≡ mid
   undone_leaves mid after e reply.NotReady undone answer = elim answer [ inl due ↦ unready_stays mid after e due | inr refused ↦ refused.2 ]
   undone_leaves mid after e reply.Done undone answer = cc
   undone_leaves mid after e (reply.Token x) undone answer = cc
@@ -127,7 +127,7 @@ module _ {A : Type 0} (kind : Kind A) where
 
   -- the run ends with the fault of an event, or out of memory
   pub fault_ends : (net mid after : Network A) (events : List Event) (i : ℕ) (e : Event) (f : EventFault) → i < length events → e ≡ get_or events i e →
-      run_until kind net (take i events) ≡ (Ok tt, mid) → Answers kind mid e (Err f) after → RunEnds kind net events (Err f) after
+      run_until kind net (take i events) ≡ (Ok tt, mid) → AnswersEvent kind mid e (Err f) after → EventsEnd kind net events (Err f) after
   fault_ends net mid after events i e f within is front answer =
       let rest : drop i events ≡ e ∷ drop (i + 1) events = drop_more events i e within ∙ ap (λ (d : Event). d ∷ drop (i + 1) events) (sym is) in
       let parts : events ≡ take i events ++ e ∷ drop (i + 1) events = sym (take-append-drop i events) ∙ ap (λ es. take i events ++ es) rest in

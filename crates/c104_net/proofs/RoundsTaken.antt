@@ -5,7 +5,7 @@ use Rattle.c104_event.specs.declared.events.Event.{Event}
 use Rattle.c104_event.specs.declared.faults.EventFault.{EventFault}
 use Rattle.c104_describe.specs.Plans.{Plan}
 use Rattle.c104_net.specs.Network.{Network}
-use Rattle.c104_net.specs.Rounds.{Outcome, RunEnds, round, rounds, run_until, unless_fault}
+use Rattle.c104_net.specs.Rounds.{Outcome, EventsEnd, round, rounds, run_until, unless_fault}
 use Rattle.c104_net.proofs.RoundRuns.{run_append, run_from}
 
 -- rounds in two parts
@@ -19,11 +19,11 @@ rounds_from plan i n further = let count : n ≡ i + suc (n - suc i) = omega ari
 
 module _ {A : Type 0} (kind : Kind A) where
   -- a run of the events of a round
-  of_round : (net after : Network A) (plan : Plan) (events : List Event) (result : Result (Unit {0}) EventFault) → events ≡ round plan → RunEnds kind net events result after → RunEnds kind net (round plan) result after
-  of_round net after plan events result are ends = subst (λ es. RunEnds kind net es result after) are ends
+  of_round : (net after : Network A) (plan : Plan) (events : List Event) (result : Result (Unit {0}) EventFault) → events ≡ round plan → EventsEnd kind net events result after → EventsEnd kind net (round plan) result after
+  of_round net after plan events result are ends = subst (λ es. EventsEnd kind net es result after) are ends
 
   -- one more round
-  pub round_taken : (net mid after : Network A) (plan : Plan) (events : List Event) (i : ℕ) → events ≡ round plan → run_until kind net (rounds plan i) ≡ (Ok tt, mid) → RunEnds kind mid events (Ok tt) after → run_until kind net (rounds plan (i + 1)) ≡ (Ok tt, after)
+  pub round_taken : (net mid after : Network A) (plan : Plan) (events : List Event) (i : ℕ) → events ≡ round plan → run_until kind net (rounds plan i) ≡ (Ok tt, mid) → EventsEnd kind mid events (Ok tt) after → run_until kind net (rounds plan (i + 1)) ≡ (Ok tt, after)
   round_taken net mid after plan events i are front ends =
       let one_more : rounds plan (i + 1) ≡ rounds plan i ++ round plan = rounds_parts plan i 1 ∙ ap (λ es. rounds plan i ++ es) (append-nil (round plan)) in
       elim (of_round mid after plan events (Ok tt) are ends) [
@@ -32,7 +32,7 @@ module _ {A : Type 0} (kind : Kind A) where
       ]
 
   -- a round that ends with a fault, or short
-  pub round_refused : (net mid after : Network A) (plan : Plan) (events : List Event) (i n : ℕ) (f : EventFault) → events ≡ round plan → i < n → run_until kind net (rounds plan i) ≡ (Ok tt, mid) → RunEnds kind mid events (Err f) after → RunEnds kind net (rounds plan n) (Err f) after
+  pub round_refused : (net mid after : Network A) (plan : Plan) (events : List Event) (i n : ℕ) (f : EventFault) → events ≡ round plan → i < n → run_until kind net (rounds plan i) ≡ (Ok tt, mid) → EventsEnd kind mid events (Err f) after → EventsEnd kind net (rounds plan n) (Err f) after
   round_refused net mid after plan events i n f are further front ends =
       let more : List Event = rounds plan (n - suc i) in
       elim (of_round mid after plan events (Err f) are ends) [
@@ -54,7 +54,7 @@ module _ {A : Type 0} (kind : Kind A) where
   rounds_idle net plan zero idle = refl
   rounds_idle net plan (suc n) idle = run_from kind net net (round plan) (rounds plan n) idle ∙ rounds_idle net plan n idle
 
-  pub round_idle : (net mid after : Network A) (plan : Plan) (events : List Event) (i n : ℕ) → events ≡ round plan → i < n → run_until kind net (rounds plan i) ≡ (Ok tt, mid) → RunEnds kind mid events (Ok tt) after → after ≡ mid → RunEnds kind net (rounds plan n) (Ok tt) after
+  pub round_idle : (net mid after : Network A) (plan : Plan) (events : List Event) (i n : ℕ) → events ≡ round plan → i < n → run_until kind net (rounds plan i) ≡ (Ok tt, mid) → EventsEnd kind mid events (Ok tt) after → after ≡ mid → EventsEnd kind net (rounds plan n) (Ok tt) after
   round_idle net mid after plan events i n are further front ends unchanged =
       let more : List Event = rounds plan (n - suc i) in
       elim (of_round mid after plan events (Ok tt) are ends) [

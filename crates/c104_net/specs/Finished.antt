@@ -7,7 +7,7 @@ use Rattle.c104_net.specs.Nodes.{Node}
 use Rattle.c104_net.specs.declared.node.NodeOf.TheVariants as node
 use Rattle.c104_net.specs.Network.{Network}
 
-pub record Finished (A : Type 0) : Type 0 where
+pub record FinishedRun (A : Type 0) : Type 0 where
   pub plan : Plan
   pub terminals : List (Terminal A)
 
@@ -18,9 +18,9 @@ terminals_of (node.Switch s ∷ nodes) = terminals_of nodes
 terminals_of (node.Terminal t ∷ nodes) = t ∷ terminals_of nodes
 
 -- a network that is finished as it stands
-abbrev pub finished : {A : Type 0} → Network A → Finished A
-finished net = record { plan = net.plan; terminals = terminals_of net.nodes }
+abbrev pub network_finish : {A : Type 0} → Network A → FinishedRun A
+network_finish net = record { plan = net.plan; terminals = terminals_of net.nodes }
 
 -- what had arrived at a terminal
-abbrev pub arrived_in : {A : Type 0} → Finished A → ℕ → Option (List A)
-arrived_in run t = slice_get run.terminals t >>= (λ terminal. Some terminal.arrived)
+abbrev pub run_arrived : {A : Type 0} → FinishedRun A → ℕ → Option (List A)
+run_arrived run t = slice_get run.terminals t >>= (λ terminal. Some terminal.arrived)

@@ -2,16 +2,16 @@
 use Rattle.std.specs.Prelude.{ℕ, ◌+◌, ◌≡◌, ◌⊎◌, true, List, [], ◌∷◌, ◌++◌, length, map, nat_lt, nat_le, Option, Some, None, is_some, Result, Ok, Err, if◌then◌else◌, slice_get}
 use Rattle.c104_token.specs.declared.text.TheConstants.{MAX_PACKET_BYTES}
 use Rattle.c104_token.specs.Kinds.{Kind}
-use Rattle.c104_link.specs.Steps.{◌>>=◌, at_place, from_place}
+use Rattle.c104_link.specs.Steps.{◌>>=◌, step_at, yield_step_at}
 use Rattle.c104_switch.specs.declared.actions.Reply.{Reply}
 use Rattle.c104_switch.specs.declared.actions.Reply.TheVariants as reply
 use Rattle.c104_regs.specs.declared.registers.TheConstants.{LINKS}
 use Rattle.c104_regs.specs.declared.settings.Settings.{Settings}
-use Rattle.c104_switch.specs.Switch.{first_state, first_with}
+use Rattle.c104_switch.specs.Switch.{new_switch, new_switch_with}
 use Rattle.c104_describe.specs.declared.plans.Terminal.{Terminal}
 use Rattle.c104_describe.specs.Plans.{Plan}
 use Rattle.c104_describe.specs.PlanImage.{Image}
-use Rattle.c104_net.specs.Terminals.{first_terminal}
+use Rattle.c104_net.specs.Terminals.{new_terminal}
 use Rattle.c104_net.specs.declared.node.NodeOf.TheVariants as node
 use Rattle.c104_event.specs.declared.events.Port.{Port}
 use Rattle.c104_event.specs.declared.events.Port.TheVariants as port
@@ -19,8 +19,8 @@ use Rattle.c104_event.specs.declared.events.Event.{Event}
 use Rattle.c104_event.specs.declared.events.Event.TheVariants as event
 use Rattle.c104_event.specs.declared.faults.EventFault.{EventFault}
 use Rattle.c104_event.specs.declared.faults.EventFault.TheVariants as fault
-use Rattle.c104_net.specs.Nodes.{Node, input, claim, control, send, drain, waiting, arrived, arrived_at, register_at}
-use Rattle.c104_net.specs.Wires.{crossed, credited}
+use Rattle.c104_net.specs.Nodes.{Node, node_input, node_claim, node_control, node_send, node_drain, waiting_tokens, arrived_tokens, nodes_arrived, nodes_peek}
+use Rattle.c104_net.specs.Wires.{nodes_cross, nodes_credit}
 use Rattle.c104_net.specs.Wiring.{peer, end_of}
 
 pub record Network (A : Type 0) : Type 0 where
@@ -36,16 +36,16 @@ abbrev pub terminal_place : Plan → ℕ → ℕ
 terminal_place plan t = length plan.switches + t
 
 -- what arrived at a terminal
-abbrev pub arrived_of : {A : Type 0} → Network A → ℕ → Option (List A)
-arrived_of net t =
+abbrev pub network_arrived : {A : Type 0} → Network A → ℕ → Option (List A)
+network_arrived net t =
     if nat_lt t (length net.plan.terminals)
-    then arrived_at net.nodes (terminal_place net.plan t)
+    then nodes_arrived net.nodes (terminal_place net.plan t)
     else None
 
 -- the value of a register of a switch
-abbrev pub register_of : {A : Type 0} → Network A → ℕ → ℕ → Option ℕ
-register_of net s a =
-    if nat_lt s (length net.plan.switches) then register_at net.nodes s a else None
+abbrev pub network_peek : {A : Type 0} → Network A → ℕ → ℕ → Option ℕ
+network_peek net s a =
+    if nat_lt s (length net.plan.switches) then nodes_peek net.nodes s a else None
 
 -- how many tokens may wait at a terminal, and how many may arrive there
 abbrev pub outbox_limit : ℕ
@@ -61,26 +61,26 @@ buffer_size = 16
 -- switches at first, each started with these settings, and terminals at first
 abbrev pub switch_nodes : {A : Type 0} → List (List Settings) → List (Node A)
 switch_nodes switches =
-    map (λ settings. node.Switch (first_with buffer_size settings true)) switches
+    map (λ settings. node.Switch (new_switch_with buffer_size settings true)) switches
 
 abbrev pub terminal_nodes : {A : Type 0} → List Terminal → List (Node A)
 terminal_nodes terminals =
-    map (λ (t : Terminal). node.Terminal (first_terminal buffer_size)) terminals
+    map (λ (t : Terminal). node.Terminal (new_terminal buffer_size)) terminals
 
 -- switches at first: each is reset, and not started
-abbrev pub first_switches : {A : Type 0} → List (List ℕ) → List (Node A)
-first_switches names = map (λ name. node.Switch (first_state buffer_size)) names
+abbrev pub new_switch_nodes : {A : Type 0} → List (List ℕ) → List (Node A)
+new_switch_nodes names = map (λ name. node.Switch (new_switch buffer_size)) names
 
 -- a new network: no switch is started, and nothing is anywhere
-abbrev pub first_network : {A : Type 0} → Plan → Network A
-first_network plan = record {
+abbrev pub new_network : {A : Type 0} → Plan → Network A
+new_network plan = record {
   plan = plan;
-  nodes = first_switches plan.switches ++ terminal_nodes plan.terminals;
+  nodes = new_switch_nodes plan.switches ++ terminal_nodes plan.terminals;
 }
 
 -- a network at first: each switch started with the image's settings, and nothing anywhere
-abbrev pub placed : {A : Type 0} → Plan → Image → Network A
-placed plan image = record {
+abbrev pub placed_network : {A : Type 0} → Plan → Image → Network A
+placed_network plan image = record {
   plan = plan;
   nodes = switch_nodes image.settings ++ terminal_nodes plan.terminals;
 }
@@ -124,11 +124,11 @@ limit_fault (Some n) (event.Input s l word) = None
 limit_fault (Some n) (event.Claim s i o) = None
 limit_fault (Some n) (event.Control s bytes) = None
 limit_fault (Some n) (event.Send t packet) =
-    if nat_le (length (waiting n) + length packet.bytes + 1) outbox_limit
+    if nat_le (length (waiting_tokens n) + length packet.bytes + 1) outbox_limit
     then None
     else Some fault.OutboxFull
 limit_fault (Some n) (event.Drain t) =
-    if nat_lt (length (arrived n)) inbox_limit then None else Some fault.InboxFull
+    if nat_lt (length (arrived_tokens n)) inbox_limit then None else Some fault.InboxFull
 
 -- the node whose list an event's limit is about
 abbrev pub limited_node : {A : Type 0} → Network A → Event → Option (Node A)
@@ -141,73 +141,73 @@ limited_node net (event.Send t packet) = slice_get net.nodes (terminal_place net
 limited_node net (event.Drain t) = slice_get net.nodes (terminal_place net.plan t)
 
 -- what is answered where a switch replies to a command
-abbrev pub reply_by : Option (List ℕ) → Reply
-reply_by (Some bytes) = reply.Control bytes
-reply_by None = reply.NotReady
+abbrev pub control_reply : Option (List ℕ) → Reply
+control_reply (Some bytes) = reply.Control bytes
+control_reply None = reply.NotReady
 
 module _ {A : Type 0} (kind : Kind A) where
   -- what is left where nothing else comes of an event
-  abbrev pub done : Network A → Option (List (Node A)) → Option (Reply × Network A)
-  done net made = made >>= (λ nodes. Some (reply.Done, with_nodes net nodes))
+  abbrev pub done_step : Network A → Option (List (Node A)) → Option (Reply × Network A)
+  done_step net made = made >>= (λ nodes. Some (reply.Done, with_nodes net nodes))
 
   -- the same, where a token comes of it
-  abbrev pub moved : Network A → Option (A × List (Node A)) → Option (Reply × Network A)
-  moved net made = made >>= (λ r. Some (reply.Token (kind.plain r.0), with_nodes net r.1))
+  abbrev pub token_step : Network A → Option (A × List (Node A)) → Option (Reply × Network A)
+  token_step net made = made >>= (λ r. Some (reply.Token (kind.plain r.0), with_nodes net r.1))
 
   -- the same, where a switch replies to a command
-  abbrev pub replied : Network A → Option (List ℕ × List (Node A)) → Option (Reply × Network A)
-  replied net made = made >>= (λ r. Some (reply.Control r.0, with_nodes net r.1))
+  abbrev pub control_step : Network A → Option (List ℕ × List (Node A)) → Option (Reply × Network A)
+  control_step net made = made >>= (λ r. Some (reply.Control r.0, with_nodes net r.1))
 
   -- what an event answers and leaves, where it is ready
-  abbrev pub step : Network A → Event → Option (Reply × Network A)
-  step net (event.Cross p) = peer net.plan p >>= (λ q.
-      moved net (crossed net.nodes (end_of net.plan p) (end_of net.plan q)))
-  step net (event.Credit p) = peer net.plan p >>= (λ q.
-      done net (credited net.nodes (end_of net.plan p) (end_of net.plan q)))
-  step net (event.Input s l word) = done net (at_place net.nodes s (input kind l word))
-  step net (event.Claim s i o) = done net (at_place net.nodes s (claim i o))
-  step net (event.Control s bytes) = replied net (from_place net.nodes s (control bytes))
-  step net (event.Send t packet) =
-      done net (at_place net.nodes (terminal_place net.plan t) (send kind t packet))
-  step net (event.Drain t) =
-      moved net (from_place net.nodes (terminal_place net.plan t) drain)
+  abbrev pub network_step : Network A → Event → Option (Reply × Network A)
+  network_step net (event.Cross p) = peer net.plan p >>= (λ q.
+      token_step net (nodes_cross net.nodes (end_of net.plan p) (end_of net.plan q)))
+  network_step net (event.Credit p) = peer net.plan p >>= (λ q.
+      done_step net (nodes_credit net.nodes (end_of net.plan p) (end_of net.plan q)))
+  network_step net (event.Input s l word) = done_step net (step_at net.nodes s (node_input kind l word))
+  network_step net (event.Claim s i o) = done_step net (step_at net.nodes s (node_claim i o))
+  network_step net (event.Control s bytes) = control_step net (yield_step_at net.nodes s (node_control bytes))
+  network_step net (event.Send t packet) =
+      done_step net (step_at net.nodes (terminal_place net.plan t) (node_send kind t packet))
+  network_step net (event.Drain t) =
+      token_step net (yield_step_at net.nodes (terminal_place net.plan t) node_drain)
 
   -- an event that is ready is done, if no limit is passed
-  abbrev pub within_limit : Network A → Option EventFault → Reply × Network A → Result Reply EventFault × Network A
-  within_limit net None r = (Ok r.0, r.1)
-  within_limit net (Some f) r = (Err f, net)
+  abbrev pub outcome_within_limit : Network A → Option EventFault → Reply × Network A → Result Reply EventFault × Network A
+  outcome_within_limit net None r = (Ok r.0, r.1)
+  outcome_within_limit net (Some f) r = (Err f, net)
 
-  abbrev pub if_ready : Network A → Event → Option (Reply × Network A) → Result Reply EventFault × Network A
-  if_ready net e None = (Ok reply.NotReady, net)
-  if_ready net e (Some r) = within_limit net (limit_fault (limited_node net e) e) r
+  abbrev pub outcome_if_ready : Network A → Event → Option (Reply × Network A) → Result Reply EventFault × Network A
+  outcome_if_ready net e None = (Ok reply.NotReady, net)
+  outcome_if_ready net e (Some r) = outcome_within_limit net (limit_fault (limited_node net e) e) r
 
-  abbrev pub if_there : Network A → Event → Option EventFault → Result Reply EventFault × Network A
-  if_there net e None = if_ready net e (step net e)
-  if_there net e (Some f) = (Err f, net)
+  abbrev pub outcome_if_possible : Network A → Event → Option EventFault → Result Reply EventFault × Network A
+  outcome_if_possible net e None = outcome_if_ready net e (network_step net e)
+  outcome_if_possible net e (Some f) = (Err f, net)
 
   -- what an event answers, and the network after it: a fault of the event, not ready, a limit that
   -- would be passed, or its reply, in this order. Only the last changes anything.
-  abbrev pub answered : Network A → Event → Result Reply EventFault × Network A
-  answered net e = if_there net e (event_fault net.plan e)
+  abbrev pub network_apply : Network A → Event → Result Reply EventFault × Network A
+  network_apply net e = outcome_if_possible net e (event_fault net.plan e)
 
   -- an event for which memory can run out: no fault and no limit refuses it, and it is ready
   abbrev pub WouldBeDone : Network A → Event → Type 0
   WouldBeDone net e =
       (event_fault net.plan e ≡ None)
-      × (is_some (step net e) ≡ true)
+      × (is_some (network_step net e) ≡ true)
       × (limit_fault (limited_node net e) e ≡ None)
 
   -- an answer and the network after it: what is due, or out of memory for an event that would be
   -- done, and nothing changed
-  abbrev pub Answers : Network A → Event → Result Reply EventFault → Network A → Type 0
-  Answers net e answer after =
-      (◌≡◌ {A = Result Reply EventFault × Network A} (answer, after) (answered net e))
+  abbrev pub AnswersEvent : Network A → Event → Result Reply EventFault → Network A → Type 0
+  AnswersEvent net e answer after =
+      (◌≡◌ {A = Result Reply EventFault × Network A} (answer, after) (network_apply net e))
       ⊎ ((answer ≡ Err fault.NoMemory) × WouldBeDone net e × (after ≡ net))
 
   -- the answers to a list of events, and the network after them
-  abbrev pub Runs : Network A → List Event → List (Result Reply EventFault) → Network A → Type 0
-  Runs net [] [] after = after ≡ net
-  Runs net (e ∷ events) (a ∷ answers) after =
-      (next : Network A) × Answers net e a next × Runs next events answers after
-  Runs net [] (a ∷ answers) after = ⊥
-  Runs net (e ∷ events) [] after = ⊥
+  abbrev pub AnswersEvents : Network A → List Event → List (Result Reply EventFault) → Network A → Type 0
+  AnswersEvents net [] [] after = after ≡ net
+  AnswersEvents net (e ∷ events) (a ∷ answers) after =
+      (next : Network A) × AnswersEvent net e a next × AnswersEvents next events answers after
+  AnswersEvents net [] (a ∷ answers) after = ⊥
+  AnswersEvents net (e ∷ events) [] after = ⊥

@@ -14,7 +14,7 @@ use Rattle.c104_event.specs.declared.events.Event.TheVariants as event
 use Rattle.c104_event.specs.declared.faults.EventFault.{EventFault}
 use Rattle.c104_event.specs.declared.faults.EventFault.TheVariants as fault
 use Rattle.c104_net.specs.Wiring.{peer}
-use Rattle.c104_net.specs.Network.{Network, WouldBeDone, answered}
+use Rattle.c104_net.specs.Network.{Network, WouldBeDone, network_apply}
 
 -- the numbers of a switch's links
 unfoldable pub link_numbers : List ℕ
@@ -75,9 +75,9 @@ rounds plan zero = []
 rounds plan (suc n) = round plan ++ rounds plan n
 
 -- whether an event that was answered so was done
-abbrev pub was_done : Reply → Bool
-was_done reply.NotReady = false
-was_done r = true
+abbrev pub is_done_reply : Reply → Bool
+is_done_reply reply.NotReady = false
+is_done_reply r = true
 
 -- what a run comes to: whether a fault stopped it, and the network after it
 abbrev pub Outcome : (A : Type 0) → Type 0
@@ -94,7 +94,7 @@ module _ {A : Type 0} (kind : Kind A) where
   abbrev pub run_until : Network A → List Event → Outcome A
   run_until net [] = (Ok tt, net)
   run_until net (e ∷ events) =
-      unless_fault (answered kind net e).0 (answered kind net e).1 (λ next. run_until next events)
+      unless_fault (network_apply kind net e).0 (network_apply kind net e).1 (λ next. run_until next events)
 
   -- out of memory for an event that would be done, and each event before it stands
   pub record StopsShort (net : Network A) (events : List Event)
@@ -108,8 +108,8 @@ module _ {A : Type 0} (kind : Kind A) where
     pub wanted : WouldBeDone kind after event
 
   -- how a run ends: with what is due, or short of it when out of memory
-  abbrev pub RunEnds : Network A → List Event → Result (Unit {0}) EventFault → Network A → Type 0
-  RunEnds net events result after =
+  abbrev pub EventsEnd : Network A → List Event → Result (Unit {0}) EventFault → Network A → Type 0
+  EventsEnd net events result after =
       (◌≡◌ {A = Outcome A} (result, after) (run_until net events))
       ⊎ StopsShort net events result after
 
@@ -117,5 +117,5 @@ module _ {A : Type 0} (kind : Kind A) where
   -- nothing changed
   abbrev pub RoundsEnd : Network A → ℕ → Result (Unit {0}) EventFault → Network A → Type 0
   RoundsEnd net n result after =
-      RunEnds net (rounds net.plan n) result after
+      EventsEnd net (rounds net.plan n) result after
       ⊎ ((result ≡ Err fault.NoMemory) × (after ≡ net))

@@ -3,10 +3,10 @@ use Rattle.std.specs.Prelude.{ℕ, suc, List, [], ◌∷◌, ◌++◌, length, O
 use Rattle.c104_token.specs.declared.tokens.Token.{Token}
 use Rattle.c104_token.specs.declared.packets.Packet.{Packet}
 use Rattle.c104_token.specs.Kinds.{Kind}
-use Rattle.c104_token.specs.Packets.{tokens}
+use Rattle.c104_token.specs.Packets.{packet_tokens}
 use Rattle.c104_link.specs.Steps.{◌>>=◌}
 use Rattle.c104_link.specs.Buffers as buffer
-use Rattle.c104_link.specs.Buffers.{Incoming, Outgoing, without_first, empty_in, empty_out}
+use Rattle.c104_link.specs.Buffers.{Incoming, Outgoing, without_first, empty_incoming, empty_outgoing}
 
 pub record Terminal (A : Type 0) : Type 0 where
   pub input : Incoming A
@@ -18,8 +18,8 @@ pub record Terminal (A : Type 0) : Type 0 where
   pub arrived : List A
 
 -- a terminal at first: nothing was sent, and nothing came
-abbrev pub first_terminal : {A : Type 0} → ℕ → Terminal A
-first_terminal cap = record { input = empty_in cap; output = empty_out; sent = []; arrived = [] }
+abbrev pub new_terminal : {A : Type 0} → ℕ → Terminal A
+new_terminal cap = record { input = empty_incoming cap; output = empty_outgoing; sent = []; arrived = [] }
 
 abbrev pub with_input : {A : Type 0} → Terminal A → Incoming A → Terminal A
 with_input t b = record t { input = b }
@@ -28,32 +28,32 @@ abbrev pub with_output : {A : Type 0} → Terminal A → Outgoing A → Terminal
 with_output t q = record t { output = q }
 
 -- a token comes in from the wire
-abbrev pub enter : {A : Type 0} → A → Terminal A → Option (Terminal A)
-enter x t = do
-  b ← buffer.enter x t.input
+abbrev pub terminal_enter : {A : Type 0} → A → Terminal A → Option (Terminal A)
+terminal_enter x t = do
+  b ← buffer.incoming_accept x t.input
   Some (with_input t b)
 
 -- the first token that waits goes out to the wire
-abbrev pub leave : {A : Type 0} → Terminal A → Option (A × Terminal A)
-leave t = do
-  r ← buffer.leave t.output
+abbrev pub terminal_leave : {A : Type 0} → Terminal A → Option (A × Terminal A)
+terminal_leave t = do
+  r ← buffer.outgoing_emit t.output
   Some (r.0, with_output t r.1)
 
 -- the terminal grants eight more tokens
-abbrev pub credit_out : {A : Type 0} → Terminal A → Option (Terminal A)
-credit_out t = do
-  b ← buffer.grant t.input
+abbrev pub terminal_credit_out : {A : Type 0} → Terminal A → Option (Terminal A)
+terminal_credit_out t = do
+  b ← buffer.incoming_grant t.input
   Some (with_input t b)
 
 -- the terminal may send eight more tokens
-abbrev pub credit_in : {A : Type 0} → Terminal A → Option (Terminal A)
-credit_in t = do
-  q ← buffer.credited t.output
+abbrev pub terminal_credit_in : {A : Type 0} → Terminal A → Option (Terminal A)
+terminal_credit_in t = do
+  q ← buffer.outgoing_credited t.output
   Some (with_output t q)
 
 -- the first token that came in arrives
-abbrev pub drain : {A : Type 0} → Terminal A → Option (A × Terminal A)
-drain t = do
+abbrev pub terminal_drain : {A : Type 0} → Terminal A → Option (A × Terminal A)
+terminal_drain t = do
   x ← slice_get t.input.items 0
   Some (x, record t { input = without_first t.input; arrived = t.arrived ++ x ∷ [] })
 
@@ -66,11 +66,11 @@ module _ {A : Type 0} (kind : Kind A) where
 
   -- the tokens of a terminal's packet of this number
   abbrev pub sent_tokens : ℕ → ℕ → Packet → List A
-  sent_tokens terminal number packet = sent_from terminal number 0 (tokens packet)
+  sent_tokens terminal number packet = sent_from terminal number 0 (packet_tokens packet)
 
   -- a packet's tokens join those that wait to go out; packets are numbered from 0 as they are sent
-  abbrev pub send : ℕ → Packet → Terminal A → Terminal A
-  send terminal packet t = record t {
+  abbrev pub terminal_send : ℕ → Packet → Terminal A → Terminal A
+  terminal_send terminal packet t = record t {
     output = record {
       items = t.output.items ++ sent_tokens terminal (length t.sent) packet;
       credit = t.output.credit;

@@ -5,12 +5,12 @@ ghost use Rattle.std.specs.Option.{option_copied};
 ghost use Rattle.c104_describe.specs.Plans.{IsPlan};
 ghost use Rattle.c104_net.specs.Wiring.{peer, end_of, other_end, terminal_wires, IsInPlan};
 ghost use Rattle.c104_event.specs.declared.events.Event.TheVariants as event;
-ghost use Rattle.c104_switch.specs.Actions.{reply_of, reply_with};
+ghost use Rattle.c104_switch.specs.Actions.{done_reply, token_reply};
 ghost use Rattle.c104_describe.specs.PlanImage.{Fits};
 ghost use Rattle.c104_net.specs.Balance.{IsBalanced};
-ghost use Rattle.c104_net.specs.Finished.{finished, arrived_in};
-ghost use Rattle.c104_net.specs.Network.{first_network, placed, arrived_of, register_of, reply_by};
-ghost use Rattle.c104_net.specs.Network.{Answers, Runs, event_fault, wired_fault, terminal_place};
+ghost use Rattle.c104_net.specs.Finished.{network_finish, run_arrived};
+ghost use Rattle.c104_net.specs.Network.{new_network, placed_network, network_arrived, network_peek, control_reply};
+ghost use Rattle.c104_net.specs.Network.{AnswersEvent, AnswersEvents, event_fault, wired_fault, terminal_place};
 
 use crate::faults::PlaceFault;
 use crate::nodes::{End, NodesOf};
@@ -47,9 +47,9 @@ pub type Net = NetOf<Token>;
 
 impl<T: TokenKind> Model for NetOf<T> {
     ghost use Rattle.c104_event.specs.declared.events.Event.TheVariants as event;
-    ghost use Rattle.c104_switch.specs.Actions.{reply_of, reply_with};
+    ghost use Rattle.c104_switch.specs.Actions.{done_reply, token_reply};
     ghost use Rattle.c104_describe.specs.PlanImage.{Fits};
-    ghost use Rattle.c104_net.specs.Network.{placed, arrived_of, Network};
+    ghost use Rattle.c104_net.specs.Network.{placed_network, network_arrived, Network};
     ghost use Rattle.c104_net.specs.Balance.{IsSteady};
     ghost use Rattle.std.specs.Prelude.{◌≡◌, ◌≤◌, [], length};
     ghost use Rattle.std.specs.Vec.{vec_capacity};
@@ -68,7 +68,7 @@ impl<T: TokenKind> NetOf<T> {
     /// A network of this plan, each switch of which is reset and not started, and no token anywhere.
     /// The only error is out of memory.
     pub fn new(alloc: Global, plan: &Plan) -> Result<Self, NoMemory>
-        ensures { IfOk result (λ net. net ≡ first_network plan.now) }
+        ensures { IfOk result (λ net. net ≡ new_network plan.now) }
     {
         let plan = plan.clone()?;
         let room = Vec::with_capacity(alloc, plan.terminals().len())?;
@@ -90,7 +90,7 @@ impl<T: TokenKind> NetOf<T> {
     /// token anywhere. NotFitting exactly where the image has other counts of switches or terminals
     /// than the plan; else the only error is out of memory.
     pub fn placed(alloc: Global, plan: &Plan, image: &Image) -> Result<Self, PlaceFault>
-        ensures placed { IfOk result (λ net. net ≡ placed plan.now image.now) }
+        ensures placed { IfOk result (λ net. net ≡ placed_network plan.now image.now) }
         ensures fits { OnOk result (Fits image.now plan.now) }
         ensures not_fitting { IsErrOf result PlaceFault.NotFitting → Fits image.now plan.now → ⊥ }
         ensures no_memory { IsErrOf result PlaceFault.NoMemory → Fits image.now plan.now }
@@ -105,7 +105,7 @@ impl<T: TokenKind> NetOf<T> {
     /// A network of this plan, with an image that fits it.
     fn started(alloc: Global, plan: &Plan, image: &Image) -> Result<Self, NoMemory>
         requires { Fits image.now plan.now }
-        ensures { IfOk result (λ net. net ≡ placed plan.now image.now) }
+        ensures { IfOk result (λ net. net ≡ placed_network plan.now image.now) }
     {
         let plan = plan.clone()?;
         let room = Vec::with_capacity(alloc, plan.terminals().len())?;
@@ -125,8 +125,8 @@ impl<T: TokenKind> NetOf<T> {
 
     /// The run up to now, at its end. The switches are retired.
     pub fn finish(self) -> RunOf<T>
-        ensures end { result ≡ finished self }
-        ensures arrived { (t : ℕ) → arrived_in result t ≡ arrived_of self t }
+        ensures end { result ≡ network_finish self }
+        ensures arrived { (t : ℕ) → run_arrived result t ≡ network_arrived self t }
     {
         let NetOf { plan, nodes, room } = self;
         let terminals = nodes.retire(room);
@@ -143,7 +143,7 @@ impl<T: TokenKind> NetOf<T> {
     /// The tokens that arrived at a terminal since the start, in order. None where the plan has no
     /// such terminal.
     pub fn arrived(&self, terminal: usize) -> Option<&[T]>
-        ensures tokens { option_copied result ≡ arrived_of self.now terminal }
+        ensures tokens { option_copied result ≡ network_arrived self.now terminal }
         ensures balanced { IsBalanced self.now }
     {
         if terminal >= self.plan.terminals().len() {
@@ -155,7 +155,7 @@ impl<T: TokenKind> NetOf<T> {
     /// The value of the register at this address of a switch. None where the plan has no such
     /// switch, or no register has the address.
     pub fn peek(&self, switch: usize, addr: u16) -> Option<u32>
-        ensures { result ≡ register_of self.now switch addr }
+        ensures { result ≡ network_peek self.now switch addr }
     {
         if switch >= self.plan.switches().len() {
             return None;
@@ -168,7 +168,7 @@ impl<T: TokenKind> NetOf<T> {
     /// NoLink, NotWired and TooLong; then whether it is ready; then OutboxFull, InboxFull and
     /// NoMemory.
     pub fn apply(&mut self, event: &Event) -> Result<Reply, EventFault>
-        ensures { Answers T.kind self.old event.now result self.new }
+        ensures { AnswersEvent T.kind self.old event.now result self.new }
     {
         match event {
             Event::Cross(port) => self.cross(*port),
@@ -193,7 +193,7 @@ impl<T: TokenKind> NetOf<T> {
         events: &[Event],
     ) -> Result<Vec<Result<Reply, EventFault>>, AllocError>
         ensures done { IfOk result (λ answers.
-            Runs T.kind self.old events.now answers.items self.new) }
+            AnswersEvents T.kind self.old events.now answers.items self.new) }
         ensures kept { OnErr result (self.new ≡ self.old) }
     {
         let mut answers = Vec::with_capacity(alloc, events.len())?;
@@ -208,7 +208,7 @@ impl<T: TokenKind> NetOf<T> {
 
     /// A token crosses the wire at a port.
     fn cross(&mut self, port: Port) -> Result<Reply, EventFault>
-        ensures { Answers T.kind self.old (event.Cross port) result self.new }
+        ensures { AnswersEvent T.kind self.old (event.Cross port) result self.new }
     {
         let ends = wired_ends(&self.plan, port)?;
         Ok(gave(self.nodes.cross(ends.near, ends.far)))
@@ -216,7 +216,7 @@ impl<T: TokenKind> NetOf<T> {
 
     /// A port grants eight more tokens to the other end of its wire.
     fn credit(&mut self, port: Port) -> Result<Reply, EventFault>
-        ensures { Answers T.kind self.old (event.Credit port) result self.new }
+        ensures { AnswersEvent T.kind self.old (event.Credit port) result self.new }
     {
         let ends = wired_ends(&self.plan, port)?;
         Ok(done(self.nodes.credit(ends.near, ends.far)))
@@ -224,7 +224,7 @@ impl<T: TokenKind> NetOf<T> {
 
     /// A terminal sends a packet.
     fn send(&mut self, terminal: usize, packet: &Packet) -> Result<Reply, EventFault>
-        ensures { Answers T.kind self.old (event.Send terminal packet.now) result self.new }
+        ensures { AnswersEvent T.kind self.old (event.Send terminal packet.now) result self.new }
     {
         if terminal >= self.plan.terminals().len() {
             return Err(EventFault::NoNode);
@@ -245,7 +245,7 @@ impl<T: TokenKind> NetOf<T> {
 
     /// The first token that came in at a terminal arrives.
     fn drain(&mut self, terminal: usize) -> Result<Reply, EventFault>
-        ensures { Answers T.kind self.old (event.Drain terminal) result self.new }
+        ensures { AnswersEvent T.kind self.old (event.Drain terminal) result self.new }
     {
         if terminal >= self.plan.terminals().len() {
             return Err(EventFault::NoNode);
@@ -265,7 +265,7 @@ impl<T: TokenKind> NetOf<T> {
 
     /// An input of a switch takes a turn.
     fn input(&mut self, switch: usize, link: usize, word: u32) -> Result<Reply, EventFault>
-        ensures { Answers T.kind self.old (event.Input switch link word) result self.new }
+        ensures { AnswersEvent T.kind self.old (event.Input switch link word) result self.new }
     {
         if switch >= self.plan.switches().len() {
             return Err(EventFault::NoNode);
@@ -278,7 +278,7 @@ impl<T: TokenKind> NetOf<T> {
 
     /// An input of a switch claims an output.
     fn claim(&mut self, switch: usize, input: usize, output: usize) -> Result<Reply, EventFault>
-        ensures { Answers T.kind self.old (event.Claim switch input output) result self.new }
+        ensures { AnswersEvent T.kind self.old (event.Claim switch input output) result self.new }
     {
         if switch >= self.plan.switches().len() {
             return Err(EventFault::NoNode);
@@ -291,7 +291,7 @@ impl<T: TokenKind> NetOf<T> {
 
     /// A control command comes to a switch.
     fn control(&mut self, switch: usize, bytes: &ControlBytes) -> Result<Reply, EventFault>
-        ensures { Answers T.kind self.old (event.Control switch bytes.now) result self.new }
+        ensures { AnswersEvent T.kind self.old (event.Control switch bytes.now) result self.new }
     {
         if switch >= self.plan.switches().len() {
             return Err(EventFault::NoNode);
@@ -302,14 +302,14 @@ impl<T: TokenKind> NetOf<T> {
 
 /// The reply to an event of which nothing else comes.
 fn done(made: bool) -> Reply
-    ensures { result ≡ reply_of made }
+    ensures { result ≡ done_reply made }
 {
     if made { Reply::Done } else { Reply::NotReady }
 }
 
 /// The reply to an event of which a token comes.
 fn gave<T: TokenKind>(token: Option<T>) -> Reply
-    ensures { result ≡ reply_with (option_map T.kind.plain token) }
+    ensures { result ≡ token_reply (option_map T.kind.plain token) }
 {
     match token {
         Some(token) => Reply::Token(token.plain()),
@@ -319,7 +319,7 @@ fn gave<T: TokenKind>(token: Option<T>) -> Reply
 
 /// The reply to a command.
 fn replied(bytes: Option<ControlBytes>) -> Reply
-    ensures { result ≡ reply_by bytes }
+    ensures { result ≡ control_reply bytes }
 {
     match bytes {
         Some(bytes) => Reply::Control(bytes),

@@ -2,9 +2,9 @@
 ghost use Rattle.std.specs.Prelude.{◌≡◌, ◌≤◌, ◌∷◌, [], length, is_some, IfOk, OnErr};
 ghost use Rattle.std.specs.Option.{option_copied, option_to_list};
 ghost use Rattle.c104_token.specs.declared.text.TheConstants.{MAX_PACKET_BYTES};
-ghost use Rattle.c104_link.specs.Steps.{tried, taken};
-ghost use Rattle.c104_net.specs.Nodes.{Node, enter, leave, credit_out, credit_in, input, claim, control};
-ghost use Rattle.c104_net.specs.Nodes.{send, drain, waiting_count, arrived_list, register_value};
+ghost use Rattle.c104_link.specs.Steps.{bool_outcome, option_outcome};
+ghost use Rattle.c104_net.specs.Nodes.{Node, node_enter, node_leave, node_credit_out, node_credit_in, node_input, node_claim, node_control};
+ghost use Rattle.c104_net.specs.Nodes.{node_send, node_drain, node_waiting, node_arrived, node_peek};
 ghost use Rattle.c104_net.specs.Finished.{terminals_of};
 
 use crate::terminal::TerminalOf;
@@ -34,7 +34,7 @@ impl<T: TokenKind> NodeOf<T> {
 
     /// A token comes in over a link's wire.
     pub fn enter(&mut self, link: usize, token: T) -> bool
-        ensures { (result, self.new) ≡ tried (enter token link self.old) self.old }
+        ensures { (result, self.new) ≡ bool_outcome (node_enter token link self.old) self.old }
     {
         match self {
             NodeOf::Switch(switch) => switch.enter(link, token),
@@ -44,7 +44,7 @@ impl<T: TokenKind> NodeOf<T> {
 
     /// A token goes out over a link's wire.
     pub fn leave(&mut self, link: usize) -> Option<T>
-        ensures { (result, self.new) ≡ taken (leave link self.old) self.old }
+        ensures { (result, self.new) ≡ option_outcome (node_leave link self.old) self.old }
     {
         match self {
             NodeOf::Switch(switch) => switch.leave(link),
@@ -54,7 +54,7 @@ impl<T: TokenKind> NodeOf<T> {
 
     /// A link grants eight more tokens.
     pub fn credit_out(&mut self, link: usize) -> bool
-        ensures { (result, self.new) ≡ tried (credit_out link self.old) self.old }
+        ensures { (result, self.new) ≡ bool_outcome (node_credit_out link self.old) self.old }
     {
         match self {
             NodeOf::Switch(switch) => switch.credit_out(link),
@@ -64,7 +64,7 @@ impl<T: TokenKind> NodeOf<T> {
 
     /// A link may send eight more tokens.
     pub fn credit_in(&mut self, link: usize) -> bool
-        ensures { (result, self.new) ≡ tried (credit_in link self.old) self.old }
+        ensures { (result, self.new) ≡ bool_outcome (node_credit_in link self.old) self.old }
     {
         match self {
             NodeOf::Switch(switch) => switch.credit_in(link),
@@ -74,7 +74,7 @@ impl<T: TokenKind> NodeOf<T> {
 
     /// Whether `enter` would take a token in.
     pub fn can_enter(&self, link: usize) -> bool
-        ensures { (token : T) → result ≡ is_some (enter token link self.now) }
+        ensures { (token : T) → result ≡ is_some (node_enter token link self.now) }
     {
         match self {
             NodeOf::Switch(switch) => switch.can_enter(link),
@@ -84,7 +84,7 @@ impl<T: TokenKind> NodeOf<T> {
 
     /// Whether `credit_in` would add the credit.
     pub fn can_credit_in(&self, link: usize) -> bool
-        ensures { result ≡ is_some (credit_in link self.now) }
+        ensures { result ≡ is_some (node_credit_in link self.now) }
     {
         match self {
             NodeOf::Switch(switch) => switch.can_credit_in(link),
@@ -94,7 +94,8 @@ impl<T: TokenKind> NodeOf<T> {
 
     /// A turn of an input.
     pub fn input(&mut self, link: usize, word: u32) -> bool
-        ensures { (result, self.new) ≡ tried (input T.kind link word self.old) self.old }
+        ensures { (result, self.new) ≡
+            bool_outcome (node_input T.kind link word self.old) self.old }
     {
         match self {
             NodeOf::Switch(switch) => switch.input(link, word),
@@ -104,7 +105,7 @@ impl<T: TokenKind> NodeOf<T> {
 
     /// An input claims an output.
     pub fn claim(&mut self, link: usize, output: usize) -> bool
-        ensures { (result, self.new) ≡ tried (claim link output self.old) self.old }
+        ensures { (result, self.new) ≡ bool_outcome (node_claim link output self.old) self.old }
     {
         match self {
             NodeOf::Switch(switch) => switch.claim(link, output),
@@ -114,7 +115,7 @@ impl<T: TokenKind> NodeOf<T> {
 
     /// A control command comes. None where the node is no switch.
     pub fn control(&mut self, bytes: &[u8]) -> Option<ControlBytes>
-        ensures { (result, self.new) ≡ taken (control bytes.now self.old) self.old }
+        ensures { (result, self.new) ≡ option_outcome (node_control bytes.now self.old) self.old }
     {
         match self {
             NodeOf::Switch(switch) => Some(switch.control(bytes)),
@@ -125,7 +126,7 @@ impl<T: TokenKind> NodeOf<T> {
     /// The value of the register at this address. None where there is none, or the node is no
     /// switch.
     pub fn peek(&self, addr: u16) -> Option<u32>
-        ensures { result ≡ register_value addr self.now }
+        ensures { result ≡ node_peek addr self.now }
     {
         match self {
             NodeOf::Switch(switch) => switch.peek(addr).ok(),
@@ -137,7 +138,8 @@ impl<T: TokenKind> NodeOf<T> {
     pub fn send(&mut self, number: usize, packet: &Packet) -> Result<bool, NoMemory>
         requires { length packet.now.bytes ≤ MAX_PACKET_BYTES }
         ensures done { IfOk result (λ sent.
-            (sent, self.new) ≡ tried (send T.kind number packet.now self.old) self.old) }
+            (sent, self.new) ≡
+            bool_outcome (node_send T.kind number packet.now self.old) self.old) }
         ensures kept { OnErr result (self.new ≡ self.old) }
     {
         match self {
@@ -152,7 +154,7 @@ impl<T: TokenKind> NodeOf<T> {
     /// A token arrives. None where the node is no terminal, or nothing came in.
     pub fn drain(&mut self) -> Result<Option<T>, NoMemory>
         ensures done { IfOk result (λ token.
-            (token, self.new) ≡ taken (drain self.old) self.old) }
+            (token, self.new) ≡ option_outcome (node_drain self.old) self.old) }
         ensures kept { OnErr result (self.new ≡ self.old) }
     {
         match self {
@@ -163,7 +165,7 @@ impl<T: TokenKind> NodeOf<T> {
 
     /// Whether a token can arrive.
     pub fn can_drain(&self) -> bool
-        ensures { result ≡ is_some (drain self.now) }
+        ensures { result ≡ is_some (node_drain self.now) }
     {
         match self {
             NodeOf::Switch(_) => false,
@@ -173,7 +175,7 @@ impl<T: TokenKind> NodeOf<T> {
 
     /// How many tokens wait to go out, if the node is a terminal.
     pub fn waiting(&self) -> Option<usize>
-        ensures { result ≡ waiting_count self.now }
+        ensures { result ≡ node_waiting self.now }
     {
         match self {
             NodeOf::Switch(_) => None,
@@ -183,7 +185,7 @@ impl<T: TokenKind> NodeOf<T> {
 
     /// The tokens that arrived, if the node is a terminal.
     pub fn arrived(&self) -> Option<&[T]>
-        ensures { option_copied result ≡ arrived_list self.now }
+        ensures { option_copied result ≡ node_arrived self.now }
     {
         match self {
             NodeOf::Switch(_) => None,

@@ -2,10 +2,10 @@
 ghost use Rattle.std.specs.Prelude.{◌≡◌, ◌≤◌, [], length, is_some, IfOk, OnErr};
 ghost use Rattle.std.specs.Option.{option_copied};
 ghost use Rattle.c104_token.specs.declared.text.TheConstants.{MAX_PACKET_BYTES};
-ghost use Rattle.c104_link.specs.Steps.{tried, taken, at_place, from_place};
-ghost use Rattle.c104_net.specs.Nodes.{enter, leave, credit_out, credit_in, input, claim, control, send, drain};
-ghost use Rattle.c104_net.specs.Nodes.{outcome_at, yield_at, waiting_at, arrived_at, register_at};
-ghost use Rattle.c104_net.specs.Wires.{crossed, credited};
+ghost use Rattle.c104_link.specs.Steps.{bool_outcome, option_outcome, step_at, yield_step_at};
+ghost use Rattle.c104_net.specs.Nodes.{node_enter, node_leave, node_credit_out, node_credit_in, node_input, node_claim, node_control, node_send, node_drain};
+ghost use Rattle.c104_net.specs.Nodes.{outcome_at, yield_outcome_at, nodes_waiting, nodes_arrived, nodes_peek};
+ghost use Rattle.c104_net.specs.Wires.{nodes_cross, nodes_credit};
 ghost use Rattle.c104_net.specs.Finished.{terminals_of};
 ghost use Rattle.std.specs.Vec.{vec_capacity};
 
@@ -56,7 +56,7 @@ impl<T: TokenKind> NodesOf<T> {
 
     /// A token comes in at an end of a wire.
     pub fn enter(&mut self, end: End, token: T) -> bool
-        ensures { (result, self.new) ≡ outcome_at end.node (enter token end.link) self.old }
+        ensures { (result, self.new) ≡ outcome_at end.node (node_enter token end.link) self.old }
     {
         let list = &mut self.list;
         if end.node >= list.len() {
@@ -68,7 +68,7 @@ impl<T: TokenKind> NodesOf<T> {
 
     /// A token goes out at an end of a wire.
     pub fn leave(&mut self, end: End) -> Option<T>
-        ensures { (result, self.new) ≡ yield_at end.node (leave end.link) self.old }
+        ensures { (result, self.new) ≡ yield_outcome_at end.node (node_leave end.link) self.old }
     {
         let list = &mut self.list;
         if end.node >= list.len() {
@@ -80,7 +80,7 @@ impl<T: TokenKind> NodesOf<T> {
 
     /// An end of a wire grants eight more tokens.
     pub fn credit_out(&mut self, end: End) -> bool
-        ensures { (result, self.new) ≡ outcome_at end.node (credit_out end.link) self.old }
+        ensures { (result, self.new) ≡ outcome_at end.node (node_credit_out end.link) self.old }
     {
         let list = &mut self.list;
         if end.node >= list.len() {
@@ -92,7 +92,7 @@ impl<T: TokenKind> NodesOf<T> {
 
     /// An end of a wire may send eight more tokens.
     pub fn credit_in(&mut self, end: End) -> bool
-        ensures { (result, self.new) ≡ outcome_at end.node (credit_in end.link) self.old }
+        ensures { (result, self.new) ≡ outcome_at end.node (node_credit_in end.link) self.old }
     {
         let list = &mut self.list;
         if end.node >= list.len() {
@@ -104,7 +104,7 @@ impl<T: TokenKind> NodesOf<T> {
 
     /// A turn of an input of a switch.
     pub fn input(&mut self, place: usize, link: usize, word: u32) -> bool
-        ensures { (result, self.new) ≡ outcome_at place (input T.kind link word) self.old }
+        ensures { (result, self.new) ≡ outcome_at place (node_input T.kind link word) self.old }
     {
         let list = &mut self.list;
         if place >= list.len() {
@@ -116,7 +116,7 @@ impl<T: TokenKind> NodesOf<T> {
 
     /// An input of a switch claims an output.
     pub fn claim(&mut self, place: usize, link: usize, output: usize) -> bool
-        ensures { (result, self.new) ≡ outcome_at place (claim link output) self.old }
+        ensures { (result, self.new) ≡ outcome_at place (node_claim link output) self.old }
     {
         let list = &mut self.list;
         if place >= list.len() {
@@ -128,7 +128,7 @@ impl<T: TokenKind> NodesOf<T> {
 
     /// A control command comes to the node at this place. None where it is no switch.
     pub fn control(&mut self, place: usize, bytes: &[u8]) -> Option<ControlBytes>
-        ensures { (result, self.new) ≡ yield_at place (control bytes.now) self.old }
+        ensures { (result, self.new) ≡ yield_outcome_at place (node_control bytes.now) self.old }
     {
         let list = &mut self.list;
         if place >= list.len() {
@@ -140,7 +140,7 @@ impl<T: TokenKind> NodesOf<T> {
 
     /// The value of a register of the switch at this place. None where there is none.
     pub fn peek(&self, place: usize, addr: u16) -> Option<u32>
-        ensures { result ≡ register_at self.now place addr }
+        ensures { result ≡ nodes_peek self.now place addr }
     {
         self.list.get(place)?.peek(addr)
     }
@@ -148,7 +148,7 @@ impl<T: TokenKind> NodesOf<T> {
     /// Whether a token can come in at an end of a wire.
     pub fn can_enter(&self, end: End) -> bool
         ensures { (token : T) →
-            result ≡ is_some (at_place self.now end.node (enter token end.link)) }
+            result ≡ is_some (step_at self.now end.node (node_enter token end.link)) }
     {
         match self.list.get(end.node) {
             Some(node) => node.can_enter(end.link),
@@ -158,7 +158,7 @@ impl<T: TokenKind> NodesOf<T> {
 
     /// Whether an end of a wire can take eight more credits.
     pub fn can_credit_in(&self, end: End) -> bool
-        ensures { result ≡ is_some (at_place self.now end.node (credit_in end.link)) }
+        ensures { result ≡ is_some (step_at self.now end.node (node_credit_in end.link)) }
     {
         match self.list.get(end.node) {
             Some(node) => node.can_credit_in(end.link),
@@ -170,7 +170,7 @@ impl<T: TokenKind> NodesOf<T> {
     pub fn send(&mut self, place: usize, number: usize, packet: &Packet) -> Result<bool, NoMemory>
         requires { length packet.now.bytes ≤ MAX_PACKET_BYTES }
         ensures done { IfOk result (λ sent.
-            (sent, self.new) ≡ outcome_at place (send T.kind number packet.now) self.old) }
+            (sent, self.new) ≡ outcome_at place (node_send T.kind number packet.now) self.old) }
         ensures kept { OnErr result (self.new ≡ self.old) }
     {
         let list = &mut self.list;
@@ -185,7 +185,7 @@ impl<T: TokenKind> NodesOf<T> {
     /// A token arrives at the terminal at this place.
     pub fn drain(&mut self, place: usize) -> Result<Option<T>, NoMemory>
         ensures done { IfOk result (λ token.
-            (token, self.new) ≡ yield_at place drain self.old) }
+            (token, self.new) ≡ yield_outcome_at place node_drain self.old) }
         ensures kept { OnErr result (self.new ≡ self.old) }
     {
         let list = &mut self.list;
@@ -199,7 +199,7 @@ impl<T: TokenKind> NodesOf<T> {
 
     /// Whether a token can arrive at the node at this place.
     pub fn can_drain(&self, place: usize) -> bool
-        ensures { result ≡ is_some (from_place self.now place drain) }
+        ensures { result ≡ is_some (yield_step_at self.now place node_drain) }
     {
         match self.list.get(place) {
             Some(node) => node.can_drain(),
@@ -210,21 +210,21 @@ impl<T: TokenKind> NodesOf<T> {
     /// How many tokens wait to go out of the terminal at this place. None where there is no
     /// terminal.
     pub fn waiting(&self, place: usize) -> Option<usize>
-        ensures { result ≡ waiting_at self.now place }
+        ensures { result ≡ nodes_waiting self.now place }
     {
         self.list.get(place)?.waiting()
     }
 
     /// The tokens that arrived at the terminal at this place.
     pub fn arrived(&self, place: usize) -> Option<&[T]>
-        ensures { option_copied result ≡ arrived_at self.now place }
+        ensures { option_copied result ≡ nodes_arrived self.now place }
     {
         self.list.get(place)?.arrived()
     }
 
     /// A token goes out at one end of a wire and comes in at the other, or nothing changes.
     pub fn cross(&mut self, from: End, to: End) -> Option<T>
-        ensures { (result, self.new) ≡ taken (crossed self.old from to) self.old }
+        ensures { (result, self.new) ≡ option_outcome (nodes_cross self.old from to) self.old }
     {
         if !self.can_enter(to) {
             return None;
@@ -236,7 +236,7 @@ impl<T: TokenKind> NodesOf<T> {
 
     /// One end of a wire grants eight more tokens and the other may send them, or nothing changes.
     pub fn credit(&mut self, from: End, to: End) -> bool
-        ensures { (result, self.new) ≡ tried (credited self.old from to) self.old }
+        ensures { (result, self.new) ≡ bool_outcome (nodes_credit self.old from to) self.old }
     {
         self.can_credit_in(to) && self.credit_out(from) && self.credit_in(to)
     }

@@ -1,6 +1,6 @@
 //! The nodes of a network at first.
 ghost use Rattle.std.specs.Prelude.{◌≡◌, ◌++◌, [], length, All, OnOk};
-ghost use Rattle.c104_net.specs.Network.{first_network, first_switches, placed, switch_nodes, terminal_nodes};
+ghost use Rattle.c104_net.specs.Network.{new_network, new_switch_nodes, placed_network, switch_nodes, terminal_nodes};
 ghost use Rattle.c104_describe.specs.PlanImage.{AreSettings};
 
 use crate::node::NodeOf;
@@ -23,7 +23,7 @@ pub fn place<T: TokenKind>(
     list: &mut Vec<NodeOf<T>>,
 ) -> Result<(), NoMemory>
     requires { list.old.items ≡ [] }
-    ensures { OnOk result (list.new.items ≡ (placed plan.now image.now).nodes) }
+    ensures { OnOk result (list.new.items ≡ (placed_network plan.now image.now).nodes) }
 {
     add_switches(alloc, image.all_settings(), list)?;
     add_terminals(alloc, plan.terminals(), list)
@@ -37,7 +37,7 @@ pub fn place_new<T: TokenKind>(
     list: &mut Vec<NodeOf<T>>,
 ) -> Result<(), NoMemory>
     requires { list.old.items ≡ [] }
-    ensures { OnOk result (list.new.items ≡ (first_network plan.now).nodes) }
+    ensures { OnOk result (list.new.items ≡ (new_network plan.now).nodes) }
 {
     add_new_switches(alloc, plan.switches(), list)?;
     add_terminals(alloc, plan.terminals(), list)
@@ -50,7 +50,7 @@ fn add_new_switches<T: TokenKind>(
     list: &mut Vec<NodeOf<T>>,
 ) -> Result<(), NoMemory>
     requires { list.old.items ≡ [] }
-    ensures { OnOk result (list.new.items ≡ first_switches names.now) }
+    ensures { OnOk result (list.new.items ≡ new_switch_nodes names.now) }
 {
     for _name in names {
         list.reserve(1)?;

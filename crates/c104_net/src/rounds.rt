@@ -1,7 +1,7 @@
 //! Rounds, in which every part of a network takes its turn.
 ghost use Rattle.std.specs.Prelude.{◌≡◌, [], ◌∷◌, ◌++◌, filter, map, flat_map, Ok, IfOk, OnOk, MatchResult};
 ghost use Rattle.c104_net.specs.Rounds.{all_claims, all_drains, claims_of, is_wired, round, switch_claims};
-ghost use Rattle.c104_net.specs.Rounds.{turn_at, was_done, wired_links, wired_ports, wired_terminals};
+ghost use Rattle.c104_net.specs.Rounds.{turn_at, is_done_reply, wired_links, wired_ports, wired_terminals};
 ghost use Rattle.c104_event.specs.declared.events.Event.TheVariants as event;
 
 use crate::net::{NetOf, peer};
@@ -13,7 +13,7 @@ use std::alloc::Global;
 
 impl<T: TokenKind> NetOf<T> {
     ghost use Rattle.std.specs.Prelude.{◌≡◌, false, Ok, Err, MatchResult};
-    ghost use Rattle.c104_net.specs.Rounds.{RoundsEnd, RunEnds};
+    ghost use Rattle.c104_net.specs.Rounds.{RoundsEnd, EventsEnd};
 
     /// Does so many rounds, up to the first fault of an event. A round is Credit of each wired port,
     /// those of the switches by switch and link and then the terminals; Cross of the same; Input of
@@ -39,8 +39,8 @@ impl<T: TokenKind> NetOf<T> {
     /// Does events in turn, up to the first fault, and tells whether any of them was done.
     fn apply_until(&mut self, events: &[Event]) -> Result<bool, EventFault>
         ensures ends { MatchResult result
-            (λ _. RunEnds T.kind self.old events.now (Ok tt) self.new)
-            (λ fault. RunEnds T.kind self.old events.now (Err fault) self.new) }
+            (λ _. EventsEnd T.kind self.old events.now (Ok tt) self.new)
+            (λ fault. EventsEnd T.kind self.old events.now (Err fault) self.new) }
         ensures unchanged { result ≡ Ok false → self.new ≡ self.old }
     {
         let mut changed = false;
@@ -56,7 +56,7 @@ impl<T: TokenKind> NetOf<T> {
 
 /// Whether an event that was answered so was done.
 fn was_done(reply: Reply) -> bool
-    ensures { result ≡ was_done reply }
+    ensures { result ≡ is_done_reply reply }
 {
     match reply {
         Reply::NotReady => false,

@@ -1,7 +1,7 @@
 //! A run of a network that is finished.
 ghost use Rattle.std.specs.Prelude.{◌≡◌};
 ghost use Rattle.std.specs.Option.{option_copied};
-ghost use Rattle.c104_net.specs.Finished.{arrived_in};
+ghost use Rattle.c104_net.specs.Finished.{run_arrived};
 
 use crate::terminal::TerminalOf;
 use c104_describe::Plan;
@@ -20,9 +20,9 @@ pub struct RunOf<T: TokenKind> {
 pub type Run = RunOf<Token>;
 
 impl<T: TokenKind> Model for RunOf<T> {
-    ghost use Rattle.c104_net.specs.Finished.{Finished};
+    ghost use Rattle.c104_net.specs.Finished.{FinishedRun};
 
-    ghost Value = { Finished T };
+    ghost Value = { FinishedRun T };
 
     ghost view = { λ run. record { plan = run.plan; terminals = run.terminals.items } };
 }
@@ -38,7 +38,7 @@ impl<T: TokenKind> RunOf<T> {
     /// The tokens that had arrived at a terminal at the end, in order. None where the plan has no
     /// such terminal.
     pub fn arrived(&self, terminal: usize) -> Option<&[T]>
-        ensures { option_copied result ≡ arrived_in self.now terminal }
+        ensures { option_copied result ≡ run_arrived self.now terminal }
     {
         match self.terminals.get(terminal) {
             Some(terminal) => Some(terminal.arrived()),

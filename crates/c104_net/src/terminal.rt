@@ -4,9 +4,9 @@ ghost use Rattle.std.specs.VecDeque.{deque_len, deque_capacity};
 ghost use Rattle.c104_token.specs.declared.text.TheConstants.{MAX_PACKET_BYTES};
 ghost use Rattle.c104_token.specs.declared.tokens.Token.TheVariants.{Byte};
 ghost use Rattle.c104_link.specs.Buffers.{IsValidCap};
-ghost use Rattle.c104_link.specs.Steps.{tried, taken};
-ghost use Rattle.c104_net.specs.Terminals.{first_terminal, enter, leave, credit_out, credit_in, drain};
-ghost use Rattle.c104_net.specs.Terminals.{send, sent_from, sent_tokens};
+ghost use Rattle.c104_link.specs.Steps.{bool_outcome, option_outcome};
+ghost use Rattle.c104_net.specs.Terminals.{new_terminal, terminal_enter, terminal_leave, terminal_credit_out, terminal_credit_in, terminal_drain};
+ghost use Rattle.c104_net.specs.Terminals.{terminal_send, sent_from, sent_tokens};
 
 use c104_link::{CREDIT_LIMIT, InBufferOf, TOKENS_OF_A_GRANT};
 use c104_token::{NoMemory, Packet, Token, TokenKind};
@@ -46,7 +46,7 @@ impl<T: TokenKind> TerminalOf<T> {
     /// memory.
     pub fn new(alloc: Global, cap: usize) -> Result<Self, NoMemory>
         requires { IsValidCap cap }
-        ensures { IfOk result (λ t. t ≡ first_terminal cap) }
+        ensures { IfOk result (λ t. t ≡ new_terminal cap) }
     {
         let input = InBufferOf::new(alloc, cap)?;
         Ok(TerminalOf {
@@ -74,21 +74,21 @@ impl<T: TokenKind> TerminalOf<T> {
 
     /// A token comes in from the wire. False where none was granted.
     pub fn enter(&mut self, token: T) -> bool
-        ensures { (result, self.new) ≡ tried (enter token self.old) self.old }
+        ensures { (result, self.new) ≡ bool_outcome (terminal_enter token self.old) self.old }
     {
         self.input.accept(token).is_ok()
     }
 
     /// Whether `enter` would take a token in.
     pub fn can_enter(&self) -> bool
-        ensures { (token : T) → result ≡ is_some (enter token self.now) }
+        ensures { (token : T) → result ≡ is_some (terminal_enter token self.now) }
     {
         self.input.granted() > 0
     }
 
     /// The first token that waits goes out. None where none waits, or there is no credit.
     pub fn leave(&mut self) -> Option<T>
-        ensures { (result, self.new) ≡ taken (leave self.old) self.old }
+        ensures { (result, self.new) ≡ option_outcome (terminal_leave self.old) self.old }
     {
         if self.credit == 0 {
             return None;
@@ -100,14 +100,14 @@ impl<T: TokenKind> TerminalOf<T> {
 
     /// The terminal grants eight more tokens. False where its input buffer has no room for them.
     pub fn credit_out(&mut self) -> bool
-        ensures { (result, self.new) ≡ tried (credit_out self.old) self.old }
+        ensures { (result, self.new) ≡ bool_outcome (terminal_credit_out self.old) self.old }
     {
         self.input.grant()
     }
 
     /// The terminal may send eight more tokens. False where its credit would pass 64.
     pub fn credit_in(&mut self) -> bool
-        ensures { (result, self.new) ≡ tried (credit_in self.old) self.old }
+        ensures { (result, self.new) ≡ bool_outcome (terminal_credit_in self.old) self.old }
     {
         if self.credit + TOKENS_OF_A_GRANT > CREDIT_LIMIT {
             return false;
@@ -118,14 +118,14 @@ impl<T: TokenKind> TerminalOf<T> {
 
     /// Whether `credit_in` would add the credit.
     pub fn can_credit_in(&self) -> bool
-        ensures { result ≡ is_some (credit_in self.now) }
+        ensures { result ≡ is_some (terminal_credit_in self.now) }
     {
         self.credit + TOKENS_OF_A_GRANT <= CREDIT_LIMIT
     }
 
     /// Whether a token came in that can arrive.
     pub fn can_drain(&self) -> bool
-        ensures { result ≡ is_some (drain self.now) }
+        ensures { result ≡ is_some (terminal_drain self.now) }
     {
         self.input.len() > 0
     }
@@ -133,7 +133,7 @@ impl<T: TokenKind> TerminalOf<T> {
     /// The first token that came in arrives. None where none came in. Out of memory nothing changes.
     pub fn drain(&mut self) -> Result<Option<T>, NoMemory>
         ensures done { IfOk result (λ token.
-            (token, self.new) ≡ taken (drain self.old) self.old) }
+            (token, self.new) ≡ option_outcome (terminal_drain self.old) self.old) }
         ensures kept { OnErr result (self.new ≡ self.old) }
     {
         if self.input.is_empty() {
@@ -153,7 +153,7 @@ impl<T: TokenKind> TerminalOf<T> {
     /// nothing changes.
     pub fn send(&mut self, terminal: usize, packet: &Packet) -> Result<(), NoMemory>
         requires { length packet.now.bytes ≤ MAX_PACKET_BYTES }
-        ensures done { OnOk result (self.new ≡ send T.kind terminal packet.now self.old) }
+        ensures done { OnOk result (self.new ≡ terminal_send T.kind terminal packet.now self.old) }
         ensures kept { OnErr result (self.new ≡ self.old) }
     {
         let copy = packet.clone()?;

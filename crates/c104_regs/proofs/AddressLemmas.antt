@@ -1,15 +1,15 @@
 -- An address says what stands there, and that says the address.
 use Rattle.std.proofs.Common.{◌≡◌, ℕ, zero, suc, ◌-◌, ◌/◌, ◌%◌, ◌≤◌, ◌&&◌, Bool, true, false, nat_eq, nat_le, nat_lt, if◌then◌else◌, Option, Some, None, slice_get, option_map, refl, sym, ap, ◌∙◌, arith}
 use Rattle.std.proofs.lemmas.Bool.Decides.{nat_tests}
-use Rattle.c104_regs.specs.Addresses.{Address, Register, address_number, address_of, first_registers, line, register_at}
+use Rattle.c104_regs.specs.Addresses.{Address, Register, address_number, address_of, first_registers, register_properties, register_at}
 use Rattle.c104_regs.specs.declared.addresses.Address.TheVariants.{DeviceId, Started, AtLink}
 use Rattle.c104_regs.specs.declared.addresses.Register.TheVariants.{Base, Limit, Select}
 
 -- a register stands at its offset
-is_offset : (r q : Register) → Some r ≡ Some q → (line q).offset ≡ (line r).offset
-is_offset r q is = let same : q ≡ r = cc in ap (λ (p : Register). (line p).offset) same
+is_offset : (r q : Register) → Some r ≡ Some q → (register_properties q).offset ≡ (register_properties r).offset
+is_offset r q is = let same : q ≡ r = cc in ap (λ (p : Register). (register_properties p).offset) same
 
-offset_of_first : (offset : ℕ) (r : Register) → slice_get first_registers offset ≡ Some r → (line r).offset ≡ offset
+offset_of_first : (offset : ℕ) (r : Register) → slice_get first_registers offset ≡ Some r → (register_properties r).offset ≡ offset
 offset_of_first zero r at = is_offset _ r at
 offset_of_first (suc zero) r at = is_offset _ r at
 offset_of_first (suc (suc zero)) r at = is_offset _ r at
@@ -26,14 +26,14 @@ offset_of_first (suc (suc (suc (suc (suc (suc (suc (suc (suc (suc offset))))))))
 offset_by : (offset : ℕ) (r : Register) (first base limit select : Bool)
     → base ≡ nat_eq offset 63 → limit ≡ (nat_le 64 offset && nat_lt offset 100) → select ≡ (nat_le 128 offset && nat_lt offset 164)
     → (if first then slice_get first_registers offset else (if base then Some Base else (if limit then Some (Limit (offset - 64)) else (if select then Some (Select (offset - 128)) else None)))) ≡ Some r
-    → (line r).offset ≡ offset
+    → (register_properties r).offset ≡ offset
 offset_by offset r true base limit select is_base is_limit is_select at = offset_of_first offset r at
 offset_by offset r false true limit select is_base is_limit is_select at = is_offset Base r at ∙ grind (arith, nat_tests)
 offset_by offset r false false true select is_base is_limit is_select at = is_offset (Limit (offset - 64)) r at ∙ grind (arith, nat_tests)
 offset_by offset r false false false true is_base is_limit is_select at = is_offset (Select (offset - 128)) r at ∙ grind (arith, nat_tests)
 offset_by offset r false false false false is_base is_limit is_select at = cc
 
-offset_is : (offset : ℕ) (r : Register) → register_at offset ≡ Some r → (line r).offset ≡ offset
+offset_is : (offset : ℕ) (r : Register) → register_at offset ≡ Some r → (register_properties r).offset ≡ offset
 offset_is offset r at = offset_by offset r (nat_lt offset 10) _ _ _ refl refl refl at
 
 -- the same of an address
@@ -43,7 +43,7 @@ address_number_at a x y is = let same : y ≡ x = cc in ap address_number same
 link_number : (a : ℕ) (r : Option Register) (x : Address) → r ≡ register_at (a % 256) → 256 ≤ a → option_map (λ q. AtLink (a / 256 - 1) q) r ≡ Some x → address_number x ≡ a
 link_number a None x is past at = cc
 link_number a (Some r) x is past at =
-    let offset : (line r).offset ≡ a % 256 = offset_is (a % 256) r (sym is) in
+    let offset : (register_properties r).offset ≡ a % 256 = offset_is (a % 256) r (sym is) in
     address_number_at a (AtLink (a / 256 - 1) r) x at ∙ omega arith
 
 address_by : (a : ℕ) (x : Address) (first second link : Bool)

@@ -7,24 +7,24 @@ use Rattle.std.proofs.lemmas.Nat.Bits.{bit_at-suc, bit_at-zero, bit_at_lowest}
 use Rattle.std.specs.Int.{bit_at}
 use Rattle.c104_regs.specs.Registers.{continue_bits}
 use Rattle.c104_regs.specs.Settings.{Settings, reset_settings}
-use Rattle.c104_regs.specs.Values.{number}
+use Rattle.c104_regs.specs.Values.{bit_value}
 
-lowest : (b : Bool) (n : ℕ) → (number b 1 + 2 * n) % 2 ≡ number b 1
+lowest : (b : Bool) (n : ℕ) → (bit_value b 1 + 2 * n) % 2 ≡ bit_value b 1
 lowest true n = omega arith
 lowest false n = omega arith
 
-above : (b : Bool) (n : ℕ) → (number b 1 + 2 * n) / 2 ≡ n
+above : (b : Bool) (n : ℕ) → (bit_value b 1 + 2 * n) / 2 ≡ n
 above true n = omega arith
 above false n = omega arith
 
 -- bit l is that of link l
-pub bit_at-continue_bits : (xs : List Settings) (l : ℕ) → bit_at (continue_bits xs) l ≡ number (get_or xs l reset_settings).continue_group 1
+pub bit_at-continue_bits : (xs : List Settings) (l : ℕ) → bit_at (continue_bits xs) l ≡ bit_value (get_or xs l reset_settings).continue_group 1
 bit_at-continue_bits [] l = bit_at-zero l
 bit_at-continue_bits (x ∷ xs) zero = bit_at_lowest _ ∙ lowest x.continue_group (continue_bits xs)
 bit_at-continue_bits (x ∷ xs) (suc l) =
     bit_at-suc _ l ∙ ap (λ n. bit_at n l) (above x.continue_group (continue_bits xs)) ∙ bit_at-continue_bits xs l
 
-number-le : (b : Bool) → number b 1 ≤ 1
+number-le : (b : Bool) → bit_value b 1 ≤ 1
 number-le true = omega arith
 number-le false = omega arith
 
@@ -35,11 +35,11 @@ continue_bits-lt (x ∷ xs) (suc n) fits =
     let rest : continue_bits xs < 2 ^ n = continue_bits-lt xs n (omega arith) in
     rw (pow-succ' 2 n) (omega (arith, number-le x.continue_group))
 
-continue_bits-drop : (xs : List Settings) (k : ℕ) (d : Settings) → k < length xs → continue_bits (drop k xs) ≡ number (get_or xs k d).continue_group 1 + 2 * continue_bits (drop (k + 1) xs)
+continue_bits-drop : (xs : List Settings) (k : ℕ) (d : Settings) → k < length xs → continue_bits (drop k xs) ≡ bit_value (get_or xs k d).continue_group 1 + 2 * continue_bits (drop (k + 1) xs)
 continue_bits-drop xs k d below = rw (drop-cons xs k d below) (rw add-one refl)
 
 -- the word with one more link in it, the one before those whose word this is
-pub continue_bits-fits : (xs : List Settings) (k n bits : ℕ) (d : Settings) → length xs ≡ 32 → k < 32 → n ≡ number (get_or xs k d).continue_group 1 → bits ≡ continue_bits (drop (k + 1) xs) → n + 2 * bits < 2 ^ 32
+pub continue_bits-fits : (xs : List Settings) (k n bits : ℕ) (d : Settings) → length xs ≡ 32 → k < 32 → n ≡ bit_value (get_or xs k d).continue_group 1 → bits ≡ continue_bits (drop (k + 1) xs) → n + 2 * bits < 2 ^ 32
 continue_bits-fits xs k n bits d links below one rest =
     let all : n + 2 * bits ≡ continue_bits (drop k xs) = rw (one, rest) (sym (continue_bits-drop xs k d (rw links below))) in
     rw all (continue_bits-lt (drop k xs) 32 (rw length-drop (omega arith)))

@@ -3,7 +3,7 @@ use Rattle.std.proofs.Common.{◌≡◌, ℕ, Bool, List, length, get_or, replic
 use Rattle.std.proofs.lemmas.List.{get_or_past}
 use Rattle.std.proofs.lemmas.Bool.{cases_lt}
 use Rattle.c104_regs.specs.Ranges.{IsInRange}
-use Rattle.c104_regs.specs.Registers.{IsKept}
+use Rattle.c104_regs.specs.Registers.{IsRegisterBank}
 use Rattle.c104_regs.specs.Settings.{Settings, reset_settings}
 use Rattle.c104_regs.specs.Values.{Status, reset_status}
 use Rattle.c104_regs.proofs.RegisterLemmas.{IsInRange-reset}
@@ -15,7 +15,7 @@ link_in_range settings ranges l = elim (cases_lt l (length settings)) [
   | inr past ↦ subst IsInRange (sym (get_or_past settings l reset_settings past)) IsInRange-reset
 ]
 
-pub kept_placed : (started : Bool) (given own : List Settings) (statuses : List Status) → own ≡ given → statuses ≡ replicate 32 reset_status → length given ≡ 32 → All IsInRange given → IsKept (record { started = started; settings = own; statuses = statuses })
+pub kept_placed : (started : Bool) (given own : List Settings) (statuses : List Status) → own ≡ given → statuses ≡ replicate 32 reset_status → length given ≡ 32 → All IsInRange given → IsRegisterBank (record { started = started; settings = own; statuses = statuses })
 kept_placed started given own statuses same told links ranges = record {
   links = ap length same ∙ links;
   statuses = ap length told;

@@ -5,15 +5,15 @@ use Rattle.std.proofs.lemmas.Bool.{cases_eq}
 use Rattle.std.proofs.lemmas.List.{get_or-set_other, get_or-set_same, get_or_past, length-set}
 use Rattle.c104_regs.proofs.AddressLemmas.{address_number_is}
 use Rattle.c104_regs.proofs.ValueLemmas.{IsInRange-with_value, value_other}
-use Rattle.c104_regs.specs.Addresses.{Address, Register, address_number, address_of, line}
+use Rattle.c104_regs.specs.Addresses.{Address, Register, address_number, address_of, register_properties}
 use Rattle.c104_regs.specs.declared.addresses.Address.TheVariants.{DeviceId, Started, AtLink}
 use Rattle.c104_regs.specs.declared.addresses.Register.TheVariants.{Mode, RandomBase, RandomRange, Sunk, Short, InputLevel, OutputLevel, Credit, Granted, Owner, Base, Limit, Select}
 use Rattle.c104_interval.specs.Selection.{reset_row}
 use Rattle.c104_interval.specs.declared.intervals.Row.{Row}
-use Rattle.c104_regs.specs.Ranges.{IsInRange, IsSelectable}
-use Rattle.c104_regs.specs.Registers.{IsKept, IsTarget, RegisterBank, peek, read, reset_bank, settings_at, status_at, with_register}
+use Rattle.c104_regs.specs.Ranges.{IsInRange, IsSelectInRange}
+use Rattle.c104_regs.specs.Registers.{IsRegisterBank, IsTarget, RegisterBank, bank_peek, address_value, reset_bank, settings_at, status_at, with_register}
 use Rattle.c104_regs.specs.Settings.{Settings, reset_settings}
-use Rattle.c104_regs.specs.Values.{Status, reset_status, select_code, value, with_value}
+use Rattle.c104_regs.specs.Values.{Status, reset_status, select_code, register_read, with_value}
 
 -- what is set at the link that was poked, and at each other one
 settings_at-same : (b : RegisterBank) (l : ℕ) (r : Register) (v : ℕ) → l < length b.settings → settings_at (with_register b l r v) l ≡ with_value (settings_at b l) r v
@@ -23,7 +23,7 @@ settings_at-other : (b : RegisterBank) (l k : ℕ) (r : Register) (v : ℕ) → 
 settings_at-other b l k r v ne = get_or-set_other b.settings l k (with_value (settings_at b l) r v) reset_settings ne
 
 -- what the registers keep stays
-pub IsKept-with_register : (b : RegisterBank) (a v l : ℕ) (r : Register) → IsTarget a v l r → IsKept b → IsKept (with_register b l r v)
+pub IsKept-with_register : (b : RegisterBank) (a v l : ℕ) (r : Register) → IsTarget a v l r → IsRegisterBank b → IsRegisterBank (with_register b l r v)
 IsKept-with_register b a v l r target kept =
     let here : l < length b.settings = rw kept.links target.link in
     record {
@@ -36,7 +36,7 @@ IsKept-with_register b a v l r target kept =
     }
 
 -- each address but the one that was poked reads what it did
-read_other : (b : RegisterBank) (a v l : ℕ) (r : Register) → IsTarget a v l r → IsKept b → (c : ℕ) → c ≢ a → (x : Address) → address_of c ≡ Some x → read (with_register b l r v) x ≡ read b x
+read_other : (b : RegisterBank) (a v l : ℕ) (r : Register) → IsTarget a v l r → IsRegisterBank b → (c : ℕ) → c ≢ a → (x : Address) → address_of c ≡ Some x → address_value (with_register b l r v) x ≡ address_value b x
 read_other b a v l r target kept c ne DeviceId at = refl
 read_other b a v l r target kept c ne Started at = refl
 read_other b a v l r target kept c ne (AtLink k q) at =
@@ -45,16 +45,16 @@ read_other b a v l r target kept c ne (AtLink k q) at =
           let here : l < length b.settings = rw kept.links target.link in
           let differs : q ≢ r = λ is. ne (sym (address_number_is c (AtLink k q) at) ∙ ap (λ (x : Address). address_number x) (link_same k l q r same is) ∙ address_number_is a (AtLink l r) target.at) in
           rw same (rw (settings_at-same b l r v here) (value_other (settings_at b l) (status_at b l) r q v (kept.in_range l).table.rows target.register target.is_writable differs))
-      | inr differs ↦ ap (λ (s : Settings). value s (status_at b k) q) (settings_at-other b l k r v differs)
+      | inr differs ↦ ap (λ (s : Settings). register_read s (status_at b k) q) (settings_at-other b l k r v differs)
     ]
   where
     link_same : (k l : ℕ) (q r : Register) → k ≡ l → q ≡ r → AtLink k q ≡ AtLink l r
     link_same k l q r same is = cc
 
-pub peek_other : (b : RegisterBank) (a v l : ℕ) (r : Register) → IsTarget a v l r → IsKept b → (c : ℕ) → c ≢ a → peek (with_register b l r v) c ≡ peek b c
+pub peek_other : (b : RegisterBank) (a v l : ℕ) (r : Register) → IsTarget a v l r → IsRegisterBank b → (c : ℕ) → c ≢ a → bank_peek (with_register b l r v) c ≡ bank_peek b c
 peek_other b a v l r target kept c ne = by_address (address_of c) refl
   where
-    by_address : (x : Option Address) → address_of c ≡ x → peek (with_register b l r v) c ≡ peek b c
+    by_address : (x : Option Address) → address_of c ≡ x → bank_peek (with_register b l r v) c ≡ bank_peek b c
     by_address None at = rw at refl
     by_address (Some x) at = rw at (ap Ok (read_other b a v l r target kept c ne x at))
 
@@ -64,7 +64,7 @@ get_or-same zero i x = get_or_past [] i x (omega arith)
 get_or-same (suc n) zero x = refl
 get_or-same (suc n) (suc i) x = get_or-same n i x
 
-value_reset : (r : Register) → value reset_settings reset_status r ≡ (line r).reset
+value_reset : (r : Register) → register_read reset_settings reset_status r ≡ (register_properties r).reset
 value_reset Mode = refl
 value_reset RandomBase = refl
 value_reset RandomRange = refl
@@ -80,20 +80,20 @@ value_reset (Limit k) = ap (λ (row : Row). row.limit) (get_or-same 36 k reset_r
 value_reset (Select k) = ap (λ (row : Row). select_code row.select) (get_or-same 36 k reset_row)
 
 -- after a reset each register of a link reads what the table says
-reset_values : (l : ℕ) (r : Register) → value (settings_at reset_bank l) (status_at reset_bank l) r ≡ (line r).reset
+reset_values : (l : ℕ) (r : Register) → register_read (settings_at reset_bank l) (status_at reset_bank l) r ≡ (register_properties r).reset
 reset_values l r =
-    ap (λ (s : Settings). value s (status_at reset_bank l) r) (get_or-same 32 l reset_settings)
-    ∙ ap (λ (t : Status). value reset_settings t r) (get_or-same 32 l reset_status)
+    ap (λ (s : Settings). register_read s (status_at reset_bank l) r) (get_or-same 32 l reset_settings)
+    ∙ ap (λ (t : Status). register_read reset_settings t r) (get_or-same 32 l reset_status)
     ∙ value_reset r
 
 -- the registers of a switch that isn't started, all of whose links have these settings and this status
 abbrev bank_of : Settings → Status → RegisterBank
 bank_of s t = record { started = false; settings = replicate 32 s; statuses = replicate 32 t }
 
-pub reset_values_of : (s : Settings) (t : Status) → s ≡ reset_settings → t ≡ reset_status → (l : ℕ) (r : Register) → value (settings_at (bank_of s t) l) (status_at (bank_of s t) l) r ≡ (line r).reset
+pub reset_values_of : (s : Settings) (t : Status) → s ≡ reset_settings → t ≡ reset_status → (l : ℕ) (r : Register) → register_read (settings_at (bank_of s t) l) (status_at (bank_of s t) l) r ≡ (register_properties r).reset
 reset_values_of s t set told l r =
     let same : bank_of s t ≡ reset_bank = ap (λ (x : Settings). bank_of x t) set ∙ ap (λ (x : Status). bank_of reset_settings x) told in
-    subst (λ (b : RegisterBank). value (settings_at b l) (status_at b l) r ≡ (line r).reset) (sym same) (reset_values l r)
+    subst (λ (b : RegisterBank). register_read (settings_at b l) (status_at b l) r ≡ (register_properties r).reset) (sym same) (reset_values l r)
 
 pub IsInRange-reset : IsInRange reset_settings
 IsInRange-reset = record {
@@ -103,11 +103,11 @@ IsInRange-reset = record {
     base = omega arith;
     rows = refl;
     limits = λ k. subst (λ (row : Row). row.limit ≤ 65536) (sym (get_or-same 36 k reset_row)) (omega arith);
-    selects = λ k. subst (λ (row : Row). IsSelectable row.select) (sym (get_or-same 36 k reset_row)) tt;
+    selects = λ k. subst (λ (row : Row). IsSelectInRange row.select) (sym (get_or-same 36 k reset_row)) tt;
   };
 }
 
-pub IsKept-reset : IsKept reset_bank
+pub IsKept-reset : IsRegisterBank reset_bank
 IsKept-reset = record {
   links = refl;
   statuses = refl;

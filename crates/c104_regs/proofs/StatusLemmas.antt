@@ -5,9 +5,9 @@ use Rattle.c104_regs.specs.Addresses.{Address, Register, address_of, register_at
 use Rattle.c104_regs.specs.declared.addresses.Address.TheVariants.{DeviceId, Started, AtLink}
 use Rattle.c104_regs.specs.Faults.{RegFault}
 use Rattle.c104_regs.specs.declared.faults.RegFault.TheVariants.{NoRegister, ReadOnly, OutOfRange}
-use Rattle.c104_regs.specs.Registers.{RegisterBank, peek, poke, read, settings_at, settings_with, status_at, target, waits}
+use Rattle.c104_regs.specs.Registers.{RegisterBank, bank_peek, bank_poke, address_value, settings_at, settings_with, status_at, target, waits}
 use Rattle.c104_regs.specs.Settings.{Settings, reset_settings}
-use Rattle.c104_regs.specs.Values.{Status, number, value}
+use Rattle.c104_regs.specs.Values.{Status, bit_value, register_read}
 
 at_same : (l k : ℕ) (r q : Register) → Some (AtLink k q) ≡ Some (AtLink l r) → l ≡ k
 at_same l k r q is = cc
@@ -28,19 +28,19 @@ link_by a l r false false false at = cc
 pub link_at : (a l : ℕ) (r : Register) → address_of a ≡ Some (AtLink l r) → l ≡ a / 256 - 1
 link_at a l r at = link_by a l r _ _ _ at
 
-read_same : (b c : RegisterBank) (a : ℕ) → c.started ≡ b.started → c.settings ≡ b.settings → status_at c (a / 256 - 1) ≡ status_at b (a / 256 - 1) → (x : Address) → address_of a ≡ Some x → read c x ≡ read b x
+read_same : (b c : RegisterBank) (a : ℕ) → c.started ≡ b.started → c.settings ≡ b.settings → status_at c (a / 256 - 1) ≡ status_at b (a / 256 - 1) → (x : Address) → address_of a ≡ Some x → address_value c x ≡ address_value b x
 read_same b c a started settings told DeviceId at = refl
-read_same b c a started settings told Started at = ap (λ (s : Bool). number s 1) started
+read_same b c a started settings told Started at = ap (λ (s : Bool). bit_value s 1) started
 read_same b c a started settings told (AtLink l r) at =
     let link : l ≡ a / 256 - 1 = link_at a l r at in
     rw link (
-    ap (λ (s : Status). value (settings_at c (a / 256 - 1)) s r) told
-    ∙ ap (λ (xs : List Settings). value (get_or xs (a / 256 - 1) reset_settings) (status_at b (a / 256 - 1)) r) settings)
+    ap (λ (s : Status). register_read (settings_at c (a / 256 - 1)) s r) told
+    ∙ ap (λ (xs : List Settings). register_read (get_or xs (a / 256 - 1) reset_settings) (status_at b (a / 256 - 1)) r) settings)
 
-pub peek_same : (b c : RegisterBank) (a : ℕ) → c.started ≡ b.started → c.settings ≡ b.settings → status_at c (a / 256 - 1) ≡ status_at b (a / 256 - 1) → peek c a ≡ peek b a
+pub peek_same : (b c : RegisterBank) (a : ℕ) → c.started ≡ b.started → c.settings ≡ b.settings → status_at c (a / 256 - 1) ≡ status_at b (a / 256 - 1) → bank_peek c a ≡ bank_peek b a
 peek_same b c a started settings told = by_address (address_of a) refl
   where
-    by_address : (x : Option Address) → address_of a ≡ x → peek c a ≡ peek b a
+    by_address : (x : Option Address) → address_of a ≡ x → bank_peek c a ≡ bank_peek b a
     by_address None at = rw at refl
     by_address (Some x) at = rw at (ap Ok (read_same b c a started settings told x at))
 
@@ -61,14 +61,14 @@ target_at a v l r is = link_at a l r (by_address (address_of a) refl)
     by_address (Some Started) at = let is : ◌≡◌ {A = Result (ℕ × Register) RegFault} (Err ReadOnly) (Ok (l, r)) = rw at at is in cc
     by_address (Some (AtLink k q)) at = at ∙ target_by k l q r _ _ (rw at at is)
 
-pub poke_same : (b c : RegisterBank) (a v : ℕ) → c.settings ≡ b.settings → status_at c (a / 256 - 1) ≡ status_at b (a / 256 - 1) → ((poke c a v).0 ≡ (poke b a v).0) × ((poke c a v).1.settings ≡ (poke b a v).1.settings)
+pub poke_same : (b c : RegisterBank) (a v : ℕ) → c.settings ≡ b.settings → status_at c (a / 256 - 1) ≡ status_at b (a / 256 - 1) → ((bank_poke c a v).0 ≡ (bank_poke b a v).0) × ((bank_poke c a v).1.settings ≡ (bank_poke b a v).1.settings)
 poke_same b c a v settings told = by_target (target a v) refl
   where
-    by_busy : (l : ℕ) (r : Register) (busy : Bool) → busy ≡ (waits r && (status_at b l).busy) → busy ≡ (waits r && (status_at c l).busy) → target a v ≡ Ok (l, r) → ((poke c a v).0 ≡ (poke b a v).0) × ((poke c a v).1.settings ≡ (poke b a v).1.settings)
+    by_busy : (l : ℕ) (r : Register) (busy : Bool) → busy ≡ (waits r && (status_at b l).busy) → busy ≡ (waits r && (status_at c l).busy) → target a v ≡ Ok (l, r) → ((bank_poke c a v).0 ≡ (bank_poke b a v).0) × ((bank_poke c a v).1.settings ≡ (bank_poke b a v).1.settings)
     by_busy l r true is also at = rw (at, ← is, ← also) (refl, settings)
     by_busy l r false is also at = rw (at, ← is, ← also) (refl, ap (λ (xs : List Settings). settings_with xs l r v) settings)
 
-    by_target : (t : Result (ℕ × Register) RegFault) → target a v ≡ t → ((poke c a v).0 ≡ (poke b a v).0) × ((poke c a v).1.settings ≡ (poke b a v).1.settings)
+    by_target : (t : Result (ℕ × Register) RegFault) → target a v ≡ t → ((bank_poke c a v).0 ≡ (bank_poke b a v).0) × ((bank_poke c a v).1.settings ≡ (bank_poke b a v).1.settings)
     by_target (Err e) at = rw at (refl, settings)
     by_target (Ok (l, r)) at =
         let link : status_at c l ≡ status_at b l = rw (target_at a v l r at) told in

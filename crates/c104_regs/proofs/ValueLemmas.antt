@@ -8,14 +8,14 @@ use Rattle.c104_interval.specs.Selection.{reset_row, row_at}
 use Rattle.c104_interval.specs.declared.intervals.Row.{Row}
 use Rattle.c104_interval.specs.declared.intervals.Select as interval
 use Rattle.c104_interval.specs.declared.intervals.Select.TheVariants.{Link, Discard, Sink}
-use Rattle.c104_regs.specs.Addresses.{IsRegister, Register, in_range, line}
+use Rattle.c104_regs.specs.Addresses.{IsRegister, Register, register_takes, register_properties}
 use Rattle.c104_regs.specs.declared.addresses.Register.TheVariants.{Mode, RandomBase, RandomRange, Sunk, Short, InputLevel, OutputLevel, Credit, Granted, Owner, Base, Limit, Select}
-use Rattle.c104_regs.specs.Ranges.{IsInRange, IsSelectable, IsTableInRange}
+use Rattle.c104_regs.specs.Ranges.{IsInRange, IsSelectInRange, IsTableInRange}
 use Rattle.c104_regs.specs.Settings.{Settings}
-use Rattle.c104_regs.specs.Values.{Status, coded, mode_of, select_code, value, with_row, with_value}
+use Rattle.c104_regs.specs.Values.{Status, select_of, mode_of, select_code, register_read, with_row, with_value}
 
 -- what holds of each register that can be written
-by_writable : (P : Register → Type 0) → P Mode → P RandomBase → P RandomRange → P Base → ((k : ℕ) → P (Limit k)) → ((k : ℕ) → P (Select k)) → (r : Register) → IsTrue (line r).is_writable → P r
+by_writable : (P : Register → Type 0) → P Mode → P RandomBase → P RandomRange → P Base → ((k : ℕ) → P (Limit k)) → ((k : ℕ) → P (Select k)) → (r : Register) → IsTrue (register_properties r).is_writable → P r
 by_writable P mode base range first limits selects Mode is = mode
 by_writable P mode base range first limits selects RandomBase is = base
 by_writable P mode base range first limits selects RandomRange is = range
@@ -46,7 +46,7 @@ select_kept rows k j n here =
     ]
 
 -- each register but the one that was set reads what it did
-pub value_other : (s : Settings) (t : Status) (r q : Register) (v : ℕ) → length s.table.rows ≡ 36 → IsRegister r → IsTrue (line r).is_writable → q ≢ r → value (with_value s r v) t q ≡ value s t q
+pub value_other : (s : Settings) (t : Status) (r q : Register) (v : ℕ) → length s.table.rows ≡ 36 → IsRegister r → IsTrue (register_properties r).is_writable → q ≢ r → register_read (with_value s r v) t q ≡ register_read s t q
 value_other s t r Sunk v rows is writable ne = refl
 value_other s t r Short v rows is writable ne = refl
 value_other s t r InputLevel v rows is writable ne = refl
@@ -70,7 +70,7 @@ value_other s t r (Limit j) v rows is writable ne =
     by_writable (λ q. IsRegister q → Limit j ≢ q → (row_at (with_value s q v).table j).limit ≡ (row_at s.table j).limit)
     (λ _ _. refl) (λ _ _. refl) (λ _ _. refl) (λ _ _. refl)
     (λ k _ differs. let ne : j ≢ k = λ same. differs (ap Limit same) in rw (get_or-set_other s.table.rows k j) refl)
-    (λ k below _. limit_kept s.table.rows k j (coded v) (rw rows below))
+    (λ k below _. limit_kept s.table.rows k j (select_of v) (rw rows below))
     r writable is ne
 value_other s t r (Select j) v rows is writable ne =
     by_writable (λ q. IsRegister q → Select j ≢ q → select_code (row_at (with_value s q v).table j).select ≡ select_code (row_at s.table j).select)
@@ -80,16 +80,16 @@ value_other s t r (Select j) v rows is writable ne =
     r writable is ne
 
 -- what a row selects is a link that there is, or none
-IsSelectable-coded_by : (v : ℕ) (small discards : Bool) → small ≡ nat_lt v 32 → IsSelectable (if small then Link v else (if discards then Discard else Sink))
+IsSelectable-coded_by : (v : ℕ) (small discards : Bool) → small ≡ nat_lt v 32 → IsSelectInRange (if small then Link v else (if discards then Discard else Sink))
 IsSelectable-coded_by v true discards is = ltb-true v 32 (sym is)
 IsSelectable-coded_by v false true is = tt
 IsSelectable-coded_by v false false is = tt
 
-IsSelectable-coded : (v : ℕ) → IsSelectable (coded v)
+IsSelectable-coded : (v : ℕ) → IsSelectInRange (select_of v)
 IsSelectable-coded v = IsSelectable-coded_by v (nat_lt v 32) (nat_eq v 32) refl
 
 -- a row that is replaced by one within the ranges
-IsTableInRange-with_row : (s : Settings) (k : ℕ) (row : Row) → row.limit ≤ 65536 → IsSelectable row.select → k < 36 → IsTableInRange s.table → IsTableInRange (with_row s k row).table
+IsTableInRange-with_row : (s : Settings) (k : ℕ) (row : Row) → row.limit ≤ 65536 → IsSelectInRange row.select → k < 36 → IsTableInRange s.table → IsTableInRange (with_row s k row).table
 IsTableInRange-with_row s k row limit select below is = record {
   base = is.base;
   rows = rw length-set is.rows;
@@ -104,9 +104,9 @@ IsTableInRange-with_row s k row limit select below is = record {
 }
 
 -- settings of which a register was set stay within the ranges
-pub IsInRange-with_value : (s : Settings) (r : Register) (v : ℕ) → IsRegister r → IsTrue (line r).is_writable → IsTrue (in_range r v) → IsInRange s → IsInRange (with_value s r v)
+pub IsInRange-with_value : (s : Settings) (r : Register) (v : ℕ) → IsRegister r → IsTrue (register_properties r).is_writable → IsTrue (register_takes r v) → IsInRange s → IsInRange (with_value s r v)
 IsInRange-with_value s r v is writable fits kept =
-    by_writable (λ r. IsRegister r → IsTrue (in_range r v) → IsInRange (with_value s r v))
+    by_writable (λ r. IsRegister r → IsTrue (register_takes r v) → IsInRange (with_value s r v))
     (λ _ _. record { random_base = kept.random_base; random_range = kept.random_range; table = kept.table })
     (λ _ fits. record { random_base = grind (arith, nat_tests); random_range = kept.random_range; table = kept.table })
     (λ _ fits. record { random_base = kept.random_base; random_range = grind (arith, nat_tests); table = kept.table })

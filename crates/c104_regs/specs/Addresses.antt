@@ -1,6 +1,6 @@
 -- The registers of a switch: the table of a link's registers, and what stands at an address.
---     line r      the table's line of register r
---     in_range r v      whether register r may be set to v
+--     register_properties r      the table's line of register r
+--     register_takes r v      whether register r may be set to v
 --     address_of a      what stands at address a, if anything does
 use Rattle.std.specs.Prelude.{ℕ, ◌+◌, ◌-◌, ◌*◌, ◌/◌, ◌%◌, ◌<◌, ◌==◌, ◌&&◌, ◌||◌, Bool, true, false, List, [], ◌∷◌, Option, Some, None, option_map, nat_le, nat_lt, if◌then◌else◌, slice_get}
 use Rattle.c104_interval.specs.declared.intervals.TheConstants.{ROWS}
@@ -13,37 +13,37 @@ use Rattle.c104_regs.specs.declared.addresses.Register.TheVariants.{Mode, Random
 
 -- a line of the table of a link's registers: how far the register stands from the link's first address,
 -- whether it can be written, the greatest value that it may be set to, and its value after a reset
-pub record Line : Type 0 where
+pub record RegisterProperties : Type 0 where
   pub offset : ℕ
   pub is_writable : Bool
   pub greatest : ℕ
   pub reset : ℕ
 
 -- a register that can be written
-abbrev pub written : ℕ → ℕ → ℕ → Line
-written offset greatest reset =
+abbrev pub writable_properties : ℕ → ℕ → ℕ → RegisterProperties
+writable_properties offset greatest reset =
     record { offset = offset; is_writable = true; greatest = greatest; reset = reset }
 
 -- a register that tells the link's status: it can't be written, and is 0 after a reset
-abbrev pub told : ℕ → Line
-told offset =
+abbrev pub status_properties : ℕ → RegisterProperties
+status_properties offset =
     record { offset = offset; is_writable = false; greatest = 0; reset = 0 }
 
 -- the table of a link's registers
-abbrev pub line : Register → Line
-line Mode = written 0x00 0x0f 0
-line RandomBase = written 0x01 0xffff 0
-line RandomRange = written 0x02 0x10000 0
-line Sunk = told 0x03
-line Short = told 0x04
-line InputLevel = told 0x05
-line OutputLevel = told 0x06
-line Credit = told 0x07
-line Granted = told 0x08
-line Owner = told 0x09
-line Base = written 0x3f 0xffff 0
-line (Limit k) = written (0x40 + k) 0x10000 0
-line (Select k) = written (0x80 + k) SINK_CODE SINK_CODE
+abbrev pub register_properties : Register → RegisterProperties
+register_properties Mode = writable_properties 0x00 0x0f 0
+register_properties RandomBase = writable_properties 0x01 0xffff 0
+register_properties RandomRange = writable_properties 0x02 0x10000 0
+register_properties Sunk = status_properties 0x03
+register_properties Short = status_properties 0x04
+register_properties InputLevel = status_properties 0x05
+register_properties OutputLevel = status_properties 0x06
+register_properties Credit = status_properties 0x07
+register_properties Granted = status_properties 0x08
+register_properties Owner = status_properties 0x09
+register_properties Base = writable_properties 0x3f 0xffff 0
+register_properties (Limit k) = writable_properties (0x40 + k) 0x10000 0
+register_properties (Select k) = writable_properties (0x80 + k) SINK_CODE SINK_CODE
 
 -- there is such a register: the row is one of the table's
 abbrev pub IsRegister : Register → Type 0
@@ -60,13 +60,13 @@ IsAddress x = Unit {0}
 abbrev pub address_number : Address → ℕ
 address_number DeviceId = 0x0000
 address_number Started = 0x0001
-address_number (AtLink l r) = 0x100 * (l + 1) + (line r).offset
+address_number (AtLink l r) = 0x100 * (l + 1) + (register_properties r).offset
 
 -- whether register r may be set to v. Of the numbers that are no links a row can select the sink's
 -- alone. For now the one to discard is refused there, and so is a mode with two-byte headers (bit 0) or
 -- random headers (bit 2).
-abbrev pub in_range : Register → ℕ → Bool
-in_range r v = nat_le v (line r).greatest && is_open r v
+abbrev pub register_takes : Register → ℕ → Bool
+register_takes r v = nat_le v (register_properties r).greatest && is_open r v
   where
     is_open : Register → ℕ → Bool
     is_open Mode v = v % 2 == 0 && (v / 4) % 2 == 0

@@ -4,15 +4,15 @@ pub use Rattle.c104_regs.specs.declared.faults.RegFault.{RegFault}
 use Rattle.c104_regs.specs.declared.faults.RegFault.TheVariants.{NoRegister, ReadOnly, OutOfRange, Busy}
 
 -- the number that is answered
-abbrev pub fault_number : RegFault → ℕ
-fault_number NoRegister = 3
-fault_number ReadOnly = 4
-fault_number OutOfRange = 5
-fault_number Busy = 6
+abbrev pub register_fault_number : RegFault → ℕ
+register_fault_number NoRegister = 3
+register_fault_number ReadOnly = 4
+register_fault_number OutOfRange = 5
+register_fault_number Busy = 6
 
 -- the name that is printed
-abbrev pub fault_name : RegFault → List ℕ
-fault_name NoRegister = codes "NoRegister"
-fault_name ReadOnly = codes "ReadOnly"
-fault_name OutOfRange = codes "OutOfRange"
-fault_name Busy = codes "Busy"
+abbrev pub register_fault_name : RegFault → List ℕ
+register_fault_name NoRegister = codes "NoRegister"
+register_fault_name ReadOnly = codes "ReadOnly"
+register_fault_name OutOfRange = codes "OutOfRange"
+register_fault_name Busy = codes "Busy"

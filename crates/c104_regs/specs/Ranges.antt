@@ -9,17 +9,17 @@ use Rattle.c104_regs.specs.Settings.{Settings}
 use Rattle.c104_regs.specs.declared.registers.TheConstants.{LINKS}
 
 -- a link that there is, or none
-abbrev pub IsSelectable : Select → Type 0
-IsSelectable (Link l) = l < LINKS
-IsSelectable Discard = Unit {0}
-IsSelectable Sink = Unit {0}
+abbrev pub IsSelectInRange : Select → Type 0
+IsSelectInRange (Link l) = l < LINKS
+IsSelectInRange Discard = Unit {0}
+IsSelectInRange Sink = Unit {0}
 
 -- a table whose numbers are within the ranges of its registers
 pub record IsTableInRange (t : Table) : Type 0 where
   pub base : t.base < 0x10000
   pub rows : length t.rows ≡ ROWS
   pub limits : (k : ℕ) → (row_at t k).limit ≤ 0x10000
-  pub selects : (k : ℕ) → IsSelectable (row_at t k).select
+  pub selects : (k : ℕ) → IsSelectInRange (row_at t k).select
 
 -- settings whose numbers are within the ranges of their registers
 pub record IsInRange (s : Settings) : Type 0 where

@@ -1,6 +1,6 @@
 -- The registers of a switch, by address.
 use Rattle.std.specs.Prelude.{◌≡◌, ℕ, ◌+◌, ◌*◌, ◌&&◌, not, Bool, true, false, IsTrue, ◌<◌, List, [], ◌∷◌, Option, Some, None, Result, Ok, Err, length, replicate, if◌then◌else◌, slice_index_or, slice_set}
-use Rattle.c104_regs.specs.Addresses.{Address, IsRegister, Register, address_of, in_range, line}
+use Rattle.c104_regs.specs.Addresses.{Address, IsRegister, Register, address_of, register_takes, register_properties}
 use Rattle.c104_regs.specs.declared.registers.TheConstants.{LINKS, DEVICE_ID}
 use Rattle.c104_regs.specs.declared.addresses.Address.TheVariants.{DeviceId, Started, AtLink}
 use Rattle.c104_regs.specs.declared.addresses.Register.TheVariants.{Mode}
@@ -8,7 +8,7 @@ use Rattle.c104_regs.specs.Faults.{RegFault}
 use Rattle.c104_regs.specs.declared.faults.RegFault.TheVariants.{NoRegister, ReadOnly, OutOfRange, Busy}
 use Rattle.c104_regs.specs.Ranges.{IsInRange}
 use Rattle.c104_regs.specs.Settings.{Settings, reset_settings}
-use Rattle.c104_regs.specs.Values.{Status, number, reset_status, value, with_value}
+use Rattle.c104_regs.specs.Values.{Status, bit_value, reset_status, register_read, with_value}
 
 -- what the registers of a switch hold: whether it is started, and for each link what is set there and
 -- what the switch told of it
@@ -42,24 +42,24 @@ placed_bank settings = record {
 }
 
 -- the invariant of a switch's registers
-pub record IsKept (b : RegisterBank) : Type 0 where
+pub record IsRegisterBank (b : RegisterBank) : Type 0 where
   pub links : length b.settings ≡ LINKS
   pub statuses : length b.statuses ≡ LINKS
   pub in_range : (l : ℕ) → IsInRange (settings_at b l)
 
 -- what stands at an address reads
-abbrev pub read : RegisterBank → Address → ℕ
-read b DeviceId = DEVICE_ID
-read b Started = number b.started 1
-read b (AtLink l r) = value (settings_at b l) (status_at b l) r
+abbrev pub address_value : RegisterBank → Address → ℕ
+address_value b DeviceId = DEVICE_ID
+address_value b Started = bit_value b.started 1
+address_value b (AtLink l r) = register_read (settings_at b l) (status_at b l) r
 
 -- what address a reads, where there is a register
-abbrev pub peek : RegisterBank → ℕ → Result ℕ RegFault
-peek b a = shown (address_of a)
+abbrev pub bank_peek : RegisterBank → ℕ → Result ℕ RegFault
+bank_peek b a = shown (address_of a)
   where
     shown : Option Address → Result ℕ RegFault
     shown None = Err NoRegister
-    shown (Some x) = Ok (read b x)
+    shown (Some x) = Ok (address_value b x)
 
 -- the link and the register that a poke of v at address a would set, or the first fault of the two
 abbrev pub target : ℕ → ℕ → Result (ℕ × Register) RegFault
@@ -70,8 +70,8 @@ target a v = at (address_of a)
     at (Some DeviceId) = Err ReadOnly
     at (Some Started) = Err ReadOnly
     at (Some (AtLink l r)) =
-        if not (line r).is_writable then Err ReadOnly
-        else (if not (in_range r v) then Err OutOfRange
+        if not (register_properties r).is_writable then Err ReadOnly
+        else (if not (register_takes r v) then Err OutOfRange
         else Ok (l, r))
 
 -- at address a stands register r of link l, which can be written and takes v
@@ -79,8 +79,8 @@ pub record IsTarget (a v l : ℕ) (r : Register) : Type 0 where
   pub at : address_of a ≡ Some (AtLink l r)
   pub link : l < LINKS
   pub register : IsRegister r
-  pub is_writable : IsTrue (line r).is_writable
-  pub in_range : IsTrue (in_range r v)
+  pub is_writable : IsTrue (register_properties r).is_writable
+  pub in_range : IsTrue (register_takes r v)
 
 -- whether a register may be set to v at address a, by the address and the value alone
 abbrev pub settable : ℕ → ℕ → Result (Unit {0}) RegFault
@@ -108,8 +108,8 @@ abbrev pub with_status : RegisterBank → ℕ → Status → RegisterBank
 with_status b l status = record b { statuses = slice_set b.statuses l status }
 
 -- what a poke of v at address a answers, and the registers after it
-abbrev pub poke : RegisterBank → ℕ → ℕ → Result (Unit {0}) RegFault × RegisterBank
-poke b a v = at (target a v)
+abbrev pub bank_poke : RegisterBank → ℕ → ℕ → Result (Unit {0}) RegFault × RegisterBank
+bank_poke b a v = at (target a v)
   where
     at : Result (ℕ × Register) RegFault → Result (Unit {0}) RegFault × RegisterBank
     at (Err e) = (Err e, b)
@@ -118,4 +118,4 @@ poke b a v = at (target a v)
 -- the bits of the links that continue the group of the link before them, from link 0 at bit 0 on
 abbrev pub continue_bits : List Settings → ℕ
 continue_bits [] = 0
-continue_bits (s ∷ settings) = number s.continue_group 1 + 2 * continue_bits settings
+continue_bits (s ∷ settings) = bit_value s.continue_group 1 + 2 * continue_bits settings

@@ -1,6 +1,6 @@
 -- The registers as a view of a link's settings and status: what a register reads, and the settings
 -- after it is set.
---     value s t r      what register r reads
+--     register_read s t r      what register r reads
 --     with_value s r v      the settings after register r is set to v
 use Rattle.std.specs.Prelude.{ℕ, ◌+◌, ◌/◌, ◌%◌, ◌==◌, Bool, true, false, Option, Some, None, nat_lt, if◌then◌else◌, slice_set}
 use Rattle.c104_interval.specs.Selection.{row_at}
@@ -28,14 +28,14 @@ reset_status = record {
 }
 
 -- n where a bit is set, and else 0
-abbrev pub number : Bool → ℕ → ℕ
-number true n = n
-number false n = 0
+abbrev pub bit_value : Bool → ℕ → ℕ
+bit_value true n = n
+bit_value false n = 0
 
 -- the four bits of a link's mode
 abbrev pub mode_of : Settings → ℕ
 mode_of s =
-    number s.two_byte 1 + number s.delete_header 2 + number s.randomize 4 + number s.continue_group 8
+    bit_value s.two_byte 1 + bit_value s.delete_header 2 + bit_value s.randomize 4 + bit_value s.continue_group 8
 
 -- the number of what a row selects
 abbrev pub select_code : interval.Select → ℕ
@@ -44,8 +44,8 @@ select_code Discard = DISCARD_CODE
 select_code Sink = SINK_CODE
 
 -- what a number selects
-abbrev pub coded : ℕ → interval.Select
-coded v = if nat_lt v LINKS then Link v else (if v == DISCARD_CODE then Discard else Sink)
+abbrev pub select_of : ℕ → interval.Select
+select_of v = if nat_lt v LINKS then Link v else (if v == DISCARD_CODE then Discard else Sink)
 
 -- 0 where no input streams to an output, and else 1 and the input
 abbrev pub owner_code : Option ℕ → ℕ
@@ -53,20 +53,20 @@ owner_code None = 0
 owner_code (Some i) = 1 + i
 
 -- what register r reads, at a link with these settings and this status
-abbrev pub value : Settings → Status → Register → ℕ
-value s t Mode = mode_of s
-value s t RandomBase = s.random_base
-value s t RandomRange = s.random_range
-value s t Sunk = t.sunk
-value s t Short = t.short
-value s t InputLevel = t.input_level
-value s t OutputLevel = t.output_level
-value s t Credit = t.credit
-value s t Granted = t.granted
-value s t Owner = owner_code t.owner
-value s t Base = s.table.base
-value s t (Limit k) = (row_at s.table k).limit
-value s t (Select k) = select_code (row_at s.table k).select
+abbrev pub register_read : Settings → Status → Register → ℕ
+register_read s t Mode = mode_of s
+register_read s t RandomBase = s.random_base
+register_read s t RandomRange = s.random_range
+register_read s t Sunk = t.sunk
+register_read s t Short = t.short
+register_read s t InputLevel = t.input_level
+register_read s t OutputLevel = t.output_level
+register_read s t Credit = t.credit
+register_read s t Granted = t.granted
+register_read s t Owner = owner_code t.owner
+register_read s t Base = s.table.base
+register_read s t (Limit k) = (row_at s.table k).limit
+register_read s t (Select k) = select_code (row_at s.table k).select
 
 -- the settings with row k of the table replaced
 abbrev pub with_row : Settings → ℕ → Row → Settings
@@ -88,5 +88,5 @@ with_value s RandomBase v = record s { random_base = v }
 with_value s RandomRange v = record s { random_range = v }
 with_value s Base v = record s { table = record { base = v; rows = s.table.rows } }
 with_value s (Limit k) v = with_row s k (record { limit = v; select = (row_at s.table k).select })
-with_value s (Select k) v = with_row s k (record { limit = (row_at s.table k).limit; select = coded v })
+with_value s (Select k) v = with_row s k (record { limit = (row_at s.table k).limit; select = select_of v })
 with_value s r v = s

@@ -1,7 +1,7 @@
 //! What stands at an address, and what may be written there.
 ghost use Rattle.std.specs.Prelude.{◌≡◌, ◌↔◌, ◌<◌, Some, IfSome, IsTrue};
 ghost use Rattle.c104_regs.specs.Registers.{waits};
-ghost use Rattle.c104_regs.specs.Addresses.{IsAddress, IsRegister, address_number, address_of, in_range, line, register_at};
+ghost use Rattle.c104_regs.specs.Addresses.{IsAddress, IsRegister, address_number, address_of, register_takes, register_properties, register_at};
 
 use crate::values::{DISCARD_CODE, SINK_CODE};
 
@@ -43,7 +43,7 @@ impl Register {
 
         // Exactly the registers of the table stand there, each at its offset.
         ensures table { (r : Register) →
-            (result ≡ Some r) ↔ (IsRegister r × ((line r).offset ≡ offset)) }
+            (result ≡ Some r) ↔ (IsRegister r × ((register_properties r).offset ≡ offset)) }
         ensures is_register { IfSome result (λ r. IsRegister r) }
     {
         match offset {
@@ -66,7 +66,7 @@ impl Register {
 
     /// Whether the register can be written. The others tell the link's status.
     pub fn is_writable(self) -> bool
-        ensures { result ≡ (line self).is_writable }
+        ensures { result ≡ (register_properties self).is_writable }
     {
         match self {
             Register::Mode
@@ -99,8 +99,8 @@ impl Register {
     /// place that refuses two-byte headers and random headers, bits 0 and 2 of the mode, and a row
     /// that discards, 32.
     pub fn takes(self, value: u32) -> bool
-        requires { IsTrue (line self).is_writable }
-        ensures { result ≡ in_range self value }
+        requires { IsTrue (register_properties self).is_writable }
+        ensures { result ≡ register_takes self value }
     {
         match self {
             Register::Mode => value <= 0x0f && value % 2 == 0 && value / 4 % 2 == 0,

@@ -1,6 +1,6 @@
 //! Why a register can't be read or written.
 ghost use Rattle.std.specs.Prelude.{◌≡◌};
-ghost use Rattle.c104_regs.specs.Faults.{fault_name, fault_number};
+ghost use Rattle.c104_regs.specs.Faults.{register_fault_name, register_fault_number};
 
 use thiserror::Error;
 
@@ -26,14 +26,14 @@ pub enum RegFault {
 impl RegFault {
     /// The fault's number, 3 to 6, which is that of the refusal that a switch replies.
     pub fn number(self) -> u8
-        ensures { result ≡ fault_number self }
+        ensures { result ≡ register_fault_number self }
     {
         self as u8
     }
 
     /// The fault's name, as it is printed.
     pub fn name(self) -> &'static str
-        ensures { result.now ≡ fault_name self }
+        ensures { result.now ≡ register_fault_name self }
     {
         match self {
             RegFault::NoRegister => "NoRegister",

@@ -1,10 +1,10 @@
 //! The registers of a switch, by address.
 ghost use Rattle.std.specs.Prelude.{◌≡◌, ◌≢◌, ℕ, ◌<◌, All, IfOk, OnErr, OnOk, Ok, length};
 ghost use Rattle.std.specs.Int.{bit_at};
-ghost use Rattle.c104_regs.specs.Addresses.{IsRegister, Register, line};
+ghost use Rattle.c104_regs.specs.Addresses.{IsRegister, Register, register_properties};
 ghost use Rattle.c104_regs.specs.Ranges.{IsInRange, IsTableInRange};
-ghost use Rattle.c104_regs.specs.Registers.{IsKept, IsTarget, continue_bits, peek, placed_bank, poke, reset_bank, settable, settings_at, settings_with, status_at, target, with_status};
-ghost use Rattle.c104_regs.specs.Values.{mode_of, number, value};
+ghost use Rattle.c104_regs.specs.Registers.{IsRegisterBank, IsTarget, continue_bits, bank_peek, placed_bank, bank_poke, reset_bank, settable, settings_at, settings_with, status_at, target, with_status};
+ghost use Rattle.c104_regs.specs.Values.{mode_of, bit_value, register_read};
 
 use crate::addresses::{Address, Register};
 use crate::faults::RegFault;
@@ -32,14 +32,15 @@ pub struct Registers {
 }
 
 impl Model for Registers {
-    ghost use Rattle.c104_regs.specs.Registers.{IsKept, RegisterBank};
+    ghost use Rattle.c104_regs.specs.Registers.{IsRegisterBank, RegisterBank};
 
     ghost Value = { RegisterBank };
 
     ghost view = { λ r. record { started = r.started; settings = r.settings; statuses = r.statuses } };
 
     ghost invariant = { λ r.
-        IsKept (record { started = r.started; settings = r.settings; statuses = r.statuses }) };
+        IsRegisterBank
+        (record { started = r.started; settings = r.settings; statuses = r.statuses }) };
 
     ghost inverse = { λ b. record { started = b.started; settings = b.settings; statuses = b.statuses } };
 }
@@ -51,7 +52,8 @@ impl Registers {
 
         // Each register of a link has the value that the table says.
         ensures values { (l : ℕ) (r : Register) →
-            value (settings_at result l) (status_at result l) r ≡ (line r).reset }
+            register_read (settings_at result l) (status_at result l) r ≡
+            (register_properties r).reset }
     {
         Registers {
             started: false,
@@ -79,7 +81,7 @@ impl Registers {
     /// The value of the register at this address. NoRegister where there is none; no other fault
     /// comes.
     pub fn peek(&self, addr: u16) -> Result<u32, RegFault>
-        ensures { result ≡ peek self.now addr }
+        ensures { result ≡ bank_peek self.now addr }
     {
         match Address::at(addr) {
             None => Err(RegFault::NoRegister),
@@ -95,11 +97,12 @@ impl Registers {
     /// written, OutOfRange where it doesn't take the value, and Busy for the mode of a link through
     /// which a packet is on its way. What is refused changes nothing.
     pub fn poke(&mut self, addr: u16, value: u32) -> Result<(), RegFault>
-        ensures poked { (result, self.new) ≡ poke self.old addr value }
+        ensures poked { (result, self.new) ≡ bank_poke self.old addr value }
 
         // The registers are a map, which an accepted poke changes at one address.
-        ensures written { OnOk result (peek self.new addr ≡ Ok value) }
-        ensures others { OnOk result ((a : ℕ) → a ≢ addr → peek self.new a ≡ peek self.old a) }
+        ensures written { OnOk result (bank_peek self.new addr ≡ Ok value) }
+        ensures others { OnOk result
+            ((a : ℕ) → a ≢ addr → bank_peek self.new a ≡ bank_peek self.old a) }
         ensures refused { OnErr result (self.new ≡ self.old) }
     {
         let (link, register) = target(addr, value)?;
@@ -129,7 +132,7 @@ impl Registers {
     /// What is set at each link, in order.
     pub fn all_settings(&self) -> &[Settings]
         ensures settings { result.now ≡ self.now.settings }
-        ensures kept { IsKept self.now }
+        ensures kept { IsRegisterBank self.now }
     {
         self.settings.as_slice()
     }
@@ -163,7 +166,7 @@ impl Registers {
     /// The links that continue the group of the link before them: link l at bit l.
     pub fn continues(&self) -> u32
         ensures number { result ≡ continue_bits self.now.settings }
-        ensures bits { (l : ℕ) → bit_at result l ≡ number (settings_at self.now l).continue_group 1 }
+        ensures bits { (l : ℕ) → bit_at result l ≡ bit_value (settings_at self.now l).continue_group 1 }
     {
         let mut bits = 0;
         let mut link = LINKS;

@@ -1,7 +1,7 @@
 //! What a register of a link reads, and what setting it changes.
 ghost use Rattle.std.specs.Prelude.{◌≡◌};
 ghost use Rattle.c104_regs.specs.Addresses.{IsRegister};
-ghost use Rattle.c104_regs.specs.Values.{coded, mode_of, number, owner_code, select_code, value, with_mode, with_value};
+ghost use Rattle.c104_regs.specs.Values.{select_of, mode_of, bit_value, owner_code, select_code, register_read, with_mode, with_value};
 
 use crate::addresses::Register;
 use crate::settings::Settings;
@@ -18,7 +18,7 @@ impl Register {
     /// What the register reads, at a link with these settings and this status.
     pub fn read(self, settings: &Settings, status: &Status) -> u32
         requires { IsRegister self }
-        ensures { result ≡ value settings.now status.now self }
+        ensures { result ≡ register_read settings.now status.now self }
     {
         match self {
             Register::Mode => settings.mode(),
@@ -78,7 +78,7 @@ impl Settings {
 
 /// The weight of a bit where it is set, and else 0.
 pub fn number(bit: bool, weight: u32) -> u32
-    ensures { result ≡ number bit weight }
+    ensures { result ≡ bit_value bit weight }
 {
     if bit { weight } else { 0 }
 }
@@ -96,7 +96,7 @@ fn select_code(select: Select) -> u32
 
 /// What a number selects.
 fn select_of(code: u32) -> Select
-    ensures { result ≡ coded code }
+    ensures { result ≡ select_of code }
 {
     match code {
         0..=31 => Select::Link(code as u8),

@@ -1,6 +1,6 @@
 -- The two parts of a text that comes byte by byte: a description, and a script.
 use Rattle.std.specs.Prelude.{ℕ, zero, suc, ◌==◌, ◌≡◌, ◌<◌, ◌⊎◌, ⊤, Bool, false, List, [], ◌∷◌, ◌++◌, length, bytes_eq, codes, if◌then◌else◌, Option, Some, None}
-use Rattle.c104_describe.specs.TextCut.{uncommented, words}
+use Rattle.c104_describe.specs.TextCut.{uncommented_line, line_words}
 use Rattle.c104_describe.specs.PlanText.{most_bytes}
 
 -- the only word of a line is `script`
@@ -10,7 +10,7 @@ is_script_word (word ∷ []) = bytes_eq word (codes "script")
 is_script_word (word ∷ next ∷ more) = false
 
 unfoldable pub is_script_line : List ℕ → Bool
-is_script_line line = is_script_word (words (uncommented line))
+is_script_line line = is_script_word (line_words (uncommented_line line))
 
 -- a description and a script
 pub record Parts : Type 0 where

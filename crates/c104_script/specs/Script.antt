@@ -4,7 +4,7 @@
 use Rattle.std.specs.Prelude.{ℕ, ◌+◌, ◌&&◌, ◌≡◌, ◌⊎◌, Bool, true, false, List, [], ◌∷◌, ◌++◌, length, take, drop, nat_le, bytes_eq, codes, if◌then◌else◌, Option, Some, None, Result, Ok, Err}
 use Rattle.c104_token.specs.declared.faults.TokenFault.{TokenFault}
 use Rattle.c104_token.specs.declared.faults.TokenFault.TheVariants as token_fault
-use Rattle.c104_token.specs.Text.{byte_spelled, parsed_words}
+use Rattle.c104_token.specs.Text.{spelled_byte, parse_words}
 use Rattle.c104_token.specs.declared.packets.Packet.{Packet}
 use Rattle.c104_control.specs.declared.bytes.TheConstants.{MAX_CONTROL_BYTES}
 use Rattle.c104_describe.specs.declared.text.Dots.{Dots}
@@ -15,8 +15,8 @@ use Rattle.c104_event.specs.declared.events.Event.{Event}
 use Rattle.c104_event.specs.declared.events.Event.TheVariants as event
 use Rattle.c104_event.specs.declared.faults.EventFault.{EventFault}
 use Rattle.c104_event.specs.declared.faults.EventFault.TheVariants.{NoNode, NoLink}
-use Rattle.c104_describe.specs.TextCut.{uncommented, words, plain}
-use Rattle.c104_describe.specs.TextWords.{number, dots}
+use Rattle.c104_describe.specs.TextCut.{uncommented_line, line_words, is_plain_line}
+use Rattle.c104_describe.specs.TextWords.{read_number, dots}
 use Rattle.c104_describe.specs.Plans.{Plan, switch_number, terminal_number}
 pub use Rattle.c104_script.specs.declared.faults.LineFault.{LineFault}
 use Rattle.c104_script.specs.declared.faults.LineFault.TheVariants as fault
@@ -43,12 +43,12 @@ require true kind = Ok true
 require false kind = Err kind
 
 -- a value, and the fault where there is none
-abbrev pub wanted : {X : Type 0} → Option X → LineFault → Result X LineFault
-wanted (Some x) kind = Ok x
-wanted None kind = Err kind
+abbrev pub value_or_fault : {X : Type 0} → Option X → LineFault → Result X LineFault
+value_or_fault (Some x) kind = Ok x
+value_or_fault None kind = Err kind
 
 abbrev pub number_word : List ℕ → Result ℕ LineFault
-number_word word = wanted (number word) fault.BadNumber
+number_word word = value_or_fault (read_number word) fault.BadNumber
 
 -- the two sides of a word's dot, by where it is; a word without a dot names no link
 abbrev pub place_at : List ℕ → Dots → Result (List ℕ × Option ℕ) LineFault
@@ -117,7 +117,7 @@ packet_of (Err kind) = Err (packet_fault kind)
 abbrev pub send_line : Plan → List ℕ → List (List ℕ) → Result Request LineFault
 send_line plan node packet_words = do
   place ← place_word node
-  packet ← packet_of (parsed_words packet_words)
+  packet ← packet_of (parse_words packet_words)
   Ok (request_of (terminal_at plan place) (λ t. event.Send t packet))
 
 -- `drain T`
@@ -157,7 +157,7 @@ claim_line plan node input_word output_word = do
 abbrev pub bytes_after : List ℕ → List (List ℕ) → Result (List ℕ) LineFault
 bytes_after bytes [] = Ok bytes
 bytes_after bytes (word ∷ more) = do
-  byte ← wanted (byte_spelled word) fault.BadHex
+  byte ← value_or_fault (spelled_byte word) fault.BadHex
   bytes_after (bytes ++ byte ∷ []) more
 
 -- `control S HEX..`
@@ -211,10 +211,10 @@ some_request (Ok request) = Ok (Some request)
 some_request (Err kind) = Err kind
 
 -- a line, by its words; is_plain says that it has no byte that no line may have
-abbrev pub words_line : Plan → Bool → List (List ℕ) → Result (Option Request) LineFault
-words_line plan is_plain [] = Ok None
-words_line plan is_plain (first ∷ rest) = do
-  verb ← wanted (verb_of first) fault.UnknownWord
+abbrev pub read_script_words : Plan → Bool → List (List ℕ) → Result (Option Request) LineFault
+read_script_words plan is_plain [] = Ok None
+read_script_words plan is_plain (first ∷ rest) = do
+  verb ← value_or_fault (verb_of first) fault.UnknownWord
   require is_plain fault.BadShape
   some_request (verb_line verb plan rest)
 
@@ -223,11 +223,11 @@ abbrev pub most_line : ℕ
 most_line = 16384
 
 -- what a line asks, which is nothing where it has no words, or what is wrong with it
-unfoldable pub read_line : Plan → List ℕ → Result (Option Request) LineFault
-read_line plan line =
-    if nat_le (length line) most_line then words_line plan (plain (uncommented line)) (words (uncommented line))
+unfoldable pub read_script_line : Plan → List ℕ → Result (Option Request) LineFault
+read_script_line plan line =
+    if nat_le (length line) most_line then read_script_words plan (is_plain_line (uncommented_line line)) (line_words (uncommented_line line))
     else Err fault.LineTooLong
 
 -- what is due, or out of memory
-abbrev pub GivesOrNoMemory : {X : Type 0} → Result X LineFault → Result X LineFault → Type 0
-GivesOrNoMemory result due = (result ≡ due) ⊎ (result ≡ Err fault.NoMemory)
+abbrev pub GivesLineOrNoMemory : {X : Type 0} → Result X LineFault → Result X LineFault → Type 0
+GivesLineOrNoMemory result due = (result ≡ due) ⊎ (result ≡ Err fault.NoMemory)

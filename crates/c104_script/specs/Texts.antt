@@ -10,7 +10,7 @@ use Rattle.c104_switch.specs.declared.actions.Reply.TheVariants as reply
 use Rattle.c104_event.specs.declared.faults.EventFault.{EventFault}
 use Rattle.c104_event.specs.EventFaults.{event_fault_number, event_fault_name}
 use Rattle.c104_describe.specs.declared.faults.PlanFault.{PlanFault}
-use Rattle.c104_describe.specs.PlanFaults.{kind_number, kind_name}
+use Rattle.c104_describe.specs.PlanFaults.{plan_fault_number, plan_fault_name}
 use Rattle.c104_script.specs.declared.faults.LineFault.{LineFault}
 use Rattle.c104_script.specs.declared.faults.LineFault.TheVariants as fault
 
@@ -69,12 +69,12 @@ abbrev pub line_fault_text : LineFault → List ℕ
 line_fault_text kind = codes "fault " ++ (decimal (line_fault_number kind) ++ (codes " " ++ line_fault_name kind))
 
 -- an answer's line, by the number of the line that it answers
-abbrev pub numbered : ℕ → List ℕ → List ℕ
-numbered line text = decimal line ++ (codes ": " ++ (text ++ codes "\n"))
+abbrev pub numbered_line : ℕ → List ℕ → List ℕ
+numbered_line line text = decimal line ++ (codes ": " ++ (text ++ codes "\n"))
 
 -- the line of a refused description
 abbrev pub description_text : PlanFault → List ℕ
-description_text fault = codes "description " ++ (decimal fault.line ++ (codes ": " ++ (decimal (kind_number fault.kind) ++ (codes " " ++ (kind_name fault.kind ++ codes "\n")))))
+description_text fault = codes "description " ++ (decimal fault.line ++ (codes ": " ++ (decimal (plan_fault_number fault.kind) ++ (codes " " ++ (plan_fault_name fault.kind ++ codes "\n")))))
 
 -- what stands in the summary's place where a script is too long
 abbrev pub script_too_long : List ℕ

@@ -1,6 +1,6 @@
 //! A script, line by line.
 ghost use Rattle.std.specs.Prelude.{◌≡◌, map};
-ghost use Rattle.c104_script.specs.Script.{claim_line, control_line, credit_line, cross_line, drain_line, input_line, number_word, read_line, request_of, rounds_line, send_line, verb_line, words_line, GivesOrNoMemory};
+ghost use Rattle.c104_script.specs.Script.{claim_line, control_line, credit_line, cross_line, drain_line, input_line, number_word, read_script_line, request_of, rounds_line, send_line, verb_line, read_script_words, GivesLineOrNoMemory};
 ghost use Rattle.c104_event.specs.declared.events.Event.TheVariants as event;
 
 use crate::faults::LineFault;
@@ -22,9 +22,9 @@ pub const MAX_LINE: usize = 16_384;
 ///
 /// A fault is the least that applies, but those of a packet come as its words are read from the left.
 /// NoMemory may come in place of any answer.
-#[tactic(auto, unfolding(crate::specs::Script::read_line))]
+#[tactic(auto, unfolding(crate::specs::Script::read_script_line))]
 pub fn read_line(alloc: Global, plan: &Plan, line: &[u8]) -> Result<Option<Request>, LineFault>
-    ensures { GivesOrNoMemory result (read_line plan.now line.now) }
+    ensures { GivesLineOrNoMemory result (read_script_line plan.now line.now) }
 {
     if line.len() > MAX_LINE {
         return Err(LineFault::LineTooLong);
@@ -41,7 +41,7 @@ fn read_words(
     is_plain: bool,
     words: &[&[u8]],
 ) -> Result<Option<Request>, LineFault>
-    ensures { GivesOrNoMemory result (words_line plan.now is_plain (map (λ word. word.now) words.now)) }
+    ensures { GivesLineOrNoMemory result (read_script_words plan.now is_plain (map (λ word. word.now) words.now)) }
 {
     let [first, rest @ ..] = words else {
         return Ok(None);
@@ -63,7 +63,8 @@ fn read_request(
     verb: Verb,
     words: &[&[u8]],
 ) -> Result<Request, LineFault>
-    ensures { GivesOrNoMemory result (verb_line verb plan.now (map (λ word. word.now) words.now)) }
+    ensures { GivesLineOrNoMemory result
+        (verb_line verb plan.now (map (λ word. word.now) words.now)) }
 {
     match (verb, words) {
         (Verb::Send, [node, packet @ ..]) => read_send(alloc, plan, node, packet),
@@ -86,7 +87,7 @@ fn read_send(
     node: &[u8],
     packet: &[&[u8]],
 ) -> Result<Request, LineFault>
-    ensures { GivesOrNoMemory result (send_line plan.now node.now (map (λ word. word.now) packet.now)) }
+    ensures { GivesLineOrNoMemory result (send_line plan.now node.now (map (λ word. word.now) packet.now)) }
 {
     let place = read_place(node)?;
     let packet = parse_words(alloc, packet)?;

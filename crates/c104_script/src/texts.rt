@@ -3,7 +3,7 @@ ghost use Rattle.std.specs.Prelude.{◌≡◌, ◌++◌, IfOk, OnOk, Ok, Err};
 ghost use Rattle.std.specs.String.{string_bytes};
 ghost use Rattle.c104_token.specs.declared.tokens.Token.TheVariants as token;
 ghost use Rattle.c104_switch.specs.declared.actions.Reply.TheVariants as reply;
-ghost use Rattle.c104_script.specs.Texts.{answer_text, byte_text, description_text, line_fault_text, numbered, reply_text};
+ghost use Rattle.c104_script.specs.Texts.{answer_text, byte_text, description_text, line_fault_text, numbered_line, reply_text};
 
 use crate::faults::LineFault;
 use c104_control::ControlBytes;
@@ -73,7 +73,7 @@ pub fn fault_text(alloc: Global, fault: LineFault) -> Result<String, AllocError>
 
 /// The line that answers a line of this number.
 pub fn numbered(alloc: Global, line: usize, text: &str) -> Result<String, AllocError>
-    ensures { IfOk result (λ line_text. string_bytes line_text ≡ numbered line text.now) }
+    ensures { IfOk result (λ line_text. string_bytes line_text ≡ numbered_line line text.now) }
 {
     format!(in alloc; "{line}: {text}\n")
 }

@@ -3,7 +3,7 @@ use Rattle.std.proofs.Common.{◌≡◌, ℕ, zero, suc, ◌+◌, ◌-◌, ◌�
 use mathlib.Core.List.{append_assoc}
 use Rattle.c104_session.specs.declared.session.Session.{Session}
 use Rattle.c104_session.specs.Lines.{whole_lines, last_line, lines_within}
-use Rattle.c104_session.specs.Shown.{line_shown, lines_shown}
+use Rattle.c104_session.specs.Shown.{line_outcome, lines_outcome}
 
 -- a choice on both sides, by the same test
 by_test : {A B C : Type 0} (f : B → C → A) (test : Bool) (x y : A) (u v : B) (s t : C) → x ≡ f u s → y ≡ f v t → (if test then x else y) ≡ f (if test then u else v) (if test then s else t)
@@ -42,19 +42,19 @@ lines_after (suc bytes) front (b ∷ read) rest room =
 
 -- what more lines show, after these
 abbrev pub shown_after : ℕ → Session → List (List ℕ) → List (List ℕ) → List ℕ × Session
-shown_after line session lines more = lines_shown (line + length lines) (lines_shown line session lines).1 more
+shown_after line session lines more = lines_outcome (line + length lines) (lines_outcome line session lines).1 more
 
-pub text_on : (line : ℕ) (session : Session) (lines more : List (List ℕ)) → (lines_shown line session (lines ++ more)).0 ≡ (lines_shown line session lines).0 ++ (shown_after line session lines more).0
-text_on line session [] more = ap (λ n. (lines_shown n session more).0) (omega arith)
+pub text_on : (line : ℕ) (session : Session) (lines more : List (List ℕ)) → (lines_outcome line session (lines ++ more)).0 ≡ (lines_outcome line session lines).0 ++ (shown_after line session lines more).0
+text_on line session [] more = ap (λ n. (lines_outcome n session more).0) (omega arith)
 text_on line session (text ∷ lines) more =
-    let this : List ℕ × Session = line_shown line session text in
+    let this : List ℕ × Session = line_outcome line session text in
     let next : suc line + length lines ≡ line + suc (length lines) = omega arith in
-    ap (λ rest. this.0 ++ rest) (text_on (suc line) this.1 lines more) ∙ sym (append_assoc this.0 (lines_shown (suc line) this.1 lines).0 (shown_after (suc line) this.1 lines more).0)
-    ∙ ap (λ n. (this.0 ++ (lines_shown (suc line) this.1 lines).0) ++ (lines_shown n (lines_shown (suc line) this.1 lines).1 more).0) next
+    ap (λ rest. this.0 ++ rest) (text_on (suc line) this.1 lines more) ∙ sym (append_assoc this.0 (lines_outcome (suc line) this.1 lines).0 (shown_after (suc line) this.1 lines more).0)
+    ∙ ap (λ n. (this.0 ++ (lines_outcome (suc line) this.1 lines).0) ++ (lines_outcome n (lines_outcome (suc line) this.1 lines).1 more).0) next
 
-pub session_on : (line : ℕ) (session : Session) (lines more : List (List ℕ)) → (lines_shown line session (lines ++ more)).1 ≡ (shown_after line session lines more).1
-session_on line session [] more = ap (λ n. (lines_shown n session more).1) (omega arith)
+pub session_on : (line : ℕ) (session : Session) (lines more : List (List ℕ)) → (lines_outcome line session (lines ++ more)).1 ≡ (shown_after line session lines more).1
+session_on line session [] more = ap (λ n. (lines_outcome n session more).1) (omega arith)
 session_on line session (text ∷ lines) more =
-    let this : List ℕ × Session = line_shown line session text in
+    let this : List ℕ × Session = line_outcome line session text in
     let next : suc line + length lines ≡ line + suc (length lines) = omega arith in
-    session_on (suc line) this.1 lines more ∙ ap (λ n. (lines_shown n (lines_shown (suc line) this.1 lines).1 more).1) next
+    session_on (suc line) this.1 lines more ∙ ap (λ n. (lines_outcome n (lines_outcome (suc line) this.1 lines).1 more).1) next

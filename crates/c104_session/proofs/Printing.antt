@@ -7,8 +7,8 @@ use Rattle.c104_token.specs.declared.tokens.Mark.TheVariants as mark
 use Rattle.c104_token.specs.declared.tokens.Token.{Token}
 use Rattle.c104_token.specs.declared.tokens.Token.TheVariants.{Byte}
 use Rattle.c104_token.specs.Tokens.{end_token}
-use Rattle.c104_token.specs.Packets.{tokens}
-use Rattle.c104_token.specs.Text.{hex_digit, mark_word, printed}
+use Rattle.c104_token.specs.Packets.{packet_tokens}
+use Rattle.c104_token.specs.Text.{hex_digit, mark_word, packet_text}
 use Rattle.c104_script.specs.Texts.{token_text}
 use Rattle.c104_session.specs.Shown.{tokens_text, received_text}
 
@@ -25,11 +25,11 @@ of_bytes : (bytes : List ℕ) (m : Mark) → tokens_text (map Byte bytes ++ end_
 of_bytes [] m = of_end m
 of_bytes (b ∷ bytes) m = after_one (Byte b) bytes (end_token m) ∙ ap (λ text. hex_digit (b / 16) ∷ hex_digit (b % 16) ∷ 32 ∷ text) (of_bytes bytes m)
 
-pub printed_tokens : (packet : Packet) → tokens_text (tokens packet) ≡ printed packet
+pub printed_tokens : (packet : Packet) → tokens_text (packet_tokens packet) ≡ packet_text packet
 printed_tokens packet = of_bytes packet.bytes packet.mark
 
 -- the parts of a packet's line, each joined to what stood before
-pub joined : (old first second third last name text : List ℕ) (packet : Packet) → first ≡ old ++ name → second ≡ first ++ codes ": " → third ≡ second ++ text → last ≡ third ++ codes "\n" → text ≡ printed packet → last ≡ old ++ received_text name (tokens packet)
+pub joined : (old first second third last name text : List ℕ) (packet : Packet) → first ≡ old ++ name → second ≡ first ++ codes ": " → third ≡ second ++ text → last ≡ third ++ codes "\n" → text ≡ packet_text packet → last ≡ old ++ received_text name (packet_tokens packet)
 joined old first second third last name text packet is_first is_second is_third is_last is_text =
-    let as_text : text ≡ tokens_text (tokens packet) = is_text ∙ sym (printed_tokens packet) in
+    let as_text : text ≡ tokens_text (packet_tokens packet) = is_text ∙ sym (printed_tokens packet) in
     rw (is_last, is_third, is_second, is_first, as_text, append_assoc, append_assoc, append_assoc)

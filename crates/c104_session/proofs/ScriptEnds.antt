@@ -7,7 +7,7 @@ use Rattle.c104_stream.specs.declared.reading.ReadFault.{ReadFault}
 use Rattle.c104_stream.specs.declared.reading.ReadFault.TheVariants as read_fault
 use Rattle.c104_session.specs.declared.session.Session.{Session}
 use Rattle.c104_stream.specs.Halts.{halt_of}
-use Rattle.c104_session.specs.Shown.{line_shown}
+use Rattle.c104_session.specs.Shown.{line_outcome}
 use Rattle.c104_session.specs.Runs.{AnswersScript, LineStops}
 use Rattle.std.proofs.KnownBytes.{Keeps-refl}
 use Rattle.c104_session.proofs.ScriptSoFar.{Reached, fed, memory_stops, stops_at, all_answered, longer}
@@ -50,7 +50,7 @@ last_halts (Some script) (Some rest) (Some next) held holds wrote remains start 
 
 -- the last line is answered
 pub script_ends : (all now new held holds wrote remains : Option (List ℕ)) (start session after : Session) (number left : ℕ) (line : List ℕ) → Reached all now held holds start session number line left → Keeps now new × IsAtEnd new
-    → after ≡ (line_shown number session line).1 → Appends holds wrote (line_shown number session line).0 → AnswersScript start all remains held wrote after (Ok false)
+    → after ≡ (line_outcome number session line).1 → Appends holds wrote (line_outcome number session line).0 → AnswersScript start all remains held wrote after (Ok false)
 script_ends None now new held holds wrote remains start session after number left line reached ended is_after writes = tt
 script_ends (Some script) None new held holds wrote remains start session after number left line reached ended is_after writes = absurd reached.consumed
 script_ends (Some script) (Some rest) None held holds wrote remains start session after number left line reached ended is_after writes = absurd ended.0

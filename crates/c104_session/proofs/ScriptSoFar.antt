@@ -9,24 +9,24 @@ use Rattle.c104_stream.specs.declared.halt.Halt.TheVariants as halt
 use Rattle.c104_session.specs.declared.session.Session.{Session}
 use Rattle.c104_session.specs.Lines.{whole_lines, last_line, lines_within, script_lines, most_script}
 use Rattle.c104_stream.specs.Writing.{AppendsFront}
-use Rattle.c104_session.specs.Shown.{line_shown, lines_shown}
+use Rattle.c104_session.specs.Shown.{line_outcome, lines_outcome}
 use Rattle.c104_session.specs.Runs.{ScriptEnds, LineStops}
 use Rattle.std.proofs.KnownBytes.{Consumes-trans, Consumes-nil, Appends-trans, Appends-nil, Appends-kept}
 use Rattle.c104_stream.proofs.Prefixes.{prefix_after, prefix_only}
 use Rattle.c104_session.proofs.Lines.{whole_byte, last_byte, whole_feed, last_feed, lines_after, shown_after, text_on, session_on}
 
 -- one more line after these
-module _ (start session : Session) (lines : List (List ℕ)) (number : ℕ) (line : List ℕ) (is_number : number ≡ 1 + length lines) (is_session : session ≡ (lines_shown 1 start lines).1) where
-  here : line_shown (1 + length lines) (lines_shown 1 start lines).1 line ≡ line_shown number session line
-  here = ap (λ n. line_shown n (lines_shown 1 start lines).1 line) (sym is_number) ∙ ap (λ s. line_shown number s line) (sym is_session)
+module _ (start session : Session) (lines : List (List ℕ)) (number : ℕ) (line : List ℕ) (is_number : number ≡ 1 + length lines) (is_session : session ≡ (lines_outcome 1 start lines).1) where
+  here : line_outcome (1 + length lines) (lines_outcome 1 start lines).1 line ≡ line_outcome number session line
+  here = ap (λ n. line_outcome n (lines_outcome 1 start lines).1 line) (sym is_number) ∙ ap (λ s. line_outcome number s line) (sym is_session)
 
-  pub text_with : (more : List (List ℕ)) → (lines_shown 1 start (lines ++ line ∷ more)).0 ≡ (lines_shown 1 start lines).0 ++ ((line_shown number session line).0 ++ (lines_shown (suc (1 + length lines)) (line_shown number session line).1 more).0)
-  text_with more = text_on 1 start lines (line ∷ more) ∙ ap (λ r. (lines_shown 1 start lines).0 ++ (r.0 ++ (lines_shown (suc (1 + length lines)) r.1 more).0)) here
+  pub text_with : (more : List (List ℕ)) → (lines_outcome 1 start (lines ++ line ∷ more)).0 ≡ (lines_outcome 1 start lines).0 ++ ((line_outcome number session line).0 ++ (lines_outcome (suc (1 + length lines)) (line_outcome number session line).1 more).0)
+  text_with more = text_on 1 start lines (line ∷ more) ∙ ap (λ r. (lines_outcome 1 start lines).0 ++ (r.0 ++ (lines_outcome (suc (1 + length lines)) r.1 more).0)) here
 
-  pub text_more : (lines_shown 1 start (lines ++ line ∷ [])).0 ≡ (lines_shown 1 start lines).0 ++ (line_shown number session line).0
-  text_more = text_with [] ∙ ap (λ text. (lines_shown 1 start lines).0 ++ text) (append-nil (line_shown number session line).0)
+  pub text_more : (lines_outcome 1 start (lines ++ line ∷ [])).0 ≡ (lines_outcome 1 start lines).0 ++ (line_outcome number session line).0
+  text_more = text_with [] ∙ ap (λ text. (lines_outcome 1 start lines).0 ++ text) (append-nil (line_outcome number session line).0)
 
-  pub session_more : (lines_shown 1 start (lines ++ line ∷ [])).1 ≡ (line_shown number session line).1
+  pub session_more : (lines_outcome 1 start (lines ++ line ∷ [])).1 ≡ (line_outcome number session line).1
   session_more = session_on 1 start lines (line ∷ []) ∙ ap (λ r. r.1) here
 
 -- a line feed ends the line
@@ -44,8 +44,8 @@ pub record Reached (all now held holds : Option (List ℕ)) (start session : Ses
   pub counted : length read + left ≡ most_script
   pub is_line : line ≡ last_line [] read
   pub is_number : number ≡ 1 + length (whole_lines [] read)
-  pub is_session : session ≡ (lines_shown 1 start (whole_lines [] read)).1
-  pub wrote : Appends held holds (lines_shown 1 start (whole_lines [] read)).0
+  pub is_session : session ≡ (lines_outcome 1 start (whole_lines [] read)).1
+  pub wrote : Appends held holds (lines_outcome 1 start (whole_lines [] read)).0
   pub few : number + left ≤ 1 + most_script
 
 -- the line by another name
@@ -57,7 +57,7 @@ reached_first all held start = record { read = []; consumed = Consumes-nil all; 
 
 module _ {all now held holds : Option (List ℕ)} {start session : Session} {number left : ℕ} {line : List ℕ} (reached : Reached all now held holds start session number line left) where
   abbrev so_far : List ℕ × Session
-  so_far = lines_shown 1 start (whole_lines [] reached.read)
+  so_far = lines_outcome 1 start (whole_lines [] reached.read)
 
   -- a byte of a line
   pub reached_byte : (new : Option (List ℕ)) (byte : ℕ) → 0 < left → Consumes now new (byte ∷ []) → (byte ≡ 10 → ⊥) → Reached all new held holds start session number (line ++ byte ∷ []) (left - 1)
@@ -70,13 +70,13 @@ module _ {all now held holds : Option (List ℕ)} {start session : Session} {num
         counted = omega (arith, reached.counted, length-append reached.read (byte ∷ []));
         is_line = ap (λ xs. xs ++ byte ∷ []) reached.is_line ∙ sym (last_byte [] reached.read byte other);
         is_number = reached.is_number ∙ ap (λ xs. 1 + length xs) (sym lines);
-        is_session = reached.is_session ∙ ap (λ xs. (lines_shown 1 start xs).1) (sym lines);
-        wrote = subst (λ xs. Appends held holds (lines_shown 1 start xs).0) (sym lines) reached.wrote;
+        is_session = reached.is_session ∙ ap (λ xs. (lines_outcome 1 start xs).1) (sym lines);
+        wrote = subst (λ xs. Appends held holds (lines_outcome 1 start xs).0) (sym lines) reached.wrote;
         few = omega (arith, reached.few);
       }
 
   -- a line feed, and the line was answered
-  pub reached_line : (new wrote : Option (List ℕ)) (after : Session) → 0 < left → Consumes now new (10 ∷ []) → after ≡ (line_shown number session line).1 → Appends holds wrote (line_shown number session line).0 → Reached all new held wrote start after (number + 1) [] (left - 1)
+  pub reached_line : (new wrote : Option (List ℕ)) (after : Session) → 0 < left → Consumes now new (10 ∷ []) → after ≡ (line_outcome number session line).1 → Appends holds wrote (line_outcome number session line).0 → Reached all new held wrote start after (number + 1) [] (left - 1)
   reached_line new wrote after some took is_after writes =
       let lines : whole_lines [] (reached.read ++ 10 ∷ []) ≡ whole_lines [] reached.read ++ line ∷ [] = whole_feed [] reached.read ∙ ap (λ l. whole_lines [] reached.read ++ l ∷ []) (sym reached.is_line) in
       record {
@@ -85,8 +85,8 @@ module _ {all now held holds : Option (List ℕ)} {start session : Session} {num
         counted = omega (arith, reached.counted, length-append reached.read (10 ∷ []));
         is_line = sym (last_feed [] reached.read);
         is_number = omega (arith, reached.is_number, ap length lines, length-append (whole_lines [] reached.read) (line ∷ []));
-        is_session = is_after ∙ sym (session_more start session (whole_lines [] reached.read) number line reached.is_number reached.is_session) ∙ ap (λ xs. (lines_shown 1 start xs).1) (sym lines);
-        wrote = subst (λ text. Appends held wrote text) (sym (text_more start session (whole_lines [] reached.read) number line reached.is_number reached.is_session) ∙ ap (λ xs. (lines_shown 1 start xs).0) (sym lines)) (Appends-trans held holds wrote so_far.0 (line_shown number session line).0 reached.wrote writes);
+        is_session = is_after ∙ sym (session_more start session (whole_lines [] reached.read) number line reached.is_number reached.is_session) ∙ ap (λ xs. (lines_outcome 1 start xs).1) (sym lines);
+        wrote = subst (λ text. Appends held wrote text) (sym (text_more start session (whole_lines [] reached.read) number line reached.is_number reached.is_session) ∙ ap (λ xs. (lines_outcome 1 start xs).0) (sym lines)) (Appends-trans held holds wrote so_far.0 (line_outcome number session line).0 reached.wrote writes);
         few = omega (arith, reached.few);
       }
 
@@ -103,7 +103,7 @@ module _ {all now held holds : Option (List ℕ)} {start session : Session} {num
   -- no more is written
   pub memory_stops : (script rest : List ℕ) (remains wrote : Option (List ℕ)) (after : Session) → script ≡ reached.read ++ rest → Keeps holds wrote → ScriptEnds start script remains held wrote after (Err halt.NoMemory)
   memory_stops script rest remains wrote after is kept =
-      subst (λ text. AppendsFront held wrote text) (sym (ap (λ xs. (lines_shown 1 start xs).0) (cut script rest is) ∙ text_on 1 start (whole_lines [] reached.read) (lines_within left line rest)))
+      subst (λ text. AppendsFront held wrote text) (sym (ap (λ xs. (lines_outcome 1 start xs).0) (cut script rest is) ∙ text_on 1 start (whole_lines [] reached.read) (lines_within left line rest)))
       (prefix_only held wrote so_far.0 (shown_after 1 start (whole_lines [] reached.read) (lines_within left line rest)).0 (Appends-kept held holds wrote so_far.0 reached.wrote kept))
 
   -- the answer to the next line isn't written, or a prefix of it
@@ -111,19 +111,19 @@ module _ {all now held holds : Option (List ℕ)} {start session : Session} {num
       → LineStops session number line holds wrote kind → ScriptEnds start script remains held wrote last (Err kind)
   stops_at script rest more remains wrote last halt.CannotRead is next stopped = absurd stopped
   stops_at script rest more remains wrote last halt.CannotWrite is next stopped =
-      subst (λ text. AppendsFront held wrote text) (sym (ap (λ xs. (lines_shown 1 start xs).0) (cut script rest is ∙ ap (λ xs. whole_lines [] reached.read ++ xs) next) ∙ text_with start session (whole_lines [] reached.read) number line reached.is_number reached.is_session more))
-      (prefix_after held holds wrote so_far.0 (line_shown number session line).0 (lines_shown (suc (1 + length (whole_lines [] reached.read))) (line_shown number session line).1 more).0 reached.wrote stopped)
+      subst (λ text. AppendsFront held wrote text) (sym (ap (λ xs. (lines_outcome 1 start xs).0) (cut script rest is ∙ ap (λ xs. whole_lines [] reached.read ++ xs) next) ∙ text_with start session (whole_lines [] reached.read) number line reached.is_number reached.is_session more))
+      (prefix_after held holds wrote so_far.0 (line_outcome number session line).0 (lines_outcome (suc (1 + length (whole_lines [] reached.read))) (line_outcome number session line).1 more).0 reached.wrote stopped)
   stops_at script rest more remains wrote last halt.NoMemory is next stopped = memory_stops script rest remains wrote last is stopped
 
   -- the whole script is read and answered
-  pub all_answered : (script : List ℕ) (remains wrote : Option (List ℕ)) (after : Session) → script ≡ reached.read ++ [] → after ≡ (line_shown number session line).1 → Appends holds wrote (line_shown number session line).0 → ScriptEnds start script remains held wrote after (Ok false)
+  pub all_answered : (script : List ℕ) (remains wrote : Option (List ℕ)) (after : Session) → script ≡ reached.read ++ [] → after ≡ (line_outcome number session line).1 → Appends holds wrote (line_outcome number session line).0 → ScriptEnds start script remains held wrote after (Ok false)
   all_answered script remains wrote after is is_after writes =
       let lines : script_lines script ≡ whole_lines [] reached.read ++ line ∷ [] = cut script [] is in
       let size : length script ≡ length reached.read + 0 = ap length is ∙ length-append reached.read [] in
       let short : nat_lt most_script (length script) ≡ false = grind (arith, nat_tests, reached.counted, size) in (
         sym short,
-        is_after ∙ sym (session_more start session (whole_lines [] reached.read) number line reached.is_number reached.is_session) ∙ ap (λ xs. (lines_shown 1 start xs).1) (sym lines),
-        subst (λ text. Appends held wrote text) (sym (text_more start session (whole_lines [] reached.read) number line reached.is_number reached.is_session) ∙ ap (λ xs. (lines_shown 1 start xs).0) (sym lines)) (Appends-trans held holds wrote so_far.0 (line_shown number session line).0 reached.wrote writes),
+        is_after ∙ sym (session_more start session (whole_lines [] reached.read) number line reached.is_number reached.is_session) ∙ ap (λ xs. (lines_outcome 1 start xs).1) (sym lines),
+        subst (λ text. Appends held wrote text) (sym (text_more start session (whole_lines [] reached.read) number line reached.is_number reached.is_session) ∙ ap (λ xs. (lines_outcome 1 start xs).0) (sym lines)) (Appends-trans held holds wrote so_far.0 (line_outcome number session line).0 reached.wrote writes),
       )
 
   -- a byte more than a script may have
@@ -133,6 +133,6 @@ module _ {all now held holds : Option (List ℕ)} {start session : Session} {num
       let size : length script ≡ length reached.read + suc (length rest) = ap length is ∙ length-append reached.read (byte ∷ rest) in
       let long : nat_lt most_script (length script) ≡ true = grind (arith, nat_tests, reached.counted, size, none) in (
         sym long,
-        reached.is_session ∙ ap (λ xs. (lines_shown 1 start xs).1) (sym lines),
-        subst (λ text. Appends held holds text) (ap (λ xs. (lines_shown 1 start xs).0) (sym lines)) reached.wrote,
+        reached.is_session ∙ ap (λ xs. (lines_outcome 1 start xs).1) (sym lines),
+        subst (λ text. Appends held holds text) (ap (λ xs. (lines_outcome 1 start xs).0) (sym lines)) reached.wrote,
       )

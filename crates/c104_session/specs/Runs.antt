@@ -8,16 +8,16 @@ use Rattle.c104_stream.specs.declared.halt.Halt.TheVariants as halt
 use Rattle.c104_session.specs.declared.session.Session.{Session}
 use Rattle.c104_session.specs.Lines.{whole_lines, is_long}
 use Rattle.c104_stream.specs.Writing.{AppendsFront}
-use Rattle.c104_session.specs.Shown.{line_shown, lines_shown, answers, first_session, shown}
+use Rattle.c104_session.specs.Shown.{line_outcome, lines_outcome, script_outcome, new_session, run_output}
 
 -- a line was answered
-abbrev pub LineAnswered : Session → ℕ → List ℕ → Option (List ℕ) → Option (List ℕ) → Session → Type 0
-LineAnswered session number line held holds after = (after ≡ (line_shown number session line).1) × Appends held holds (line_shown number session line).0
+abbrev pub AnswersLine : Session → ℕ → List ℕ → Option (List ℕ) → Option (List ℕ) → Session → Type 0
+AnswersLine session number line held holds after = (after ≡ (line_outcome number session line).1) × Appends held holds (line_outcome number session line).0
 
 -- a line's answer wasn't written: there was no memory, or because the writer failed
 abbrev pub LineStops : Session → ℕ → List ℕ → Option (List ℕ) → Option (List ℕ) → Halt → Type 0
 LineStops session number line held holds halt.CannotRead = ⊥
-LineStops session number line held holds halt.CannotWrite = AppendsFront held holds (line_shown number session line).0
+LineStops session number line held holds halt.CannotWrite = AppendsFront held holds (line_outcome number session line).0
 LineStops session number line held holds halt.NoMemory = Keeps held holds
 
 -- the reader failed after a prefix of the script: each line that had ended is answered, and no more
@@ -27,14 +27,14 @@ pub record AnswersFront (session : Session) (script : List ℕ) (left held holds
   pub rest : List ℕ
   pub is_front : script ≡ front ++ rest
   pub is_left : left ≡ Some rest
-  pub wrote : Appends held holds (lines_shown 1 session (whole_lines [] front)).0
+  pub wrote : Appends held holds (lines_outcome 1 session (whole_lines [] front)).0
 
 -- a script was answered, from a session on: all of it, or as far as this came
 abbrev pub ScriptEnds : Session → List ℕ → Option (List ℕ) → Option (List ℕ) → Option (List ℕ) → Session → Result Bool Halt → Type 0
-ScriptEnds session script left held holds after (Ok long) = (long ≡ is_long script) × (after ≡ (answers session script).1) × Appends held holds (answers session script).0
+ScriptEnds session script left held holds after (Ok long) = (long ≡ is_long script) × (after ≡ (script_outcome session script).1) × Appends held holds (script_outcome session script).0
 ScriptEnds session script left held holds after (Err halt.CannotRead) = AnswersFront session script left held holds
-ScriptEnds session script left held holds after (Err halt.CannotWrite) = AppendsFront held holds (answers session script).0
-ScriptEnds session script left held holds after (Err halt.NoMemory) = AppendsFront held holds (answers session script).0
+ScriptEnds session script left held holds after (Err halt.CannotWrite) = AppendsFront held holds (script_outcome session script).0
+ScriptEnds session script left held holds after (Err halt.NoMemory) = AppendsFront held holds (script_outcome session script).0
 
 -- the same where nothing may be known of the script
 abbrev pub AnswersScript : Session → Option (List ℕ) → Option (List ℕ) → Option (List ℕ) → Option (List ℕ) → Session → Result Bool Halt → Type 0
@@ -43,10 +43,10 @@ AnswersScript session (Some script) left held holds after result = ScriptEnds se
 
 -- a script was run on the network of a plan
 abbrev pub PlanEnds : Plan → List ℕ → Option (List ℕ) → Option (List ℕ) → Option (List ℕ) → Result Bool Halt → Type 0
-PlanEnds plan script left held holds (Ok refused) = Appends held holds (shown (Ok plan) script).0 × (refused ≡ (shown (Ok plan) script).1)
-PlanEnds plan script left held holds (Err halt.CannotRead) = AnswersFront (first_session plan) script left held holds
-PlanEnds plan script left held holds (Err halt.CannotWrite) = AppendsFront held holds (shown (Ok plan) script).0
-PlanEnds plan script left held holds (Err halt.NoMemory) = AppendsFront held holds (answers (first_session plan) script).0
+PlanEnds plan script left held holds (Ok refused) = Appends held holds (run_output (Ok plan) script).0 × (refused ≡ (run_output (Ok plan) script).1)
+PlanEnds plan script left held holds (Err halt.CannotRead) = AnswersFront (new_session plan) script left held holds
+PlanEnds plan script left held holds (Err halt.CannotWrite) = AppendsFront held holds (run_output (Ok plan) script).0
+PlanEnds plan script left held holds (Err halt.NoMemory) = AppendsFront held holds (script_outcome (new_session plan) script).0
 
 abbrev pub RunsPlan : Plan → Option (List ℕ) → Option (List ℕ) → Option (List ℕ) → Option (List ℕ) → Result Bool Halt → Type 0
 RunsPlan plan None left held holds result = ⊤

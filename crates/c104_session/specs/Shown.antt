@@ -10,24 +10,24 @@ use Rattle.c104_describe.specs.Plans.{Plan}
 use Rattle.c104_describe.specs.declared.plans.Terminal.{Terminal}
 use Rattle.c104_describe.specs.declared.faults.PlanFault.{PlanFault}
 use Rattle.c104_describe.specs.PlanImage.{hand_image}
-use Rattle.c104_net.specs.Network.{Network, placed, answered}
-use Rattle.c104_net.specs.Finished.{Finished, finished, arrived_in}
+use Rattle.c104_net.specs.Network.{Network, placed_network, network_apply}
+use Rattle.c104_net.specs.Finished.{FinishedRun, network_finish, run_arrived}
 use Rattle.c104_net.specs.Rounds.{rounds, run_until}
 use Rattle.c104_session.specs.Lines.{script_lines, is_long}
-use Rattle.c104_script.specs.Script.{read_line}
+use Rattle.c104_script.specs.Script.{read_script_line}
 use Rattle.c104_script.specs.declared.faults.LineFault.{LineFault}
 use Rattle.c104_script.specs.declared.places.Request.{Request}
 use Rattle.c104_script.specs.declared.places.Request.TheVariants.{Asked, Refused, Rounds}
 use Rattle.c104_session.specs.declared.session.Session.{Session}
-use Rattle.c104_script.specs.Texts.{token_text, answer_text, line_fault_text, numbered, description_text, script_too_long}
+use Rattle.c104_script.specs.Texts.{token_text, answer_text, line_fault_text, numbered_line, description_text, script_too_long}
 
 -- a network of this plan with its own image, before the first line
-abbrev pub first_session : Plan → Session
-first_session plan = record { net = placed plan (hand_image plan); faulty = false }
+abbrev pub new_session : Plan → Session
+new_session plan = record { net = placed_network plan (hand_image plan); faulty = false }
 
 -- what an event shows, and the run after it
-abbrev pub event_shown : ℕ → Bool → Result Reply EventFault × Network Token → List ℕ × Session
-event_shown line faulty r = (numbered line (answer_text r.0), record { net = r.1; faulty = faulty })
+abbrev pub event_outcome : ℕ → Bool → Result Reply EventFault × Network Token → List ℕ × Session
+event_outcome line faulty r = (numbered_line line (answer_text r.0), record { net = r.1; faulty = faulty })
 
 -- what rounds answer: that they are done, or the refusal of the event that they stopped at
 abbrev pub rounds_answer : Result (Unit {0}) EventFault → Result Reply EventFault
@@ -35,31 +35,31 @@ rounds_answer (Ok u) = Ok Done
 rounds_answer (Err kind) = Err kind
 
 -- the network after so many rounds, or after those events of them that came before a refusal
-abbrev pub rounds_answered : Network Token → ℕ → Result Reply EventFault × Network Token
-rounds_answered net count = let r = run_until plain_kind net (rounds net.plan count) in (rounds_answer r.0, r.1)
+abbrev pub rounds_outcome : Network Token → ℕ → Result Reply EventFault × Network Token
+rounds_outcome net count = let r = run_until plain_kind net (rounds net.plan count) in (rounds_answer r.0, r.1)
 
 -- what a request shows, and the run after it
-abbrev pub request_shown : ℕ → Session → Request → List ℕ × Session
-request_shown line session (Asked event) = event_shown line session.faulty (answered plain_kind session.net event)
-request_shown line session (Rounds count) = event_shown line session.faulty (rounds_answered session.net count)
-request_shown line session (Refused kind) = (numbered line (answer_text (Err kind)), session)
+abbrev pub request_outcome : ℕ → Session → Request → List ℕ × Session
+request_outcome line session (Asked event) = event_outcome line session.faulty (network_apply plain_kind session.net event)
+request_outcome line session (Rounds count) = event_outcome line session.faulty (rounds_outcome session.net count)
+request_outcome line session (Refused kind) = (numbered_line line (answer_text (Err kind)), session)
 
 -- a line without words shows nothing; a faulty one changes nothing but that there was one
-abbrev pub said_shown : ℕ → Session → Result (Option Request) LineFault → List ℕ × Session
-said_shown line session (Ok None) = ([], session)
-said_shown line session (Ok (Some request)) = request_shown line session request
-said_shown line session (Err kind) = (numbered line (line_fault_text kind), record { net = session.net; faulty = true })
+abbrev pub line_request_outcome : ℕ → Session → Result (Option Request) LineFault → List ℕ × Session
+line_request_outcome line session (Ok None) = ([], session)
+line_request_outcome line session (Ok (Some request)) = request_outcome line session request
+line_request_outcome line session (Err kind) = (numbered_line line (line_fault_text kind), record { net = session.net; faulty = true })
 
 -- what a line of this number shows, and the run after it
-unfoldable pub line_shown : ℕ → Session → List ℕ → List ℕ × Session
-line_shown line session text = said_shown line session (read_line session.net.plan text)
+unfoldable pub line_outcome : ℕ → Session → List ℕ → List ℕ × Session
+line_outcome line session text = line_request_outcome line session (read_script_line session.net.plan text)
 
 -- what these lines show, the first of which has this number, and the run after them
-abbrev pub lines_shown : ℕ → Session → List (List ℕ) → List ℕ × Session
-lines_shown line session [] = ([], session)
-lines_shown line session (text ∷ more) =
-    let this = line_shown line session text in
-    let rest = lines_shown (suc line) this.1 more in
+abbrev pub lines_outcome : ℕ → Session → List (List ℕ) → List ℕ × Session
+lines_outcome line session [] = ([], session)
+lines_outcome line session (text ∷ more) =
+    let this = line_outcome line session text in
+    let rest = lines_outcome (suc line) this.1 more in
     (this.0 ++ rest.0, rest.1)
 
 -- a packet's tokens, parted by spaces
@@ -78,27 +78,27 @@ packets_text name None = []
 packets_text name (Some arrived) = flat_map (received_text name) (whole_pieces (λ x. x) [] arrived)
 
 -- the lines of these terminals, the first of which has this number
-abbrev pub terminals_text : Finished Token → ℕ → List Terminal → List ℕ
+abbrev pub terminals_text : FinishedRun Token → ℕ → List Terminal → List ℕ
 terminals_text run number [] = []
 terminals_text run number (terminal ∷ more) =
-    packets_text terminal.name (arrived_in run number) ++ terminals_text run (suc number) more
+    packets_text terminal.name (run_arrived run number) ++ terminals_text run (suc number) more
 
 -- the summary: for each terminal in order, each whole packet that arrived there, in order
-unfoldable pub summary : Finished Token → List ℕ
+unfoldable pub summary : FinishedRun Token → List ℕ
 summary run = terminals_text run 0 run.plan.terminals
 
 -- what follows the answers, and whether a script was refused: for its length, or for one of its lines
-abbrev pub ended : Bool → List ℕ × Session → List ℕ × Bool
-ended true r = (r.0 ++ script_too_long, true)
-ended false r = (r.0 ++ summary (finished r.1.net), r.1.faulty)
+abbrev pub output_with_summary : Bool → List ℕ × Session → List ℕ × Bool
+output_with_summary true r = (r.0 ++ script_too_long, true)
+output_with_summary false r = (r.0 ++ summary (network_finish r.1.net), r.1.faulty)
 
 -- the answers to a script's lines, and the run after them
-abbrev pub answers : Session → List ℕ → List ℕ × Session
-answers session script = lines_shown 1 session (script_lines script)
+abbrev pub script_outcome : Session → List ℕ → List ℕ × Session
+script_outcome session script = lines_outcome 1 session (script_lines script)
 
 -- what a run shows, by the plan of its description or that one's fault, and whether any of it was
 -- refused: the one line of a refused description, or else the answers to the script, line by line, and
 -- the summary
-abbrev pub shown : Result Plan PlanFault → List ℕ → List ℕ × Bool
-shown (Err fault) script = (description_text fault, true)
-shown (Ok plan) script = ended (is_long script) (answers (first_session plan) script)
+abbrev pub run_output : Result Plan PlanFault → List ℕ → List ℕ × Bool
+run_output (Err fault) script = (description_text fault, true)
+run_output (Ok plan) script = output_with_summary (is_long script) (script_outcome (new_session plan) script)

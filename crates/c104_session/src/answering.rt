@@ -2,8 +2,8 @@
 ghost use Rattle.std.specs.Prelude.{◌≡◌, [], ◌∷◌, ◌++◌, MatchResult, OnOk};
 ghost use Rattle.std.specs.Io.KnownBytes.{Appends, prepend_known};
 ghost use Rattle.c104_stream.specs.Writing.{AppendsFront};
-ghost use Rattle.c104_session.specs.Shown.{line_shown};
-ghost use Rattle.c104_session.specs.Runs.{AnswersScript, LineAnswered, LineStops};
+ghost use Rattle.c104_session.specs.Shown.{line_outcome};
+ghost use Rattle.c104_session.specs.Runs.{AnswersScript, AnswersLine, LineStops};
 
 use crate::session::Session;
 use c104_stream::{Ahead, Halt, write_whole};
@@ -62,7 +62,7 @@ fn answer_line<W: Write>(
     writer: &mut W,
 ) -> Result<(), Halt>
     ensures { MatchResult result
-        (λ _. LineAnswered session.old number line.now (W.contents writer.old) (W.contents writer.new) session.new)
+        (λ _. AnswersLine session.old number line.now (W.contents writer.old) (W.contents writer.new) session.new)
         (λ halt. LineStops session.old number line.now (W.contents writer.old) (W.contents writer.new) halt) }
 {
     let text = session.answer(alloc, number, line)?;

@@ -5,10 +5,10 @@ ghost use Rattle.c104_token.specs.declared.tokens.Token.{Token};
 ghost use Rattle.c104_switch.specs.declared.actions.Reply.{Reply as TheReply};
 ghost use Rattle.c104_event.specs.declared.faults.EventFault.{EventFault as TheFault};
 ghost use Rattle.c104_event.specs.declared.faults.EventFault.TheVariants as fault;
-ghost use Rattle.c104_net.specs.Finished.{finished};
+ghost use Rattle.c104_net.specs.Finished.{network_finish};
 ghost use Rattle.c104_describe.specs.PlanImage.{hand_image};
 ghost use Rattle.c104_net.specs.Network.{Network};
-ghost use Rattle.c104_session.specs.Shown.{first_session, line_shown, request_shown, rounds_answered};
+ghost use Rattle.c104_session.specs.Shown.{new_session, line_outcome, request_outcome, rounds_outcome};
 ghost use Rattle.c104_session.specs.declared.session.Session.{Session as TheSession};
 
 use c104_describe::{Plan, hand_image};
@@ -40,7 +40,7 @@ impl Session {
     /// The network of a plan with its own image, before the first line. The only error
     /// is out of memory.
     pub fn new(alloc: Global, plan: &Plan) -> Result<Self, NoMemory>
-        ensures { IfOk result (λ session. session ≡ first_session plan.now) }
+        ensures { IfOk result (λ session. session ≡ new_session plan.now) }
     {
         let image = hand_image(alloc, plan)?;
         match Net::placed(alloc, plan, &image) {
@@ -52,7 +52,7 @@ impl Session {
 
     /// Ends the run.
     pub fn finish(self) -> Ended
-        ensures run { result.run ≡ finished self.net }
+        ensures run { result.run ≡ network_finish self.net }
         ensures faulty { result.faulty ≡ self.faulty }
     {
         let Session { net, faulty } = self;
@@ -64,9 +64,9 @@ impl Session {
 
     /// Does what a line asks and gives the line that answers it, or no text where it asks nothing.
     /// The only error is out of memory; an event may be done by then.
-    #[tactic(auto, unfolding(crate::specs::Shown::line_shown))]
+    #[tactic(auto, unfolding(crate::specs::Shown::line_outcome))]
     pub fn answer(&mut self, alloc: Global, number: usize, line: &[u8]) -> Result<String, NoMemory>
-        ensures { IfOk result (λ text. ◌≡◌ {A = List ℕ × TheSession} (string_bytes text, self.new) (line_shown number self.old line.now)) }
+        ensures { IfOk result (λ text. ◌≡◌ {A = List ℕ × TheSession} (string_bytes text, self.new) (line_outcome number self.old line.now)) }
     {
         match read_line(alloc, self.net.plan(), line) {
             Ok(None) => Ok(String::new(alloc)),
@@ -87,7 +87,7 @@ impl Session {
         number: usize,
         request: &Request,
     ) -> Result<String, NoMemory>
-        ensures { IfOk result (λ text. ◌≡◌ {A = List ℕ × TheSession} (string_bytes text, self.new) (request_shown number self.old request.now)) }
+        ensures { IfOk result (λ text. ◌≡◌ {A = List ℕ × TheSession} (string_bytes text, self.new) (request_outcome number self.old request.now)) }
     {
         let answer = match request {
             Request::Asked(event) => self.net.apply(event),
@@ -105,7 +105,7 @@ impl Session {
 
 /// Does so many rounds, up to the first event that is refused.
 fn do_rounds(alloc: Global, net: &mut Net, count: u32) -> Result<Reply, EventFault>
-    ensures { (◌≡◌ {A = Result TheReply TheFault × Network Token} (result, net.new) (rounds_answered net.old count)) ⊎ (result ≡ Err fault.NoMemory) }
+    ensures { (◌≡◌ {A = Result TheReply TheFault × Network Token} (result, net.new) (rounds_outcome net.old count)) ⊎ (result ≡ Err fault.NoMemory) }
 {
     net.rounds(alloc, count)?;
     Ok(Reply::Done)

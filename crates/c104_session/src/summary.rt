@@ -1,6 +1,6 @@
 //! The summary of a run: what arrived at each terminal.
 ghost use Rattle.std.specs.Prelude.{◌≡◌, ◌++◌, IfOk, OnOk, Some};
-ghost use Rattle.c104_token.specs.Packets.{tokens};
+ghost use Rattle.c104_token.specs.Packets.{packet_tokens};
 ghost use Rattle.c104_session.specs.Shown.{packets_text, received_text, summary};
 
 use c104_net::Run;
@@ -47,7 +47,7 @@ fn add_packet(
     packet: &Packet,
     text: &mut Vec<u8>,
 ) -> Result<(), NoMemory>
-    ensures { OnOk result (text.new.items ≡ text.old.items ++ received_text name.now (tokens packet.now)) }
+    ensures { OnOk result (text.new.items ≡ text.old.items ++ received_text name.now (packet_tokens packet.now)) }
 {
     let printed = print_packet(alloc, packet)?;
     text.extend_from_slice(name)?;

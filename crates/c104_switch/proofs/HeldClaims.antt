@@ -2,10 +2,10 @@
 use Rattle.std.proofs.Common.{◌≡◌, ◌==◌, ◌+◌, ◌<◌, ◌||◌, ℕ, zero, suc, Bool, true, false, List, [], ◌∷◌, ◌++◌, Some, nat_lt, replicate, slice_get, slice_set, refl, sym, ap, ◌∙◌, arith}
 use Rattle.std.proofs.lemmas.Bool.{or_parts}
 use Rattle.std.proofs.lemmas.Bool.Decides.{nat_tests}
-use Rattle.c104_crossbar.specs.Marks.{ArePartition, is_free, number, times}
+use Rattle.c104_crossbar.specs.Marks.{ArePartition, is_free, bool_number, times}
 use Rattle.c104_switch.specs.Phases.{is_stream}
-use Rattle.c104_switch.specs.Switch.{Phase, Fresh, Head, Want, Stream, Sinking, Input, is_owned, first_input}
-use Rattle.c104_switch.specs.Holding.{held_by, held}
+use Rattle.c104_switch.specs.Switch.{Phase, Fresh, Head, Want, Stream, Sinking, Input, is_owned, new_input}
+use Rattle.c104_switch.specs.Holding.{phase_claims, held_claims}
 
 -- claims one after the other
 pub times_append : (o : ℕ) (xs ys : List ℕ) → times o (xs ++ ys) ≡ times o xs + times o ys
@@ -20,43 +20,43 @@ partition_same xs ys marks same partition o = let one = same o in let all = part
 pub claimed_not_free : (c : ℕ) (cs : List ℕ) (marks : List Bool) → ArePartition (c ∷ cs) marks → is_free marks c ≡ false
 claimed_not_free c cs marks partition = by_free (is_free marks c) (c == c) (nat_lt c 32) (let same : (c == c) ≡ true = grind (arith, nat_tests) in same) (partition c)
   where
-    by_free : (free self below : Bool) → self ≡ true → (number self + times c cs) + number free ≡ number below → free ≡ false
+    by_free : (free self below : Bool) → self ≡ true → (bool_number self + times c cs) + bool_number free ≡ bool_number below → free ≡ false
     by_free false self below is sum = refl
     by_free true true true is sum = absurd (let no : ⊥ = omega arith in no)
     by_free true true false is sum = absurd (let no : ⊥ = omega arith in no)
     by_free true false below is sum = cc
 
 -- an input holds no claim at first
-pub held_first : (A : Type 0) (n cap : ℕ) → held {A = A} (replicate n (first_input cap)) ≡ []
+pub held_first : (A : Type 0) (n cap : ℕ) → held_claims {A = A} (replicate n (new_input cap)) ≡ []
 held_first A zero size = refl
 held_first A (suc n) size = held_first A n size
 
 module _ {A : Type 0} where
   -- the claims of inputs one after the other
-  pub held_append : (o : ℕ) (ps qs : List (Input A)) → times o (held (ps ++ qs)) ≡ times o (held ps) + times o (held qs)
+  pub held_append : (o : ℕ) (ps qs : List (Input A)) → times o (held_claims (ps ++ qs)) ≡ times o (held_claims ps) + times o (held_claims qs)
   held_append o [] qs = omega arith
   held_append o (p ∷ ps) qs =
       let more = held_append o ps qs in
-      let one = times_append o (held_by p.phase) (held (ps ++ qs)) in
-      let other = times_append o (held_by p.phase) (held ps) in
+      let one = times_append o (phase_claims p.phase) (held_claims (ps ++ qs)) in
+      let other = times_append o (phase_claims p.phase) (held_claims ps) in
       omega arith
 
   -- where one input changes, its claims do
-  pub held_set : (o : ℕ) (ps : List (Input A)) (i : ℕ) (p q : Input A) → slice_get ps i ≡ Some p → times o (held (slice_set ps i q)) + times o (held_by p.phase) ≡ times o (held ps) + times o (held_by q.phase)
+  pub held_set : (o : ℕ) (ps : List (Input A)) (i : ℕ) (p q : Input A) → slice_get ps i ≡ Some p → times o (held_claims (slice_set ps i q)) + times o (phase_claims p.phase) ≡ times o (held_claims ps) + times o (phase_claims q.phase)
   held_set o [] i p q here = cc
   held_set o (r ∷ ps) zero p q here =
       let same : r ≡ p = cc in
-      let one = times_append o (held_by q.phase) (held ps) in
-      let other : times o (held (r ∷ ps)) ≡ times o (held_by p.phase) + times o (held ps) = rw same (times_append o (held_by p.phase) (held ps)) in
+      let one = times_append o (phase_claims q.phase) (held_claims ps) in
+      let other : times o (held_claims (r ∷ ps)) ≡ times o (phase_claims p.phase) + times o (held_claims ps) = rw same (times_append o (phase_claims p.phase) (held_claims ps)) in
       omega arith
   held_set o (r ∷ ps) (suc i) p q here =
       let more = held_set o ps i p q here in
-      let one = times_append o (held_by r.phase) (held (slice_set ps i q)) in
-      let other = times_append o (held_by r.phase) (held ps) in
+      let one = times_append o (phase_claims r.phase) (held_claims (slice_set ps i q)) in
+      let other = times_append o (phase_claims r.phase) (held_claims ps) in
       omega arith
 
   -- an input that streams to an output holds its claim
-  holds_stream : (o : ℕ) (phase : Phase (List A)) → times o (held_by phase) ≡ number (is_stream o phase)
+  holds_stream : (o : ℕ) (phase : Phase (List A)) → times o (phase_claims phase) ≡ bool_number (is_stream o phase)
   holds_stream o Fresh = refl
   holds_stream o (Head b) = refl
   holds_stream o (Want b g) = refl
@@ -64,48 +64,48 @@ module _ {A : Type 0} where
   holds_stream o Sinking = refl
 
   -- an output is owned where its claim is held
-  pub unowned_unheld : (o : ℕ) (ps : List (Input A)) → times o (held ps) ≡ 0 → is_owned ps o ≡ false
+  pub unowned_unheld : (o : ℕ) (ps : List (Input A)) → times o (held_claims ps) ≡ 0 → is_owned ps o ≡ false
   unowned_unheld o [] none = refl
   unowned_unheld o (p ∷ ps) none = by_stream (is_stream o p.phase) refl (unowned_unheld o ps (omega (arith, parts)))
     where
-      parts : times o (held_by p.phase) + times o (held ps) ≡ 0
-      parts = sym (times_append o (held_by p.phase) (held ps)) ∙ none
+      parts : times o (phase_claims p.phase) + times o (held_claims ps) ≡ 0
+      parts = sym (times_append o (phase_claims p.phase) (held_claims ps)) ∙ none
 
       by_stream : (streams : Bool) → is_stream o p.phase ≡ streams → is_owned ps o ≡ false → (streams || is_owned ps o) ≡ false
       by_stream false is rest = rest
-      by_stream true is rest = absurd (let one = holds_stream o p.phase in let is_one : number (is_stream o p.phase) ≡ 1 = ap number is in let no : ⊥ = omega (arith, parts) in no)
+      by_stream true is rest = absurd (let one = holds_stream o p.phase in let is_one : bool_number (is_stream o p.phase) ≡ 1 = ap bool_number is in let no : ⊥ = omega (arith, parts) in no)
 
-  pub owned_held : (o : ℕ) (ps : List (Input A)) → is_owned ps o ≡ false → times o (held ps) ≡ 0
+  pub owned_held : (o : ℕ) (ps : List (Input A)) → is_owned ps o ≡ false → times o (held_claims ps) ≡ 0
   owned_held o [] none = refl
   owned_held o (p ∷ ps) none =
       let parts = or_parts (is_stream o p.phase) (is_owned ps o) none in
       let one = holds_stream o p.phase in
-      let is_none : number (is_stream o p.phase) ≡ 0 = ap number parts.0 in
+      let is_none : bool_number (is_stream o p.phase) ≡ 0 = ap bool_number parts.0 in
       let more = owned_held o ps parts.1 in
-      let sum = times_append o (held_by p.phase) (held ps) in
+      let sum = times_append o (phase_claims p.phase) (held_claims ps) in
       omega arith
 
   -- a free output isn't owned
-  pub free_unowned : (ps : List (Input A)) (marks : List Bool) (o : ℕ) → ArePartition (held ps) marks → is_free marks o ≡ true → is_owned ps o ≡ false
+  pub free_unowned : (ps : List (Input A)) (marks : List Bool) (o : ℕ) → ArePartition (held_claims ps) marks → is_free marks o ≡ true → is_owned ps o ≡ false
   free_unowned ps marks o partition free = unowned_unheld o ps (by_below (nat_lt o 32) (partition o))
     where
-      is_one : number (is_free marks o) ≡ 1
-      is_one = ap number free
+      is_one : bool_number (is_free marks o) ≡ 1
+      is_one = ap bool_number free
 
-      by_below : (below : Bool) → times o (held ps) + number (is_free marks o) ≡ number below → times o (held ps) ≡ 0
+      by_below : (below : Bool) → times o (held_claims ps) + bool_number (is_free marks o) ≡ bool_number below → times o (held_claims ps) ≡ 0
       by_below true sum = omega (arith, is_one)
       by_below false sum = omega (arith, is_one)
 
   -- an output of the 32 that isn't free is owned
-  pub taken_owned : (ps : List (Input A)) (marks : List Bool) (o : ℕ) → ArePartition (held ps) marks → is_free marks o ≡ false → o < 32 → is_owned ps o ≡ true
+  pub taken_owned : (ps : List (Input A)) (marks : List Bool) (o : ℕ) → ArePartition (held_claims ps) marks → is_free marks o ≡ false → o < 32 → is_owned ps o ≡ true
   taken_owned ps marks o partition taken below = by_owned (is_owned ps o) refl
     where
       by_owned : (owned : Bool) → is_owned ps o ≡ owned → owned ≡ true
       by_owned true is = refl
       by_owned false is = absurd (
           let none = owned_held o ps is in
-          let is_none : number (is_free marks o) ≡ 0 = ap number taken in
+          let is_none : bool_number (is_free marks o) ≡ 0 = ap bool_number taken in
           let lt : nat_lt o 32 ≡ true = grind (arith, nat_tests) in
-          let is_lt : number (nat_lt o 32) ≡ 1 = ap number lt in
+          let is_lt : bool_number (nat_lt o 32) ≡ 1 = ap bool_number lt in
           let sum = partition o in
           let no : ⊥ = omega arith in no)

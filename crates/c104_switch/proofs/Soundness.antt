@@ -4,14 +4,14 @@ use Rattle.std.proofs.lemmas.Bool.{not-true}
 use Rattle.std.proofs.lemmas.List.{length-set, length-replicate}
 use Rattle.std.proofs.lemmas.List.Elements.{All-set, All-replicate}
 use Rattle.c104_token.specs.Kinds.{Kind}
-use Rattle.c104_link.specs.Steps.{at_place, from_place, with_place}
+use Rattle.c104_link.specs.Steps.{step_at, yield_step_at, joint_step_at}
 use Rattle.c104_link.specs.Buffers as buffer
-use Rattle.c104_link.specs.Buffers.{Outgoing, IsValidCap, IsWithinCap, IsWithinLimits, empty_out, credited}
+use Rattle.c104_link.specs.Buffers.{Outgoing, IsValidCap, IsWithinCap, IsWithinLimits, empty_outgoing, outgoing_credited}
 use Rattle.c104_regs.specs.declared.settings.Settings.{Settings}
 use Rattle.c104_regs.specs.Settings.{reset_settings}
-use Rattle.c104_switch.specs.Switch.{Fresh, Stream, Input, Switch, is_owned, with_inputs, with_outputs, with_sides, accepted, granted, first_input, first_with, first_state, enter, leave, credit_out, credit_in}
-use Rattle.c104_switch.specs.Turns.{turn, input}
-use Rattle.c104_switch.specs.Claims.{streaming, claimed, claimed_at, claim}
+use Rattle.c104_switch.specs.Switch.{Fresh, Stream, Input, Switch, is_owned, with_inputs, with_outputs, with_sides, input_accept, input_grant, new_input, new_switch_with, new_switch, switch_enter, switch_leave, switch_credit_out, switch_credit_in}
+use Rattle.c104_switch.specs.Turns.{input_turn, switch_input}
+use Rattle.c104_switch.specs.Claims.{streaming_input, input_claim, inputs_claim, switch_claim}
 use Rattle.c104_switch.specs.Soundness.{IsExclusive, IsSound}
 use Rattle.c104_switch.proofs.SoundnessSteps.{given, required, at_place_made, from_place_made, with_place_made, All-place}
 use Rattle.c104_switch.proofs.SoundnessBuffers.{within_empty_in, within_empty_out, within_leave, within_credited}
@@ -23,24 +23,24 @@ abbrev pub Sides : Type 0 → Type 0
 Sides A = List (Input A) × List (Outgoing A)
 
 -- no two inputs stream to one output where none streams
-exclusive_first : {A : Type 0} (n cap : ℕ) → IsExclusive {A = A} (replicate n (first_input cap))
+exclusive_first : {A : Type 0} (n cap : ℕ) → IsExclusive {A = A} (replicate n (new_input cap))
 exclusive_first {A} n cap i j o p q at_i at_j to_p to_q =
-    let fresh : p.phase ≡ Fresh = All-place (λ (r : Input A). r.phase ≡ Fresh) _ i p at_i (All-replicate (λ (r : Input A). r.phase ≡ Fresh) n (first_input cap) refl) in
+    let fresh : p.phase ≡ Fresh = All-place (λ (r : Input A). r.phase ≡ Fresh) _ i p at_i (All-replicate (λ (r : Input A). r.phase ≡ Fresh) n (new_input cap) refl) in
     cc (fresh, to_p)
 
 -- a switch at first
-pub sound_first : {A : Type 0} (cap : ℕ) (settings : List Settings) (started : Bool) → IsValidCap cap → length settings ≡ 32 → IsSound {A = A} (first_with cap settings started)
+pub sound_first : {A : Type 0} (cap : ℕ) (settings : List Settings) (started : Bool) → IsValidCap cap → length settings ≡ 32 → IsSound {A = A} (new_switch_with cap settings started)
 sound_first {A} cap settings started valid links = record {
   settings = links;
-  inputs = length-replicate 32 (first_input {A = A} cap);
-  outputs = length-replicate 32 (empty_out {A = A});
-  within_cap = All-replicate (λ (p : Input A). IsWithinCap p.buffer) 32 (first_input cap) (within_empty_in cap valid);
-  within_limits = All-replicate IsWithinLimits 32 empty_out within_empty_out;
+  inputs = length-replicate 32 (new_input {A = A} cap);
+  outputs = length-replicate 32 (empty_outgoing {A = A});
+  within_cap = All-replicate (λ (p : Input A). IsWithinCap p.buffer) 32 (new_input cap) (within_empty_in cap valid);
+  within_limits = All-replicate IsWithinLimits 32 empty_outgoing within_empty_out;
   exclusive = exclusive_first 32 cap;
 }
 
 -- a new switch
-pub sound_first_state : {A : Type 0} (cap : ℕ) → IsValidCap cap → IsSound {A = A} (first_state cap)
+pub sound_first_state : {A : Type 0} (cap : ℕ) → IsValidCap cap → IsSound {A = A} (new_switch cap)
 sound_first_state cap valid = sound_first cap (replicate 32 reset_settings) false valid (length-replicate 32 reset_settings)
 
 module _ {A : Type 0} (s : Switch A) (sound : IsSound s) where
@@ -71,77 +71,77 @@ module _ {A : Type 0} (s : Switch A) (sound : IsSound s) where
   sound_kept i p r here keeps = sound_set i r (keeps.within (All-place (λ (p : Input A). IsWithinCap p.buffer) s.inputs i p here sound.within_cap)) (λ o to. alone_at s.inputs i p here sound.exclusive o (keeps.streams o to))
 
   -- a step of one input that comes of the one that was there
-  sound_step : (i : ℕ) (f : Input A → Option (Input A)) (ps : List (Input A)) → at_place s.inputs i f ≡ Some ps → ((p r : Input A) → f p ≡ Some r → KeepsInput p r) → IsSound (with_inputs s ps)
+  sound_step : (i : ℕ) (f : Input A → Option (Input A)) (ps : List (Input A)) → step_at s.inputs i f ≡ Some ps → ((p r : Input A) → f p ≡ Some r → KeepsInput p r) → IsSound (with_inputs s ps)
   sound_step i f ps is keeps = at_place_made s.inputs i f ps is (λ p r here made set. subst (λ rs. IsSound (with_inputs s rs)) set (sound_kept i p r here (keeps p r made)))
 
   -- a token comes in
-  pub sound_accepted : (i : ℕ) (x : A) (ps : List (Input A)) → at_place s.inputs i (accepted x) ≡ Some ps → IsSound (with_inputs s ps)
-  sound_accepted i x ps is = sound_step i (accepted x) ps is (keeps_accepted x)
+  pub sound_accepted : (i : ℕ) (x : A) (ps : List (Input A)) → step_at s.inputs i (input_accept x) ≡ Some ps → IsSound (with_inputs s ps)
+  sound_accepted i x ps is = sound_step i (input_accept x) ps is (keeps_accepted x)
 
   -- an input grants eight more tokens
-  pub sound_granted : (i : ℕ) (ps : List (Input A)) → at_place s.inputs i granted ≡ Some ps → IsSound (with_inputs s ps)
-  sound_granted i ps is = sound_step i granted ps is keeps_granted
+  pub sound_granted : (i : ℕ) (ps : List (Input A)) → step_at s.inputs i input_grant ≡ Some ps → IsSound (with_inputs s ps)
+  sound_granted i ps is = sound_step i input_grant ps is keeps_granted
 
   -- an output may send eight more tokens
-  pub sound_credited : (i : ℕ) (qs : List (Outgoing A)) → at_place s.outputs i credited ≡ Some qs → IsSound (with_outputs s qs)
-  sound_credited i qs is = sound_outputs qs (keeps_at_place s.outputs i credited qs is within_credited)
+  pub sound_credited : (i : ℕ) (qs : List (Outgoing A)) → step_at s.outputs i outgoing_credited ≡ Some qs → IsSound (with_outputs s qs)
+  sound_credited i qs is = sound_outputs qs (keeps_at_place s.outputs i outgoing_credited qs is within_credited)
 
   -- a token goes out
-  pub sound_left : (i : ℕ) (r : A × List (Outgoing A)) → from_place s.outputs i buffer.leave ≡ Some r → IsSound (with_outputs s r.1)
-  sound_left i r is = from_place_made s.outputs i buffer.leave r is (λ q y here made set. subst (λ (r : A × List (Outgoing A)). IsSound (with_outputs s r.1)) set (sound_outputs (slice_set s.outputs i y.1) (record {
+  pub sound_left : (i : ℕ) (r : A × List (Outgoing A)) → yield_step_at s.outputs i buffer.outgoing_emit ≡ Some r → IsSound (with_outputs s r.1)
+  sound_left i r is = from_place_made s.outputs i buffer.outgoing_emit r is (λ q y here made set. subst (λ (r : A × List (Outgoing A)). IsSound (with_outputs s r.1)) set (sound_outputs (slice_set s.outputs i y.1) (record {
     within = λ all. All-set IsWithinLimits s.outputs i y.1 (within_leave q y made (All-place IsWithinLimits s.outputs i q here all)) all;
     length = length-set s.outputs i y.1;
   })))
 
 -- an input takes a turn
-pub sound_turned : {A : Type 0} (kind : Kind A) (s : Switch A) → IsSound s → (i : ℕ) (t : Settings) (word : ℕ) (r : Sides A) → with_place s.inputs i (λ p. turn kind t word p s.outputs) ≡ Some r → IsSound (with_sides s r)
-sound_turned {A} kind s sound i t word r is = with_place_made s.inputs i (λ p. turn kind t word p s.outputs) r is (λ p y here made set.
+pub sound_turned : {A : Type 0} (kind : Kind A) (s : Switch A) → IsSound s → (i : ℕ) (t : Settings) (word : ℕ) (r : Sides A) → joint_step_at s.inputs i (λ p. input_turn kind t word p s.outputs) ≡ Some r → IsSound (with_sides s r)
+sound_turned {A} kind s sound i t word r is = with_place_made s.inputs i (λ p. input_turn kind t word p s.outputs) r is (λ p y here made set.
     let keeps : KeepsInput p y.0 × KeepsOutputs s.outputs y.1 = keeps_turn kind t word p s.outputs y made in
     subst (λ (r : Sides A). IsSound (with_sides s r)) set (sound_outputs (with_inputs s (slice_set s.inputs i y.0)) (sound_kept s sound i p y.0 here keeps.0) y.1 keeps.1))
 
 -- an input claims an output that no input owns
-pub sound_claimed : {A : Type 0} (s : Switch A) → IsSound s → (settings : List Settings) (i o : ℕ) (r : Sides A) → claimed_at settings s.inputs s.outputs i o ≡ Some r → IsSound (with_sides s r)
-sound_claimed {A} s sound settings i o r is = required (not (is_owned s.inputs o)) _ r is (λ may more. with_place_made s.inputs i (λ p. claimed settings p s.outputs o p.phase) r more (λ p y here made set.
+pub sound_claimed : {A : Type 0} (s : Switch A) → IsSound s → (settings : List Settings) (i o : ℕ) (r : Sides A) → inputs_claim settings s.inputs s.outputs i o ≡ Some r → IsSound (with_sides s r)
+sound_claimed {A} s sound settings i o r is = required (not (is_owned s.inputs o)) _ r is (λ may more. with_place_made s.inputs i (λ p. input_claim settings p s.outputs o p.phase) r more (λ p y here made set.
     let free : is_owned s.inputs o ≡ false = not-true (is_owned s.inputs o) may in
-    let gives : (streaming p o ≡ y.0) × KeepsOutputs s.outputs y.1 = claimed_gives settings p s.outputs o p.phase y made in
+    let gives : (streaming_input p o ≡ y.0) × KeepsOutputs s.outputs y.1 = claimed_gives settings p s.outputs o p.phase y made in
     let within : IsWithinCap p.buffer = All-place (λ (p : Input A). IsWithinCap p.buffer) s.inputs i p here sound.within_cap in
     let alone = λ (d : ℕ) (to : Stream o ≡ Stream d) (j : ℕ) (q : Input A) (at_j : slice_get s.inputs j ≡ Some q) (to_q : q.phase ≡ Stream d). absurd {A = i ≡ j} (unowned s.inputs o free j q at_j (to_q ∙ sym to)) in
-    let one : IsSound (with_inputs s (slice_set s.inputs i y.0)) = subst (λ (p : Input A). IsSound (with_inputs s (slice_set s.inputs i p))) gives.0 (sound_set s sound i (streaming p o) within alone) in
+    let one : IsSound (with_inputs s (slice_set s.inputs i y.0)) = subst (λ (p : Input A). IsSound (with_inputs s (slice_set s.inputs i p))) gives.0 (sound_set s sound i (streaming_input p o) within alone) in
     subst (λ (r : Sides A). IsSound (with_sides s r)) set (sound_outputs (with_inputs s (slice_set s.inputs i y.0)) one y.1 gives.1)))
 
 module _ {A : Type 0} (s s' : Switch A) (sound : IsSound s) where
   -- a token comes in over a link's wire
-  pub sound_enter : (l : ℕ) (x : A) → enter s l x ≡ Some s' → IsSound s'
-  sound_enter l x is = given (at_place s.inputs l (accepted x)) _ s' is (λ ps made last.
+  pub sound_enter : (l : ℕ) (x : A) → switch_enter s l x ≡ Some s' → IsSound s'
+  sound_enter l x is = given (step_at s.inputs l (input_accept x)) _ s' is (λ ps made last.
       let same : with_inputs s ps ≡ s' = cc in
       subst IsSound same (sound_accepted s sound l x ps made))
 
   -- a link grants eight more tokens
-  pub sound_credit_out : (l : ℕ) → credit_out s l ≡ Some s' → IsSound s'
-  sound_credit_out l is = required s.started _ s' is (λ started more. given (at_place s.inputs l granted) _ s' more (λ ps made last.
+  pub sound_credit_out : (l : ℕ) → switch_credit_out s l ≡ Some s' → IsSound s'
+  sound_credit_out l is = required s.started _ s' is (λ started more. given (step_at s.inputs l input_grant) _ s' more (λ ps made last.
       let same : with_inputs s ps ≡ s' = cc in
       subst IsSound same (sound_granted s sound l ps made)))
 
   -- the other end of a link's wire grants eight more tokens
-  pub sound_credit_in : (l : ℕ) → credit_in s l ≡ Some s' → IsSound s'
-  sound_credit_in l is = given (at_place s.outputs l credited) _ s' is (λ qs made last.
+  pub sound_credit_in : (l : ℕ) → switch_credit_in s l ≡ Some s' → IsSound s'
+  sound_credit_in l is = given (step_at s.outputs l outgoing_credited) _ s' is (λ qs made last.
       let same : with_outputs s qs ≡ s' = cc in
       subst IsSound same (sound_credited s sound l qs made))
 
   -- the first token of an output goes out over its wire
-  pub sound_leave : (l : ℕ) (x : A) → leave s l ≡ Some (x, s') → IsSound s'
-  sound_leave l x is = given (from_place s.outputs l buffer.leave) _ (x, s') is (λ r made last.
+  pub sound_leave : (l : ℕ) (x : A) → switch_leave s l ≡ Some (x, s') → IsSound s'
+  sound_leave l x is = given (yield_step_at s.outputs l buffer.outgoing_emit) _ (x, s') is (λ r made last.
       let same : (r.0, with_outputs s r.1) ≡ (x, s') = cc in
       subst (λ (r : A × Switch A). IsSound r.1) same (sound_left s sound l r made))
 
   -- an input takes a turn, where the switch is started
-  pub sound_input : (kind : Kind A) (i word : ℕ) → input kind s i word ≡ Some s' → IsSound s'
-  sound_input kind i word is = required s.started _ s' is (λ started more. given (slice_get s.settings i) _ s' more (λ t own most. given (with_place s.inputs i (λ p. turn kind t word p s.outputs)) _ s' most (λ r made last.
+  pub sound_input : (kind : Kind A) (i word : ℕ) → switch_input kind s i word ≡ Some s' → IsSound s'
+  sound_input kind i word is = required s.started _ s' is (λ started more. given (slice_get s.settings i) _ s' more (λ t own most. given (joint_step_at s.inputs i (λ p. input_turn kind t word p s.outputs)) _ s' most (λ r made last.
       let same : with_sides s r ≡ s' = cc in
       subst IsSound same (sound_turned kind s sound i t word r made))))
 
   -- an input claims an output, where the switch is started and no input owns it
-  pub sound_claim : (i o : ℕ) → claim s i o ≡ Some s' → IsSound s'
-  sound_claim i o is = required s.started _ s' is (λ started more. given (claimed_at s.settings s.inputs s.outputs i o) _ s' more (λ r made last.
+  pub sound_claim : (i o : ℕ) → switch_claim s i o ≡ Some s' → IsSound s'
+  sound_claim i o is = required s.started _ s' is (λ started more. given (inputs_claim s.settings s.inputs s.outputs i o) _ s' more (λ r made last.
       let same : with_sides s r ≡ s' = cc in
       subst IsSound same (sound_claimed s sound s.settings i o r made)))

@@ -2,23 +2,23 @@
 use Rattle.std.proofs.Common.{◌≡◌, ◌+◌, ◌-◌, ℕ, List, [], ◌∷◌, ◌++◌, Some, nat_lt, nat_le, drop, length, slice_get, arith, length-append, length-drop}
 use Rattle.std.proofs.lemmas.Bool.Decides.{nat_tests}
 use Rattle.std.proofs.lemmas.List.{length_push}
-use Rattle.c104_link.specs.Buffers.{Incoming, Outgoing, IsValidCap, IsWithinCap, IsWithinLimits, empty_in, empty_out, grant, enter, without_first, put, put_all, leave, credited}
+use Rattle.c104_link.specs.Buffers.{Incoming, Outgoing, IsValidCap, IsWithinCap, IsWithinLimits, empty_incoming, empty_outgoing, incoming_grant, incoming_accept, without_first, outgoing_put, outgoing_put_all, outgoing_emit, outgoing_credited}
 use Rattle.c104_switch.proofs.SoundnessSteps.{given, holds_under}
 
 module _ {A : Type 0} where
   -- a new input buffer is within its capacity
-  pub within_empty_in : (cap : ℕ) → IsValidCap cap → IsWithinCap {A = A} (empty_in cap)
+  pub within_empty_in : (cap : ℕ) → IsValidCap cap → IsWithinCap {A = A} (empty_incoming cap)
   within_empty_in cap valid = record { room = omega arith; valid = valid }
 
   -- a token that comes in uses one that was granted
-  pub within_enter : (x : A) (b c : Incoming A) → enter x b ≡ Some c → IsWithinCap b → IsWithinCap c
+  pub within_enter : (x : A) (b c : Incoming A) → incoming_accept x b ≡ Some c → IsWithinCap b → IsWithinCap c
   within_enter x b c is within = holds_under IsWithinCap (nat_lt 0 b.granted) (record { cap = b.cap; items = b.items ++ x ∷ []; granted = b.granted - 1 }) c is (λ some. record {
     room = let more = length_push b.items x in grind (arith, nat_tests);
     valid = within.valid;
   })
 
   -- eight more are granted where there is room for them
-  pub within_grant : (b c : Incoming A) → grant b ≡ Some c → IsWithinCap b → IsWithinCap c
+  pub within_grant : (b c : Incoming A) → incoming_grant b ≡ Some c → IsWithinCap b → IsWithinCap c
   within_grant b c is within = holds_under IsWithinCap (nat_le (length b.items + b.granted + 8) b.cap) (record { cap = b.cap; items = b.items; granted = b.granted + 8 }) c is (λ fits. record {
     room = grind (arith, nat_tests);
     valid = within.valid;
@@ -32,32 +32,32 @@ module _ {A : Type 0} where
   }
 
   -- a new output buffer is within its limits
-  pub within_empty_out : IsWithinLimits {A = A} empty_out
+  pub within_empty_out : IsWithinLimits {A = A} empty_outgoing
   within_empty_out = record { room = omega arith; credit = omega arith }
 
   -- a token joins where there are fewer than eight
-  pub within_put : (x : A) (q r : Outgoing A) → put x q ≡ Some r → IsWithinLimits q → IsWithinLimits r
+  pub within_put : (x : A) (q r : Outgoing A) → outgoing_put x q ≡ Some r → IsWithinLimits q → IsWithinLimits r
   within_put x q r is within = holds_under IsWithinLimits (nat_lt (length q.items) 8) (record { items = q.items ++ x ∷ []; credit = q.credit }) r is (λ fits. record {
     room = let more = length_push q.items x in grind (arith, nat_tests);
     credit = within.credit;
   })
 
   -- several tokens join where they are then at most eight
-  pub within_put_all : (xs : List A) (q r : Outgoing A) → put_all xs q ≡ Some r → IsWithinLimits q → IsWithinLimits r
+  pub within_put_all : (xs : List A) (q r : Outgoing A) → outgoing_put_all xs q ≡ Some r → IsWithinLimits q → IsWithinLimits r
   within_put_all xs q r is within = holds_under IsWithinLimits (nat_le (length q.items + length xs) 8) (record { items = q.items ++ xs; credit = q.credit }) r is (λ fits. record {
     room = let more = length-append q.items xs in grind (arith, nat_tests);
     credit = within.credit;
   })
 
   -- the first token goes out, and one credit with it
-  pub within_leave : (q : Outgoing A) (r : A × Outgoing A) → leave q ≡ Some r → IsWithinLimits q → IsWithinLimits r.1
+  pub within_leave : (q : Outgoing A) (r : A × Outgoing A) → outgoing_emit q ≡ Some r → IsWithinLimits q → IsWithinLimits r.1
   within_leave q r is within = given (slice_get q.items 0) _ r is (λ x here more. holds_under (λ (r : A × Outgoing A). IsWithinLimits r.1) (nat_lt 0 q.credit) (x, record { items = drop 1 q.items; credit = q.credit - 1 }) r more (λ some. record {
     room = omega (arith, length-drop 1 q.items);
     credit = omega arith;
   }))
 
   -- eight more credits come where they are then at most 64
-  pub within_credited : (q r : Outgoing A) → credited q ≡ Some r → IsWithinLimits q → IsWithinLimits r
+  pub within_credited : (q r : Outgoing A) → outgoing_credited q ≡ Some r → IsWithinLimits q → IsWithinLimits r
   within_credited q r is within = holds_under IsWithinLimits (nat_le (q.credit + 8) 64) (record { items = q.items; credit = q.credit + 8 }) r is (λ fits. record {
     room = within.room;
     credit = grind (arith, nat_tests);

@@ -2,9 +2,9 @@
 use Rattle.std.proofs.Common.{◌≡◌, ◌==◌, ℕ, zero, suc, true, false, List, [], ◌∷◌, Some, slice_get, slice_set, sym, ◌∙◌, ap, subst, inl, inr, arith}
 use Rattle.std.proofs.lemmas.Bool.{or_parts}
 use Rattle.std.proofs.lemmas.Bool.Decides.{nat_tests}
-use Rattle.c104_link.specs.Buffers.{IsWithinCap, enter, grant}
+use Rattle.c104_link.specs.Buffers.{IsWithinCap, incoming_accept, incoming_grant}
 use Rattle.c104_switch.specs.Phases.{is_stream}
-use Rattle.c104_switch.specs.Switch.{Phase, Stream, Input, is_owned, with_buffer, accepted, granted}
+use Rattle.c104_switch.specs.Switch.{Phase, Stream, Input, is_owned, with_buffer, input_accept, input_grant}
 use Rattle.c104_switch.specs.Soundness.{IsExclusive}
 use Rattle.c104_switch.proofs.SoundnessSteps.{given, place_after_set}
 use Rattle.c104_switch.proofs.SoundnessBuffers.{within_enter, within_grant}
@@ -53,8 +53,8 @@ module _ {A : Type 0} where
       unowned inputs o (or_parts (is_stream o p.phase) (is_owned inputs o) free).1 j q at_j to_q
 
   -- a token that comes in
-  pub keeps_accepted : (x : A) (p r : Input A) → accepted x p ≡ Some r → KeepsInput p r
-  keeps_accepted x p r is = given (enter x p.buffer) _ r is (λ b made last.
+  pub keeps_accepted : (x : A) (p r : Input A) → input_accept x p ≡ Some r → KeepsInput p r
+  keeps_accepted x p r is = given (incoming_accept x p.buffer) _ r is (λ b made last.
       let same : with_buffer p b ≡ r = cc in
       subst (KeepsInput p) same (record {
         within = within_enter x p.buffer b made;
@@ -62,8 +62,8 @@ module _ {A : Type 0} where
       }))
 
   -- a grant of eight more tokens
-  pub keeps_granted : (p r : Input A) → granted p ≡ Some r → KeepsInput p r
-  keeps_granted p r is = given (grant p.buffer) _ r is (λ b made last.
+  pub keeps_granted : (p r : Input A) → input_grant p ≡ Some r → KeepsInput p r
+  keeps_granted p r is = given (incoming_grant p.buffer) _ r is (λ b made last.
       let same : with_buffer p b ≡ r = cc in
       subst (KeepsInput p) same (record {
         within = within_grant p.buffer b made;

@@ -5,15 +5,15 @@ use Rattle.c104_token.specs.Kinds.{Kind}
 use Rattle.c104_interval.specs.Selection.{select}
 use Rattle.c104_interval.specs.declared.intervals.Select.{Select}
 use Rattle.c104_interval.specs.declared.intervals.Select.TheVariants.{Link, Discard, Sink}
-use Rattle.c104_link.specs.Steps.{at_place}
-use Rattle.c104_link.specs.Buffers.{Outgoing, IsWithinLimits, put, put_all}
+use Rattle.c104_link.specs.Steps.{step_at}
+use Rattle.c104_link.specs.Buffers.{Outgoing, IsWithinLimits, outgoing_put, outgoing_put_all}
 use Rattle.c104_regs.specs.declared.settings.Settings.{Settings}
 use Rattle.c104_regs.specs.Settings.{header_length}
-use Rattle.c104_switch.specs.Group.{in_group}
+use Rattle.c104_switch.specs.Group.{is_in_group}
 use Rattle.c104_switch.specs.Switch.{Phase, Fresh, Head, Want, Stream, Sinking, Input}
-use Rattle.c104_switch.specs.Headers.{decided, is_sink, header_value, read, random_header}
-use Rattle.c104_switch.specs.Turns.{used, after, on_header, on_random, by_phase, turn}
-use Rattle.c104_switch.specs.Claims.{streaming, put_header, claimed}
+use Rattle.c104_switch.specs.Headers.{decided_phase, is_sink, header_value, phase_after_header, random_header}
+use Rattle.c104_switch.specs.Turns.{input_after_token, phase_after_token, header_turn, random_turn, turn_by_phase, input_turn}
+use Rattle.c104_switch.specs.Claims.{streaming_input, put_header, input_claim}
 use Rattle.c104_switch.proofs.SoundnessSteps.{given, required, All-at_place, length-at_place}
 use Rattle.c104_switch.proofs.SoundnessBuffers.{within_without_first, within_put, within_put_all}
 use Rattle.c104_switch.proofs.SoundnessInputs.{KeepsInput}
@@ -33,14 +33,14 @@ module _ {A : Type 0} where
   keeps_itself qs = record { within = λ all. all; length = refl }
 
   -- outputs where one changes and stays within its limits
-  pub keeps_at_place : (qs : List (Outgoing A)) (i : ℕ) (f : Outgoing A → Option (Outgoing A)) (rs : List (Outgoing A)) → at_place qs i f ≡ Some rs → ((q r : Outgoing A) → f q ≡ Some r → IsWithinLimits q → IsWithinLimits r) → KeepsOutputs qs rs
+  pub keeps_at_place : (qs : List (Outgoing A)) (i : ℕ) (f : Outgoing A → Option (Outgoing A)) (rs : List (Outgoing A)) → step_at qs i f ≡ Some rs → ((q r : Outgoing A) → f q ≡ Some r → IsWithinLimits q → IsWithinLimits r) → KeepsOutputs qs rs
   keeps_at_place qs i f rs is keeps = record {
     within = All-at_place IsWithinLimits qs i f rs is keeps;
     length = length-at_place qs i f rs is;
   }
 
   -- an input that uses its first token, or not, and streams to no output then
-  used_no_stream : (p : Input A) (phase : Phase (List A)) (sunk short : Bool) → IsNoStream phase → KeepsInput p (used p phase sunk short)
+  used_no_stream : (p : Input A) (phase : Phase (List A)) (sunk short : Bool) → IsNoStream phase → KeepsInput p (input_after_token p phase sunk short)
   used_no_stream p phase sunk short none = record {
     within = within_without_first p.buffer;
     streams = λ o to. absurd (none o to);
@@ -56,55 +56,55 @@ module _ {A : Type 0} where
   keeps_put_header : (s : Settings) (b : List A) (q r : Outgoing A) → put_header s b q ≡ Some r → IsWithinLimits q → IsWithinLimits r
   keeps_put_header s b q r is within = by_delete s.delete_header is
     where
-      by_delete : (delete : Bool) → (if delete then Some q else put_all b q) ≡ Some r → IsWithinLimits r
+      by_delete : (delete : Bool) → (if delete then Some q else outgoing_put_all b q) ≡ Some r → IsWithinLimits r
       by_delete true made = let same : q ≡ r = cc in subst IsWithinLimits same within
       by_delete false made = within_put_all b q r made within
 
   -- what a claim gives: the input streams to the output, and the outputs stay within their limits
-  pub claimed_gives : (settings : List Settings) (p : Input A) (qs : List (Outgoing A)) (o : ℕ) (phase : Phase (List A)) (r : Input A × List (Outgoing A)) → claimed settings p qs o phase ≡ Some r → (streaming p o ≡ r.0) × KeepsOutputs qs r.1
+  pub claimed_gives : (settings : List Settings) (p : Input A) (qs : List (Outgoing A)) (o : ℕ) (phase : Phase (List A)) (r : Input A × List (Outgoing A)) → input_claim settings p qs o phase ≡ Some r → (streaming_input p o ≡ r.0) × KeepsOutputs qs r.1
   claimed_gives settings p qs o Fresh r is = cc
   claimed_gives settings p qs o (Head b) r is = cc
-  claimed_gives settings p qs o (Want b g) r is = required (in_group settings g o) _ r is (λ joined more. given (slice_get settings o) _ r more (λ t own most. given (at_place qs o (put_header t b)) _ r most (λ rs made last.
-      let same : (streaming p o, rs) ≡ r = cc in
+  claimed_gives settings p qs o (Want b g) r is = required (is_in_group settings g o) _ r is (λ joined more. given (slice_get settings o) _ r more (λ t own most. given (step_at qs o (put_header t b)) _ r most (λ rs made last.
+      let same : (streaming_input p o, rs) ≡ r = cc in
       (ap (λ (r : Input A × List (Outgoing A)). r.0) same, subst (λ (r : Input A × List (Outgoing A)). KeepsOutputs qs r.1) same (keeps_at_place qs o (put_header t b) rs made (keeps_put_header t b))))))
   claimed_gives settings p qs o (Stream q) r is = cc
   claimed_gives settings p qs o Sinking r is = cc
 
   -- what follows a header that is complete
-  decided_no_stream : (b : List A) (selected : Select) → IsNoStream (decided b selected)
+  decided_no_stream : (b : List A) (selected : Select) → IsNoStream (decided_phase b selected)
   decided_no_stream b (Link g) o is = cc
   decided_no_stream b Discard o is = cc
   decided_no_stream b Sink o is = cc
 
 module _ {A : Type 0} (kind : Kind A) where
   -- what follows these tokens of a header
-  read_no_stream : (s : Settings) (b : List A) → IsNoStream (read kind s b).0
+  read_no_stream : (s : Settings) (b : List A) → IsNoStream (phase_after_header kind s b).0
   read_no_stream s b = by_length (nat_le (header_length s) (length b))
     where
-      by_length : (complete : Bool) → IsNoStream (if◌then◌else◌ {A = Phase (List A) × Bool} complete (let selected = select s.table (header_value kind b) in (decided b selected, is_sink selected)) (Head b, false)).0
+      by_length : (complete : Bool) → IsNoStream (if◌then◌else◌ {A = Phase (List A) × Bool} complete (let selected = select s.table (header_value kind b) in (decided_phase b selected, is_sink selected)) (Head b, false)).0
       by_length true = decided_no_stream b (select s.table (header_value kind b))
       by_length false = λ o is. cc
 
   -- an input that reads a token of a header
-  keeps_on_header : (s : Settings) (p : Input A) (b : List A) (x : A) → KeepsInput p (on_header kind s p b x)
+  keeps_on_header : (s : Settings) (p : Input A) (b : List A) (x : A) → KeepsInput p (header_turn kind s p b x)
   keeps_on_header s p b x = by_end (is_end (kind.plain x))
     where
-      by_end : (ends : Bool) → KeepsInput p (if ends then used p Fresh false true else (let r = read kind s (b ++ x ∷ []) in used p r.0 r.1 false))
+      by_end : (ends : Bool) → KeepsInput p (if ends then input_after_token p Fresh false true else (let r = phase_after_header kind s (b ++ x ∷ []) in input_after_token p r.0 r.1 false))
       by_end true = used_no_stream p Fresh false true (λ o is. cc)
       by_end false = used_no_stream p _ _ false (read_no_stream s (b ++ x ∷ []))
 
   -- an input that puts a random header before its packet
-  keeps_on_random : (s : Settings) (word : ℕ) (p : Input A) → KeepsInput p (on_random kind s word p)
+  keeps_on_random : (s : Settings) (word : ℕ) (p : Input A) → KeepsInput p (random_turn kind s word p)
   keeps_on_random s word p = record {
     within = λ w. w;
     streams = λ o to. absurd (read_no_stream s (random_header kind s word) o to);
   }
 
   -- an input that uses a token of a packet whose header was read
-  keeps_after : (p : Input A) (x : A) (phase : Phase (List A)) → p.phase ≡ phase → KeepsInput p (used p (after kind x phase) false false)
+  keeps_after : (p : Input A) (x : A) (phase : Phase (List A)) → p.phase ≡ phase → KeepsInput p (input_after_token p (phase_after_token kind x phase) false false)
   keeps_after p x phase is = by_end (is_end (kind.plain x))
     where
-      by_end : (ends : Bool) → KeepsInput p (used p (if ends then Fresh else phase) false false)
+      by_end : (ends : Bool) → KeepsInput p (input_after_token p (if ends then Fresh else phase) false false)
       by_end true = used_no_stream p Fresh false false (λ o is. cc)
       by_end false = record {
         within = within_without_first p.buffer;
@@ -112,18 +112,18 @@ module _ {A : Type 0} (kind : Kind A) where
       }
 
   -- what a turn keeps, by the phase
-  keeps_by_phase : (s : Settings) (word : ℕ) (p : Input A) (qs : List (Outgoing A)) (phase : Phase (List A)) (x : A) (r : Input A × List (Outgoing A)) → p.phase ≡ phase → by_phase kind s word p qs phase x ≡ Some r → KeepsInput p r.0 × KeepsOutputs qs r.1
+  keeps_by_phase : (s : Settings) (word : ℕ) (p : Input A) (qs : List (Outgoing A)) (phase : Phase (List A)) (x : A) (r : Input A × List (Outgoing A)) → p.phase ≡ phase → turn_by_phase kind s word p qs phase x ≡ Some r → KeepsInput p r.0 × KeepsOutputs qs r.1
   keeps_by_phase s word p qs Fresh x r is made = by_random (s.randomize && not (is_end (kind.plain x))) made
     where
-      by_random : (random : Bool) → (if random then Some (on_random kind s word p, qs) else Some (on_header kind s p [] x, qs)) ≡ Some r → KeepsInput p r.0 × KeepsOutputs qs r.1
-      by_random true gives = keeps_some (on_random kind s word p) qs r gives (keeps_on_random s word p) (keeps_itself qs)
-      by_random false gives = keeps_some (on_header kind s p [] x) qs r gives (keeps_on_header s p [] x) (keeps_itself qs)
-  keeps_by_phase s word p qs (Head b) x r is made = keeps_some (on_header kind s p b x) qs r made (keeps_on_header s p b x) (keeps_itself qs)
+      by_random : (random : Bool) → (if random then Some (random_turn kind s word p, qs) else Some (header_turn kind s p [] x, qs)) ≡ Some r → KeepsInput p r.0 × KeepsOutputs qs r.1
+      by_random true gives = keeps_some (random_turn kind s word p) qs r gives (keeps_on_random s word p) (keeps_itself qs)
+      by_random false gives = keeps_some (header_turn kind s p [] x) qs r gives (keeps_on_header s p [] x) (keeps_itself qs)
+  keeps_by_phase s word p qs (Head b) x r is made = keeps_some (header_turn kind s p b x) qs r made (keeps_on_header s p b x) (keeps_itself qs)
   keeps_by_phase s word p qs (Want b g) x r is made = cc
-  keeps_by_phase s word p qs (Stream o) x r is made = given (at_place qs o (put x)) _ r made (λ rs put last.
-      keeps_some (used p (after kind x (Stream o)) false false) rs r last (keeps_after p x (Stream o) is) (keeps_at_place qs o _ rs put (within_put x)))
-  keeps_by_phase s word p qs Sinking x r is made = keeps_some (used p (after kind x Sinking) false false) qs r made (keeps_after p x Sinking is) (keeps_itself qs)
+  keeps_by_phase s word p qs (Stream o) x r is made = given (step_at qs o (outgoing_put x)) _ r made (λ rs put last.
+      keeps_some (input_after_token p (phase_after_token kind x (Stream o)) false false) rs r last (keeps_after p x (Stream o) is) (keeps_at_place qs o _ rs put (within_put x)))
+  keeps_by_phase s word p qs Sinking x r is made = keeps_some (input_after_token p (phase_after_token kind x Sinking) false false) qs r made (keeps_after p x Sinking is) (keeps_itself qs)
 
   -- what a turn keeps
-  pub keeps_turn : (s : Settings) (word : ℕ) (p : Input A) (qs : List (Outgoing A)) (r : Input A × List (Outgoing A)) → turn kind s word p qs ≡ Some r → KeepsInput p r.0 × KeepsOutputs qs r.1
+  pub keeps_turn : (s : Settings) (word : ℕ) (p : Input A) (qs : List (Outgoing A)) (r : Input A × List (Outgoing A)) → input_turn kind s word p qs ≡ Some r → KeepsInput p r.0 × KeepsOutputs qs r.1
   keeps_turn s word p qs r is = given (slice_get p.buffer.items 0) _ r is (λ x here made. keeps_by_phase s word p qs p.phase x r refl made)

@@ -13,5 +13,5 @@ abbrev pub continues_at : List Settings → ℕ → Bool
 continues_at settings l = continues (slice_get settings l)
 
 -- link o is in the group of link g
-abbrev pub in_group : List Settings → ℕ → ℕ → Bool
-in_group settings g o = groups.in_group (continues_at settings) g o
+abbrev pub is_in_group : List Settings → ℕ → ℕ → Bool
+is_in_group settings g o = groups.group_contains (continues_at settings) g o

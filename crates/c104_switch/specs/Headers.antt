@@ -11,16 +11,16 @@ use Rattle.c104_regs.specs.Settings.{header_length}
 use Rattle.c104_switch.specs.Switch.{Phase, Head, Want, Sinking}
 
 -- the number of a header, low byte first
-abbrev pub value : List ℕ → ℕ
-value [] = 0
-value (b ∷ bytes) = b + 256 * value bytes
+abbrev pub header_number : List ℕ → ℕ
+header_number [] = 0
+header_number (b ∷ bytes) = b + 256 * header_number bytes
 
 -- what follows a header that is complete: it wants the selected link's group, it is thrown away and
 -- the next bytes are the header, or the packet is dropped
-abbrev pub decided : {A : Type 0} → List A → Select → Phase (List A)
-decided b (Link g) = Want b g
-decided b Discard = Head []
-decided b Sink = Sinking
+abbrev pub decided_phase : {A : Type 0} → List A → Select → Phase (List A)
+decided_phase b (Link g) = Want b g
+decided_phase b Discard = Head []
+decided_phase b Sink = Sinking
 
 abbrev pub is_sink : Select → Bool
 is_sink (Link g) = false
@@ -41,13 +41,13 @@ random_bytes s word =
 module _ {A : Type 0} (kind : Kind A) where
   -- the number that the tokens of a header say
   abbrev pub header_value : List A → ℕ
-  header_value b = value (map (λ x. byte_of (kind.plain x)) b)
+  header_value b = header_number (map (λ x. byte_of (kind.plain x)) b)
 
   -- the phase after these tokens of a header, and whether the packet is dropped
-  abbrev pub read : Settings → List A → Phase (List A) × Bool
-  read s b =
+  abbrev pub phase_after_header : Settings → List A → Phase (List A) × Bool
+  phase_after_header s b =
       if nat_le (header_length s) (length b)
-      then (let selected = select s.table (header_value b) in (decided b selected, is_sink selected))
+      then (let selected = select s.table (header_value b) in (decided_phase b selected, is_sink selected))
       else (Head b, false)
 
   abbrev pub random_from : ℕ → List ℕ → List A

@@ -50,5 +50,5 @@ abbrev pub registers : {A : Type 0} → Switch A → RegisterBank
 registers s = record { started = s.started; settings = s.settings; statuses = statuses_from s 0 LINKS }
 
 -- what an address reads, where there is a register
-abbrev pub peek : {A : Type 0} → Switch A → ℕ → Result ℕ RegFault
-peek s a = regs.peek (registers s) a
+abbrev pub switch_peek : {A : Type 0} → Switch A → ℕ → Result ℕ RegFault
+switch_peek s a = regs.bank_peek (registers s) a

@@ -7,16 +7,16 @@ pub use Rattle.c104_switch.specs.declared.phase.Phase.TheVariants.{Fresh, Head, 
 
 module _ {H : Type 0} where
   -- the output that is streamed to, whose claim the input holds
-  abbrev pub output_of : Phase H → Option ℕ
-  output_of Fresh = None
-  output_of (Head b) = None
-  output_of (Want b g) = None
-  output_of (Stream o) = Some o
-  output_of Sinking = None
+  abbrev pub streamed_output : Phase H → Option ℕ
+  streamed_output Fresh = None
+  streamed_output (Head b) = None
+  streamed_output (Want b g) = None
+  streamed_output (Stream o) = Some o
+  streamed_output Sinking = None
 
   -- whether it is output o that is streamed to
   abbrev pub is_stream : ℕ → Phase H → Bool
-  is_stream o phase = option_map_or (λ p. p == o) (output_of phase) false
+  is_stream o phase = option_map_or (λ p. p == o) (streamed_output phase) false
 
 -- the same phase, where something else is known of the header
 abbrev pub with_header : {H K : Type 0} → (H → K) → Phase H → Phase K

@@ -1,7 +1,7 @@
 -- A step of inputs, or of one, and of the outputs beside.
 use Rattle.std.specs.Prelude.{◌≡◌, Bool, Option}
-use Rattle.c104_link.specs.Steps.{tried}
+use Rattle.c104_link.specs.Steps.{bool_outcome}
 
 -- the step was tried: whether it was made, and both sides after it, or as they were
-abbrev pub IsTried : {P Q : Type 0} → Option (P × Q) → P → Q → Bool → P → Q → Type 0
-IsTried {P} {Q} step p q made new_p new_q = ◌≡◌ {A = Bool × (P × Q)} (made, (new_p, new_q)) (tried {S = P × Q} step (p, q))
+abbrev pub IsOutcome : {P Q : Type 0} → Option (P × Q) → P → Q → Bool → P → Q → Type 0
+IsOutcome {P} {Q} step p q made new_p new_q = ◌≡◌ {A = Bool × (P × Q)} (made, (new_p, new_q)) (bool_outcome {S = P × Q} step (p, q))

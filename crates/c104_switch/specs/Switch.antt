@@ -1,9 +1,9 @@
 -- The state of one switch, over any kind of token, and the actions on one side of one link.
 -- A step answers None where it is not ready.
 use Rattle.std.specs.Prelude.{ℕ, ◌+◌, ◌-◌, ◌^◌, ◌||◌, Bool, true, false, List, [], ◌∷◌, Option, Some, min, replicate}
-use Rattle.c104_link.specs.Steps.{◌>>=◌, ◌>>◌, require, at_place, from_place}
+use Rattle.c104_link.specs.Steps.{◌>>=◌, ◌>>◌, require, step_at, yield_step_at}
 use Rattle.c104_link.specs.Buffers as buffer
-use Rattle.c104_link.specs.Buffers.{Incoming, Outgoing, empty_in, empty_out}
+use Rattle.c104_link.specs.Buffers.{Incoming, Outgoing, empty_incoming, empty_outgoing}
 use Rattle.c104_regs.specs.declared.settings.Settings.{Settings}
 use Rattle.c104_regs.specs.declared.registers.TheConstants.{LINKS}
 use Rattle.c104_regs.specs.Settings.{reset_settings}
@@ -30,9 +30,9 @@ abbrev pub largest_count : ℕ
 largest_count = 2 ^ 32 - 1
 
 -- a count, or one more where there is one; it stays at the largest
-abbrev pub counted : ℕ → Bool → ℕ
-counted n false = n
-counted n true = min (n + 1) largest_count
+abbrev pub count_after : ℕ → Bool → ℕ
+count_after n false = n
+count_after n true = min (n + 1) largest_count
 
 -- whether some input streams to output o, and so owns it
 abbrev pub is_owned : {A : Type 0} → List (Input A) → ℕ → Bool
@@ -52,53 +52,53 @@ abbrev pub with_sides : {A : Type 0} → Switch A → List (Input A) × List (Ou
 with_sides s r = record s { inputs = r.0; outputs = r.1 }
 
 -- a token comes in from the wire
-abbrev pub accepted : {A : Type 0} → A → Input A → Option (Input A)
-accepted x p = do
-  b ← buffer.enter x p.buffer
+abbrev pub input_accept : {A : Type 0} → A → Input A → Option (Input A)
+input_accept x p = do
+  b ← buffer.incoming_accept x p.buffer
   Some (with_buffer p b)
 
-abbrev pub enter : {A : Type 0} → Switch A → ℕ → A → Option (Switch A)
-enter s l x = do
-  ps ← at_place s.inputs l (accepted x)
+abbrev pub switch_enter : {A : Type 0} → Switch A → ℕ → A → Option (Switch A)
+switch_enter s l x = do
+  ps ← step_at s.inputs l (input_accept x)
   Some (with_inputs s ps)
 
 -- the first token of an output goes out to the wire
-abbrev pub leave : {A : Type 0} → Switch A → ℕ → Option (A × Switch A)
-leave s l = do
-  r ← from_place s.outputs l buffer.leave
+abbrev pub switch_leave : {A : Type 0} → Switch A → ℕ → Option (A × Switch A)
+switch_leave s l = do
+  r ← yield_step_at s.outputs l buffer.outgoing_emit
   Some (r.0, with_outputs s r.1)
 
 -- an input grants eight more tokens, once the switch is started
-abbrev pub granted : {A : Type 0} → Input A → Option (Input A)
-granted p = do
-  b ← buffer.grant p.buffer
+abbrev pub input_grant : {A : Type 0} → Input A → Option (Input A)
+input_grant p = do
+  b ← buffer.incoming_grant p.buffer
   Some (with_buffer p b)
 
-abbrev pub credit_out : {A : Type 0} → Switch A → ℕ → Option (Switch A)
-credit_out s l = do
+abbrev pub switch_credit_out : {A : Type 0} → Switch A → ℕ → Option (Switch A)
+switch_credit_out s l = do
   require s.started
-  ps ← at_place s.inputs l granted
+  ps ← step_at s.inputs l input_grant
   Some (with_inputs s ps)
 
 -- an output may send eight more tokens
-abbrev pub credit_in : {A : Type 0} → Switch A → ℕ → Option (Switch A)
-credit_in s l = do
-  qs ← at_place s.outputs l buffer.credited
+abbrev pub switch_credit_in : {A : Type 0} → Switch A → ℕ → Option (Switch A)
+switch_credit_in s l = do
+  qs ← step_at s.outputs l buffer.outgoing_credited
   Some (with_outputs s qs)
 
 -- an input at first: nothing came, and nothing is granted
-abbrev pub first_input : {A : Type 0} → ℕ → Input A
-first_input cap = record { buffer = empty_in cap; phase = Fresh; sunk = 0; short = 0 }
+abbrev pub new_input : {A : Type 0} → ℕ → Input A
+new_input cap = record { buffer = empty_incoming cap; phase = Fresh; sunk = 0; short = 0 }
 
 -- a switch at first, with these settings: nothing anywhere
-abbrev pub first_with : {A : Type 0} → ℕ → List Settings → Bool → Switch A
-first_with cap settings started = record {
+abbrev pub new_switch_with : {A : Type 0} → ℕ → List Settings → Bool → Switch A
+new_switch_with cap settings started = record {
   started = started;
   settings = settings;
-  inputs = replicate LINKS (first_input cap);
-  outputs = replicate LINKS empty_out;
+  inputs = replicate LINKS (new_input cap);
+  outputs = replicate LINKS empty_outgoing;
 }
 
 -- a new switch: reset, and not started
-abbrev pub first_state : {A : Type 0} → ℕ → Switch A
-first_state cap = first_with cap (replicate LINKS reset_settings) false
+abbrev pub new_switch : {A : Type 0} → ℕ → Switch A
+new_switch cap = new_switch_with cap (replicate LINKS reset_settings) false

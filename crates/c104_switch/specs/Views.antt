@@ -15,27 +15,27 @@ owner_from n (p ∷ inputs) o = if is_stream o p.phase then Some n else owner_fr
 
 module _ {A : Type 0} (kind : Kind A) where
   -- the bytes of a header's tokens
-  abbrev pub bytes_of : List A → List ℕ
-  bytes_of header = map (λ x. byte_of (kind.plain x)) header
+  abbrev pub header_bytes : List A → List ℕ
+  header_bytes header = map (λ x. byte_of (kind.plain x)) header
 
   -- a phase, with the header's bytes
-  abbrev pub phase_shown : Phase (List A) → Phase (List ℕ)
-  phase_shown phase = with_header bytes_of phase
+  abbrev pub phase_view : Phase (List A) → Phase (List ℕ)
+  phase_view phase = with_header header_bytes phase
 
   -- what is seen of a link by its two sides
-  abbrev pub sides_shown : List (Input A) → ℕ → Input A → Outgoing A → LinkView
-  sides_shown inputs l p q = record {
+  abbrev pub sides_view : List (Input A) → ℕ → Input A → Outgoing A → LinkView
+  sides_view inputs l p q = record {
     input_level = length p.buffer.items;
     output_level = length q.items;
     credit = q.credit;
     granted = p.buffer.granted;
     owner = owner_from 0 inputs l;
-    phase = phase_shown p.phase;
+    phase = phase_view p.phase;
   }
 
   -- what is seen of link l, where there is one
-  abbrev pub link_shown : Switch A → ℕ → Option LinkView
-  link_shown s l = do
+  abbrev pub link_view : Switch A → ℕ → Option LinkView
+  link_view s l = do
     p ← slice_get s.inputs l
     q ← slice_get s.outputs l
-    Some (sides_shown s.inputs l p q)
+    Some (sides_view s.inputs l p q)

@@ -1,7 +1,7 @@
 //! Groups of links.
 ghost use Rattle.std.specs.Prelude.{◌≡◌, ◌<◌};
 ghost use Rattle.c104_regs.specs.declared.registers.TheConstants.{LINKS};
-ghost use Rattle.c104_switch.specs.Group.{in_group};
+ghost use Rattle.c104_switch.specs.Group.{is_in_group};
 
 use crate::LINKS;
 use c104_crossbar::Group;
@@ -11,7 +11,7 @@ use c104_regs::Registers;
 /// one.
 pub fn is_in_group(registers: &Registers, link: u8, output: usize) -> bool
     requires { output < LINKS }
-    ensures { result ≡ in_group registers.now.settings link output }
+    ensures { result ≡ is_in_group registers.now.settings link output }
 {
     let link = usize::from(link);
     let continues = registers.continues();

@@ -2,7 +2,7 @@
 ghost use Rattle.std.specs.Prelude.{◌≡◌, ◌<◌, ◌≤◌, ◌+◌, ◌∷◌, ◌++◌, [], length, map, All, IfOk};
 ghost use Rattle.c104_token.specs.Tokens.{byte_of};
 ghost use Rattle.c104_switch.specs.declared.header.TheConstants.{HEADER_LIMIT};
-ghost use Rattle.c104_switch.specs.Headers.{header_value, value};
+ghost use Rattle.c104_switch.specs.Headers.{header_value, header_number};
 
 use arrayvec::ArrayVec;
 use c104_token::{NoMemory, Token, TokenKind};
@@ -40,7 +40,7 @@ impl HeaderBytes {
 
     /// The number that the bytes say, 0 to 65,535.
     pub fn value(&self) -> u32
-        ensures { result ≡ value self.now }
+        ensures { result ≡ header_number self.now }
     {
         match self.bytes.as_slice() {
             [] => 0,

@@ -1,15 +1,15 @@
 //! The input side of one link.
 ghost use Rattle.std.specs.Prelude.{◌≡◌, ◌==◌, Bool, ℕ, length, List, IfOk, is_some};
 ghost use Rattle.std.specs.Option.{option_copied};
-ghost use Rattle.c104_crossbar.specs.Marks.{list_of};
-ghost use Rattle.c104_link.specs.Buffers.{Incoming, empty_in, IsValidCap, IsWithinCap};
-ghost use Rattle.c104_link.specs.Steps.{tried};
-ghost use Rattle.c104_switch.specs.Switch.{Input, accepted, granted, first_input};
-ghost use Rattle.c104_switch.specs.Phases.{is_stream, output_of};
-ghost use Rattle.c104_switch.specs.Holding.{held_by};
+ghost use Rattle.c104_crossbar.specs.Marks.{claim_list};
+ghost use Rattle.c104_link.specs.Buffers.{Incoming, empty_incoming, IsValidCap, IsWithinCap};
+ghost use Rattle.c104_link.specs.Steps.{bool_outcome};
+ghost use Rattle.c104_switch.specs.Switch.{Input, input_accept, input_grant, new_input};
+ghost use Rattle.c104_switch.specs.Phases.{is_stream, streamed_output};
+ghost use Rattle.c104_switch.specs.Holding.{phase_claims};
 ghost use Rattle.c104_switch.specs.Peeks.{is_busy};
-ghost use Rattle.c104_switch.specs.Views.{phase_shown};
-ghost use Rattle.c104_switch.specs.Commands.{reset_input};
+ghost use Rattle.c104_switch.specs.Views.{phase_view};
+ghost use Rattle.c104_switch.specs.Commands.{input_reset};
 
 mod claims;
 mod turns;
@@ -40,7 +40,7 @@ impl<T: TokenKind> Model for InputOf<T> {
     ghost Value = { Input T };
 
     ghost use Rattle.std.specs.Prelude.{◌≡◌};
-    ghost use Rattle.c104_switch.specs.Phases.{phase_of, output_of, HasRoom};
+    ghost use Rattle.c104_switch.specs.Phases.{phase_of, streamed_output, HasRoom};
 
     ghost view = { λ p.
         record {
@@ -50,7 +50,8 @@ impl<T: TokenKind> Model for InputOf<T> {
           short = p.short;
         } };
 
-    ghost invariant = { λ p. HasRoom (phase_of p.phase p.header) × (p.claim ≡ output_of p.phase) };
+    ghost invariant = { λ p. HasRoom (phase_of p.phase p.header) ×
+        (p.claim ≡ streamed_output p.phase) };
 }
 
 impl<T: TokenKind> InputOf<T> {
@@ -58,7 +59,7 @@ impl<T: TokenKind> InputOf<T> {
     /// when out of memory.
     pub fn new(alloc: Global, cap: usize) -> Result<Self, NoMemory>
         requires { IsValidCap cap }
-        ensures { IfOk result (λ p. p ≡ first_input cap) }
+        ensures { IfOk result (λ p. p ≡ new_input cap) }
     {
         let buffer = InBufferOf::new(alloc, cap)?;
         let header = HeaderOf::new(alloc)?;
@@ -74,7 +75,7 @@ impl<T: TokenKind> InputOf<T> {
 
     /// Lets go of all but the claim, if the input holds one.
     pub fn retire(self) -> Option<Claim>
-        ensures { list_of result ≡ held_by self.phase }
+        ensures { claim_list result ≡ phase_claims self.phase }
     {
         let InputOf {
             buffer: _,
@@ -90,8 +91,8 @@ impl<T: TokenKind> InputOf<T> {
     /// Discards the tokens, the packet under way and the counts. What is granted stays. The claim
     /// comes back, if the input holds one.
     pub fn reset(&mut self) -> Option<Claim>
-        ensures reset { self.new ≡ reset_input self.old }
-        ensures claims { list_of result ≡ held_by self.old.phase }
+        ensures reset { self.new ≡ input_reset self.old }
+        ensures claims { claim_list result ≡ phase_claims self.old.phase }
     {
         self.buffer.clear();
         self.phase = Phase::Fresh;
@@ -103,14 +104,14 @@ impl<T: TokenKind> InputOf<T> {
 
     /// Takes a token in, where one is granted.
     pub fn accept(&mut self, token: T) -> bool
-        ensures { (result, self.new) ≡ tried (accepted token self.old) self.old }
+        ensures { (result, self.new) ≡ bool_outcome (input_accept token self.old) self.old }
     {
         self.buffer.accept(token).is_ok()
     }
 
     /// Grants eight more tokens, where there is room for all that would then be granted.
     pub fn grant(&mut self) -> bool
-        ensures { (result, self.new) ≡ tried (granted self.old) self.old }
+        ensures { (result, self.new) ≡ bool_outcome (input_grant self.old) self.old }
     {
         self.buffer.grant()
     }
@@ -157,7 +158,7 @@ impl<T: TokenKind> InputOf<T> {
 
     /// What the input does with its next token.
     pub fn phase(&self) -> Phase<HeaderBytes>
-        ensures { result ≡ phase_shown T.kind self.now.phase }
+        ensures { result ≡ phase_view T.kind self.now.phase }
     {
         match self.phase {
             Phase::Fresh => Phase::Fresh,
@@ -170,7 +171,7 @@ impl<T: TokenKind> InputOf<T> {
 
     /// The claim that the input holds, which is that of the output that the packet streams to.
     pub fn claim_held(&self) -> Option<&Claim>
-        ensures { option_copied result ≡ output_of self.now.phase }
+        ensures { option_copied result ≡ streamed_output self.now.phase }
     {
         self.claim.as_ref()
     }
@@ -187,14 +188,14 @@ impl<T: TokenKind> InputOf<T> {
 
     /// Whether `accept` would take a token in.
     pub fn can_accept(&self) -> bool
-        ensures { (token : T) → result ≡ is_some (accepted token self.now) }
+        ensures { (token : T) → result ≡ is_some (input_accept token self.now) }
     {
         self.buffer.granted() > 0
     }
 
     /// Whether `grant` would grant.
     pub fn can_grant(&self) -> bool
-        ensures { result ≡ is_some (granted self.now) }
+        ensures { result ≡ is_some (input_grant self.now) }
     {
         self.buffer.can_grant()
     }

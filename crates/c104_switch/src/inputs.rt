@@ -3,15 +3,15 @@ ghost use Rattle.std.specs.Prelude.{◌≡◌, ◌<◌, ℕ, [], length, map, re
 ghost use Rattle.std.specs.Option.{option_copied};
 ghost use Rattle.c104_crossbar.specs.Marks.{ArePartition};
 ghost use Rattle.c104_link.specs.Buffers.{IsValidCap};
-ghost use Rattle.c104_link.specs.Steps.{tried, at_place};
+ghost use Rattle.c104_link.specs.Steps.{bool_outcome, step_at};
 ghost use Rattle.c104_regs.specs.declared.registers.TheConstants.{LINKS};
 ghost use Rattle.c104_regs.specs.declared.settings.Settings.{Settings as TheSettings};
-ghost use Rattle.c104_switch.specs.Switch.{accepted, granted, first_input, is_owned};
-ghost use Rattle.c104_switch.specs.Turns.{turn_at, IsTurnAt};
-ghost use Rattle.c104_switch.specs.Claims.{claimed_at, IsClaimAt};
-ghost use Rattle.c104_switch.specs.Holding.{held};
+ghost use Rattle.c104_switch.specs.Switch.{input_accept, input_grant, new_input, is_owned};
+ghost use Rattle.c104_switch.specs.Turns.{inputs_turn, IsTurnAt};
+ghost use Rattle.c104_switch.specs.Claims.{inputs_claim, IsClaimAt};
+ghost use Rattle.c104_switch.specs.Holding.{held_claims};
 ghost use Rattle.c104_switch.specs.Views.{owner_from};
-ghost use Rattle.c104_switch.specs.Commands.{reset_input};
+ghost use Rattle.c104_switch.specs.Commands.{input_reset};
 
 use crate::LINKS;
 use crate::input::{InputOf, Turn};
@@ -36,18 +36,18 @@ impl<T: TokenKind> Model for InputsOf<T> {
     ghost Value = { List (Input T) };
 
     ghost use Rattle.c104_crossbar.specs.Marks.{ArePartition};
-    ghost use Rattle.c104_switch.specs.Holding.{held};
+    ghost use Rattle.c104_switch.specs.Holding.{held_claims};
 
     ghost view = { λ inputs. inputs.list.items };
 
-    ghost invariant = { λ inputs. ArePartition (held inputs.list.items) inputs.crossbar };
+    ghost invariant = { λ inputs. ArePartition (held_claims inputs.list.items) inputs.crossbar };
 }
 
 impl<T: TokenKind> InputsOf<T> {
     /// New inputs: no token, and nothing granted. It fails only when out of memory.
     pub fn new(alloc: Global, cap: usize) -> Result<Self, NoMemory>
         requires { IsValidCap cap }
-        ensures { IfOk result (λ ps. ps ≡ replicate LINKS (first_input cap)) }
+        ensures { IfOk result (λ ps. ps ≡ replicate LINKS (new_input cap)) }
     {
         let mut list = Vec::with_capacity(alloc, LINKS)?;
         for _ in 0..LINKS {
@@ -73,21 +73,22 @@ impl<T: TokenKind> InputsOf<T> {
 
     /// Resets all inputs, and gives their claims back.
     pub fn reset(&mut self)
-        ensures { self.new ≡ map reset_input self.old }
+        ensures { self.new ≡ map input_reset self.old }
     {
         reset(&mut self.list, &mut self.crossbar);
     }
 
     /// The crossbar.
     pub fn crossbar(&self) -> &Crossbar
-        ensures { ArePartition (held self.now) result.now }
+        ensures { ArePartition (held_claims self.now) result.now }
     {
         &self.crossbar
     }
 
     /// An input takes a token in, where one is granted.
     pub fn accept(&mut self, link: usize, token: T) -> bool
-        ensures { (result, self.new) ≡ tried (at_place self.old link (accepted token)) self.old }
+        ensures { (result, self.new) ≡
+            bool_outcome (step_at self.old link (input_accept token)) self.old }
     {
         let list = &mut self.list;
         if link >= list.len() {
@@ -99,7 +100,7 @@ impl<T: TokenKind> InputsOf<T> {
 
     /// An input grants eight more tokens, where it has room for all that would then be granted.
     pub fn grant(&mut self, link: usize) -> bool
-        ensures { (result, self.new) ≡ tried (at_place self.old link granted) self.old }
+        ensures { (result, self.new) ≡ bool_outcome (step_at self.old link input_grant) self.old }
     {
         let list = &mut self.list;
         if link >= list.len() {
@@ -168,7 +169,7 @@ impl<T: TokenKind> InputsOf<T> {
 
     /// Whether `accept` would take a token in.
     pub fn can_accept(&self, link: usize) -> bool
-        ensures { (token : T) → result ≡ is_some (at_place self.now link (accepted token)) }
+        ensures { (token : T) → result ≡ is_some (step_at self.now link (input_accept token)) }
     {
         match self.list.get(link) {
             Some(input) => input.can_accept(),
@@ -178,7 +179,7 @@ impl<T: TokenKind> InputsOf<T> {
 
     /// Whether `grant` would grant.
     pub fn can_grant(&self, link: usize) -> bool
-        ensures { result ≡ is_some (at_place self.now link granted) }
+        ensures { result ≡ is_some (step_at self.now link input_grant) }
     {
         match self.list.get(link) {
             Some(input) => input.can_grant(),
@@ -189,7 +190,7 @@ impl<T: TokenKind> InputsOf<T> {
     /// Whether `turn` would do something.
     pub fn can_turn(&self, link: usize, outputs: &OutputsOf<T>) -> bool
         ensures { (settings : TheSettings) (word : ℕ) →
-            result ≡ is_some (turn_at T.kind settings word self.now outputs.now link) }
+            result ≡ is_some (inputs_turn T.kind settings word self.now outputs.now link) }
     {
         match self.list.get(link) {
             Some(input) => input.can_turn(outputs),
@@ -207,7 +208,7 @@ impl<T: TokenKind> InputsOf<T> {
     ) -> bool
         requires { length registers.now.settings ≡ LINKS }
         ensures { result ≡
-            is_some (claimed_at registers.now.settings self.now outputs.now link output) }
+            is_some (inputs_claim registers.now.settings self.now outputs.now link output) }
     {
         if !self.crossbar.free(output) {
             return false;
@@ -248,7 +249,7 @@ impl<T: TokenKind> InputsOf<T> {
 
 /// Gives the claims of these inputs back to the crossbar, and lets go of all else.
 fn retire<T: TokenKind>(mut list: Vec<InputOf<T>>, crossbar: &mut Crossbar)
-    requires { ArePartition (held list.items) crossbar.old }
+    requires { ArePartition (held_claims list.items) crossbar.old }
     ensures { ArePartition [] crossbar.new }
 {
     while let Some(input) = list.pop() {
@@ -261,9 +262,9 @@ fn retire<T: TokenKind>(mut list: Vec<InputOf<T>>, crossbar: &mut Crossbar)
 
 /// Resets these inputs, and gives their claims back to the crossbar.
 fn reset<T: TokenKind>(list: &mut [InputOf<T>], crossbar: &mut Crossbar)
-    requires { ArePartition (held list.old) crossbar.old }
-    ensures inputs { list.new ≡ map reset_input list.old }
-    ensures partition { ArePartition (held list.new) crossbar.new }
+    requires { ArePartition (held_claims list.old) crossbar.old }
+    ensures inputs { list.new ≡ map input_reset list.old }
+    ensures partition { ArePartition (held_claims list.new) crossbar.new }
 {
     for input in list.iter_mut() {
         if let Some(claim) = input.reset() {

@@ -2,8 +2,8 @@
 ghost use Rattle.std.specs.Prelude.{◌≡◌, map, replicate, slice_get, IfOk, is_some};
 ghost use Rattle.std.specs.Option.{option_copied};
 ghost use Rattle.c104_link.specs.Buffers as buffer;
-ghost use Rattle.c104_link.specs.Buffers.{Outgoing, empty_out, cleared_out};
-ghost use Rattle.c104_link.specs.Steps.{tried, taken, at_place, from_place};
+ghost use Rattle.c104_link.specs.Buffers.{Outgoing, empty_outgoing, outgoing_clear};
+ghost use Rattle.c104_link.specs.Steps.{bool_outcome, option_outcome, step_at, yield_step_at};
 ghost use Rattle.c104_regs.specs.declared.registers.TheConstants.{LINKS};
 ghost use Rattle.c104_switch.specs.Claims.{put_header};
 
@@ -32,7 +32,7 @@ impl<T: TokenKind> Model for OutputsOf<T> {
 impl<T: TokenKind> OutputsOf<T> {
     /// New outputs: no token, and no credit. It fails only when out of memory.
     pub fn new(alloc: Global) -> Result<Self, NoMemory>
-        ensures { IfOk result (λ qs. qs ≡ replicate LINKS empty_out) }
+        ensures { IfOk result (λ qs. qs ≡ replicate LINKS empty_outgoing) }
     {
         let mut list = Vec::with_capacity(alloc, LINKS)?;
         for _ in 0..LINKS {
@@ -43,7 +43,7 @@ impl<T: TokenKind> OutputsOf<T> {
 
     /// Discards the tokens of all outputs. What they may send stays.
     pub fn clear(&mut self)
-        ensures { self.new ≡ map cleared_out self.old }
+        ensures { self.new ≡ map outgoing_clear self.old }
     {
         for output in self.list.iter_mut() {
             output.clear();
@@ -52,7 +52,8 @@ impl<T: TokenKind> OutputsOf<T> {
 
     /// The first token of an output goes out, where there are a token and a credit.
     pub fn leave(&mut self, link: usize) -> Option<T>
-        ensures { (result, self.new) ≡ taken (from_place self.old link buffer.leave) self.old }
+        ensures { (result, self.new) ≡
+            option_outcome (yield_step_at self.old link buffer.outgoing_emit) self.old }
     {
         let list = &mut self.list;
         if link >= list.len() {
@@ -64,7 +65,8 @@ impl<T: TokenKind> OutputsOf<T> {
 
     /// An output may send eight more tokens, where its credit is then at most 64.
     pub fn credited(&mut self, link: usize) -> bool
-        ensures { (result, self.new) ≡ tried (at_place self.old link buffer.credited) self.old }
+        ensures { (result, self.new) ≡
+            bool_outcome (step_at self.old link buffer.outgoing_credited) self.old }
     {
         let list = &mut self.list;
         if link >= list.len() {
@@ -76,7 +78,8 @@ impl<T: TokenKind> OutputsOf<T> {
 
     /// A token joins an output, where there is room for it.
     pub fn put(&mut self, link: usize, token: T) -> bool
-        ensures { (result, self.new) ≡ tried (at_place self.old link (buffer.put token)) self.old }
+        ensures { (result, self.new) ≡
+            bool_outcome (step_at self.old link (buffer.outgoing_put token)) self.old }
     {
         let list = &mut self.list;
         if link >= list.len() {
@@ -90,7 +93,7 @@ impl<T: TokenKind> OutputsOf<T> {
     /// the output's own link deletes headers.
     pub fn put_header(&mut self, link: usize, settings: &Settings, header: &[T]) -> bool
         ensures { (result, self.new) ≡
-            tried (at_place self.old link (put_header settings.now header.now)) self.old }
+            bool_outcome (step_at self.old link (put_header settings.now header.now)) self.old }
     {
         let list = &mut self.list;
         if link >= list.len() {
@@ -109,7 +112,7 @@ impl<T: TokenKind> OutputsOf<T> {
 
     /// Whether `leave` would give a token.
     pub fn can_leave(&self, link: usize) -> bool
-        ensures { result ≡ is_some (from_place self.now link buffer.leave) }
+        ensures { result ≡ is_some (yield_step_at self.now link buffer.outgoing_emit) }
     {
         match self.list.get(link) {
             Some(output) => output.can_emit(),
@@ -119,7 +122,7 @@ impl<T: TokenKind> OutputsOf<T> {
 
     /// Whether `credited` would add the credit.
     pub fn can_be_credited(&self, link: usize) -> bool
-        ensures { result ≡ is_some (at_place self.now link buffer.credited) }
+        ensures { result ≡ is_some (step_at self.now link buffer.outgoing_credited) }
     {
         match self.list.get(link) {
             Some(output) => output.can_be_credited(),
@@ -129,7 +132,8 @@ impl<T: TokenKind> OutputsOf<T> {
 
     /// Whether `put` would append a token.
     pub fn can_put(&self, link: usize) -> bool
-        ensures { (token : T) → result ≡ is_some (at_place self.now link (buffer.put token)) }
+        ensures { (token : T) → result ≡
+            is_some (step_at self.now link (buffer.outgoing_put token)) }
     {
         match self.list.get(link) {
             Some(output) => output.can_put(),
@@ -139,7 +143,7 @@ impl<T: TokenKind> OutputsOf<T> {
 
     /// Whether `put_header` would append or delete this header.
     pub fn can_put_header(&self, link: usize, settings: &Settings, header: &[T]) -> bool
-        ensures { result ≡ is_some (at_place self.now link (put_header settings.now header.now)) }
+        ensures { result ≡ is_some (step_at self.now link (put_header settings.now header.now)) }
     {
         match self.list.get(link) {
             Some(output) => can_put_header(output, settings, header),
@@ -150,7 +154,8 @@ impl<T: TokenKind> OutputsOf<T> {
 
 /// A token joins an output buffer, where there is room for it.
 fn put<T: TokenKind>(output: &mut OutBufferOf<T>, token: T) -> bool
-    ensures { (result, output.new) ≡ tried (buffer.put token output.old) output.old }
+    ensures { (result, output.new) ≡
+        bool_outcome (buffer.outgoing_put token output.old) output.old }
 {
     output.put(token).is_ok()
 }
@@ -158,7 +163,7 @@ fn put<T: TokenKind>(output: &mut OutBufferOf<T>, token: T) -> bool
 /// A header joins an output buffer as a whole, or its link deletes it.
 fn put_header<T: TokenKind>(output: &mut OutBufferOf<T>, settings: &Settings, header: &[T]) -> bool
     ensures { (result, output.new) ≡
-        tried (put_header settings.now header.now output.old) output.old }
+        bool_outcome (put_header settings.now header.now output.old) output.old }
 {
     settings.delete_header || output.put_all(header)
 }

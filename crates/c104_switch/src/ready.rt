@@ -1,9 +1,9 @@
 //! Whether a switch is ready for an action.
 ghost use Rattle.std.specs.Prelude.{◌≡◌, ℕ, is_some};
-ghost use Rattle.c104_switch.specs.Switch.{enter, leave, credit_out, credit_in};
-ghost use Rattle.c104_switch.specs.Turns.{input};
-ghost use Rattle.c104_switch.specs.Claims.{claim};
-ghost use Rattle.c104_switch.specs.Actions.{step, is_ready};
+ghost use Rattle.c104_switch.specs.Switch.{switch_enter, switch_leave, switch_credit_out, switch_credit_in};
+ghost use Rattle.c104_switch.specs.Turns.{switch_input};
+ghost use Rattle.c104_switch.specs.Claims.{switch_claim};
+ghost use Rattle.c104_switch.specs.Actions.{switch_step, is_ready};
 
 use crate::actions::Action;
 use crate::switches::SwitchOf;
@@ -12,7 +12,7 @@ use c104_token::Token;
 impl SwitchOf<Token> {
     /// Whether `step` would do this action: false exactly where it would answer NotReady.
     pub fn ready(&self, action: &Action) -> bool
-        ensures { result ≡ is_ready (step self.now action.now).0 }
+        ensures { result ≡ is_ready (switch_step self.now action.now).0 }
     {
         match action {
             Action::Enter(link, _) => self.can_enter(*link),

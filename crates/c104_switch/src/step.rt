@@ -1,6 +1,6 @@
 //! The step of a switch of plain tokens.
 ghost use Rattle.std.specs.Prelude.{◌≡◌};
-ghost use Rattle.c104_switch.specs.Actions.{step, reply_of, reply_with};
+ghost use Rattle.c104_switch.specs.Actions.{switch_step, done_reply, token_reply};
 
 use crate::actions::{Action, Reply};
 use crate::switches::SwitchOf;
@@ -10,7 +10,7 @@ impl SwitchOf<Token> {
     /// Does an action, and answers Done or the token that went out; or answers NotReady, and
     /// changes nothing, where a condition of the action doesn't hold.
     pub fn step(&mut self, action: Action) -> Reply
-        ensures { (result, self.new) ≡ step self.old action }
+        ensures { (result, self.new) ≡ switch_step self.old action }
     {
         match action {
             Action::Enter(link, token) => done(self.enter(link, token)),
@@ -25,13 +25,13 @@ impl SwitchOf<Token> {
 }
 
 fn done(made: bool) -> Reply
-    ensures { result ≡ reply_of made }
+    ensures { result ≡ done_reply made }
 {
     if made { Reply::Done } else { Reply::NotReady }
 }
 
 fn gave(token: Option<Token>) -> Reply
-    ensures { result ≡ reply_with token }
+    ensures { result ≡ token_reply token }
 {
     match token {
         Some(token) => Reply::Token(token),

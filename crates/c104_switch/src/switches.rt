@@ -3,15 +3,15 @@ ghost use Rattle.std.specs.Prelude.{◌≡◌, true, length, All, IfOk};
 ghost use Rattle.std.specs.Option.{option_copied};
 ghost use Rattle.c104_crossbar.specs.Marks.{ArePartition};
 ghost use Rattle.c104_link.specs.Buffers.{IsValidCap};
-ghost use Rattle.c104_link.specs.Steps.{tried, taken};
+ghost use Rattle.c104_link.specs.Steps.{bool_outcome, option_outcome};
 ghost use Rattle.c104_regs.specs.declared.registers.TheConstants.{LINKS};
 ghost use Rattle.c104_regs.specs.Ranges.{IsInRange};
-ghost use Rattle.c104_switch.specs.Switch.{Switch as State, first_state, first_with, enter, leave, credit_out, credit_in};
-ghost use Rattle.c104_switch.specs.Turns.{input};
-ghost use Rattle.c104_switch.specs.Claims.{claim};
-ghost use Rattle.c104_switch.specs.Views.{link_shown};
+ghost use Rattle.c104_switch.specs.Switch.{Switch as State, new_switch, new_switch_with, switch_enter, switch_leave, switch_credit_out, switch_credit_in};
+ghost use Rattle.c104_switch.specs.Turns.{switch_input};
+ghost use Rattle.c104_switch.specs.Claims.{switch_claim};
+ghost use Rattle.c104_switch.specs.Views.{link_view};
 ghost use Rattle.c104_switch.specs.Soundness.{IsSound};
-ghost use Rattle.c104_switch.specs.Holding.{held, claim_at};
+ghost use Rattle.c104_switch.specs.Holding.{held_claims, claim_at};
 
 mod commands;
 mod control;
@@ -69,7 +69,7 @@ impl<T: TokenKind> SwitchOf<T> {
     /// of memory.
     pub fn new(alloc: Global, cap: usize) -> Result<Self, NoMemory>
         requires { IsValidCap cap }
-        ensures { IfOk result (λ s. s ≡ first_state cap) }
+        ensures { IfOk result (λ s. s ≡ new_switch cap) }
     {
         let outputs = OutputsOf::new(alloc)?;
         let inputs = InputsOf::new(alloc, cap)?;
@@ -87,7 +87,7 @@ impl<T: TokenKind> SwitchOf<T> {
         requires cap { IsValidCap cap }
         requires links { length settings.now ≡ LINKS }
         requires ranges { All IsInRange settings.now }
-        ensures { IfOk result (λ s. s ≡ first_with cap settings.now true) }
+        ensures { IfOk result (λ s. s ≡ new_switch_with cap settings.now true) }
     {
         let outputs = OutputsOf::new(alloc)?;
         let inputs = InputsOf::new(alloc, cap)?;
@@ -119,7 +119,7 @@ impl<T: TokenKind> SwitchOf<T> {
     /// The crossbar: the outputs of the claims that inputs hold and its free outputs are the 32
     /// outputs, each once.
     pub fn crossbar(&self) -> &Crossbar
-        ensures { ArePartition (held self.now.inputs) result.now }
+        ensures { ArePartition (held_claims self.now.inputs) result.now }
     {
         self.inputs.crossbar()
     }
@@ -134,7 +134,7 @@ impl<T: TokenKind> SwitchOf<T> {
 
     /// What can be seen of a link: None where its number is 32 or more.
     pub fn view(&self, link: usize) -> Option<LinkView>
-        ensures { result ≡ link_shown T.kind self.now link }
+        ensures { result ≡ link_view T.kind self.now link }
     {
         let input = self.inputs.get(link)?;
         let output = self.outputs.get(link)?;
@@ -150,7 +150,7 @@ impl<T: TokenKind> SwitchOf<T> {
 
     /// A token comes in over a link's wire, where one is granted.
     pub fn enter(&mut self, link: usize, token: T) -> bool
-        ensures { (result, self.new) ≡ tried (enter self.old link token) self.old }
+        ensures { (result, self.new) ≡ bool_outcome (switch_enter self.old link token) self.old }
     {
         self.inputs.accept(link, token)
     }
@@ -158,7 +158,7 @@ impl<T: TokenKind> SwitchOf<T> {
     /// The first token of a link's output goes out over its wire, where there are a token and a
     /// credit.
     pub fn leave(&mut self, link: usize) -> Option<T>
-        ensures { (result, self.new) ≡ taken (leave self.old link) self.old }
+        ensures { (result, self.new) ≡ option_outcome (switch_leave self.old link) self.old }
     {
         self.outputs.leave(link)
     }
@@ -166,7 +166,7 @@ impl<T: TokenKind> SwitchOf<T> {
     /// A link grants eight more tokens to the other end of its wire, where the switch is started
     /// and its buffer has room for all that would then be granted.
     pub fn credit_out(&mut self, link: usize) -> bool
-        ensures { (result, self.new) ≡ tried (credit_out self.old link) self.old }
+        ensures { (result, self.new) ≡ bool_outcome (switch_credit_out self.old link) self.old }
     {
         self.registers.started() && self.inputs.grant(link)
     }
@@ -174,7 +174,7 @@ impl<T: TokenKind> SwitchOf<T> {
     /// The other end of a link's wire has granted eight more tokens, where the link's credit is
     /// then at most 64.
     pub fn credit_in(&mut self, link: usize) -> bool
-        ensures { (result, self.new) ≡ tried (credit_in self.old link) self.old }
+        ensures { (result, self.new) ≡ bool_outcome (switch_credit_in self.old link) self.old }
     {
         self.outputs.credited(link)
     }
@@ -183,7 +183,8 @@ impl<T: TokenKind> SwitchOf<T> {
     /// without a token, while it wants an output, or where the output that it streams to is full.
     /// The word picks a random header, where the input puts one before its packets.
     pub fn input(&mut self, link: usize, word: u32) -> bool
-        ensures { (result, self.new) ≡ tried (input T.kind self.old link word) self.old }
+        ensures { (result, self.new) ≡
+            bool_outcome (switch_input T.kind self.old link word) self.old }
     {
         if !self.registers.started() {
             return false;
@@ -197,7 +198,7 @@ impl<T: TokenKind> SwitchOf<T> {
     /// An input claims an output of the group that it wants, where the switch is started, no input
     /// owns the output, and it has room for the header or deletes it.
     pub fn claim(&mut self, input: usize, output: usize) -> bool
-        ensures { (result, self.new) ≡ tried (claim self.old input output) self.old }
+        ensures { (result, self.new) ≡ bool_outcome (switch_claim self.old input output) self.old }
     {
         self.registers.started()
             && self

@@ -4,7 +4,7 @@ use Rattle.std.proofs.lemmas.List.{drop_at}
 use Rattle.std.proofs.lemmas.List.Elements.{All-nil, All-push}
 use Rattle.std.proofs.lemmas.List.Folds.{flat_map-map}
 use Rattle.c104_token.specs.Tokens.{Token, is_end}
-use Rattle.c104_token.specs.Packets.{Packet, tokens}
+use Rattle.c104_token.specs.Packets.{Packet, packet_tokens}
 use Rattle.c104_token.specs.Cut.{whole_pieces, unfinished_piece}
 
 -- the pieces, and then what is unfinished, are what was read of the first and the list
@@ -29,22 +29,22 @@ unfinished_unmarked {A} plain front (x ∷ xs) none =
     by_end false is anew more = more is
 
 -- the packets and the tokens that are left
-module _ (list : List Token) (packets : List Packet) (left : ℕ) (whole : map tokens packets ≡ whole_pieces (λ x. x) [] list) (unfinished : left ≡ length (unfinished_piece (λ x. x) [] list)) where
+module _ (list : List Token) (packets : List Packet) (left : ℕ) (whole : map packet_tokens packets ≡ whole_pieces (λ x. x) [] list) (unfinished : left ≡ length (unfinished_piece (λ x. x) [] list)) where
   abbrev rest : List Token
   rest = unfinished_piece (λ x. x) [] list
 
   -- the packets' tokens, and then what is unfinished, are the list
-  all_tokens : flat_map tokens packets ++ rest ≡ list
-  all_tokens = ap (λ w. w ++ rest) (sym (flat_map-map (λ p. p) tokens packets) ∙ ap (flat_map (λ p. p)) whole) ∙ pieces_joined (λ x. x) [] list
+  all_tokens : flat_map packet_tokens packets ++ rest ≡ list
+  all_tokens = ap (λ w. w ++ rest) (sym (flat_map-map (λ p. p) packet_tokens packets) ∙ ap (flat_map (λ p. p)) whole) ∙ pieces_joined (λ x. x) [] list
 
   -- the tokens that are left are what is unfinished
   left_is : drop (length list - left) list ≡ rest
   left_is =
-      let place : length (flat_map tokens packets) ≡ length list - left = omega (arith, ap length all_tokens, length-append (flat_map tokens packets) rest, unfinished) in
-      ap (drop (length list - left)) (sym all_tokens) ∙ drop_at (flat_map tokens packets) rest (length list - left) place
+      let place : length (flat_map packet_tokens packets) ≡ length list - left = omega (arith, ap length all_tokens, length-append (flat_map packet_tokens packets) rest, unfinished) in
+      ap (drop (length list - left)) (sym all_tokens) ∙ drop_at (flat_map packet_tokens packets) rest (length list - left) place
 
-  pub packets_joined : flat_map tokens packets ++ drop (length list - left) list ≡ list
-  packets_joined = ap (λ u. flat_map tokens packets ++ u) left_is ∙ all_tokens
+  pub packets_joined : flat_map packet_tokens packets ++ drop (length list - left) list ≡ list
+  packets_joined = ap (λ u. flat_map packet_tokens packets ++ u) left_is ∙ all_tokens
 
   pub left_unmarked : All (λ x. is_end x ≡ false) (drop (length list - left) list)
   left_unmarked = let HasNone : List Token → Type 0 = λ xs. All (λ x. is_end x ≡ false) xs in subst HasNone (sym left_is) (unfinished_unmarked (λ (x : Token). x) [] list (All-nil (λ (x : Token). is_end x ≡ false)))

@@ -2,7 +2,7 @@
 use Rattle.std.proofs.Common.{◌≡◌, ◌<◌, ◌≤◌, ℕ, ◌/◌, ◌%◌, ◌==◌, false, List, [], ◌∷◌, ◌++◌, length, map, flat_map, All, Ok, ◌∙◌, ap, arith, refl, suc}
 use Rattle.c104_token.specs.Packets.{Packet}
 use Rattle.c104_token.specs.Tokens.{Mark}
-use Rattle.c104_token.specs.Text.{words, hex_digit, printed, parsed, SpellsByte, SpellBytes, mark_word}
+use Rattle.c104_token.specs.Text.{packet_words, hex_digit, packet_text, parse_packet, SpellsByte, SpellBytes, mark_word}
 use Rattle.c104_token.specs.declared.tokens.Mark.TheVariants as mark
 use Rattle.c104_token.proofs.Digits.{digit_written, digit_no_space}
 use Rattle.c104_token.proofs.Spelling.{text_complete}
@@ -14,12 +14,12 @@ digits b = hex_digit (b / 16) ∷ hex_digit (b % 16) ∷ []
 abbrev spaced : ℕ → List ℕ
 spaced b = hex_digit (b / 16) ∷ hex_digit (b % 16) ∷ 32 ∷ []
 
-mark_cut : (m : Mark) → words (mark_word m) ≡ mark_word m ∷ []
+mark_cut : (m : Mark) → packet_words (mark_word m) ≡ mark_word m ∷ []
 mark_cut mark.Eop = refl
 mark_cut mark.Eom = refl
 
 -- one byte and a space are one word
-byte_cut : (b : ℕ) (rest : List ℕ) → b < 256 → words (spaced b ++ rest) ≡ digits b ∷ words rest
+byte_cut : (b : ℕ) (rest : List ℕ) → b < 256 → packet_words (spaced b ++ rest) ≡ digits b ∷ packet_words rest
 byte_cut b rest small =
     let high : (hex_digit (b / 16) == 32) ≡ false = digit_no_space (b / 16) (grind arith) in
     let low : (hex_digit (b % 16) == 32) ≡ false = digit_no_space (b % 16) (omega arith) in
@@ -28,7 +28,7 @@ byte_cut b rest small =
 rest_small : (b : ℕ) (bytes : List ℕ) → All (λ x. x < 256) (b ∷ bytes) → All (λ x. x < 256) bytes
 rest_small b bytes small = λ k d inside. small (suc k) d (omega arith)
 
-all_cut : (bytes : List ℕ) (m : Mark) → All (λ b. b < 256) bytes → words (flat_map spaced bytes ++ mark_word m) ≡ map digits bytes ++ mark_word m ∷ []
+all_cut : (bytes : List ℕ) (m : Mark) → All (λ b. b < 256) bytes → packet_words (flat_map spaced bytes ++ mark_word m) ≡ map digits bytes ++ mark_word m ∷ []
 all_cut [] m small = mark_cut m
 all_cut (b ∷ bytes) m small =
     byte_cut b (flat_map spaced bytes ++ mark_word m) (small 0 0 (grind arith)) ∙ ap (λ ws. digits b ∷ ws) (all_cut bytes m (rest_small b bytes small))
@@ -50,6 +50,6 @@ all_spelled [] small = tt
 all_spelled (b ∷ bytes) small = (byte_spelled b (small 0 0 (grind arith)), all_spelled bytes (rest_small b bytes small))
 
 -- what is printed is read back
-pub read_back : (packet : Packet) → All (λ b. b < 256) packet.bytes → length packet.bytes ≤ 4096 → parsed (printed packet) ≡ Ok packet
+pub read_back : (packet : Packet) → All (λ b. b < 256) packet.bytes → length packet.bytes ≤ 4096 → parse_packet (packet_text packet) ≡ Ok packet
 read_back packet small short =
-    text_complete (printed packet) packet (record { spelling = map digits packet.bytes; cut = all_cut packet.bytes packet.mark small; bytes = all_spelled packet.bytes small; short = short })
+    text_complete (packet_text packet) packet (record { spelling = map digits packet.bytes; cut = all_cut packet.bytes packet.mark small; bytes = all_spelled packet.bytes small; short = short })

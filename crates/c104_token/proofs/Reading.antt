@@ -3,7 +3,7 @@ use Rattle.std.proofs.Common.{◌≡◌, ◌<◌, ◌≤◌, ℕ, ◌+◌, List,
 use Rattle.std.proofs.Math.Seq.{drop-cons}
 use Rattle.std.proofs.lemmas.List.{get_or-map, length-map}
 use Rattle.std.proofs.lemmas.Bool.Decides.{nat_tests}
-use Rattle.c104_token.specs.Text.{read, word_of, parsed_words}
+use Rattle.c104_token.specs.Text.{packet_from_words, word_of, parse_words}
 use Rattle.c104_token.specs.declared.faults.TokenFault.TheVariants as fault
 use Rattle.c104_token.specs.declared.text.Word.{Word}
 use Rattle.c104_token.specs.declared.text.Word.TheVariants as word
@@ -13,10 +13,10 @@ use Rattle.c104_token.specs.Tokens.{Mark}
 abbrev pub texts : List (Bor (List ℕ)) → List (List ℕ)
 texts list = map (λ w. w.now) list
 
-reads_byte : (b : ℕ) (more : List Word) (bytes : List ℕ) → length bytes < 4096 → read (word.Byte b ∷ more) bytes ≡ read more (bytes ++ b ∷ [])
+reads_byte : (b : ℕ) (more : List Word) (bytes : List ℕ) → length bytes < 4096 → packet_from_words (word.Byte b ∷ more) bytes ≡ packet_from_words more (bytes ++ b ∷ [])
 reads_byte b more bytes room = grind (arith, nat_tests)
 
-reads_no_more : (b : ℕ) (more : List Word) (bytes : List ℕ) → 4096 ≤ length bytes → read (word.Byte b ∷ more) bytes ≡ Err fault.TooLong
+reads_no_more : (b : ℕ) (more : List Word) (bytes : List ℕ) → 4096 ≤ length bytes → packet_from_words (word.Byte b ∷ more) bytes ≡ Err fault.TooLong
 reads_no_more b more bytes full = grind (arith, nat_tests)
 
 -- the words from a place on begin with the word there
@@ -28,19 +28,19 @@ from_place list i d inside =
     ap (map word_of) cut
 
 -- at a place of the list, with the bytes read so far
-module _ (list : List (Bor (List ℕ))) (i : ℕ) (d : Bor (List ℕ)) (inside : i < length list) (bytes : List ℕ) (due : read (map word_of (drop i (texts list))) bytes ≡ parsed_words (texts list)) where
+module _ (list : List (Bor (List ℕ))) (i : ℕ) (d : Bor (List ℕ)) (inside : i < length list) (bytes : List ℕ) (due : packet_from_words (map word_of (drop i (texts list))) bytes ≡ parse_words (texts list)) where
   -- what is due, by the word there
-  by_word : (w : Word) → w ≡ word_of (get_or list i d).now → parsed_words (texts list) ≡ read (w ∷ map word_of (drop (i + 1) (texts list))) bytes
-  by_word w is = sym due ∙ ap (λ ws. read ws bytes) (from_place list i d inside ∙ ap (λ v. v ∷ map word_of (drop (i + 1) (texts list))) (sym is))
+  by_word : (w : Word) → w ≡ word_of (get_or list i d).now → parse_words (texts list) ≡ packet_from_words (w ∷ map word_of (drop (i + 1) (texts list))) bytes
+  by_word w is = sym due ∙ ap (λ ws. packet_from_words ws bytes) (from_place list i d inside ∙ ap (λ v. v ∷ map word_of (drop (i + 1) (texts list))) (sym is))
 
-  pub after_byte : (b : ℕ) → word.Byte b ≡ word_of (get_or list i d).now → length bytes < 4096 → read (map word_of (drop (i + 1) (texts list))) (bytes ++ b ∷ []) ≡ parsed_words (texts list)
+  pub after_byte : (b : ℕ) → word.Byte b ≡ word_of (get_or list i d).now → length bytes < 4096 → packet_from_words (map word_of (drop (i + 1) (texts list))) (bytes ++ b ∷ []) ≡ parse_words (texts list)
   after_byte b is room = sym (by_word (word.Byte b) is ∙ reads_byte b (map word_of (drop (i + 1) (texts list))) bytes room)
 
-  pub at_full : (b : ℕ) → word.Byte b ≡ word_of (get_or list i d).now → 4096 ≤ length bytes → Err fault.TooLong ≡ parsed_words (texts list)
+  pub at_full : (b : ℕ) → word.Byte b ≡ word_of (get_or list i d).now → 4096 ≤ length bytes → Err fault.TooLong ≡ parse_words (texts list)
   at_full b is full = sym (by_word (word.Byte b) is ∙ reads_no_more b (map word_of (drop (i + 1) (texts list))) bytes full)
 
-  pub at_other : word.Other ≡ word_of (get_or list i d).now → Err fault.BadHex ≡ parsed_words (texts list)
+  pub at_other : word.Other ≡ word_of (get_or list i d).now → Err fault.BadHex ≡ parse_words (texts list)
   at_other is = sym (by_word word.Other is)
 
-  pub at_early_end : (m : Mark) → word.End m ≡ word_of (get_or list i d).now → i + 1 < length list → Err fault.AfterEnd ≡ parsed_words (texts list)
-  at_early_end m is more = sym (by_word (word.End m) is ∙ ap (λ ws. read (word.End m ∷ ws) bytes) (from_place list (i + 1) d more))
+  pub at_early_end : (m : Mark) → word.End m ≡ word_of (get_or list i d).now → i + 1 < length list → Err fault.AfterEnd ≡ parse_words (texts list)
+  at_early_end m is more = sym (by_word (word.End m) is ∙ ap (λ ws. packet_from_words (word.End m ∷ ws) bytes) (from_place list (i + 1) d more))

@@ -4,7 +4,7 @@ use Rattle.std.specs.Result.{IfOk}
 use Rattle.std.proofs.lemmas.Bool.Decides.{nat_tests}
 use Rattle.c104_token.specs.Packets.{Packet}
 use Rattle.c104_token.specs.Tokens.{Mark}
-use Rattle.c104_token.specs.Text.{TokenFault, read, word_of, byte_word, hex_value, SpellsByte, SpellBytes, mark_word, words, parsed, IsPacketText, GivesOrNoMemory}
+use Rattle.c104_token.specs.Text.{TokenFault, packet_from_words, word_of, byte_word, hex_value, SpellsByte, SpellBytes, mark_word, packet_words, parse_packet, IsPacketText, GivesPacketOrNoMemory}
 use Rattle.c104_token.specs.declared.faults.TokenFault.TheVariants as fault
 use Rattle.c104_token.specs.declared.text.Word.{Word}
 use Rattle.c104_token.specs.declared.text.Word.TheVariants as word
@@ -60,7 +60,7 @@ pub record Spelled (list : List (List ℕ)) (bytes : List ℕ) (packet : Packet)
   pub short : length packet.bytes ≤ 4096
 
 -- a terminator ends the words
-at_end : (w : List ℕ) (m : Mark) (list : List (List ℕ)) (bytes : List ℕ) (packet : Packet) → w ≡ mark_word m → length bytes ≤ 4096 → read (word.End m ∷ map word_of list) bytes ≡ Ok packet → Spelled (w ∷ list) bytes packet
+at_end : (w : List ℕ) (m : Mark) (list : List (List ℕ)) (bytes : List ℕ) (packet : Packet) → w ≡ mark_word m → length bytes ≤ 4096 → packet_from_words (word.End m ∷ map word_of list) bytes ≡ Ok packet → Spelled (w ∷ list) bytes packet
 at_end w m (another ∷ list) bytes packet is short end = cc
 at_end w m [] bytes packet is short end =
     let same : record { bytes = bytes; mark = m } ≡ packet = cc in
@@ -68,8 +68,8 @@ at_end w m [] bytes packet is short end =
     subst IsSpelled same (record { spelling = []; rest = []; cut = ap (λ v. v ∷ []) is; bytes_are = sym (append-nil bytes); spelled = tt; short = short })
 
 -- where the same holds of the rest of the words, after one more byte
-module _ (w : List ℕ) (list : List (List ℕ)) (bytes : List ℕ) (packet : Packet) (more : (read_now : List ℕ) → length read_now ≤ 4096 → read (map word_of list) read_now ≡ Ok packet → Spelled list read_now packet) (short : length bytes ≤ 4096) where
-  by_room : (b : ℕ) (room : Bool) → nat_lt (length bytes) 4096 ≡ room → SpellsByte w b → (if room then read (map word_of list) (bytes ++ b ∷ []) else Err fault.TooLong) ≡ Ok packet → Spelled (w ∷ list) bytes packet
+module _ (w : List ℕ) (list : List (List ℕ)) (bytes : List ℕ) (packet : Packet) (more : (read_now : List ℕ) → length read_now ≤ 4096 → packet_from_words (map word_of list) read_now ≡ Ok packet → Spelled list read_now packet) (short : length bytes ≤ 4096) where
+  by_room : (b : ℕ) (room : Bool) → nat_lt (length bytes) 4096 ≡ room → SpellsByte w b → (if room then packet_from_words (map word_of list) (bytes ++ b ∷ []) else Err fault.TooLong) ≡ Ok packet → Spelled (w ∷ list) bytes packet
   by_room b false full says here = cc
   by_room b true room says here =
       let fits : length (bytes ++ b ∷ []) ≤ 4096 = rw (length-append bytes (b ∷ [])) (grind (arith, nat_tests)) in
@@ -83,13 +83,13 @@ module _ (w : List ℕ) (list : List (List ℕ)) (bytes : List ℕ) (packet : Pa
         short = rest.short;
       }
 
-  by_word : (said : Word) → Says w said → read (said ∷ map word_of list) bytes ≡ Ok packet → Spelled (w ∷ list) bytes packet
+  by_word : (said : Word) → Says w said → packet_from_words (said ∷ map word_of list) bytes ≡ Ok packet → Spelled (w ∷ list) bytes packet
   by_word (word.Byte b) says here = by_room b (nat_lt (length bytes) 4096) refl says here
   by_word (word.End m) says here = at_end w m list bytes packet says short here
   by_word word.Other says here = cc
 
 -- what is accepted is spelled so
-pub accepted : (list : List (List ℕ)) (bytes : List ℕ) (packet : Packet) → length bytes ≤ 4096 → read (map word_of list) bytes ≡ Ok packet → Spelled list bytes packet
+pub accepted : (list : List (List ℕ)) (bytes : List ℕ) (packet : Packet) → length bytes ≤ 4096 → packet_from_words (map word_of list) bytes ≡ Ok packet → Spelled list bytes packet
 accepted [] bytes packet short is = cc
 accepted (w ∷ list) bytes packet short is = by_word w list bytes packet (λ read_now fits rest. accepted list read_now packet fits rest) short (word_of w) (word_says w) is
 
@@ -97,32 +97,32 @@ has_room : (bytes : List ℕ) (b : ℕ) (rest : List ℕ) → length (bytes ++ b
 has_room bytes b rest short = grind (arith, nat_tests, length-append bytes (b ∷ rest))
 
 -- what is spelled so is accepted
-pub complete : (spelling : List (List ℕ)) (rest bytes : List ℕ) (m : Mark) → SpellBytes spelling rest → length (bytes ++ rest) ≤ 4096 → read (map word_of (spelling ++ mark_word m ∷ [])) bytes ≡ Ok (record { bytes = bytes ++ rest; mark = m })
+pub complete : (spelling : List (List ℕ)) (rest bytes : List ℕ) (m : Mark) → SpellBytes spelling rest → length (bytes ++ rest) ≤ 4096 → packet_from_words (map word_of (spelling ++ mark_word m ∷ [])) bytes ≡ Ok (record { bytes = bytes ++ rest; mark = m })
 complete [] [] bytes m spelled short = rw (mark_read m) (rw (append-nil bytes) refl)
 complete (w ∷ spelling) (b ∷ rest) bytes m spelled short =
     let regroup : (bytes ++ b ∷ []) ++ rest ≡ bytes ++ b ∷ rest = append_assoc bytes (b ∷ []) rest in
     let fits : length ((bytes ++ b ∷ []) ++ rest) ≤ 4096 = rw regroup short in
     let room : nat_lt (length bytes) 4096 ≡ true = has_room bytes b rest short in
-    let next : read (map word_of (spelling ++ mark_word m ∷ [])) (bytes ++ b ∷ []) ≡ Ok (record { bytes = (bytes ++ b ∷ []) ++ rest; mark = m }) = complete spelling rest (bytes ++ b ∷ []) m spelled.1 fits in
+    let next : packet_from_words (map word_of (spelling ++ mark_word m ∷ [])) (bytes ++ b ∷ []) ≡ Ok (record { bytes = (bytes ++ b ∷ []) ++ rest; mark = m }) = complete spelling rest (bytes ++ b ∷ []) m spelled.1 fits in
     rw (byte_read w b spelled.0, room) (next ∙ ap (λ all. Ok (record { bytes = all; mark = m })) regroup)
 complete [] (b ∷ rest) bytes m spelled short = absurd spelled
 complete (w ∷ spelling) [] bytes m spelled short = absurd spelled
 
-pub text_accepted : (text : List ℕ) (packet : Packet) → parsed text ≡ Ok packet → IsPacketText text packet
+pub text_accepted : (text : List ℕ) (packet : Packet) → parse_packet text ≡ Ok packet → IsPacketText text packet
 text_accepted text packet is =
-    let found : Spelled (words text) [] packet = accepted (words text) [] packet (lit≤ tt) is in
+    let found : Spelled (packet_words text) [] packet = accepted (packet_words text) [] packet (lit≤ tt) is in
     let SpellsFound : List ℕ → Type 0 = λ bytes. SpellBytes found.spelling bytes in
     record { spelling = found.spelling; cut = found.cut; bytes = subst SpellsFound (sym found.bytes_are) found.spelled; short = found.short }
 
-pub text_complete : (text : List ℕ) (packet : Packet) → IsPacketText text packet → parsed text ≡ Ok packet
-text_complete text packet is = ap (λ list. read (map word_of list) []) is.cut ∙ complete is.spelling packet.bytes [] packet.mark is.bytes is.short
+pub text_complete : (text : List ℕ) (packet : Packet) → IsPacketText text packet → parse_packet text ≡ Ok packet
+text_complete text packet is = ap (λ list. packet_from_words (map word_of list) []) is.cut ∙ complete is.spelling packet.bytes [] packet.mark is.bytes is.short
 
 -- the same of a result that may be want of memory
-pub gives_accepted : (text : List ℕ) (result : Result Packet TokenFault) → GivesOrNoMemory result (parsed text) → IfOk result (λ packet. IsPacketText text packet)
+pub gives_accepted : (text : List ℕ) (result : Result Packet TokenFault) → GivesPacketOrNoMemory result (parse_packet text) → IfOk result (λ packet. IsPacketText text packet)
 gives_accepted text (Err fault) gives = tt
 gives_accepted text (Ok packet) (inl is) = text_accepted text packet (sym is)
 gives_accepted text (Ok packet) (inr none) = cc
 
-pub gives_complete : (text : List ℕ) (result : Result Packet TokenFault) → GivesOrNoMemory result (parsed text) → (packet : Packet) → IsPacketText text packet → GivesOrNoMemory result (Ok packet)
+pub gives_complete : (text : List ℕ) (result : Result Packet TokenFault) → GivesPacketOrNoMemory result (parse_packet text) → (packet : Packet) → IsPacketText text packet → GivesPacketOrNoMemory result (Ok packet)
 gives_complete text result (inl is) packet spelled = inl (is ∙ text_complete text packet spelled)
 gives_complete text result (inr none) packet spelled = inr none

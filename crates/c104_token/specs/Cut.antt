@@ -1,7 +1,7 @@
 -- The cut of a list of tokens into packets: each piece goes up to the next mark, and is one packet.
 use Rattle.std.specs.Prelude.{ℕ, ◌-◌, ◌≡◌, false, List, [], ◌∷◌, ◌++◌, length, drop, flat_map, All, map, if◌then◌else◌}
 use Rattle.c104_token.specs.Tokens.{Token, is_end}
-use Rattle.c104_token.specs.Packets.{Packet, tokens}
+use Rattle.c104_token.specs.Packets.{Packet, packet_tokens}
 
 -- the whole pieces of a list of any kind of tokens, each with its mark
 -- whose prefix was read
@@ -21,9 +21,9 @@ unfinished_piece plain prefix (x ∷ xs) =
 -- the tokens of a list are cut into these packets, and so many at its end are left
 pub record IsCut (list : List Token) (packets : List Packet) (left : ℕ) : Type 0 where
   -- the packets are the whole pieces, in order
-  pub whole : map tokens packets ≡ whole_pieces (λ x. x) [] list
+  pub whole : map packet_tokens packets ≡ whole_pieces (λ x. x) [] list
   pub unfinished : left ≡ length (unfinished_piece (λ x. x) [] list)
   -- what is left has no mark, and nothing is lost: the packets' tokens, and then the tokens that
   -- are left, are the list
-  pub joined : flat_map tokens packets ++ drop (length list - left) list ≡ list
+  pub joined : flat_map packet_tokens packets ++ drop (length list - left) list ≡ list
   pub no_mark : All (λ x. is_end x ≡ false) (drop (length list - left) list)

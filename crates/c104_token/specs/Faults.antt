@@ -4,9 +4,9 @@ pub use Rattle.c104_token.specs.declared.faults.TokenFault.{TokenFault}
 use Rattle.c104_token.specs.declared.faults.TokenFault.TheVariants.{BadHex, NoEnd, AfterEnd, TooLong, NoMemory}
 
 -- the number of a fault
-abbrev pub fault_number : TokenFault → ℕ
-fault_number BadHex = 1
-fault_number NoEnd = 2
-fault_number AfterEnd = 3
-fault_number TooLong = 4
-fault_number NoMemory = 5
+abbrev pub token_fault_number : TokenFault → ℕ
+token_fault_number BadHex = 1
+token_fault_number NoEnd = 2
+token_fault_number AfterEnd = 3
+token_fault_number TooLong = 4
+token_fault_number NoMemory = 5

@@ -4,5 +4,5 @@ pub use Rattle.c104_token.specs.declared.packets.Packet.{Packet}
 use Rattle.c104_token.specs.Tokens.{Token, Byte, end_token}
 
 -- one token for each byte, and then the mark
-abbrev pub tokens : Packet → List Token
-tokens packet = map Byte packet.bytes ++ end_token packet.mark ∷ []
+abbrev pub packet_tokens : Packet → List Token
+packet_tokens packet = map Byte packet.bytes ++ end_token packet.mark ∷ []

@@ -11,8 +11,8 @@ use Rattle.c104_token.specs.Tokens.{Mark}
 use Rattle.c104_token.specs.Packets.{Packet}
 
 -- the words of a text: the pieces between spaces that aren't empty
-abbrev pub words : List ℕ → List (List ℕ)
-words text = filter (λ piece. not (length piece == 0)) (slice_split (λ byte. byte == 0x20) text)
+abbrev pub packet_words : List ℕ → List (List ℕ)
+packet_words text = filter (λ piece. not (length piece == 0)) (slice_split (λ byte. byte == 0x20) text)
 
 -- the value of a hexadecimal digit, of either case: `0` is 0x30, `A` 0x41 and `a` 0x61
 abbrev pub hex_value : ℕ → Option ℕ
@@ -45,28 +45,28 @@ byte_of_digits None low = None
 byte_of_digits (Some x) None = None
 byte_of_digits (Some x) (Some y) = Some (16 * x + y)
 
-abbrev pub byte_spelled : List ℕ → Option ℕ
-byte_spelled (a ∷ b ∷ []) = byte_of_digits (hex_value a) (hex_value b)
-byte_spelled word = None
+abbrev pub spelled_byte : List ℕ → Option ℕ
+spelled_byte (a ∷ b ∷ []) = byte_of_digits (hex_value a) (hex_value b)
+spelled_byte word = None
 
 -- the packet that words say after these bytes, or the first fault from the left
-abbrev pub read : List Word → List ℕ → Result Packet TokenFault
-read [] bytes = Err fault.NoEnd
-read (word.Byte b ∷ more) bytes =
-    if nat_lt (length bytes) MAX_PACKET_BYTES then read more (bytes ++ b ∷ []) else Err fault.TooLong
-read (word.End m ∷ []) bytes = Ok (record { bytes = bytes; mark = m })
-read (word.End m ∷ next ∷ more) bytes = Err fault.AfterEnd
-read (word.Other ∷ more) bytes = Err fault.BadHex
+abbrev pub packet_from_words : List Word → List ℕ → Result Packet TokenFault
+packet_from_words [] bytes = Err fault.NoEnd
+packet_from_words (word.Byte b ∷ more) bytes =
+    if nat_lt (length bytes) MAX_PACKET_BYTES then packet_from_words more (bytes ++ b ∷ []) else Err fault.TooLong
+packet_from_words (word.End m ∷ []) bytes = Ok (record { bytes = bytes; mark = m })
+packet_from_words (word.End m ∷ next ∷ more) bytes = Err fault.AfterEnd
+packet_from_words (word.Other ∷ more) bytes = Err fault.BadHex
 
-abbrev pub parsed_words : List (List ℕ) → Result Packet TokenFault
-parsed_words list = read (map word_of list) []
+abbrev pub parse_words : List (List ℕ) → Result Packet TokenFault
+parse_words list = packet_from_words (map word_of list) []
 
-abbrev pub parsed : List ℕ → Result Packet TokenFault
-parsed text = parsed_words (words text)
+abbrev pub parse_packet : List ℕ → Result Packet TokenFault
+parse_packet text = parse_words (packet_words text)
 
 -- what is due, or that there is no memory
-abbrev pub GivesOrNoMemory : Result Packet TokenFault → Result Packet TokenFault → Type 0
-GivesOrNoMemory result due = (result ≡ due) ⊎ (result ≡ Err fault.NoMemory)
+abbrev pub GivesPacketOrNoMemory : Result Packet TokenFault → Result Packet TokenFault → Type 0
+GivesPacketOrNoMemory result due = (result ≡ due) ⊎ (result ≡ Err fault.NoMemory)
 
 -- c is a digit, of either case, and v is its value
 abbrev pub IsHexDigit : ℕ → ℕ → Type 0
@@ -100,24 +100,24 @@ mark_word mark.Eom = 0x65 ∷ 0x6f ∷ 0x6d ∷ []
 -- have, and then its mark
 pub record IsPacketText (text : List ℕ) (packet : Packet) : Type 0 where
   pub spelling : List (List ℕ)
-  pub cut : words text ≡ spelling ++ mark_word packet.mark ∷ []
+  pub cut : packet_words text ≡ spelling ++ mark_word packet.mark ∷ []
   pub bytes : SpellBytes spelling packet.bytes
   pub short : length packet.bytes ≤ MAX_PACKET_BYTES
 
 -- the answer is the packet that the text spells, where it spells one and there is memory
 abbrev pub TakesPacketText : List ℕ → Result Packet TokenFault → Type 0
 TakesPacketText text result =
-    (packet : Packet) → IsPacketText text packet → GivesOrNoMemory result (Ok packet)
+    (packet : Packet) → IsPacketText text packet → GivesPacketOrNoMemory result (Ok packet)
 
 -- the text is read as the packet, where that is no longer than what is read
 abbrev pub ReadsBack : Packet → List ℕ → Type 0
-ReadsBack packet text = length packet.bytes ≤ MAX_PACKET_BYTES → parsed text ≡ Ok packet
+ReadsBack packet text = length packet.bytes ≤ MAX_PACKET_BYTES → parse_packet text ≡ Ok packet
 
 -- the digit of a value below 16, in lower case
 abbrev pub hex_digit : ℕ → ℕ
 hex_digit v = if nat_lt v 10 then 0x30 + v else 0x61 + (v - 10)
 
 -- the text of a packet in lower case, one space between words
-abbrev pub printed : Packet → List ℕ
-printed packet =
+abbrev pub packet_text : Packet → List ℕ
+packet_text packet =
     flat_map (λ b. hex_digit (b / 16) ∷ hex_digit (b % 16) ∷ 0x20 ∷ []) packet.bytes ++ mark_word packet.mark

@@ -1,5 +1,5 @@
 ghost use Rattle.std.specs.Prelude.{◌≡◌};
-ghost use Rattle.c104_token.specs.Faults.{fault_number};
+ghost use Rattle.c104_token.specs.Faults.{token_fault_number};
 ghost use Rattle.c104_token.specs.declared.faults.TokenFault.TheVariants as fault;
 
 use std::alloc::{AllocError, AllocFailed};
@@ -46,7 +46,7 @@ pub enum TokenFault {
 impl TokenFault {
     /// The fault's number, 1 to 5.
     pub fn number(self) -> u8
-        ensures { result ≡ fault_number self }
+        ensures { result ≡ token_fault_number self }
     {
         self as u8
     }

@@ -1,6 +1,6 @@
 ghost use Rattle.std.specs.Prelude.{◌≡◌, ◌↔◌, [], ◌∷◌, ◌++◌, map, IfOk, IsTrue};
 ghost use Rattle.c104_token.specs.Tokens.{Byte};
-ghost use Rattle.c104_token.specs.Packets.{tokens};
+ghost use Rattle.c104_token.specs.Packets.{packet_tokens};
 ghost use Rattle.c104_token.specs.Cut.{IsCut};
 
 use crate::faults::NoMemory;
@@ -43,7 +43,7 @@ impl Packet {
 
 /// The tokens of a packet: one for each byte, and then its mark. It fails only out of memory.
 pub fn packet_tokens(alloc: Global, packet: &Packet) -> Result<Vec<Token>, NoMemory>
-    ensures { IfOk result (λ list. list.items ≡ tokens packet.now) }
+    ensures { IfOk result (λ list. list.items ≡ packet_tokens packet.now) }
 {
     Ok(all_tokens(alloc, packet.bytes.as_slice(), packet.mark.token())?)
 }

@@ -1,6 +1,6 @@
 ghost use Rattle.std.specs.Prelude.{◌≡◌, ◌≤◌, ◌<◌, ◌+◌, ◌*◌, ◌∷◌, ℕ, [], length, map, IfOk, IfSome};
 ghost use Rattle.std.specs.String.{string_bytes};
-ghost use Rattle.c104_token.specs.Text.{words, word_of, byte_spelled, hex_value, parsed, parsed_words, printed, hex_digit, IsPacketText, TakesPacketText, ReadsBack, GivesOrNoMemory};
+ghost use Rattle.c104_token.specs.Text.{packet_words, word_of, spelled_byte, hex_value, parse_packet, parse_words, packet_text, hex_digit, IsPacketText, TakesPacketText, ReadsBack, GivesPacketOrNoMemory};
 
 use crate::faults::{NoMemory, TokenFault};
 use crate::list::Items;
@@ -25,7 +25,7 @@ enum Word {
 /// A refusal is the first fault from the left: BadHex, TooLong at a 4,097th byte, AfterEnd at a
 /// word behind the terminator, or NoEnd. NoMemory may come in place of any answer.
 pub fn parse_packet(alloc: Global, text: &str) -> Result<Packet, TokenFault>
-    ensures value { GivesOrNoMemory result (parsed text.now) }
+    ensures value { GivesPacketOrNoMemory result (parse_packet text.now) }
     ensures accepted { IfOk result (λ packet. IsPacketText text.now packet) }
     ensures complete { TakesPacketText text.now result }
 {
@@ -35,7 +35,7 @@ pub fn parse_packet(alloc: Global, text: &str) -> Result<Packet, TokenFault>
 
 /// Reads a packet whose words are cut already, as `parse_packet` does.
 pub fn parse_words(alloc: Global, words: &[&[u8]]) -> Result<Packet, TokenFault>
-    ensures { GivesOrNoMemory result (parsed_words (map (λ word. word.now) words.now)) }
+    ensures { GivesPacketOrNoMemory result (parse_words (map (λ word. word.now) words.now)) }
 {
     let mut bytes = Vec::new(alloc);
     for (place, word) in words.iter().enumerate() {
@@ -63,7 +63,7 @@ pub fn parse_words(alloc: Global, words: &[&[u8]]) -> Result<Packet, TokenFault>
 
 /// The words of a text that spaces part.
 fn cut_words<'a>(alloc: Global, text: &'a [u8]) -> Result<Vec<&'a [u8]>, AllocError>
-    ensures { IfOk result (λ list. map (λ word. word.now) list.items ≡ words text.now) }
+    ensures { IfOk result (λ list. map (λ word. word.now) list.items ≡ packet_words text.now) }
 {
     text.split(|byte| *byte == b' ')
         .filter(|word| !word.is_empty())
@@ -86,7 +86,7 @@ fn read_word(word: &[u8]) -> Word
 /// The byte that two hexadecimal digits of either case spell, the high one first. None where the
 /// word is anything else.
 pub fn read_byte(word: &[u8]) -> Option<u8>
-    ensures { result ≡ byte_spelled word.now }
+    ensures { result ≡ spelled_byte word.now }
 {
     match word {
         [high, low] => match (read_digit(*high), read_digit(*low)) {
@@ -113,7 +113,7 @@ fn read_digit(digit: u8) -> Option<u8>
 /// Writes a packet in lower case, one space between words. `parse_packet` reads it back where it
 /// has at most 4,096 bytes. It fails only out of memory.
 pub fn print_packet(alloc: Global, packet: &Packet) -> Result<String, NoMemory>
-    ensures text { IfOk result (λ text. string_bytes text ≡ printed packet.now) }
+    ensures text { IfOk result (λ text. string_bytes text ≡ packet_text packet.now) }
     ensures reads_back { IfOk result (λ text. ReadsBack packet.now (string_bytes text)) }
 {
     let mut text = String::new(alloc);

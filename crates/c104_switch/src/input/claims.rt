@@ -1,12 +1,12 @@
 //! An input's claim of an output.
 ghost use Rattle.std.specs.Prelude.{◌≡◌, ◌<◌, ◌∷◌, ◌++◌, Bool, List, Some, None, is_some, is_none};
-ghost use Rattle.c104_crossbar.specs.Marks.{list_of};
+ghost use Rattle.c104_crossbar.specs.Marks.{claim_list};
 ghost use Rattle.c104_link.specs.Buffers.{Outgoing};
-ghost use Rattle.c104_link.specs.Steps.{tried};
+ghost use Rattle.c104_link.specs.Steps.{bool_outcome};
 ghost use Rattle.c104_regs.specs.declared.registers.TheConstants.{LINKS};
 ghost use Rattle.c104_switch.specs.Switch.{Input};
-ghost use Rattle.c104_switch.specs.Claims.{claimed, IsClaim};
-ghost use Rattle.c104_switch.specs.Holding.{held_by};
+ghost use Rattle.c104_switch.specs.Claims.{input_claim, IsClaim};
+ghost use Rattle.c104_switch.specs.Holding.{phase_claims};
 
 use super::InputOf;
 use crate::group::is_in_group;
@@ -28,7 +28,8 @@ impl<T: TokenKind> InputOf<T> {
     ) -> Option<Claim>
         ensures claimed { IsClaim registers.now.settings claim
             self.old outputs.old (is_none result) self.new outputs.new }
-        ensures claims { list_of result ++ held_by self.new.phase ≡ claim ∷ held_by self.old.phase }
+        ensures claims { claim_list result ++ phase_claims self.new.phase ≡
+            claim ∷ phase_claims self.old.phase }
     {
         let Phase::Want((), link) = self.phase else {
             return Some(claim);
@@ -52,7 +53,8 @@ impl<T: TokenKind> InputOf<T> {
     pub fn can_claim(&self, registers: &Registers, output: usize, outputs: &OutputsOf<T>) -> bool
         requires { output < LINKS }
         ensures { result ≡
-            is_some (claimed registers.now.settings self.now outputs.now output self.now.phase) }
+            is_some
+            (input_claim registers.now.settings self.now outputs.now output self.now.phase) }
     {
         let Phase::Want((), link) = self.phase else {
             return false;

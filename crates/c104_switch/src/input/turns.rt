@@ -2,13 +2,13 @@
 ghost use Rattle.std.specs.Prelude.{◌≡◌, ◌++◌, Bool, ℕ, true, false, if◌then◌else◌, List, None, is_some, IsSome};
 ghost use Rattle.c104_token.specs.Tokens.{is_end};
 ghost use Rattle.c104_link.specs.Buffers.{Outgoing};
-ghost use Rattle.c104_link.specs.Steps.{tried};
+ghost use Rattle.c104_link.specs.Steps.{bool_outcome};
 ghost use Rattle.c104_regs.specs.declared.settings.Settings.{Settings as TheSettings};
-ghost use Rattle.c104_switch.specs.Switch.{Input, Fresh, counted};
-ghost use Rattle.c104_switch.specs.Headers.{read, random_header};
-ghost use Rattle.c104_switch.specs.Turns.{turn, IsTurn, on_header, on_random, used, goes_on, after};
-ghost use Rattle.c104_switch.specs.Holding.{held_by, was_done, spent};
-ghost use Rattle.c104_switch.specs.Phases.{Sinking, phase_of, output_of, HasRoom, IsReading, tokens_read};
+ghost use Rattle.c104_switch.specs.Switch.{Input, Fresh, count_after};
+ghost use Rattle.c104_switch.specs.Headers.{phase_after_header, random_header};
+ghost use Rattle.c104_switch.specs.Turns.{input_turn, IsTurn, header_turn, random_turn, input_after_token, input_in_phase, phase_after_token};
+ghost use Rattle.c104_switch.specs.Holding.{phase_claims, is_done_turn, freed_claims};
+ghost use Rattle.c104_switch.specs.Phases.{Sinking, phase_of, streamed_output, HasRoom, IsReading, tokens_read};
 
 use super::InputOf;
 use crate::header::HeaderOf;
@@ -34,8 +34,9 @@ impl<T: TokenKind> InputOf<T> {
     /// none, waits for an output, or streams to one that is full.
     pub fn turn(&mut self, settings: &Settings, word: u32, outputs: &mut OutputsOf<T>) -> Turn
         ensures turned { IsTurn T.kind settings.now word
-            self.old outputs.old (was_done result) self.new outputs.new }
-        ensures claims { held_by self.old.phase ≡ spent result ++ held_by self.new.phase }
+            self.old outputs.old (is_done_turn result) self.new outputs.new }
+        ensures claims { phase_claims self.old.phase ≡
+            freed_claims result ++ phase_claims self.new.phase }
     {
         let Some(token) = self.buffer.first() else {
             return Turn::NotReady;
@@ -60,7 +61,7 @@ impl<T: TokenKind> InputOf<T> {
     /// Whether `turn` would do something, which no setting and no word decides.
     pub fn can_turn(&self, outputs: &OutputsOf<T>) -> bool
         ensures { (settings : TheSettings) (word : ℕ) →
-            result ≡ is_some (turn T.kind settings word self.now outputs.now) }
+            result ≡ is_some (input_turn T.kind settings word self.now outputs.now) }
     {
         if self.buffer.first().is_none() {
             return false;
@@ -75,7 +76,8 @@ impl<T: TokenKind> InputOf<T> {
     /// Uses the first token of a packet that is dropped. A terminator ends it.
     fn sink(&mut self, ends: bool)
         requires { self.old.phase ≡ Sinking }
-        ensures { self.new ≡ used self.old (if ends then Fresh else self.old.phase) false false }
+        ensures { self.new ≡
+            input_after_token self.old (if ends then Fresh else self.old.phase) false false }
     {
         self.buffer.take();
         if ends {
@@ -86,11 +88,12 @@ impl<T: TokenKind> InputOf<T> {
     /// Uses the first token of a packet that streams. A terminator ends it and gives the claim
     /// back.
     fn stream(&mut self, ends: bool) -> Turn
-        requires { IsSome (output_of self.old.phase) }
+        requires { IsSome (streamed_output self.old.phase) }
         ensures used { self.new ≡
-            used self.old (if ends then Fresh else self.old.phase) false false }
-        ensures done { was_done result ≡ true }
-        ensures claims { held_by self.old.phase ≡ spent result ++ held_by self.new.phase }
+            input_after_token self.old (if ends then Fresh else self.old.phase) false false }
+        ensures done { is_done_turn result ≡ true }
+        ensures claims { phase_claims self.old.phase ≡
+            freed_claims result ++ phase_claims self.new.phase }
     {
         self.buffer.take();
         if !ends {
@@ -107,7 +110,7 @@ impl<T: TokenKind> InputOf<T> {
     fn read_token(&mut self, settings: &Settings, token: T)
         requires { IsReading self.old.phase }
         ensures { self.new ≡
-            on_header T.kind settings.now self.old (tokens_read self.old.phase) token }
+            header_turn T.kind settings.now self.old (tokens_read self.old.phase) token }
     {
         self.buffer.take();
         if is_end(token.plain()) {
@@ -127,7 +130,7 @@ impl<T: TokenKind> InputOf<T> {
     /// Puts a random header before the packet, and uses no token.
     fn read_random(&mut self, settings: &Settings, word: u32)
         requires { IsReading self.old.phase }
-        ensures { self.new ≡ on_random T.kind settings.now word self.old }
+        ensures { self.new ≡ random_turn T.kind settings.now word self.old }
     {
         put_random(settings, word, &mut self.header);
         let (phase, sinks) = read(settings, &mut self.header);
@@ -138,17 +141,18 @@ impl<T: TokenKind> InputOf<T> {
 
 /// One more, where there is one more; a count stays at its largest value.
 fn counted(count: u32, more: bool) -> u32
-    ensures { result ≡ counted count more }
+    ensures { result ≡ count_after count more }
 {
     if more { count.saturating_add(1) } else { count }
 }
 
 /// Where an input is after these tokens of a header, and whether it drops the packet.
 fn read<T: TokenKind>(settings: &Settings, header: &mut HeaderOf<T>) -> (Phase<()>, bool)
-    ensures phase { phase_of result.0 header.new ≡ (read T.kind settings.now header.old).0 }
-    ensures sinks { result.1 ≡ (read T.kind settings.now header.old).1 }
+    ensures phase { phase_of result.0 header.new ≡
+        (phase_after_header T.kind settings.now header.old).0 }
+    ensures sinks { result.1 ≡ (phase_after_header T.kind settings.now header.old).1 }
     ensures room { HasRoom (phase_of result.0 header.new) }
-    ensures unclaimed { output_of result.0 ≡ None }
+    ensures unclaimed { streamed_output result.0 ≡ None }
 {
     if header.len() < settings.header_length() {
         return (Phase::Head(()), false);

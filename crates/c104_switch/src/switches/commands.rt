@@ -1,6 +1,6 @@
 //! What commands change in a switch.
 ghost use Rattle.std.specs.Prelude.{◌≡◌};
-ghost use Rattle.c104_switch.specs.Commands.{poke, reset, start};
+ghost use Rattle.c104_switch.specs.Commands.{switch_poke, switch_reset, switch_start};
 
 use super::SwitchOf;
 use c104_regs::{RegFault, Registers};
@@ -11,7 +11,7 @@ impl<T: TokenKind> SwitchOf<T> {
     /// to their first values. The switch isn't started then. What its links granted and may send
     /// stays, since the other ends of their wires count on it.
     pub(crate) fn reset(&mut self)
-        ensures { self.new ≡ reset self.old }
+        ensures { self.new ≡ switch_reset self.old }
     {
         self.registers = Registers::new();
         self.inputs.reset();
@@ -20,7 +20,7 @@ impl<T: TokenKind> SwitchOf<T> {
 
     /// From now on the switch grants tokens, and moves them from its inputs to its outputs.
     pub(crate) fn start(&mut self)
-        ensures { self.new ≡ start self.old }
+        ensures { self.new ≡ switch_start self.old }
     {
         self.registers.set_started(true);
     }
@@ -29,7 +29,7 @@ impl<T: TokenKind> SwitchOf<T> {
     /// is none, ReadOnly, OutOfRange, or Busy where a link's mode is set while a packet is on its
     /// way through its input or its output has an owner.
     pub(crate) fn poke(&mut self, addr: u16, value: u32) -> Result<(), RegFault>
-        ensures { (result, self.new) ≡ poke self.old addr value }
+        ensures { (result, self.new) ≡ switch_poke self.old addr value }
     {
         let mut registers = self.told_registers();
         let answer = registers.poke(addr, value);

@@ -1,7 +1,7 @@
 //! Control commands.
 ghost use Rattle.std.specs.Prelude.{◌≡◌};
 ghost use Rattle.c104_control.specs.Table.{IsAnswerTo};
-ghost use Rattle.c104_switch.specs.Control.{control, obeyed};
+ghost use Rattle.c104_switch.specs.Control.{switch_control, switch_obey};
 
 use super::SwitchOf;
 use c104_control::{Answer, Command, ControlBytes, DEVICE_ID, read_command, write_reply};
@@ -14,7 +14,7 @@ impl<T: TokenKind> SwitchOf<T> {
     /// Does what a control command says, and gives the bytes of the reply. Where the bytes are no
     /// command, or the command is refused, the reply says why and nothing has changed.
     pub fn control(&mut self, bytes: &[u8]) -> ControlBytes
-        ensures { (result, self.new) ≡ control self.old bytes.now }
+        ensures { (result, self.new) ≡ switch_control self.old bytes.now }
     {
         let answer = match read_command(bytes) {
             Ok(command) => self.obey(command),
@@ -25,7 +25,7 @@ impl<T: TokenKind> SwitchOf<T> {
 
     /// Does a command, and answers it as the table says.
     fn obey(&mut self, command: Command) -> Answer
-        ensures obeyed { (result, self.new) ≡ obeyed self.old command }
+        ensures obeyed { (result, self.new) ≡ switch_obey self.old command }
         ensures answer { IsAnswerTo command result }
     {
         match command {

@@ -1,6 +1,6 @@
 //! The registers of a switch.
 ghost use Rattle.std.specs.Prelude.{◌≡◌, ◌<◌};
-ghost use Rattle.c104_switch.specs.Peeks.{link_status, peek, registers};
+ghost use Rattle.c104_switch.specs.Peeks.{link_status, switch_peek, registers};
 
 use super::SwitchOf;
 use crate::LINKS;
@@ -10,7 +10,7 @@ use c104_token::TokenKind;
 impl<T: TokenKind> SwitchOf<T> {
     /// The value of the register at this address. NoRegister where there is none.
     pub fn peek(&self, addr: u16) -> Result<u32, RegFault>
-        ensures { result ≡ peek self.now addr }
+        ensures { result ≡ switch_peek self.now addr }
     {
         self.told_registers().peek(addr)
     }

@@ -1,6 +1,6 @@
 use Rattle.c104_describe.specs.PlanLists.{plan_of}
 use Rattle.std.proofs.Common.{rules}
-use Rattle.c104_describe.specs.PlanText.{described, empty_plan, GivesOrNoMemory}
+use Rattle.c104_describe.specs.PlanText.{read_description, empty_plan, GivesPlanOrNoMemory}
 use Rattle.c104_describe.proofs.PlanDue.{due}
 use Rattle.c104_describe.proofs.PlanLinesKept.{empty-kept, read_lines-kept}
 use Rattle.c104_describe.proofs.PlanReading.{texts}
@@ -15,5 +15,5 @@ returns-clause-kept c = read_lines-kept 1 (texts c.as_slice.result.now) empty_pl
 -- the fault that is handed on is what the description is due
 pub returns-in_err-lists-clause-due : goal.returns-in_err-lists-clause-due
 returns-in_err-lists-clause-due c =
-    let gives : GivesOrNoMemory c.from_residual-in_err-lists.result (described c.args.text.now) = search rules in
+    let gives : GivesPlanOrNoMemory c.from_residual-in_err-lists.result (read_description c.args.text.now) = search rules in
     due c.args.text.now c.from_residual-in_err-lists.result gives

@@ -1,5 +1,5 @@
 use Rattle.std.proofs.Common.{◌<◌, ◌∙◌, length, ap, arith, sym}
-use Rattle.c104_describe.specs.PlanImage.{filled}
+use Rattle.c104_describe.specs.PlanImage.{padded_rows}
 use Rattle.c104_describe.proofs.PlanTables.{count_next, of_rows, room_in, so_far, so_far-same, table_last, table_next}
 use Rattle.c104_describe.proofs.hand.table_of.Goals as goal
 use Rattle.c104_describe.proofs.hand.table_of.Goals.{then-is_of, else-is_of}
@@ -22,7 +22,7 @@ loop-row-preserved c =
           let same = so_far-same c.args.switch c.args.link rows i _ c.loop-row-test.true (sym w.if-is_of.ensures) in
           record {
             count = w.count-is ∙ at.count ∙ ap length (sym same);
-            table = w.table-is ∙ at.table ∙ ap (λ filled_rows. of_rows (filled filled_rows)) (sym same);
+            table = w.table-is ∙ at.table ∙ ap (λ filled_rows. of_rows (padded_rows filled_rows)) (sym same);
           }
     ]
 

@@ -1,5 +1,5 @@
 use Rattle.std.proofs.Common.{◌≡◌, length}
-use Rattle.c104_describe.specs.PlanImage.{filled}
+use Rattle.c104_describe.specs.PlanImage.{padded_rows}
 use Rattle.c104_describe.proofs.PlanTables.{so_far}
 use Rattle.c104_describe.proofs.hand.table_of.Given as goal
 
@@ -7,5 +7,5 @@ use Rattle.c104_describe.proofs.hand.table_of.Given as goal
 abbrev pub invariant-loop-row : goal.invariant-loop-row
 invariant-loop-row l = record {
   count : l.count ≡ length (so_far l.switch l.link l.row-items l.row-index);
-  table : l.table ≡ record { base = 0; rows = filled (so_far l.switch l.link l.row-items l.row-index) };
+  table : l.table ≡ record { base = 0; rows = padded_rows (so_far l.switch l.link l.row-items l.row-index) };
 }

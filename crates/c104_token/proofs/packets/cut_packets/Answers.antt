@@ -2,7 +2,7 @@ use Rattle.std.proofs.Common.{◌≡◌, [], map, length, drop, sym, ◌∙◌, 
 use Rattle.std.proofs.lemmas.List.{length-map}
 use Rattle.std.proofs.lemmas.List.{drop_all}
 use Rattle.c104_token.specs.Tokens.{Byte}
-use Rattle.c104_token.specs.Packets.{tokens}
+use Rattle.c104_token.specs.Packets.{packet_tokens}
 use Rattle.c104_token.specs.Cut.{whole_pieces, unfinished_piece}
 use Rattle.c104_token.proofs.Cutting.{packets_joined, left_unmarked}
 use Rattle.c104_token.proofs.packets.cut_packets.Goals as goal
@@ -12,7 +12,7 @@ pub returns : goal.returns
 returns c =
     let at = c.loop-token.invariant in
     let none : drop c.loop-token.token-index c.args.list.now ≡ [] = drop_all c.loop-token.token-index c.args.list.now (omega arith) in
-    let whole : map tokens c.loop-token.packets.items ≡ whole_pieces (λ x. x) [] c.args.list.now = sym (append-nil (map tokens c.loop-token.packets.items)) ∙ (rw none at at.whole) in
+    let whole : map packet_tokens c.loop-token.packets.items ≡ whole_pieces (λ x. x) [] c.args.list.now = sym (append-nil (map packet_tokens c.loop-token.packets.items)) ∙ (rw none at at.whole) in
     let unfinished : map Byte c.loop-token.bytes.items ≡ unfinished_piece (λ x. x) [] c.args.list.now = rw none at at.unfinished in
     let left : c.len.result ≡ length (unfinished_piece (λ x. x) [] c.args.list.now) = omega (arith, c.len.ensures, length-map c.loop-token.bytes.items Byte, ap length unfinished) in
     record {

@@ -1,13 +1,13 @@
 use Rattle.std.proofs.Common.{◌≡◌, List, ℕ, map, ◌∙◌, ap, subst, Bor}
-use Rattle.c104_token.specs.Text.{words, parsed_words, GivesOrNoMemory}
+use Rattle.c104_token.specs.Text.{packet_words, parse_words, GivesPacketOrNoMemory}
 use Rattle.c104_token.proofs.Spelling.{gives_accepted, gives_complete}
 use Rattle.c104_token.proofs.text.parse_packet.Goals as goal
 
 -- the words that were cut are the text's
-the_words : (c : goal.After-drop-words) → GivesOrNoMemory c.parse_words.result (parsed_words (words c.args.text.now))
+the_words : (c : goal.After-drop-words) → GivesPacketOrNoMemory c.parse_words.result (parse_words (packet_words c.args.text.now))
 the_words c =
-    let cut : map (λ (w : Bor (List ℕ)). w.now) c.as_slice.result.now ≡ words c.args.text.now = ap (map (λ (w : Bor (List ℕ)). w.now)) c.as_slice.ensures.value ∙ c.in_ok-words.ensures ∙ ap words c.as_bytes.ensures.value in
-    let Gives : List (List ℕ) → Type 0 = λ list. GivesOrNoMemory c.parse_words.result (parsed_words list) in
+    let cut : map (λ (w : Bor (List ℕ)). w.now) c.as_slice.result.now ≡ packet_words c.args.text.now = ap (map (λ (w : Bor (List ℕ)). w.now)) c.as_slice.ensures.value ∙ c.in_ok-words.ensures ∙ ap packet_words c.as_bytes.ensures.value in
+    let Gives : List (List ℕ) → Type 0 = λ list. GivesPacketOrNoMemory c.parse_words.result (parse_words list) in
     subst Gives cut c.parse_words.ensures
 
 pub returns-clause-accepted : goal.returns-clause-accepted

@@ -1,11 +1,11 @@
 use Rattle.std.proofs.Common.{inl, ap, ◌∙◌, List, ℕ, map, drop, ◌+◌, arith, Bor}
-use Rattle.c104_token.specs.Text.{read, word_of}
+use Rattle.c104_token.specs.Text.{packet_from_words, word_of}
 use Rattle.c104_token.proofs.Reading.{after_byte, at_full, at_other, at_early_end}
 use Rattle.c104_token.proofs.text.parse_words.Goals as goal
 
 pub loop-place-preserved : goal.loop-place-preserved
 loop-place-preserved c =
-    ap (λ (bytes : List ℕ). read (map word_of (drop (c.loop-place.place + 1) (map (λ (w : Bor (List ℕ)). w.now) c.args.words.now))) bytes) (c.in_ok-push-in-Byte.ensures.items)
+    ap (λ (bytes : List ℕ). packet_from_words (map word_of (drop (c.loop-place.place + 1) (map (λ (w : Bor (List ℕ)). w.now) c.args.words.now))) bytes) (c.in_ok-push-in-Byte.ensures.items)
     ∙ after_byte c.args.words.now c.loop-place.place _ c.loop-place-test.true c.loop-place.bytes.items c.loop-place.invariant c.in-Byte.byte c.in-Byte.ensures (omega arith)
 
 pub returns-then-len-ge-MAX_PACKET_BYTES : goal.returns-then-len-ge-MAX_PACKET_BYTES

@@ -1,5 +1,5 @@
 use Rattle.std.proofs.Common.{◌∙◌, ap, arith}
-use Rattle.c104_net.specs.Network.{Network, arrived_of}
+use Rattle.c104_net.specs.Network.{Network, network_arrived}
 use Rattle.c104_net.proofs.Finishing.{terminals_counted, arrived_same}
 use Rattle.c104_net.proofs.net.NetOf.finish.Goals as goal
 
@@ -11,4 +11,4 @@ retire-terminals-requires-clause-room g c =
 pub returns-clause-arrived : goal.returns-clause-arrived
 returns-clause-arrived g c = λ t.
     let net : Network g.row.T.Denot = record { plan = c.self.inside.plan; nodes = c.self.inside.nodes } in
-    rw c.retire-terminals.ensures (arrived_same net c.self.invariant.0.in_place t) ∙ ap (λ n. arrived_of n t) c.self.view_is
+    rw c.retire-terminals.ensures (arrived_same net c.self.invariant.0.in_place t) ∙ ap (λ n. network_arrived n t) c.self.view_is

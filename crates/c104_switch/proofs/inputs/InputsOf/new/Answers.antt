@@ -1,8 +1,8 @@
 use Rattle.std.proofs.Common.{◌∙◌, ap, sym, subst}
 use Rattle.c104_crossbar.specs.Marks.{ArePartition}
-use Rattle.c104_switch.specs.Holding.{held}
+use Rattle.c104_switch.specs.Holding.{held_claims}
 use Rattle.c104_switch.proofs.HeldClaims.{held_first}
 use Rattle.c104_switch.proofs.inputs.InputsOf.new.Goals as goal
 
 pub retire-requires : goal.retire-requires
-retire-requires g c = subst (λ claims. ArePartition claims c.new-in-Err.result) (sym (ap held c.loop.invariant ∙ held_first g.row.T.Denot c.loop.counter c.args.cap)) c.new-in-Err.ensures.partition
+retire-requires g c = subst (λ claims. ArePartition claims c.new-in-Err.result) (sym (ap held_claims c.loop.invariant ∙ held_first g.row.T.Denot c.loop.counter c.args.cap)) c.new-in-Err.ensures.partition
