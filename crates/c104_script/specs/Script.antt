@@ -15,6 +15,7 @@ use Rattle.c104_event.specs.declared.events.Event.{Event}
 use Rattle.c104_event.specs.declared.events.Event.TheVariants as event
 use Rattle.c104_event.specs.declared.faults.EventFault.{EventFault}
 use Rattle.c104_event.specs.declared.faults.EventFault.TheVariants.{NoNode, NoLink}
+use Rattle.c104_describe.specs.Checks.{◌>>=◌, ◌>>◌, require, value_or_fault}
 use Rattle.c104_describe.specs.TextCut.{uncommented_line, line_words, is_plain_line}
 use Rattle.c104_describe.specs.TextWords.{read_number, dots}
 use Rattle.c104_describe.specs.Plans.{Plan, switch_number, terminal_number}
@@ -24,28 +25,6 @@ use Rattle.c104_script.specs.declared.words.Verb.{Verb}
 use Rattle.c104_script.specs.declared.words.Verb.TheVariants as verb
 pub use Rattle.c104_script.specs.declared.places.Request.{Request}
 use Rattle.c104_script.specs.declared.places.Request.TheVariants.{Asked, Refused, Rounds}
-
-infixl 20 ◌>>=◌
-infixl 20 ◌>>◌
--- what is read, and then what is read by it
-abbrev pub ◌>>=◌ : {X Y : Type 0} → Result X LineFault → (X → Result Y LineFault) → Result Y LineFault
-Ok x >>= f = f x
-Err kind >>= f = Err kind
-
--- a condition, and then what is read where it holds
-abbrev pub ◌>>◌ : {Y : Type 0} → Result Bool LineFault → Result Y LineFault → Result Y LineFault
-Ok x >> r = r
-Err kind >> r = Err kind
-
--- a condition, and the fault where it doesn't hold
-abbrev pub require : Bool → LineFault → Result Bool LineFault
-require true kind = Ok true
-require false kind = Err kind
-
--- a value, and the fault where there is none
-abbrev pub value_or_fault : {X : Type 0} → Option X → LineFault → Result X LineFault
-value_or_fault (Some x) kind = Ok x
-value_or_fault None kind = Err kind
 
 abbrev pub number_word : List ℕ → Result ℕ LineFault
 number_word word = value_or_fault (read_number word) fault.BadNumber
