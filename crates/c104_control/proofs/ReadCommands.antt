@@ -38,23 +38,23 @@ read_as d c bytes is was = subst (λ e. IsRead bytes e) (same d c is) was
 no_read : (bytes : List ℕ) (c : Command) → ◌≡◌ {A = Read} (Err WrongLength) (Ok c) → IsRead bytes c
 no_read bytes c is = cc
 
-alone_read : (code : ℕ) (operands : List ℕ) (d c : Command) → IsRead (code ∷ []) d → alone d operands ≡ Ok c → IsRead (code ∷ operands) c
+alone_read : (code : ℕ) (arguments : List ℕ) (d c : Command) → IsRead (code ∷ []) d → alone d arguments ≡ Ok c → IsRead (code ∷ arguments) c
 alone_read code [] d c is at = read_as d c _ at is
-alone_read code (b ∷ operands) d c is at = no_read _ c at
+alone_read code (b ∷ arguments) d c is at = no_read _ c at
 
-peek_read : (operands : List ℕ) (c : Command) → AreBytes operands → peek_of operands ≡ Ok c → IsRead (4 ∷ operands) c
+peek_read : (arguments : List ℕ) (c : Command) → AreBytes arguments → peek_of arguments ≡ Ok c → IsRead (4 ∷ arguments) c
 peek_read [] c are at = no_read _ c at
 peek_read (a ∷ []) c are at = no_read _ c at
 peek_read (a ∷ b ∷ []) c are at =
     let below : (a < 256) × (b < 256) = (are 0, are 1) in
     let within : from_le_bytes w16 (a ∷ b ∷ []) < 2 ^ 16 = omega (arith, below) in
     read_as (CPeek (from_le_bytes w16 (a ∷ b ∷ []))) c _ at (within, ap (λ xs. 4 ∷ xs) (le_bytes_2 (a ∷ b ∷ []) _ refl are refl))
-peek_read (a ∷ b ∷ d ∷ operands) c are at = no_read _ c at
+peek_read (a ∷ b ∷ d ∷ arguments) c are at = no_read _ c at
 
 joined : (xs xs' ys ys' : List ℕ) → xs ≡ xs' → ys ≡ ys' → 5 ∷ xs ++ ys ≡ 5 ∷ xs' ++ ys'
 joined xs xs' ys ys' first second = rw (first, second) refl
 
-poke_read : (operands : List ℕ) (c : Command) → AreBytes operands → poke_of operands ≡ Ok c → IsRead (5 ∷ operands) c
+poke_read : (arguments : List ℕ) (c : Command) → AreBytes arguments → poke_of arguments ≡ Ok c → IsRead (5 ∷ arguments) c
 poke_read [] c are at = no_read _ c at
 poke_read (a ∷ []) c are at = no_read _ c at
 poke_read (a ∷ b ∷ []) c are at = no_read _ c at
@@ -74,34 +74,34 @@ poke_read (a ∷ b ∷ v ∷ w ∷ x ∷ y ∷ []) c are at =
     of_two a b below zero = below.0
     of_two a b below (suc zero) = below.1
     of_two a b below (suc (suc i)) = omega arith
-poke_read (a ∷ b ∷ v ∷ w ∷ x ∷ y ∷ z ∷ operands) c are at = no_read _ c at
+poke_read (a ∷ b ∷ v ∷ w ∷ x ∷ y ∷ z ∷ arguments) c are at = no_read _ c at
 
 -- by what the first byte is
-read_by : (code : ℕ) (operands : List ℕ) (c : Command) (start reset identify peek poke : Bool) → AreBytes operands
+read_by : (code : ℕ) (arguments : List ℕ) (c : Command) (start reset identify peek poke : Bool) → AreBytes arguments
     → start ≡ nat_eq code 1 → reset ≡ nat_eq code 2 → identify ≡ nat_eq code 3 → peek ≡ nat_eq code 4 → poke ≡ nat_eq code 5
-    → (if start then alone Start operands else (if reset then alone Reset operands else (if identify then alone Identify operands else (if peek then peek_of operands else (if poke then poke_of operands else Err UnknownCode))))) ≡ Ok c
-    → IsRead (code ∷ operands) c
-read_by code operands c true reset identify peek poke are is_start is_reset is_identify is_peek is_poke at =
+    → (if start then alone Start arguments else (if reset then alone Reset arguments else (if identify then alone Identify arguments else (if peek then peek_of arguments else (if poke then poke_of arguments else Err UnknownCode))))) ≡ Ok c
+    → IsRead (code ∷ arguments) c
+read_by code arguments c true reset identify peek poke are is_start is_reset is_identify is_peek is_poke at =
     let is : 1 ≡ code = grind (arith, nat_tests) in
-    subst (λ k. IsRead (k ∷ operands) c) is (alone_read 1 operands Start c (tt, refl) at)
-read_by code operands c false true identify peek poke are is_start is_reset is_identify is_peek is_poke at =
+    subst (λ k. IsRead (k ∷ arguments) c) is (alone_read 1 arguments Start c (tt, refl) at)
+read_by code arguments c false true identify peek poke are is_start is_reset is_identify is_peek is_poke at =
     let is : 2 ≡ code = grind (arith, nat_tests) in
-    subst (λ k. IsRead (k ∷ operands) c) is (alone_read 2 operands Reset c (tt, refl) at)
-read_by code operands c false false true peek poke are is_start is_reset is_identify is_peek is_poke at =
+    subst (λ k. IsRead (k ∷ arguments) c) is (alone_read 2 arguments Reset c (tt, refl) at)
+read_by code arguments c false false true peek poke are is_start is_reset is_identify is_peek is_poke at =
     let is : 3 ≡ code = grind (arith, nat_tests) in
-    subst (λ k. IsRead (k ∷ operands) c) is (alone_read 3 operands Identify c (tt, refl) at)
-read_by code operands c false false false true poke are is_start is_reset is_identify is_peek is_poke at =
+    subst (λ k. IsRead (k ∷ arguments) c) is (alone_read 3 arguments Identify c (tt, refl) at)
+read_by code arguments c false false false true poke are is_start is_reset is_identify is_peek is_poke at =
     let is : 4 ≡ code = grind (arith, nat_tests) in
-    subst (λ k. IsRead (k ∷ operands) c) is (peek_read operands c are at)
-read_by code operands c false false false false true are is_start is_reset is_identify is_peek is_poke at =
+    subst (λ k. IsRead (k ∷ arguments) c) is (peek_read arguments c are at)
+read_by code arguments c false false false false true are is_start is_reset is_identify is_peek is_poke at =
     let is : 5 ≡ code = grind (arith, nat_tests) in
-    subst (λ k. IsRead (k ∷ operands) c) is (poke_read operands c are at)
-read_by code operands c false false false false false are is_start is_reset is_identify is_peek is_poke at = cc
+    subst (λ k. IsRead (k ∷ arguments) c) is (poke_read arguments c are at)
+read_by code arguments c false false false false false are is_start is_reset is_identify is_peek is_poke at = cc
 
 -- what was read is in the table
 pub is_read : (bytes : List ℕ) (c : Command) → AreBytes bytes → read_command bytes ≡ Ok c → IsRead bytes c
 is_read [] c are at = cc
-is_read (code ∷ operands) c are at = read_by code operands c _ _ _ _ _ (λ i. are (suc i)) refl refl refl refl refl at
+is_read (code ∷ arguments) c are at = read_by code arguments c _ _ _ _ _ (λ i. are (suc i)) refl refl refl refl refl at
 
 -- exactly the table's commands are read
 pub is_table : (bytes : List ℕ) (c : Command) → AreBytes bytes → (read_command bytes ≡ Ok c) ↔ (IsCommand c × (command_bytes c ≡ bytes))
@@ -110,26 +110,26 @@ is_table bytes c are = (is_read bytes c are, λ was. rw (sym was.1) (read_back c
 known : (code k : ℕ) (c : Command) (answer : Result Command CommandFault) → k ≡ code → (command_format c).code ≡ k → (answer ≡ Err UnknownCode → ⊥) → (answer ≡ Err UnknownCode) ↔ ((d : Command) → (command_format d).code ≢ code)
 known code k c answer is of_c not_unknown = (λ at. absurd (not_unknown at), λ none. absurd (none c (of_c ∙ is)))
 
-alone_known : (d : Command) (operands : List ℕ) → alone d operands ≡ Err UnknownCode → ⊥
+alone_known : (d : Command) (arguments : List ℕ) → alone d arguments ≡ Err UnknownCode → ⊥
 alone_known d [] at = cc
-alone_known d (b ∷ operands) at = cc
+alone_known d (b ∷ arguments) at = cc
 
-unknown_by : (code : ℕ) (operands : List ℕ) (start reset identify peek poke : Bool)
+unknown_by : (code : ℕ) (arguments : List ℕ) (start reset identify peek poke : Bool)
     → start ≡ nat_eq code 1 → reset ≡ nat_eq code 2 → identify ≡ nat_eq code 3 → peek ≡ nat_eq code 4 → poke ≡ nat_eq code 5
-    → ((if start then alone Start operands else (if reset then alone Reset operands else (if identify then alone Identify operands else (if peek then peek_of operands else (if poke then poke_of operands else Err UnknownCode))))) ≡ Err UnknownCode) ↔ ((d : Command) → (command_format d).code ≢ code)
-unknown_by code operands true reset identify peek poke is_start is_reset is_identify is_peek is_poke = known code 1 Start _ (grind (arith, nat_tests)) refl (alone_known Start operands)
-unknown_by code operands false true identify peek poke is_start is_reset is_identify is_peek is_poke = known code 2 Reset _ (grind (arith, nat_tests)) refl (alone_known Reset operands)
-unknown_by code operands false false true peek poke is_start is_reset is_identify is_peek is_poke = known code 3 Identify _ (grind (arith, nat_tests)) refl (alone_known Identify operands)
-unknown_by code operands false false false true poke is_start is_reset is_identify is_peek is_poke = known code 4 (CPeek 0) _ (grind (arith, nat_tests)) refl (peek_known operands)
+    → ((if start then alone Start arguments else (if reset then alone Reset arguments else (if identify then alone Identify arguments else (if peek then peek_of arguments else (if poke then poke_of arguments else Err UnknownCode))))) ≡ Err UnknownCode) ↔ ((d : Command) → (command_format d).code ≢ code)
+unknown_by code arguments true reset identify peek poke is_start is_reset is_identify is_peek is_poke = known code 1 Start _ (grind (arith, nat_tests)) refl (alone_known Start arguments)
+unknown_by code arguments false true identify peek poke is_start is_reset is_identify is_peek is_poke = known code 2 Reset _ (grind (arith, nat_tests)) refl (alone_known Reset arguments)
+unknown_by code arguments false false true peek poke is_start is_reset is_identify is_peek is_poke = known code 3 Identify _ (grind (arith, nat_tests)) refl (alone_known Identify arguments)
+unknown_by code arguments false false false true poke is_start is_reset is_identify is_peek is_poke = known code 4 (CPeek 0) _ (grind (arith, nat_tests)) refl (peek_known arguments)
   where
-    peek_known : (operands : List ℕ) → peek_of operands ≡ Err UnknownCode → ⊥
+    peek_known : (arguments : List ℕ) → peek_of arguments ≡ Err UnknownCode → ⊥
     peek_known [] at = cc
     peek_known (a ∷ []) at = cc
     peek_known (a ∷ b ∷ []) at = cc
-    peek_known (a ∷ b ∷ d ∷ operands) at = cc
-unknown_by code operands false false false false true is_start is_reset is_identify is_peek is_poke = known code 5 (CPoke 0 0) _ (grind (arith, nat_tests)) refl (poke_known operands)
+    peek_known (a ∷ b ∷ d ∷ arguments) at = cc
+unknown_by code arguments false false false false true is_start is_reset is_identify is_peek is_poke = known code 5 (CPoke 0 0) _ (grind (arith, nat_tests)) refl (poke_known arguments)
   where
-    poke_known : (operands : List ℕ) → poke_of operands ≡ Err UnknownCode → ⊥
+    poke_known : (arguments : List ℕ) → poke_of arguments ≡ Err UnknownCode → ⊥
     poke_known [] at = cc
     poke_known (a ∷ []) at = cc
     poke_known (a ∷ b ∷ []) at = cc
@@ -137,8 +137,8 @@ unknown_by code operands false false false false true is_start is_reset is_ident
     poke_known (a ∷ b ∷ v ∷ w ∷ []) at = cc
     poke_known (a ∷ b ∷ v ∷ w ∷ x ∷ []) at = cc
     poke_known (a ∷ b ∷ v ∷ w ∷ x ∷ y ∷ []) at = cc
-    poke_known (a ∷ b ∷ v ∷ w ∷ x ∷ y ∷ z ∷ operands) at = cc
-unknown_by code operands false false false false false is_start is_reset is_identify is_peek is_poke = (λ at. none, λ none. refl)
+    poke_known (a ∷ b ∷ v ∷ w ∷ x ∷ y ∷ z ∷ arguments) at = cc
+unknown_by code arguments false false false false false is_start is_reset is_identify is_peek is_poke = (λ at. none, λ none. refl)
   where
     none : (d : Command) → (command_format d).code ≢ code
     none Start = λ is. grind (arith, nat_tests)
@@ -150,4 +150,4 @@ unknown_by code operands false false false false false is_start is_reset is_iden
 -- exactly bytes whose first begins no command are unknown
 pub is_unknown : (bytes : List ℕ) → (read_command bytes ≡ Err UnknownCode) ↔ IsUnknownCode bytes
 is_unknown [] = (λ at. cc, λ none. absurd none)
-is_unknown (code ∷ operands) = unknown_by code operands _ _ _ _ _ refl refl refl refl refl
+is_unknown (code ∷ arguments) = unknown_by code arguments _ _ _ _ _ refl refl refl refl refl

@@ -94,12 +94,12 @@ read_as d a bytes is was = let same : d ≡ a = cc in subst (λ e. IsReadReply b
 no_read : (bytes : List ℕ) (a : Answer) → None ≡ Some a → IsReadReply bytes a
 no_read bytes a is = cc
 
-alone_read : (code : ℕ) (operands : List ℕ) (d a : Answer) → IsReadReply (code ∷ []) d → answer_alone d operands ≡ Some a → IsReadReply (code ∷ operands) a
+alone_read : (code : ℕ) (arguments : List ℕ) (d a : Answer) → IsReadReply (code ∷ []) d → answer_alone d arguments ≡ Some a → IsReadReply (code ∷ arguments) a
 alone_read code [] d a is at = read_as d a _ at is
-alone_read code (b ∷ operands) d a is at = no_read _ a at
+alone_read code (b ∷ arguments) d a is at = no_read _ a at
 
 with_read : (f : ℕ → Option Answer) (code : ℕ) → ((n : ℕ) (e : Answer) → n < 2 ^ 32 → f n ≡ Some e → IsReadReply (code ∷ to_le_bytes w32 n) e)
-    → (operands : List ℕ) (e : Answer) → AreBytes operands → answer_with f operands ≡ Some e → IsReadReply (code ∷ operands) e
+    → (arguments : List ℕ) (e : Answer) → AreBytes arguments → answer_with f arguments ≡ Some e → IsReadReply (code ∷ arguments) e
 with_read f code gives [] e are at = no_read _ e at
 with_read f code gives (a ∷ []) e are at = no_read _ e at
 with_read f code gives (a ∷ b ∷ []) e are at = no_read _ e at
@@ -108,7 +108,7 @@ with_read f code gives (a ∷ b ∷ c ∷ d ∷ []) e are at =
     let each : (a < 256) × (b < 256) × (c < 256) × (d < 256) = (are 0, are 1, are 2, are 3) in
     let within : from_le_bytes w32 (a ∷ b ∷ c ∷ d ∷ []) < 2 ^ 32 = omega (arith, each) in
     subst (λ xs. IsReadReply (code ∷ xs) e) (le_bytes_4 (a ∷ b ∷ c ∷ d ∷ []) _ refl are refl) (gives _ e within at)
-with_read f code gives (a ∷ b ∷ c ∷ d ∷ x ∷ operands) e are at = no_read _ e at
+with_read f code gives (a ∷ b ∷ c ∷ d ∷ x ∷ arguments) e are at = no_read _ e at
 
 identity_read : (n : ℕ) (e : Answer) → n < 2 ^ 32 → identity_of n ≡ Some e → IsReadReply (131 ∷ to_le_bytes w32 n) e
 identity_read n e below at = by (nat_eq n device_id) refl at
@@ -120,43 +120,43 @@ identity_read n e below at = by (nat_eq n device_id) refl at
 value_read : (n : ℕ) (e : Answer) → n < 2 ^ 32 → Some (Value n) ≡ Some e → IsReadReply (132 ∷ to_le_bytes w32 n) e
 value_read n e below at = read_as (Value n) e _ at (below, refl)
 
-refused_read : (operands : List ℕ) (e : Answer) → refused_of operands ≡ Some e → IsReadReply (255 ∷ operands) e
+refused_read : (arguments : List ℕ) (e : Answer) → refused_of arguments ≡ Some e → IsReadReply (255 ∷ arguments) e
 refused_read [] e at = no_read _ e at
 refused_read (n ∷ []) e at = by (nat_le 1 n && nat_le n 7) refl at
   where
     by : (b : Bool) → b ≡ (nat_le 1 n && nat_le n 7) → (if b then Some (Refused n) else None) ≡ Some e → IsReadReply (255 ∷ n ∷ []) e
     by true is at = read_as (Refused n) e _ at ((grind (arith, nat_tests), grind (arith, nat_tests)), refl)
     by false is at = no_read _ e at
-refused_read (n ∷ m ∷ operands) e at = no_read _ e at
+refused_read (n ∷ m ∷ arguments) e at = no_read _ e at
 
 -- by what the first byte is
-read_by : (code : ℕ) (operands : List ℕ) (a : Answer) (started reset identity value poked refused : Bool) → AreBytes operands
+read_by : (code : ℕ) (arguments : List ℕ) (a : Answer) (started reset identity value poked refused : Bool) → AreBytes arguments
     → started ≡ nat_eq code 129 → reset ≡ nat_eq code 130 → identity ≡ nat_eq code 131 → value ≡ nat_eq code 132 → poked ≡ nat_eq code 133 → refused ≡ nat_eq code 255
-    → (if started then answer_alone Started operands else (if reset then answer_alone WasReset operands else (if identity then answer_with identity_of operands else (if value then answer_with (λ v. Some (Value v)) operands else (if poked then answer_alone Poked operands else (if refused then refused_of operands else None)))))) ≡ Some a
-    → IsReadReply (code ∷ operands) a
-read_by code operands a true reset identity value poked refused are is_started is_reset is_identity is_value is_poked is_refused at =
+    → (if started then answer_alone Started arguments else (if reset then answer_alone WasReset arguments else (if identity then answer_with identity_of arguments else (if value then answer_with (λ v. Some (Value v)) arguments else (if poked then answer_alone Poked arguments else (if refused then refused_of arguments else None)))))) ≡ Some a
+    → IsReadReply (code ∷ arguments) a
+read_by code arguments a true reset identity value poked refused are is_started is_reset is_identity is_value is_poked is_refused at =
     let is : 129 ≡ code = grind (arith, nat_tests) in
-    subst (λ k. IsReadReply (k ∷ operands) a) is (alone_read 129 operands Started a (tt, refl) at)
-read_by code operands a false true identity value poked refused are is_started is_reset is_identity is_value is_poked is_refused at =
+    subst (λ k. IsReadReply (k ∷ arguments) a) is (alone_read 129 arguments Started a (tt, refl) at)
+read_by code arguments a false true identity value poked refused are is_started is_reset is_identity is_value is_poked is_refused at =
     let is : 130 ≡ code = grind (arith, nat_tests) in
-    subst (λ k. IsReadReply (k ∷ operands) a) is (alone_read 130 operands WasReset a (tt, refl) at)
-read_by code operands a false false true value poked refused are is_started is_reset is_identity is_value is_poked is_refused at =
+    subst (λ k. IsReadReply (k ∷ arguments) a) is (alone_read 130 arguments WasReset a (tt, refl) at)
+read_by code arguments a false false true value poked refused are is_started is_reset is_identity is_value is_poked is_refused at =
     let is : 131 ≡ code = grind (arith, nat_tests) in
-    subst (λ k. IsReadReply (k ∷ operands) a) is (with_read identity_of 131 identity_read operands a are at)
-read_by code operands a false false false true poked refused are is_started is_reset is_identity is_value is_poked is_refused at =
+    subst (λ k. IsReadReply (k ∷ arguments) a) is (with_read identity_of 131 identity_read arguments a are at)
+read_by code arguments a false false false true poked refused are is_started is_reset is_identity is_value is_poked is_refused at =
     let is : 132 ≡ code = grind (arith, nat_tests) in
-    subst (λ k. IsReadReply (k ∷ operands) a) is (with_read (λ v. Some (Value v)) 132 value_read operands a are at)
-read_by code operands a false false false false true refused are is_started is_reset is_identity is_value is_poked is_refused at =
+    subst (λ k. IsReadReply (k ∷ arguments) a) is (with_read (λ v. Some (Value v)) 132 value_read arguments a are at)
+read_by code arguments a false false false false true refused are is_started is_reset is_identity is_value is_poked is_refused at =
     let is : 133 ≡ code = grind (arith, nat_tests) in
-    subst (λ k. IsReadReply (k ∷ operands) a) is (alone_read 133 operands Poked a (tt, refl) at)
-read_by code operands a false false false false false true are is_started is_reset is_identity is_value is_poked is_refused at =
+    subst (λ k. IsReadReply (k ∷ arguments) a) is (alone_read 133 arguments Poked a (tt, refl) at)
+read_by code arguments a false false false false false true are is_started is_reset is_identity is_value is_poked is_refused at =
     let is : 255 ≡ code = grind (arith, nat_tests) in
-    subst (λ k. IsReadReply (k ∷ operands) a) is (refused_read operands a at)
-read_by code operands a false false false false false false are is_started is_reset is_identity is_value is_poked is_refused at = cc
+    subst (λ k. IsReadReply (k ∷ arguments) a) is (refused_read arguments a at)
+read_by code arguments a false false false false false false are is_started is_reset is_identity is_value is_poked is_refused at = cc
 
 is_read : (bytes : List ℕ) (a : Answer) → AreBytes bytes → read_reply bytes ≡ Some a → IsReadReply bytes a
 is_read [] a are at = cc
-is_read (code ∷ operands) a are at = read_by code operands a _ _ _ _ _ _ (λ i. are (suc i)) refl refl refl refl refl refl at
+is_read (code ∷ arguments) a are at = read_by code arguments a _ _ _ _ _ _ (λ i. are (suc i)) refl refl refl refl refl refl at
 
 -- exactly the table's answers are read
 pub is_table : (bytes : List ℕ) (a : Answer) → AreBytes bytes → (read_reply bytes ≡ Some a) ↔ (IsAnswer a × (reply_bytes a ≡ bytes))

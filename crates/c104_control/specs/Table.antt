@@ -33,7 +33,7 @@ busy_number = 6
 -- by the value that it reads if it does, and the numbers of the refusals that it may meet
 pub record CommandFormat : Type 0 where
   pub code : ℕ
-  pub operands : List ℕ
+  pub arguments : List ℕ
   pub answer : ℕ → Answer
   pub refusals : List ℕ
 
@@ -41,21 +41,21 @@ pub record CommandFormat : Type 0 where
 abbrev pub command_format : Command → CommandFormat
 command_format Start = record {
   code = 0x01;
-  operands = [];
+  arguments = [];
   answer = λ v. Started;
   refusals = ALREADY_STARTED ∷ [];
 }
-command_format Reset = record { code = 0x02; operands = []; answer = λ v. WasReset; refusals = [] }
-command_format Identify = record { code = 0x03; operands = []; answer = λ v. Identity device_id; refusals = [] }
+command_format Reset = record { code = 0x02; arguments = []; answer = λ v. WasReset; refusals = [] }
+command_format Identify = record { code = 0x03; arguments = []; answer = λ v. Identity device_id; refusals = [] }
 command_format (CPeek a) = record {
   code = 0x04;
-  operands = to_le_bytes w16 a;
+  arguments = to_le_bytes w16 a;
   answer = Value;
   refusals = no_register_number ∷ [];
 }
 command_format (CPoke a v) = record {
   code = 0x05;
-  operands = to_le_bytes w16 a ++ to_le_bytes w32 v;
+  arguments = to_le_bytes w16 a ++ to_le_bytes w32 v;
   answer = λ v. Poked;
   refusals = no_register_number ∷ read_only_number ∷ out_of_range_number ∷ busy_number ∷ [];
 }
@@ -71,7 +71,7 @@ reply_bytes (Refused n) = 0xff ∷ n ∷ []
 
 -- the bytes of a command
 abbrev pub command_bytes : Command → List ℕ
-command_bytes c = (command_format c).code ∷ (command_format c).operands
+command_bytes c = (command_format c).code ∷ (command_format c).arguments
 
 -- there is such a command: an address has 16 bits, and a value 32
 abbrev pub IsCommand : Command → Type 0

@@ -48,7 +48,7 @@ pub enum PlanFaultKind {
     #[error("the line does not go with the lines before")]
     MixedStyle = 12,
     /// Out of memory.
-    #[error("no memory")]
+    #[error("out of memory")]
     NoMemory = 13,
 }
 

@@ -3,7 +3,7 @@ ghost use Rattle.std.specs.Prelude.{◌≡◌};
 ghost use Rattle.c104_event.specs.EventFaults.{event_fault_name, event_fault_number};
 ghost use Rattle.c104_event.specs.declared.faults.EventFault.TheVariants as fault;
 
-use c104_token::NoMemory as WantOfMemory;
+use c104_token::NoMemory as OutOfMemory;
 use thiserror::Error;
 
 /// Why an event was refused. Nothing has changed. Of several reasons the one of the least number is
@@ -57,10 +57,10 @@ impl EventFault {
     }
 }
 
-impl From<WantOfMemory> for EventFault {
+impl From<OutOfMemory> for EventFault {
     ghost from_gives = { λ _ e. e ≡ fault.NoMemory };
 
-    fn from(_error: WantOfMemory) -> EventFault {
+    fn from(_error: OutOfMemory) -> EventFault {
         EventFault::NoMemory
     }
 }

@@ -1,4 +1,4 @@
--- A run that stops at the first fault, by a front of its events; and what leaves a network as it was.
+-- A run that stops at the first fault, by a prefix of its events; and what leaves a network as it was.
 use Rattle.std.proofs.Common.{false, ℕ, ◌≡◌, ◌+◌, ◌<◌, List, [], ◌∷◌, ◌++◌, Result, Ok, Err, IsErr, IsErrAnd, Option, Some, None, refl, sym, ap, ◌∙◌, subst, inl, inr, length, get_or, take, drop}
 use Rattle.std.proofs.lemmas.List.{drop_more, take-append-drop, take_more}
 use Rattle.c104_token.specs.Kinds.{Kind}
@@ -21,7 +21,7 @@ err_is (Ok x) e is = absurd (cc is.0)
 err_is (Err d) e is = ap Err is.1
 
 module _ {A : Type 0} (kind : Kind A) where
-  -- the rest of a run goes on from where its front came to
+  -- the rest of a run goes on from where its prefix came to
   unless_later : (events more : List Event) → ((net : Network A) → run_until kind net (events ++ more) ≡ unless_fault (run_until kind net events).0 (run_until kind net events).1 (λ next. run_until kind next more)) →
       (answer : Result Reply EventFault) (net : Network A) →
       unless_fault answer net (λ next. run_until kind next (events ++ more)) ≡ unless_fault (unless_fault answer net (λ next. run_until kind next events)).0 (unless_fault answer net (λ next. run_until kind next events)).1 (λ next. run_until kind next more)
@@ -32,11 +32,11 @@ module _ {A : Type 0} (kind : Kind A) where
   run_append [] more net = refl
   run_append (e ∷ events) more net = unless_later events more (run_append events more) (network_apply kind net e).0 (network_apply kind net e).1
 
-  -- after a front without a fault
+  -- after a prefix without a fault
   pub run_from : (net mid : Network A) (events more : List Event) → run_until kind net events ≡ (Ok tt, mid) → run_until kind net (events ++ more) ≡ run_until kind mid more
   run_from net mid events more front = run_append events more net ∙ ap (λ (r : Outcome A). unless_fault r.0 r.1 (λ next. run_until kind next more)) front
 
-  -- an event after such a front
+  -- an event after such a prefix
   pub run_next : (net mid after : Network A) (events more : List Event) (e : Event) (answer : Result Reply EventFault) →
       run_until kind net events ≡ (Ok tt, mid) → ◌≡◌ {A = Result Reply EventFault × Network A} (answer, after) (network_apply kind mid e) →
       run_until kind net (events ++ e ∷ more) ≡ unless_fault answer after (λ next. run_until kind next more)

@@ -3,7 +3,7 @@ ghost use Rattle.std.specs.Prelude.{◌≡◌};
 ghost use Rattle.c104_net.specs.PlaceFaults.{place_fault_number};
 ghost use Rattle.c104_net.specs.declared.faults.PlaceFault.TheVariants as place;
 
-use c104_token::NoMemory as WantOfMemory;
+use c104_token::NoMemory as OutOfMemory;
 use thiserror::Error;
 
 /// Why a network was not made.
@@ -13,7 +13,7 @@ pub enum PlaceFault {
     #[error("the image doesn't fit the plan")]
     NotFitting = 1,
     /// Out of memory.
-    #[error("no memory")]
+    #[error("out of memory")]
     NoMemory = 2,
 }
 
@@ -26,10 +26,10 @@ impl PlaceFault {
     }
 }
 
-impl From<WantOfMemory> for PlaceFault {
+impl From<OutOfMemory> for PlaceFault {
     ghost from_gives = { λ _ e. e ≡ place.NoMemory };
 
-    fn from(_error: WantOfMemory) -> PlaceFault {
+    fn from(_error: OutOfMemory) -> PlaceFault {
         PlaceFault::NoMemory
     }
 }

@@ -8,7 +8,7 @@ use Rattle.c104_stream.specs.declared.halt.Halt.{Halt}
 use Rattle.c104_stream.specs.declared.halt.Halt.TheVariants as halt
 use Rattle.c104_session.specs.declared.session.Session.{Session}
 use Rattle.c104_session.specs.Lines.{is_long}
-use Rattle.c104_stream.specs.Writing.{AppendsFront}
+use Rattle.c104_stream.specs.Writing.{AppendsPrefix}
 use Rattle.c104_session.specs.Shown.{script_outcome, output_with_summary, new_session, summary}
 use Rattle.c104_script.specs.Texts.{script_too_long}
 use Rattle.c104_session.specs.Runs.{AnswersScript, RunsPlan}
@@ -31,7 +31,7 @@ plan_stops plan None left held holds after kind stopped = tt
 plan_stops plan (Some script) left held holds after halt.CannotRead stopped = stopped
 plan_stops plan (Some script) left held holds after halt.CannotWrite stopped =
     let r : List ℕ × Session = script_outcome (new_session plan) script in
-    subst (λ text. AppendsFront held holds text) (sym (ended_text (is_long script) r)) (prefix_longer held holds r.0 (after_answers (is_long script) r) stopped)
+    subst (λ text. AppendsPrefix held holds text) (sym (ended_text (is_long script) r)) (prefix_longer held holds r.0 (after_answers (is_long script) r) stopped)
 plan_stops plan (Some script) left held holds after halt.NoMemory stopped = stopped
 
 -- the script is too long, and that was written, or a prefix of it
@@ -43,11 +43,11 @@ long_ends plan (Some script) left held now holds after answered wrote =
       ap (λ long. (output_with_summary long r).1) answered.0,
     )
 
-pub long_stops : (plan : Plan) (all left held now holds : Option (List ℕ)) (after : Session) → AnswersScript (new_session plan) all left held now after (Ok true) → AppendsFront now holds script_too_long → RunsPlan plan all left held holds (Err halt.CannotWrite)
+pub long_stops : (plan : Plan) (all left held now holds : Option (List ℕ)) (after : Session) → AnswersScript (new_session plan) all left held now after (Ok true) → AppendsPrefix now holds script_too_long → RunsPlan plan all left held holds (Err halt.CannotWrite)
 long_stops plan None left held now holds after answered wrote = tt
 long_stops plan (Some script) left held now holds after answered wrote =
     let r : List ℕ × Session = script_outcome (new_session plan) script in
-    subst (λ long. AppendsFront held holds (output_with_summary long r).0) answered.0 (prefix_next held now holds r.0 script_too_long answered.2 wrote)
+    subst (λ long. AppendsPrefix held holds (output_with_summary long r).0) answered.0 (prefix_next held now holds r.0 script_too_long answered.2 wrote)
 
 -- the summary was written, or a prefix of it
 pub summary_ends : (plan : Plan) (all left held now holds : Option (List ℕ)) (after : Session) → AnswersScript (new_session plan) all left held now after (Ok false) → Appends now holds (summary (network_finish after.net)) → RunsPlan plan all left held holds (Ok after.faulty)
@@ -58,18 +58,18 @@ summary_ends plan (Some script) left held now holds after answered wrote =
       ap (λ (s : Session). s.faulty) answered.1 ∙ ap (λ long. (output_with_summary long r).1) answered.0,
     )
 
-pub summary_stops : (plan : Plan) (all left held now holds : Option (List ℕ)) (after : Session) → AnswersScript (new_session plan) all left held now after (Ok false) → AppendsFront now holds (summary (network_finish after.net)) → RunsPlan plan all left held holds (Err halt.CannotWrite)
+pub summary_stops : (plan : Plan) (all left held now holds : Option (List ℕ)) (after : Session) → AnswersScript (new_session plan) all left held now after (Ok false) → AppendsPrefix now holds (summary (network_finish after.net)) → RunsPlan plan all left held holds (Err halt.CannotWrite)
 summary_stops plan None left held now holds after answered wrote = tt
 summary_stops plan (Some script) left held now holds after answered wrote =
     let r : List ℕ × Session = script_outcome (new_session plan) script in
-    subst (λ long. AppendsFront held holds (output_with_summary long r).0) answered.0 (prefix_next held now holds r.0 (summary (network_finish r.1.net)) answered.2 (subst (λ (s : Session). AppendsFront now holds (summary (network_finish s.net))) answered.1 wrote))
+    subst (λ long. AppendsPrefix held holds (output_with_summary long r).0) answered.0 (prefix_next held now holds r.0 (summary (network_finish r.1.net)) answered.2 (subst (λ (s : Session). AppendsPrefix now holds (summary (network_finish s.net))) answered.1 wrote))
 
 -- memory for the summary was refused
 pub summary_unmade : (plan : Plan) (all left held now : Option (List ℕ)) (after : Session) → AnswersScript (new_session plan) all left held now after (Ok false) → RunsPlan plan all left held now (Err halt.NoMemory)
 summary_unmade plan None left held now after answered = tt
 summary_unmade plan (Some script) left held now after answered =
     let all : List ℕ = (script_outcome (new_session plan) script).0 in
-    record { written = all; unwritten = []; grew = answered.2; is_front = sym (append-nil all) }
+    record { written = all; unwritten = []; grew = answered.2; is_prefix = sym (append-nil all) }
 
 -- the session by its plan, and what the answer says by its test
 pub of_plan : (plan : Plan) (all left held holds : Option (List ℕ)) (session after : Session) (result : Result Bool Halt) → session ≡ new_session plan → AnswersScript session all left held holds after result → AnswersScript (new_session plan) all left held holds after result

@@ -19,7 +19,7 @@ read_halts None now held holds remains start session number left line kind reach
 read_halts (Some script) None held holds remains start session number left line kind reached kept = absurd reached.consumed
 read_halts (Some script) (Some rest) held holds None start session number left line kind reached kept = absurd kept
 read_halts (Some script) (Some rest) held holds (Some last) start session number left line read_fault.CannotRead reached kept =
-    record { front = reached.read; rest = rest; is_front = reached.consumed; is_left = ap Some kept; wrote = reached.wrote }
+    record { front = reached.read; rest = rest; is_prefix = reached.consumed; is_left = ap Some kept; wrote = reached.wrote }
 read_halts (Some script) (Some rest) held holds (Some last) start session number left line read_fault.NoMemory reached kept =
     memory_stops reached script rest (Some last) holds session reached.consumed (Keeps-refl holds)
 

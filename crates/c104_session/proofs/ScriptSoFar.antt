@@ -8,7 +8,7 @@ use Rattle.c104_stream.specs.declared.halt.Halt.{Halt}
 use Rattle.c104_stream.specs.declared.halt.Halt.TheVariants as halt
 use Rattle.c104_session.specs.declared.session.Session.{Session}
 use Rattle.c104_session.specs.Lines.{whole_lines, last_line, lines_within, script_lines, most_script}
-use Rattle.c104_stream.specs.Writing.{AppendsFront}
+use Rattle.c104_stream.specs.Writing.{AppendsPrefix}
 use Rattle.c104_session.specs.Shown.{line_outcome, lines_outcome}
 use Rattle.c104_session.specs.Runs.{ScriptEnds, LineStops}
 use Rattle.std.proofs.KnownBytes.{Consumes-trans, Consumes-nil, Appends-trans, Appends-nil, Appends-kept}
@@ -103,7 +103,7 @@ module _ {all now held holds : Option (List ℕ)} {start session : Session} {num
   -- no more is written
   pub memory_stops : (script rest : List ℕ) (remains wrote : Option (List ℕ)) (after : Session) → script ≡ reached.read ++ rest → Keeps holds wrote → ScriptEnds start script remains held wrote after (Err halt.NoMemory)
   memory_stops script rest remains wrote after is kept =
-      subst (λ text. AppendsFront held wrote text) (sym (ap (λ xs. (lines_outcome 1 start xs).0) (cut script rest is) ∙ text_on 1 start (whole_lines [] reached.read) (lines_within left line rest)))
+      subst (λ text. AppendsPrefix held wrote text) (sym (ap (λ xs. (lines_outcome 1 start xs).0) (cut script rest is) ∙ text_on 1 start (whole_lines [] reached.read) (lines_within left line rest)))
       (prefix_only held wrote so_far.0 (shown_after 1 start (whole_lines [] reached.read) (lines_within left line rest)).0 (Appends-kept held holds wrote so_far.0 reached.wrote kept))
 
   -- the answer to the next line isn't written, or a prefix of it
@@ -111,7 +111,7 @@ module _ {all now held holds : Option (List ℕ)} {start session : Session} {num
       → LineStops session number line holds wrote kind → ScriptEnds start script remains held wrote last (Err kind)
   stops_at script rest more remains wrote last halt.CannotRead is next stopped = absurd stopped
   stops_at script rest more remains wrote last halt.CannotWrite is next stopped =
-      subst (λ text. AppendsFront held wrote text) (sym (ap (λ xs. (lines_outcome 1 start xs).0) (cut script rest is ∙ ap (λ xs. whole_lines [] reached.read ++ xs) next) ∙ text_with start session (whole_lines [] reached.read) number line reached.is_number reached.is_session more))
+      subst (λ text. AppendsPrefix held wrote text) (sym (ap (λ xs. (lines_outcome 1 start xs).0) (cut script rest is ∙ ap (λ xs. whole_lines [] reached.read ++ xs) next) ∙ text_with start session (whole_lines [] reached.read) number line reached.is_number reached.is_session more))
       (prefix_after held holds wrote so_far.0 (line_outcome number session line).0 (lines_outcome (suc (1 + length (whole_lines [] reached.read))) (line_outcome number session line).1 more).0 reached.wrote stopped)
   stops_at script rest more remains wrote last halt.NoMemory is next stopped = memory_stops script rest remains wrote last is stopped
 

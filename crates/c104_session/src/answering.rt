@@ -1,7 +1,7 @@
 //! A script, read and answered line by line.
 ghost use Rattle.std.specs.Prelude.{◌≡◌, [], ◌∷◌, ◌++◌, MatchResult, OnOk};
 ghost use Rattle.std.specs.Io.KnownBytes.{Appends, prepend_known};
-ghost use Rattle.c104_stream.specs.Writing.{AppendsFront};
+ghost use Rattle.c104_stream.specs.Writing.{AppendsPrefix};
 ghost use Rattle.c104_session.specs.Shown.{line_outcome};
 ghost use Rattle.c104_session.specs.Runs.{AnswersScript, AnswersLine, LineStops};
 

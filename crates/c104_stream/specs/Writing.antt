@@ -3,8 +3,8 @@ use Rattle.std.specs.Prelude.{ℕ, ◌≡◌, List, ◌++◌, Option}
 use Rattle.std.specs.Io.KnownBytes.{Appends}
 
 -- what a writer holds grew by a prefix of these bytes
-pub record AppendsFront (old new : Option (List ℕ)) (bytes : List ℕ) : Type 0 where
+pub record AppendsPrefix (old new : Option (List ℕ)) (bytes : List ℕ) : Type 0 where
   pub written : List ℕ
   pub unwritten : List ℕ
   pub grew : Appends old new written
-  pub is_front : bytes ≡ written ++ unwritten
+  pub is_prefix : bytes ≡ written ++ unwritten

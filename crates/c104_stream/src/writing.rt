@@ -1,7 +1,7 @@
 //! Bytes to a writer.
 ghost use Rattle.std.specs.Prelude.{OnOk, OnErr};
 ghost use Rattle.std.specs.Io.KnownBytes.{Appends};
-ghost use Rattle.c104_stream.specs.Writing.{AppendsFront};
+ghost use Rattle.c104_stream.specs.Writing.{AppendsPrefix};
 
 use std::io::Write;
 
@@ -12,7 +12,7 @@ pub struct CannotWrite;
 /// Writes all of the bytes, or a prefix of them.
 pub fn write_whole<W: Write>(writer: &mut W, bytes: &[u8]) -> Result<(), CannotWrite>
     ensures all { OnOk result (Appends (W.contents writer.old) (W.contents writer.new) bytes.now) }
-    ensures front { OnErr result (AppendsFront (W.contents writer.old) (W.contents writer.new) bytes.now) }
+    ensures prefix { OnErr result (AppendsPrefix (W.contents writer.old) (W.contents writer.new) bytes.now) }
 {
     let mut rest = bytes;
     while !rest.is_empty() {

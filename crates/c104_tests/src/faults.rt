@@ -14,7 +14,7 @@ fn message_of<F: Display>(alloc: Global, fault: &F) -> Result<String, Fail> {
 
 #[test]
 fn of_packets(rt: HostRuntime) -> Result<(), Fail> {
-    assert!(rt; message_of(rt.alloc(), &NoMemory)?.as_str() == "no memory");
+    assert!(rt; message_of(rt.alloc(), &NoMemory)?.as_str() == "out of memory");
     for (fault, message) in [
         (
             TokenFault::BadHex,
@@ -26,7 +26,7 @@ fn of_packets(rt: HostRuntime) -> Result<(), Fail> {
         ),
         (TokenFault::AfterEnd, "a word follows the packet's end"),
         (TokenFault::TooLong, "the packet has more than 4096 bytes"),
-        (TokenFault::NoMemory, "no memory"),
+        (TokenFault::NoMemory, "out of memory"),
     ] {
         let found = message_of(rt.alloc(), &fault)?;
         assert!(rt; found.as_str() == message, "{found}");
@@ -162,7 +162,7 @@ fn of_descriptions(rt: HostRuntime) -> Result<(), Fail> {
             "MixedStyle",
             "the line does not go with the lines before",
         ),
-        (PlanFaultKind::NoMemory, 13, "NoMemory", "no memory"),
+        (PlanFaultKind::NoMemory, 13, "NoMemory", "out of memory"),
     ] {
         let found = message_of(rt.alloc(), &kind)?;
         let told = (kind.number(), kind.name(), found.as_str());
@@ -205,7 +205,7 @@ fn of_events(rt: HostRuntime) -> Result<(), Fail> {
             "InboxFull",
             "the terminal has no room for one more token that arrives",
         ),
-        (EventFault::NoMemory, 8, "NoMemory", "no memory"),
+        (EventFault::NoMemory, 8, "NoMemory", "out of memory"),
     ] {
         let found = message_of(rt.alloc(), &fault)?;
         let told = (fault.number(), fault.name(), found.as_str());
@@ -218,7 +218,7 @@ fn of_events(rt: HostRuntime) -> Result<(), Fail> {
 fn of_placing(rt: HostRuntime) -> Result<(), Fail> {
     for (fault, message) in [
         (PlaceFault::NotFitting, "the image doesn't fit the plan"),
-        (PlaceFault::NoMemory, "no memory"),
+        (PlaceFault::NoMemory, "out of memory"),
     ] {
         let found = message_of(rt.alloc(), &fault)?;
         assert!(rt; found.as_str() == message, "{found}");

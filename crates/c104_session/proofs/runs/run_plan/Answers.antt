@@ -11,7 +11,7 @@ pub returns-in_err-write_whole : goal.returns-in_err-write_whole
 returns-in_err-write_whole g c =
     let answered = rw c.if-branch.true at c.in_ok-answered.ensures in
     rw (err_is _ _ c.from_residual-in_err-write_whole.ensures)
-    (long_stops c.args.plan.now _ _ _ _ _ c.answer_script-answered.new.session (of_plan c.args.plan.now _ _ _ _ _ _ _ c.in_ok-session.ensures answered) c.in_err-write_whole.ensures.front)
+    (long_stops c.args.plan.now _ _ _ _ _ c.answer_script-answered.new.session (of_plan c.args.plan.now _ _ _ _ _ _ _ c.in_ok-session.ensures answered) c.in_err-write_whole.ensures.prefix)
 
 pub returns-then-branch : goal.returns-then-branch
 returns-then-branch g c =
@@ -27,7 +27,7 @@ returns-in_err-summary g c =
 pub returns-in_err-write_whole-2 : goal.returns-in_err-write_whole-2
 returns-in_err-write_whole-2 g c =
     let answered = rw c.if-branch.false at c.in_ok-answered.ensures in
-    let front = rw (c.as_slice.ensures.value, c.in_ok-summary.ensures, c.finish-ended.ensures.run) at c.in_err-write_whole-2.ensures.front in
+    let front = rw (c.as_slice.ensures.value, c.in_ok-summary.ensures, c.finish-ended.ensures.run) at c.in_err-write_whole-2.ensures.prefix in
     rw (err_is _ _ c.from_residual-in_err-write_whole-2.ensures)
     (summary_stops c.args.plan.now _ _ _ _ _ c.answer_script-answered.new.session (of_plan c.args.plan.now _ _ _ _ _ _ _ c.in_ok-session.ensures answered) front)
 
