@@ -10,7 +10,8 @@ use Rattle.c104_control.specs.declared.faults.CommandFault.{CommandFault}
 use Rattle.c104_control.specs.Reading.{read_command}
 use Rattle.c104_switch.specs.Switch as switch
 use Rattle.c104_switch.specs.Commands.{switch_reset, input_reset}
-use Rattle.c104_switch.specs.Control.{switch_control, switch_obey, switch_obey_if_read, already_started_number}
+use Rattle.c104_switch.specs.Control.{switch_control, switch_obey, switch_obey_if_read}
+use Rattle.c104_control.specs.declared.replies.TheConstants.{ALREADY_STARTED}
 use Rattle.c104_net.specs.declared.node.NodeOf.TheVariants.{Switch}
 use Rattle.c104_net.proofs.BalancePlaces.{Rests}
 use Rattle.c104_net.proofs.BalanceTurns.{credit_seen, granted_seen}
@@ -40,7 +41,7 @@ module _ {A : Type 0} (s : switch.Switch A) where
   start_rests false again first = same_sides true s.settings
 
   obeyed_rests : (c : Command) → Rests (Switch s) (Switch (switch_obey s c).1)
-  obeyed_rests Start = start_rests s.started (Refused already_started_number) Started
+  obeyed_rests Start = start_rests s.started (Refused ALREADY_STARTED) Started
   obeyed_rests Reset = reset_rests
   obeyed_rests Identify = same_sides s.started s.settings
   obeyed_rests (CPeek a) = same_sides s.started s.settings

@@ -6,6 +6,7 @@ use Rattle.c104_control.specs.declared.replies.Answer.{Answer}
 use Rattle.c104_control.specs.declared.commands.Command.TheVariants.{Start, Reset, Identify, CPeek, CPoke}
 use Rattle.c104_control.specs.declared.replies.Answer.TheVariants.{Started, WasReset, Identity, Value, Poked, Refused}
 use Rattle.c104_control.specs.Reading.{read_command}
+use Rattle.c104_control.specs.declared.replies.TheConstants.{ALREADY_STARTED}
 use Rattle.c104_control.specs.declared.faults.CommandFault.{CommandFault}
 use Rattle.c104_control.specs.Faults as command
 use Rattle.c104_regs.specs.declared.faults.RegFault.{RegFault}
@@ -13,10 +14,6 @@ use Rattle.c104_regs.specs.Faults as register
 use Rattle.c104_switch.specs.Switch.{Switch}
 use Rattle.c104_switch.specs.Peeks.{switch_peek}
 use Rattle.c104_switch.specs.Commands.{switch_reset, switch_poke, switch_start}
-
--- a switch that is started already is not started again
-abbrev pub already_started_number : ℕ
-already_started_number = 7
 
 -- what is answered of a register that was to be read, and of one that was to be set
 abbrev pub peek_answer : Result ℕ RegFault → Answer
@@ -27,9 +24,9 @@ abbrev pub poke_answer : Result (Unit {0}) RegFault → Answer
 poke_answer (Ok u) = Poked
 poke_answer (Err e) = Refused (register.register_fault_number e)
 
--- what a command does, and its answer
+-- what a command does, and its answer; a switch that is started already is not started again
 abbrev pub switch_obey : {A : Type 0} → Switch A → Command → Answer × Switch A
-switch_obey s Start = if s.started then (Refused already_started_number, s) else (Started, switch_start s)
+switch_obey s Start = if s.started then (Refused ALREADY_STARTED, s) else (Started, switch_start s)
 switch_obey s Reset = (WasReset, switch_reset s)
 switch_obey s Identify = (Identity device_id, s)
 switch_obey s (CPeek a) = (peek_answer (switch_peek s a), s)

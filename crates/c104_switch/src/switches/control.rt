@@ -4,11 +4,10 @@ ghost use Rattle.c104_control.specs.Table.{IsAnswerTo};
 ghost use Rattle.c104_switch.specs.Control.{switch_control, switch_obey};
 
 use super::SwitchOf;
-use c104_control::{Answer, Command, ControlBytes, DEVICE_ID, read_command, write_reply};
+use c104_control::{
+    ALREADY_STARTED, Answer, Command, ControlBytes, DEVICE_ID, read_command, write_reply,
+};
 use c104_token::TokenKind;
-
-/// Why a switch that is started already refuses to be started.
-const STARTED_AGAIN: u8 = 7;
 
 impl<T: TokenKind> SwitchOf<T> {
     /// Does what a control command says, and gives the bytes of the reply. Where the bytes are no
@@ -31,7 +30,7 @@ impl<T: TokenKind> SwitchOf<T> {
         match command {
             Command::Start => {
                 if self.started() {
-                    return Answer::Refused(STARTED_AGAIN);
+                    return Answer::Refused(ALREADY_STARTED);
                 }
                 self.start();
                 Answer::Started
