@@ -1,6 +1,6 @@
 -- Which of the 32 outputs are taken: a mark for each, set where the output belongs to a claim. A claim
 -- is the number of its output.
-use Rattle.std.specs.Prelude.{◌≡◌, ℕ, ◌+◌, ◌==◌, Bool, true, false, not, nat_lt, List, [], ◌∷◌, ◌++◌, Option, Some, None, replicate, if◌then◌else◌, slice_index_or, slice_set}
+use Rattle.std.specs.Prelude.{option_to_list, ◌≡◌, ℕ, ◌+◌, ◌==◌, Bool, true, false, not, nat_lt, List, [], ◌∷◌, ◌++◌, Option, Some, None, replicate, if◌then◌else◌, slice_index_or, slice_set}
 use Rattle.c104_crossbar.specs.declared.TheConstants.{LINKS}
 
 -- the marks at first: no output is taken
@@ -34,15 +34,10 @@ abbrev pub ArePartition : List ℕ → List Bool → Type 0
 ArePartition claims marks =
     (o : ℕ) → times o claims + bool_number (is_free marks o) ≡ bool_number (nat_lt o LINKS)
 
--- the claim that was made, or none
-abbrev pub claim_list : Option ℕ → List ℕ
-claim_list None = []
-claim_list (Some claim) = claim ∷ []
-
 -- whatever other claims there are, the outputs stay a partition where this claim, if any, was made
 abbrev pub ClaimKeepsPartition : List Bool → Option ℕ → List Bool → Type 0
 ClaimKeepsPartition marks claim after =
-    (claims : List ℕ) → ArePartition claims marks → ArePartition (claim_list claim ++ claims) after
+    (claims : List ℕ) → ArePartition claims marks → ArePartition (option_to_list claim ++ claims) after
 
 -- and where this claim was given back
 abbrev pub ReleaseKeepsPartition : List Bool → ℕ → List Bool → Type 0

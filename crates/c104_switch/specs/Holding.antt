@@ -1,7 +1,6 @@
 -- Which claims the inputs hold: an input holds the claim of an output exactly while it streams to it.
-use Rattle.std.specs.Prelude.{ℕ, Bool, true, false, List, [], ◌∷◌, ◌++◌, Option, slice_get}
+use Rattle.std.specs.Prelude.{option_to_list, ℕ, Bool, true, false, List, [], ◌∷◌, ◌++◌, Option, slice_get}
 use Rattle.c104_link.specs.Steps.{◌>>=◌}
-use Rattle.c104_crossbar.specs.Marks.{claim_list}
 use Rattle.c104_switch.specs.Phases.{Phase, streamed_output}
 use Rattle.c104_switch.specs.Switch.{Input, Switch}
 use Rattle.c104_switch.specs.declared.input.turns.Turn.{Turn}
@@ -9,7 +8,7 @@ use Rattle.c104_switch.specs.declared.input.turns.Turn.TheVariants as turn
 
 -- the claims that go with a phase: one or none
 abbrev pub phase_claims : {H : Type 0} → Phase H → List ℕ
-phase_claims phase = claim_list (streamed_output phase)
+phase_claims phase = option_to_list (streamed_output phase)
 
 -- the claims of all inputs, in order
 abbrev pub held_claims : {A : Type 0} → List (Input A) → List ℕ

@@ -1,7 +1,6 @@
 //! The input side of one link.
-ghost use Rattle.std.specs.Prelude.{◌≡◌, ◌==◌, Bool, ℕ, length, List, IfOk, is_some};
+ghost use Rattle.std.specs.Prelude.{option_to_list, ◌≡◌, ◌==◌, Bool, ℕ, length, List, IfOk, is_some};
 ghost use Rattle.std.specs.Option.{option_copied};
-ghost use Rattle.c104_crossbar.specs.Marks.{claim_list};
 ghost use Rattle.c104_link.specs.Buffers.{Incoming, empty_incoming, IsValidCap, IsWithinCap};
 ghost use Rattle.c104_link.specs.Steps.{bool_outcome};
 ghost use Rattle.c104_switch.specs.Switch.{Input, input_accept, input_grant, new_input};
@@ -75,7 +74,7 @@ impl<T: TokenKind> InputOf<T> {
 
     /// Lets go of all but the claim, if the input holds one.
     pub fn retire(self) -> Option<Claim>
-        ensures { claim_list result ≡ phase_claims self.phase }
+        ensures { option_to_list result ≡ phase_claims self.phase }
     {
         let InputOf {
             buffer: _,
@@ -92,7 +91,7 @@ impl<T: TokenKind> InputOf<T> {
     /// comes back, if the input holds one.
     pub fn reset(&mut self) -> Option<Claim>
         ensures reset { self.new ≡ input_reset self.old }
-        ensures claims { claim_list result ≡ phase_claims self.old.phase }
+        ensures claims { option_to_list result ≡ phase_claims self.old.phase }
     {
         self.buffer.clear();
         self.phase = Phase::Fresh;

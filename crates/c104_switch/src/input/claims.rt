@@ -1,6 +1,5 @@
 //! An input's claim of an output.
-ghost use Rattle.std.specs.Prelude.{◌≡◌, ◌<◌, ◌∷◌, ◌++◌, Bool, List, Some, None, is_some, is_none};
-ghost use Rattle.c104_crossbar.specs.Marks.{claim_list};
+ghost use Rattle.std.specs.Prelude.{option_to_list, ◌≡◌, ◌<◌, ◌∷◌, ◌++◌, Bool, List, Some, None, is_some, is_none};
 ghost use Rattle.c104_link.specs.Buffers.{Outgoing};
 ghost use Rattle.c104_link.specs.Steps.{bool_outcome};
 ghost use Rattle.c104_regs.specs.declared.registers.TheConstants.{LINKS};
@@ -28,7 +27,7 @@ impl<T: TokenKind> InputOf<T> {
     ) -> Option<Claim>
         ensures claimed { IsClaim registers.now.settings claim
             self.old outputs.old (is_none result) self.new outputs.new }
-        ensures claims { claim_list result ++ phase_claims self.new.phase ≡
+        ensures claims { option_to_list result ++ phase_claims self.new.phase ≡
             claim ∷ phase_claims self.old.phase }
     {
         let Phase::Want((), link) = self.phase else {
