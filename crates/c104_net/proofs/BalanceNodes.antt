@@ -9,7 +9,7 @@ use Rattle.c104_switch.specs.Switch as switch
 use Rattle.c104_switch.specs.Turns as turns
 use Rattle.c104_switch.specs.Claims as claims
 use Rattle.c104_switch.specs.Control as controls
-use Rattle.c104_switch.proofs.SoundnessSteps.{given, required, at_place_made, from_place_made, with_place_made}
+use Rattle.c104_link.proofs.MadeSteps.{given, required, at_place_made, from_place_made, with_place_made}
 use Rattle.c104_net.specs.declared.node.NodeOf.TheVariants.{Switch, Terminal}
 use Rattle.c104_net.specs.Terminals as terminal
 use Rattle.c104_net.specs.Nodes.{Node, as_switch, node_enter, node_leave, node_credit_out, node_credit_in, node_input, node_claim, node_control, node_send, node_drain}

@@ -2,7 +2,7 @@
 use Rattle.std.proofs.Common.{◌≡◌, ◌≢◌, ℕ, Bool, inl, inr, List, Option, Some, None, length, slice_get, slice_set, refl, sym, ◌∙◌, ap, subst}
 use Rattle.std.specs.Option.{option_map}
 use Rattle.c104_link.specs.Steps.{step_at, yield_step_at, bool_outcome, option_outcome}
-use Rattle.c104_switch.proofs.SoundnessSteps.{given, at_place_made, from_place_made, holds_tried, holds_taken}
+use Rattle.c104_link.proofs.MadeSteps.{given, at_place_made, from_place_made, holds_tried, holds_taken}
 use Rattle.c104_event.specs.declared.events.Port.{Port}
 use Rattle.c104_net.specs.declared.nodes.End.{End}
 use Rattle.c104_describe.specs.Plans.{Plan, IsPlan}

@@ -12,7 +12,7 @@ use Rattle.c104_switch.specs.Switch.{Input, with_buffer, input_accept, input_gra
 use Rattle.c104_switch.specs.Headers.{phase_after_header}
 use Rattle.c104_switch.specs.Turns.{input_after_token, phase_after_token, header_turn, random_turn, turn_by_phase, input_turn}
 use Rattle.c104_switch.specs.Claims.{streaming_input, put_header, input_claim}
-use Rattle.c104_switch.proofs.SoundnessSteps.{given, required, at_place_made}
+use Rattle.c104_link.proofs.MadeSteps.{given, required, at_place_made}
 use Rattle.c104_net.proofs.BalancePlaces.{seen_kept, lower, raise}
 
 -- a number that stays the same in what a step gives under a condition

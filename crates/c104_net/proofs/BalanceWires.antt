@@ -4,7 +4,7 @@ use Rattle.std.specs.Prelude.{AllPairs}
 use Rattle.std.proofs.lemmas.Bool.{cases_eq, and_parts}
 use Rattle.std.proofs.lemmas.Bool.Decides.{nat_tests}
 use Rattle.std.proofs.lemmas.Option.{slice_get_within, get_or_from_slice_get}
-use Rattle.c104_switch.proofs.SoundnessSteps.{All-place}
+use Rattle.c104_link.proofs.MadeSteps.{All-place}
 use Rattle.c104_event.specs.declared.events.Port.{Port}
 use Rattle.c104_event.specs.declared.events.Port.TheVariants as port
 use Rattle.c104_net.specs.declared.nodes.End.{End}

@@ -11,7 +11,7 @@ use Rattle.c104_switch.specs.Group.{is_in_group}
 use Rattle.c104_switch.specs.Switch.{Phase, Fresh, Head, Want, Stream, Sinking, Input, is_owned}
 use Rattle.c104_switch.specs.Claims.{streaming_input, put_header, input_claim, inputs_claim}
 use Rattle.c104_switch.specs.Holding.{held_claims}
-use Rattle.c104_switch.proofs.Lifts.{lift_beside}
+use Rattle.c104_link.proofs.Lifts.{lift_beside}
 use Rattle.c104_switch.proofs.HeldClaims.{free_unowned, taken_owned}
 
 module _ {A : Type 0} (settings : List Settings) (ps : List (Input A)) (qs : List (Outgoing A)) (i o : ℕ) where

@@ -1,8 +1,4 @@
--- Laws for the crates above too: a step of one element of a list as a step of the list, and what a
--- step that was made says of what it leaves.
-pub mod Lifts
-pub mod SoundnessSteps
--- Lemmas of this crate alone: the claims that inputs hold, groups by bits, readiness, what every switch
+-- The claims that inputs hold, groups by bits, readiness, what every switch
 -- keeps, and what commands leave.
 mod HeldClaims
 mod HeldSteps

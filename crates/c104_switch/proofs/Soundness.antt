@@ -13,7 +13,7 @@ use Rattle.c104_switch.specs.Switch.{Fresh, Stream, Input, Switch, is_owned, wit
 use Rattle.c104_switch.specs.Turns.{input_turn, switch_input}
 use Rattle.c104_switch.specs.Claims.{streaming_input, input_claim, inputs_claim, switch_claim}
 use Rattle.c104_switch.specs.Soundness.{IsExclusive, IsSound}
-use Rattle.c104_switch.proofs.SoundnessSteps.{given, required, at_place_made, from_place_made, with_place_made, All-place}
+use Rattle.c104_link.proofs.MadeSteps.{given, required, at_place_made, from_place_made, with_place_made, All-place}
 use Rattle.c104_switch.proofs.SoundnessBuffers.{within_empty_in, within_empty_out, within_leave, within_credited}
 use Rattle.c104_switch.proofs.SoundnessInputs.{IsAlone, KeepsInput, exclusive_set, alone_at, unowned, keeps_accepted, keeps_granted}
 use Rattle.c104_switch.proofs.SoundnessTurns.{KeepsOutputs, keeps_at_place, keeps_turn, claimed_gives}

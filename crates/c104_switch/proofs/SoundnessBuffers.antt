@@ -3,7 +3,7 @@ use Rattle.std.proofs.Common.{◌≡◌, ◌+◌, ◌-◌, ℕ, List, [], ◌∷
 use Rattle.std.proofs.lemmas.Bool.Decides.{nat_tests}
 use Rattle.std.proofs.lemmas.List.{length_push}
 use Rattle.c104_link.specs.Buffers.{Incoming, Outgoing, IsValidCap, IsWithinCap, IsWithinLimits, empty_incoming, empty_outgoing, incoming_grant, incoming_accept, without_first, outgoing_put, outgoing_put_all, outgoing_emit, outgoing_credited}
-use Rattle.c104_switch.proofs.SoundnessSteps.{given, holds_under}
+use Rattle.c104_link.proofs.MadeSteps.{given, holds_under}
 
 module _ {A : Type 0} where
   -- a new input buffer is within its capacity

@@ -7,7 +7,7 @@ use Rattle.c104_regs.specs.declared.settings.Settings.{Settings}
 use Rattle.c104_switch.specs.Switch.{Fresh, Input, Switch}
 use Rattle.c104_switch.specs.Commands.{input_reset}
 use Rattle.c104_switch.specs.Soundness.{IsExclusive, IsSound}
-use Rattle.c104_switch.proofs.SoundnessSteps.{All-place}
+use Rattle.c104_link.proofs.MadeSteps.{All-place}
 
 module _ {A : Type 0} where
   -- a buffer without its tokens is within the same bounds

@@ -6,7 +6,7 @@ use Rattle.c104_link.specs.Buffers.{IsWithinCap, incoming_accept, incoming_grant
 use Rattle.c104_switch.specs.Phases.{is_stream}
 use Rattle.c104_switch.specs.Switch.{Phase, Stream, Input, is_owned, with_buffer, input_accept, input_grant}
 use Rattle.c104_switch.specs.Soundness.{IsExclusive}
-use Rattle.c104_switch.proofs.SoundnessSteps.{given, place_after_set}
+use Rattle.c104_link.proofs.MadeSteps.{given, place_after_set}
 use Rattle.c104_switch.proofs.SoundnessBuffers.{within_enter, within_grant}
 
 module _ {A : Type 0} where

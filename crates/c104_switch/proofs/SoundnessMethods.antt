@@ -9,7 +9,7 @@ use Rattle.c104_switch.specs.Switch.{Input, Switch, with_inputs, with_outputs, w
 use Rattle.c104_switch.specs.Turns.{input_turn, switch_input}
 use Rattle.c104_switch.specs.Claims.{inputs_claim}
 use Rattle.c104_switch.specs.Soundness.{IsSound}
-use Rattle.c104_switch.proofs.SoundnessSteps.{holds_tried, holds_taken}
+use Rattle.c104_link.proofs.MadeSteps.{holds_tried, holds_taken}
 use Rattle.c104_switch.proofs.Soundness.{Sides, sound_first, sound_accepted, sound_granted, sound_credited, sound_left, sound_turned, sound_claimed}
 
 -- a switch that is made of 32 settings, inputs and outputs at first

@@ -14,7 +14,7 @@ use Rattle.c104_switch.specs.Switch.{Phase, Fresh, Head, Want, Stream, Sinking, 
 use Rattle.c104_switch.specs.Headers.{decided_phase, is_sink, header_value, phase_after_header, random_header}
 use Rattle.c104_switch.specs.Turns.{input_after_token, phase_after_token, header_turn, random_turn, turn_by_phase, input_turn}
 use Rattle.c104_switch.specs.Claims.{streaming_input, put_header, input_claim}
-use Rattle.c104_switch.proofs.SoundnessSteps.{given, required, All-at_place, length-at_place}
+use Rattle.c104_link.proofs.MadeSteps.{given, required, All-at_place, length-at_place}
 use Rattle.c104_switch.proofs.SoundnessBuffers.{within_without_first, within_put, within_put_all}
 use Rattle.c104_switch.proofs.SoundnessInputs.{KeepsInput}
 

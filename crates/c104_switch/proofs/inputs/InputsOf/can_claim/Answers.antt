@@ -4,7 +4,7 @@ use Rattle.c104_crossbar.specs.Marks.{ArePartition}
 use Rattle.c104_switch.specs.Switch.{Input}
 use Rattle.c104_switch.specs.Claims.{input_claim}
 use Rattle.c104_switch.specs.Holding.{held_claims}
-use Rattle.c104_switch.proofs.Lifts.{can_with_place, cannot_with_place}
+use Rattle.c104_link.proofs.Lifts.{can_with_place, cannot_with_place}
 use Rattle.c104_switch.proofs.ClaimSteps.{unclaimable, claimable_there}
 use Rattle.c104_switch.proofs.inputs.InputsOf.can_claim.Goals as goal
 

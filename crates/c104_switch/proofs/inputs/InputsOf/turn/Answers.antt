@@ -1,7 +1,7 @@
 use Rattle.std.proofs.Common.{true, false, [], ◌∷◌, sym, arith}
 use Rattle.c104_switch.proofs.HeldClaims.{claimed_not_free}
 use Rattle.c104_switch.proofs.HeldSteps.{partition_spent}
-use Rattle.c104_switch.proofs.Lifts.{lift_beside}
+use Rattle.c104_link.proofs.Lifts.{lift_beside}
 use Rattle.c104_switch.proofs.inputs.InputsOf.turn.Goals as goal
 
 pub invariant_of-self-in-Done : goal.invariant_of-self-in-Done

@@ -1,5 +1,5 @@
 use Rattle.std.proofs.Common.{sym, arith}
-use Rattle.c104_switch.proofs.Lifts.{lift_taken}
+use Rattle.c104_link.proofs.Lifts.{lift_taken}
 use Rattle.c104_switch.proofs.outputs.OutputsOf.leave.Goals as goal
 
 pub returns : goal.returns

@@ -1,5 +1,5 @@
 use Rattle.std.proofs.Common.{sym, arith}
-use Rattle.c104_switch.proofs.Lifts.{lift_tried}
+use Rattle.c104_link.proofs.Lifts.{lift_tried}
 use Rattle.c104_switch.proofs.outputs.OutputsOf.put_header.Goals as goal
 
 pub returns : goal.returns
