@@ -14,7 +14,8 @@ use Rattle.c104_net.specs.Nodes.{Node, node_input, node_claim, node_control, nod
 use Rattle.c104_net.specs.Wires.{nodes_cross, nodes_credit}
 use Rattle.c104_net.specs.Wiring.{peer, end_of}
 use Rattle.c104_net.specs.Network.{AnswersEvent, Network, WouldBeDone, network_apply, done_step, event_fault, outcome_if_ready, outcome_if_possible, limit_fault, limited_node, token_step, control_step, network_step, terminal_place, outcome_within_limit}
-use Rattle.c104_net.specs.Rounds.{Outcome, EventsEnd, run_until, unless_fault, is_done_reply}
+use Rattle.c104_net.specs.Rounds.{Outcome, EventsEnd, run_until, unless_fault}
+use Rattle.c104_switch.specs.Actions.{is_ready}
 
 pub err_is : {X E : Type 0} (result : Result X E) (e : E) → IsErr result × IsErrAnd result (λ d. d ≡ e) → result ≡ Err e
 err_is (Ok x) e is = absurd (cc is.0)
@@ -116,7 +117,7 @@ module _ {A : Type 0} (kind : Kind A) where
         | inr refused ↦ absurd (cc refused.0)
       ]
 
-  pub undone_leaves : (mid after : Network A) (e : Event) (r : Reply) → is_done_reply r ≡ false → AnswersEvent kind mid e (Ok r) after → after ≡ mid
+  pub undone_leaves : (mid after : Network A) (e : Event) (r : Reply) → is_ready r ≡ false → AnswersEvent kind mid e (Ok r) after → after ≡ mid
   undone_leaves mid after e reply.NotReady undone answer = elim answer [ inl due ↦ unready_stays mid after e due | inr refused ↦ refused.2 ]
   undone_leaves mid after e reply.Done undone answer = cc
   undone_leaves mid after e (reply.Token x) undone answer = cc

@@ -1,11 +1,9 @@
 -- Rounds: the events in which every part of a network takes its turn, and a run that stops at the
 -- first fault.
-use Rattle.std.specs.Prelude.{ℕ, suc, zero, ◌≡◌, ◌⊎◌, Bool, true, false, List, [], ◌∷◌, ◌++◌, length, map, filter, is_some, Result, Ok, Err}
+use Rattle.std.specs.Prelude.{ℕ, suc, zero, ◌≡◌, ◌⊎◌, Bool, List, [], ◌∷◌, ◌++◌, length, map, filter, is_some, Result, Ok, Err}
 use Rattle.std.specs.List.{range_with_len, flat_map}
 use Rattle.c104_regs.specs.declared.registers.TheConstants.{LINKS}
 use Rattle.c104_token.specs.Kinds.{Kind}
-use Rattle.c104_switch.specs.declared.actions.Reply.{Reply}
-use Rattle.c104_switch.specs.declared.actions.Reply.TheVariants as reply
 use Rattle.c104_describe.specs.Plans.{Plan}
 use Rattle.c104_event.specs.declared.events.Port.{Port}
 use Rattle.c104_event.specs.declared.events.Port.TheVariants as port
@@ -73,11 +71,6 @@ round plan =
 abbrev pub rounds : Plan → ℕ → List Event
 rounds plan zero = []
 rounds plan (suc n) = round plan ++ rounds plan n
-
--- whether an event that was answered so was done
-abbrev pub is_done_reply : Reply → Bool
-is_done_reply reply.NotReady = false
-is_done_reply r = true
 
 -- what a run comes to: whether a fault stopped it, and the network after it
 abbrev pub Outcome : (A : Type 0) → Type 0

@@ -1,7 +1,8 @@
 //! Rounds, in which every part of a network takes its turn.
 ghost use Rattle.std.specs.Prelude.{◌≡◌, [], ◌∷◌, ◌++◌, filter, map, flat_map, Ok, IfOk, OnOk, MatchResult};
 ghost use Rattle.c104_net.specs.Rounds.{all_claims, all_drains, claims_of, is_wired, round, switch_claims};
-ghost use Rattle.c104_net.specs.Rounds.{turn_at, is_done_reply, wired_links, wired_ports, wired_terminals};
+ghost use Rattle.c104_net.specs.Rounds.{turn_at, wired_links, wired_ports, wired_terminals};
+ghost use Rattle.c104_switch.specs.Actions.{is_ready};
 ghost use Rattle.c104_event.specs.declared.events.Event.TheVariants as event;
 
 use crate::net::{NetOf, peer};
@@ -56,7 +57,7 @@ impl<T: TokenKind> NetOf<T> {
 
 /// Whether an event that was answered so was done.
 fn was_done(reply: Reply) -> bool
-    ensures { result ≡ is_done_reply reply }
+    ensures { result ≡ is_ready reply }
 {
     match reply {
         Reply::NotReady => false,

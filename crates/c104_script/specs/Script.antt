@@ -1,7 +1,7 @@
 -- The grammar of a script: what a line asks of a network of this plan. Of all that is wrong with a
 -- line the fault of the least number is answered, so conditions stand in the order of the faults'
 -- numbers; but a packet's words are read from the left, after all else.
-use Rattle.std.specs.Prelude.{ℕ, ◌+◌, ◌&&◌, ◌≡◌, ◌⊎◌, Bool, true, false, List, [], ◌∷◌, ◌++◌, length, take, drop, nat_le, bytes_eq, codes, if◌then◌else◌, Option, Some, None, Result, Ok, Err}
+use Rattle.std.specs.Prelude.{ℕ, ◌+◌, ◌&&◌, ◌≡◌, ◌⊎◌, Bool, List, [], ◌∷◌, ◌++◌, length, take, drop, nat_le, bytes_eq, codes, if◌then◌else◌, Option, Some, None, Result, Ok, Err}
 use Rattle.c104_token.specs.declared.faults.TokenFault.{TokenFault}
 use Rattle.c104_token.specs.declared.faults.TokenFault.TheVariants as token_fault
 use Rattle.c104_token.specs.Text.{spelled_byte, parse_words}

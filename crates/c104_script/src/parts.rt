@@ -16,7 +16,9 @@ pub fn read_first_part<R: Read>(
     ahead: &mut Ahead,
     reader: &mut R,
 ) -> Result<Vec<u8>, ReadFault>
-    ensures { IfOk result (λ bytes. TakesFirstPart (prepend_known ahead.old (R.remaining reader.old)) (prepend_known ahead.new (R.remaining reader.new)) bytes.items) }
+    ensures { IfOk result (λ bytes. TakesFirstPart
+        (prepend_known ahead.old (R.remaining reader.old))
+        (prepend_known ahead.new (R.remaining reader.new)) bytes.items) }
 {
     let mut part = FirstPart::new(alloc);
     let mut left = MAX_DESCRIPTION;
@@ -61,7 +63,8 @@ impl FirstPart {
             (if is_over then record { description = self.new.front.items; script = text }
             else parts_within left self.new.front.items self.new.line.items text)) }
         ensures grows { IfOk result (λ is_over. is_over ≡ false →
-            length self.new.front.items + length self.new.line.items ≡ length self.old.front.items + length self.old.line.items + 1) }
+            length self.new.front.items + length self.new.line.items ≡
+            length self.old.front.items + length self.old.line.items + 1) }
     {
         if byte != b'\n' {
             self.line.push(byte)?;
@@ -79,7 +82,8 @@ impl FirstPart {
     /// All that was read, where the text ends here; but not the line `script`.
     fn into_front(mut self, alloc: Global) -> Result<Vec<u8>, AllocError>
         ensures { IfOk result (λ bytes. (left : ℕ) →
-            parts_within left self.front.items self.line.items [] ≡ record { description = bytes.items; script = [] }) }
+            parts_within left self.front.items self.line.items [] ≡
+            record { description = bytes.items; script = [] }) }
     {
         if !is_script_line(alloc, self.line.as_slice())? {
             self.front.extend_from_slice(self.line.as_slice())?;

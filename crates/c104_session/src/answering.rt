@@ -24,8 +24,8 @@ pub fn answer_script<S: Read, W: Write>(
     script: &mut S,
     writer: &mut W,
 ) -> Result<bool, Halt>
-    ensures { AnswersScript session.old (prepend_known ahead.old (S.remaining script.old)) (S.remaining script.new)
-        (W.contents writer.old) (W.contents writer.new) session.new result }
+    ensures { AnswersScript session.old (prepend_known ahead.old (S.remaining script.old))
+        (S.remaining script.new) (W.contents writer.old) (W.contents writer.new) session.new result }
 {
     let mut line = Vec::new(alloc);
     let mut number = 1;
@@ -62,8 +62,10 @@ fn answer_line<W: Write>(
     writer: &mut W,
 ) -> Result<(), Halt>
     ensures { MatchResult result
-        (λ _. AnswersLine session.old number line.now (W.contents writer.old) (W.contents writer.new) session.new)
-        (λ halt. LineStops session.old number line.now (W.contents writer.old) (W.contents writer.new) halt) }
+        (λ _. AnswersLine session.old number line.now
+        (W.contents writer.old) (W.contents writer.new) session.new)
+        (λ halt. LineStops session.old number line.now
+        (W.contents writer.old) (W.contents writer.new) halt) }
 {
     let text = session.answer(alloc, number, line)?;
     write_whole(writer, text.as_bytes())?;

@@ -66,7 +66,8 @@ impl Session {
     /// The only error is out of memory; an event may be done by then.
     #[tactic(auto, unfolding(crate::specs::Shown::line_outcome))]
     pub fn answer(&mut self, alloc: Global, number: usize, line: &[u8]) -> Result<String, NoMemory>
-        ensures { IfOk result (λ text. ◌≡◌ {A = List ℕ × TheSession} (string_bytes text, self.new) (line_outcome number self.old line.now)) }
+        ensures { IfOk result (λ text. ◌≡◌ {A = List ℕ × TheSession}
+            (string_bytes text, self.new) (line_outcome number self.old line.now)) }
     {
         match read_line(alloc, self.net.plan(), line) {
             Ok(None) => Ok(String::new(alloc)),
@@ -87,7 +88,8 @@ impl Session {
         number: usize,
         request: &Request,
     ) -> Result<String, NoMemory>
-        ensures { IfOk result (λ text. ◌≡◌ {A = List ℕ × TheSession} (string_bytes text, self.new) (request_outcome number self.old request.now)) }
+        ensures { IfOk result (λ text. ◌≡◌ {A = List ℕ × TheSession}
+            (string_bytes text, self.new) (request_outcome number self.old request.now)) }
     {
         let answer = match request {
             Request::Asked(event) => self.net.apply(event),
@@ -105,7 +107,8 @@ impl Session {
 
 /// Does so many rounds, up to the first event that is refused.
 fn do_rounds(alloc: Global, net: &mut Net, count: u32) -> Result<Reply, EventFault>
-    ensures { (◌≡◌ {A = Result TheReply TheFault × Network Token} (result, net.new) (rounds_outcome net.old count)) ⊎ (result ≡ Err fault.NoMemory) }
+    ensures { (◌≡◌ {A = Result TheReply TheFault × Network Token}
+        (result, net.new) (rounds_outcome net.old count)) ⊎ (result ≡ Err fault.NoMemory) }
 {
     net.rounds(alloc, count)?;
     Ok(Reply::Done)

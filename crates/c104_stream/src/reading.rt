@@ -43,7 +43,8 @@ impl Model for Ahead {
 
     ghost view = { λ ahead. slice_range ahead.piece.items ahead.start ahead.end };
 
-    ghost invariant = { λ ahead. (ahead.start ≤ ahead.end) × (ahead.end ≤ vec_len ahead.piece) × (vec_len ahead.piece ≡ 8192) };
+    ghost invariant = { λ ahead. (ahead.start ≤ ahead.end)
+        × (ahead.end ≤ vec_len ahead.piece) × (vec_len ahead.piece ≡ 8192) };
 }
 
 impl Ahead {
@@ -63,8 +64,10 @@ impl Ahead {
     /// before, and once only.
     pub fn next_byte<R: Read>(&mut self, reader: &mut R) -> Result<Option<u8>, ReadFault>
         ensures { MatchResult result
-            (λ next. GivesByte (prepend_known self.old (R.remaining reader.old)) (prepend_known self.new (R.remaining reader.new)) next)
-            (λ _. (self.new ≡ []) × Keeps (prepend_known self.old (R.remaining reader.old)) (R.remaining reader.new)) }
+            (λ next. GivesByte (prepend_known self.old (R.remaining reader.old))
+            (prepend_known self.new (R.remaining reader.new)) next)
+            (λ _. (self.new ≡ []) ×
+            Keeps (prepend_known self.old (R.remaining reader.old)) (R.remaining reader.new)) }
     {
         if self.start >= self.end {
             self.read_piece(reader)?;
@@ -80,7 +83,8 @@ impl Ahead {
     /// Asks the reader for one piece, in place of what was left.
     fn read_piece<R: Read>(&mut self, reader: &mut R) -> Result<(), ReadFault>
         ensures { MatchResult result
-            (λ _. Consumes (R.remaining reader.old) (R.remaining reader.new) self.new × (self.new ≡ [] → IsAtEnd (R.remaining reader.new)))
+            (λ _. Consumes (R.remaining reader.old) (R.remaining reader.new) self.new ×
+            (self.new ≡ [] → IsAtEnd (R.remaining reader.new)))
             (λ _. (self.new ≡ []) × Keeps (R.remaining reader.old) (R.remaining reader.new)) }
     {
         self.start = 0;
@@ -97,7 +101,8 @@ impl Ahead {
 
 /// All bytes to the end, or one more than there may be.
 pub fn read_up_to<R: Read>(alloc: Global, most: usize, reader: &mut R) -> Result<Vec<u8>, ReadFault>
-    ensures { IfOk result (λ bytes. TakesUpTo most (R.remaining reader.old) (R.remaining reader.new) bytes.items) }
+    ensures { IfOk result (λ bytes.
+        TakesUpTo most (R.remaining reader.old) (R.remaining reader.new) bytes.items) }
 {
     let mut ahead = Ahead::new(alloc)?;
     let mut bytes = Vec::new(alloc);

@@ -1,5 +1,6 @@
 use Rattle.std.proofs.Common.{◌≡◌, ◌∙◌, ap, arith, false, inl, sym, take_all}
-use Rattle.c104_net.specs.Rounds.{run_until, is_done_reply}
+use Rattle.c104_net.specs.Rounds.{run_until}
+use Rattle.c104_switch.specs.Actions.{is_ready}
 use Rattle.c104_net.proofs.RoundRuns.{err_is, fault_ends, goes_on, undone_leaves}
 use Rattle.c104_net.proofs.net.NetOf.apply_until.Goals as goal
 use Rattle.c104_net.proofs.net.NetOf.apply_until.Goals.{then-was_done, else-was_done}
@@ -10,7 +11,7 @@ loop-event-preserved g c = record {
   unchanged = λ unchanged. elim c.if-was_done.branch [
     | then-was_done w ↦ absurd (cc (w.changed-is, unchanged))
     | else-was_done w ↦
-        let undone : is_done_reply c.in_ok-reply.reply ≡ false = sym c.was_done.ensures ∙ w.if-was_done.false in
+        let undone : is_ready c.in_ok-reply.reply ≡ false = sym c.was_done.ensures ∙ w.if-was_done.false in
         undone_leaves g.T.TokenKind.kind c.loop-event.self c.apply.new.self c.event-item.result c.in_ok-reply.reply undone c.in_ok-reply.ensures ∙ c.loop-event.invariant.unchanged (sym w.changed-is ∙ unchanged)
   ];
 }
