@@ -11,7 +11,8 @@ use Rattle.c104_session.specs.Runs.{AnswersPrefix}
 use Rattle.c104_commands.specs.declared.status.Status.{Status}
 use Rattle.c104_commands.specs.declared.status.Status.TheVariants as status
 
--- the lines that a run may have answered where it is out of memory: none of a refused description
+-- the bytes of the answers to a script, of which a run that is out of memory has written a prefix; there
+-- are none to a refused description
 abbrev pub answerable : Result Plan PlanFault → List ℕ → List ℕ
 answerable (Err fault) script = []
 answerable (Ok plan) script = (script_outcome (new_session plan) script).0

@@ -16,16 +16,19 @@ use Rattle.c104_control.specs.declared.replies.Answer.TheVariants.{Started, WasR
 abbrev pub device_id : ℕ
 device_id = DEVICE_ID
 
--- why a switch refuses what a peek or a poke asks of a register
+-- why a switch refuses a peek or a poke: no register has the address
 abbrev pub no_register_number : ℕ
 no_register_number = 3
 
+-- why it refuses a poke: the register can't be set
 abbrev pub read_only_number : ℕ
 read_only_number = 4
 
+-- the same: the register doesn't take the value
 abbrev pub out_of_range_number : ℕ
 out_of_range_number = 5
 
+-- the same: the link's mode can't be set while a packet is on its way through the link
 abbrev pub busy_number : ℕ
 busy_number = 6
 

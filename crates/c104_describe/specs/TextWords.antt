@@ -20,7 +20,7 @@ is_digit byte = nat_le 0x30 byte && nat_le byte 0x39
 abbrev pub value_of : List ℕ → ℕ
 value_of digits = fold (λ value digit. 10 * value + (digit - 0x30)) 0 digits
 
--- the value of a number: decimal digits, at least one
+-- the value of a number: decimal digits, at least one and at most 7
 abbrev pub read_number : List ℕ → Option ℕ
 read_number word =
     if (nat_le 1 (length word) && nat_le (length word) most_digits) && list_all is_digit word
@@ -35,7 +35,7 @@ is_letter byte = (nat_le 0x41 byte && nat_le byte 0x5a) || (nat_le 0x61 byte && 
 abbrev pub is_name_byte : ℕ → Bool
 is_name_byte byte = (is_letter byte || is_digit byte) || (byte == 0x5f || byte == 0x2d)
 
--- whether a word is a name: a letter, and then letters, digits, `_` and `-`
+-- whether a word is a name: a letter, and then letters, digits, `_` and `-`; at most 32 bytes in all
 abbrev pub is_name : List ℕ → Bool
 is_name [] = false
 is_name (first ∷ rest) =

@@ -3,7 +3,8 @@ use Rattle.std.specs.Prelude.{ℕ, List, codes}
 use Rattle.c104_event.specs.declared.faults.EventFault.{EventFault}
 use Rattle.c104_event.specs.declared.faults.EventFault.TheVariants as fault
 
--- the number that is printed
+-- the number that is printed: 1 to 6, and 8; 7 is kept free for the limit of a list of entries, which
+-- isn't there yet
 abbrev pub event_fault_number : EventFault → ℕ
 event_fault_number fault.NoNode = 1
 event_fault_number fault.NoLink = 2

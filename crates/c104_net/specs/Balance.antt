@@ -20,9 +20,11 @@ abbrev pub granted_of : {A : Type 0} → ℕ → Node A → Option ℕ
 granted_of l (Switch s) = slice_get s.inputs l >>= (λ p. Some p.buffer.granted)
 granted_of l (Terminal t) = Some t.input.granted
 
+-- how many tokens may be sent at an end of a wire, where there is such a node and link
 abbrev pub credit_at : {A : Type 0} → List (Node A) → End → Option ℕ
 credit_at nodes end = slice_get nodes end.node >>= credit_of end.link
 
+-- how many tokens are granted at an end of a wire, where there is such a node and link
 abbrev pub granted_at : {A : Type 0} → List (Node A) → End → Option ℕ
 granted_at nodes end = slice_get nodes end.node >>= granted_of end.link
 
@@ -31,6 +33,7 @@ abbrev pub AreLevel : {A : Type 0} → List (Node A) → End → End → Type 0
 AreLevel nodes from to =
     (credit : ℕ) × (credit_at nodes from ≡ Some credit) × (granted_at nodes to ≡ Some credit)
 
+-- the invariant of the wires: at each end the credit is what the other end has granted
 abbrev pub IsBalanced : {A : Type 0} → Network A → Type 0
 IsBalanced net =
     (p q : Port) → peer net.plan p ≡ Some q → AreLevel net.nodes (end_of net.plan p) (end_of net.plan q)

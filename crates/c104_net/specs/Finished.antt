@@ -7,6 +7,7 @@ use Rattle.c104_net.specs.Nodes.{Node}
 use Rattle.c104_net.specs.declared.node.NodeOf.TheVariants as node
 use Rattle.c104_net.specs.Network.{Network}
 
+-- a run that is finished: the plan of its network, and the terminals at its end, in order
 pub record FinishedRun (A : Type 0) : Type 0 where
   pub plan : Plan
   pub terminals : List (Terminal A)

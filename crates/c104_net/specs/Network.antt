@@ -23,11 +23,13 @@ use Rattle.c104_net.specs.Nodes.{Node, node_input, node_claim, node_control, nod
 use Rattle.c104_net.specs.Wires.{nodes_cross, nodes_credit}
 use Rattle.c104_net.specs.Wiring.{peer, end_of}
 
+-- a network: its plan, and the state of its nodes
 pub record Network (A : Type 0) : Type 0 where
   pub plan : Plan
   -- the switches in order, and then the terminals
   pub nodes : List (Node A)
 
+-- the network with these nodes
 abbrev pub with_nodes : {A : Type 0} → Network A → List (Node A) → Network A
 with_nodes net nodes = record net { nodes = nodes }
 
@@ -47,10 +49,11 @@ abbrev pub network_peek : {A : Type 0} → Network A → ℕ → ℕ → Option 
 network_peek net s a =
     if nat_lt s (length net.plan.switches) then nodes_peek net.nodes s a else None
 
--- how many tokens may wait at a terminal, and how many may arrive there
+-- how many tokens may wait at a terminal to go out
 abbrev pub outbox_limit : ℕ
 outbox_limit = 65536
 
+-- how many tokens may have arrived at a terminal
 abbrev pub inbox_limit : ℕ
 inbox_limit = 262144
 
@@ -58,11 +61,12 @@ inbox_limit = 262144
 abbrev pub buffer_size : ℕ
 buffer_size = 16
 
--- switches at first, each started with these settings, and terminals at first
+-- switches at first, each started with these settings
 abbrev pub switch_nodes : {A : Type 0} → List (List Settings) → List (Node A)
 switch_nodes switches =
     map (λ settings. node.Switch (new_switch_with buffer_size settings true)) switches
 
+-- terminals at first, one for each of these of a plan
 abbrev pub terminal_nodes : {A : Type 0} → List Terminal → List (Node A)
 terminal_nodes terminals =
     map (λ (t : Terminal). node.Terminal (new_terminal buffer_size)) terminals
@@ -85,25 +89,29 @@ placed_network plan image = record {
   nodes = switch_nodes image.settings ++ terminal_nodes plan.terminals;
 }
 
--- why an event can't happen in a network of this plan
+-- no such node, where n isn't below count; and else the other fault, if there is one
 abbrev pub node_fault : ℕ → ℕ → Option EventFault → Option EventFault
 node_fault count n other = if nat_lt n count then other else Some fault.NoNode
 
+-- no such link, where a switch has none of number l; and else the other fault, if there is one
 abbrev pub link_fault : ℕ → Option EventFault → Option EventFault
 link_fault l other = if nat_lt l LINKS then other else Some fault.NoLink
 
+-- no such node or link, where the plan has no such port; and else the other fault, if there is one
 abbrev pub port_fault : Plan → Port → Option EventFault → Option EventFault
 port_fault plan (port.Switch s l) other = node_fault (length plan.switches) s (link_fault l other)
 port_fault plan (port.Terminal t) other = node_fault (length plan.terminals) t other
 
+-- not wired, where there is no port at the other end of a wire
 abbrev pub wire_fault : Option Port → Option EventFault
 wire_fault None = Some fault.NotWired
 wire_fault (Some q) = None
 
--- the same, where an event is about the wire at a port
+-- why an event about the wire at a port can't happen: there is no such port, or it isn't wired
 abbrev pub wired_fault : Plan → Port → Option EventFault
 wired_fault plan p = port_fault plan p (wire_fault (peer plan p))
 
+-- why an event can't happen in a network of this plan, whatever its nodes hold
 abbrev pub event_fault : Plan → Event → Option EventFault
 event_fault plan (event.Cross p) = wired_fault plan p
 event_fault plan (event.Credit p) = wired_fault plan p
@@ -177,10 +185,12 @@ module _ {A : Type 0} (kind : Kind A) where
   outcome_within_limit net None r = (Ok r.0, r.1)
   outcome_within_limit net (Some f) r = (Err f, net)
 
+  -- an event that isn't ready changes nothing; one that is ready is done, if no limit is passed
   abbrev pub outcome_if_ready : Network A → Event → Option (Reply × Network A) → Result Reply EventFault × Network A
   outcome_if_ready net e None = (Ok reply.NotReady, net)
   outcome_if_ready net e (Some r) = outcome_within_limit net (limit_fault (limited_node net e) e) r
 
+  -- an event that can't happen is refused, and changes nothing; any other is done if it is ready
   abbrev pub outcome_if_possible : Network A → Event → Option EventFault → Result Reply EventFault × Network A
   outcome_if_possible net e None = outcome_if_ready net e (network_step net e)
   outcome_if_possible net e (Some f) = (Err f, net)

@@ -18,9 +18,11 @@ use Rattle.c104_net.specs.declared.node.NodeOf.TheVariants.{Switch, Terminal}
 abbrev pub Node : Type 0 → Type 0
 Node A = NodeOf A
 
+-- a switch after a step that could be made, as a node
 abbrev pub as_switch : {A : Type 0} → switch.Switch A → Option (Node A)
 as_switch s = Some (Switch s)
 
+-- a terminal after a step that could be made, as a node
 abbrev pub as_terminal : {A : Type 0} → terminal.Terminal A → Option (Node A)
 as_terminal t = Some (Terminal t)
 
@@ -77,28 +79,31 @@ outcome_at place step nodes = bool_outcome (step_at nodes place step) nodes
 abbrev pub yield_outcome_at : {A X : Type 0} → ℕ → (Node A → Option (X × Node A)) → List (Node A) → Option X × List (Node A)
 yield_outcome_at place step nodes = option_outcome (yield_step_at nodes place step) nodes
 
--- what waits to go out of a terminal, and what arrived there
+-- the tokens that wait to go out of a terminal; none of a switch
 abbrev pub waiting_tokens : {A : Type 0} → Node A → List A
 waiting_tokens (Switch s) = []
 waiting_tokens (Terminal t) = t.output.items
 
+-- the tokens that arrived at a terminal; none of a switch
 abbrev pub arrived_tokens : {A : Type 0} → Node A → List A
 arrived_tokens (Switch s) = []
 arrived_tokens (Terminal t) = t.arrived
 
--- how many tokens wait at a node, and what arrived there, if it is a terminal
+-- how many tokens wait at a node to go out, if it is a terminal
 abbrev pub node_waiting : {A : Type 0} → Node A → Option ℕ
 node_waiting (Switch s) = None
 node_waiting (Terminal t) = Some (length t.output.items)
 
+-- the tokens that arrived at a node, if it is a terminal
 abbrev pub node_arrived : {A : Type 0} → Node A → Option (List A)
 node_arrived (Switch s) = None
 node_arrived (Terminal t) = Some t.arrived
 
--- the same at a place of the network's nodes
+-- how many tokens wait at the node at this place, if it is a terminal
 abbrev pub nodes_waiting : {A : Type 0} → List (Node A) → ℕ → Option ℕ
 nodes_waiting nodes place = slice_get nodes place >>= node_waiting
 
+-- the tokens that arrived at the node at this place, if it is a terminal
 abbrev pub nodes_arrived : {A : Type 0} → List (Node A) → ℕ → Option (List A)
 nodes_arrived nodes place = slice_get nodes place >>= node_arrived
 
@@ -112,5 +117,6 @@ abbrev pub node_peek : {A : Type 0} → ℕ → Node A → Option ℕ
 node_peek a (Switch s) = value_read (switch_peek s a)
 node_peek a (Terminal t) = None
 
+-- the same of the node at this place
 abbrev pub nodes_peek : {A : Type 0} → List (Node A) → ℕ → ℕ → Option ℕ
 nodes_peek nodes place a = slice_get nodes place >>= node_peek a

@@ -8,6 +8,7 @@ use Rattle.c104_link.specs.Steps.{◌>>=◌}
 use Rattle.c104_link.specs.Buffers as buffer
 use Rattle.c104_link.specs.Buffers.{Incoming, Outgoing, without_first, empty_incoming, empty_outgoing}
 
+-- a terminal: the two sides of its one link, what it sent, and what arrived
 pub record Terminal (A : Type 0) : Type 0 where
   pub input : Incoming A
   -- what waits to go out, and the credit
@@ -21,9 +22,11 @@ pub record Terminal (A : Type 0) : Type 0 where
 abbrev pub new_terminal : {A : Type 0} → ℕ → Terminal A
 new_terminal cap = record { input = empty_incoming cap; output = empty_outgoing; sent = []; arrived = [] }
 
+-- the terminal with this input buffer
 abbrev pub with_input : {A : Type 0} → Terminal A → Incoming A → Terminal A
 with_input t b = record t { input = b }
 
+-- the terminal with this output buffer
 abbrev pub with_output : {A : Type 0} → Terminal A → Outgoing A → Terminal A
 with_output t q = record t { output = q }
 

@@ -22,6 +22,7 @@ terminal_wires n (t ∷ terminals) =
 abbrev pub wires : Plan → List Wire
 wires plan = terminal_wires 0 plan.terminals
 
+-- whether two ports are the same
 abbrev pub is_port : Port → Port → Bool
 is_port (port.Switch s l) (port.Switch s' l') = s == s' && l == l'
 is_port (port.Terminal t) (port.Terminal t') = t == t'

@@ -3,12 +3,13 @@ use Rattle.std.specs.Prelude.{ℕ, zero, suc, ◌==◌, ◌≡◌, ◌<◌, ◌�
 use Rattle.c104_describe.specs.TextCut.{uncommented_line, line_words}
 use Rattle.c104_describe.specs.PlanText.{most_bytes}
 
--- the only word of a line is `script`
+-- whether the only one of a line's words is `script`
 abbrev pub is_script_word : List (List ℕ) → Bool
 is_script_word [] = false
 is_script_word (word ∷ []) = bytes_eq word (codes "script")
 is_script_word (word ∷ next ∷ more) = false
 
+-- whether the only word of a line is `script`, comment left out
 unfoldable pub is_script_line : List ℕ → Bool
 is_script_line line = is_script_word (line_words (uncommented_line line))
 
@@ -30,7 +31,8 @@ parts_within (suc bytes) front line (byte ∷ text) =
     else parts_within bytes (front ++ line ++ 10 ∷ []) [] text)
     else parts_within bytes front (line ++ byte ∷ []) text
 
--- the line `script` has to end within as many bytes as a description may have
+-- the parts of a text: its description and its script. The line `script` has to end within as many bytes
+-- as a description may have, or all is the description.
 unfoldable pub parts : List ℕ → Parts
 parts text = parts_within most_bytes [] [] text
 

@@ -26,6 +26,7 @@ use Rattle.c104_script.specs.declared.words.Verb.TheVariants as verb
 pub use Rattle.c104_script.specs.declared.places.Request.{Request}
 use Rattle.c104_script.specs.declared.places.Request.TheVariants.{Asked, Refused, Rounds}
 
+-- the number that a word spells, or that it spells none
 abbrev pub number_word : List ℕ → Result ℕ LineFault
 number_word word = value_or_fault (read_number word) fault.BadNumber
 
@@ -47,9 +48,11 @@ node_with None link = Err NoNode
 node_with (Some n) None = Ok n
 node_with (Some n) (Some l) = Err NoLink
 
+-- the number of the terminal that a place names: by its name, without a link
 abbrev pub terminal_at : Plan → List ℕ × Option ℕ → Result ℕ EventFault
 terminal_at plan place = node_with (terminal_number plan place.0) place.1
 
+-- the number of the switch that a place names: by its name, without a link
 abbrev pub switch_at : Plan → List ℕ × Option ℕ → Result ℕ EventFault
 switch_at plan place = node_with (switch_number plan place.0) place.1
 
@@ -59,19 +62,22 @@ input_with None link = Err NoNode
 input_with (Some s) None = Err NoLink
 input_with (Some s) (Some l) = Ok (s, l)
 
+-- the switch and the link of the input that a place names
 abbrev pub input_at : Plan → List ℕ × Option ℕ → Result (ℕ × ℕ) EventFault
 input_at plan place = input_with (switch_number plan place.0) place.1
 
--- a port is a terminal, or a switch's link
+-- the port of an input: its switch's link
 abbrev pub port_of_input : Result (ℕ × ℕ) EventFault → Result Port EventFault
 port_of_input (Ok r) = Ok (port.Switch r.0 r.1)
 port_of_input (Err f) = Err f
 
+-- a port is a terminal, named without a link, or a switch's link
 abbrev pub port_with : Option ℕ → Option ℕ → Option ℕ → Result Port EventFault
 port_with (Some t) switch None = Ok (port.Terminal t)
 port_with (Some t) switch (Some l) = Err NoLink
 port_with None switch link = port_of_input (input_with switch link)
 
+-- the port that a place names
 abbrev pub port_at : Plan → List ℕ × Option ℕ → Result Port EventFault
 port_at plan place = port_with (terminal_number plan place.0) (switch_number plan place.0) place.1
 
@@ -88,6 +94,7 @@ packet_fault token_fault.AfterEnd = fault.AfterEnd
 packet_fault token_fault.TooLong = fault.PacketTooLong
 packet_fault token_fault.NoMemory = fault.NoMemory
 
+-- the packet that was read, or what is wrong with its words
 abbrev pub packet_of : Result Packet TokenFault → Result Packet LineFault
 packet_of (Ok packet) = Ok packet
 packet_of (Err kind) = Err (packet_fault kind)

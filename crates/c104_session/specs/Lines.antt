@@ -25,6 +25,8 @@ lines_within zero front (byte ∷ script) = []
 lines_within (suc bytes) front (byte ∷ script) =
     if byte == 10 then front ∷ lines_within bytes [] script else lines_within bytes (front ++ byte ∷ []) script
 
+-- the lines of a script that are answered: those that end, by a line feed or with the script, within as
+-- many bytes as a script may have
 unfoldable pub script_lines : List ℕ → List (List ℕ)
 script_lines script = lines_within most_script [] script
 

@@ -14,7 +14,8 @@ use Rattle.c104_session.specs.Shown.{line_outcome, lines_outcome, script_outcome
 abbrev pub AnswersLine : Session → ℕ → List ℕ → Option (List ℕ) → Option (List ℕ) → Session → Type 0
 AnswersLine session number line held holds after = (after ≡ (line_outcome number session line).1) × Appends held holds (line_outcome number session line).0
 
--- a line's answer wasn't written: there was no memory, or because the writer failed
+-- the answering of a line stopped: out of memory, and nothing was written; or the writer failed, and a
+-- prefix of the answer was
 abbrev pub LineStops : Session → ℕ → List ℕ → Option (List ℕ) → Option (List ℕ) → Halt → Type 0
 LineStops session number line held holds halt.CannotRead = ⊥
 LineStops session number line held holds halt.CannotWrite = AppendsPrefix held holds (line_outcome number session line).0
@@ -48,6 +49,7 @@ PlanEnds plan script left held holds (Err halt.CannotRead) = AnswersPrefix (new_
 PlanEnds plan script left held holds (Err halt.CannotWrite) = AppendsPrefix held holds (run_output (Ok plan) script).0
 PlanEnds plan script left held holds (Err halt.NoMemory) = AppendsPrefix held holds (script_outcome (new_session plan) script).0
 
+-- the same where nothing may be known of the script
 abbrev pub RunsPlan : Plan → Option (List ℕ) → Option (List ℕ) → Option (List ℕ) → Option (List ℕ) → Result Bool Halt → Type 0
 RunsPlan plan None left held holds result = ⊤
 RunsPlan plan (Some script) left held holds result = PlanEnds plan script left held holds result

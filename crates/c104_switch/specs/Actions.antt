@@ -34,6 +34,7 @@ token_outcome made old = (token_reply (option_outcome made old).0, (option_outco
 abbrev pub control_outcome : List ℕ × Switch Token → Reply × Switch Token
 control_outcome r = (reply.Control r.0, r.1)
 
+-- what an action answers, and the switch after it; where it isn't ready, nothing changes
 abbrev pub switch_step : Switch Token → Action → Reply × Switch Token
 switch_step s (action.Enter l x) = done_outcome (switch_enter s l x) s
 switch_step s (action.Leave l) = token_outcome (switch_leave s l) s
@@ -43,6 +44,7 @@ switch_step s (action.Input l word) = done_outcome (switch_input plain_kind s l 
 switch_step s (action.Claim i o) = done_outcome (switch_claim s i o) s
 switch_step s (action.Control bytes) = control_outcome (switch_control s bytes)
 
+-- whether an action that was answered so was ready; a control command always is
 abbrev pub is_ready : Reply → Bool
 is_ready reply.Done = true
 is_ready reply.NotReady = false

@@ -8,6 +8,7 @@ use Rattle.c104_switch.specs.Group.{is_in_group}
 use Rattle.c104_switch.specs.Sides.{IsOutcome}
 use Rattle.c104_switch.specs.Switch.{Phase, Fresh, Head, Want, Stream, Sinking, Input, Switch, is_owned, with_sides}
 
+-- the input, which from now on owns output o and streams to it
 abbrev pub streaming_input : {A : Type 0} → Input A → ℕ → Input A
 streaming_input p o = record p { phase = Stream o }
 

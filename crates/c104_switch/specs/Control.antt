@@ -15,11 +15,12 @@ use Rattle.c104_switch.specs.Switch.{Switch}
 use Rattle.c104_switch.specs.Peeks.{switch_peek}
 use Rattle.c104_switch.specs.Commands.{switch_reset, switch_poke, switch_start}
 
--- what is answered of a register that was to be read, and of one that was to be set
+-- what is answered of a register that was to be read: its value, or the number of the fault
 abbrev pub peek_answer : Result ℕ RegFault → Answer
 peek_answer (Ok v) = Value v
 peek_answer (Err e) = Refused (register.register_fault_number e)
 
+-- what is answered of a register that was to be set: that it is, or the number of the fault
 abbrev pub poke_answer : Result (Unit {0}) RegFault → Answer
 poke_answer (Ok u) = Poked
 poke_answer (Err e) = Refused (register.register_fault_number e)

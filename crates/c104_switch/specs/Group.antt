@@ -9,6 +9,7 @@ abbrev pub continues : Option Settings → Bool
 continues None = false
 continues (Some s) = s.continue_group
 
+-- whether link l continues the group of the link before it
 abbrev pub continues_at : List Settings → ℕ → Bool
 continues_at settings l = continues (slice_get settings l)
 

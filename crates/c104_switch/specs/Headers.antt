@@ -22,6 +22,7 @@ decided_phase b (Link g) = Want b g
 decided_phase b Discard = Head []
 decided_phase b Sink = Sinking
 
+-- whether this is the sink, where the packet is dropped
 abbrev pub is_sink : Select → Bool
 is_sink (Link g) = false
 is_sink Discard = false
@@ -50,6 +51,7 @@ module _ {A : Type 0} (kind : Kind A) where
       then (let selected = select s.table (header_value b) in (decided_phase b selected, is_sink selected))
       else (Head b, false)
 
+  -- the tokens of these bytes of a random header, the first of which is at this place of it
   abbrev pub random_from : ℕ → List ℕ → List A
   random_from place [] = []
   random_from place (b ∷ bytes) = kind.random place (Byte b) ∷ random_from (suc place) bytes

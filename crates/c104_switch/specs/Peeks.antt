@@ -31,6 +31,7 @@ status_of inputs l p q = record {
   busy = is_busy p.phase || is_owned inputs l;
 }
 
+-- the same where link l may not be there: then it is as after a reset
 abbrev pub sides_status : {A : Type 0} → List (Input A) → ℕ → Option (Input A) → Option (Outgoing A) → Status
 sides_status inputs l None q = reset_status
 sides_status inputs l (Some p) None = reset_status

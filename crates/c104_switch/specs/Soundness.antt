@@ -8,6 +8,7 @@ use Rattle.c104_switch.specs.Switch.{Input, Stream, Switch}
 abbrev pub IsExclusive : {A : Type 0} → List (Input A) → Type 0
 IsExclusive {A} inputs = (i j o : ℕ) (p q : Input A) → slice_get inputs i ≡ Some p → slice_get inputs j ≡ Some q → p.phase ≡ Stream o → q.phase ≡ Stream o → i ≡ j
 
+-- the invariant of a switch
 pub record IsSound {A : Type 0} (s : Switch A) : Type 0 where
   pub settings : length s.settings ≡ LINKS
   pub inputs : length s.inputs ≡ LINKS

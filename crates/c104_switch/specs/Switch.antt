@@ -39,48 +39,54 @@ abbrev pub is_owned : {A : Type 0} → List (Input A) → ℕ → Bool
 is_owned [] o = false
 is_owned (p ∷ inputs) o = is_stream o p.phase || is_owned inputs o
 
+-- the input with this buffer
 abbrev pub with_buffer : {A : Type 0} → Input A → Incoming A → Input A
 with_buffer p b = record p { buffer = b }
 
+-- the switch with these inputs
 abbrev pub with_inputs : {A : Type 0} → Switch A → List (Input A) → Switch A
 with_inputs s ps = record s { inputs = ps }
 
+-- the switch with these outputs
 abbrev pub with_outputs : {A : Type 0} → Switch A → List (Outgoing A) → Switch A
 with_outputs s qs = record s { outputs = qs }
 
+-- the switch with these inputs and outputs
 abbrev pub with_sides : {A : Type 0} → Switch A → List (Input A) × List (Outgoing A) → Switch A
 with_sides s r = record s { inputs = r.0; outputs = r.1 }
 
--- a token comes in from the wire
+-- a token comes in from the wire, where the input has granted one
 abbrev pub input_accept : {A : Type 0} → A → Input A → Option (Input A)
 input_accept x p = do
   b ← buffer.incoming_accept x p.buffer
   Some (with_buffer p b)
 
+-- the same at the input of link l
 abbrev pub switch_enter : {A : Type 0} → Switch A → ℕ → A → Option (Switch A)
 switch_enter s l x = do
   ps ← step_at s.inputs l (input_accept x)
   Some (with_inputs s ps)
 
--- the first token of an output goes out to the wire
+-- the first token of the output of link l goes out to the wire, and spends one credit
 abbrev pub switch_leave : {A : Type 0} → Switch A → ℕ → Option (A × Switch A)
 switch_leave s l = do
   r ← yield_step_at s.outputs l buffer.outgoing_emit
   Some (r.0, with_outputs s r.1)
 
--- an input grants eight more tokens, once the switch is started
+-- an input grants eight more tokens, where its buffer has room for them
 abbrev pub input_grant : {A : Type 0} → Input A → Option (Input A)
 input_grant p = do
   b ← buffer.incoming_grant p.buffer
   Some (with_buffer p b)
 
+-- the same of the input of link l, once the switch is started
 abbrev pub switch_credit_out : {A : Type 0} → Switch A → ℕ → Option (Switch A)
 switch_credit_out s l = do
   require s.started
   ps ← step_at s.inputs l input_grant
   Some (with_inputs s ps)
 
--- an output may send eight more tokens
+-- the output of link l may send eight more tokens, where its credit is then at most 64
 abbrev pub switch_credit_in : {A : Type 0} → Switch A → ℕ → Option (Switch A)
 switch_credit_in s l = do
   qs ← step_at s.outputs l buffer.outgoing_credited

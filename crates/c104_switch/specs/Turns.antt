@@ -10,11 +10,12 @@ use Rattle.c104_switch.specs.Sides.{IsOutcome}
 use Rattle.c104_switch.specs.Switch.{Phase, Fresh, Head, Want, Stream, Sinking, Input, Switch, count_after, with_sides}
 use Rattle.c104_switch.specs.Headers.{phase_after_header, random_header}
 
--- an input that goes on in this phase, with one more packet dropped or found too short
+-- the input in this phase; one more packet is counted as dropped where sunk says so, and one more as too
+-- short where short says so
 abbrev pub input_in_phase : {A : Type 0} → Input A → Phase (List A) → Bool → Bool → Input A
 input_in_phase p phase sunk short = record { buffer = p.buffer; phase = phase; sunk = count_after p.sunk sunk; short = count_after p.short short }
 
--- the same, where it has used its first token
+-- the same, without its first token
 abbrev pub input_after_token : {A : Type 0} → Input A → Phase (List A) → Bool → Bool → Input A
 input_after_token p phase sunk short = record { buffer = without_first p.buffer; phase = phase; sunk = count_after p.sunk sunk; short = count_after p.short short }
 
@@ -33,7 +34,8 @@ module _ {A : Type 0} (kind : Kind A) where
   abbrev pub random_turn : Settings → ℕ → Input A → Input A
   random_turn s word p = let r = phase_after_header kind s (random_header kind s word) in input_in_phase p r.0 r.1 false
 
-  -- what the input and the outputs are after a turn in this phase, with this first token
+  -- what the input and the outputs are after a turn in this phase, with this first token; None where it
+  -- isn't ready: a header waits for its claim, or the output is full
   abbrev pub turn_by_phase : Settings → ℕ → Input A → List (Outgoing A) → Phase (List A) → A → Option (Input A × List (Outgoing A))
   turn_by_phase s word p qs Fresh x =
       if s.randomize && not (is_end (kind.plain x)) then Some (random_turn s word p, qs) else Some (header_turn s p [] x, qs)
@@ -44,6 +46,7 @@ module _ {A : Type 0} (kind : Kind A) where
     Some (input_after_token p (phase_after_token x (Stream o)) false false, rs)
   turn_by_phase s word p qs Sinking x = Some (input_after_token p (phase_after_token x Sinking) false false, qs)
 
+  -- what the input and the outputs are after a turn; None where it has no token, or isn't ready
   abbrev pub input_turn : Settings → ℕ → Input A → List (Outgoing A) → Option (Input A × List (Outgoing A))
   input_turn s word p qs = do
     x ← slice_get p.buffer.items 0

@@ -3,15 +3,15 @@ use Rattle.std.specs.Prelude.{ℕ, ◌-◌, ◌≡◌, false, List, [], ◌∷�
 use Rattle.c104_token.specs.Tokens.{Token, is_end}
 use Rattle.c104_token.specs.Packets.{Packet, packet_tokens}
 
--- the whole pieces of a list of any kind of tokens, each with its mark
--- whose prefix was read
+-- the whole pieces of a list of any kind of tokens, each up to a mark and with it; plain says which
+-- token an element is, and prefix is what was read of the first piece
 abbrev pub whole_pieces : {A : Type 0} → (A → Token) → List A → List A → List (List A)
 whole_pieces plain prefix [] = []
 whole_pieces plain prefix (x ∷ xs) =
     if is_end (plain x) then (prefix ++ x ∷ []) ∷ whole_pieces plain [] xs
     else whole_pieces plain (prefix ++ x ∷ []) xs
 
--- what follows the last mark
+-- what follows the last mark; where there is none, prefix and the whole list
 abbrev pub unfinished_piece : {A : Type 0} → (A → Token) → List A → List A → List A
 unfinished_piece plain prefix [] = prefix
 unfinished_piece plain prefix (x ∷ xs) =

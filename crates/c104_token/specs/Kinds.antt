@@ -2,6 +2,8 @@
 use Rattle.std.specs.Prelude.{ℕ}
 use Rattle.c104_token.specs.Tokens.{Token}
 
+-- what is asked of a kind of tokens: which token each is, and how those that a switch or a terminal
+-- brings in are made
 pub record Kind (A : Type 0) : Type 0 where
   -- the token itself
   pub plain : A → Token

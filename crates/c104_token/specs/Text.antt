@@ -22,7 +22,7 @@ hex_value c =
     else (if nat_le 0x61 c && nat_le c 0x66 then Some (c - 0x57)
     else None))
 
--- the byte of two digits
+-- the word of two digits by their values: their byte, high digit first, where both are digits
 abbrev pub byte_word : Option ℕ → Option ℕ → Word
 byte_word None low = word.Other
 byte_word (Some x) None = word.Other
@@ -39,12 +39,13 @@ word_of (a ∷ b ∷ c ∷ []) =
     else word.Other)
 word_of (a ∷ b ∷ c ∷ d ∷ more) = word.Other
 
--- the byte that a word of two digits spells, if it does
+-- the byte of two digits by their values, high digit first, where both are digits
 abbrev pub byte_of_digits : Option ℕ → Option ℕ → Option ℕ
 byte_of_digits None low = None
 byte_of_digits (Some x) None = None
 byte_of_digits (Some x) (Some y) = Some (16 * x + y)
 
+-- the byte that a word of two hexadecimal digits spells; any other word spells none
 abbrev pub spelled_byte : List ℕ → Option ℕ
 spelled_byte (a ∷ b ∷ []) = byte_of_digits (hex_value a) (hex_value b)
 spelled_byte word = None
@@ -58,13 +59,15 @@ packet_from_words (word.End m ∷ []) bytes = Ok (record { bytes = bytes; mark =
 packet_from_words (word.End m ∷ next ∷ more) bytes = Err fault.AfterEnd
 packet_from_words (word.Other ∷ more) bytes = Err fault.BadHex
 
+-- the packet that words say, or the first fault from the left
 abbrev pub parse_words : List (List ℕ) → Result Packet TokenFault
 parse_words list = packet_from_words (map word_of list) []
 
+-- the packet that a text says, word by word, or the first fault from the left
 abbrev pub parse_packet : List ℕ → Result Packet TokenFault
 parse_packet text = parse_words (packet_words text)
 
--- what is due, or that there is no memory
+-- what is due, or out of memory
 abbrev pub GivesPacketOrNoMemory : Result Packet TokenFault → Result Packet TokenFault → Type 0
 GivesPacketOrNoMemory result due = (result ≡ due) ⊎ (result ≡ Err fault.NoMemory)
 

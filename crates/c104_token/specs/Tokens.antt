@@ -1,4 +1,4 @@
--- Tokens, and the tokens of a packet.
+-- Tokens: bytes, and the marks that end packets.
 use Rattle.std.specs.Prelude.{ℕ, Bool, true, false}
 pub use Rattle.c104_token.specs.declared.tokens.Mark.{Mark}
 pub use Rattle.c104_token.specs.declared.tokens.Token.{Token}
