@@ -20,3 +20,10 @@ pub use bytes::{ControlBytes, MAX_CONTROL_BYTES};
 pub use commands::{Command, read_command, write_command};
 pub use faults::CommandFault;
 pub use replies::{ALREADY_STARTED, Answer, DEVICE_ID, read_reply, write_reply};
+
+// Contracts name these: their values are a part of what they say, so a change of one alone is refused.
+const _: () = prove!(MAX_CONTROL_BYTES == 8);
+
+const _: () = prove!(DEVICE_ID == 0xc104);
+
+const _: () = prove!(ALREADY_STARTED == 7);

@@ -18,3 +18,6 @@ pub use group::Group;
 
 /// How many outputs a crossbar has, and how many links a switch.
 pub const LINKS: usize = 32;
+
+// Contracts name this count: its value is a part of what they say, so a change of it alone is refused.
+const _: () = prove!(LINKS == 32);

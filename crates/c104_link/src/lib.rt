@@ -21,3 +21,10 @@ pub use outgoing::{CREDIT_LIMIT, OutBuffer, OutBufferOf};
 
 /// The tokens that one flow-control token grants (the data sheet's rule).
 pub const TOKENS_OF_A_GRANT: usize = 8;
+
+// Contracts name these: their values are a part of what they say, so a change of one alone is refused.
+const _: () = prove!(TOKENS_OF_A_GRANT == 8);
+
+const _: () = prove!(CREDIT_LIMIT == 64);
+
+const _: () = prove!(outgoing::OUTPUT_CAP == 8);

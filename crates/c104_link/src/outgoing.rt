@@ -10,7 +10,7 @@ use std::alloc::Global;
 use std::marker::Model;
 
 /// The tokens that an output buffer has room for in this emulator.
-const OUTPUT_CAP: usize = 8;
+pub const OUTPUT_CAP: usize = 8;
 
 /// The most tokens that the other end of a wire can have granted in this emulator, where no input
 /// buffer has room for more.

@@ -23,3 +23,12 @@ pub use faults::RegFault;
 pub use registers::{DEVICE_ID, LINKS, Registers};
 pub use settings::Settings;
 pub use status::Status;
+
+// Contracts name these: their values are a part of what they say, so a change of one alone is refused.
+const _: () = prove!(LINKS == 32);
+
+const _: () = prove!(DEVICE_ID == 0xc104);
+
+const _: () = prove!(values::DISCARD_CODE == 32);
+
+const _: () = prove!(values::SINK_CODE == 64);

@@ -10,7 +10,7 @@ use std::alloc::Global;
 use std::marker::Model;
 
 /// The most tokens of a header.
-const HEADER_LIMIT: usize = 2;
+pub const HEADER_LIMIT: usize = 2;
 
 /// The bytes of a header, low byte first: at most two.
 #[derive(Debug, Drop)]

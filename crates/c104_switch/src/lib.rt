@@ -34,3 +34,6 @@ pub use switches::{Switch, SwitchOf};
 const _: () = prove!(c104_crossbar::LINKS == LINKS);
 
 const _: () = prove!(c104_control::DEVICE_ID == c104_regs::DEVICE_ID);
+
+// Contracts name this limit: its value is a part of what they say, so a change of it alone is refused.
+const _: () = prove!(header::HEADER_LIMIT == 2);

@@ -23,3 +23,6 @@ pub use list::{Bytes, Items};
 pub use packets::{Packet, cut_packets, packet_tokens};
 pub use text::{MAX_PACKET_BYTES, digit_of, parse_packet, parse_words, print_packet, read_byte};
 pub use tokens::{Mark, Token};
+
+// Contracts name this limit: its value is a part of what they say, so a change of it alone is refused.
+const _: () = prove!(MAX_PACKET_BYTES == 4096);
