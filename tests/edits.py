@@ -66,7 +66,9 @@ class Edit:
 
     def __init__(self, crate, path):
         self.crate, self.label = crate, '%s/%s' % (crate.name, os.path.basename(path))
-        self.texts, self.wrong, self.path, self.function, self.is_refused = {}, None, None, None, None
+        self.texts, self.wrong, self.path, self.is_refused = {}, None, None, None
+        # The function that it changes, and the same where copies of it can be tried.
+        self.changed, self.function = None, None
         try:
             if not path.endswith(ENDING):
                 raise ValueError('its name does not end in %s' % ENDING)
@@ -78,15 +80,18 @@ class Edit:
             self.find_function(read_text(crate.folder, self.path), self.texts[self.path])
 
     def find_function(self, text, edited):
-        """Finds the one function in whose body the texts differ, if it can be copied: a method of a trait can't."""
+        """Finds the one function in whose body the texts differ. It can be copied unless it is a method of a trait."""
         if not self.path.startswith('src/'):
             return
         first = len(os.path.commonprefix([text, edited]))
         same = len(os.path.commonprefix([text[first:][::-1], edited[first:][::-1]]))
         inside = [it for it in functions_of(text) if it.body < first and len(text) - same < it.end]
-        if len(inside) != 1 or inside[0].is_of_trait:
+        if len(inside) != 1:
             return
-        self.function, = inside
+        self.changed, = inside
+        if self.changed.is_of_trait:
+            return
+        self.function = self.changed
         self.edited = edited[self.function.start:self.function.end + len(edited) - len(text)]
         if len(self.proof_folders(self.crate.folder)) > 1:
             self.function = None
