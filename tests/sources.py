@@ -54,18 +54,27 @@ def words_of(head):
     return re.findall(r'\w+', re.sub(r'<[^<>]*>', '', re.sub(r'<[^<>]*>', '', head)))
 
 
+def name_of_impl(head):
+    """The prover's name of a block `impl TRAIT<ARGUMENT> for TYPE`: the type, the trait and the argument in one word."""
+    arguments = re.search(r'\w<(.*)> for ', head, re.DOTALL)
+    implemented, _, of_type = ' '.join(words_of(head)).rpartition(' for ')
+    return ''.join([of_type, implemented.split()[-1], *(words_of(arguments.group(1)) if arguments else [])])
+
+
 def blocks_of(text):
     """The impl and trait blocks of a blanked text: where each begins and ends, and its head."""
     return [(it.end(), past_bracket(text, it.end()), it.group()) for it in BLOCK.finditer(text)]
 
 
 class Function:
-    """A function with a body: its name, its places in the text, and the type whose method it is."""
+    """A function with a body: its name, its places in the text, the type whose method it is, and for a method
+    of a trait the prover's name of its block."""
 
     def __init__(self, text, head, body, block):
         self.name, self.name_at = head.group(1), head.start(1)
         self.start, self.body, self.end = start_with_attributes(text, head.start()), body, past_bracket(text, body)
         self.is_of_trait = bool(re.search(r'\bfor\b|\btrait\b', block))
+        self.impl_name = name_of_impl(block) if ' for ' in block else None
         self.owner = ''.join(words_of(block)[1:2])
 
 
