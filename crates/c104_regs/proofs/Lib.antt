@@ -1,4 +1,6 @@
 pub mod ValueLemmas
+pub mod RangeLemmas
+pub mod RangeNumbers
 pub mod AddressLemmas
 pub mod RegisterLemmas
 pub mod ContinueLemmas

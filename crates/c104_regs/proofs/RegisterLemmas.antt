@@ -1,17 +1,20 @@
 -- The registers of a switch are a map: a poke changes what one address reads, and what every switch's
 -- registers keep stays.
-use Rattle.std.proofs.Common.{◌≡◌, ◌≢◌, ℕ, zero, suc, ◌<◌, ◌≤◌, inl, inr, false, Option, Some, None, Ok, [], length, get_or, set, replicate, subst, refl, sym, ap, ◌∙◌, arith}
+use Rattle.std.proofs.Common.{◌≡◌, ◌≢◌, ℕ, zero, suc, ◌<◌, ◌≤◌, inl, inr, Bool, true, false, IsTrue, Option, Some, None, Err, Ok, List, [], length, get_or, set, replicate, subst, refl, sym, ap, ◌∙◌, arith}
 use Rattle.std.proofs.lemmas.Bool.{cases_eq}
-use Rattle.std.proofs.lemmas.List.{get_or-set_other, get_or-set_same, get_or_past, length-set}
+use Rattle.std.proofs.lemmas.List.{get_or-set_other, get_or-set_same, get_or_default, get_or_past, length-set}
 use Rattle.c104_regs.proofs.AddressLemmas.{address_number_is}
-use Rattle.c104_regs.proofs.ValueLemmas.{IsInRange-with_value, value_other}
-use Rattle.c104_regs.specs.Addresses.{Address, Register, address_number, address_of, register_properties}
+use Rattle.c104_regs.proofs.RangeLemmas.{IsInRange-with_value}
+use Rattle.c104_regs.proofs.RangeNumbers.{IsSelectable, IsTableInRange-from}
+use Rattle.c104_regs.proofs.ValueLemmas.{value_other}
+use Rattle.c104_regs.specs.Addresses.{Address, IsRegister, Register, address_number, address_of, register_properties, register_takes}
 use Rattle.c104_regs.specs.declared.addresses.Address.TheVariants.{DeviceId, Started, AtLink}
+use Rattle.c104_regs.specs.declared.faults.RegFault.TheVariants.{ReadOnly, OutOfRange}
 use Rattle.c104_regs.specs.declared.addresses.Register.TheVariants.{Mode, RandomBase, RandomRange, Sunk, Short, InputLevel, OutputLevel, Credit, Granted, Owner, Base, Limit, Select}
-use Rattle.c104_interval.specs.Selection.{reset_row}
+use Rattle.c104_interval.specs.Selection.{reset_row, reset_table}
 use Rattle.c104_interval.specs.declared.intervals.Row.{Row}
-use Rattle.c104_regs.specs.Ranges.{IsInRange, IsSelectInRange}
-use Rattle.c104_regs.specs.Registers.{IsRegisterBank, IsTarget, RegisterBank, bank_peek, address_value, reset_bank, settings_at, status_at, with_register}
+use Rattle.c104_regs.specs.Ranges.{IsInRange}
+use Rattle.c104_regs.specs.Registers.{IsRegisterBank, IsTarget, RegisterBank, bank_peek, address_value, reset_bank, settable, settings_at, status_at, with_register}
 use Rattle.c104_regs.specs.Settings.{Settings, reset_settings}
 use Rattle.c104_regs.specs.Values.{Status, reset_status, select_code, register_read, with_value}
 
@@ -44,7 +47,7 @@ read_other b a v l r target kept c ne (AtLink k q) at =
       | inl same ↦
           let here : l < length b.settings = rw kept.links target.link in
           let differs : q ≢ r = λ is. ne (sym (address_number_is c (AtLink k q) at) ∙ ap (λ (x : Address). address_number x) (link_same k l q r same is) ∙ address_number_is a (AtLink l r) target.at) in
-          rw same (rw (settings_at-same b l r v here) (value_other (settings_at b l) (status_at b l) r q v (kept.in_range l).table.rows target.register target.is_writable differs))
+          rw same (rw (settings_at-same b l r v here) (value_other (settings_at b l) (status_at b l) r q v (kept.in_range l).rows target.register target.is_writable differs))
       | inr differs ↦ ap (λ (s : Settings). register_read s (status_at b k) q) (settings_at-other b l k r v differs)
     ]
   where
@@ -57,6 +60,22 @@ peek_other b a v l r target kept c ne = by_address (address_of c) refl
     by_address : (x : Option Address) → address_of c ≡ x → bank_peek (with_register b l r v) c ≡ bank_peek b c
     by_address None at = rw at refl
     by_address (Some x) at = rw at (ap Ok (read_other b a v l r target kept c ne x at))
+
+-- what a register within its range reads isn't refused there for its value
+held_is_taken : (s : Settings) (t : Status) (r : Register) (a v l : ℕ) → v ≡ register_read s t r → IsInRange s → address_of a ≡ Some (AtLink l r) → IsRegister r → settable a v ≢ Err OutOfRange
+held_is_taken s t r a v l read kept at is = by_access (register_properties r).is_writable refl
+  where
+    by_access : (writable : Bool) → (register_properties r).is_writable ≡ writable → settable a v ≢ Err OutOfRange
+    by_access false never refused = let read_only : settable a v ≡ Err ReadOnly = rw (at, never) refl in cc
+    by_access true may refused =
+        let fits : register_takes r v ≡ true = subst (λ n. IsTrue (register_takes r n)) (sym read) (kept.takes t r is may) in
+        let done : settable a v ≡ Ok tt = rw (at, may, fits) refl in
+        cc
+
+-- the same of a link of all, read with any default
+pub held_at_is_taken : (settings : List Settings) (d : Settings) (t : Status) (r : Register) (a v l : ℕ) → v ≡ register_read (get_or settings l d) t r → l < length settings → IsInRange (get_or settings l reset_settings) → address_of a ≡ Some (AtLink l r) → IsRegister r → settable a v ≢ Err OutOfRange
+held_at_is_taken settings d t r a v l read inside kept at is =
+    held_is_taken (get_or settings l d) t r a v l read (subst IsInRange (get_or_default settings l reset_settings d inside) kept) at is
 
 -- a list of one value reads it everywhere
 get_or-same : {X : Type 0} (n i : ℕ) (x : X) → get_or (replicate n x) i x ≡ x
@@ -96,16 +115,12 @@ reset_values_of s t set told l r =
     subst (λ (b : RegisterBank). register_read (settings_at b l) (status_at b l) r ≡ (register_properties r).reset) (sym same) (reset_values l r)
 
 pub IsInRange-reset : IsInRange reset_settings
-IsInRange-reset = record {
-  random_base = omega arith;
-  random_range = omega arith;
-  table = record {
-    base = omega arith;
-    rows = refl;
-    limits = λ k. subst (λ (row : Row). row.limit ≤ 65536) (sym (get_or-same 36 k reset_row)) (omega arith);
-    selects = λ k. subst (λ (row : Row). IsSelectInRange row.select) (sym (get_or-same 36 k reset_row)) tt;
-  };
-}
+IsInRange-reset = IsTableInRange-from reset_table (record {
+  base = omega arith;
+  rows = refl;
+  limits = λ k. subst (λ (row : Row). row.limit ≤ 65536) (sym (get_or-same 36 k reset_row)) (omega arith);
+  selects = λ k. subst (λ (row : Row). IsSelectable row.select) (sym (get_or-same 36 k reset_row)) tt;
+})
 
 pub IsKept-reset : IsRegisterBank reset_bank
 IsKept-reset = record {

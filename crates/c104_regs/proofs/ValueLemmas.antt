@@ -1,21 +1,20 @@
 -- The registers of a link are a view of its settings: a register that was set reads what it was set to,
 -- each other one reads what it did, and the settings stay within their ranges.
-use Rattle.std.proofs.Common.{◌≡◌, ◌≢◌, ℕ, ◌<◌, ◌≤◌, inl, inr, Bool, true, false, nat_eq, nat_lt, if◌then◌else◌, List, length, get_or, set, IsTrue, refl, sym, ap, arith}
-use Rattle.std.proofs.lemmas.Bool.{cases_eq, ltb-true}
+use Rattle.std.proofs.Common.{◌≡◌, ◌≢◌, ℕ, zero, suc, ◌*◌, ◌/◌, ◌%◌, ◌==◌, ◌<◌, ◌≤◌, inl, inr, Bool, true, false, nat_eq, nat_lt, if◌then◌else◌, List, length, get_or, set, IsTrue, refl, ap, ◌∙◌, arith}
+use Rattle.std.proofs.lemmas.Bool.{cases_eq}
 use Rattle.std.proofs.lemmas.Bool.Decides.{nat_tests}
-use Rattle.std.proofs.lemmas.List.{get_or-set_other, get_or-set_same, length-set}
+use Rattle.std.proofs.lemmas.List.{get_or-set_other, get_or-set_same}
 use Rattle.c104_interval.specs.Selection.{reset_row, row_at}
 use Rattle.c104_interval.specs.declared.intervals.Row.{Row}
 use Rattle.c104_interval.specs.declared.intervals.Select as interval
 use Rattle.c104_interval.specs.declared.intervals.Select.TheVariants.{Link, Discard, Sink}
 use Rattle.c104_regs.specs.Addresses.{IsRegister, Register, register_takes, register_properties}
 use Rattle.c104_regs.specs.declared.addresses.Register.TheVariants.{Mode, RandomBase, RandomRange, Sunk, Short, InputLevel, OutputLevel, Credit, Granted, Owner, Base, Limit, Select}
-use Rattle.c104_regs.specs.Ranges.{IsInRange, IsSelectInRange, IsTableInRange}
 use Rattle.c104_regs.specs.Settings.{Settings}
-use Rattle.c104_regs.specs.Values.{Status, select_of, mode_of, select_code, register_read, with_row, with_value}
+use Rattle.c104_regs.specs.Values.{Status, bit_value, select_of, mode_of, select_code, register_read, with_value}
 
 -- what holds of each register that can be written
-by_writable : (P : Register → Type 0) → P Mode → P RandomBase → P RandomRange → P Base → ((k : ℕ) → P (Limit k)) → ((k : ℕ) → P (Select k)) → (r : Register) → IsTrue (register_properties r).is_writable → P r
+pub by_writable : (P : Register → Type 0) → P Mode → P RandomBase → P RandomRange → P Base → ((k : ℕ) → P (Limit k)) → ((k : ℕ) → P (Select k)) → (r : Register) → IsTrue (register_properties r).is_writable → P r
 by_writable P mode base range first limits selects Mode is = mode
 by_writable P mode base range first limits selects RandomBase is = base
 by_writable P mode base range first limits selects RandomRange is = range
@@ -31,14 +30,14 @@ by_writable P mode base range first limits selects (Limit k) is = limits k
 by_writable P mode base range first limits selects (Select k) is = selects k
 
 -- a row of which a field was set has the others as they were, and each other row is as it was
-limit_kept : (rows : List Row) (k j : ℕ) (x : interval.Select) → k < length rows → (get_or (set rows k (record { limit = (get_or rows k reset_row).limit; select = x })) j reset_row).limit ≡ (get_or rows j reset_row).limit
+pub limit_kept : (rows : List Row) (k j : ℕ) (x : interval.Select) → k < length rows → (get_or (set rows k (record { limit = (get_or rows k reset_row).limit; select = x })) j reset_row).limit ≡ (get_or rows j reset_row).limit
 limit_kept rows k j x here =
     elim (cases_eq j k) [
       | inl same ↦ rw same (rw get_or-set_same refl)
       | inr differs ↦ rw (get_or-set_other rows k j) refl
     ]
 
-select_kept : (rows : List Row) (k j n : ℕ) → k < length rows → (get_or (set rows k (record { limit = n; select = (get_or rows k reset_row).select })) j reset_row).select ≡ (get_or rows j reset_row).select
+pub select_kept : (rows : List Row) (k j n : ℕ) → k < length rows → (get_or (set rows k (record { limit = n; select = (get_or rows k reset_row).select })) j reset_row).select ≡ (get_or rows j reset_row).select
 select_kept rows k j n here =
     elim (cases_eq j k) [
       | inl same ↦ rw same (rw get_or-set_same refl)
@@ -79,38 +78,29 @@ value_other s t r (Select j) v rows is writable ne =
     (λ k _ differs. let ne : j ≢ k = λ same. differs (ap Select same) in rw (get_or-set_other s.table.rows k j) refl)
     r writable is ne
 
--- what a row selects is a link that there is, or none
-IsSelectable-coded_by : (v : ℕ) (small discards : Bool) → small ≡ nat_lt v 32 → IsSelectInRange (if small then Link v else (if discards then Discard else Sink))
-IsSelectable-coded_by v true discards is = ltb-true v 32 (sym is)
-IsSelectable-coded_by v false true is = tt
-IsSelectable-coded_by v false false is = tt
+-- a bit of the mode reads what it was set to
+bit_of : (n w : ℕ) → n < 2 → bit_value (n == 1) w ≡ n * w
+bit_of zero w few = omega arith
+bit_of (suc zero) w few = omega arith
+bit_of (suc (suc n)) w few = absurd (omega arith)
 
-IsSelectable-coded : (v : ℕ) → IsSelectInRange (select_of v)
-IsSelectable-coded v = IsSelectable-coded_by v (nat_lt v 32) (nat_eq v 32) refl
+mode_same : (s : Settings) (v : ℕ) → v ≤ 15 → mode_of (with_value s Mode v) ≡ v
+mode_same s v fits = rw (bit_of (v % 2) 1 (omega arith), bit_of ((v / 2) % 2) 2 (omega arith), bit_of ((v / 4) % 2) 4 (omega arith), bit_of ((v / 8) % 2) 8 (omega arith)) (omega arith)
 
--- a row that is replaced by one within the ranges
-IsTableInRange-with_row : (s : Settings) (k : ℕ) (row : Row) → row.limit ≤ 65536 → IsSelectInRange row.select → k < 36 → IsTableInRange s.table → IsTableInRange (with_row s k row).table
-IsTableInRange-with_row s k row limit select below is = record {
-  base = is.base;
-  rows = rw length-set is.rows;
-  limits = λ j. elim (cases_eq j k) [
-    | inl same ↦ let within : k < length s.table.rows = rw is.rows below in rw same (rw get_or-set_same limit)
-    | inr differs ↦ rw (get_or-set_other s.table.rows k j) (is.limits j)
-  ];
-  selects = λ j. elim (cases_eq j k) [
-    | inl same ↦ let within : k < length s.table.rows = rw is.rows below in rw same (rw get_or-set_same select)
-    | inr differs ↦ rw (get_or-set_other s.table.rows k j) (is.selects j)
-  ];
-}
+-- a number that a row's select takes is that of what it selects
+code_by : (k v : ℕ) (small discards : Bool) → IsTrue (register_takes (Select k) v) → small ≡ nat_lt v 32 → discards ≡ nat_eq v 32 → select_code (if small then Link v else (if discards then Discard else Sink)) ≡ v
+code_by k v true discards fits is_small is_discard = refl
+code_by k v false true fits is_small is_discard = grind (arith, nat_tests)
+code_by k v false false fits is_small is_discard = grind (arith, nat_tests)
 
--- settings of which a register was set stay within the ranges
-pub IsInRange-with_value : (s : Settings) (r : Register) (v : ℕ) → IsRegister r → IsTrue (register_properties r).is_writable → IsTrue (register_takes r v) → IsInRange s → IsInRange (with_value s r v)
-IsInRange-with_value s r v is writable fits kept =
-    by_writable (λ r. IsRegister r → IsTrue (register_takes r v) → IsInRange (with_value s r v))
-    (λ _ _. record { random_base = kept.random_base; random_range = kept.random_range; table = kept.table })
-    (λ _ fits. record { random_base = grind (arith, nat_tests); random_range = kept.random_range; table = kept.table })
-    (λ _ fits. record { random_base = kept.random_base; random_range = grind (arith, nat_tests); table = kept.table })
-    (λ _ fits. record { random_base = kept.random_base; random_range = kept.random_range; table = record { base = grind (arith, nat_tests); rows = kept.table.rows; limits = kept.table.limits; selects = kept.table.selects } })
-    (λ k below fits. record { random_base = kept.random_base; random_range = kept.random_range; table = IsTableInRange-with_row s k _ (grind (arith, nat_tests)) (kept.table.selects k) below kept.table })
-    (λ k below fits. record { random_base = kept.random_base; random_range = kept.random_range; table = IsTableInRange-with_row s k _ (kept.table.limits k) (IsSelectable-coded v) below kept.table })
+code_same : (k v : ℕ) → IsTrue (register_takes (Select k) v) → select_code (select_of v) ≡ v
+code_same k v fits = code_by k v _ _ fits refl refl
+
+-- a register that was set to a value that it takes reads it
+pub value_same : (s : Settings) (t : Status) (r : Register) (v : ℕ) → length s.table.rows ≡ 36 → IsRegister r → IsTrue (register_properties r).is_writable → IsTrue (register_takes r v) → register_read (with_value s r v) t r ≡ v
+value_same s t r v rows is writable fits =
+    by_writable (λ r. IsRegister r → IsTrue (register_takes r v) → register_read (with_value s r v) t r ≡ v)
+    (λ _ fits. mode_same s v (grind (arith, nat_tests))) (λ _ _. refl) (λ _ _. refl) (λ _ _. refl)
+    (λ k below _. ap (λ (row : Row). row.limit) (get_or-set_same s.table.rows k _ reset_row (rw rows below)))
+    (λ k below fits. ap (λ (row : Row). select_code row.select) (get_or-set_same s.table.rows k _ reset_row (rw rows below)) ∙ code_same k v fits)
     r writable is fits

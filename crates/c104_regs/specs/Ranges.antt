@@ -1,28 +1,21 @@
--- The invariant of the settings of every link.
-use Rattle.std.specs.Prelude.{◌≡◌, ℕ, ◌<◌, ◌≤◌, length}
+-- What the settings of every link keep: the values that a poke may set, by the table of registers.
+use Rattle.std.specs.Prelude.{◌≡◌, ℕ, IsTrue, length}
 use Rattle.c104_interval.specs.Selection.{row_at}
 use Rattle.c104_interval.specs.declared.intervals.TheConstants.{ROWS}
-use Rattle.c104_interval.specs.declared.intervals.Select.TheVariants.{Link, Discard, Sink}
-use Rattle.c104_interval.specs.declared.intervals.Select.{Select}
 use Rattle.c104_interval.specs.declared.intervals.Table.{Table}
-use Rattle.c104_regs.specs.Settings.{Settings}
-use Rattle.c104_regs.specs.declared.registers.TheConstants.{LINKS}
+use Rattle.c104_regs.specs.Addresses.{IsRegister, Register, register_properties, register_takes}
+use Rattle.c104_regs.specs.Settings.{Settings, plain_settings}
+use Rattle.c104_regs.specs.Values.{Status, register_read, select_code, select_of}
 
--- a link that there is, or none
-abbrev pub IsSelectInRange : Select → Type 0
-IsSelectInRange (Link l) = l < LINKS
-IsSelectInRange Discard = Unit {0}
-IsSelectInRange Sink = Unit {0}
-
--- a table whose numbers are within the ranges of its registers
-pub record IsTableInRange (t : Table) : Type 0 where
-  pub base : t.base < 0x10000
-  pub rows : length t.rows ≡ ROWS
-  pub limits : (k : ℕ) → (row_at t k).limit ≤ 0x10000
-  pub selects : (k : ℕ) → IsSelectInRange (row_at t k).select
-
--- settings whose numbers are within the ranges of their registers
+-- settings within the ranges of their registers
 pub record IsInRange (s : Settings) : Type 0 where
-  pub random_base : s.random_base < 0x10000
-  pub random_range : s.random_range ≤ 0x10000
-  pub table : IsTableInRange s.table
+  -- each register that can be written reads a value that it takes, whatever the link's status is
+  pub takes : (t : Status) (r : Register) → IsRegister r → IsTrue (register_properties r).is_writable → IsTrue (register_takes r (register_read s t r))
+  -- each row selects what the number that its register reads stands for: so no link past the last, whose
+  -- number could stand for something else
+  pub selects : (k : ℕ) → select_of (select_code (row_at s.table k).select) ≡ (row_at s.table k).select
+  pub rows : length s.table.rows ≡ ROWS
+
+-- a table within the ranges of its registers: one of settings that are, with all else as after a reset
+abbrev pub IsTableInRange : Table → Type 0
+IsTableInRange t = IsInRange (plain_settings t)

@@ -1,5 +1,5 @@
 -- The registers of a switch, by address.
-use Rattle.std.specs.Prelude.{◌≡◌, ℕ, ◌+◌, ◌*◌, ◌&&◌, not, Bool, true, false, IsTrue, ◌<◌, List, [], ◌∷◌, Option, Some, None, Result, Ok, Err, length, replicate, if◌then◌else◌, slice_index_or, slice_set}
+use Rattle.std.specs.Prelude.{◌≡◌, ℕ, ◌&&◌, not, Bool, true, false, IsTrue, ◌<◌, List, Option, Some, None, Result, Ok, Err, length, replicate, if◌then◌else◌, slice_index_or, slice_set}
 use Rattle.c104_regs.specs.Addresses.{Address, IsRegister, Register, address_of, register_takes, register_properties}
 use Rattle.c104_regs.specs.declared.registers.TheConstants.{LINKS, DEVICE_ID}
 use Rattle.c104_regs.specs.declared.addresses.Address.TheVariants.{DeviceId, Started, AtLink}
@@ -114,8 +114,3 @@ bank_poke b a v = at (target a v)
     at : Result (ℕ × Register) RegFault → Result (Unit {0}) RegFault × RegisterBank
     at (Err e) = (Err e, b)
     at (Ok (l, r)) = if waits r && (status_at b l).busy then (Err Busy, b) else (Ok tt, with_register b l r v)
-
--- the bits of the links that continue the group of the link before them, from link 0 at bit 0 on
-abbrev pub continue_bits : List Settings → ℕ
-continue_bits [] = 0
-continue_bits (s ∷ settings) = bit_value s.continue_group 1 + 2 * continue_bits settings

@@ -8,18 +8,21 @@
 //!   ranges of their registers, and whether the switch is started. An address reads what was poked
 //!   there or told last.
 //! - [`Settings`] is what is set at one link, with any numbers in it.
+//! - [`continues_of`] tells, by the settings of all links, which of them continue a group.
 //! - [`Status`] is what a switch tells of one link.
 //! - [`RegFault`] says why an address is not read or a value not written.
 #![tactic(auto)]
 
 mod addresses;
 mod faults;
+mod groups;
 mod registers;
 mod settings;
 mod status;
 mod values;
 
 pub use faults::RegFault;
+pub use groups::continues_of;
 pub use registers::{DEVICE_ID, LINKS, Registers};
 pub use settings::Settings;
 pub use status::Status;

@@ -1,13 +1,16 @@
 //! The registers of a switch, by address.
-ghost use Rattle.std.specs.Prelude.{◌≡◌, ◌≢◌, ℕ, ◌<◌, All, IfOk, OnErr, OnOk, Ok, length};
+ghost use Rattle.std.specs.Prelude.{◌≡◌, ◌≢◌, ℕ, ◌<◌, All, Err, IfOk, OnErr, OnOk, Ok, length};
 ghost use Rattle.std.specs.Int.{bit_at};
 ghost use Rattle.c104_regs.specs.Addresses.{IsRegister, Register, register_properties};
+ghost use Rattle.c104_regs.specs.declared.faults.RegFault.TheVariants.{OutOfRange};
+ghost use Rattle.c104_regs.specs.Groups.{continue_bits, continues_at};
 ghost use Rattle.c104_regs.specs.Ranges.{IsInRange, IsTableInRange};
-ghost use Rattle.c104_regs.specs.Registers.{IsRegisterBank, IsTarget, continue_bits, bank_peek, placed_bank, bank_poke, reset_bank, settable, settings_at, settings_with, status_at, target, with_status};
+ghost use Rattle.c104_regs.specs.Registers.{IsRegisterBank, IsTarget, bank_peek, placed_bank, bank_poke, reset_bank, settable, settings_at, settings_with, status_at, target, with_status};
 ghost use Rattle.c104_regs.specs.Values.{mode_of, bit_value, register_read};
 
 use crate::addresses::{Address, Register};
 use crate::faults::RegFault;
+use crate::groups::continues_of;
 use crate::settings::Settings;
 use crate::status::Status;
 use crate::values::number;
@@ -22,8 +25,9 @@ pub const DEVICE_ID: u32 = 0x0000_c104;
 
 /// The registers of a switch.
 ///
-/// What is set by a poke stays here. What the switch tells of itself is told by `set_started` and
-/// `set_status`, and is shown as it was told last.
+/// What is set by a poke stays here, and what is set otherwise is such as a poke may set. What the
+/// switch tells of itself is told by `set_started` and `set_status`, and is shown as it was told
+/// last.
 #[derive(Clone, Copy)]
 pub struct Registers {
     started: bool,
@@ -81,7 +85,10 @@ impl Registers {
     /// The value of the register at this address. NoRegister where there is none; no other fault
     /// comes.
     pub fn peek(&self, addr: u16) -> Result<u32, RegFault>
-        ensures { result ≡ bank_peek self.now addr }
+        ensures read { result ≡ bank_peek self.now addr }
+
+        // What is read is in the range of its register: a poke of it is never refused for its value.
+        ensures in_range { IfOk result (λ value. settable addr value ≢ Err OutOfRange) }
     {
         match Address::at(addr) {
             None => Err(RegFault::NoRegister),
@@ -166,15 +173,9 @@ impl Registers {
     /// The links that continue the group of the link before them: link l at bit l.
     pub fn continues(&self) -> u32
         ensures number { result ≡ continue_bits self.now.settings }
-        ensures bits { (l : ℕ) → bit_at result l ≡ bit_value (settings_at self.now l).continue_group 1 }
+        ensures bits { (l : ℕ) → bit_at result l ≡ bit_value (continues_at self.now.settings l) 1 }
     {
-        let mut bits = 0;
-        let mut link = LINKS;
-        while link > 0 {
-            link -= 1;
-            bits = number(self.settings[link].continue_group, 1) + 2 * bits;
-        }
-        bits
+        continues_of(&self.settings)
     }
 
     /// Tells whether the switch is started.

@@ -1,14 +1,15 @@
 -- The group by the word that the registers give is the group by the settings.
-use Rattle.std.proofs.Common.{◌≡◌, ◌==◌, ◌+◌, ◌-◌, ◌^◌, ◌<◌, ◌≤◌, ℕ, zero, suc, Bool, true, false, List, [], ◌∷◌, get_or, refl, sym, ap, ◌∙◌, arith}
+use Rattle.std.proofs.Common.{◌≡◌, ◌==◌, ◌+◌, ◌-◌, ◌^◌, ◌<◌, ◌≤◌, ℕ, zero, suc, Bool, false, List, refl, sym, ap, ◌∙◌, arith}
 use Rattle.std.proofs.lemmas.Bool.{lt-leb}
 use Rattle.std.proofs.lemmas.Nat.Bits.{bit_at_above}
 use Rattle.std.specs.Int.{bit_at}
 use Rattle.c104_crossbar.specs.Groups as groups
 use Rattle.c104_crossbar.specs.Groups.{has_bit, is_joined_run}
 use Rattle.c104_regs.specs.declared.settings.Settings.{Settings}
-use Rattle.c104_regs.specs.Settings.{reset_settings}
+use Rattle.c104_regs.specs.Groups.{continues_at}
 use Rattle.c104_regs.specs.Values.{bit_value}
-use Rattle.c104_switch.specs.Group.{continues_at, is_in_group}
+use Rattle.c104_regs.proofs.ContinueLemmas.{bit-continues_at}
+use Rattle.c104_switch.specs.Group.{is_in_group}
 
 -- links that continue by one test as by another are joined by both
 joined_same : (f h : ℕ → Bool) → ((l : ℕ) → f l ≡ h l) → (low n : ℕ) → is_joined_run f low n ≡ is_joined_run h low n
@@ -22,19 +23,9 @@ in_group_same f h same g o = rw (joined_same f h same g (o - g), joined_same f h
 in_group_stops : (f : ℕ → Bool) (g o : ℕ) → o < g → f g ≡ false → groups.group_contains f g o ≡ false
 in_group_stops f g o below stops = rw (lt-leb g o below) (let more : g - o ≡ suc (g - 1 - o) = omega arith in rw more (let place : o + suc (g - 1 - o) ≡ g = omega arith in rw (place, stops) refl))
 
-number_one : (b : Bool) → (bit_value b 1 == 1) ≡ b
-number_one true = refl
-number_one false = refl
-
--- what is set at a link, and past the last
-set_at : (settings : List Settings) (l : ℕ) → (get_or settings l reset_settings).continue_group ≡ continues_at settings l
-set_at [] l = refl
-set_at (s ∷ settings) zero = refl
-set_at (s ∷ settings) (suc l) = set_at settings l
-
-module _ (settings : List Settings) (word : ℕ) (bits : (l : ℕ) → bit_at word l ≡ bit_value (get_or settings l reset_settings).continue_group 1) where
+module _ (settings : List Settings) (word : ℕ) (bits : (l : ℕ) → bit_at word l ≡ bit_value (continues_at settings l) 1) where
   bit_is : (l : ℕ) → has_bit word l ≡ continues_at settings l
-  bit_is l = ap (λ b. b == 1) (bits l) ∙ number_one _ ∙ set_at settings l
+  bit_is = bit-continues_at settings word bits
 
   pub in_group_is : (g o : ℕ) → groups.group_contains (has_bit word) g o ≡ is_in_group settings g o
   in_group_is = in_group_same (has_bit word) (continues_at settings) bit_is

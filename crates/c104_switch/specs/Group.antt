@@ -1,17 +1,9 @@
 -- Groups of links, as their settings say which links continue the group of the link before them. Past
 -- the last link, none does: a number of 32 or more is in no group with a link.
-use Rattle.std.specs.Prelude.{ℕ, Bool, false, List, Option, Some, None, slice_get}
+use Rattle.std.specs.Prelude.{ℕ, Bool, List}
 use Rattle.c104_crossbar.specs.Groups as groups
 use Rattle.c104_regs.specs.declared.settings.Settings.{Settings}
-
--- whether this link continues the group of the link before it
-abbrev pub continues : Option Settings → Bool
-continues None = false
-continues (Some s) = s.continue_group
-
--- whether link l continues the group of the link before it
-abbrev pub continues_at : List Settings → ℕ → Bool
-continues_at settings l = continues (slice_get settings l)
+use Rattle.c104_regs.specs.Groups.{continues_at}
 
 -- link o is in the group of link g
 abbrev pub is_in_group : List Settings → ℕ → ℕ → Bool

@@ -1,0 +1,80 @@
+-- Settings stay within the ranges of their registers where a register is set to a value that it takes, and
+-- so does the table of such settings by itself.
+use Rattle.std.proofs.Common.{◌≡◌, ℕ, inl, inr, Bool, true, false, nat_eq, nat_lt, if◌then◌else◌, Some, length, IsTrue, refl, sym, ap, ◌∙◌, arith}
+use Rattle.std.proofs.lemmas.Bool.{cases_eq}
+use Rattle.std.proofs.lemmas.Bool.Decides.{nat_tests}
+use Rattle.std.proofs.lemmas.List.{get_or-set_other, get_or-set_same, length-set}
+use Rattle.c104_interval.specs.Selection.{reset_row, row_at}
+use Rattle.c104_interval.specs.declared.intervals.Select.TheVariants.{Link, Discard, Sink}
+use Rattle.c104_regs.specs.Addresses.{IsRegister, Register, register_at, register_takes, register_properties}
+use Rattle.c104_regs.specs.declared.addresses.Register.TheVariants.{Mode, RandomBase, RandomRange, Sunk, Short, InputLevel, OutputLevel, Credit, Granted, Owner, Base, Limit, Select}
+use Rattle.c104_regs.specs.Ranges.{IsInRange, IsTableInRange}
+use Rattle.c104_regs.specs.Settings.{Settings, plain_settings}
+use Rattle.c104_regs.specs.Values.{Status, register_read, select_code, select_of, with_value}
+use Rattle.c104_regs.proofs.ValueLemmas.{by_writable, select_kept, value_other, value_same}
+
+-- a register stands at its offset, so registers of one offset are one
+at_offset : (r : Register) → IsRegister r → register_at (register_properties r).offset ≡ Some r
+at_offset Mode is = refl
+at_offset RandomBase is = refl
+at_offset RandomRange is = refl
+at_offset Sunk is = refl
+at_offset Short is = refl
+at_offset InputLevel is = refl
+at_offset OutputLevel is = refl
+at_offset Credit is = refl
+at_offset Granted is = refl
+at_offset Owner is = refl
+at_offset Base is = refl
+at_offset (Limit k) is = grind (arith, nat_tests)
+at_offset (Select k) is = grind (arith, nat_tests)
+
+same_register : (q r : Register) → IsRegister q → IsRegister r → (register_properties q).offset ≡ (register_properties r).offset → q ≡ r
+same_register q r is_q is_r same =
+    let one : Some q ≡ Some r = sym (at_offset q is_q) ∙ ap register_at same ∙ at_offset r is_r in
+    cc
+
+-- what a number selects has a number that selects the same
+decoded_by : (v : ℕ) (small discards : Bool) → small ≡ nat_lt v 32 → select_of (select_code (if small then Link v else (if discards then Discard else Sink))) ≡ (if small then Link v else (if discards then Discard else Sink))
+decoded_by v true discards is = rw (sym is) refl
+decoded_by v false true is = refl
+decoded_by v false false is = refl
+
+module _ (s : Settings) (r : Register) (v : ℕ) (is : IsRegister r) (writable : IsTrue (register_properties r).is_writable) (fits : IsTrue (register_takes r v)) (kept : IsInRange s) where
+  takes_after : (t : Status) (q : Register) → IsRegister q → IsTrue (register_properties q).is_writable → IsTrue (register_takes q (register_read (with_value s r v) t q))
+  takes_after t q is_q may = elim (cases_eq (register_properties q).offset (register_properties r).offset) [
+    | inl same ↦ rw (same_register q r is_q is same) (rw (value_same s t r v kept.rows is writable fits) fits)
+    | inr differs ↦ rw (value_other s t r q v kept.rows is writable (λ one. differs (ap (λ (p : Register). (register_properties p).offset) one))) (kept.takes t q is_q may)
+  ]
+
+  selects_after : (j : ℕ) → select_of (select_code (row_at (with_value s r v).table j).select) ≡ (row_at (with_value s r v).table j).select
+  selects_after j =
+      by_writable (λ r. IsRegister r → select_of (select_code (row_at (with_value s r v).table j).select) ≡ (row_at (with_value s r v).table j).select)
+      (λ _. kept.selects j) (λ _. kept.selects j) (λ _. kept.selects j) (λ _. kept.selects j)
+      (λ k below. rw (select_kept s.table.rows k j v (rw kept.rows below)) (kept.selects j))
+      (λ k below. elim (cases_eq j k) [
+        | inl same ↦ rw same (rw (get_or-set_same s.table.rows k _ reset_row (rw kept.rows below)) (decoded_by v (nat_lt v 32) (nat_eq v 32) refl))
+        | inr differs ↦ rw (get_or-set_other s.table.rows k j _ reset_row differs) (kept.selects j)
+      ])
+      r writable is
+
+  rows_after : length (with_value s r v).table.rows ≡ 36
+  rows_after =
+      by_writable (λ r. length (with_value s r v).table.rows ≡ 36)
+      kept.rows kept.rows kept.rows kept.rows (λ k. rw length-set kept.rows) (λ k. rw length-set kept.rows) r writable
+
+  -- settings of which a register was set stay within the ranges
+  pub IsInRange-with_value : IsInRange (with_value s r v)
+  IsInRange-with_value = record { takes = takes_after; selects = selects_after; rows = rows_after }
+
+-- the table of settings within the ranges of their registers is so too
+pub IsTableInRange-of : (s : Settings) → IsInRange s → IsTableInRange s.table
+IsTableInRange-of s kept = record {
+  takes = λ status r is writable.
+      by_writable (λ r. IsRegister r → IsTrue (register_takes r (register_read (plain_settings s.table) status r)))
+      (λ _. refl) (λ _. refl) (λ _. refl)
+      (λ is. kept.takes status Base is refl) (λ k is. kept.takes status (Limit k) is refl) (λ k is. kept.takes status (Select k) is refl)
+      r writable is;
+  selects = kept.selects;
+  rows = kept.rows;
+}

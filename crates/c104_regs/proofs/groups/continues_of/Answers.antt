@@ -1,0 +1,24 @@
+use Rattle.std.proofs.Common.{◌≡◌, ◌+◌, ◌-◌, ◌*◌, ◌<◌, ◌^◌, ap, ◌∙◌, arith, drop, refl}
+use Rattle.c104_regs.specs.Groups.{continue_bits}
+use Rattle.c104_regs.proofs.ContinueLemmas.{bit_at-continue_bits, continue_bits-end, continue_bits-fits}
+use Rattle.c104_regs.proofs.groups.continues_of.Goals as goal
+
+pub loop-link-init : goal.loop-link-init
+loop-link-init c = (omega arith, continue_bits-end c.args.settings.now _ refl)
+
+fits : (c : goal.After-number) → c.number.result + 2 * c.loop-link.bits < 2 ^ 32
+fits c =
+    let next : c.loop-link.link - 1 + 1 ≡ c.loop-link.link = omega arith in
+    continue_bits-fits c.args.settings.now (c.loop-link.link - 1) _ _ _ c.requires (omega arith) c.number.ensures (rw next c.loop-link.invariant.1)
+
+pub overflow_mul-bits : goal.overflow_mul-bits
+overflow_mul-bits c = omega (arith, fits c)
+
+pub overflow_add-bits : goal.overflow_add-bits
+overflow_add-bits c = omega (arith, fits c)
+
+pub returns-clause-bits : goal.returns-clause-bits
+returns-clause-bits c l =
+    let end : c.loop-link.link ≡ 0 = omega arith in
+    let is : c.loop-link.bits ≡ continue_bits c.args.settings.now = c.loop-link.invariant.1 ∙ ap (λ k. continue_bits (drop k c.args.settings.now)) end in
+    rw is (bit_at-continue_bits c.args.settings.now l)
