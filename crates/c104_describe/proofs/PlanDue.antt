@@ -6,34 +6,34 @@ use Rattle.c104_describe.specs.declared.faults.PlanFaultKind.TheVariants.{TooLon
 use Rattle.c104_describe.specs.TextCut.{lines}
 use Rattle.c104_describe.specs.PlanFaults.{PlanFault, PlanFaultKind, fault_at, no_memory}
 use Rattle.c104_describe.specs.Plans.{Plan}
-use Rattle.c104_describe.specs.PlanLines.{read_plan_line}
-use Rattle.c104_describe.specs.PlanText.{plan_after_line, read_description, empty_plan, read_plan_lines, most_bytes, GivesPlanOrNoMemory, IsDue, IsFirstFault}
+use Rattle.c104_describe.specs.PlanLines.{Draft, read_plan_line}
+use Rattle.c104_describe.specs.PlanText.{draft_after_line, plan_of_draft, read_description, empty_draft, read_plan_lines, most_bytes, GivesPlanOrNoMemory, IsDue, IsFirstFault}
 
 -- the first faulty line among some, of which the first has this number
-record Found (n : ℕ) (list : List (List ℕ)) (plan : Plan) (fault : PlanFault) : Type 0 where
+record Found (n : ℕ) (list : List (List ℕ)) (draft : Draft) (fault : PlanFault) : Type 0 where
   place : ℕ
   line : List ℕ
   kind : PlanFaultKind
-  before : Plan
+  before : Draft
   is_line : slice_get list place ≡ Some line
-  before_it : read_plan_lines n (take place list) plan ≡ Ok before
+  before_it : read_plan_lines n (take place list) draft ≡ Ok before
   is_faulty : read_plan_line before line ≡ Err kind
   is_told : fault ≡ fault_at (n + place) kind
 
 -- by what the first of them says
-found-first : (n : ℕ) (line : List ℕ) (more : List (List ℕ)) (plan : Plan) (fault : PlanFault) (said : Result Plan PlanFaultKind) → read_plan_line plan line ≡ said
-    → plan_after_line n said (λ next. read_plan_lines (n + 1) more next) ≡ Err fault → ((next : Plan) → read_plan_lines (n + 1) more next ≡ Err fault → Found (n + 1) more next fault) → Found n (line ∷ more) plan fault
-found-first n line more plan fault (Err kind) is here go = record {
+found-first : (n : ℕ) (line : List ℕ) (more : List (List ℕ)) (draft : Draft) (fault : PlanFault) (said : Result Draft PlanFaultKind) → read_plan_line draft line ≡ said
+    → draft_after_line n said (λ next. read_plan_lines (n + 1) more next) ≡ Err fault → ((next : Draft) → read_plan_lines (n + 1) more next ≡ Err fault → Found (n + 1) more next fault) → Found n (line ∷ more) draft fault
+found-first n line more draft fault (Err kind) is here go = record {
   place = zero;
   line = line;
   kind = kind;
-  before = plan;
+  before = draft;
   is_line = refl;
   before_it = refl;
   is_faulty = is;
   is_told = let told : fault_at n kind ≡ fault = cc in sym told ∙ ap (λ k. fault_at k kind) (omega arith);
 }
-found-first n line more plan fault (Ok next) is here go =
+found-first n line more draft fault (Ok next) is here go =
     let rest : Found (n + 1) more next fault = go next here in
     record {
       place = suc rest.place;
@@ -41,18 +41,18 @@ found-first n line more plan fault (Ok next) is here go =
       kind = rest.kind;
       before = rest.before;
       is_line = rest.is_line;
-      before_it = ap (λ said. plan_after_line n said (λ p. read_plan_lines (n + 1) (take rest.place more) p)) is ∙ rest.before_it;
+      before_it = ap (λ said. draft_after_line n said (λ p. read_plan_lines (n + 1) (take rest.place more) p)) is ∙ rest.before_it;
       is_faulty = rest.is_faulty;
       is_told = rest.is_told ∙ ap (λ k. fault_at k rest.kind) (omega arith);
     }
 
-found : (n : ℕ) (list : List (List ℕ)) (plan : Plan) (fault : PlanFault) → read_plan_lines n list plan ≡ Err fault → Found n list plan fault
-found n [] plan fault is = cc
-found n (line ∷ more) plan fault is = found-first n line more plan fault (read_plan_line plan line) refl is (λ next rest. found (n + 1) more next fault rest)
+found : (n : ℕ) (list : List (List ℕ)) (draft : Draft) (fault : PlanFault) → read_plan_lines n list draft ≡ Err fault → Found n list draft fault
+found n [] draft fault is = cc
+found n (line ∷ more) draft fault is = found-first n line more draft fault (read_plan_line draft line) refl is (λ next rest. found (n + 1) more next fault rest)
 
-first_fault : (text : List ℕ) (fault : PlanFault) → length text ≤ most_bytes → read_plan_lines 1 (lines text) empty_plan ≡ Err fault → IsFirstFault text fault
+first_fault : (text : List ℕ) (fault : PlanFault) → length text ≤ most_bytes → read_plan_lines 1 (lines text) empty_draft ≡ Err fault → IsFirstFault text fault
 first_fault text fault short is =
-    let f : Found 1 (lines text) empty_plan fault = found 1 (lines text) empty_plan fault is in
+    let f : Found 1 (lines text) empty_draft fault = found 1 (lines text) empty_draft fault is in
     record {
       place = f.place;
       line = f.line;
@@ -65,8 +65,12 @@ first_fault text fault short is =
       is_told = f.is_told ∙ ap (λ k. fault_at k f.kind) (omega arith);
     }
 
-due_by : (text : List ℕ) (fault : PlanFault) (short : Bool) → nat_le (length text) most_bytes ≡ short → (if short then read_plan_lines 1 (lines text) empty_plan else Err (fault_at 0 TooLong)) ≡ Err fault → IsDue text fault
-due_by text fault true is here = inr (inr (first_fault text fault (grind (arith, nat_tests)) here))
+fault_of_draft : (made : Result Draft PlanFault) (fault : PlanFault) → plan_of_draft made ≡ Err fault → made ≡ Err fault
+fault_of_draft (Ok draft) fault is = cc
+fault_of_draft (Err other) fault is = let same : other ≡ fault = cc in ap Err same
+
+due_by : (text : List ℕ) (fault : PlanFault) (short : Bool) → nat_le (length text) most_bytes ≡ short → (if short then plan_of_draft (read_plan_lines 1 (lines text) empty_draft) else Err (fault_at 0 TooLong)) ≡ Err fault → IsDue text fault
+due_by text fault true is here = inr (inr (first_fault text fault (grind (arith, nat_tests)) (fault_of_draft (read_plan_lines 1 (lines text) empty_draft) fault here)))
 due_by text fault false is here = inr (inl (record { is_long = grind (arith, nat_tests); is_told = let told : fault_at 0 TooLong ≡ fault = cc in sym told }))
 
 pub due : (text : List ℕ) (result : Result Plan PlanFault) → GivesPlanOrNoMemory result (read_description text) → IfErr result (IsDue text)

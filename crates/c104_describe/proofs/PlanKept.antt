@@ -1,171 +1,287 @@
 -- What the type of a plan keeps, each addition keeps.
-use Rattle.std.proofs.Common.{◌≡◌, ◌≢◌, ℕ, zero, suc, ◌+◌, ◌<◌, ◌≤◌, ◌&&◌, ◌==◌, Bool, true, false, cond, List, [], ◌∷◌, ◌++◌, length, map, All, AllPairs, sym, subst, refl, arith, append_assoc, append-nil, length-append}
-use Rattle.std.proofs.lemmas.Bool.Decides.{nat_tests}
+use Rattle.std.proofs.Common.{◌≡◌, ℕ, ◌+◌, ◌<◌, ◌≤◌, ◌==◌, Bool, true, false, cond, List, [], ◌∷◌, ◌++◌, length, map, bytes_eq, All, sym, subst, ◌∙◌, ap, refl, arith, append_assoc, append-nil, length-append}
+use Rattle.std.proofs.lemmas.Bool.{or_from}
+use Rattle.std.proofs.lemmas.Cmp.{nat_list_eq_equiv}
 use Rattle.std.proofs.lemmas.List.{map-append}
 use Rattle.std.proofs.lemmas.List.Elements.{All-cons, All-head, All-tail, All-push, All-weaker, filter-append}
-use Rattle.std.proofs.lemmas.List.Kept.{AllPairs-cons}
-use Rattle.std.proofs.lemmas.List.Quantifiers.{all_pairs_push}
-use Rattle.c104_describe.specs.TextWords.{is_name}
+use Rattle.std.proofs.lemmas.List.Folds.{list_any-append}
 use Rattle.std.specs.List.{list_any}
-use Rattle.c104_describe.specs.Plans.{Plan, PlanPort, PlanRow, Terminal, IsPlan, IsPort, IsRange, IsPlanSelect, names, is_taken, is_linked, is_continued, is_deleted, rows_of}
-use Rattle.c104_describe.proofs.PlanNames.{names-free, none_pass}
+use Rattle.c104_describe.specs.Distinctness.{AreDistinct}
+use Rattle.c104_describe.specs.TextWords.{is_name}
+use Rattle.c104_describe.specs.declared.ports.Port.TheVariants as port
+use Rattle.c104_describe.specs.Ports.{Port, Wire, is_port, both_ends, is_any_at, IsSwitchPort}
+use Rattle.c104_describe.specs.Plans.{Plan, PlanBase, PlanRow, Terminal, IsPlan, AreNames, AreTerminals, AreContinues, AreBases, AreRows, IsPlanWire, IsLaterPort, IsRange, IsPlanSelect, names, host_port, linked_ports, is_taken, is_linked, is_continued, is_deleted, is_row_of, rows_of, is_buffer_size, label_count, most_switches, most_terminals, most_header_bytes}
+use Rattle.c104_describe.proofs.Distinct.{distinct_inserted, distinct_pushed}
+use Rattle.c104_describe.proofs.PortLemmas.{is_port-flips, is_port-true, once-pushed}
 
 All-inserted : {X : Type 0} (P : X → Type 0) (xs ys : List X) (x : X) → All P (xs ++ ys) → P x → All P ((xs ++ x ∷ []) ++ ys)
 All-inserted P [] ys x all here = All-cons P x ys here all
 All-inserted P (a ∷ xs) ys x all here = All-cons P a ((xs ++ x ∷ []) ++ ys) (All-head P a (xs ++ ys) all) (All-inserted P xs ys x (All-tail P a (xs ++ ys) all) here)
 
-AllPairs-head : {X : Type 0} (R : X → X → Type 0) (a : X) (xs : List X) → AllPairs R (a ∷ xs) → All (R a) xs
-AllPairs-head R a xs pairs = λ k d inside. pairs zero (suc k) d (omega arith) (omega arith)
+names_flip : (a b : List ℕ) → bytes_eq a b ≡ bytes_eq b a
+names_flip a b = nat_list_eq_equiv.symm a b
 
-AllPairs-tail : {X : Type 0} (R : X → X → Type 0) (a : X) (xs : List X) → AllPairs R (a ∷ xs) → AllPairs R xs
-AllPairs-tail R a xs pairs = λ i j d below inside. pairs (suc i) (suc j) d (omega arith) (omega arith)
+-- Of more switches
 
--- one more element between two lists, which differs from each
-differ-inserted : (xs ys : List (List ℕ)) (x : List ℕ) → AllPairs (λ a b. a ≢ b) (xs ++ ys) → All (λ other. other ≢ x) (xs ++ ys) → AllPairs (λ a b. a ≢ b) ((xs ++ x ∷ []) ++ ys)
-differ-inserted [] ys x pairs all =
-    AllPairs-cons (λ a b. a ≢ b) x ys (All-weaker (λ other. other ≢ x) (λ other. x ≢ other) (λ other differ same. differ (sym same)) ys all) pairs
-differ-inserted (a ∷ xs) ys x pairs all =
-    AllPairs-cons (λ c b. c ≢ b) a ((xs ++ x ∷ []) ++ ys)
-    (All-inserted (λ b. a ≢ b) xs ys x (AllPairs-head (λ c b. c ≢ b) a (xs ++ ys) pairs) (All-head (λ other. other ≢ x) a (xs ++ ys) all))
-    (differ-inserted xs ys x (AllPairs-tail (λ c b. c ≢ b) a (xs ++ ys) pairs) (All-tail (λ other. other ≢ x) a (xs ++ ys) all))
+module _ (m n : ℕ) (more : m ≤ n) where
+  port_of_more : (p : Port) → IsSwitchPort m p → IsSwitchPort n p
+  port_of_more (port.Switch s l) is = (omega (arith, is.0), is.1)
+  port_of_more (port.Terminal t) is = is
 
--- where none is on a link, each is elsewhere
-all_elsewhere : {X : Type 0} (switch_of link_of : X → ℕ) (xs : List X) (switch link : ℕ) → list_any (λ x. switch_of x == switch && link_of x == link) xs ≡ false → All (λ x. switch_of x ≡ switch → link_of x ≢ link) xs
-all_elsewhere switch_of link_of xs switch link free =
-    All-weaker (λ x. (switch_of x == switch && link_of x == link) ≡ false) (λ x. switch_of x ≡ switch → link_of x ≢ link)
-    (λ x differs same_switch same_link. absurd (grind (arith, nat_tests))) xs
-    (none_pass (λ x. switch_of x == switch && link_of x == link) xs free)
+  later_of_more : (p : Port) → IsLaterPort m p → IsLaterPort n p
+  later_of_more (port.Switch s l) is = (omega (arith, is.0), is.1, is.2)
+  later_of_more (port.Terminal t) is = is
+
+  terminals_of_more : (terminals : List Terminal) → AreTerminals m terminals → AreTerminals n terminals
+  terminals_of_more terminals are = record {
+    few = are.few;
+    on_switches = All-weaker (λ (t : Terminal). IsSwitchPort m (host_port t)) (λ (t : Terminal). IsSwitchPort n (host_port t)) (λ (t : Terminal) is. port_of_more (host_port t) is) terminals are.on_switches;
+    ranges = are.ranges;
+  }
+
+  wires_of_more : (wires : List Wire) → All (IsPlanWire m) wires → All (IsPlanWire n) wires
+  wires_of_more wires are = All-weaker (IsPlanWire m) (IsPlanWire n) (λ (w : Wire) is. (port_of_more w.here is.0, port_of_more w.there is.1, is.2)) wires are
+
+  continues_of_more : (continues : List Port) → AreContinues m continues → AreContinues n continues
+  continues_of_more continues are = record { later = All-weaker (IsLaterPort m) (IsLaterPort n) later_of_more continues are.later; once = are.once }
+
+  bases_of_more : (bases : List PlanBase) → AreBases m bases → AreBases n bases
+  bases_of_more bases are = record {
+    of_inputs = All-weaker (λ (b : PlanBase). IsSwitchPort m b.port) (λ (b : PlanBase). IsSwitchPort n b.port) (λ (b : PlanBase) is. port_of_more b.port is) bases are.of_inputs;
+    ranges = are.ranges;
+    once = are.once;
+  }
+
+  rows_of_more : (rows : List PlanRow) → AreRows m rows → AreRows n rows
+  rows_of_more rows are = record {
+    of_inputs = All-weaker (λ (r : PlanRow). IsSwitchPort m r.port) (λ (r : PlanRow). IsSwitchPort n r.port) (λ (r : PlanRow) is. port_of_more r.port is) rows are.of_inputs;
+    ranges = are.ranges;
+    few = are.few;
+  }
+
+both_ends-append : (ws : List Wire) (w : Wire) → both_ends (ws ++ w ∷ []) ≡ both_ends ws ++ (w.here ∷ w.there ∷ [])
+both_ends-append [] w = refl
+both_ends-append (v ∷ ws) w = ap (λ ports. v.here ∷ v.there ∷ ports) (both_ends-append ws w)
 
 module _ (plan : Plan) (kept : IsPlan plan) where
-  pub with_switch : (name : List ℕ) → is_name name ≡ true → is_taken plan name ≡ false → length plan.switches < 1 → IsPlan (record plan { switches = plan.switches ++ name ∷ [] })
-  unfolding rows_of
+  pub with_switch : (name : List ℕ) → is_name name ≡ true → is_taken plan name ≡ false → length plan.switches < most_switches → IsPlan (record plan { switches = plan.switches ++ name ∷ [] })
+  unfolding is_taken
   with_switch name named free room =
       let longer : length (plan.switches ++ name ∷ []) ≡ length plan.switches + 1 = length-append plan.switches (name ∷ []) in
-      let next : Plan = record plan { switches = plan.switches ++ name ∷ [] } in
+      let more : length plan.switches ≤ length (plan.switches ++ name ∷ []) = omega arith in
       let of_terminals : List (List ℕ) = map (λ (t : Terminal). t.name) plan.terminals in
       record {
+        header = kept.header;
+        cap = kept.cap;
+        shape = kept.shape;
         few_switches = omega arith;
-        few_terminals = kept.few_terminals;
-        few_rows = kept.few_rows;
-        names_are = All-inserted (λ other. is_name other ≡ true) plan.switches of_terminals name kept.names_are named;
-        names_differ = differ-inserted plan.switches of_terminals name kept.names_differ (names-free plan name free);
-        ports = All-weaker (λ (t : Terminal). IsPort plan t.switch t.link) (λ (t : Terminal). IsPort next t.switch t.link) (λ (t : Terminal) port. (omega (arith, port.0), port.1)) plan.terminals kept.ports;
-        links_differ = kept.links_differ;
-        ranges = kept.ranges;
-        continues_are = All-weaker (λ (p : PlanPort). IsPort plan p.switch p.link × (0 < p.link)) (λ (p : PlanPort). IsPort next p.switch p.link × (0 < p.link)) (λ (p : PlanPort) port. ((omega (arith, port.0.0), port.0.1), port.1)) plan.continues kept.continues_are;
-        continues_differ = kept.continues_differ;
-        deletes_are = kept.deletes_are;
-        deletes_differ = kept.deletes_differ;
-        inputs = All-weaker (λ (r : PlanRow). IsPort plan r.switch r.link) (λ (r : PlanRow). IsPort next r.switch r.link) (λ (r : PlanRow) input. (omega (arith, input.0), input.1)) plan.rows kept.inputs;
-        rows_are = kept.rows_are;
+        names = record {
+          named = All-inserted (λ other. is_name other ≡ true) plan.switches of_terminals name kept.names.named named;
+          differ = distinct_inserted bytes_eq names_flip plan.switches of_terminals name free kept.names.differ;
+        };
+        terminals = terminals_of_more _ _ more plan.terminals kept.terminals;
+        wires = wires_of_more _ _ more plan.wires kept.wires;
+        links = kept.links;
+        continues = continues_of_more _ _ more plan.continues kept.continues;
+        deletes = kept.deletes;
+        bases = bases_of_more _ _ more plan.bases kept.bases;
+        rows = rows_of_more _ _ more plan.rows kept.rows;
+        randoms = kept.randoms;
       }
 
-  names-terminal : (t : Terminal) → plan.switches ++ map (λ (u : Terminal). u.name) (plan.terminals ++ t ∷ []) ≡ names plan ++ t.name ∷ []
+  names-terminal : (t : Terminal) → names plan.switches (plan.terminals ++ t ∷ []) ≡ names plan.switches plan.terminals ++ t.name ∷ []
   names-terminal t = rw (map-append (λ (u : Terminal). u.name) plan.terminals (t ∷ [])) (sym (append_assoc plan.switches (map (λ (u : Terminal). u.name) plan.terminals) (t.name ∷ [])))
 
-  link-free : (switch link : ℕ) → is_linked plan switch link ≡ false → All (λ (t : Terminal). t.switch ≡ switch → t.link ≢ link) plan.terminals
-  unfolding is_linked
-  link-free switch link free = all_elsewhere (λ (t : Terminal). t.switch) (λ (t : Terminal). t.link) plan.terminals switch link free
+  names_with : (t : Terminal) → is_name t.name ≡ true → is_taken plan t.name ≡ false → AreNames (names plan.switches (plan.terminals ++ t ∷ []))
+  unfolding is_taken
+  names_with t named free = subst AreNames (sym (names-terminal t)) (record {
+    named = All-push (λ name. is_name name ≡ true) (names plan.switches plan.terminals) t.name kept.names.named named;
+    differ = distinct_pushed bytes_eq (names plan.switches plan.terminals) t.name free kept.names.differ;
+  })
 
-  pub with_terminal : (t : Terminal) → is_name t.name ≡ true → is_taken plan t.name ≡ false → t.switch < length plan.switches → t.link < 32 → is_linked plan t.switch t.link ≡ false → length plan.terminals < 256 → t.first ≡ length plan.terminals → t.count ≡ 1 → IsPlan (record plan { terminals = plan.terminals ++ t ∷ [] })
-  unfolding rows_of
-  with_terminal t named free on_switch is_link unlinked room first one =
+  links_with : (t : Terminal) → is_linked plan (host_port t) ≡ false → AreDistinct is_port (linked_ports (plan.terminals ++ t ∷ []) plan.wires)
+  unfolding is_linked
+  links_with t free = rw (map-append host_port plan.terminals (t ∷ [])) (distinct_inserted is_port is_port-flips (map host_port plan.terminals) (both_ends plan.wires) (host_port t) free kept.links)
+
+  pub with_terminal : (t : Terminal) → is_name t.name ≡ true → is_taken plan t.name ≡ false → IsSwitchPort (length plan.switches) (host_port t) → is_linked plan (host_port t) ≡ false → length plan.terminals < most_terminals → IsRange t.first t.count → IsPlan (record plan { terminals = plan.terminals ++ t ∷ [] })
+  with_terminal t named free on_switch unlinked room range =
       let longer : length (plan.terminals ++ t ∷ []) ≡ length plan.terminals + 1 = length-append plan.terminals (t ∷ []) in
-      let NamesAre : List (List ℕ) → Type 0 = λ all. All (λ name. is_name name ≡ true) all in
-      let NamesDiffer : List (List ℕ) → Type 0 = λ all. AllPairs (λ name other. name ≢ other) all in
       record {
+        header = kept.header;
+        cap = kept.cap;
+        shape = kept.shape;
         few_switches = kept.few_switches;
-        few_terminals = omega arith;
-        few_rows = kept.few_rows;
-        names_are = subst NamesAre (sym (names-terminal t)) (All-push (λ name. is_name name ≡ true) (names plan) t.name kept.names_are named);
-        names_differ = subst NamesDiffer (sym (names-terminal t)) (all_pairs_push (λ a b. a ≢ b) (names plan) t.name kept.names_differ (names-free plan t.name free));
-        ports = All-push (λ (u : Terminal). IsPort plan u.switch u.link) plan.terminals t kept.ports (on_switch, is_link);
-        links_differ = all_pairs_push (λ (u v : Terminal). u.switch ≡ v.switch → u.link ≢ v.link) plan.terminals t kept.links_differ (link-free t.switch t.link unlinked);
-        ranges = All-push (λ (u : Terminal). IsRange u.first u.count) plan.terminals t kept.ranges (omega arith, omega arith);
-        continues_are = kept.continues_are;
-        continues_differ = kept.continues_differ;
-        deletes_are = All-weaker (λ u. u < length plan.terminals) (λ u. u < length (plan.terminals ++ t ∷ [])) (λ u inside. omega (arith, longer)) plan.deletes kept.deletes_are;
-        deletes_differ = kept.deletes_differ;
-        inputs = kept.inputs;
-        rows_are = kept.rows_are;
+        names = names_with t named free;
+        terminals = record {
+          few = omega arith;
+          on_switches = All-push (λ (u : Terminal). IsSwitchPort (length plan.switches) (host_port u)) plan.terminals t kept.terminals.on_switches on_switch;
+          ranges = All-push (λ (u : Terminal). IsRange u.first u.count) plan.terminals t kept.terminals.ranges range;
+        };
+        wires = kept.wires;
+        links = links_with t unlinked;
+        continues = kept.continues;
+        deletes = record {
+          known = All-weaker (λ u. u < length plan.terminals) (λ u. u < length (plan.terminals ++ t ∷ [])) (λ u inside. omega (arith, longer)) plan.deletes kept.deletes.known;
+          once = kept.deletes.once;
+        };
+        bases = kept.bases;
+        rows = kept.rows;
+        randoms = kept.randoms;
       }
 
-  continue-free : (switch link : ℕ) → is_continued plan switch link ≡ false → All (λ (p : PlanPort). p.switch ≡ switch → p.link ≢ link) plan.continues
-  unfolding is_continued
-  continue-free switch link free = all_elsewhere (λ (p : PlanPort). p.switch) (λ (p : PlanPort). p.link) plan.continues switch link free
+  links_wired : (w : Wire) → is_linked plan w.here ≡ false → is_linked plan w.there ≡ false → is_port w.here w.there ≡ false → AreDistinct is_port (linked_ports plan.terminals (plan.wires ++ w ∷ []))
+  unfolding is_linked
+  links_wired w here_free there_free differ =
+      let ports : List Port = linked_ports plan.terminals plan.wires in
+      let at_here : AreDistinct is_port (ports ++ w.here ∷ []) = distinct_pushed is_port ports w.here here_free kept.links in
+      let none : list_any (λ q. is_port q w.there) (ports ++ w.here ∷ []) ≡ false = list_any-append (λ q. is_port q w.there) ports (w.here ∷ []) ∙ or_from _ _ there_free (or_from _ _ differ refl) in
+      let both : AreDistinct is_port ((ports ++ w.here ∷ []) ++ w.there ∷ []) = distinct_pushed is_port (ports ++ w.here ∷ []) w.there none at_here in
+      let same : (ports ++ w.here ∷ []) ++ w.there ∷ [] ≡ linked_ports plan.terminals (plan.wires ++ w ∷ []) =
+      append_assoc ports (w.here ∷ []) (w.there ∷ [])
+      ∙ append_assoc (map host_port plan.terminals) (both_ends plan.wires) (w.here ∷ w.there ∷ [])
+      ∙ ap (λ ends. map host_port plan.terminals ++ ends) (sym (both_ends-append plan.wires w)) in
+      subst (AreDistinct is_port) same both
 
-  pub with_continue : (p : PlanPort) → p.switch < length plan.switches → p.link < 32 → 0 < p.link → is_continued plan p.switch p.link ≡ false → IsPlan (record plan { continues = plan.continues ++ p ∷ [] })
-  unfolding rows_of
-  with_continue p on_switch is_link after_first once = record {
+  pub with_wire : (w : Wire) → IsPlanWire (length plan.switches) w → is_port w.here w.there ≡ false → is_linked plan w.here ≡ false → is_linked plan w.there ≡ false → IsPlan (record plan { wires = plan.wires ++ w ∷ [] })
+  with_wire w is_wire differ here_free there_free = record {
+    header = kept.header;
+    cap = kept.cap;
+    shape = kept.shape;
     few_switches = kept.few_switches;
-    few_terminals = kept.few_terminals;
-    few_rows = kept.few_rows;
-    names_are = kept.names_are;
-    names_differ = kept.names_differ;
-    ports = kept.ports;
-    links_differ = kept.links_differ;
-    ranges = kept.ranges;
-    continues_are = All-push (λ (q : PlanPort). IsPort plan q.switch q.link × (0 < q.link)) plan.continues p kept.continues_are ((on_switch, is_link), after_first);
-    continues_differ = all_pairs_push (λ (q r : PlanPort). q.switch ≡ r.switch → q.link ≢ r.link) plan.continues p kept.continues_differ (continue-free p.switch p.link once);
-    deletes_are = kept.deletes_are;
-    deletes_differ = kept.deletes_differ;
-    inputs = kept.inputs;
-    rows_are = kept.rows_are;
+    names = kept.names;
+    terminals = kept.terminals;
+    wires = All-push (IsPlanWire (length plan.switches)) plan.wires w kept.wires is_wire;
+    links = links_wired w here_free there_free differ;
+    continues = kept.continues;
+    deletes = kept.deletes;
+    bases = kept.bases;
+    rows = kept.rows;
+    randoms = kept.randoms;
   }
 
-  delete-free : (terminal : ℕ) → is_deleted plan terminal ≡ false → All (λ t. t ≢ terminal) plan.deletes
-  unfolding is_deleted
-  delete-free terminal free =
-      All-weaker (λ t. (t == terminal) ≡ false) (λ t. t ≢ terminal) (λ t differs same. absurd (grind (arith, nat_tests))) plan.deletes
-      (none_pass (λ t. t == terminal) plan.deletes free)
+  pub with_continue : (p : Port) → IsLaterPort (length plan.switches) p → is_continued plan p ≡ false → IsPlan (record plan { continues = plan.continues ++ p ∷ [] })
+  with_continue p later once = record {
+    header = kept.header;
+    cap = kept.cap;
+    shape = kept.shape;
+    few_switches = kept.few_switches;
+    names = kept.names;
+    terminals = kept.terminals;
+    wires = kept.wires;
+    links = kept.links;
+    continues = record {
+      later = All-push (IsLaterPort (length plan.switches)) plan.continues p kept.continues.later later;
+      once = once-pushed (λ q. q) plan.continues p once kept.continues.once;
+    };
+    deletes = kept.deletes;
+    bases = kept.bases;
+    rows = kept.rows;
+    randoms = kept.randoms;
+  }
 
   pub with_delete : (terminal : ℕ) → terminal < length plan.terminals → is_deleted plan terminal ≡ false → IsPlan (record plan { deletes = plan.deletes ++ terminal ∷ [] })
-  unfolding rows_of
+  unfolding is_deleted
   with_delete terminal known once = record {
+    header = kept.header;
+    cap = kept.cap;
+    shape = kept.shape;
     few_switches = kept.few_switches;
-    few_terminals = kept.few_terminals;
-    few_rows = kept.few_rows;
-    names_are = kept.names_are;
-    names_differ = kept.names_differ;
-    ports = kept.ports;
-    links_differ = kept.links_differ;
-    ranges = kept.ranges;
-    continues_are = kept.continues_are;
-    continues_differ = kept.continues_differ;
-    deletes_are = All-push (λ t. t < length plan.terminals) plan.deletes terminal kept.deletes_are known;
-    deletes_differ = all_pairs_push (λ (t u : ℕ). t ≢ u) plan.deletes terminal kept.deletes_differ (delete-free terminal once);
-    inputs = kept.inputs;
-    rows_are = kept.rows_are;
+    names = kept.names;
+    terminals = kept.terminals;
+    wires = kept.wires;
+    links = kept.links;
+    continues = kept.continues;
+    deletes = record {
+      known = All-push (λ t. t < length plan.terminals) plan.deletes terminal kept.deletes.known known;
+      once = distinct_pushed (λ t u. t == u) plan.deletes terminal once kept.deletes.once;
+    };
+    bases = kept.bases;
+    rows = kept.rows;
+    randoms = kept.randoms;
   }
 
-  few-row_by : (r : PlanRow) (switch link : ℕ) (same : Bool) → (r.switch == switch && r.link == link) ≡ same → length (rows_of plan r.switch r.link) < 36 → length (rows_of plan switch link ++ cond same (r ∷ []) []) ≤ 36
-  few-row_by r switch link true is room =
-      let at_switch : r.switch ≡ switch = grind (arith, nat_tests) in
-      let at_link : r.link ≡ link = grind (arith, nat_tests) in
-      let fits : length (rows_of plan switch link) < 36 = rw (← at_switch, ← at_link) room in
-      omega (arith, length-append (rows_of plan switch link) (r ∷ []))
-  few-row_by r switch link false is room = rw append-nil (kept.few_rows switch link)
-
-  few-row : (r : PlanRow) (switch link : ℕ) → length (rows_of plan r.switch r.link) < 36 → length (rows_of (record plan { rows = plan.rows ++ r ∷ [] }) switch link) ≤ 36
-  unfolding rows_of
-  few-row r switch link room =
-      let test : PlanRow → Bool = λ (q : PlanRow). q.switch == switch && q.link == link in
-      rw (filter-append test plan.rows (r ∷ [])) (few-row_by r switch link (test r) refl room)
-
-  pub with_row : (r : PlanRow) → r.switch < length plan.switches → r.link < 32 → r.limit ≤ 65536 → IsPlanSelect r.select → length (rows_of plan r.switch r.link) < 36 → IsPlan (record plan { rows = plan.rows ++ r ∷ [] })
-  with_row r on_switch is_link limit selectable room = record {
+  pub with_base : (b : PlanBase) → IsSwitchPort (length plan.switches) b.port → b.base < label_count → is_any_at (λ (c : PlanBase). c.port) plan.bases b.port ≡ false → IsPlan (record plan { bases = plan.bases ++ b ∷ [] })
+  with_base b of_input range once = record {
+    header = kept.header;
+    cap = kept.cap;
+    shape = kept.shape;
     few_switches = kept.few_switches;
-    few_terminals = kept.few_terminals;
-    few_rows = λ switch link. few-row r switch link room;
-    names_are = kept.names_are;
-    names_differ = kept.names_differ;
-    ports = kept.ports;
-    links_differ = kept.links_differ;
-    ranges = kept.ranges;
-    continues_are = kept.continues_are;
-    continues_differ = kept.continues_differ;
-    deletes_are = kept.deletes_are;
-    deletes_differ = kept.deletes_differ;
-    inputs = All-push (λ (q : PlanRow). IsPort plan q.switch q.link) plan.rows r kept.inputs (on_switch, is_link);
-    rows_are = All-push (λ (q : PlanRow). (q.limit ≤ 65536) × IsPlanSelect q.select) plan.rows r kept.rows_are (limit, selectable);
+    names = kept.names;
+    terminals = kept.terminals;
+    wires = kept.wires;
+    links = kept.links;
+    continues = kept.continues;
+    deletes = kept.deletes;
+    bases = record {
+      of_inputs = All-push (λ (c : PlanBase). IsSwitchPort (length plan.switches) c.port) plan.bases b kept.bases.of_inputs of_input;
+      ranges = All-push (λ (c : PlanBase). c.base < label_count) plan.bases b kept.bases.ranges range;
+      once = once-pushed (λ (c : PlanBase). c.port) plan.bases b once kept.bases.once;
+    };
+    rows = kept.rows;
+    randoms = kept.randoms;
+  }
+
+  few-row_by : (r : PlanRow) (p : Port) (same : Bool) → is_port r.port p ≡ same → length (rows_of r.port plan.rows) < 36 → length (rows_of p plan.rows ++ cond same (r ∷ []) []) ≤ 36
+  few-row_by r p true is room =
+      let fits : length (rows_of p plan.rows) < 36 = subst (λ q. length (rows_of q plan.rows) < 36) (is_port-true r.port p is) room in
+      omega (arith, length-append (rows_of p plan.rows) (r ∷ []))
+  few-row_by r p false is room = rw append-nil (kept.rows.few p)
+
+  few-row : (r : PlanRow) (p : Port) → length (rows_of r.port plan.rows) < 36 → length (rows_of p (plan.rows ++ r ∷ [])) ≤ 36
+  unfolding rows_of
+  few-row r p room = rw (filter-append (is_row_of p) plan.rows (r ∷ [])) (few-row_by r p (is_port r.port p) refl room)
+
+  pub with_row : (r : PlanRow) → IsSwitchPort (length plan.switches) r.port → r.limit ≤ label_count → IsPlanSelect r.select → length (rows_of r.port plan.rows) < 36 → IsPlan (record plan { rows = plan.rows ++ r ∷ [] })
+  with_row r of_input limit selectable room = record {
+    header = kept.header;
+    cap = kept.cap;
+    shape = kept.shape;
+    few_switches = kept.few_switches;
+    names = kept.names;
+    terminals = kept.terminals;
+    wires = kept.wires;
+    links = kept.links;
+    continues = kept.continues;
+    deletes = kept.deletes;
+    bases = kept.bases;
+    rows = record {
+      of_inputs = All-push (λ (q : PlanRow). IsSwitchPort (length plan.switches) q.port) plan.rows r kept.rows.of_inputs of_input;
+      ranges = All-push (λ (q : PlanRow). (q.limit ≤ label_count) × IsPlanSelect q.select) plan.rows r kept.rows.ranges (limit, selectable);
+      few = λ p. few-row r p room;
+    };
+    randoms = kept.randoms;
+  }
+
+  pub with_header : (bytes : ℕ) → 0 < bytes → bytes ≤ most_header_bytes → IsPlan (record plan { header = bytes })
+  with_header bytes some few = record {
+    header = (some, few);
+    cap = kept.cap;
+    shape = kept.shape;
+    few_switches = kept.few_switches;
+    names = kept.names;
+    terminals = kept.terminals;
+    wires = kept.wires;
+    links = kept.links;
+    continues = kept.continues;
+    deletes = kept.deletes;
+    bases = kept.bases;
+    rows = kept.rows;
+    randoms = kept.randoms;
+  }
+
+  pub with_buffer : (size : ℕ) → is_buffer_size size ≡ true → IsPlan (record plan { cap = size })
+  with_buffer size is_size = record {
+    header = kept.header;
+    cap = is_size;
+    shape = kept.shape;
+    few_switches = kept.few_switches;
+    names = kept.names;
+    terminals = kept.terminals;
+    wires = kept.wires;
+    links = kept.links;
+    continues = kept.continues;
+    deletes = kept.deletes;
+    bases = kept.bases;
+    rows = kept.rows;
+    randoms = kept.randoms;
   }

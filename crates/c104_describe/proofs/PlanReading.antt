@@ -3,9 +3,8 @@ use Rattle.std.proofs.Common.{◌≡◌, ◌<◌, ℕ, ◌+◌, List, ◌∷◌,
 use Rattle.std.proofs.Math.Seq.{drop-cons}
 use Rattle.std.proofs.lemmas.List.{get_or-map, length-map}
 use Rattle.c104_describe.specs.PlanFaults.{PlanFaultKind, fault_at}
-use Rattle.c104_describe.specs.PlanLines.{read_plan_line}
-use Rattle.c104_describe.specs.PlanText.{plan_after_line, empty_plan, read_plan_lines}
-use Rattle.c104_describe.specs.Plans.{Plan}
+use Rattle.c104_describe.specs.PlanLines.{Draft, read_plan_line}
+use Rattle.c104_describe.specs.PlanText.{draft_after_line, empty_draft, read_plan_lines}
 
 -- the texts of lent slices
 abbrev pub texts : List (Bor (List ℕ)) → List (List ℕ)
@@ -18,13 +17,13 @@ from_place list i d inside =
     let room : i < length (texts list) = omega (arith, length-map list (λ (w : Bor (List ℕ)). w.now)) in
     rw (add-one, drop-cons (texts list) i d.now room, here)
 
--- at a place of the list, with the plan so far
-module _ (list : List (Bor (List ℕ))) (i : ℕ) (d : Bor (List ℕ)) (inside : i < length list) (plan : Plan) (due : read_plan_lines (i + 1) (drop i (texts list)) plan ≡ read_plan_lines 1 (texts list) empty_plan) where
-  by_line : read_plan_lines 1 (texts list) empty_plan ≡ plan_after_line (i + 1) (read_plan_line plan (get_or list i d).now) (λ next. read_plan_lines (i + 1 + 1) (drop (i + 1) (texts list)) next)
-  by_line = sym due ∙ ap (λ lines. read_plan_lines (i + 1) lines plan) (from_place list i d inside)
+-- at a place of the list, with the draft so far
+module _ (list : List (Bor (List ℕ))) (i : ℕ) (d : Bor (List ℕ)) (inside : i < length list) (draft : Draft) (due : read_plan_lines (i + 1) (drop i (texts list)) draft ≡ read_plan_lines 1 (texts list) empty_draft) where
+  by_line : read_plan_lines 1 (texts list) empty_draft ≡ draft_after_line (i + 1) (read_plan_line draft (get_or list i d).now) (λ next. read_plan_lines (i + 1 + 1) (drop (i + 1) (texts list)) next)
+  by_line = sym due ∙ ap (λ lines. read_plan_lines (i + 1) lines draft) (from_place list i d inside)
 
-  pub after_line : (next : Plan) → read_plan_line plan (get_or list i d).now ≡ Ok next → read_plan_lines (i + 1 + 1) (drop (i + 1) (texts list)) next ≡ read_plan_lines 1 (texts list) empty_plan
-  after_line next is = sym (by_line ∙ ap (λ said. plan_after_line (i + 1) said (λ p. read_plan_lines (i + 1 + 1) (drop (i + 1) (texts list)) p)) is)
+  pub after_line : (next : Draft) → read_plan_line draft (get_or list i d).now ≡ Ok next → read_plan_lines (i + 1 + 1) (drop (i + 1) (texts list)) next ≡ read_plan_lines 1 (texts list) empty_draft
+  after_line next is = sym (by_line ∙ ap (λ said. draft_after_line (i + 1) said (λ p. read_plan_lines (i + 1 + 1) (drop (i + 1) (texts list)) p)) is)
 
-  pub at_fault : (kind : PlanFaultKind) → read_plan_line plan (get_or list i d).now ≡ Err kind → read_plan_lines 1 (texts list) empty_plan ≡ Err (fault_at (i + 1) kind)
-  at_fault kind is = by_line ∙ ap (λ said. plan_after_line (i + 1) said (λ p. read_plan_lines (i + 1 + 1) (drop (i + 1) (texts list)) p)) is
+  pub at_fault : (kind : PlanFaultKind) → read_plan_line draft (get_or list i d).now ≡ Err kind → read_plan_lines 1 (texts list) empty_draft ≡ Err (fault_at (i + 1) kind)
+  at_fault kind is = by_line ∙ ap (λ said. draft_after_line (i + 1) said (λ p. read_plan_lines (i + 1 + 1) (drop (i + 1) (texts list)) p)) is

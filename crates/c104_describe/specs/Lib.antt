@@ -1,9 +1,15 @@
 pub mod Checks
+pub mod Distinctness
 pub mod TextCut
 pub mod TextWords
 pub mod PlanFaults
+pub mod Ports
 pub mod Plans
-pub mod PlanLists
+pub mod Wiring
+pub mod PlanWords
 pub mod PlanLines
+pub mod PlanIndex
+pub mod PlanParts
 pub mod PlanText
 pub mod PlanImage
+pub mod PlanPrint

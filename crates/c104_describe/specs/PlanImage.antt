@@ -1,6 +1,6 @@
 -- Images: what is to be loaded into a network's switches, and the labels of its terminals.
-use Rattle.std.specs.Prelude.{◌≡◌, ℕ, ◌-◌, List, ◌++◌, length, map, replicate, All}
-use Rattle.std.specs.List.{range_with_len}
+use Rattle.std.specs.Prelude.{◌≡◌, ℕ, ◌-◌, ◌==◌, ◌&&◌, Bool, true, List, ◌++◌, length, map, replicate, All, Option, Some, None, is_some}
+use Rattle.std.specs.List.{find, range_with_len}
 use Rattle.c104_interval.specs.declared.intervals.TheConstants.{ROWS}
 use Rattle.c104_interval.specs.declared.intervals.Row.{Row}
 use Rattle.c104_interval.specs.declared.intervals.Table.{Table}
@@ -9,7 +9,10 @@ use Rattle.c104_regs.specs.declared.registers.TheConstants.{LINKS}
 use Rattle.c104_regs.specs.Ranges.{IsInRange}
 use Rattle.c104_regs.specs.declared.settings.Settings.{Settings}
 use Rattle.c104_regs.specs.Settings.{plain_settings}
-use Rattle.c104_describe.specs.Plans.{Plan, PlanRow, Terminal, deletes_at, is_continued, rows_of}
+use Rattle.c104_describe.specs.declared.ports.Port.TheVariants as port
+use Rattle.c104_describe.specs.Ports.{Port, is_port}
+use Rattle.c104_describe.specs.Plans.{Plan, PlanBase, PlanRandom, PlanRow, Terminal, deletes_at, is_base_of, is_continued, rows_of}
+use Rattle.c104_describe.specs.Wiring.{peer}
 
 -- a range for each terminal, by its first label and how many they are, and what is set at each link of
 -- each switch
@@ -25,21 +28,50 @@ table_row row = record { limit = row.limit; select = row.select }
 abbrev pub padded_rows : List Row → List Row
 padded_rows rows = rows ++ replicate (ROWS - length rows) reset_row
 
--- the table of an input: base 0, its rows in order, and all other rows as after a reset
-unfoldable pub table_of : Plan → ℕ → ℕ → Table
-table_of plan switch link = record { base = 0; rows = padded_rows (map table_row (rows_of plan switch link)) }
+-- the base of an input: that of its line, or 0 where there is none
+abbrev pub base_or_zero : Option PlanBase → ℕ
+base_or_zero None = 0
+base_or_zero (Some b) = b.base
 
--- what is set at a link: the table of its rows; headers are deleted where a terminal of the deletes is on
--- it; it continues a group where it is among the continues; and all else is as after a reset
-unfoldable pub settings_of : Plan → ℕ → ℕ → Settings
-settings_of plan switch link = record (plain_settings (table_of plan switch link)) {
-  delete_header = deletes_at plan switch link;
-  continue_group = is_continued plan switch link;
+unfoldable pub base_of : Plan → Port → ℕ
+base_of plan p = base_or_zero (find (is_base_of p) plan.bases)
+
+-- the table of an input: its base, its rows in order, and all other rows as after a reset
+unfoldable pub table_of : Plan → Port → Table
+table_of plan p = record { base = base_of plan p; rows = padded_rows (map table_row (rows_of p plan.rows)) }
+
+-- whether a line of random headers is of this input
+abbrev pub is_random_of : Port → PlanRandom → Bool
+is_random_of p random = is_port random.port p
+
+-- settings with the random headers of a line, if there is one
+abbrev pub with_random : Option PlanRandom → Settings → Settings
+with_random None s = s
+with_random (Some random) s = record s {
+  randomize = true;
+  random_base = random.base;
+  random_range = random.range;
 }
+
+-- what is set at a port of a switch, but for random headers: the table of its rows; two-byte headers where
+-- the plan has them and the port is wired; headers are deleted where a terminal of the deletes is on it; it
+-- continues a group where it is among the continues; and all else is as after a reset
+abbrev pub plain_settings_of : Plan → Port → Settings
+plain_settings_of plan p = record (plain_settings (table_of plan p)) {
+  two_byte = plan.header == 2 && is_some (peer plan p);
+  delete_header = deletes_at plan p;
+  continue_group = is_continued plan p;
+}
+
+-- what is set at a port of a switch: all that, and the random headers of its line
+unfoldable pub settings_of : Plan → Port → Settings
+settings_of plan p =
+    with_random (find (is_random_of p) plan.randoms) (plain_settings_of plan p)
 
 -- what is set at the links of a switch
 unfoldable pub switch_settings : Plan → ℕ → List Settings
-switch_settings plan switch = map (settings_of plan switch) (range_with_len 0 LINKS)
+switch_settings plan switch =
+    map (λ link. settings_of plan (port.Switch switch link)) (range_with_len 0 LINKS)
 
 -- the range of a terminal
 abbrev pub range_of : Terminal → ℕ × ℕ

@@ -1,47 +1,24 @@
 -- The grammar of a description: what a line says after the lines before it. Of all that is wrong
 -- with a line the fault of the least number is answered, so each line's conditions stand in the
 -- order of the faults' numbers.
-use Rattle.std.specs.Prelude.{ℕ, ◌+◌, ◌==◌, ◌&&◌, Bool, not, List, [], ◌∷◌, ◌++◌, length, take, drop, nat_le, nat_lt, bytes_eq, codes, if◌then◌else◌, Option, Some, None, Result, Ok, Err}
+use Rattle.std.specs.Prelude.{ℕ, ◌+◌, ◌==◌, ◌&&◌, Bool, true, not, List, [], ◌∷◌, ◌++◌, length, nat_le, nat_lt, Option, Result, Ok, Err}
 use Rattle.c104_interval.specs.declared.intervals.TheConstants.{ROWS}
-use Rattle.c104_interval.specs.declared.intervals.Select.{Select}
-use Rattle.c104_interval.specs.declared.intervals.Select.TheVariants.{Link, Sink}
-use Rattle.c104_describe.specs.declared.text.Dots.{Dots}
-use Rattle.c104_describe.specs.declared.text.Dots.TheVariants.{Without, At, Several}
-use Rattle.c104_describe.specs.declared.words.Keyword.{Keyword}
+use Rattle.c104_describe.specs.declared.ports.Port.TheVariants as port
 use Rattle.c104_describe.specs.declared.words.Keyword.TheVariants as keyword
-use Rattle.c104_describe.specs.declared.faults.PlanFaultKind.TheVariants.{BadName, BadNumber, BadShape, LinkTaken, NameTaken, TooMany, Twice, UnknownName, UnknownWord}
+use Rattle.c104_describe.specs.declared.faults.PlanFaultKind.TheVariants.{BadName, BadNumber, BadShape, LinkTaken, NameTaken, SelfWire, TooMany, Twice, UnknownName, UnknownWord}
 use Rattle.c104_describe.specs.Checks.{◌>>=◌, ◌>>◌, require, value_or_fault}
 use Rattle.c104_describe.specs.TextCut.{uncommented_line, line_words, is_plain_line}
-use Rattle.c104_describe.specs.TextWords.{read_number, is_name, dots}
+use Rattle.c104_describe.specs.TextWords.{read_number, is_name}
 use Rattle.c104_describe.specs.PlanFaults.{PlanFaultKind}
-use Rattle.c104_describe.specs.Plans.{Plan, switch_number, terminal_number, is_taken, is_linked, is_continued, is_deleted, rows_of, most_switches, most_terminals, label_count, last_link}
+use Rattle.c104_describe.specs.Ports.{is_any_at}
+use Rattle.c104_describe.specs.PlanWords.{Keyword, keyword_of, number_within, number_or, select_word, port_sides, port_word, range_words}
+use Rattle.c104_describe.specs.Plans.{Plan, PlanBase, switch_number, terminal_number, is_taken, is_linked, is_continued, is_deleted, rows_of, next_first, most_switches, most_terminals, most_header_bytes, label_count, last_link, is_buffer_size}
 
--- a number that is at most so much
-abbrev pub number_to : ℕ → List ℕ → Result ℕ PlanFaultKind
-number_to most word = do
-  value ← value_or_fault (read_number word) BadNumber
-  require (nat_le value most) BadNumber
-  Ok value
-
--- what a row selects: a link of the switch, or `sink`
-abbrev pub select_word : List ℕ → Result Select PlanFaultKind
-select_word word =
-    if bytes_eq word (codes "sink") then Ok Sink
-    else (do
-      link ← number_to last_link word
-      Ok (Link link))
-
--- the two sides of a port's dot, by where it is
-abbrev pub port_of_dots : List ℕ → Dots → Result (List ℕ × ℕ) PlanFaultKind
-port_of_dots word Without = Err BadShape
-port_of_dots word Several = Err BadShape
-port_of_dots word (At at) = do
-  link ← number_to last_link (drop (at + 1) word)
-  Ok (take at word, link)
-
--- a port, `NAME.NUMBER`: what stands for the name, which may be none, and the link
-abbrev pub port_word : List ℕ → Result (List ℕ × ℕ) PlanFaultKind
-port_word word = port_of_dots word (dots word)
+-- what the lines before have said: a plan, and whether its header length and its buffer size were said
+pub record Draft : Type 0 where
+  pub plan : Plan
+  pub header_said : Bool
+  pub buffer_said : Bool
 
 -- `switch N`
 abbrev pub switch_line : Plan → List ℕ → Result Plan PlanFaultKind
@@ -51,34 +28,57 @@ switch_line plan name = do
   require (nat_lt (length plan.switches) most_switches) TooMany
   Ok (record plan { switches = plan.switches ++ name ∷ [] })
 
--- `terminal N S.l`: it has one label, and its range begins where that of the terminal before ended
-abbrev pub terminal_line : Plan → List ℕ → List ℕ → Result Plan PlanFaultKind
-terminal_line plan name word = do
-  port ← port_word word
-  require (is_name name && is_name port.0) BadName
+-- `terminal N S.l`, with `labels n` and `from f` where these were said: else it has one label, and its
+-- range begins where that of the terminal before ended
+abbrev pub terminal_line : Plan → List ℕ → List ℕ → Option (List ℕ) → Option (List ℕ) → Result Plan PlanFaultKind
+terminal_line plan name word labels from = do
+  named ← port_word word
+  count ← number_or 1 1 label_count labels
+  first ← number_or (next_first plan.terminals) 0 0xffff from
+  require (is_name name && is_name named.0) BadName
   require (not (is_taken plan name)) NameTaken
-  switch ← value_or_fault (switch_number plan port.0) UnknownName
-  require (not (is_linked plan switch port.1)) LinkTaken
-  require (nat_lt (length plan.terminals) most_terminals) TooMany
+  switch ← value_or_fault (switch_number plan named.0) UnknownName
+  require (not (is_linked plan (port.Switch switch named.1))) LinkTaken
+  require (nat_lt (length plan.terminals) most_terminals && nat_le (first + count) label_count) TooMany
   Ok (record plan {
     terminals = plan.terminals ++ record {
       name = name;
       switch = switch;
-      link = port.1;
-      first = length plan.terminals;
-      count = 1;
+      link = named.1;
+      first = first;
+      count = count;
+    } ∷ [];
+  })
+
+-- `wire S.l S.l`: it joins links of two switches
+abbrev pub wire_line : Plan → List ℕ → List ℕ → Result Plan PlanFaultKind
+wire_line plan here there = do
+  from ← port_sides here
+  to ← port_sides there
+  link ← number_within 0 last_link from.1
+  far_link ← number_within 0 last_link to.1
+  require (is_name from.0 && is_name to.0) BadName
+  switch ← value_or_fault (switch_number plan from.0) UnknownName
+  far_switch ← value_or_fault (switch_number plan to.0) UnknownName
+  require (not (switch == far_switch)) SelfWire
+  require (not (is_linked plan (port.Switch switch link))) LinkTaken
+  require (not (is_linked plan (port.Switch far_switch far_link))) LinkTaken
+  Ok (record plan {
+    wires = plan.wires ++ record {
+      here = port.Switch switch link;
+      there = port.Switch far_switch far_link;
     } ∷ [];
   })
 
 -- `continue S.l`: the link, which isn't the first, continues the group of the link before it
 abbrev pub continue_line : Plan → List ℕ → Result Plan PlanFaultKind
 continue_line plan word = do
-  port ← port_word word
-  require (not (port.1 == 0)) BadNumber
-  require (is_name port.0) BadName
-  switch ← value_or_fault (switch_number plan port.0) UnknownName
-  require (not (is_continued plan switch port.1)) Twice
-  Ok (record plan { continues = plan.continues ++ record { switch = switch; link = port.1 } ∷ [] })
+  named ← port_word word
+  require (not (named.1 == 0)) BadNumber
+  require (is_name named.0) BadName
+  switch ← value_or_fault (switch_number plan named.0) UnknownName
+  require (not (is_continued plan (port.Switch switch named.1))) Twice
+  Ok (record plan { continues = plan.continues ++ port.Switch switch named.1 ∷ [] })
 
 -- `delete T`: headers are deleted at the switch's link to that terminal
 abbrev pub delete_line : Plan → List ℕ → Result Plan PlanFaultKind
@@ -88,51 +88,74 @@ delete_line plan name = do
   require (not (is_deleted plan terminal)) Twice
   Ok (record plan { deletes = plan.deletes ++ terminal ∷ [] })
 
+-- `base S.l n`: the first label that the rows of that input cover
+abbrev pub base_line : Plan → List ℕ → List ℕ → Result Plan PlanFaultKind
+base_line plan word base = do
+  named ← port_word word
+  base ← number_within 0 0xffff base
+  require (is_name named.0) BadName
+  switch ← value_or_fault (switch_number plan named.0) UnknownName
+  require (not (is_any_at (λ (b : PlanBase). b.port) plan.bases (port.Switch switch named.1))) Twice
+  Ok (record plan { bases = plan.bases ++ record { port = port.Switch switch named.1; base = base } ∷ [] })
+
 -- `row S.l limit select`: the next row of that input
 abbrev pub row_line : Plan → List ℕ → List ℕ → List ℕ → Result Plan PlanFaultKind
 row_line plan word limit select = do
-  port ← port_word word
-  limit ← number_to label_count limit
+  named ← port_word word
+  limit ← number_within 0 label_count limit
   select ← select_word select
-  require (is_name port.0) BadName
-  switch ← value_or_fault (switch_number plan port.0) UnknownName
-  require (nat_lt (length (rows_of plan switch port.1)) ROWS) TooMany
+  require (is_name named.0) BadName
+  switch ← value_or_fault (switch_number plan named.0) UnknownName
+  require (nat_lt (length (rows_of (port.Switch switch named.1) plan.rows)) ROWS) TooMany
   Ok (record plan {
     rows = plan.rows ++ record {
-      switch = switch;
-      link = port.1;
+      port = port.Switch switch named.1;
       limit = limit;
       select = select;
     } ∷ [];
   })
 
--- what the first word of a line says
-abbrev pub keyword_of : List ℕ → Option Keyword
-keyword_of word =
-    if bytes_eq word (codes "switch") then Some keyword.Switch
-    else (if bytes_eq word (codes "terminal") then Some keyword.Terminal
-    else (if bytes_eq word (codes "continue") then Some keyword.Continue
-    else (if bytes_eq word (codes "delete") then Some keyword.Delete
-    else (if bytes_eq word (codes "row") then Some keyword.Row
-    else None))))
+-- `header n`: the length of headers
+abbrev pub header_line : Draft → List ℕ → Result Draft PlanFaultKind
+header_line draft bytes = do
+  bytes ← number_within 1 most_header_bytes bytes
+  require (not draft.header_said) Twice
+  Ok (record draft { plan = record (draft.plan) { header = bytes }; header_said = true })
+
+-- `buffer n`: the size of all buffers
+abbrev pub buffer_line : Draft → List ℕ → Result Draft PlanFaultKind
+buffer_line draft size = do
+  size ← value_or_fault (read_number size) BadNumber
+  require (is_buffer_size size) BadNumber
+  require (not draft.buffer_said) Twice
+  Ok (record draft { plan = record (draft.plan) { cap = size }; buffer_said = true })
+
+-- the draft with the plan that a line makes of its own
+abbrev pub in_draft : Draft → Result Plan PlanFaultKind → Result Draft PlanFaultKind
+in_draft draft made = made >>= (λ plan. Ok (record draft { plan = plan }))
 
 -- a line, by what its first word says and the words after it
-abbrev pub keyword_line : Keyword → Plan → List (List ℕ) → Result Plan PlanFaultKind
-keyword_line keyword.Switch plan (name ∷ []) = switch_line plan name
-keyword_line keyword.Terminal plan (name ∷ port ∷ []) = terminal_line plan name port
-keyword_line keyword.Continue plan (port ∷ []) = continue_line plan port
-keyword_line keyword.Delete plan (name ∷ []) = delete_line plan name
-keyword_line keyword.Row plan (port ∷ limit ∷ select ∷ []) = row_line plan port limit select
-keyword_line keyword plan rest = Err BadShape
+abbrev pub keyword_line : Keyword → Draft → List (List ℕ) → Result Draft PlanFaultKind
+keyword_line keyword.Switch draft (name ∷ []) = in_draft draft (switch_line draft.plan name)
+keyword_line keyword.Terminal draft (name ∷ at ∷ rest) =
+    in_draft draft (range_words rest >>= (λ range. terminal_line draft.plan name at range.0 range.1))
+keyword_line keyword.Wire draft (here ∷ there ∷ []) = in_draft draft (wire_line draft.plan here there)
+keyword_line keyword.Header draft (bytes ∷ []) = header_line draft bytes
+keyword_line keyword.Buffer draft (size ∷ []) = buffer_line draft size
+keyword_line keyword.Continue draft (at ∷ []) = in_draft draft (continue_line draft.plan at)
+keyword_line keyword.Delete draft (name ∷ []) = in_draft draft (delete_line draft.plan name)
+keyword_line keyword.Base draft (at ∷ base ∷ []) = in_draft draft (base_line draft.plan at base)
+keyword_line keyword.Row draft (at ∷ limit ∷ select ∷ []) = in_draft draft (row_line draft.plan at limit select)
+keyword_line keyword draft rest = Err BadShape
 
 -- a line, by its words; is_plain says that it has no byte that no line may have
-abbrev pub read_plan_words : Plan → Bool → List (List ℕ) → Result Plan PlanFaultKind
-read_plan_words plan is_plain [] = Ok plan
-read_plan_words plan is_plain (first ∷ rest) = do
+abbrev pub read_plan_words : Draft → Bool → List (List ℕ) → Result Draft PlanFaultKind
+read_plan_words draft is_plain [] = Ok draft
+read_plan_words draft is_plain (first ∷ rest) = do
   keyword ← value_or_fault (keyword_of first) UnknownWord
   require is_plain BadShape
-  keyword_line keyword plan rest
+  keyword_line keyword draft rest
 
--- the plan after a line, or what is wrong with it
-abbrev pub read_plan_line : Plan → List ℕ → Result Plan PlanFaultKind
-read_plan_line plan line = read_plan_words plan (is_plain_line (uncommented_line line)) (line_words (uncommented_line line))
+-- the draft after a line, or what is wrong with it
+abbrev pub read_plan_line : Draft → List ℕ → Result Draft PlanFaultKind
+read_plan_line draft line = read_plan_words draft (is_plain_line (uncommented_line line)) (line_words (uncommented_line line))

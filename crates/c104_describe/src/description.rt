@@ -2,14 +2,14 @@
 ghost use Rattle.std.specs.Prelude.{◌≡◌, ◌<◌, ◌⊎◌, length, map, Err, Ok, MatchResult, IfErr, IfOk};
 ghost use Rattle.c104_describe.specs.declared.faults.PlanFaultKind.TheVariants.{TooLong};
 ghost use Rattle.c104_describe.specs.PlanFaults.{fault_at, no_memory};
-ghost use Rattle.c104_describe.specs.PlanLists.{plan_of};
-ghost use Rattle.c104_describe.specs.PlanText.{read_description, empty_plan, most_bytes, read_plan_lines};
-ghost use Rattle.c104_describe.specs.PlanText.{GivesListsOrNoMemory, GivesPlanOrNoMemory, IsDue};
+ghost use Rattle.c104_describe.specs.PlanText.{read_description, empty_draft, most_bytes, read_plan_lines};
+ghost use Rattle.c104_describe.specs.PlanText.{GivesDraftOrNoMemory, GivesPlanOrNoMemory, IsDue};
 ghost use Rattle.c104_describe.specs.Plans.{IsPlan};
 
+use crate::drafts::Draft;
 use crate::faults::{PlanFault, PlanFaultKind};
 use crate::lines::read_line;
-use crate::plans::{Lists, Plan};
+use crate::plans::Plan;
 use crate::text::cut_lines;
 use std::alloc::Global;
 
@@ -18,8 +18,9 @@ pub const MAX_DESCRIPTION: usize = 1_048_576;
 
 /// Reads the description of a network, by this emulator's own grammar.
 ///
-/// Its lines are `switch N`, `terminal N S.l`, `continue S.l`, `delete T` and
-/// `row S.l limit select`; `#` begins a comment.
+/// Its lines are `switch N`, `terminal N S.l [labels n] [from f]`, `wire S.l S.l`, `header n`,
+/// `buffer n`, `continue S.l`, `delete T`, `base S.l n` and `row S.l limit select`; `#` begins a
+/// comment.
 ///
 /// TooLong at line 0 where the text has more than 1 MiB, whatever its lines say; else the first
 /// faulty line, with the least of its faults; or NoMemory at line 0 when out of memory.
@@ -35,23 +36,23 @@ pub fn read_description(alloc: Global, text: &[u8]) -> Result<Plan, PlanFault>
         return Err(fault_at(0, PlanFaultKind::TooLong));
     }
     let lines = cut_lines(alloc, text)?;
-    let lists = read_lines(alloc, lines.as_slice())?;
-    Ok(Plan { lists })
+    let draft = read_lines(alloc, lines.as_slice())?;
+    Ok(Plan { parts: draft.parts })
 }
 
 /// Reads the lines of a description, the first of which is line 1.
-fn read_lines(alloc: Global, lines: &[&[u8]]) -> Result<Lists, PlanFault>
-    ensures { GivesListsOrNoMemory result
-        (read_plan_lines 1 (map (λ line. line.now) lines.now) empty_plan) }
+fn read_lines(alloc: Global, lines: &[&[u8]]) -> Result<Draft, PlanFault>
+    ensures { GivesDraftOrNoMemory result
+        (read_plan_lines 1 (map (λ line. line.now) lines.now) empty_draft) }
 {
-    let mut lists = Lists::new(alloc);
+    let mut draft = Draft::new(alloc)?;
     for (index, line) in lines.iter().enumerate() {
-        match read_line(alloc, &mut lists, line) {
+        match read_line(alloc, &mut draft, line) {
             Ok(()) => {}
             Err(kind) => return Err(fault_at(index + 1, kind)),
         }
     }
-    Ok(lists)
+    Ok(draft)
 }
 
 /// A fault of a line. Out of memory belongs to no line.

@@ -1,12 +1,13 @@
 //! The image that a plan's own lines give.
 ghost use Rattle.std.specs.Prelude.{◌≡◌, length, map, slice_get, IfOk};
-ghost use Rattle.std.specs.List.{range_with_len};
+ghost use Rattle.std.specs.List.{find, range_with_len};
 ghost use Rattle.c104_describe.specs.Plans.{IsPlan, deletes_at, is_on};
 ghost use Rattle.c104_describe.specs.PlanImage.{Fits, hand_image, range_of};
-ghost use Rattle.c104_describe.specs.PlanImage.{settings_of, switch_settings, table_of};
+ghost use Rattle.c104_describe.specs.PlanImage.{base_of, is_random_of, settings_of, switch_settings, table_of};
 
 use crate::image::Image;
-use crate::plans::Plan;
+use crate::plans::{Plan, PlanRandom};
+use crate::ports::Port;
 use c104_interval::{Row, Table};
 use c104_regs::{LINKS, Settings};
 use c104_token::{Items, NoMemory};
@@ -54,51 +55,83 @@ fn switch_settings(alloc: Global, plan: &Plan, switch: usize) -> Result<Vec<Sett
 {
     let mut settings = Vec::new(alloc);
     for link in 0..LINKS {
-        settings.push(settings_of(plan, switch, link))?;
+        settings.push(settings_of(plan, Port::Switch(switch, link)))?;
     }
     Ok(settings)
 }
 
-/// What is set at a link.
+/// What is set at a port of a switch.
 #[tactic(auto, unfolding(crate::specs::PlanImage::settings_of))]
-fn settings_of(plan: &Plan, switch: usize, link: usize) -> Settings
-    ensures { result ≡ settings_of plan.now switch link }
+fn settings_of(plan: &Plan, port: Port) -> Settings
+    ensures { result ≡ settings_of plan.now port }
 {
-    let mut settings = Settings::plain(table_of(plan, switch, link));
-    settings.delete_header = deletes_at(plan, switch, link);
-    settings.continue_group = plan.lists.is_continued(switch, link);
+    let mut settings = Settings::plain(table_of(plan, port));
+    settings.two_byte = plan.header() == 2 && plan.peer(port).is_some();
+    settings.delete_header = deletes_at(plan, port);
+    settings.continue_group = plan.parts.is_continued(port);
+    if let Some(random) = random_of(plan, port) {
+        settings.randomize = true;
+        settings.random_base = random.base;
+        settings.random_range = random.range;
+    }
     settings
 }
 
-/// Whether headers are deleted at a link: one of the plan's deletes is of a terminal on it.
+/// Whether headers are deleted at a port: one of the plan's deletes is of a terminal on it.
 #[tactic(auto, unfolding(crate::specs::Plans::deletes_at))]
-fn deletes_at(plan: &Plan, switch: usize, link: usize) -> bool
-    ensures { result ≡ deletes_at plan.now switch link }
+fn deletes_at(plan: &Plan, port: Port) -> bool
+    ensures { result ≡ deletes_at plan.now port }
 {
     plan.deletes()
         .iter()
-        .any(|terminal| is_on(plan, *terminal, switch, link))
+        .any(|terminal| is_on(plan, *terminal, port))
 }
 
-/// Whether there is a terminal of this number, and it is on this link of this switch.
-fn is_on(plan: &Plan, terminal: usize, switch: usize, link: usize) -> bool
-    ensures { result ≡ is_on switch link (slice_get plan.now.terminals terminal) }
+/// Whether there is a terminal of this number, and it is on this port.
+fn is_on(plan: &Plan, terminal: usize, port: Port) -> bool
+    ensures { result ≡ is_on port (slice_get plan.now.terminals terminal) }
 {
     match plan.terminals().get(terminal) {
-        Some(terminal) => terminal.switch == switch && terminal.link == link,
+        Some(terminal) => terminal.host_port().is_same(port),
         None => false,
     }
 }
 
+/// The base of an input's table.
+#[tactic(auto, unfolding(crate::specs::PlanImage::base_of))]
+fn base_of(plan: &Plan, port: Port) -> u32
+    ensures { result ≡ base_of plan.now port }
+{
+    for base in plan.bases() {
+        if base.port.is_same(port) {
+            return base.base;
+        }
+    }
+    0
+}
+
+/// The random headers of an input.
+fn random_of(plan: &Plan, port: Port) -> Option<PlanRandom>
+    ensures { result ≡ find (is_random_of port) plan.now.randoms }
+{
+    for random in plan.randoms() {
+        if random.port.is_same(port) {
+            return Some(*random);
+        }
+    }
+    None
+}
+
 /// The table of an input.
 #[tactic(auto, using(crate::proofs::PlanTables::room_in))]
-fn table_of(plan: &Plan, switch: usize, link: usize) -> Table
-    ensures { result ≡ table_of plan.now switch link }
+fn table_of(plan: &Plan, port: Port) -> Table
+    ensures { result ≡ table_of plan.now port }
 {
     let mut table = Table::reset();
+    table.base = base_of(plan, port);
     let mut count = 0;
     for row in plan.rows() {
-        if row.is_of(switch, link) {
+        if row.port.is_same(port) {
             table.rows[count] = Row {
                 limit: row.limit,
                 select: row.select,

@@ -9,24 +9,39 @@
 //! within the ranges of the registers. `hand_image` gives that of the plan's own `row`, `continue`
 //! and `delete` lines, which fits the plan.
 //!
+//! `print_plan` prints a plan as a description, which gives that plan.
+//!
 //! How a text is cut into lines and words, and what a number, a name and a port's dot are, stands
 //! here too (`cut_lines`, `read_number`, `find_dots`, ..): scripts are cut by the same functions.
 #![tactic(auto)]
 
 mod description;
+mod drafts;
 mod faults;
 mod hand;
 mod image;
 mod lines;
+mod name_index;
+mod names;
+mod parts;
 mod plans;
+mod ports;
+mod print;
+mod row_list;
+mod switch_list;
+mod terminal_list;
 mod text;
+mod wiring;
 mod words;
 
 pub use description::{MAX_DESCRIPTION, read_description};
 pub use faults::{PlanFault, PlanFaultKind};
 pub use hand::hand_image;
 pub use image::Image;
-pub use plans::{Name, Plan, PlanPort, PlanRow, Terminal};
+pub use names::Name;
+pub use plans::{Plan, PlanBase, PlanRandom, PlanRow, Shape, Terminal};
+pub use ports::{Port, Wire};
+pub use print::print_plan;
 pub use text::{
     Dots, cut_lines, cut_words, find_dots, is_name, is_plain, read_number, uncommented,
 };

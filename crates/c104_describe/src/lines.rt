@@ -1,44 +1,58 @@
 //! Descriptions, line by line.
-ghost use Rattle.std.specs.Prelude.{◌≡◌, [], ◌∷◌, ◌++◌, map, OnOk};
-ghost use Rattle.c104_describe.specs.PlanLines.{read_plan_line, read_plan_words};
-ghost use Rattle.c104_describe.specs.PlanLines.{continue_line, delete_line, row_line, switch_line, terminal_line};
-ghost use Rattle.c104_describe.specs.PlanLists.{plan_of};
+ghost use Rattle.std.specs.Prelude.{◌≡◌, [], ◌∷◌, ◌++◌, map, option_map, OnOk};
+ghost use Rattle.c104_describe.specs.PlanLines.{read_plan_line, read_plan_words, keyword_line, header_line, buffer_line};
+ghost use Rattle.c104_describe.specs.PlanLines.{base_line, continue_line, delete_line, row_line, switch_line, terminal_line, wire_line};
+ghost use Rattle.c104_describe.specs.PlanParts.{draft_of, plan_of};
+ghost use Rattle.c104_describe.specs.Plans.{IsPlan, is_buffer_size};
 ghost use Rattle.c104_describe.specs.PlanText.{ReadsLine};
 
+use crate::drafts::Draft;
 use crate::faults::PlanFaultKind;
-use crate::plans::{Lists, Name, PlanPort, PlanRow, Terminal};
-use crate::text::{cut_words, is_name, is_plain, uncommented};
-use crate::words::{Keyword, read_keyword, read_number_to, read_port, read_select};
+use crate::names::Name;
+use crate::parts::Parts;
+use crate::plans::{PlanBase, PlanRow, Terminal};
+use crate::ports::{Port, Wire};
+use crate::text::{cut_words, is_name, is_plain, read_number, uncommented};
+use crate::words::{
+    Keyword, RangeWords, cut_port, read_keyword, read_link, read_number_or, read_number_within,
+    read_port, read_range, read_select,
+};
 use c104_interval::ROWS;
 use std::alloc::{AllocError, Global};
 
-/// The most switches of a plan: for now one.
-const MAX_SWITCHES: usize = 1;
+/// The most switches of a plan.
+const MAX_SWITCHES: usize = 64;
 
 /// The most terminals of a plan.
 const MAX_TERMINALS: usize = 256;
 
-/// The highest limit of a row: how many values a header of two bytes has.
-const MAX_LIMIT: u32 = 0x10000;
+/// The most bytes of a header: for now one.
+const MAX_HEADER_BYTES: u32 = 1;
+
+/// How many labels there are, and the highest limit of a row: how many values a header of two bytes
+/// has.
+const LABELS: u32 = 0x10000;
 
 /// Reads a line after those before it.
-pub(crate) fn read_line(alloc: Global, lists: &mut Lists, line: &[u8]) -> Result<(), PlanFaultKind>
-    ensures { ReadsLine result (plan_of lists.new) (read_plan_line (plan_of lists.old) line.now) }
+pub(crate) fn read_line(alloc: Global, draft: &mut Draft, line: &[u8]) -> Result<(), PlanFaultKind>
+    requires { IsPlan (draft_of draft.old).plan }
+    ensures { ReadsLine result (draft_of draft.new) (read_plan_line (draft_of draft.old) line.now) }
 {
     let line = uncommented(line);
     let words = cut_words(alloc, line)?;
-    read_words(alloc, lists, is_plain(line), words.as_slice())
+    read_words(alloc, draft, is_plain(line), words.as_slice())
 }
 
 /// Reads the words of a line, whose bytes are all plain or not.
 fn read_words(
     alloc: Global,
-    lists: &mut Lists,
+    draft: &mut Draft,
     is_plain: bool,
     words: &[&[u8]],
 ) -> Result<(), PlanFaultKind>
-    ensures { ReadsLine result (plan_of lists.new)
-        (read_plan_words (plan_of lists.old) is_plain (map (λ word. word.now) words.now)) }
+    requires { IsPlan (draft_of draft.old).plan }
+    ensures { ReadsLine result (draft_of draft.new)
+        (read_plan_words (draft_of draft.old) is_plain (map (λ word. word.now) words.now)) }
 {
     let [first, rest @ ..] = words else {
         return Ok(());
@@ -49,76 +63,132 @@ fn read_words(
     if !is_plain {
         return Err(PlanFaultKind::BadShape);
     }
+    read_keyword_line(alloc, draft, keyword, rest)
+}
+
+/// Reads a line by what its first word says, and the words after it.
+fn read_keyword_line(
+    alloc: Global,
+    draft: &mut Draft,
+    keyword: Keyword,
+    rest: &[&[u8]],
+) -> Result<(), PlanFaultKind>
+    requires { IsPlan (draft_of draft.old).plan }
+    ensures { ReadsLine result (draft_of draft.new)
+        (keyword_line keyword (draft_of draft.old) (map (λ word. word.now) rest.now)) }
+{
     match (keyword, rest) {
-        (Keyword::Switch, [name]) => add_switch(alloc, lists, name),
-        (Keyword::Terminal, [name, port]) => add_terminal(alloc, lists, name, port),
-        (Keyword::Continue, [port]) => add_continue(lists, port),
-        (Keyword::Delete, [name]) => add_delete(lists, name),
-        (Keyword::Row, [port, limit, select]) => add_row(lists, port, limit, select),
+        (Keyword::Switch, [name]) => add_switch(alloc, &mut draft.parts, name),
+        (Keyword::Terminal, [name, port, rest @ ..]) => {
+            let range = read_range(rest)?;
+            add_terminal(alloc, &mut draft.parts, name, port, range)
+        }
+        (Keyword::Wire, [here, there]) => add_wire(&mut draft.parts, here, there),
+        (Keyword::Header, [bytes]) => set_header(draft, bytes),
+        (Keyword::Buffer, [size]) => set_buffer(draft, size),
+        (Keyword::Continue, [port]) => add_continue(&mut draft.parts, port),
+        (Keyword::Delete, [name]) => add_delete(&mut draft.parts, name),
+        (Keyword::Base, [port, base]) => add_base(&mut draft.parts, port, base),
+        (Keyword::Row, [port, limit, select]) => add_row(&mut draft.parts, port, limit, select),
         _ => Err(PlanFaultKind::BadShape),
     }
 }
 
 /// Reads `switch N`.
-fn add_switch(alloc: Global, lists: &mut Lists, name: &[u8]) -> Result<(), PlanFaultKind>
-    ensures { ReadsLine result (plan_of lists.new) (switch_line (plan_of lists.old) name.now) }
+fn add_switch(alloc: Global, parts: &mut Parts, name: &[u8]) -> Result<(), PlanFaultKind>
+    ensures { ReadsLine result (plan_of parts.new) (switch_line (plan_of parts.old) name.now) }
 {
     if !is_name(name) {
         return Err(PlanFaultKind::BadName);
     }
-    if lists.is_taken(name) {
+    if parts.is_taken(name) {
         return Err(PlanFaultKind::NameTaken);
     }
-    if lists.switches.len() >= MAX_SWITCHES {
+    if parts.switches.len() >= MAX_SWITCHES {
         return Err(PlanFaultKind::TooMany);
     }
-    let name = Name::new(alloc, name)?;
-    add(&mut lists.switches, name)?;
+    parts.switches.push(alloc, name)?;
     Ok(())
 }
 
-/// Reads `terminal N S.l`.
+/// Reads `terminal N S.l`, with `labels n` and `from f` where these were said.
 fn add_terminal(
     alloc: Global,
-    lists: &mut Lists,
+    parts: &mut Parts,
     name: &[u8],
     port: &[u8],
+    range: RangeWords<'_>,
 ) -> Result<(), PlanFaultKind>
-    ensures { ReadsLine result (plan_of lists.new)
-        (terminal_line (plan_of lists.old) name.now port.now) }
+    requires { IsPlan (plan_of parts.old) }
+    ensures { ReadsLine result (plan_of parts.new)
+        (terminal_line (plan_of parts.old) name.now port.now
+        (option_map (λ w. w.now) range.entry.labels) (option_map (λ w. w.now) range.entry.from)) }
 {
     let port = read_port(port)?;
+    let count = read_number_or(1, 1, LABELS, range.labels)?;
+    let first = read_number_or(parts.next_first(), 0, LABELS - 1, range.from)?;
     if !(is_name(name) && is_name(port.name)) {
         return Err(PlanFaultKind::BadName);
     }
-    if lists.is_taken(name) {
+    if parts.is_taken(name) {
         return Err(PlanFaultKind::NameTaken);
     }
-    let Some(switch) = lists.switch_number(port.name) else {
+    let Some(switch) = parts.switch_number(port.name) else {
         return Err(PlanFaultKind::UnknownName);
     };
-    if lists.is_linked(switch, port.link) {
+    if parts.is_linked(Port::Switch(switch, port.link)) {
         return Err(PlanFaultKind::LinkTaken);
     }
-    if lists.terminals.len() >= MAX_TERMINALS {
+    if parts.terminals.len() >= MAX_TERMINALS || first + count > LABELS {
         return Err(PlanFaultKind::TooMany);
     }
     let name = Name::new(alloc, name)?;
-    let first = lists.terminals.len() as u32;
     let terminal = Terminal {
         name,
         switch,
         link: port.link,
         first,
-        count: 1,
+        count,
     };
-    add(&mut lists.terminals, terminal)?;
+    parts.terminals.push(alloc, terminal)?;
+    Ok(())
+}
+
+/// Reads `wire S.l S.l`.
+fn add_wire(parts: &mut Parts, here: &[u8], there: &[u8]) -> Result<(), PlanFaultKind>
+    ensures { ReadsLine result (plan_of parts.new)
+        (wire_line (plan_of parts.old) here.now there.now) }
+{
+    let from = cut_port(here)?;
+    let to = cut_port(there)?;
+    let link = read_link(from.link)?;
+    let far_link = read_link(to.link)?;
+    if !(is_name(from.name) && is_name(to.name)) {
+        return Err(PlanFaultKind::BadName);
+    }
+    let Some(switch) = parts.switch_number(from.name) else {
+        return Err(PlanFaultKind::UnknownName);
+    };
+    let Some(far_switch) = parts.switch_number(to.name) else {
+        return Err(PlanFaultKind::UnknownName);
+    };
+    if switch == far_switch {
+        return Err(PlanFaultKind::SelfWire);
+    }
+    let wire = Wire {
+        here: Port::Switch(switch, link),
+        there: Port::Switch(far_switch, far_link),
+    };
+    if parts.is_linked(wire.here) || parts.is_linked(wire.there) {
+        return Err(PlanFaultKind::LinkTaken);
+    }
+    add(&mut parts.wires, wire)?;
     Ok(())
 }
 
 /// Reads `continue S.l`. Link 0 has no link before it.
-fn add_continue(lists: &mut Lists, port: &[u8]) -> Result<(), PlanFaultKind>
-    ensures { ReadsLine result (plan_of lists.new) (continue_line (plan_of lists.old) port.now) }
+fn add_continue(parts: &mut Parts, port: &[u8]) -> Result<(), PlanFaultKind>
+    ensures { ReadsLine result (plan_of parts.new) (continue_line (plan_of parts.old) port.now) }
 {
     let port = read_port(port)?;
     if port.link == 0 {
@@ -127,62 +197,117 @@ fn add_continue(lists: &mut Lists, port: &[u8]) -> Result<(), PlanFaultKind>
     if !is_name(port.name) {
         return Err(PlanFaultKind::BadName);
     }
-    let Some(switch) = lists.switch_number(port.name) else {
+    let Some(switch) = parts.switch_number(port.name) else {
         return Err(PlanFaultKind::UnknownName);
     };
-    if lists.is_continued(switch, port.link) {
+    let port = Port::Switch(switch, port.link);
+    if parts.is_continued(port) {
         return Err(PlanFaultKind::Twice);
     }
-    let port = PlanPort {
-        switch,
-        link: port.link,
-    };
-    add(&mut lists.continues, port)?;
+    add(&mut parts.continues, port)?;
     Ok(())
 }
 
 /// Reads `delete T`.
-fn add_delete(lists: &mut Lists, name: &[u8]) -> Result<(), PlanFaultKind>
-    ensures { ReadsLine result (plan_of lists.new) (delete_line (plan_of lists.old) name.now) }
+fn add_delete(parts: &mut Parts, name: &[u8]) -> Result<(), PlanFaultKind>
+    ensures { ReadsLine result (plan_of parts.new) (delete_line (plan_of parts.old) name.now) }
 {
     if !is_name(name) {
         return Err(PlanFaultKind::BadName);
     }
-    let Some(terminal) = lists.terminal_number(name) else {
+    let Some(terminal) = parts.terminal_number(name) else {
         return Err(PlanFaultKind::UnknownName);
     };
-    if lists.is_deleted(terminal) {
+    if parts.is_deleted(terminal) {
         return Err(PlanFaultKind::Twice);
     }
-    add(&mut lists.deletes, terminal)?;
+    add(&mut parts.deletes, terminal)?;
+    Ok(())
+}
+
+/// Reads `base S.l n`.
+fn add_base(parts: &mut Parts, port: &[u8], base: &[u8]) -> Result<(), PlanFaultKind>
+    ensures { ReadsLine result (plan_of parts.new)
+        (base_line (plan_of parts.old) port.now base.now) }
+{
+    let port = read_port(port)?;
+    let base = read_number_within(0, LABELS - 1, base)?;
+    if !is_name(port.name) {
+        return Err(PlanFaultKind::BadName);
+    }
+    let Some(switch) = parts.switch_number(port.name) else {
+        return Err(PlanFaultKind::UnknownName);
+    };
+    let port = Port::Switch(switch, port.link);
+    if parts.has_base(port) {
+        return Err(PlanFaultKind::Twice);
+    }
+    add(&mut parts.bases, PlanBase { port, base })?;
     Ok(())
 }
 
 /// Reads `row S.l limit select`.
-fn add_row(lists: &mut Lists, port: &[u8], limit: &[u8], select: &[u8]) -> Result<(), PlanFaultKind>
-    ensures { ReadsLine result (plan_of lists.new)
-        (row_line (plan_of lists.old) port.now limit.now select.now) }
+fn add_row(parts: &mut Parts, port: &[u8], limit: &[u8], select: &[u8]) -> Result<(), PlanFaultKind>
+    requires { IsPlan (plan_of parts.old) }
+    ensures { ReadsLine result (plan_of parts.new)
+        (row_line (plan_of parts.old) port.now limit.now select.now) }
 {
     let port = read_port(port)?;
-    let limit = read_number_to(MAX_LIMIT, limit)?;
+    let limit = read_number_within(0, LABELS, limit)?;
     let select = read_select(select)?;
     if !is_name(port.name) {
         return Err(PlanFaultKind::BadName);
     }
-    let Some(switch) = lists.switch_number(port.name) else {
+    let Some(switch) = parts.switch_number(port.name) else {
         return Err(PlanFaultKind::UnknownName);
     };
-    if lists.row_count(switch, port.link) >= ROWS {
+    let port = Port::Switch(switch, port.link);
+    if parts.row_count(port) >= ROWS {
         return Err(PlanFaultKind::TooMany);
     }
     let row = PlanRow {
-        switch,
-        link: port.link,
+        port,
         limit,
         select,
     };
-    add(&mut lists.rows, row)?;
+    parts.rows.push(row)?;
     Ok(())
+}
+
+/// Reads `header n`.
+fn set_header(draft: &mut Draft, bytes: &[u8]) -> Result<(), PlanFaultKind>
+    ensures { ReadsLine result (draft_of draft.new) (header_line (draft_of draft.old) bytes.now) }
+{
+    let bytes = read_number_within(1, MAX_HEADER_BYTES, bytes)?;
+    if draft.header_said {
+        return Err(PlanFaultKind::Twice);
+    }
+    draft.parts.header = bytes as usize;
+    draft.header_said = true;
+    Ok(())
+}
+
+/// Reads `buffer n`.
+fn set_buffer(draft: &mut Draft, size: &[u8]) -> Result<(), PlanFaultKind>
+    ensures { ReadsLine result (draft_of draft.new) (buffer_line (draft_of draft.old) size.now) }
+{
+    let size = match read_number(size) {
+        Some(size) if is_buffer_size(size) => size,
+        _ => return Err(PlanFaultKind::BadNumber),
+    };
+    if draft.buffer_said {
+        return Err(PlanFaultKind::Twice);
+    }
+    draft.parts.cap = size as usize;
+    draft.buffer_said = true;
+    Ok(())
+}
+
+/// Whether a buffer may have room for so many tokens.
+fn is_buffer_size(size: u32) -> bool
+    ensures { result ≡ is_buffer_size size }
+{
+    size % 8 == 0 && 8 <= size && size <= 64
 }
 
 /// A value joins a list at its end.

@@ -1,59 +1,11 @@
 //! Plans: the network that a description gives.
-ghost use Rattle.std.specs.Prelude.{◌≡◌, IfOk, IsTrue};
-ghost use Rattle.c104_describe.specs.TextWords.{is_name};
 
+use crate::names::Name;
+use crate::parts::Parts;
+use crate::ports::{Port, Wire};
 use c104_interval::Select;
-use c104_token::{Bytes, Items};
-use std::alloc::{AllocError, Global};
+use std::alloc::AllocError;
 use std::marker::Model;
-
-/// The name of a switch or a terminal: a letter, and then letters, digits, `_` and `-`, at most
-/// 32 bytes.
-#[derive(Debug, Drop)]
-pub struct Name {
-    bytes: Bytes,
-}
-
-impl Model for Name {
-    ghost use Rattle.std.specs.Prelude.{ℕ, List, IsTrue};
-    ghost use Rattle.c104_describe.specs.TextWords.{is_name};
-
-    ghost Value = { List ℕ };
-
-    ghost view = { λ name. name.bytes };
-
-    ghost invariant = { λ name. IsTrue (is_name name.bytes) };
-}
-
-impl Clone for Name {
-    ghost is_clone = { λ name copy. copy ≡ name };
-
-    fn clone(&self) -> Result<Self, AllocError> {
-        let bytes = self.bytes.clone()?;
-        Ok(Name { bytes })
-    }
-}
-
-impl Name {
-    /// The name that a word is. The only error is out of memory.
-    pub fn new(alloc: Global, word: &[u8]) -> Result<Name, AllocError>
-        requires { IsTrue (is_name word.now) }
-        ensures { IfOk result (λ name. name ≡ word.now) }
-    {
-        let bytes = word.to_vec(alloc)?;
-        Ok(Name {
-            bytes: Items::new(bytes),
-        })
-    }
-
-    /// The name's bytes, all of them ASCII.
-    pub fn as_bytes(&self) -> &[u8]
-        ensures bytes { result.now ≡ self.now }
-        ensures named { IsTrue (is_name self.now) }
-    {
-        self.bytes.as_slice()
-    }
-}
 
 /// A terminal of a plan.
 #[derive(Debug, Drop)]
@@ -70,7 +22,21 @@ pub struct Terminal {
     pub count: u32,
 }
 
+impl Terminal {
+    ghost use Rattle.std.specs.Prelude.{◌≡◌};
+    ghost use Rattle.c104_describe.specs.Plans.{host_port};
+
+    /// The port of a switch that the terminal is on.
+    pub fn host_port(&self) -> Port
+        ensures { result ≡ host_port self.now }
+    {
+        Port::Switch(self.switch, self.link)
+    }
+}
+
 impl Clone for Terminal {
+    ghost use Rattle.std.specs.Prelude.{◌≡◌};
+
     ghost is_clone = { λ terminal copy. copy ≡ terminal };
 
     fn clone(&self) -> Result<Self, AllocError> {
@@ -85,200 +51,79 @@ impl Clone for Terminal {
     }
 }
 
-/// A link of a switch.
+/// How a plan came to be.
+#[derive(Clone, Copy, Debug, PartialEq, Eq)]
+pub enum Shape {
+    /// Line by line.
+    Hand,
+    /// Line by line, to be labelled as a tree from the switch of this number.
+    Tree(usize),
+    /// A mesh: its width, its height, and how many terminals each switch has.
+    Mesh(usize, usize, usize),
+    /// A cube: its dimension, and how many terminals each switch has.
+    Cube(usize, usize),
+}
+
+/// The base that a plan gives an input's interval table.
 #[derive(Clone, Copy, Debug)]
-pub struct PlanPort {
-    /// The number of the switch, from 0.
-    pub switch: usize,
-    /// The link, 0 to 31.
-    pub link: usize,
+pub struct PlanBase {
+    /// The input, a port of a switch.
+    pub port: Port,
+    /// The first label of the table's first interval, 0 to 65535.
+    pub base: u32,
 }
 
 /// A row that a plan gives an input's interval table.
 #[derive(Clone, Copy, Debug)]
 pub struct PlanRow {
-    /// The number of the switch, from 0.
-    pub switch: usize,
-    /// The input's link, 0 to 31.
-    pub link: usize,
+    /// The input, a port of a switch.
+    pub port: Port,
     /// The first header past the row's interval, 0 to 65536.
     pub limit: u32,
     /// What a header inside the interval selects, where no row before has it inside its own.
     pub select: Select,
 }
 
-impl PlanRow {
-    ghost use Rattle.c104_describe.specs.Plans.{is_row_of};
-
-    /// Whether the row is of this input.
-    pub(crate) fn is_of(&self, switch: usize, link: usize) -> bool
-        ensures { result ≡ is_row_of switch link self.now }
-    {
-        self.switch == switch && self.link == link
-    }
+/// The random headers that a plan gives an input.
+#[derive(Clone, Copy, Debug)]
+pub struct PlanRandom {
+    /// The input, a port of a switch.
+    pub port: Port,
+    /// Where the random headers begin, 0 to 65535.
+    pub base: u32,
+    /// How many numbers from the base on a word can pick, 0 to 65536; at 0 the base alone.
+    pub range: u32,
 }
 
-/// The lists of a plan, each in the order of the description.
-#[derive(Debug, Drop)]
-pub(crate) struct Lists {
-    pub(crate) switches: Vec<Name>,
-    pub(crate) terminals: Vec<Terminal>,
-    pub(crate) continues: Vec<PlanPort>,
-    pub(crate) deletes: Vec<usize>,
-    pub(crate) rows: Vec<PlanRow>,
-}
-
-impl Lists {
-    ghost use Rattle.std.specs.Prelude.{◌≡◌, ◌<◌, [], length, bytes_eq, IfOk, IfSome};
-    ghost use Rattle.std.specs.List.{list_any};
-    ghost use Rattle.c104_describe.specs.Plans.{Terminal as TheTerminal, switch_number, terminal_number};
-    ghost use Rattle.c104_describe.specs.Plans.{is_taken, is_linked, is_continued, is_deleted, rows_of};
-    ghost use Rattle.c104_describe.specs.PlanLists.{plan_of};
-    ghost use Rattle.c104_describe.specs.PlanText.{empty_plan};
-
-    /// The lists of a plan without lines.
-    pub(crate) fn new(alloc: Global) -> Self
-        ensures { plan_of result ≡ empty_plan }
-    {
-        Lists {
-            switches: Vec::new(alloc),
-            terminals: Vec::new(alloc),
-            continues: Vec::new(alloc),
-            deletes: Vec::new(alloc),
-            rows: Vec::new(alloc),
-        }
-    }
-
-    /// A copy of the lists.
-    fn copy(&self) -> Result<Self, AllocError>
-        ensures { IfOk result (λ copy. plan_of copy ≡ plan_of self.now) }
-    {
-        let switches = self.switches.clone()?;
-        let terminals = self.terminals.clone()?;
-        let continues = self.continues.clone()?;
-        let deletes = self.deletes.clone()?;
-        let rows = self.rows.clone()?;
-        Ok(Lists {
-            switches,
-            terminals,
-            continues,
-            deletes,
-            rows,
-        })
-    }
-
-    /// The number of the switch of this name.
-    #[tactic(auto, unfolding(crate::specs::Plans::switch_number))]
-    pub(crate) fn switch_number(&self, name: &[u8]) -> Option<usize>
-        ensures number { result ≡ switch_number (plan_of self.now) name.now }
-        ensures inside { IfSome result (λ number. number < length (plan_of self.now).switches) }
-    {
-        self.switches
-            .iter()
-            .position(|switch| switch.as_bytes() == name)
-    }
-
-    /// The number of the terminal of this name.
-    #[tactic(auto, unfolding(crate::specs::Plans::terminal_number))]
-    pub(crate) fn terminal_number(&self, name: &[u8]) -> Option<usize>
-        ensures number { result ≡ terminal_number (plan_of self.now) name.now }
-        ensures inside { IfSome result (λ number. number < length (plan_of self.now).terminals) }
-    {
-        self.terminals
-            .iter()
-            .position(|terminal| terminal.name.as_bytes() == name)
-    }
-
-    /// Whether a switch or a terminal has this name.
-    #[tactic(auto, using(crate::proofs::PlanNames::taken_either))]
-    pub(crate) fn is_taken(&self, name: &[u8]) -> bool
-        ensures { result ≡ is_taken (plan_of self.now) name.now }
-    {
-        self.has_switch(name) || self.has_terminal(name)
-    }
-
-    /// Whether a switch has this name.
-    fn has_switch(&self, name: &[u8]) -> bool
-        ensures { result ≡ list_any (λ other. bytes_eq other name.now) (plan_of self.now).switches }
-    {
-        self.switches.iter().any(|other| other.as_bytes() == name)
-    }
-
-    /// Whether a terminal has this name.
-    fn has_terminal(&self, name: &[u8]) -> bool
-        ensures { result ≡ list_any (λ (t : TheTerminal). bytes_eq t.name name.now)
-            (plan_of self.now).terminals }
-    {
-        self.terminals
-            .iter()
-            .any(|terminal| terminal.name.as_bytes() == name)
-    }
-
-    /// Whether a switch's link has a terminal.
-    #[tactic(auto, unfolding(crate::specs::Plans::is_linked))]
-    pub(crate) fn is_linked(&self, switch: usize, link: usize) -> bool
-        ensures { result ≡ is_linked (plan_of self.now) switch link }
-    {
-        self.terminals.iter().any(|terminal| terminal.switch == switch && terminal.link == link)
-    }
-
-    /// Whether a link continues the group of the link before it.
-    #[tactic(auto, unfolding(crate::specs::Plans::is_continued))]
-    pub(crate) fn is_continued(&self, switch: usize, link: usize) -> bool
-        ensures { result ≡ is_continued (plan_of self.now) switch link }
-    {
-        self.continues
-            .iter()
-            .any(|port| port.switch == switch && port.link == link)
-    }
-
-    /// Whether headers are deleted on the way to a terminal.
-    #[tactic(auto, unfolding(crate::specs::Plans::is_deleted))]
-    pub(crate) fn is_deleted(&self, terminal: usize) -> bool
-        ensures { result ≡ is_deleted (plan_of self.now) terminal }
-    {
-        self.deletes.contains(&terminal)
-    }
-
-    /// How many rows an input has.
-    #[tactic(auto, unfolding(crate::specs::Plans::rows_of))]
-    pub(crate) fn row_count(&self, switch: usize, link: usize) -> usize
-        ensures { result ≡ length (rows_of (plan_of self.now) switch link) }
-    {
-        self.rows
-            .iter()
-            .filter(|row| row.is_of(switch, link))
-            .count()
-    }
-}
-
-/// The network that a description gives: its switches, its terminals, and what is to be set at the
-/// links of its switches. Only `read_description` makes one.
+/// The network that a description gives: its switches and terminals, the wires between its switches,
+/// and what is to be set at the links of these. Only `read_description` makes one.
 ///
 /// What each plan keeps is that names differ, that each port exists and no link is taken twice,
 /// that nothing is said twice, and that every number is in its range.
 #[derive(Debug, Drop)]
 pub struct Plan {
-    pub(crate) lists: Lists,
+    pub(crate) parts: Parts,
 }
 
 impl Model for Plan {
     ghost use Rattle.c104_describe.specs.Plans.{Plan as Described, IsPlan};
-    ghost use Rattle.c104_describe.specs.PlanLists.{plan_of};
+    ghost use Rattle.c104_describe.specs.PlanParts.{plan_of};
 
     ghost Value = { Described };
 
-    ghost view = { λ plan. plan_of plan.lists };
+    ghost view = { λ plan. plan_of plan.parts };
 
-    ghost invariant = { λ plan. IsPlan (plan_of plan.lists) };
+    ghost invariant = { λ plan. IsPlan (plan_of plan.parts) };
 }
 
 impl Clone for Plan {
+    ghost use Rattle.std.specs.Prelude.{◌≡◌};
+
     ghost is_clone = { λ plan copy. copy ≡ plan };
 
     fn clone(&self) -> Result<Self, AllocError> {
-        let lists = self.lists.copy()?;
-        Ok(Plan { lists })
+        let parts = self.parts.copy()?;
+        Ok(Plan { parts })
     }
 }
 
@@ -291,7 +136,7 @@ impl Plan {
         ensures switches { result.now ≡ self.now.switches }
         ensures kept { IsPlan self.now }
     {
-        self.lists.switches.as_slice()
+        self.parts.switches.as_slice()
     }
 
     /// The terminals, by number.
@@ -299,15 +144,47 @@ impl Plan {
         ensures terminals { result.now ≡ self.now.terminals }
         ensures kept { IsPlan self.now }
     {
-        self.lists.terminals.as_slice()
+        self.parts.terminals.as_slice()
+    }
+
+    /// How many bytes the headers have at wired links: 1, and in time 2.
+    pub fn header(&self) -> usize
+        ensures header { result ≡ self.now.header }
+        ensures kept { IsPlan self.now }
+    {
+        self.parts.header
+    }
+
+    /// How many tokens each buffer of a switch's input or a terminal has room for: 8, 16, .. 64.
+    pub fn cap(&self) -> usize
+        ensures cap { result ≡ self.now.cap }
+        ensures kept { IsPlan self.now }
+    {
+        self.parts.cap
+    }
+
+    /// How the plan came to be.
+    pub fn shape(&self) -> Shape
+        ensures shape { result ≡ self.now.shape }
+        ensures kept { IsPlan self.now }
+    {
+        self.parts.shape
+    }
+
+    /// The wires, each between links of two switches.
+    pub fn wires(&self) -> &[Wire]
+        ensures wires { result.now ≡ self.now.wires }
+        ensures kept { IsPlan self.now }
+    {
+        self.parts.wires.as_slice()
     }
 
     /// The ports whose link, 1 to 31, continues the group of the link before it.
-    pub fn continues(&self) -> &[PlanPort]
+    pub fn continues(&self) -> &[Port]
         ensures continues { result.now ≡ self.now.continues }
         ensures kept { IsPlan self.now }
     {
-        self.lists.continues.as_slice()
+        self.parts.continues.as_slice()
     }
 
     /// The terminals, by number, on whose links headers are deleted.
@@ -315,7 +192,15 @@ impl Plan {
         ensures deletes { result.now ≡ self.now.deletes }
         ensures kept { IsPlan self.now }
     {
-        self.lists.deletes.as_slice()
+        self.parts.deletes.as_slice()
+    }
+
+    /// The bases of the inputs' tables. An input that has none here has base 0.
+    pub fn bases(&self) -> &[PlanBase]
+        ensures bases { result.now ≡ self.now.bases }
+        ensures kept { IsPlan self.now }
+    {
+        self.parts.bases.as_slice()
     }
 
     /// The rows of the inputs' tables. Those of one input are its rows from 0 on, in this order.
@@ -323,7 +208,15 @@ impl Plan {
         ensures rows { result.now ≡ self.now.rows }
         ensures kept { IsPlan self.now }
     {
-        self.lists.rows.as_slice()
+        self.parts.rows.as_slice()
+    }
+
+    /// The random headers of inputs.
+    pub fn randoms(&self) -> &[PlanRandom]
+        ensures randoms { result.now ≡ self.now.randoms }
+        ensures kept { IsPlan self.now }
+    {
+        self.parts.randoms.as_slice()
     }
 
     /// The number of the first switch of this name, from 0. None where no switch has it.
@@ -331,7 +224,7 @@ impl Plan {
         ensures number { result ≡ switch_number self.now name.now }
         ensures inside { IfSome result (λ number. number < length self.now.switches) }
     {
-        self.lists.switch_number(name)
+        self.parts.switch_number(name)
     }
 
     /// The number of the first terminal of this name, from 0. None where no terminal has it.
@@ -339,6 +232,6 @@ impl Plan {
         ensures number { result ≡ terminal_number self.now name.now }
         ensures inside { IfSome result (λ number. number < length self.now.terminals) }
     {
-        self.lists.terminal_number(name)
+        self.parts.terminal_number(name)
     }
 }

@@ -1,6 +1,8 @@
 //! The words of a description's line.
-ghost use Rattle.std.specs.Prelude.{◌≡◌, Err, MatchResult, Ok};
-ghost use Rattle.c104_describe.specs.PlanLines.{keyword_of, number_to, port_word, select_word};
+ghost use Rattle.std.specs.Prelude.{◌≡◌, ◌+◌, ◌≤◌, ◌&&◌, Err, IfOk, MatchResult, Ok, bytes_eq, codes, map, option_map};
+ghost use Rattle.std.specs.Map.{lookup};
+ghost use Rattle.c104_describe.specs.Plans.{last_link};
+ghost use Rattle.c104_describe.specs.PlanWords.{keyword_of, number_within, number_or, port_sides, port_word, range_words, select_word};
 
 use crate::faults::PlanFaultKind;
 use crate::text::{Dots, find_dots, read_number};
@@ -15,9 +17,92 @@ const LAST_LINK: u32 = LINKS as u32 - 1;
 pub(crate) enum Keyword {
     Switch,
     Terminal,
+    Wire,
+    Header,
+    Buffer,
     Continue,
     Delete,
+    Base,
     Row,
+}
+
+/// The words with which lines begin.
+const KEYWORDS: [(&[u8], Keyword); 9] = [
+    (b"switch", Keyword::Switch),
+    (b"terminal", Keyword::Terminal),
+    (b"wire", Keyword::Wire),
+    (b"header", Keyword::Header),
+    (b"buffer", Keyword::Buffer),
+    (b"continue", Keyword::Continue),
+    (b"delete", Keyword::Delete),
+    (b"base", Keyword::Base),
+    (b"row", Keyword::Row),
+];
+
+/// What a word asks for. None where no line begins with it.
+pub(crate) fn read_keyword(word: &[u8]) -> Option<Keyword>
+    ensures { result ≡ keyword_of word.now }
+{
+    keyword_among(KEYWORDS.as_slice(), word)
+}
+
+/// What a word asks for, by the first of these that is the same word.
+fn keyword_among(known: &[(&[u8], Keyword)], word: &[u8]) -> Option<Keyword>
+    ensures { result ≡ lookup (λ text. bytes_eq text word.now)
+        (map (λ row. (row.0.now, row.1)) known.now) }
+{
+    for (text, keyword) in known {
+        if *text == word {
+            return Some(*keyword);
+        }
+    }
+    None
+}
+
+/// A number of at least and at most so much, or BadNumber.
+pub(crate) fn read_number_within(least: u32, most: u32, word: &[u8]) -> Result<u32, PlanFaultKind>
+    ensures { result ≡ number_within least most word.now }
+{
+    match read_number(word) {
+        Some(value) if least <= value && value <= most => Ok(value),
+        _ => Err(PlanFaultKind::BadNumber),
+    }
+}
+
+/// The same of a number that may be left out, and what is meant where it is.
+pub(crate) fn read_number_or(
+    other: u32,
+    least: u32,
+    most: u32,
+    word: Option<&[u8]>,
+) -> Result<u32, PlanFaultKind>
+    ensures number { result ≡ number_or other least most (option_map (λ w. w.now) word.entry) }
+    ensures range { IfOk result (λ value. value ≤ other + most) }
+{
+    match word {
+        Some(word) => read_number_within(least, most, word),
+        None => Ok(other),
+    }
+}
+
+/// What a row selects: the number of a link, or `sink`.
+pub(crate) fn read_select(word: &[u8]) -> Result<Select, PlanFaultKind>
+    ensures { result ≡ select_word word.now }
+{
+    if word == b"sink".as_slice() {
+        return Ok(Select::Sink);
+    }
+    let link = read_number_within(0, LAST_LINK, word)?;
+    Ok(Select::Link(link as u8))
+}
+
+/// The two sides of a port's dot.
+#[derive(Clone, Copy)]
+pub(crate) struct PortSides<'a> {
+    /// What stands for the switch's name.
+    pub(crate) name: &'a [u8],
+    /// What stands for the link's number.
+    pub(crate) link: &'a [u8],
 }
 
 /// A port as a line names it.
@@ -29,44 +114,27 @@ pub(crate) struct PortWord<'a> {
     pub(crate) link: usize,
 }
 
-/// What a word asks for. None where no line begins with it.
-pub(crate) fn read_keyword(word: &[u8]) -> Option<Keyword>
-    ensures { result ≡ keyword_of word.now }
+/// Cuts `NAME.NUMBER` at its dot: BadShape without exactly one dot. What stands on its sides is not
+/// tested.
+pub(crate) fn cut_port(word: &[u8]) -> Result<PortSides<'_>, PlanFaultKind>
+    ensures { MatchResult result (λ sides. port_sides word.now ≡ Ok (sides.name.now, sides.link.now))
+        (λ kind. port_sides word.now ≡ Err kind) }
 {
-    if word == b"switch".as_slice() {
-        Some(Keyword::Switch)
-    } else if word == b"terminal".as_slice() {
-        Some(Keyword::Terminal)
-    } else if word == b"continue".as_slice() {
-        Some(Keyword::Continue)
-    } else if word == b"delete".as_slice() {
-        Some(Keyword::Delete)
-    } else if word == b"row".as_slice() {
-        Some(Keyword::Row)
-    } else {
-        None
-    }
+    let Dots::At(dot) = find_dots(word) else {
+        return Err(PlanFaultKind::BadShape);
+    };
+    Ok(PortSides {
+        name: &word[..dot],
+        link: &word[dot + 1..],
+    })
 }
 
-/// A number of at most so much, or BadNumber.
-pub(crate) fn read_number_to(most: u32, word: &[u8]) -> Result<u32, PlanFaultKind>
-    ensures { result ≡ number_to most word.now }
+/// The number of a link, or BadNumber where no switch has such a link.
+pub(crate) fn read_link(word: &[u8]) -> Result<usize, PlanFaultKind>
+    ensures { result ≡ number_within 0 last_link word.now }
 {
-    match read_number(word) {
-        Some(value) if value <= most => Ok(value),
-        _ => Err(PlanFaultKind::BadNumber),
-    }
-}
-
-/// What a row selects: the number of a link, or `sink`.
-pub(crate) fn read_select(word: &[u8]) -> Result<Select, PlanFaultKind>
-    ensures { result ≡ select_word word.now }
-{
-    if word == b"sink".as_slice() {
-        return Ok(Select::Sink);
-    }
-    let link = read_number_to(LAST_LINK, word)?;
-    Ok(Select::Link(link as u8))
+    let link = read_number_within(0, LAST_LINK, word)?;
+    Ok(link as usize)
 }
 
 /// Reads `NAME.NUMBER`: BadShape without exactly one dot, BadNumber where no link has the number.
@@ -75,12 +143,68 @@ pub(crate) fn read_port(word: &[u8]) -> Result<PortWord<'_>, PlanFaultKind>
     ensures { MatchResult result (λ port. port_word word.now ≡ Ok (port.name.now, port.link))
         (λ kind. port_word word.now ≡ Err kind) }
 {
-    let Dots::At(dot) = find_dots(word) else {
-        return Err(PlanFaultKind::BadShape);
-    };
-    let link = read_number_to(LAST_LINK, &word[dot + 1..])?;
+    let sides = cut_port(word)?;
+    let link = read_link(sides.link)?;
     Ok(PortWord {
-        name: &word[..dot],
-        link: link as usize,
+        name: sides.name,
+        link,
     })
+}
+
+/// The words that give a terminal's range.
+#[derive(Clone, Copy)]
+pub(crate) struct RangeWords<'a> {
+    /// What follows `labels`, if it was said.
+    pub(crate) labels: Option<&'a [u8]>,
+    /// What follows `from`, if it was said.
+    pub(crate) from: Option<&'a [u8]>,
+}
+
+/// Reads `[labels n] [from f]`, the words of a `terminal` line behind its port, or BadShape. Whether
+/// these are numbers is not tested.
+pub(crate) fn read_range<'a>(words: &[&'a [u8]]) -> Result<RangeWords<'a>, PlanFaultKind>
+    ensures { MatchResult result
+        (λ range. range_words (map (λ word. word.now) words.now)
+        ≡ Ok (option_map (λ w. w.now) range.labels, option_map (λ w. w.now) range.from))
+        (λ kind. range_words (map (λ word. word.now) words.now) ≡ Err kind) }
+{
+    match words {
+        [] => Ok(RangeWords {
+            labels: None,
+            from: None,
+        }),
+        [word, number] => {
+            if *word == b"labels".as_slice() {
+                Ok(RangeWords {
+                    labels: Some(number),
+                    from: None,
+                })
+            } else if *word == b"from".as_slice() {
+                Ok(RangeWords {
+                    labels: None,
+                    from: Some(number),
+                })
+            } else {
+                Err(PlanFaultKind::BadShape)
+            }
+        }
+        [word, number, other, further] => {
+            if is_labels_and_from(word, other) {
+                Ok(RangeWords {
+                    labels: Some(number),
+                    from: Some(further),
+                })
+            } else {
+                Err(PlanFaultKind::BadShape)
+            }
+        }
+        _ => Err(PlanFaultKind::BadShape),
+    }
+}
+
+/// Whether these are the words of a range of which both numbers are said.
+fn is_labels_and_from(word: &[u8], other: &[u8]) -> bool
+    ensures { result ≡ (bytes_eq word.now (codes "labels") && bytes_eq other.now (codes "from")) }
+{
+    word == b"labels".as_slice() && other == b"from".as_slice()
 }

@@ -1,14 +1,29 @@
-use Rattle.std.proofs.Common.{◌+◌, ◌∙◌, ap, sym, inl, inr, Err}
+use Rattle.std.proofs.Common.{◌+◌, ◌∙◌, ap, sym, subst, inl, inr, Err}
 use Rattle.c104_describe.specs.PlanFaults.{fault_at}
-use Rattle.c104_describe.specs.PlanLists.{plan_of}
-use Rattle.c104_describe.proofs.PlanReading.{after_line, at_fault}
+use Rattle.c104_describe.specs.Plans.{IsPlan}
+use Rattle.c104_describe.specs.PlanLines.{Draft}
+use Rattle.c104_describe.specs.PlanText.{read_plan_lines}
+use Rattle.c104_describe.specs.PlanParts.{draft_of}
+use Rattle.c104_describe.proofs.PlanLinesKept.{empty-kept, line_kept}
+use Rattle.c104_describe.proofs.PlanReading.{after_line, at_fault, texts}
 use Rattle.c104_describe.proofs.description.read_lines.Goals as goal
 
+pub loop-index-init : goal.loop-index-init
+loop-index-init c = record {
+  due = ap (λ (d : Draft). read_plan_lines 1 (texts c.args.lines.now) d) c.in_ok-draft.ensures;
+  kept = subst (λ (d : Draft). IsPlan d.plan) (sym c.in_ok-draft.ensures) empty-kept;
+}
+
 pub loop-index-preserved : goal.loop-index-preserved
-loop-index-preserved c = after_line c.args.lines.now c.loop-index.index _ c.loop-index-test.true (plan_of c.loop-index.lists) c.loop-index.invariant (plan_of c.read_line.new.lists) c.in-Ok.ensures
+loop-index-preserved c =
+    let before = c.loop-index.invariant in
+    record {
+      due = after_line c.args.lines.now c.loop-index.index _ c.loop-index-test.true (draft_of c.loop-index.draft) before.due (draft_of c.read_line.new.draft) c.in-Ok.ensures;
+      kept = line_kept c.args.lines.now c.loop-index.index _ (draft_of c.loop-index.draft) (draft_of c.read_line.new.draft) before.kept c.in-Ok.ensures;
+    }
 
 pub returns-in-Err : goal.returns-in-Err
 returns-in-Err c = elim c.in-Err.ensures [
-  | inl is ↦ inl (at_fault c.args.lines.now c.loop-index.index _ c.loop-index-test.true (plan_of c.loop-index.lists) c.loop-index.invariant c.in-Err.kind is ∙ ap Err (sym c.fault_at.ensures))
+  | inl is ↦ inl (at_fault c.args.lines.now c.loop-index.index _ c.loop-index-test.true (draft_of c.loop-index.draft) c.loop-index.invariant.due c.in-Err.kind is ∙ ap Err (sym c.fault_at.ensures))
   | inr none ↦ inr (c.fault_at.ensures ∙ ap (fault_at (c.loop-index.index + 1)) none)
 ]

@@ -1,11 +1,11 @@
 use Rattle.std.proofs.Common.{◌≡◌, length}
-use Rattle.c104_describe.specs.PlanImage.{padded_rows}
-use Rattle.c104_describe.proofs.PlanTables.{so_far}
+use Rattle.c104_describe.specs.PlanImage.{base_of, padded_rows}
+use Rattle.c104_describe.proofs.PlanTables.{of_rows, so_far}
 use Rattle.c104_describe.proofs.hand.table_of.Given as goal
 
 -- the rows so far are filled in
 abbrev pub invariant-loop-row : goal.invariant-loop-row
 invariant-loop-row l = record {
-  count : l.count ≡ length (so_far l.switch l.link l.row-items l.row-index);
-  table : l.table ≡ record { base = 0; rows = padded_rows (so_far l.switch l.link l.row-items l.row-index) };
+  count : l.count ≡ length (so_far l.port l.row-items l.row-index);
+  table : l.table ≡ of_rows (base_of l.plan l.port) (padded_rows (so_far l.port l.row-items l.row-index));
 }

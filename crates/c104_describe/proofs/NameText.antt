@@ -1,0 +1,20 @@
+-- A name is text.
+use Rattle.std.proofs.Common.{◌≡◌, ℕ, zero, suc, ◌<◌, true, List, [], ◌∷◌, arith}
+use Rattle.std.proofs.lemmas.Bool.{and_parts}
+use Rattle.std.proofs.lemmas.Bool.Decides.{nat_tests}
+use Rattle.std.specs.List.{list_all}
+use Rattle.std.specs.Str.{IsAscii, IsUtf8}
+use Rattle.std.proofs.lemmas.Str.{IsUtf8-from_ascii}
+use Rattle.c104_describe.specs.TextWords.{is_name, is_name_byte}
+use Rattle.c104_describe.proofs.PrintedPorts.{name_bytes}
+
+below_128 : (b : ℕ) → is_name_byte b ≡ true → b < 128
+below_128 b is = grind (arith, nat_tests)
+
+ascii : (xs : List ℕ) → list_all is_name_byte xs ≡ true → IsAscii xs
+ascii [] all i = omega arith
+ascii (x ∷ xs) all zero = below_128 x (and_parts (is_name_byte x) (list_all is_name_byte xs) all).0
+ascii (x ∷ xs) all (suc i) = ascii xs (and_parts (is_name_byte x) (list_all is_name_byte xs) all).1 i
+
+pub utf8_name : (name : List ℕ) → is_name name ≡ true → IsUtf8 name
+utf8_name name is = IsUtf8-from_ascii name (ascii name (name_bytes name is))

@@ -1,0 +1,56 @@
+-- What is printed of a number is read back.
+use Rattle.std.proofs.Common.{◌≡◌, ℕ, ◌+◌, ◌*◌, ◌-◌, ◌<◌, ◌≤◌, ◌^◌, ◌&&◌, true, if◌then◌else◌, List, length, fold, nat_le, nat_lt, Some, None, Ok, ◌∙◌, arith, rules}
+use Rattle.std.proofs.lemmas.Bool.Decides.{nat_tests}
+use Rattle.std.specs.Fmt.{decimal}
+use Rattle.std.specs.List.{list_all}
+use Rattle.std.proofs.lemmas.Fmt.{digits_decimal, digits_value-decimal, length-decimal-le, decimal_nonempty}
+use Rattle.std.proofs.lemmas.Str.Parse.{IsNumeralModel, numerals_by_fold}
+use Rattle.c104_describe.specs.declared.faults.PlanFaultKind.TheVariants.{BadNumber}
+use Rattle.c104_describe.specs.Checks.{◌>>=◌, ◌>>◌, require, value_or_fault}
+use Rattle.c104_describe.specs.TextWords.{read_number, value_of, is_digit}
+use Rattle.c104_describe.specs.PlanWords.{number_within}
+use Rattle.c104_describe.proofs.PrintedText.{is_word, is_word_byte, list_all-weaker}
+
+abbrev are_digits : List ℕ → Type 0
+are_digits ds = list_all is_digit ds ≡ true
+
+numerals : IsNumeralModel are_digits (λ ds. fold (λ value digit. 10 * value + (digit - 48)) 0 ds)
+numerals = numerals_by_fold are_digits (search rules) (λ n ds. fold (λ value digit. 10 * value + (digit - 48)) n ds) (search rules)
+
+pub decimal_digits : (n : ℕ) → n < 10 ^ 7 → list_all is_digit (decimal n) ≡ true
+decimal_digits n small = digits_decimal numerals n (omega arith)
+
+decimal_value : (n : ℕ) → n < 10 ^ 7 → value_of (decimal n) ≡ n
+decimal_value n small = digits_value-decimal numerals n (omega arith)
+
+decimal_long : (n : ℕ) → n < 10 ^ 7 → (1 ≤ length (decimal n)) × (length (decimal n) ≤ 7)
+decimal_long n small = (decimal_nonempty n (omega arith), length-decimal-le 7 n (omega arith) small (omega arith))
+
+number_by : (word : List ℕ) (n : ℕ) → list_all is_digit word ≡ true → 1 ≤ length word → length word ≤ 7 → value_of word ≡ n → read_number word ≡ Some n
+number_by word n digits some few value =
+    let least : nat_le 1 (length word) ≡ true = grind (arith, nat_tests) in
+    let most : nat_le (length word) 7 ≡ true = grind (arith, nat_tests) in
+    λ i. if (least i && most i) && digits i then Some (value i) else None
+
+pub read_number-decimal : (n : ℕ) → n < 10 ^ 7 → read_number (decimal n) ≡ Some n
+read_number-decimal n small = number_by (decimal n) n (decimal_digits n small) (decimal_long n small).0 (decimal_long n small).1 (decimal_value n small)
+
+pub number_within-decimal : (least most n : ℕ) → least ≤ n → n ≤ most → n < 10 ^ 7 → number_within least most (decimal n) ≡ Ok n
+number_within-decimal least most n low high small =
+    let some : nat_le least n ≡ true = grind (arith, nat_tests) in
+    let few : nat_le n most ≡ true = grind (arith, nat_tests) in
+    (λ i. value_or_fault (read_number-decimal n small i) BadNumber >>= (λ value. require (nat_le least value && nat_le value most) BadNumber >> Ok value))
+    ∙ (λ i. require (some i && few i) BadNumber >> Ok n)
+
+digit_byte : (b : ℕ) → is_digit b ≡ true → is_word_byte b ≡ true
+digit_byte b is = grind (arith, nat_tests)
+
+pub decimal_bytes : (n : ℕ) → n < 10 ^ 7 → list_all is_word_byte (decimal n) ≡ true
+decimal_bytes n small = list_all-weaker is_digit is_word_byte digit_byte (decimal n) (decimal_digits n small)
+
+-- a printed number is a word
+pub word-decimal : (n : ℕ) → n < 10 ^ 7 → is_word (decimal n) ≡ true
+word-decimal n small =
+    let long : 1 ≤ length (decimal n) = (decimal_long n small).0 in
+    let some : nat_lt 0 (length (decimal n)) ≡ true = grind (arith, nat_tests) in
+    λ i. some i && decimal_bytes n small i

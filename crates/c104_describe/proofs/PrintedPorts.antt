@@ -1,0 +1,125 @@
+-- What is printed of a name, a port and what a row selects is read back.
+use Rattle.std.proofs.Common.{◌≡◌, ◌≢◌, ℕ, ◌+◌, ◌<◌, ◌&&◌, ◌||◌, ◌==◌, Bool, true, false, not, cond, if◌then◌else◌, List, [], ◌∷◌, ◌++◌, length, take, drop, nat_lt, bytes_eq, codes, Some, None, Ok, refl, sym, ap, ◌∙◌, arith, length-append}
+use Rattle.std.proofs.lemmas.Bool.{and_parts}
+use Rattle.std.proofs.lemmas.Bool.Decides.{nat_tests}
+use Rattle.std.proofs.Math.Seq.{take-append_seam, drop-append-add}
+use Rattle.std.specs.Fmt.{decimal}
+use Rattle.std.specs.List.{list_all, list_any, prefix_len, position_or_len}
+use Rattle.std.proofs.lemmas.List.Folds.{list_all-append}
+use Rattle.std.proofs.lemmas.Slice.Eq.{bytes_eq-Decides}
+use Rattle.c104_interval.specs.declared.intervals.Select.{Select}
+use Rattle.c104_interval.specs.declared.intervals.Select.TheVariants.{Link, Discard, Sink}
+use Rattle.c104_describe.specs.declared.text.Dots.TheVariants.{At, Several}
+use Rattle.c104_describe.specs.Checks.{◌>>=◌}
+use Rattle.c104_describe.specs.TextWords.{is_digit, is_name, is_name_byte, is_letter, dots, dots_from}
+use Rattle.c104_describe.specs.PlanWords.{number_within, port_sides, sides_of_dots, port_word, select_word}
+use Rattle.c104_describe.specs.Plans.{IsPlanSelect, last_link}
+use Rattle.c104_describe.specs.PlanPrint.{select_text}
+use Rattle.c104_describe.proofs.PrintedText.{is_word, is_word_byte, list_all-weaker}
+use Rattle.c104_describe.proofs.PrintedNumbers.{decimal_digits, decimal_bytes, number_within-decimal, word-decimal}
+
+-- Names
+
+-- each byte of a name may stand in one
+pub name_bytes : (name : List ℕ) → is_name name ≡ true → list_all is_name_byte name ≡ true
+name_bytes [] is = cc
+name_bytes (x ∷ rest) is =
+    let outer = and_parts (is_letter x) (nat_lt (length rest) 32 && list_all is_name_byte rest) is in
+    let inner = and_parts (nat_lt (length rest) 32) (list_all is_name_byte rest) outer.1 in
+    λ i. (((outer.0 i) || is_digit x) || (x == 0x5f || x == 0x2d)) && inner.1 i
+
+name_byte : (b : ℕ) → is_name_byte b ≡ true → is_word_byte b ≡ true
+name_byte b is = grind (arith, nat_tests)
+
+some_name : (name rest : List ℕ) → is_name name ≡ true → nat_lt 0 (length (name ++ rest)) ≡ true
+some_name [] rest is = cc
+some_name (x ∷ xs) rest is = grind (arith, nat_tests)
+
+-- a name is a word
+pub word-name : (name : List ℕ) → is_name name ≡ true → is_word name ≡ true
+word-name [] is = cc
+word-name (x ∷ xs) is =
+    let some : nat_lt 0 (length (x ∷ xs)) ≡ true = grind (arith, nat_tests) in
+    λ i. some i && list_all-weaker is_name_byte is_word_byte name_byte (x ∷ xs) (name_bytes (x ∷ xs) is) i
+
+-- Ports
+
+no_dot : (b : ℕ) → is_name_byte b ≡ true → (b == 0x2e) ≡ false
+no_dot b is = grind (arith, nat_tests)
+
+digit_no_dot : (b : ℕ) → is_digit b ≡ true → (b == 0x2e) ≡ false
+digit_no_dot b is = grind (arith, nat_tests)
+
+prefix_name : (xs ys : List ℕ) → list_all is_name_byte xs ≡ true → prefix_len (λ b. not (b == 0x2e)) (xs ++ 0x2e ∷ ys) ≡ length xs
+prefix_name [] ys all = refl
+prefix_name (x ∷ xs) ys all =
+    let parts = and_parts (is_name_byte x) (list_all is_name_byte xs) all in
+    (λ i. cond (not (no_dot x parts.0 i)) (1 + prefix_name xs ys parts.1 i) 0) ∙ omega arith
+
+no_dots : (ds : List ℕ) → list_all is_digit ds ≡ true → list_any (λ b. b == 0x2e) ds ≡ false
+no_dots [] all = refl
+no_dots (d ∷ ds) all =
+    let parts = and_parts (is_digit d) (list_all is_digit ds) all in
+    λ i. digit_no_dot d parts.0 i || no_dots ds parts.1 i
+
+dots_name : (name ds : List ℕ) → is_name name ≡ true → list_all is_digit ds ≡ true → dots (name ++ 0x2e ∷ ds) ≡ At (length name)
+dots_name name ds named digits =
+    let word = name ++ 0x2e ∷ ds in
+    let at : position_or_len (λ b. b == 0x2e) word ≡ length name = prefix_name name ds (name_bytes name named) in
+    let inside : nat_lt (length name) (length word) ≡ true =
+    let long = length-append name (0x2e ∷ ds) in grind (arith, nat_tests) in
+    let behind : drop (length name + 1) word ≡ ds = drop-append-add name (0x2e ∷ ds) 1 in
+    (λ i. dots_from word (cond (nat_lt (at i) (length word)) (Some (at i)) None))
+    ∙ (λ i. dots_from word (cond (inside i) (Some (length name)) None))
+    ∙ (λ i. if list_any (λ b. b == 0x2e) (behind i) then Several else At (length name))
+    ∙ (λ i. if no_dots ds digits i then Several else At (length name))
+
+-- the two sides of a printed port
+pub port_sides-port : (name : List ℕ) (link : ℕ) → is_name name ≡ true → link < 32 → port_sides (name ++ 0x2e ∷ decimal link) ≡ Ok (name, decimal link)
+port_sides-port name link named is_link =
+    let word = name ++ 0x2e ∷ decimal link in
+    let behind : drop (length name + 1) word ≡ decimal link = drop-append-add name (0x2e ∷ decimal link) 1 in
+    let before : take (length name) word ≡ name = take-append_seam name (0x2e ∷ decimal link) in
+    ap (sides_of_dots word) (dots_name name (decimal link) named (decimal_digits link (omega arith)))
+    ∙ (λ i. Ok (before i, behind i))
+
+pub link-decimal : (link : ℕ) → link < 32 → number_within 0 last_link (decimal link) ≡ Ok link
+link-decimal link is_link = number_within-decimal 0 last_link link (omega arith) (omega arith) (omega arith)
+
+-- a printed port is read back
+pub port_word-port : (name : List ℕ) (link : ℕ) → is_name name ≡ true → link < 32 → port_word (name ++ 0x2e ∷ decimal link) ≡ Ok (name, link)
+port_word-port name link named is_link =
+    (λ i. port_sides-port name link named is_link i >>= (λ sides. number_within 0 last_link sides.1 >>= (λ l. Ok (sides.0, l))))
+    ∙ (λ i. link-decimal link is_link i >>= (λ l. Ok (name, l)))
+
+-- a printed port is a word
+pub word-port : (name : List ℕ) (link : ℕ) → is_name name ≡ true → link < 32 → is_word (name ++ 0x2e ∷ decimal link) ≡ true
+word-port name link is is_link =
+    let front = list_all-weaker is_name_byte is_word_byte name_byte name (name_bytes name is) in
+    let back = decimal_bytes link (omega arith) in
+    let bytes : list_all is_word_byte (name ++ 0x2e ∷ decimal link) ≡ true = list_all-append is_word_byte name (0x2e ∷ decimal link) ∙ (λ i. front i && back i) in
+    λ i. some_name name (0x2e ∷ decimal link) is i && bytes i
+
+-- What a row selects
+
+differ_eq : (xs ys : List ℕ) → xs ≢ ys → bytes_eq xs ys ≡ false
+differ_eq xs ys differ = by_test (bytes_eq xs ys) refl
+  where
+    by_test : (b : Bool) → bytes_eq xs ys ≡ b → b ≡ false
+    by_test true is = absurd (differ ((bytes_eq-Decides xs ys).0 is))
+    by_test false is = refl
+
+no_sink : (word : List ℕ) → list_all is_digit word ≡ true → bytes_eq word (codes "sink") ≡ false
+no_sink word digits = differ_eq word (codes "sink") (λ same. let bad : list_all is_digit (codes "sink") ≡ true = ap (list_all is_digit) (sym same) ∙ digits in cc)
+
+pub select_word-select : (select : Select) → IsPlanSelect select → select_word (select_text select) ≡ Ok select
+select_word-select (Link link) is =
+    (λ i. if no_sink (decimal link) (decimal_digits link (omega arith)) i then Ok Sink else (number_within 0 last_link (decimal link) >>= (λ l. Ok (Link l))))
+    ∙ (λ i. link-decimal link is i >>= (λ l. Ok (Link l)))
+select_word-select Discard is = absurd is
+select_word-select Sink is = refl
+
+pub word-select : (select : Select) → IsPlanSelect select → is_word (select_text select) ≡ true
+word-select (Link link) is = word-decimal link (omega arith)
+word-select Discard is = absurd is
+word-select Sink is = refl

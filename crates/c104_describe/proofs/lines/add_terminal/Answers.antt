@@ -1,0 +1,11 @@
+use Rattle.std.proofs.Common.{◌∙◌, ap, sym, bytes_eq, List, ℕ}
+use Rattle.std.specs.List.{list_any}
+use Rattle.c104_describe.specs.Plans.{Terminal}
+use Rattle.c104_describe.specs.PlanParts.{plan_of}
+use Rattle.c104_describe.proofs.PlanNames.{free_terminal}
+use Rattle.c104_describe.proofs.lines.add_terminal.Goals as goal
+
+pub push-requires : goal.push-requires
+push-requires c =
+    ap (λ (name : List ℕ). list_any (λ (t : Terminal). bytes_eq t.name name) (plan_of c.args.parts.now).terminals) c.in_ok-name.ensures
+    ∙ free_terminal (plan_of c.args.parts.now) c.args.name.now (sym c.is_taken.ensures ∙ c.if-is_taken.false)

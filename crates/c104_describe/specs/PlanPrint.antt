@@ -1,0 +1,98 @@
+-- What a plan is printed as: lines of words. Words are parted by one space, and each line ends with a
+-- line feed.
+use Rattle.std.specs.Prelude.{ℕ, List, [], ◌∷◌, ◌++◌, map, slice_get, codes}
+use Rattle.std.specs.Fmt.{decimal}
+use Rattle.std.specs.Option.{option_map_or, unwrap_or}
+use Rattle.c104_interval.specs.declared.intervals.Select.{Select}
+use Rattle.c104_interval.specs.declared.intervals.Select.TheVariants.{Link, Discard, Sink}
+use Rattle.c104_describe.specs.declared.ports.Port.TheVariants as port
+use Rattle.c104_describe.specs.Ports.{Port, Wire}
+use Rattle.c104_describe.specs.Plans.{Plan, PlanBase, PlanRow, Terminal, host_port}
+
+-- words with a space (0x20) between neighbours
+abbrev pub sentence : List (List ℕ) → List ℕ
+sentence [] = []
+sentence (word ∷ []) = word
+sentence (word ∷ next ∷ more) = word ++ 0x20 ∷ sentence (next ∷ more)
+
+-- lines of words, each of which a line feed (0x0a) ends
+abbrev pub text_of : List (List (List ℕ)) → List ℕ
+text_of [] = []
+text_of (words ∷ more) = sentence words ++ 0x0a ∷ text_of more
+
+-- the name of the switch of this number; where there is none, nothing
+abbrev pub switch_name : Plan → ℕ → List ℕ
+switch_name plan number = unwrap_or (slice_get plan.switches number) []
+
+-- the name of the terminal of this number; where there is none, nothing
+abbrev pub terminal_name : Plan → ℕ → List ℕ
+terminal_name plan number = option_map_or (λ (t : Terminal). t.name) (slice_get plan.terminals number) []
+
+-- a port of a switch: its name, a dot (0x2e) and the link. That of a terminal, which has one link, is
+-- its name, but no line of a plan has such a port
+abbrev pub port_text : Plan → Port → List ℕ
+port_text plan (port.Switch s l) = switch_name plan s ++ 0x2e ∷ decimal l
+port_text plan (port.Terminal t) = terminal_name plan t
+
+-- what a row selects
+abbrev pub select_text : Select → List ℕ
+select_text (Link link) = decimal link
+select_text Discard = codes "discard"
+select_text Sink = codes "sink"
+
+-- the line of the header length
+abbrev pub header_words : ℕ → List (List ℕ)
+header_words bytes = codes "header" ∷ decimal bytes ∷ []
+
+-- the line of the buffer size
+abbrev pub buffer_words : ℕ → List (List ℕ)
+buffer_words size = codes "buffer" ∷ decimal size ∷ []
+
+-- the line of a switch
+abbrev pub switch_words : List ℕ → List (List ℕ)
+switch_words name = codes "switch" ∷ name ∷ []
+
+-- the line of a terminal
+abbrev pub terminal_words : Plan → Terminal → List (List ℕ)
+terminal_words plan t =
+    codes "terminal" ∷ t.name ∷ port_text plan (host_port t)
+    ∷ codes "labels" ∷ decimal t.count ∷ codes "from" ∷ decimal t.first ∷ []
+
+-- the line of a wire
+abbrev pub wire_words : Plan → Wire → List (List ℕ)
+wire_words plan w = codes "wire" ∷ port_text plan w.here ∷ port_text plan w.there ∷ []
+
+-- the line of a link that continues a group
+abbrev pub continue_words : Plan → Port → List (List ℕ)
+continue_words plan p = codes "continue" ∷ port_text plan p ∷ []
+
+-- the line of a terminal on the way to which headers are deleted
+abbrev pub delete_words : Plan → ℕ → List (List ℕ)
+delete_words plan terminal = codes "delete" ∷ terminal_name plan terminal ∷ []
+
+-- the line of a base
+abbrev pub base_words : Plan → PlanBase → List (List ℕ)
+base_words plan b = codes "base" ∷ port_text plan b.port ∷ decimal b.base ∷ []
+
+-- the line of a row
+abbrev pub row_words : Plan → PlanRow → List (List ℕ)
+row_words plan r = codes "row" ∷ port_text plan r.port ∷ decimal r.limit ∷ select_text r.select ∷ []
+
+-- the lines of a plan, each kind in the order of its list, and what a name stands for before what names
+-- it. For now each plan is made by hand, so a terminal's line says where its range begins, and none has
+-- random headers, so these have no line
+abbrev pub plan_lines : Plan → List (List (List ℕ))
+plan_lines plan =
+    header_words plan.header
+    ∷ buffer_words plan.cap
+    ∷ map switch_words plan.switches
+    ++ map (terminal_words plan) plan.terminals
+    ++ map (wire_words plan) plan.wires
+    ++ map (continue_words plan) plan.continues
+    ++ map (delete_words plan) plan.deletes
+    ++ map (base_words plan) plan.bases
+    ++ map (row_words plan) plan.rows
+
+-- the text of a plan
+abbrev pub plan_text : Plan → List ℕ
+plan_text plan = text_of (plan_lines plan)

@@ -1,0 +1,32 @@
+-- The wiring of a plan: which port is wired to which.
+use Rattle.std.specs.Prelude.{◌≡◌, ℕ, suc, ◌<◌, List, [], ◌∷◌, ◌++◌, Option, Some, length, slice_get}
+use Rattle.c104_describe.specs.declared.ports.Port.TheVariants as port
+use Rattle.c104_describe.specs.Ports.{Port, Wire, AreApart, IsSwitchPort, other_end}
+use Rattle.c104_describe.specs.Plans.{Plan, Terminal, host_port}
+
+-- the wires of terminals, the first of which has number n
+abbrev pub terminal_wires : ℕ → List Terminal → List Wire
+terminal_wires n [] = []
+terminal_wires n (t ∷ terminals) =
+    record { here = port.Terminal n; there = host_port t } ∷ terminal_wires (suc n) terminals
+
+-- all wires: terminal k's is at place k, and those between switches follow
+abbrev pub wires : Plan → List Wire
+wires plan = terminal_wires 0 plan.terminals ++ plan.wires
+
+-- the port that a port is wired to, if it is
+abbrev pub peer : Plan → Port → Option Port
+peer plan p = other_end (wires plan) p
+
+-- one of the plan's ports
+abbrev pub IsPlanPort : Plan → Port → Type 0
+IsPlanPort plan (port.Switch s l) = IsSwitchPort (length plan.switches) (port.Switch s l)
+IsPlanPort plan (port.Terminal t) = t < length plan.terminals
+
+-- what a wiring keeps: wires go both ways, join ports of the plan, and join two switches, or a switch
+-- and a terminal; and each terminal has one, to the switch that it is on
+pub record IsWiring (plan : Plan) : Type 0 where
+  pub back : (p q : Port) → peer plan p ≡ Some q → peer plan q ≡ Some p
+  pub inside : (p q : Port) → peer plan p ≡ Some q → IsPlanPort plan p
+  pub apart : (p q : Port) → peer plan p ≡ Some q → AreApart p q
+  pub host : (number : ℕ) (t : Terminal) → slice_get plan.terminals number ≡ Some t → peer plan (port.Terminal number) ≡ Some (host_port t)

@@ -1,0 +1,181 @@
+//! The parts of a plan.
+
+use crate::plans::{PlanBase, PlanRandom, Shape};
+use crate::ports::{Port, Wire};
+use crate::row_list::RowList;
+use crate::switch_list::SwitchList;
+use crate::terminal_list::TerminalList;
+use std::alloc::{AllocError, Global};
+
+/// The parts of a plan. Each list is in the order of the description.
+#[derive(Debug, Drop)]
+pub(crate) struct Parts {
+    pub(crate) header: usize,
+    pub(crate) cap: usize,
+    pub(crate) shape: Shape,
+    pub(crate) switches: SwitchList,
+    pub(crate) terminals: TerminalList,
+    pub(crate) wires: Vec<Wire>,
+    pub(crate) continues: Vec<Port>,
+    pub(crate) deletes: Vec<usize>,
+    pub(crate) bases: Vec<PlanBase>,
+    pub(crate) rows: RowList,
+    pub(crate) randoms: Vec<PlanRandom>,
+}
+
+impl Parts {
+    ghost use Rattle.std.specs.Prelude.{◌≡◌, ℕ, ◌<◌, ◌≤◌, [], length, bytes_eq, IfOk, IfSome};
+    ghost use Rattle.std.specs.List.{list_any};
+    ghost use Rattle.std.specs.Prelude.{◌||◌};
+    ghost use Rattle.c104_describe.specs.Ports.{Wire as TheWire, is_any_at, is_port, IsSwitchPort};
+    ghost use Rattle.c104_describe.specs.Plans.{Terminal as TheTerminal, PlanBase as TheBase, switch_number, terminal_number};
+    ghost use Rattle.c104_describe.specs.Plans.{host_port, is_taken, is_linked, is_continued, is_deleted, next_first, rows_of, AreTerminals, label_count, most_switches};
+    ghost use Rattle.c104_describe.specs.PlanParts.{plan_of};
+    ghost use Rattle.c104_describe.specs.PlanText.{empty_plan};
+
+    /// The parts of a plan without lines.
+    pub(crate) fn new(alloc: Global) -> Result<Self, AllocError>
+        ensures { IfOk result (λ parts. plan_of parts ≡ empty_plan) }
+    {
+        let rows = RowList::new(alloc)?;
+        Ok(Parts {
+            header: 1,
+            cap: 16,
+            shape: Shape::Hand,
+            switches: SwitchList::new(alloc),
+            terminals: TerminalList::new(alloc),
+            wires: Vec::new(alloc),
+            continues: Vec::new(alloc),
+            deletes: Vec::new(alloc),
+            bases: Vec::new(alloc),
+            rows,
+            randoms: Vec::new(alloc),
+        })
+    }
+
+    /// A copy of the parts.
+    pub(crate) fn copy(&self) -> Result<Self, AllocError>
+        ensures { IfOk result (λ copy. plan_of copy ≡ plan_of self.now) }
+    {
+        let switches = self.switches.copy()?;
+        let terminals = self.terminals.copy()?;
+        let wires = self.wires.clone()?;
+        let continues = self.continues.clone()?;
+        let deletes = self.deletes.clone()?;
+        let bases = self.bases.clone()?;
+        let rows = self.rows.copy()?;
+        let randoms = self.randoms.clone()?;
+        Ok(Parts {
+            header: self.header,
+            cap: self.cap,
+            shape: self.shape,
+            switches,
+            terminals,
+            wires,
+            continues,
+            deletes,
+            bases,
+            rows,
+            randoms,
+        })
+    }
+
+    /// The number of the switch of this name.
+    #[tactic(auto, unfolding(crate::specs::Plans::switch_number))]
+    pub(crate) fn switch_number(&self, name: &[u8]) -> Option<usize>
+        ensures number { result ≡ switch_number (plan_of self.now) name.now }
+        ensures inside { IfSome result (λ number. number < length (plan_of self.now).switches) }
+    {
+        self.switches.number_of(name)
+    }
+
+    /// The number of the terminal of this name.
+    #[tactic(auto, unfolding(crate::specs::Plans::terminal_number))]
+    pub(crate) fn terminal_number(&self, name: &[u8]) -> Option<usize>
+        ensures number { result ≡ terminal_number (plan_of self.now) name.now }
+        ensures inside { IfSome result (λ number. number < length (plan_of self.now).terminals) }
+    {
+        self.terminals.number_of(name)
+    }
+
+    /// Whether a switch or a terminal has this name.
+    #[tactic(auto, using(crate::proofs::PlanNames::taken_either))]
+    pub(crate) fn is_taken(&self, name: &[u8]) -> bool
+        ensures { result ≡ is_taken (plan_of self.now) name.now }
+    {
+        self.switches.has(name) || self.terminals.has(name)
+    }
+
+    /// Whether a port of a switch has a terminal or a wire.
+    #[tactic(auto, using(crate::proofs::PlanLinks::linked_either))]
+    pub(crate) fn is_linked(&self, port: Port) -> bool
+        ensures { result ≡ is_linked (plan_of self.now) port }
+    {
+        self.has_terminal_at(port) || self.has_wire_at(port)
+    }
+
+    /// Whether a terminal is on this port of a switch.
+    #[tactic(auto, unfolding(crate::specs::Ports::is_any_at))]
+    fn has_terminal_at(&self, port: Port) -> bool
+        ensures { result ≡ is_any_at host_port (plan_of self.now).terminals port }
+    {
+        self.terminals
+            .as_slice()
+            .iter()
+            .any(|terminal| terminal.host_port().is_same(port))
+    }
+
+    /// Whether a wire between switches has this port.
+    fn has_wire_at(&self, port: Port) -> bool
+        ensures { result ≡ list_any (λ (w : TheWire). is_port w.here port || is_port w.there port)
+            (plan_of self.now).wires }
+    {
+        self.wires
+            .iter()
+            .any(|wire| wire.here.is_same(port) || wire.there.is_same(port))
+    }
+
+    /// Whether a link continues the group of the link before it.
+    #[tactic(auto, unfolding(crate::specs::Ports::is_any_at))]
+    pub(crate) fn is_continued(&self, port: Port) -> bool
+        ensures { result ≡ is_continued (plan_of self.now) port }
+    {
+        self.continues.iter().any(|other| other.is_same(port))
+    }
+
+    /// Whether headers are deleted on the way to a terminal.
+    #[tactic(auto, unfolding(crate::specs::Plans::is_deleted))]
+    pub(crate) fn is_deleted(&self, terminal: usize) -> bool
+        ensures { result ≡ is_deleted (plan_of self.now) terminal }
+    {
+        self.deletes.contains(&terminal)
+    }
+
+    /// Whether an input has a base.
+    #[tactic(auto, unfolding(crate::specs::Ports::is_any_at))]
+    pub(crate) fn has_base(&self, port: Port) -> bool
+        ensures { result ≡ is_any_at (λ (b : TheBase). b.port) (plan_of self.now).bases port }
+    {
+        self.bases.iter().any(|base| base.port.is_same(port))
+    }
+
+    /// How many rows an input has.
+    pub(crate) fn row_count(&self, port: Port) -> usize
+        requires { IsSwitchPort most_switches port }
+        ensures { result ≡ length (rows_of port (plan_of self.now).rows) }
+    {
+        self.rows.count(port)
+    }
+
+    /// Where the range of the next terminal begins, if its line doesn't say.
+    pub(crate) fn next_first(&self) -> u32
+        requires { (switches : ℕ) × AreTerminals switches (plan_of self.now).terminals }
+        ensures first { result ≡ next_first (plan_of self.now).terminals }
+        ensures within { result ≤ label_count }
+    {
+        match self.terminals.as_slice().last() {
+            Some(terminal) => terminal.first + terminal.count,
+            None => 0,
+        }
+    }
+}

@@ -1,0 +1,206 @@
+//! What a plan is printed as.
+ghost use Rattle.std.specs.Prelude.{◌≡◌, ◌≤◌, ◌++◌, ◌∷◌, [], length, map, IfOk, OnOk, Ok};
+ghost use Rattle.std.specs.String.{string_bytes};
+ghost use Rattle.c104_describe.specs.PlanPrint.{plan_text, port_text, select_text, sentence, switch_name, switch_words, terminal_name, text_of};
+ghost use Rattle.c104_describe.specs.PlanPrint.{terminal_words, wire_words, continue_words, delete_words, base_words, row_words};
+ghost use Rattle.c104_describe.specs.PlanText.{most_bytes, read_description};
+
+use crate::names::Name;
+use crate::plans::{Plan, Terminal};
+use crate::ports::Port;
+use c104_interval::Select;
+use c104_token::NoMemory;
+use std::alloc::{AllocError, Global};
+
+/// Prints a plan as a description: `header n` and `buffer n`, then the `switch`, `terminal`, `wire`,
+/// `continue`, `delete`, `base` and `row` lines, each kind in the order of its list. A terminal's line
+/// says how many labels its range has and where it begins.
+///
+/// Of what is printed `read_description` gives that very plan, if it has at most 1 MiB.
+#[tactic(auto, using(crate::proofs::PrintedPlans::read_back))]
+pub fn print_plan(alloc: Global, plan: &Plan) -> Result<String, NoMemory>
+    ensures text { IfOk result (λ text. string_bytes text ≡ plan_text plan.now) }
+    ensures read_back { length (plan_text plan.now) ≤ most_bytes →
+        read_description (plan_text plan.now) ≡ Ok plan.now }
+{
+    let header = plan.header();
+    let cap = plan.cap();
+    let mut text = format!(in alloc; "header {header}\nbuffer {cap}\n")?;
+    add_switches(alloc, &mut text, plan)?;
+    add_terminals(alloc, &mut text, plan)?;
+    add_wires(alloc, &mut text, plan)?;
+    add_continues(alloc, &mut text, plan)?;
+    add_deletes(alloc, &mut text, plan)?;
+    add_bases(alloc, &mut text, plan)?;
+    add_rows(alloc, &mut text, plan)?;
+    Ok(text)
+}
+
+/// The lines of the switches join the text.
+fn add_switches(alloc: Global, text: &mut String, plan: &Plan) -> Result<(), AllocError>
+    ensures { OnOk result (string_bytes text.new ≡
+        string_bytes text.old ++ text_of (map switch_words plan.now.switches)) }
+{
+    for switch in plan.switches() {
+        let name = name_text(switch);
+        let line = format!(in alloc; "switch {name}\n")?;
+        text.push_str(line.as_str())?;
+    }
+    Ok(())
+}
+
+/// The lines of the terminals join the text.
+fn add_terminals(alloc: Global, text: &mut String, plan: &Plan) -> Result<(), AllocError>
+    ensures { OnOk result (string_bytes text.new ≡
+        string_bytes text.old ++ text_of (map (terminal_words plan.now) plan.now.terminals)) }
+{
+    for terminal in plan.terminals() {
+        add_terminal(alloc, text, plan, terminal)?;
+    }
+    Ok(())
+}
+
+/// The line of a terminal joins the text.
+fn add_terminal(
+    alloc: Global,
+    text: &mut String,
+    plan: &Plan,
+    terminal: &Terminal,
+) -> Result<(), AllocError>
+    ensures { OnOk result (string_bytes text.new ≡
+        string_bytes text.old ++ (sentence (terminal_words plan.now terminal.now) ++ 0x0a ∷ [])) }
+{
+    let name = name_text(&terminal.name);
+    let port = port_text(alloc, plan, terminal.host_port())?;
+    let count = terminal.count;
+    let first = terminal.first;
+    let line = format!(in alloc; "terminal {name} {port} labels {count} from {first}\n")?;
+    text.push_str(line.as_str())
+}
+
+/// The lines of the wires join the text.
+fn add_wires(alloc: Global, text: &mut String, plan: &Plan) -> Result<(), AllocError>
+    ensures { OnOk result (string_bytes text.new ≡
+        string_bytes text.old ++ text_of (map (wire_words plan.now) plan.now.wires)) }
+{
+    for wire in plan.wires() {
+        let here = port_text(alloc, plan, wire.here)?;
+        let there = port_text(alloc, plan, wire.there)?;
+        let line = format!(in alloc; "wire {here} {there}\n")?;
+        text.push_str(line.as_str())?;
+    }
+    Ok(())
+}
+
+/// The lines of the continues join the text.
+fn add_continues(alloc: Global, text: &mut String, plan: &Plan) -> Result<(), AllocError>
+    ensures { OnOk result (string_bytes text.new ≡
+        string_bytes text.old ++ text_of (map (continue_words plan.now) plan.now.continues)) }
+{
+    for port in plan.continues() {
+        let port = port_text(alloc, plan, *port)?;
+        let line = format!(in alloc; "continue {port}\n")?;
+        text.push_str(line.as_str())?;
+    }
+    Ok(())
+}
+
+/// The lines of the deletes join the text.
+fn add_deletes(alloc: Global, text: &mut String, plan: &Plan) -> Result<(), AllocError>
+    ensures { OnOk result (string_bytes text.new ≡
+        string_bytes text.old ++ text_of (map (delete_words plan.now) plan.now.deletes)) }
+{
+    for terminal in plan.deletes() {
+        let name = terminal_name(plan, *terminal);
+        let line = format!(in alloc; "delete {name}\n")?;
+        text.push_str(line.as_str())?;
+    }
+    Ok(())
+}
+
+/// The lines of the bases join the text.
+fn add_bases(alloc: Global, text: &mut String, plan: &Plan) -> Result<(), AllocError>
+    ensures { OnOk result (string_bytes text.new ≡
+        string_bytes text.old ++ text_of (map (base_words plan.now) plan.now.bases)) }
+{
+    for base in plan.bases() {
+        let port = port_text(alloc, plan, base.port)?;
+        let first = base.base;
+        let line = format!(in alloc; "base {port} {first}\n")?;
+        text.push_str(line.as_str())?;
+    }
+    Ok(())
+}
+
+/// The lines of the rows join the text.
+fn add_rows(alloc: Global, text: &mut String, plan: &Plan) -> Result<(), AllocError>
+    ensures { OnOk result (string_bytes text.new ≡
+        string_bytes text.old ++ text_of (map (row_words plan.now) plan.now.rows)) }
+{
+    for row in plan.rows() {
+        let port = port_text(alloc, plan, row.port)?;
+        let limit = row.limit;
+        let select = select_text(alloc, row.select)?;
+        let line = format!(in alloc; "row {port} {limit} {select}\n")?;
+        text.push_str(line.as_str())?;
+    }
+    Ok(())
+}
+
+/// A port as a line names it.
+fn port_text(alloc: Global, plan: &Plan, port: Port) -> Result<String, AllocError>
+    ensures { IfOk result (λ text. string_bytes text ≡ port_text plan.now port) }
+{
+    match port {
+        Port::Switch(switch, link) => {
+            let name = switch_name(plan, switch);
+            format!(in alloc; "{name}.{link}")
+        }
+        Port::Terminal(terminal) => {
+            let name = terminal_name(plan, terminal);
+            format!(in alloc; "{name}")
+        }
+    }
+}
+
+/// What a row selects.
+fn select_text(alloc: Global, select: Select) -> Result<String, AllocError>
+    ensures { IfOk result (λ text. string_bytes text ≡ select_text select) }
+{
+    match select {
+        Select::Link(link) => format!(in alloc; "{link}"),
+        Select::Discard => format!(in alloc; "discard"),
+        Select::Sink => format!(in alloc; "sink"),
+    }
+}
+
+/// The name of a switch; where there is none, nothing.
+fn switch_name(plan: &Plan, number: usize) -> &str
+    ensures { result.now ≡ switch_name plan.now number }
+{
+    match plan.switches().get(number) {
+        Some(name) => name_text(name),
+        None => "",
+    }
+}
+
+/// The name of a terminal; where there is none, nothing.
+fn terminal_name(plan: &Plan, number: usize) -> &str
+    ensures { result.now ≡ terminal_name plan.now number }
+{
+    match plan.terminals().get(number) {
+        Some(terminal) => name_text(&terminal.name),
+        None => "",
+    }
+}
+
+/// A name as text.
+#[tactic(auto, using(crate::proofs::NameText::utf8_name))]
+fn name_text(name: &Name) -> &str
+    ensures { result.now ≡ name.now }
+{
+    match str::from_utf8(name.as_bytes()) {
+        Ok(text) => text,
+        Err(_) => unreachable!(),
+    }
+}

@@ -1,0 +1,98 @@
+//! The terminals of a plan.
+ghost use Rattle.std.specs.Prelude.{◌≡◌, ◌<◌, [], ◌∷◌, ◌++◌, false, bytes_eq, length, position, IfOk, IfSome, OnErr, OnOk};
+ghost use Rattle.std.specs.List.{list_any};
+ghost use Rattle.c104_describe.specs.Plans.{Terminal as TheTerminal};
+
+use crate::name_index::NameIndex;
+use crate::plans::Terminal;
+use std::alloc::{AllocError, Global};
+use std::fmt::{self, Debug, Formatter, Write};
+use std::marker::Model;
+
+/// Terminals, by number, and found by name.
+#[derive(Drop)]
+pub(crate) struct TerminalList {
+    list: Vec<Terminal>,
+    names: NameIndex,
+}
+
+impl Model for TerminalList {
+    ghost use Rattle.std.specs.Prelude.{◌≡◌, List, map};
+    ghost use Rattle.c104_describe.specs.Plans.{Terminal as TheTerminal};
+
+    ghost Value = { List TheTerminal };
+
+    ghost view = { λ terminals. terminals.list.items };
+
+    ghost invariant = { λ terminals.
+        terminals.names ≡ map (λ (t : TheTerminal). t.name) terminals.list.items };
+}
+
+impl Debug for TerminalList {
+    fn fmt<W: Write>(&self, f: &mut Formatter<W>) -> Result<(), fmt::Error> {
+        self.list.fmt(f)
+    }
+}
+
+impl TerminalList {
+    /// No terminal yet.
+    pub(crate) fn new(alloc: Global) -> Self
+        ensures { result ≡ [] }
+    {
+        TerminalList {
+            list: Vec::new(alloc),
+            names: NameIndex::new(alloc),
+        }
+    }
+
+    /// One more terminal, of a name that none has.
+    pub(crate) fn push(&mut self, alloc: Global, terminal: Terminal) -> Result<(), AllocError>
+        requires { list_any (λ (t : TheTerminal). bytes_eq t.name terminal.name) self.old ≡ false }
+        ensures terminals { OnOk result (self.new ≡ self.old ++ terminal ∷ []) }
+        ensures unchanged { OnErr result (self.new ≡ self.old) }
+    {
+        self.list.reserve(1)?;
+        self.names.insert(alloc, terminal.name.as_bytes())?;
+        self.list.push_reserved(terminal);
+        Ok(())
+    }
+
+    /// The terminals, by number.
+    pub(crate) fn as_slice(&self) -> &[Terminal]
+        ensures { result.now ≡ self.now }
+    {
+        self.list.as_slice()
+    }
+
+    /// How many terminals there are.
+    pub(crate) fn len(&self) -> usize
+        ensures { result ≡ length self.now }
+    {
+        self.list.len()
+    }
+
+    /// The number of the terminal of this name.
+    pub(crate) fn number_of(&self, name: &[u8]) -> Option<usize>
+        ensures number { result ≡
+            position (λ (t : TheTerminal). bytes_eq t.name name.now) self.now }
+        ensures inside { IfSome result (λ number. number < length self.now) }
+    {
+        self.names.number_of(name)
+    }
+
+    /// Whether a terminal has this name.
+    pub(crate) fn has(&self, name: &[u8]) -> bool
+        ensures { result ≡ list_any (λ (t : TheTerminal). bytes_eq t.name name.now) self.now }
+    {
+        self.names.has(name)
+    }
+
+    /// A copy of the terminals.
+    pub(crate) fn copy(&self) -> Result<Self, AllocError>
+        ensures { IfOk result (λ copy. copy ≡ self.now) }
+    {
+        let list = self.list.clone()?;
+        let names = self.names.copy()?;
+        Ok(TerminalList { list, names })
+    }
+}
