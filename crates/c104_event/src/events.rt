@@ -1,17 +1,8 @@
 //! What can happen in a network, and where.
 
 use c104_control::ControlBytes;
+use c104_describe::Port;
 use c104_token::Packet;
-
-/// One end of a wire. Switches and terminals are numbered from 0 in the order of the plan, links
-/// from 0 to 31.
-#[derive(Clone, Copy, Debug, PartialEq, Eq)]
-pub enum Port {
-    /// A switch's link.
-    Switch(usize, usize),
-    /// A terminal's only link.
-    Terminal(usize),
-}
 
 /// What can happen in a network.
 #[derive(Debug, Drop)]

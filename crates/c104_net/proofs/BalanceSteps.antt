@@ -3,12 +3,13 @@ use Rattle.std.proofs.Common.{◌≡◌, ◌≢◌, ℕ, Bool, inl, inr, List, O
 use Rattle.std.specs.Option.{option_map}
 use Rattle.c104_link.specs.Steps.{step_at, yield_step_at, bool_outcome, option_outcome}
 use Rattle.c104_link.proofs.MadeSteps.{given, at_place_made, from_place_made, holds_tried, holds_taken}
-use Rattle.c104_event.specs.declared.events.Port.{Port}
+use Rattle.c104_describe.specs.declared.ports.Port.{Port}
 use Rattle.c104_net.specs.declared.nodes.End.{End}
 use Rattle.c104_describe.specs.Plans.{Plan, IsPlan}
 use Rattle.c104_net.specs.Nodes.{Node, node_enter, node_leave, node_credit_out, node_credit_in}
 use Rattle.c104_net.specs.Wires.{nodes_cross, nodes_credit}
-use Rattle.c104_net.specs.Wiring.{peer, end_of}
+use Rattle.c104_describe.specs.Wiring.{peer}
+use Rattle.c104_net.specs.Ends.{end_of}
 use Rattle.c104_net.specs.Network.{Network}
 use Rattle.c104_net.specs.Balance.{credit_of, granted_of, AreLevel, IsSteady}
 use Rattle.c104_net.proofs.BalanceWires.{port_cases, peer_back, peer_one, ends_apart}

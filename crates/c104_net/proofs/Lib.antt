@@ -4,6 +4,7 @@ pub mod Running
 pub mod RoundLists
 pub mod RoundRuns
 pub mod RoundsTaken
+pub mod PlanBuffers
 pub mod BalanceWires
 pub mod BalancePlaces
 pub mod BalanceTurns

@@ -5,14 +5,15 @@ use Rattle.c104_token.specs.Kinds.{Kind}
 use Rattle.c104_switch.specs.declared.actions.Reply.{Reply}
 use Rattle.c104_switch.specs.declared.actions.Reply.TheVariants as reply
 use Rattle.c104_link.specs.Steps.{◌>>=◌, step_at, yield_step_at}
-use Rattle.c104_event.specs.declared.events.Port.{Port}
+use Rattle.c104_describe.specs.declared.ports.Port.{Port}
 use Rattle.c104_event.specs.declared.events.Event.{Event}
 use Rattle.c104_event.specs.declared.events.Event.TheVariants as event
 use Rattle.c104_event.specs.declared.faults.EventFault.{EventFault}
 use Rattle.c104_event.specs.declared.faults.EventFault.TheVariants as fault
 use Rattle.c104_net.specs.Nodes.{Node, node_input, node_claim, node_control, node_send, node_drain}
 use Rattle.c104_net.specs.Wires.{nodes_cross, nodes_credit}
-use Rattle.c104_net.specs.Wiring.{peer, end_of}
+use Rattle.c104_describe.specs.Wiring.{peer}
+use Rattle.c104_net.specs.Ends.{end_of}
 use Rattle.c104_net.specs.Network.{AnswersEvent, Network, WouldBeDone, network_apply, done_step, event_fault, outcome_if_ready, outcome_if_possible, limit_fault, limited_node, token_step, control_step, network_step, terminal_place, outcome_within_limit}
 use Rattle.c104_net.specs.Rounds.{Outcome, EventsEnd, run_until, unless_fault}
 use Rattle.c104_switch.specs.Actions.{is_ready}

@@ -3,11 +3,12 @@
 use Rattle.std.specs.Prelude.{ℕ, ◌≡◌, ◌++◌, Bool, true, false, List, Option, Some, length, map, replicate, slice_get}
 use Rattle.c104_link.specs.Steps.{◌>>=◌}
 use Rattle.c104_net.specs.declared.node.NodeOf.TheVariants.{Switch, Terminal}
-use Rattle.c104_event.specs.declared.events.Port.{Port}
+use Rattle.c104_describe.specs.declared.ports.Port.{Port}
 use Rattle.c104_net.specs.declared.nodes.End.{End}
 use Rattle.c104_net.specs.Nodes.{Node}
 use Rattle.c104_describe.specs.Plans.{Plan}
-use Rattle.c104_net.specs.Wiring.{peer, end_of}
+use Rattle.c104_describe.specs.Wiring.{peer}
+use Rattle.c104_net.specs.Ends.{end_of}
 use Rattle.c104_net.specs.Network.{Network}
 
 -- how many tokens a node may send over a link

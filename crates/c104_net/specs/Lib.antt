@@ -1,7 +1,7 @@
 pub mod Terminals
 pub mod Nodes
 pub mod Wires
-pub mod Wiring
+pub mod Ends
 pub mod Network
 pub mod Balance
 pub mod Finished

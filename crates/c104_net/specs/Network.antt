@@ -13,15 +13,16 @@ use Rattle.c104_describe.specs.Plans.{Plan}
 use Rattle.c104_describe.specs.PlanImage.{Image}
 use Rattle.c104_net.specs.Terminals.{new_terminal}
 use Rattle.c104_net.specs.declared.node.NodeOf.TheVariants as node
-use Rattle.c104_event.specs.declared.events.Port.{Port}
-use Rattle.c104_event.specs.declared.events.Port.TheVariants as port
+use Rattle.c104_describe.specs.declared.ports.Port.{Port}
+use Rattle.c104_describe.specs.declared.ports.Port.TheVariants as port
 use Rattle.c104_event.specs.declared.events.Event.{Event}
 use Rattle.c104_event.specs.declared.events.Event.TheVariants as event
 use Rattle.c104_event.specs.declared.faults.EventFault.{EventFault}
 use Rattle.c104_event.specs.declared.faults.EventFault.TheVariants as fault
 use Rattle.c104_net.specs.Nodes.{Node, node_input, node_claim, node_control, node_send, node_drain, waiting_tokens, arrived_tokens, nodes_arrived, nodes_peek}
 use Rattle.c104_net.specs.Wires.{nodes_cross, nodes_credit}
-use Rattle.c104_net.specs.Wiring.{peer, end_of}
+use Rattle.c104_describe.specs.Wiring.{peer}
+use Rattle.c104_net.specs.Ends.{end_of}
 
 -- a network: its plan, and the state of its nodes
 pub record Network (A : Type 0) : Type 0 where
@@ -57,36 +58,31 @@ outbox_limit = 65536
 abbrev pub inbox_limit : ℕ
 inbox_limit = 262144
 
--- the buffer size of all switches and terminals
-abbrev pub buffer_size : ℕ
-buffer_size = 16
+-- switches at first, with buffers of this size, each started with these settings
+abbrev pub switch_nodes : {A : Type 0} → ℕ → List (List Settings) → List (Node A)
+switch_nodes cap switches = map (λ settings. node.Switch (new_switch_with cap settings true)) switches
 
--- switches at first, each started with these settings
-abbrev pub switch_nodes : {A : Type 0} → List (List Settings) → List (Node A)
-switch_nodes switches =
-    map (λ settings. node.Switch (new_switch_with buffer_size settings true)) switches
+-- terminals at first, with buffers of this size, one for each of these of a plan
+abbrev pub terminal_nodes : {A : Type 0} → ℕ → List Terminal → List (Node A)
+terminal_nodes cap terminals = map (λ (t : Terminal). node.Terminal (new_terminal cap)) terminals
 
--- terminals at first, one for each of these of a plan
-abbrev pub terminal_nodes : {A : Type 0} → List Terminal → List (Node A)
-terminal_nodes terminals =
-    map (λ (t : Terminal). node.Terminal (new_terminal buffer_size)) terminals
+-- switches at first, with buffers of this size: each is reset, and not started
+abbrev pub new_switch_nodes : {A : Type 0} → ℕ → List (List ℕ) → List (Node A)
+new_switch_nodes cap names = map (λ name. node.Switch (new_switch cap)) names
 
--- switches at first: each is reset, and not started
-abbrev pub new_switch_nodes : {A : Type 0} → List (List ℕ) → List (Node A)
-new_switch_nodes names = map (λ name. node.Switch (new_switch buffer_size)) names
-
--- a new network: no switch is started, and nothing is anywhere
+-- a new network: no switch is started, and nothing is anywhere. All buffers have the plan's size.
 abbrev pub new_network : {A : Type 0} → Plan → Network A
 new_network plan = record {
   plan = plan;
-  nodes = new_switch_nodes plan.switches ++ terminal_nodes plan.terminals;
+  nodes = new_switch_nodes plan.cap plan.switches ++ terminal_nodes plan.cap plan.terminals;
 }
 
--- a network at first: each switch started with the image's settings, and nothing anywhere
+-- a network at first: each switch started with the image's settings, and nothing anywhere. All buffers
+-- have the plan's size.
 abbrev pub placed_network : {A : Type 0} → Plan → Image → Network A
 placed_network plan image = record {
   plan = plan;
-  nodes = switch_nodes image.settings ++ terminal_nodes plan.terminals;
+  nodes = switch_nodes plan.cap image.settings ++ terminal_nodes plan.cap plan.terminals;
 }
 
 -- no such node, where n isn't below count; and else the other fault, if there is one

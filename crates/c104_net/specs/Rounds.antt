@@ -5,13 +5,13 @@ use Rattle.std.specs.List.{range_with_len, flat_map}
 use Rattle.c104_regs.specs.declared.registers.TheConstants.{LINKS}
 use Rattle.c104_token.specs.Kinds.{Kind}
 use Rattle.c104_describe.specs.Plans.{Plan}
-use Rattle.c104_event.specs.declared.events.Port.{Port}
-use Rattle.c104_event.specs.declared.events.Port.TheVariants as port
+use Rattle.c104_describe.specs.declared.ports.Port.{Port}
+use Rattle.c104_describe.specs.declared.ports.Port.TheVariants as port
 use Rattle.c104_event.specs.declared.events.Event.{Event}
 use Rattle.c104_event.specs.declared.events.Event.TheVariants as event
 use Rattle.c104_event.specs.declared.faults.EventFault.{EventFault}
 use Rattle.c104_event.specs.declared.faults.EventFault.TheVariants as fault
-use Rattle.c104_net.specs.Wiring.{peer}
+use Rattle.c104_describe.specs.Wiring.{peer}
 use Rattle.c104_net.specs.Network.{Network, WouldBeDone, network_apply}
 
 -- the numbers of a switch's links

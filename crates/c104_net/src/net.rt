@@ -1,9 +1,10 @@
 //! A network of switches and terminals.
 ghost use Rattle.std.specs.Prelude.{◌≡◌, ◌≤◌, ℕ, length, slice_get, option_map, Some, None};
-ghost use Rattle.std.specs.Prelude.{MatchResult, IfOk, OnOk, OnErr, IsErrOf, IfSome};
+ghost use Rattle.std.specs.Prelude.{MatchResult, IfOk, OnOk, OnErr, IsErrOf};
 ghost use Rattle.std.specs.Option.{option_copied};
 ghost use Rattle.c104_describe.specs.Plans.{IsPlan};
-ghost use Rattle.c104_net.specs.Wiring.{peer, end_of, other_end, terminal_wires, IsInPlan};
+ghost use Rattle.c104_describe.specs.Wiring.{IsPlanPort, peer};
+ghost use Rattle.c104_net.specs.Ends.{end_of};
 ghost use Rattle.c104_event.specs.declared.events.Event.TheVariants as event;
 ghost use Rattle.c104_switch.specs.Actions.{done_reply, token_reply};
 ghost use Rattle.c104_describe.specs.PlanImage.{Fits};
@@ -18,7 +19,7 @@ use crate::placing::{place, place_new, retire_all};
 use crate::run::RunOf;
 use crate::terminal::TerminalOf;
 use c104_control::ControlBytes;
-use c104_describe::{Image, Plan, Terminal};
+use c104_describe::{Image, Plan};
 use c104_event::{Event, EventFault, Port};
 use c104_switch::{LINKS, Reply};
 use c104_token::{MAX_PACKET_BYTES, NoMemory, Packet, Token, TokenKind};
@@ -354,7 +355,7 @@ fn wired_ends(plan: &Plan, port: Port) -> Result<Ends, EventFault>
         }
         _ => (),
     }
-    let Some(other) = peer(plan, port) else {
+    let Some(other) = plan.peer(port) else {
         return Err(EventFault::NotWired);
     };
     Ok(Ends {
@@ -363,35 +364,9 @@ fn wired_ends(plan: &Plan, port: Port) -> Result<Ends, EventFault>
     })
 }
 
-/// The port that a port is wired to. None where it has no wire.
-pub fn peer(plan: &Plan, port: Port) -> Option<Port>
-    ensures value { result ≡ peer plan.now port }
-    ensures kept { IsPlan plan.now }
-    ensures inside { IfSome result (IsInPlan plan.now.terminals) }
-{
-    peer_among(plan.terminals(), port)
-}
-
-/// The other end of the first wire of a terminal that has this port.
-fn peer_among(terminals: &[Terminal], port: Port) -> Option<Port>
-    ensures value { result ≡ other_end (terminal_wires 0 terminals.now) port }
-    ensures inside { IfSome result (IsInPlan terminals.now) }
-{
-    for (number, terminal) in terminals.iter().enumerate() {
-        let own = Port::Switch(terminal.switch, terminal.link);
-        if port == Port::Terminal(number) {
-            return Some(own);
-        }
-        if port == own {
-            return Some(Port::Terminal(number));
-        }
-    }
-    None
-}
-
 /// Where a port is among the nodes.
 fn end_of(plan: &Plan, port: Port) -> End
-    requires { IsInPlan plan.now.terminals port }
+    requires { IsPlanPort plan.now port }
     ensures { result ≡ end_of plan.now port }
 {
     let terminals = plan.terminals().len();

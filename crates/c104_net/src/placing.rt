@@ -1,18 +1,13 @@
 //! The nodes of a network at first.
-ghost use Rattle.std.specs.Prelude.{◌≡◌, ◌++◌, [], length, All, OnOk};
+ghost use Rattle.std.specs.Prelude.{◌≡◌, ◌++◌, [], OnOk};
 ghost use Rattle.c104_net.specs.Network.{new_network, new_switch_nodes, placed_network, switch_nodes, terminal_nodes};
-ghost use Rattle.c104_describe.specs.PlanImage.{AreSettings};
 
 use crate::node::NodeOf;
 use crate::terminal::TerminalOf;
-use c104_describe::{Image, Name, Plan, Terminal};
-use c104_regs::Settings;
+use c104_describe::{Image, Plan};
 use c104_switch::SwitchOf;
-use c104_token::{Items, NoMemory, TokenKind};
+use c104_token::{NoMemory, TokenKind};
 use std::alloc::Global;
-
-/// How many tokens each input buffer has room for.
-const BUFFER_SIZE: usize = 16;
 
 /// The nodes of a network of this plan join an empty list: the switches, each started with the
 /// image's settings, and then the terminals. The only error is out of memory.
@@ -25,8 +20,8 @@ pub fn place<T: TokenKind>(
     requires { list.old.items ≡ [] }
     ensures { OnOk result (list.new.items ≡ (placed_network plan.now image.now).nodes) }
 {
-    add_switches(alloc, image.all_settings(), list)?;
-    add_terminals(alloc, plan.terminals(), list)
+    add_switches(alloc, plan, image, list)?;
+    add_terminals(alloc, plan, list)
 }
 
 /// The nodes of a new network of this plan join an empty list: the switches, reset and not started,
@@ -39,56 +34,63 @@ pub fn place_new<T: TokenKind>(
     requires { list.old.items ≡ [] }
     ensures { OnOk result (list.new.items ≡ (new_network plan.now).nodes) }
 {
-    add_new_switches(alloc, plan.switches(), list)?;
-    add_terminals(alloc, plan.terminals(), list)
+    add_new_switches(alloc, plan, list)?;
+    add_terminals(alloc, plan, list)
 }
 
-/// A new switch for each of these names joins an empty list.
+/// A new switch for each of a plan joins an empty list.
+#[tactic(auto, using(crate::proofs::PlanBuffers::valid_cap))]
 fn add_new_switches<T: TokenKind>(
     alloc: Global,
-    names: &[Name],
+    plan: &Plan,
     list: &mut Vec<NodeOf<T>>,
 ) -> Result<(), NoMemory>
     requires { list.old.items ≡ [] }
-    ensures { OnOk result (list.new.items ≡ new_switch_nodes names.now) }
+    ensures { OnOk result (list.new.items ≡ new_switch_nodes plan.now.cap plan.now.switches) }
 {
-    for _name in names {
+    let cap = plan.cap();
+    for _name in plan.switches() {
         list.reserve(1)?;
-        let switch = SwitchOf::new(alloc, BUFFER_SIZE)?;
+        let switch = SwitchOf::new(alloc, cap)?;
         list.push_reserved(NodeOf::Switch(switch));
     }
     Ok(())
 }
 
-/// Switches join an empty list, each started with these settings at its links.
+/// Switches join an empty list, each started with an image's settings at its links.
+#[tactic(auto, using(crate::proofs::PlanBuffers::valid_cap))]
 fn add_switches<T: TokenKind>(
     alloc: Global,
-    switches: &[Items<Settings>],
+    plan: &Plan,
+    image: &Image,
     list: &mut Vec<NodeOf<T>>,
 ) -> Result<(), NoMemory>
-    requires empty { list.old.items ≡ [] }
-    requires settings { All AreSettings switches.now }
-    ensures { OnOk result (list.new.items ≡ switch_nodes switches.now) }
+    requires { list.old.items ≡ [] }
+    ensures { OnOk result (list.new.items ≡ switch_nodes plan.now.cap image.now.settings) }
 {
-    for settings in switches {
+    let cap = plan.cap();
+    for settings in image.all_settings() {
         list.reserve(1)?;
-        let switch = SwitchOf::placed(alloc, BUFFER_SIZE, settings.as_slice())?;
+        let switch = SwitchOf::placed(alloc, cap, settings.as_slice())?;
         list.push_reserved(NodeOf::Switch(switch));
     }
     Ok(())
 }
 
-/// Terminals join a list.
+/// The terminals of a plan join a list.
+#[tactic(auto, using(crate::proofs::PlanBuffers::valid_cap))]
 fn add_terminals<T: TokenKind>(
     alloc: Global,
-    terminals: &[Terminal],
+    plan: &Plan,
     list: &mut Vec<NodeOf<T>>,
 ) -> Result<(), NoMemory>
-    ensures { OnOk result (list.new.items ≡ list.old.items ++ terminal_nodes terminals.now) }
+    ensures { OnOk result
+        (list.new.items ≡ list.old.items ++ terminal_nodes plan.now.cap plan.now.terminals) }
 {
-    for _terminal in terminals {
+    let cap = plan.cap();
+    for _terminal in plan.terminals() {
         list.reserve(1)?;
-        let terminal = TerminalOf::new(alloc, BUFFER_SIZE)?;
+        let terminal = TerminalOf::new(alloc, cap)?;
         list.push_reserved(NodeOf::Terminal(terminal));
     }
     Ok(())

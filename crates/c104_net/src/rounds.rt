@@ -5,7 +5,7 @@ ghost use Rattle.c104_net.specs.Rounds.{turn_at, wired_links, wired_ports, wired
 ghost use Rattle.c104_switch.specs.Actions.{is_ready};
 ghost use Rattle.c104_event.specs.declared.events.Event.TheVariants as event;
 
-use crate::net::{NetOf, peer};
+use crate::net::NetOf;
 use c104_describe::Plan;
 use c104_event::{Event, EventFault, Port};
 use c104_switch::{LINKS, Reply};
@@ -116,7 +116,7 @@ fn add_if_wired(ports: &mut Vec<Port>, plan: &Plan, port: Port) -> Result<(), No
     ensures { OnOk result
         (ports.new.items ≡ ports.old.items ++ filter (is_wired plan.now) (port ∷ [])) }
 {
-    if peer(plan, port).is_some() {
+    if plan.peer(port).is_some() {
         ports.push(port)?;
     }
     Ok(())

@@ -9,8 +9,8 @@ use Rattle.c104_token.specs.declared.packets.Packet.{Packet}
 use Rattle.c104_control.specs.declared.bytes.TheConstants.{MAX_CONTROL_BYTES}
 use Rattle.c104_describe.specs.declared.text.Dots.{Dots}
 use Rattle.c104_describe.specs.declared.text.Dots.TheVariants.{Without, At, Several}
-use Rattle.c104_event.specs.declared.events.Port.{Port}
-use Rattle.c104_event.specs.declared.events.Port.TheVariants as port
+use Rattle.c104_describe.specs.declared.ports.Port.{Port}
+use Rattle.c104_describe.specs.declared.ports.Port.TheVariants as port
 use Rattle.c104_event.specs.declared.events.Event.{Event}
 use Rattle.c104_event.specs.declared.events.Event.TheVariants as event
 use Rattle.c104_event.specs.declared.faults.EventFault.{EventFault}

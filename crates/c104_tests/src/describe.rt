@@ -1,4 +1,4 @@
-use c104_describe::{hand_image, read_description};
+use c104_describe::{hand_image, print_plan, read_description};
 use std::test::Fail;
 
 /// Labels run on from terminal to terminal.
@@ -9,5 +9,19 @@ fn ranges(rt: HostRuntime) -> Result<(), Fail> {
     for (terminal, range) in [(0, Some((0, 1))), (1, Some((1, 1))), (2, None)] {
         assert!(rt; image.range(terminal) == range, "at {terminal}");
     }
+    Ok(())
+}
+
+/// A plan is printed kind by kind, and each terminal with its labels.
+#[test]
+fn printed(rt: HostRuntime) -> Result<(), Fail> {
+    let text = b"switch A\nterminal a A.0\nterminal b A.1\n\
+        row A.0 1 0\nrow A.0 2 1\nrow A.1 1 0\nrow A.1 2 1\n";
+    let plan = read_description(rt.alloc(), text)?;
+    let printed = print_plan(rt.alloc(), &plan)?;
+    let expected = "header 1\nbuffer 16\nswitch A\n\
+        terminal a A.0 labels 1 from 0\nterminal b A.1 labels 1 from 1\n\
+        row A.0 1 0\nrow A.0 2 1\nrow A.1 1 0\nrow A.1 2 1\n";
+    assert!(rt; printed.as_str() == expected, "{printed}");
     Ok(())
 }

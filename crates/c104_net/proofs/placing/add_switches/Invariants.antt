@@ -4,4 +4,4 @@ use Rattle.c104_net.proofs.placing.add_switches.Given as goal
 
 -- the switches so far are made
 abbrev pub invariant-loop-settings : goal.invariant-loop-settings
-invariant-loop-settings g l = l.list.items ≡ switch_nodes (take l.settings-index l.switches)
+invariant-loop-settings g l = l.list.items ≡ switch_nodes l.cap (take l.settings-index l.settings-items)

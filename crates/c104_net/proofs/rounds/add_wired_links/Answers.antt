@@ -1,5 +1,5 @@
 use Rattle.std.proofs.Common.{◌++◌, ◌∙◌, filter, map, ap, arith}
-use Rattle.c104_event.specs.declared.events.Port.TheVariants as port
+use Rattle.c104_describe.specs.declared.ports.Port.TheVariants as port
 use Rattle.c104_net.specs.Rounds.{is_wired}
 use Rattle.c104_net.proofs.RoundLists.{filter_next, links_passed}
 use Rattle.c104_net.proofs.rounds.add_wired_links.Goals as goal

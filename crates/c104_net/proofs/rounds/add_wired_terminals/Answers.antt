@@ -1,4 +1,4 @@
-use Rattle.c104_event.specs.declared.events.Port.TheVariants as port
+use Rattle.c104_describe.specs.declared.ports.Port.TheVariants as port
 use Rattle.c104_net.specs.Rounds.{is_wired}
 use Rattle.c104_net.proofs.RoundLists.{filter_next}
 use Rattle.c104_net.proofs.rounds.add_wired_terminals.Goals as goal

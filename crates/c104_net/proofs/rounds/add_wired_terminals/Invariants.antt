@@ -1,6 +1,6 @@
 use Rattle.std.proofs.Common.{◌≡◌, ◌++◌, map, filter}
 use Rattle.std.specs.List.{range_with_len}
-use Rattle.c104_event.specs.declared.events.Port.TheVariants as port
+use Rattle.c104_describe.specs.declared.ports.Port.TheVariants as port
 use Rattle.c104_net.specs.Rounds.{is_wired}
 use Rattle.c104_net.proofs.rounds.add_wired_terminals.Given as goal
 

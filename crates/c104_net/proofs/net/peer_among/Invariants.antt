@@ -1,7 +1,0 @@
-use Rattle.std.proofs.Common.{◌≡◌, drop}
-use Rattle.c104_net.specs.Wiring.{other_end, terminal_wires}
-use Rattle.c104_net.proofs.net.peer_among.Given as goal
-
--- none of the terminals so far has a wire to the port
-abbrev pub invariant-loop-number : goal.invariant-loop-number
-invariant-loop-number l = other_end (terminal_wires l.number (drop l.number l.terminals)) l.port ≡ other_end (terminal_wires 0 l.terminals) l.port

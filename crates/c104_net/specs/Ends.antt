@@ -1,0 +1,11 @@
+-- The ends of wires: where a port is among the nodes of a network.
+use Rattle.std.specs.Prelude.{◌+◌, length}
+use Rattle.c104_describe.specs.declared.ports.Port.TheVariants as port
+use Rattle.c104_describe.specs.declared.ports.Port.{Port}
+use Rattle.c104_describe.specs.Plans.{Plan}
+use Rattle.c104_net.specs.declared.nodes.End.{End}
+
+-- where a port is among the nodes: the switches stand first, then the terminals
+abbrev pub end_of : Plan → Port → End
+end_of plan (port.Switch s l) = record { node = s; link = l }
+end_of plan (port.Terminal t) = record { node = length plan.switches + t; link = 0 }
