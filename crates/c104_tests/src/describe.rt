@@ -1,4 +1,5 @@
 use c104_describe::{hand_image, print_plan, read_description};
+use std::alloc::Global;
 use std::test::Fail;
 
 /// Labels run on from terminal to terminal.
@@ -12,13 +13,20 @@ fn ranges(rt: HostRuntime) -> Result<(), Fail> {
     Ok(())
 }
 
+/// What is printed of the plan that a description gives. The text comes as an argument, since the
+/// prover would compute with a literal.
+fn printed(alloc: Global, text: &[u8]) -> Result<String, Fail> {
+    let plan = read_description(alloc, text)?;
+    let printed = print_plan(alloc, &plan)?;
+    Ok(printed)
+}
+
 /// A plan is printed kind by kind, and each terminal with its labels.
 #[test]
-fn printed(rt: HostRuntime) -> Result<(), Fail> {
+fn prints(rt: HostRuntime) -> Result<(), Fail> {
     let text = b"switch A\nterminal a A.0\nterminal b A.1\n\
         row A.0 1 0\nrow A.0 2 1\nrow A.1 1 0\nrow A.1 2 1\n";
-    let plan = read_description(rt.alloc(), text)?;
-    let printed = print_plan(rt.alloc(), &plan)?;
+    let printed = printed(rt.alloc(), text)?;
     let expected = "header 1\nbuffer 16\nswitch A\n\
         terminal a A.0 labels 1 from 0\nterminal b A.1 labels 1 from 1\n\
         row A.0 1 0\nrow A.0 2 1\nrow A.1 1 0\nrow A.1 2 1\n";
