@@ -10,6 +10,14 @@ use std::test::Fail;
 /// The terminals `a` on link 0 and `b` on link 1. A new network has no rows, whatever is said here.
 const PLAN: &[u8] = b"switch A\nterminal a A.0\nterminal b A.1\n";
 
+/// A new network of a description. The text comes as an argument, since the prover would compute with a
+/// literal.
+fn network(alloc: Global, text: &[u8]) -> Result<Net, Fail> {
+    let plan = read_description(alloc, text)?;
+    let net = Net::new(alloc, &plan)?;
+    Ok(net)
+}
+
 /// A command to the only switch.
 fn command(bytes: ControlBytes) -> Event {
     Event::Control { switch: 0, bytes }
@@ -19,8 +27,7 @@ fn command(bytes: ControlBytes) -> Event {
 /// packet goes from one terminal to the other.
 #[test]
 fn new_network(rt: HostRuntime) -> Result<(), Fail> {
-    let plan = read_description(rt.alloc(), PLAN)?;
-    let mut net = Net::new(rt.alloc(), &plan)?;
+    let mut net = network(rt.alloc(), PLAN)?;
     let result = start(&rt, rt.alloc(), &mut net);
     let run = net.finish();
     result?;
