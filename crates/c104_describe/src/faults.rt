@@ -38,10 +38,12 @@ pub enum PlanFaultKind {
     /// The link has a terminal or a wire.
     #[error("the link has a terminal or a wire")]
     LinkTaken = 9,
-    /// There are as many switches, terminals or rows of an input as there may be.
+    /// There are as many switches, terminals or rows of an input as there may be, or a terminal's
+    /// labels end past 65535.
     #[error("there are as many as there may be")]
     TooMany = 10,
-    /// A link continues a group, or headers are deleted on the way to a terminal, a second time.
+    /// The header length or the buffer size, that a link continues a group, the base of an input, or
+    /// that headers are deleted on the way to a terminal, is said a second time.
     #[error("this may be said once")]
     Twice = 11,
     /// The line does not go with the way in which the lines before describe the network.

@@ -1,13 +1,14 @@
 //! Descriptions of networks: the plan that one gives, and the image that the plan's own lines give.
 //!
 //! `read_description` alone makes a `Plan`: names differ, each port is a link of one of the plan's
-//! switches and no link has two terminals, nothing is said twice, and each number is in its range.
+//! switches, no link has two terminals or wires, no wire joins a switch to itself, nothing is said
+//! twice, and each number is in its range. `Plan::peer` tells which `Port` is wired to which.
 //! A `Name` is a letter and then letters, digits, `_` and `-`, at most 32 bytes. A `PlanFault` is
 //! the first faulty line and the least of its faults, of kind `PlanFaultKind`.
 //!
 //! An `Image` holds the labels of each terminal, and for each switch what is set at its 32 links,
-//! within the ranges of the registers. `hand_image` gives that of the plan's own `row`, `continue`
-//! and `delete` lines, which fits the plan.
+//! within the ranges of the registers. `hand_image` gives that of the plan's own `base`, `row`,
+//! `continue` and `delete` lines, which fits the plan.
 //!
 //! `print_plan` prints a plan as a description, which gives that plan.
 //!
