@@ -10,7 +10,7 @@ use Rattle.c104_describe.specs.Distinctness.{AreDistinct}
 use Rattle.c104_describe.specs.TextWords.{is_name}
 use Rattle.c104_describe.specs.declared.ports.Port.TheVariants as port
 use Rattle.c104_describe.specs.Ports.{Port, Wire, is_port, both_ends, is_any_at, IsSwitchPort}
-use Rattle.c104_describe.specs.Plans.{Plan, PlanBase, PlanRow, Terminal, IsPlan, AreNames, AreTerminals, AreContinues, AreBases, AreRows, IsPlanWire, IsLaterPort, IsRange, IsPlanSelect, names, host_port, linked_ports, is_taken, is_linked, is_continued, is_deleted, is_row_of, rows_of, is_buffer_size, label_count, most_switches, most_terminals, most_header_bytes}
+use Rattle.c104_describe.specs.Plans.{Plan, PlanBase, PlanRow, Terminal, IsPlan, AreNames, AreTerminals, AreContinues, AreDeletes, AreBases, AreRows, IsPlanWire, IsLaterPort, IsRange, IsPlanSelect, names, host_port, linked_ports, is_taken, is_linked, is_continued, is_deleted, is_row_of, rows_of, is_buffer_size, label_count, most_switches, most_terminals, most_header_bytes}
 use Rattle.c104_describe.proofs.Distinct.{distinct_inserted, distinct_pushed}
 use Rattle.c104_describe.proofs.PortLemmas.{is_port-flips, is_port-true, once-pushed}
 
@@ -159,67 +159,43 @@ module _ (plan : Plan) (kept : IsPlan plan) where
     randoms = kept.randoms;
   }
 
-  pub with_continue : (p : Port) → IsLaterPort (length plan.switches) p → is_continued plan p ≡ false → IsPlan (record plan { continues = plan.continues ++ p ∷ [] })
-  with_continue p later once = record {
-    header = kept.header;
-    cap = kept.cap;
+  -- the same switches, terminals and wires, and what else is said of them
+  with_settings : {header cap : ℕ} {continues : List Port} {deletes : List ℕ} {bases : List PlanBase} {rows : List PlanRow} → (0 < header) × (header ≤ most_header_bytes) → is_buffer_size cap ≡ true → AreContinues (length plan.switches) continues → AreDeletes (length plan.terminals) deletes → AreBases (length plan.switches) bases → AreRows (length plan.switches) rows → IsPlan (record plan { header = header; cap = cap; continues = continues; deletes = deletes; bases = bases; rows = rows })
+  with_settings header cap continues deletes bases rows = record {
+    header = header;
+    cap = cap;
     shape = kept.shape;
     few_switches = kept.few_switches;
     names = kept.names;
     terminals = kept.terminals;
     wires = kept.wires;
     links = kept.links;
-    continues = record {
-      later = All-push (IsLaterPort (length plan.switches)) plan.continues p kept.continues.later later;
-      once = once-pushed (λ q. q) plan.continues p once kept.continues.once;
-    };
-    deletes = kept.deletes;
-    bases = kept.bases;
-    rows = kept.rows;
+    continues = continues;
+    deletes = deletes;
+    bases = bases;
+    rows = rows;
     randoms = kept.randoms;
   }
+
+  pub with_continue : (p : Port) → IsLaterPort (length plan.switches) p → is_continued plan p ≡ false → IsPlan (record plan { continues = plan.continues ++ p ∷ [] })
+  with_continue p later once = with_settings kept.header kept.cap (record {
+    later = All-push (IsLaterPort (length plan.switches)) plan.continues p kept.continues.later later;
+    once = once-pushed (λ q. q) plan.continues p once kept.continues.once;
+  }) kept.deletes kept.bases kept.rows
 
   pub with_delete : (terminal : ℕ) → terminal < length plan.terminals → is_deleted plan terminal ≡ false → IsPlan (record plan { deletes = plan.deletes ++ terminal ∷ [] })
   unfolding is_deleted
-  with_delete terminal known once = record {
-    header = kept.header;
-    cap = kept.cap;
-    shape = kept.shape;
-    few_switches = kept.few_switches;
-    names = kept.names;
-    terminals = kept.terminals;
-    wires = kept.wires;
-    links = kept.links;
-    continues = kept.continues;
-    deletes = record {
-      known = All-push (λ t. t < length plan.terminals) plan.deletes terminal kept.deletes.known known;
-      once = distinct_pushed (λ t u. t == u) plan.deletes terminal once kept.deletes.once;
-    };
-    bases = kept.bases;
-    rows = kept.rows;
-    randoms = kept.randoms;
-  }
+  with_delete terminal known once = with_settings kept.header kept.cap kept.continues (record {
+    known = All-push (λ t. t < length plan.terminals) plan.deletes terminal kept.deletes.known known;
+    once = distinct_pushed (λ t u. t == u) plan.deletes terminal once kept.deletes.once;
+  }) kept.bases kept.rows
 
   pub with_base : (b : PlanBase) → IsSwitchPort (length plan.switches) b.port → b.base < label_count → is_any_at (λ (c : PlanBase). c.port) plan.bases b.port ≡ false → IsPlan (record plan { bases = plan.bases ++ b ∷ [] })
-  with_base b of_input range once = record {
-    header = kept.header;
-    cap = kept.cap;
-    shape = kept.shape;
-    few_switches = kept.few_switches;
-    names = kept.names;
-    terminals = kept.terminals;
-    wires = kept.wires;
-    links = kept.links;
-    continues = kept.continues;
-    deletes = kept.deletes;
-    bases = record {
-      of_inputs = All-push (λ (c : PlanBase). IsSwitchPort (length plan.switches) c.port) plan.bases b kept.bases.of_inputs of_input;
-      ranges = All-push (λ (c : PlanBase). c.base < label_count) plan.bases b kept.bases.ranges range;
-      once = once-pushed (λ (c : PlanBase). c.port) plan.bases b once kept.bases.once;
-    };
-    rows = kept.rows;
-    randoms = kept.randoms;
-  }
+  with_base b of_input range once = with_settings kept.header kept.cap kept.continues kept.deletes (record {
+    of_inputs = All-push (λ (c : PlanBase). IsSwitchPort (length plan.switches) c.port) plan.bases b kept.bases.of_inputs of_input;
+    ranges = All-push (λ (c : PlanBase). c.base < label_count) plan.bases b kept.bases.ranges range;
+    once = once-pushed (λ (c : PlanBase). c.port) plan.bases b once kept.bases.once;
+  }) kept.rows
 
   few-row_by : (r : PlanRow) (p : Port) (same : Bool) → is_port r.port p ≡ same → length (rows_of r.port plan.rows) < 36 → length (rows_of p plan.rows ++ cond same (r ∷ []) []) ≤ 36
   few-row_by r p true is room =
@@ -232,56 +208,14 @@ module _ (plan : Plan) (kept : IsPlan plan) where
   few-row r p room = rw (filter-append (is_row_of p) plan.rows (r ∷ [])) (few-row_by r p (is_port r.port p) refl room)
 
   pub with_row : (r : PlanRow) → IsSwitchPort (length plan.switches) r.port → r.limit ≤ label_count → IsPlanSelect r.select → length (rows_of r.port plan.rows) < 36 → IsPlan (record plan { rows = plan.rows ++ r ∷ [] })
-  with_row r of_input limit selectable room = record {
-    header = kept.header;
-    cap = kept.cap;
-    shape = kept.shape;
-    few_switches = kept.few_switches;
-    names = kept.names;
-    terminals = kept.terminals;
-    wires = kept.wires;
-    links = kept.links;
-    continues = kept.continues;
-    deletes = kept.deletes;
-    bases = kept.bases;
-    rows = record {
-      of_inputs = All-push (λ (q : PlanRow). IsSwitchPort (length plan.switches) q.port) plan.rows r kept.rows.of_inputs of_input;
-      ranges = All-push (λ (q : PlanRow). (q.limit ≤ label_count) × IsPlanSelect q.select) plan.rows r kept.rows.ranges (limit, selectable);
-      few = λ p. few-row r p room;
-    };
-    randoms = kept.randoms;
-  }
+  with_row r of_input limit selectable room = with_settings kept.header kept.cap kept.continues kept.deletes kept.bases (record {
+    of_inputs = All-push (λ (q : PlanRow). IsSwitchPort (length plan.switches) q.port) plan.rows r kept.rows.of_inputs of_input;
+    ranges = All-push (λ (q : PlanRow). (q.limit ≤ label_count) × IsPlanSelect q.select) plan.rows r kept.rows.ranges (limit, selectable);
+    few = λ p. few-row r p room;
+  })
 
   pub with_header : (bytes : ℕ) → 0 < bytes → bytes ≤ most_header_bytes → IsPlan (record plan { header = bytes })
-  with_header bytes some few = record {
-    header = (some, few);
-    cap = kept.cap;
-    shape = kept.shape;
-    few_switches = kept.few_switches;
-    names = kept.names;
-    terminals = kept.terminals;
-    wires = kept.wires;
-    links = kept.links;
-    continues = kept.continues;
-    deletes = kept.deletes;
-    bases = kept.bases;
-    rows = kept.rows;
-    randoms = kept.randoms;
-  }
+  with_header bytes some few = with_settings (some, few) kept.cap kept.continues kept.deletes kept.bases kept.rows
 
   pub with_buffer : (size : ℕ) → is_buffer_size size ≡ true → IsPlan (record plan { cap = size })
-  with_buffer size is_size = record {
-    header = kept.header;
-    cap = is_size;
-    shape = kept.shape;
-    few_switches = kept.few_switches;
-    names = kept.names;
-    terminals = kept.terminals;
-    wires = kept.wires;
-    links = kept.links;
-    continues = kept.continues;
-    deletes = kept.deletes;
-    bases = kept.bases;
-    rows = kept.rows;
-    randoms = kept.randoms;
-  }
+  with_buffer size is_size = with_settings kept.header is_size kept.continues kept.deletes kept.bases kept.rows

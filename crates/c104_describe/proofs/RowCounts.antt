@@ -1,15 +1,16 @@
 -- How many rows each input has, counted as they come.
-use Rattle.std.proofs.Common.{◌≡◌, ◌≢◌, ◌<◌, ℕ, ◌+◌, Bool, true, false, cond, List, [], ◌∷◌, ◌++◌, length, replicate, get_or, set, subst, sym, ◌∙◌, ap, refl, arith, append-nil, length-append}
+use Rattle.std.proofs.Common.{◌≡◌, ◌≢◌, ◌<◌, ℕ, ◌+◌, ◌*◌, Bool, true, false, cond, List, [], ◌∷◌, ◌++◌, length, replicate, get_or, set, subst, sym, ◌∙◌, ap, refl, arith, append-nil, length-append}
 use Rattle.std.proofs.lemmas.List.{length-replicate, length-set, get_or-replicate, get_or-set_same, get_or-set_other}
 use Rattle.std.proofs.lemmas.List.Elements.{filter-append}
+use Rattle.c104_regs.specs.declared.registers.TheConstants.{LINKS}
 use Rattle.c104_describe.specs.declared.ports.Port.TheVariants as port
 use Rattle.c104_describe.specs.Ports.{Port, is_port, IsSwitchPort}
 use Rattle.c104_describe.specs.Plans.{PlanRow, is_row_of, most_switches, rows_of}
 use Rattle.c104_describe.specs.PlanIndex.{AreCounted, input_place}
 use Rattle.c104_describe.proofs.PortLemmas.{is_port-refl, is_port-true}
 
--- each input has a place of its own, below 2048
-pub place_inside : (p : Port) → IsSwitchPort most_switches p → input_place p < 2048
+-- each input has a place of its own, below how many there are
+pub place_inside : (p : Port) → IsSwitchPort most_switches p → input_place p < most_switches * LINKS
 place_inside (port.Switch s l) is = omega (arith, is.0, is.1)
 place_inside (port.Terminal t) is = absurd is
 
@@ -22,9 +23,9 @@ one_place (port.Switch s l) (port.Terminal t) is is' same = absurd is'
 one_place (port.Terminal t) q is is' same = absurd is
 
 -- no row
-pub counted_none : AreCounted (replicate 2048 0) []
+pub counted_none : AreCounted (replicate (most_switches * LINKS) 0) []
 unfolding rows_of
-counted_none = (length-replicate {A = ℕ} 2048 0, λ p is. get_or-replicate 2048 (input_place p) 0 0 (place_inside p is))
+counted_none = (length-replicate {A = ℕ} (most_switches * LINKS) 0, λ p is. get_or-replicate (most_switches * LINKS) (input_place p) 0 0 (place_inside p is))
 
 -- one more row: by whether an input is that of the row
 module _ (counts : List ℕ) (rows : List PlanRow) (row : PlanRow) (counted : AreCounted counts rows) (of_input : IsSwitchPort most_switches row.port) where

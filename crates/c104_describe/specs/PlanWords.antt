@@ -16,15 +16,15 @@ use Rattle.c104_describe.specs.Plans.{last_link}
 -- the words with which lines begin
 abbrev pub keywords : List (List ℕ × Keyword)
 keywords =
-    (codes "switch", keyword.Switch)
-    ∷ (codes "terminal", keyword.Terminal)
+    (codes "row", keyword.Row)
+    ∷ (codes "base", keyword.Base)
     ∷ (codes "wire", keyword.Wire)
-    ∷ (codes "header", keyword.Header)
-    ∷ (codes "buffer", keyword.Buffer)
+    ∷ (codes "terminal", keyword.Terminal)
+    ∷ (codes "switch", keyword.Switch)
     ∷ (codes "continue", keyword.Continue)
     ∷ (codes "delete", keyword.Delete)
-    ∷ (codes "base", keyword.Base)
-    ∷ (codes "row", keyword.Row)
+    ∷ (codes "header", keyword.Header)
+    ∷ (codes "buffer", keyword.Buffer)
     ∷ []
 
 -- what the first word of a line says

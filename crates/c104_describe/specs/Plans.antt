@@ -7,6 +7,7 @@ use Rattle.c104_interval.specs.declared.intervals.Select.{Select}
 use Rattle.c104_interval.specs.declared.intervals.Select.TheVariants.{Link, Discard, Sink}
 use Rattle.c104_regs.specs.declared.registers.TheConstants.{LINKS}
 use Rattle.c104_describe.specs.TextWords.{is_name}
+use Rattle.c104_describe.specs.declared.limits.TheConstants.{MAX_SWITCHES, MAX_TERMINALS, MAX_HEADER_BYTES, LABELS}
 use Rattle.c104_describe.specs.Ports.{Port, Wire, is_port, both_ends, is_any_at, AreOncePerPort, IsSwitchPort, AreApart}
 use Rattle.c104_describe.specs.declared.ports.Port.TheVariants as port
 pub use Rattle.c104_describe.specs.declared.plans.Shape.{Shape}
@@ -98,19 +99,19 @@ next_first (t ∷ u ∷ terminals) = next_first (u ∷ terminals)
 
 -- how many switches a plan may have
 abbrev pub most_switches : ℕ
-most_switches = 64
+most_switches = MAX_SWITCHES
 
 -- how many terminals a plan may have
 abbrev pub most_terminals : ℕ
-most_terminals = 256
+most_terminals = MAX_TERMINALS
 
 -- how many bytes a header may have: for now one
 abbrev pub most_header_bytes : ℕ
-most_header_bytes = 1
+most_header_bytes = MAX_HEADER_BYTES
 
 -- how many labels there are: a header has at most two bytes
 abbrev pub label_count : ℕ
-label_count = 0x10000
+label_count = LABELS
 
 -- the last link of a switch
 abbrev pub last_link : ℕ

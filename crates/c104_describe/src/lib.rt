@@ -21,6 +21,7 @@ mod drafts;
 mod faults;
 mod hand;
 mod image;
+mod limits;
 mod lines;
 mod name_index;
 mod names;
@@ -44,5 +45,14 @@ pub use plans::{Plan, PlanBase, PlanRandom, PlanRow, Shape, Terminal};
 pub use ports::{Port, Wire};
 pub use print::print_plan;
 pub use text::{
-    Dots, cut_lines, cut_words, find_dots, is_name, is_plain, read_number, uncommented,
+    Dots, cut_lines, cut_words, find_dots, first_word, is_name, is_plain, read_number, uncommented,
 };
+
+// Contracts name these: their values are a part of what they say, so a change of one alone is refused.
+const _: () = prove!(limits::MAX_SWITCHES == 64);
+
+const _: () = prove!(limits::MAX_TERMINALS == 256);
+
+const _: () = prove!(limits::MAX_HEADER_BYTES == 1);
+
+const _: () = prove!(limits::LABELS == 0x10000);

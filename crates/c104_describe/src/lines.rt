@@ -8,6 +8,7 @@ ghost use Rattle.c104_describe.specs.PlanText.{ReadsLine};
 
 use crate::drafts::Draft;
 use crate::faults::PlanFaultKind;
+use crate::limits::{LABELS, MAX_HEADER_BYTES, MAX_SWITCHES, MAX_TERMINALS};
 use crate::names::Name;
 use crate::parts::Parts;
 use crate::plans::{PlanBase, PlanRow, Terminal};
@@ -19,19 +20,6 @@ use crate::words::{
 };
 use c104_interval::ROWS;
 use std::alloc::{AllocError, Global};
-
-/// The most switches of a plan.
-const MAX_SWITCHES: usize = 64;
-
-/// The most terminals of a plan.
-const MAX_TERMINALS: usize = 256;
-
-/// The most bytes of a header: for now one.
-const MAX_HEADER_BYTES: u32 = 1;
-
-/// How many labels there are, and the highest limit of a row: how many values a header of two bytes
-/// has.
-const LABELS: u32 = 0x10000;
 
 /// Reads a line after those before it.
 pub(crate) fn read_line(alloc: Global, draft: &mut Draft, line: &[u8]) -> Result<(), PlanFaultKind>

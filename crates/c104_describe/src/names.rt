@@ -52,4 +52,16 @@ impl Name {
     {
         self.bytes.as_slice()
     }
+
+    /// The name as text.
+    #[tactic(auto, using(crate::proofs::NameText::utf8_name))]
+    pub fn as_str(&self) -> &str
+        ensures text { result.now ≡ self.now }
+        ensures named { IsTrue (is_name self.now) }
+    {
+        match str::from_utf8(self.as_bytes()) {
+            Ok(text) => text,
+            Err(_) => unreachable!(),
+        }
+    }
 }

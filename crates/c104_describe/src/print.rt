@@ -5,7 +5,6 @@ ghost use Rattle.c104_describe.specs.PlanPrint.{plan_text, port_text, select_tex
 ghost use Rattle.c104_describe.specs.PlanPrint.{terminal_words, wire_words, continue_words, delete_words, base_words, row_words};
 ghost use Rattle.c104_describe.specs.PlanText.{most_bytes, read_description};
 
-use crate::names::Name;
 use crate::plans::{Plan, Terminal};
 use crate::ports::Port;
 use c104_interval::Select;
@@ -42,7 +41,7 @@ fn add_switches(alloc: Global, text: &mut String, plan: &Plan) -> Result<(), All
         string_bytes text.old ++ text_of (map switch_words plan.now.switches)) }
 {
     for switch in plan.switches() {
-        let name = name_text(switch);
+        let name = switch.as_str();
         let line = format!(in alloc; "switch {name}\n")?;
         text.push_str(line.as_str())?;
     }
@@ -70,7 +69,7 @@ fn add_terminal(
     ensures { OnOk result (string_bytes text.new ≡
         string_bytes text.old ++ (sentence (terminal_words plan.now terminal.now) ++ 0x0a ∷ [])) }
 {
-    let name = name_text(&terminal.name);
+    let name = terminal.name.as_str();
     let port = port_text(alloc, plan, terminal.host_port())?;
     let count = terminal.count;
     let first = terminal.first;
@@ -179,7 +178,7 @@ fn switch_name(plan: &Plan, number: usize) -> &str
     ensures { result.now ≡ switch_name plan.now number }
 {
     match plan.switches().get(number) {
-        Some(name) => name_text(name),
+        Some(name) => name.as_str(),
         None => "",
     }
 }
@@ -189,18 +188,7 @@ fn terminal_name(plan: &Plan, number: usize) -> &str
     ensures { result.now ≡ terminal_name plan.now number }
 {
     match plan.terminals().get(number) {
-        Some(terminal) => name_text(&terminal.name),
+        Some(terminal) => terminal.name.as_str(),
         None => "",
-    }
-}
-
-/// A name as text.
-#[tactic(auto, using(crate::proofs::NameText::utf8_name))]
-fn name_text(name: &Name) -> &str
-    ensures { result.now ≡ name.now }
-{
-    match str::from_utf8(name.as_bytes()) {
-        Ok(text) => text,
-        Err(_) => unreachable!(),
     }
 }

@@ -5,20 +5,22 @@ ghost use Rattle.c104_describe.specs.Ports.{IsSwitchPort};
 ghost use Rattle.c104_describe.specs.Plans.{most_switches, rows_of};
 ghost use Rattle.c104_describe.specs.PlanIndex.{input_place};
 
+use crate::limits::MAX_SWITCHES;
 use crate::plans::PlanRow;
 use crate::ports::Port;
+use c104_regs::LINKS;
 use std::alloc::{AllocError, Global};
 use std::fmt::{self, Debug, Formatter, Write};
 use std::marker::Model;
 
-/// How many inputs a network may have: 32 of each of 64 switches.
-const INPUTS: usize = 2048;
+/// How many inputs a network may have: one at each link of a switch.
+const INPUTS: usize = MAX_SWITCHES * LINKS;
 
 /// Rows, in order, and how many there are of each input.
 #[derive(Drop)]
 pub(crate) struct RowList {
     list: Vec<PlanRow>,
-    /// That of link l of switch s is at 32 s + l.
+    /// That of link l of switch s is at `LINKS` * s + l.
     counts: Vec<u8>,
 }
 
@@ -97,7 +99,7 @@ fn place_of(port: Port) -> usize
     ensures inside { result < INPUTS }
 {
     match port {
-        Port::Switch(switch, link) => 32 * switch + link,
+        Port::Switch(switch, link) => LINKS * switch + link,
         Port::Terminal(_) => unreachable!(),
     }
 }

@@ -1,7 +1,7 @@
 //! The words of a text: how it is cut into lines and words, and what a number and a name are.
-ghost use Rattle.std.specs.Prelude.{◌≡◌, ◌^◌, ◌<◌, ◌==◌, length, map, position, IfOk, IfSome};
+ghost use Rattle.std.specs.Prelude.{◌≡◌, ◌^◌, ◌<◌, ◌==◌, length, map, option_map, position, slice_get, IfOk, IfSome};
 ghost use Rattle.std.specs.List.{list_all};
-ghost use Rattle.c104_describe.specs.TextCut.{lines, uncommented_line, line_words, is_plain_line};
+ghost use Rattle.c104_describe.specs.TextCut.{lines, uncommented_line, parts_words, line_words, is_plain_byte, is_plain_line};
 ghost use Rattle.c104_describe.specs.TextWords.{read_number, most_digits, is_name, is_name_byte, dots, IsInside};
 
 use std::alloc::{AllocError, Global};
@@ -45,17 +45,39 @@ pub fn uncommented(line: &[u8]) -> &[u8]
 pub fn cut_words<'a>(alloc: Global, line: &'a [u8]) -> Result<Vec<&'a [u8]>, AllocError>
     ensures { IfOk result (λ list. map (λ word. word.now) list.items ≡ line_words line.now) }
 {
-    line.split(|byte| *byte == b' ' || *byte == b'\t' || *byte == b'\r')
+    line.split(|byte| parts_words(*byte))
         .filter(|word| !word.is_empty())
         .collect(alloc)
+}
+
+/// The first word of a line. None where it has no words.
+pub fn first_word(line: &[u8]) -> Option<&[u8]>
+    ensures { option_map (λ word. word.now) result ≡ slice_get (line_words line.now) 0 }
+{
+    line.split(|byte| parts_words(*byte))
+        .filter(|word| !word.is_empty())
+        .next()
+}
+
+/// Whether a byte parts words.
+fn parts_words(byte: u8) -> bool
+    ensures { result ≡ parts_words byte }
+{
+    byte == b' ' || byte == b'\t' || byte == b'\r'
 }
 
 /// Whether each byte is a printable one of ASCII, 32 to 126, or parts words.
 pub fn is_plain(line: &[u8]) -> bool
     ensures { result ≡ is_plain_line line.now }
 {
-    line.iter()
-        .all(|byte| matches!(*byte, b' '..=b'~' | b'\t' | b'\r'))
+    line.iter().all(|byte| is_plain_byte(*byte))
+}
+
+/// Whether a byte is a printable one of ASCII or parts words.
+fn is_plain_byte(byte: u8) -> bool
+    ensures { result ≡ is_plain_byte byte }
+{
+    (b' ' <= byte && byte <= b'~') || parts_words(byte)
 }
 
 /// The value of a number, 1 to 7 decimal digits. None for every other word.

@@ -26,17 +26,17 @@ pub(crate) enum Keyword {
     Row,
 }
 
-/// The words with which lines begin.
+/// The words with which lines begin, the most frequent first.
 const KEYWORDS: [(&[u8], Keyword); 9] = [
-    (b"switch", Keyword::Switch),
-    (b"terminal", Keyword::Terminal),
+    (b"row", Keyword::Row),
+    (b"base", Keyword::Base),
     (b"wire", Keyword::Wire),
-    (b"header", Keyword::Header),
-    (b"buffer", Keyword::Buffer),
+    (b"terminal", Keyword::Terminal),
+    (b"switch", Keyword::Switch),
     (b"continue", Keyword::Continue),
     (b"delete", Keyword::Delete),
-    (b"base", Keyword::Base),
-    (b"row", Keyword::Row),
+    (b"header", Keyword::Header),
+    (b"buffer", Keyword::Buffer),
 ];
 
 /// What a word asks for. None where no line begins with it.

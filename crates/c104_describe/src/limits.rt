@@ -1,0 +1,14 @@
+//! How much a description may say.
+
+/// The most switches of a plan.
+pub(crate) const MAX_SWITCHES: usize = 64;
+
+/// The most terminals of a plan.
+pub(crate) const MAX_TERMINALS: usize = 256;
+
+/// The most bytes of a header: for now one.
+pub(crate) const MAX_HEADER_BYTES: u32 = 1;
+
+/// How many labels there are, and the highest limit of a row: how many values a header of two bytes
+/// has.
+pub(crate) const LABELS: u32 = 0x10000;
