@@ -13,6 +13,9 @@ pub mod PlanLinesKept
 pub mod Wires
 pub mod PlanTables
 pub mod PlanSettings
+pub mod FaultOrder
+pub mod FaultSteps
+pub mod LineFaultLaws
 pub mod PlanDue
 mod DistinctPlaces
 mod PrintedText

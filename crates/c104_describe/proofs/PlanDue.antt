@@ -1,5 +1,5 @@
--- A refusal is of the first faulty line.
-use Rattle.std.proofs.Common.{◌≡◌, ℕ, zero, suc, ◌+◌, ◌≤◌, inl, inr, Bool, true, false, List, [], ◌∷◌, length, take, nat_le, slice_get, if◌then◌else◌, Some, Result, Ok, Err, sym, ◌∙◌, ap, refl, arith}
+-- A refusal is of the first faulty line, and a plan is of lines without a fault.
+use Rattle.std.proofs.Common.{◌≡◌, ℕ, zero, suc, ◌+◌, ◌≤◌, inl, inr, Bool, true, false, List, [], ◌∷◌, length, take, nat_le, slice_get, if◌then◌else◌, Some, Result, Ok, Err, sym, ◌∙◌, ap, subst, refl, arith}
 use Rattle.std.proofs.lemmas.Bool.Decides.{nat_tests}
 use Rattle.std.specs.Result.{IfErr}
 use Rattle.c104_describe.specs.declared.faults.PlanFaultKind.TheVariants.{TooLong}
@@ -7,7 +7,9 @@ use Rattle.c104_describe.specs.TextCut.{lines}
 use Rattle.c104_describe.specs.PlanFaults.{PlanFault, PlanFaultKind, fault_at, no_memory}
 use Rattle.c104_describe.specs.Plans.{Plan}
 use Rattle.c104_describe.specs.PlanLines.{Draft, read_plan_line}
-use Rattle.c104_describe.specs.PlanText.{draft_after_line, plan_of_draft, read_description, empty_draft, read_plan_lines, most_bytes, GivesPlanOrNoMemory, IsDue, IsFirstFault}
+use Rattle.c104_describe.specs.LineFaults.{IsFaultless}
+use Rattle.c104_describe.specs.PlanText.{draft_after_line, plan_of_draft, read_description, empty_draft, read_plan_lines, most_bytes, GivesPlanOrNoMemory, AreFaultless, IsDue, IsFirstFault}
+use Rattle.c104_describe.proofs.LineFaultLaws.{least_fault, faultless}
 
 -- the first faulty line among some, of which the first has this number
 record Found (n : ℕ) (list : List (List ℕ)) (draft : Draft) (fault : PlanFault) : Type 0 where
@@ -50,6 +52,45 @@ found : (n : ℕ) (list : List (List ℕ)) (draft : Draft) (fault : PlanFault) �
 found n [] draft fault is = cc
 found n (line ∷ more) draft fault is = found-first n line more draft fault (read_plan_line draft line) refl is (λ next rest. found (n + 1) more next fault rest)
 
+-- the line at a place of lines that were read, of which the first has this number
+record FaultlessAt (n : ℕ) (list : List (List ℕ)) (draft : Draft) (place : ℕ) (line : List ℕ) : Type 0 where
+  before : Draft
+  before_it : read_plan_lines n (take place list) draft ≡ Ok before
+  is_faultless : IsFaultless before line
+
+after_first : (n : ℕ) (first : List ℕ) (more : List (List ℕ)) (draft last : Draft) (said : Result Draft PlanFaultKind) → read_plan_line draft first ≡ said
+    → draft_after_line n said (λ next. read_plan_lines (n + 1) more next) ≡ Ok last → (place : ℕ) (line : List ℕ)
+    → ((next : Draft) → read_plan_lines (n + 1) more next ≡ Ok last → FaultlessAt (n + 1) more next place line) → FaultlessAt n (first ∷ more) draft (suc place) line
+after_first n first more draft last (Ok next) is here place line go =
+    let rest : FaultlessAt (n + 1) more next place line = go next here in
+    record {
+      before = rest.before;
+      before_it = ap (λ said. draft_after_line n said (λ p. read_plan_lines (n + 1) (take place more) p)) is ∙ rest.before_it;
+      is_faultless = rest.is_faultless;
+    }
+after_first n first more draft last (Err kind) is here place line go = cc
+
+at_first : (n : ℕ) (first : List ℕ) (more : List (List ℕ)) (draft last : Draft) (said : Result Draft PlanFaultKind) → read_plan_line draft first ≡ said
+    → draft_after_line n said (λ next. read_plan_lines (n + 1) more next) ≡ Ok last → IsFaultless draft first
+at_first n first more draft last (Ok next) is here = faultless draft first next is
+at_first n first more draft last (Err kind) is here = cc
+
+faultless_at : (n : ℕ) (list : List (List ℕ)) (draft last : Draft) → read_plan_lines n list draft ≡ Ok last → (place : ℕ) (line : List ℕ) → slice_get list place ≡ Some line → FaultlessAt n list draft place line
+faultless_at n [] draft last is place line here = cc
+faultless_at n (first ∷ more) draft last is zero line here = record {
+  before = draft;
+  before_it = refl;
+  is_faultless = let same : first ≡ line = cc in subst (IsFaultless draft) same (at_first n first more draft last (read_plan_line draft first) refl is);
+}
+faultless_at n (first ∷ more) draft last is (suc place) line here =
+    after_first n first more draft last (read_plan_line draft first) refl is place line (λ next rest. faultless_at (n + 1) more next last rest place line here)
+
+-- of lines that were read none has a fault
+pub faultless_lines : (list : List (List ℕ)) (last : Draft) → read_plan_lines 1 list empty_draft ≡ Ok last → AreFaultless list
+faultless_lines list last is place line here =
+    let at = faultless_at 1 list empty_draft last is place line here in
+    record { before = at.before; before_it = at.before_it; is_faultless = at.is_faultless }
+
 first_fault : (text : List ℕ) (fault : PlanFault) → length text ≤ most_bytes → read_plan_lines 1 (lines text) empty_draft ≡ Err fault → IsFirstFault text fault
 first_fault text fault short is =
     let f : Found 1 (lines text) empty_draft fault = found 1 (lines text) empty_draft fault is in
@@ -61,7 +102,9 @@ first_fault text fault short is =
       is_short = short;
       is_line = f.is_line;
       before_it = f.before_it;
+      are_faultless = faultless_lines (take f.place (lines text)) f.before f.before_it;
       is_faulty = f.is_faulty;
+      is_least = least_fault f.before f.line f.kind f.is_faulty;
       is_told = f.is_told ∙ ap (λ k. fault_at k f.kind) (omega arith);
     }
 

@@ -8,6 +8,7 @@ pub mod Plans
 pub mod Wiring
 pub mod PlanWords
 pub mod PlanLines
+pub mod LineFaults
 pub mod PlanIndex
 pub mod PlanParts
 pub mod PlanText

@@ -7,6 +7,7 @@ use Rattle.c104_describe.specs.PlanFaults.{PlanFault, PlanFaultKind, fault_at, n
 use Rattle.c104_describe.specs.declared.plans.Shape.TheVariants.{Hand}
 use Rattle.c104_describe.specs.Plans.{Plan}
 use Rattle.c104_describe.specs.PlanLines.{Draft, read_plan_line}
+use Rattle.c104_describe.specs.LineFaults.{IsLeastFault, IsFaultless}
 use Rattle.c104_describe.specs.PlanParts.{draft_of}
 
 -- what comes after the line of this number, or its fault
@@ -64,8 +65,19 @@ abbrev pub ReadsLine : {X Y : Type 0} → Result X PlanFaultKind → Y → Resul
 ReadsLine result made due =
     MatchResult result (λ _. due ≡ Ok made) (λ kind. (due ≡ Err kind) ⊎ (kind ≡ NoMemory))
 
--- a line is the first faulty one of a text that isn't too long: the lines before it give a draft, and
--- after that it has this fault
+-- the line at a place among others, where it has no fault after those before it
+pub record IsFaultlessAt (list : List (List ℕ)) (place : ℕ) (line : List ℕ) : Type 0 where
+  -- what those before it give
+  pub before : Draft
+  pub before_it : read_plan_lines 1 (take place list) empty_draft ≡ Ok before
+  pub is_faultless : IsFaultless before line
+
+-- lines of which none has a fault after those before it
+abbrev pub AreFaultless : List (List ℕ) → Type 0
+AreFaultless list = (place : ℕ) (line : List ℕ) → slice_get list place ≡ Some line → IsFaultlessAt list place line
+
+-- a line is the first faulty one of a text that isn't too long: those before it have no fault, one after
+-- another, and give a draft; and after that it has this fault, and none of a lesser number
 pub record IsFirstFault (text : List ℕ) (fault : PlanFault) : Type 0 where
   -- how many lines come before it
   pub place : ℕ
@@ -75,7 +87,9 @@ pub record IsFirstFault (text : List ℕ) (fault : PlanFault) : Type 0 where
   pub is_short : length text ≤ most_bytes
   pub is_line : slice_get (lines text) place ≡ Some line
   pub before_it : read_plan_lines 1 (take place (lines text)) empty_draft ≡ Ok before
+  pub are_faultless : AreFaultless (take place (lines text))
   pub is_faulty : read_plan_line before line ≡ Err kind
+  pub is_least : IsLeastFault before line kind
   pub is_told : fault ≡ fault_at (place + 1) kind
 
 -- a text that is too long, whatever its lines say

@@ -3,7 +3,8 @@ ghost use Rattle.std.specs.Prelude.{◌≡◌, ◌<◌, ◌⊎◌, length, map, 
 ghost use Rattle.c104_describe.specs.declared.faults.PlanFaultKind.TheVariants.{TooLong};
 ghost use Rattle.c104_describe.specs.PlanFaults.{fault_at, no_memory};
 ghost use Rattle.c104_describe.specs.PlanText.{read_description, empty_draft, most_bytes, read_plan_lines};
-ghost use Rattle.c104_describe.specs.PlanText.{GivesDraftOrNoMemory, GivesPlanOrNoMemory, IsDue};
+ghost use Rattle.c104_describe.specs.PlanText.{AreFaultless, GivesDraftOrNoMemory, GivesPlanOrNoMemory, IsDue};
+ghost use Rattle.c104_describe.specs.TextCut.{lines};
 ghost use Rattle.c104_describe.specs.Plans.{IsPlan};
 
 use crate::drafts::Draft;
@@ -29,8 +30,11 @@ pub fn read_description(alloc: Global, text: &[u8]) -> Result<Plan, PlanFault>
     ensures too_long { most_bytes < length text.now → result ≡ Err (fault_at 0 TooLong) }
     ensures kept { IfOk result IsPlan }
 
-    // The first faulty line, in the sense of the word: the lines before it are a description.
+    // The first faulty line and its least fault, in the sense of the words: each fault's condition is said
+    // by itself. The lines before have none, a fault of a lesser number isn't the line's, and where a
+    // plan is answered no line has a fault.
     ensures due { IfErr result (IsDue text.now) }
+    ensures faultless { IfOk result (λ _. AreFaultless (lines text.now)) }
 {
     if text.len() > MAX_DESCRIPTION {
         return Err(fault_at(0, PlanFaultKind::TooLong));

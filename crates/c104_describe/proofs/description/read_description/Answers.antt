@@ -1,7 +1,8 @@
 use Rattle.c104_describe.specs.PlanParts.{draft_of}
-use Rattle.std.proofs.Common.{rules}
-use Rattle.c104_describe.specs.PlanText.{read_description, empty_draft, GivesPlanOrNoMemory}
-use Rattle.c104_describe.proofs.PlanDue.{due}
+use Rattle.std.proofs.Common.{◌≡◌, Ok, rules}
+use Rattle.c104_describe.specs.TextCut.{lines}
+use Rattle.c104_describe.specs.PlanText.{read_description, empty_draft, read_plan_lines, GivesPlanOrNoMemory}
+use Rattle.c104_describe.proofs.PlanDue.{due, faultless_lines}
 use Rattle.c104_describe.proofs.PlanLinesKept.{empty-kept, read_lines-kept}
 use Rattle.c104_describe.proofs.PlanReading.{texts}
 use Rattle.c104_describe.proofs.description.read_description.Goals as goal
@@ -17,3 +18,9 @@ pub returns-in_err-draft-clause-due : goal.returns-in_err-draft-clause-due
 returns-in_err-draft-clause-due c =
     let gives : GivesPlanOrNoMemory c.from_residual-in_err-draft.result (read_description c.args.text.now) = search rules in
     due c.args.text.now c.from_residual-in_err-draft.result gives
+
+-- the lines were read
+pub returns-clause-faultless : goal.returns-clause-faultless
+returns-clause-faultless c =
+    let read : read_plan_lines 1 (lines c.args.text.now) empty_draft ≡ Ok (draft_of c.in_ok-draft.draft) = search rules in
+    faultless_lines (lines c.args.text.now) (draft_of c.in_ok-draft.draft) read

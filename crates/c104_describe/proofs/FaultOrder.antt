@@ -1,0 +1,94 @@
+-- The first of all faults that applies, in the order of their numbers, has the least number.
+use Rattle.std.proofs.Common.{◌≡◌, ℕ, suc, ◌-◌, ◌<◌, ◌≤◌, Bool, true, false, List, [], ◌∷◌, inl, inr, slice_index_or, if◌then◌else◌, Option, Some, None, sym, ◌∙◌, ap, refl, arith, lit≤, lit<}
+use Rattle.std.specs.List.{find}
+use Rattle.std.proofs.lemmas.Bool.{cases_eq}
+use Rattle.c104_describe.specs.declared.faults.PlanFaultKind.TheVariants as kind
+use Rattle.c104_describe.specs.PlanFaults.{PlanFaultKind, plan_fault_number}
+
+-- all faults, in the order of their numbers
+abbrev pub all_faults : List PlanFaultKind
+all_faults =
+    kind.TooLong ∷ kind.UnknownWord ∷ kind.BadShape ∷ kind.BadNumber ∷ kind.BadName ∷ kind.NameTaken ∷ kind.UnknownName
+    ∷ kind.SelfWire ∷ kind.LinkTaken ∷ kind.TooMany ∷ kind.Twice ∷ kind.MixedStyle ∷ kind.NoMemory ∷ []
+
+-- the fault of a number
+fault_numbered : ℕ → PlanFaultKind
+fault_numbered number = slice_index_or all_faults (number - 1) kind.TooLong
+
+is_numbered : (fault : PlanFaultKind) → fault_numbered (plan_fault_number fault) ≡ fault
+unfolding fault_numbered
+is_numbered kind.TooLong = refl
+is_numbered kind.UnknownWord = refl
+is_numbered kind.BadShape = refl
+is_numbered kind.BadNumber = refl
+is_numbered kind.BadName = refl
+is_numbered kind.NameTaken = refl
+is_numbered kind.UnknownName = refl
+is_numbered kind.SelfWire = refl
+is_numbered kind.LinkTaken = refl
+is_numbered kind.TooMany = refl
+is_numbered kind.Twice = refl
+is_numbered kind.MixedStyle = refl
+is_numbered kind.NoMemory = refl
+
+same_number : (fault other : PlanFaultKind) → plan_fault_number fault ≡ plan_fault_number other → fault ≡ other
+same_number fault other same = sym (is_numbered fault) ∙ ap fault_numbered same ∙ is_numbered other
+
+number-range : (fault : PlanFaultKind) → (1 ≤ plan_fault_number fault) × (plan_fault_number fault < 14)
+number-range kind.TooLong = (lit≤ tt, lit< tt)
+number-range kind.UnknownWord = (lit≤ tt, lit< tt)
+number-range kind.BadShape = (lit≤ tt, lit< tt)
+number-range kind.BadNumber = (lit≤ tt, lit< tt)
+number-range kind.BadName = (lit≤ tt, lit< tt)
+number-range kind.NameTaken = (lit≤ tt, lit< tt)
+number-range kind.UnknownName = (lit≤ tt, lit< tt)
+number-range kind.SelfWire = (lit≤ tt, lit< tt)
+number-range kind.LinkTaken = (lit≤ tt, lit< tt)
+number-range kind.TooMany = (lit≤ tt, lit< tt)
+number-range kind.Twice = (lit≤ tt, lit< tt)
+number-range kind.MixedStyle = (lit≤ tt, lit< tt)
+number-range kind.NoMemory = (lit≤ tt, lit< tt)
+
+-- the numbers of these go up from the first one's, to the last of all
+abbrev AreNumbered : ℕ → List PlanFaultKind → Type 0
+AreNumbered n [] = n ≡ 14
+AreNumbered n (fault ∷ faults) = (plan_fault_number fault ≡ n) × AreNumbered (suc n) faults
+
+-- the number of a fault, and without one a number above all
+abbrev until : Option PlanFaultKind → ℕ
+until None = 14
+until (Some fault) = plan_fault_number fault
+
+lesser-first : (has : PlanFaultKind → Bool) (n : ℕ) (fault : PlanFaultKind) (rest : Option PlanFaultKind) (other : PlanFaultKind) (b : Bool) → has fault ≡ b → plan_fault_number fault ≡ n → n ≤ plan_fault_number other
+    → plan_fault_number other < until (if b then Some fault else rest) → (suc n ≤ plan_fault_number other → plan_fault_number other < until rest → has other ≡ false) → has other ≡ false
+lesser-first has n fault rest other true is here above under go = absurd (omega (arith, here, above, under))
+lesser-first has n fault rest other false is here above under go =
+    elim (cases_eq (plan_fault_number other) n) [
+    | inl same ↦ ap has (same_number other fault (same ∙ sym here)) ∙ is
+    | inr further ↦ go (omega (arith, above, further)) under
+    ]
+
+lesser : (has : PlanFaultKind → Bool) (n : ℕ) (faults : List PlanFaultKind) → AreNumbered n faults → (other : PlanFaultKind) → n ≤ plan_fault_number other → plan_fault_number other < until (find has faults) → has other ≡ false
+lesser has n [] end other above under = absurd (omega (arith, end, above, (number-range other).1))
+lesser has n (fault ∷ faults) numbers other above under =
+    lesser-first has n fault (find has faults) other (has fault) refl numbers.0 above under (λ further below. lesser has (suc n) faults numbers.1 other further below)
+
+all_numbered : AreNumbered 1 all_faults
+all_numbered = (refl, (refl, (refl, (refl, (refl, (refl, (refl, (refl, (refl, (refl, (refl, (refl, (refl, refl)))))))))))))
+
+-- none below the first one that applies
+pub none_lesser : (has : PlanFaultKind → Bool) (fault : PlanFaultKind) → find has all_faults ≡ Some fault → (other : PlanFaultKind) → plan_fault_number other < plan_fault_number fault → has other ≡ false
+none_lesser has fault is other under = lesser has 1 all_faults all_numbered other (number-range other).0 (rw is under)
+
+-- none at all where there is no first one
+pub none_at_all : (has : PlanFaultKind → Bool) → find has all_faults ≡ None → (other : PlanFaultKind) → has other ≡ false
+none_at_all has is other = lesser has 1 all_faults all_numbered other (number-range other).0 (rw is ((number-range other).1))
+
+applies-first : (has : PlanFaultKind → Bool) (fault found : PlanFaultKind) (rest : Option PlanFaultKind) (b : Bool) → has fault ≡ b → (if b then Some fault else rest) ≡ Some found → (rest ≡ Some found → has found ≡ true) → has found ≡ true
+applies-first has fault found rest true is here go = let same : fault ≡ found = cc in ap has (sym same) ∙ is
+applies-first has fault found rest false is here go = go here
+
+-- the first one that applies does
+pub applies : (has : PlanFaultKind → Bool) (faults : List PlanFaultKind) (found : PlanFaultKind) → find has faults ≡ Some found → has found ≡ true
+applies has [] found is = cc
+applies has (fault ∷ faults) found is = applies-first has fault found (find has faults) (has fault) refl is (λ here. applies has faults found here)
