@@ -1,6 +1,6 @@
 -- What a line answers is the first of its faults: its conditions, in the order in which they are asked,
 -- and the conditions of each fault by itself agree. A law for each kind of line.
-use Rattle.std.proofs.Common.{◌≡◌, ℕ, ◌+◌, ◌≤◌, ◌==◌, ◌&&◌, ◌||◌, Bool, true, false, not, List, [], ◌∷◌, length, nat_le, nat_lt, bytes_eq, codes, if◌then◌else◌, is_none, is_some, Option, Some, None, Result, Ok, Err, get_or, sym, ◌∙◌, ap, ap₂, refl, arith}
+use Rattle.std.proofs.Common.{◌≡◌, ℕ, ◌+◌, ◌==◌, ◌&&◌, ◌||◌, Bool, true, false, not, List, [], ◌∷◌, length, nat_le, nat_lt, bytes_eq, codes, if◌then◌else◌, is_some, Option, Some, None, Result, Ok, Err, get_or, sym, ◌∙◌, ap, ap₂, refl, arith}
 use Rattle.std.specs.List.{find}
 use Rattle.std.specs.Option.{option_map_or}
 use Rattle.std.proofs.lemmas.Bool.{both_ways, and_from, and_parts, eqb-true, eqb-false, le-leb}
@@ -14,14 +14,14 @@ use Rattle.c104_describe.specs.declared.ports.Port.TheVariants as port
 use Rattle.c104_describe.specs.declared.words.Keyword.TheVariants as keyword
 use Rattle.c104_describe.specs.declared.faults.PlanFaultKind.TheVariants.{BadName, BadNumber, BadShape, LinkTaken, NameTaken, SelfWire, TooMany, Twice, UnknownName, UnknownWord}
 use Rattle.c104_describe.specs.TextCut.{uncommented_line, line_words, is_plain_line}
-use Rattle.c104_describe.specs.TextWords.{read_number, is_name, dots}
+use Rattle.c104_describe.specs.TextWords.{read_number, is_name}
 use Rattle.c104_describe.specs.PlanFaults.{PlanFaultKind}
 use Rattle.c104_describe.specs.Ports.{Port, is_any_at}
 use Rattle.c104_describe.specs.Plans.{Plan, PlanBase, switch_number, terminal_number, is_taken, is_linked, is_continued, is_deleted, rows_of, next_first, most_switches, most_terminals, most_header_bytes, label_count, last_link, is_buffer_size}
 use Rattle.c104_describe.specs.Checks.{◌>>=◌, ◌>>◌, require, value_or_fault}
 use Rattle.c104_describe.specs.PlanWords.{Keyword, keyword_of, range_words, select_word, number_within}
 use Rattle.c104_describe.specs.PlanLines.{Draft, switch_line, terminal_line, wire_line, continue_line, delete_line, base_line, row_line, header_line, buffer_line, in_draft, keyword_line, read_plan_words, read_plan_line}
-use Rattle.c104_describe.specs.LineFaults.{LineParts, keyword_parts, terminal_parts, first_word_parts, line_parts, is_fault_of, port_name, port_link, is_one_dot, named_port, names_port, row_count, number_said, is_from_to, is_bad_number, selected_link, has_fault, IsLeastFault, IsFaultless}
+use Rattle.c104_describe.specs.LineFaults.{LineParts, keyword_parts, terminal_parts, first_word_parts, line_parts, is_fault_of, port_name, port_link, named_port, names_port, row_count, number_said, is_from_to, is_bad_number, selected_link, has_fault, IsLeastFault, IsFaultless}
 use Rattle.c104_describe.proofs.FaultOrder.{all_faults, applies, none_lesser, none_at_all}
 use Rattle.c104_describe.proofs.FaultSteps.{error_of, of_draft, holds_as, holds, fails_as, both_as, value, tested, number, number_if_said, cut, lone, after_both, port_first}
 
