@@ -64,8 +64,8 @@ lesser-first : (has : PlanFaultKind → Bool) (n : ℕ) (fault : PlanFaultKind) 
 lesser-first has n fault rest other true is here above under go = absurd (omega (arith, here, above, under))
 lesser-first has n fault rest other false is here above under go =
     elim (cases_eq (plan_fault_number other) n) [
-    | inl same ↦ ap has (same_number other fault (same ∙ sym here)) ∙ is
-    | inr further ↦ go (omega (arith, above, further)) under
+      | inl same ↦ ap has (same_number other fault (same ∙ sym here)) ∙ is
+      | inr further ↦ go (omega (arith, above, further)) under
     ]
 
 lesser : (has : PlanFaultKind → Bool) (n : ℕ) (faults : List PlanFaultKind) → AreNumbered n faults → (other : PlanFaultKind) → n ≤ plan_fault_number other → plan_fault_number other < until (find has faults) → has other ≡ false

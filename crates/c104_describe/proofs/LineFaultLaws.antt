@@ -131,9 +131,9 @@ module _ (draft : Draft) where
       value _ _ (switch_number draft.plan (port_name at)) UnknownName _ (λ switch known.
       fails_as _ _ (is_linked draft.plan (port.Switch switch link)) (names_port draft.plan (is_linked draft.plan) at) LinkTaken _ (names draft.plan at switch link known is (is_linked draft.plan)) (
       both_as _ _
-          (nat_lt (length draft.plan.terminals) most_terminals) (nat_le (first + count) label_count)
-          (nat_lt most_terminals (length draft.plan.terminals + 1)) (nat_lt label_count (number_said (next_first draft.plan.terminals) from + number_said 1 labels))
-          TooMany _ (one_more _ _) (ap₂ (λ a b. nat_lt label_count (a + b)) begins counts ∙ past (first + count) label_count) refl))))))))
+      (nat_lt (length draft.plan.terminals) most_terminals) (nat_le (first + count) label_count)
+      (nat_lt most_terminals (length draft.plan.terminals + 1)) (nat_lt label_count (number_said (next_first draft.plan.terminals) from + number_said 1 labels))
+      TooMany _ (one_more _ _) (ap₂ (λ a b. nat_lt label_count (a + b)) begins counts ∙ past (first + count) label_count) refl))))))))
 
   wire_law : (here there : List ℕ) → error_of (in_draft draft (wire_line draft.plan here there)) ≡ of_keyword (keyword_parts draft keyword.Wire (here ∷ there ∷ []))
   wire_law here there =
@@ -187,7 +187,7 @@ module _ (draft : Draft) where
       holds _ _ (is_name (port_name at)) BadName _ (λ named.
       value _ _ (switch_number draft.plan (port_name at)) UnknownName _ (λ switch known.
       lone _ (is_any_at (λ (b : PlanBase). b.port) draft.plan.bases (port.Switch switch link)) (names_port draft.plan (is_any_at (λ (b : PlanBase). b.port) draft.plan.bases) at) Twice _
-          (names draft.plan at switch link known is (is_any_at (λ (b : PlanBase). b.port) draft.plan.bases)) refl)))))
+      (names draft.plan at switch link known is (is_any_at (λ (b : PlanBase). b.port) draft.plan.bases)) refl)))))
 
   row_law : (at limit word : List ℕ) → error_of (in_draft draft (row_line draft.plan at limit word)) ≡ of_keyword (keyword_parts draft keyword.Row (at ∷ limit ∷ word ∷ []))
   row_law at limit word =
@@ -200,7 +200,7 @@ module _ (draft : Draft) where
       holds _ _ (is_name (port_name at)) BadName _ (λ named.
       value _ _ (switch_number draft.plan (port_name at)) UnknownName _ (λ switch known.
       holds_as _ _ (nat_lt (length (rows_of (port.Switch switch link) draft.plan.rows)) ROWS) (nat_lt ROWS (row_count draft.plan at + 1)) TooMany _
-          (ap (λ n. nat_lt ROWS (n + 1)) (counted draft.plan at switch link known is) ∙ one_more _ _) (λ room. refl)))))))
+      (ap (λ n. nat_lt ROWS (n + 1)) (counted draft.plan at switch link known is) ∙ one_more _ _) (λ room. refl)))))))
 
   -- with the words of its range
   range_law : (name at : List ℕ) (range : Result (Option (List ℕ) × Option (List ℕ)) PlanFaultKind) → ((fault : PlanFaultKind) → range ≡ Err fault → fault ≡ BadShape)
