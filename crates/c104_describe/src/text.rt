@@ -1,7 +1,7 @@
 //! The words of a text: how it is cut into lines and words, and what a number and a name are.
 ghost use Rattle.std.specs.Prelude.{◌≡◌, ◌^◌, ◌<◌, ◌==◌, length, map, option_map, position, slice_get, IfOk, IfSome};
 ghost use Rattle.std.specs.List.{list_all};
-ghost use Rattle.c104_describe.specs.TextCut.{lines, uncommented_line, parts_words, line_words, is_plain_byte, is_plain_line};
+ghost use Rattle.c104_describe.specs.TextCut.{lines, uncommented_line, parts_words, line_words, is_plain_line};
 ghost use Rattle.c104_describe.specs.TextWords.{read_number, most_digits, is_name, is_name_byte, dots, IsInside};
 
 use std::alloc::{AllocError, Global};
@@ -70,14 +70,8 @@ fn parts_words(byte: u8) -> bool
 pub fn is_plain(line: &[u8]) -> bool
     ensures { result ≡ is_plain_line line.now }
 {
-    line.iter().all(|byte| is_plain_byte(*byte))
-}
-
-/// Whether a byte is a printable one of ASCII or parts words.
-fn is_plain_byte(byte: u8) -> bool
-    ensures { result ≡ is_plain_byte byte }
-{
-    (b' ' <= byte && byte <= b'~') || parts_words(byte)
+    line.iter()
+        .all(|byte| matches!(*byte, b' '..=b'~' | b'\t' | b'\r'))
 }
 
 /// The value of a number, 1 to 7 decimal digits. None for every other word.
