@@ -6,3 +6,6 @@ pub mod RegisterLemmas
 pub mod ContinueLemmas
 pub mod StatusLemmas
 pub mod PlacedRegisters
+pub mod KeptEntries
+pub mod KeptLemmas
+pub mod PlacedPokes

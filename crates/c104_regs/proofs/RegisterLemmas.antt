@@ -78,12 +78,12 @@ held_at_is_taken settings d t r a v l read inside kept at is =
     held_is_taken (get_or settings l d) t r a v l read (subst IsInRange (get_or_default settings l reset_settings d inside) kept) at is
 
 -- a list of one value reads it everywhere
-get_or-same : {X : Type 0} (n i : ℕ) (x : X) → get_or (replicate n x) i x ≡ x
+pub get_or-same : {X : Type 0} (n i : ℕ) (x : X) → get_or (replicate n x) i x ≡ x
 get_or-same zero i x = get_or_past [] i x (omega arith)
 get_or-same (suc n) zero x = refl
 get_or-same (suc n) (suc i) x = get_or-same n i x
 
-value_reset : (r : Register) → register_read reset_settings reset_status r ≡ (register_properties r).reset
+pub value_reset : (r : Register) → register_read reset_settings reset_status r ≡ (register_properties r).reset
 value_reset Mode = refl
 value_reset RandomBase = refl
 value_reset RandomRange = refl
@@ -99,7 +99,7 @@ value_reset (Limit k) = ap (λ (row : Row). row.limit) (get_or-same 36 k reset_r
 value_reset (Select k) = ap (λ (row : Row). select_code row.select) (get_or-same 36 k reset_row)
 
 -- after a reset each register of a link reads what the table says
-reset_values : (l : ℕ) (r : Register) → register_read (settings_at reset_bank l) (status_at reset_bank l) r ≡ (register_properties r).reset
+pub reset_values : (l : ℕ) (r : Register) → register_read (settings_at reset_bank l) (status_at reset_bank l) r ≡ (register_properties r).reset
 reset_values l r =
     ap (λ (s : Settings). register_read s (status_at reset_bank l) r) (get_or-same 32 l reset_settings)
     ∙ ap (λ (t : Status). register_read reset_settings t r) (get_or-same 32 l reset_status)

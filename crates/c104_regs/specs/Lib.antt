@@ -5,3 +5,4 @@ pub mod Values
 pub mod Groups
 pub mod Ranges
 pub mod Registers
+pub mod KeptValues

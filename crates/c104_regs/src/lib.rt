@@ -16,6 +16,7 @@
 mod addresses;
 mod faults;
 mod groups;
+mod kept;
 mod registers;
 mod settings;
 mod status;

@@ -1,0 +1,200 @@
+-- The values that are kept of settings are those that a poke may set, that are read, and that aren't read
+-- after a reset; with their addresses they are a finite map.
+use Rattle.std.proofs.Common.{◌≡◌, ◌↔◌, ℕ, zero, suc, ◌+◌, ◌-◌, ◌/◌, ◌%◌, ◌<◌, ◌==◌, ◌&&◌, not, Bool, true, false, nat_le, nat_lt, if◌then◌else◌, IsTrue, Option, Some, None, Result, Ok, Err, List, [], ◌∷◌, ◌++◌, append-nil, get_or, replicate, slice_get, option_map, refl, sym, ap, ◌∙◌, subst, arith}
+use Rattle.std.proofs.lemmas.Bool.Decides.{nat_tests}
+use Rattle.std.specs.List.{Contains, cons_option}
+use Rattle.c104_regs.specs.Addresses.{Address, IsRegister, Register, address_of, first_registers, register_at, register_properties, register_takes}
+use Rattle.c104_regs.specs.declared.addresses.Address.TheVariants.{DeviceId, Started, AtLink}
+use Rattle.c104_regs.specs.declared.addresses.Register.TheVariants.{Base, Limit, Select}
+use Rattle.c104_regs.specs.Faults.{RegFault}
+use Rattle.c104_regs.specs.declared.faults.RegFault.TheVariants.{NoRegister, ReadOnly}
+use Rattle.c104_regs.specs.KeptValues.{IsKept, IsMapOf, kept_value, kept_values, unless_reset}
+use Rattle.c104_regs.specs.Ranges.{IsInRange}
+use Rattle.c104_regs.specs.Registers.{bank_peek, placed_bank, reset_bank, settable}
+use Rattle.c104_regs.specs.Settings.{Settings, reset_settings}
+use Rattle.c104_regs.specs.Values.{Status, register_read, reset_status}
+use Rattle.c104_regs.proofs.RegisterLemmas.{get_or-same, reset_values, value_reset}
+use Rattle.c104_regs.proofs.KeptEntries.{ascending, entries, entries_more, entries_none, entry_has, entry_value}
+
+-- what stands at an address is one of the registers that there are
+is_one : (r q : Register) → Some r ≡ Some q → IsRegister r → IsRegister q
+is_one r q is here = let same : r ≡ q = cc in subst IsRegister same here
+
+one_of_first : (offset : ℕ) (r : Register) → slice_get first_registers offset ≡ Some r → IsRegister r
+one_of_first zero r at = is_one _ r at tt
+one_of_first (suc zero) r at = is_one _ r at tt
+one_of_first (suc (suc zero)) r at = is_one _ r at tt
+one_of_first (suc (suc (suc zero))) r at = is_one _ r at tt
+one_of_first (suc (suc (suc (suc zero)))) r at = is_one _ r at tt
+one_of_first (suc (suc (suc (suc (suc zero))))) r at = is_one _ r at tt
+one_of_first (suc (suc (suc (suc (suc (suc zero)))))) r at = is_one _ r at tt
+one_of_first (suc (suc (suc (suc (suc (suc (suc zero))))))) r at = is_one _ r at tt
+one_of_first (suc (suc (suc (suc (suc (suc (suc (suc zero)))))))) r at = is_one _ r at tt
+one_of_first (suc (suc (suc (suc (suc (suc (suc (suc (suc zero))))))))) r at = is_one _ r at tt
+one_of_first (suc (suc (suc (suc (suc (suc (suc (suc (suc (suc offset)))))))))) r at = cc
+
+one_by : (offset : ℕ) (r : Register) (first base limit select : Bool)
+    → limit ≡ (nat_le 64 offset && nat_lt offset 100) → select ≡ (nat_le 128 offset && nat_lt offset 164)
+    → (if first then slice_get first_registers offset else (if base then Some Base else (if limit then Some (Limit (offset - 64)) else (if select then Some (Select (offset - 128)) else None)))) ≡ Some r
+    → IsRegister r
+one_by offset r true base limit select is_limit is_select at = one_of_first offset r at
+one_by offset r false true limit select is_limit is_select at = is_one Base r at tt
+one_by offset r false false true select is_limit is_select at = is_one (Limit (offset - 64)) r at (grind (arith, nat_tests))
+one_by offset r false false false true is_limit is_select at = is_one (Select (offset - 128)) r at (grind (arith, nat_tests))
+one_by offset r false false false false is_limit is_select at = cc
+
+is_register : (offset : ℕ) (r : Register) → register_at offset ≡ Some r → IsRegister r
+is_register offset r at = one_by offset r (nat_lt offset 10) _ _ _ refl refl at
+
+-- and its address is below the end
+record IsPlaced (a : ℕ) (r : Register) : Type 0 where
+  pub register : IsRegister r
+  pub below : a < 8448
+
+at_link : (a l : ℕ) (r : Register) (q : Option Register) → q ≡ register_at (a % 256) → option_map (λ p. AtLink (a / 256 - 1) p) q ≡ Some (AtLink l r) → IsRegister r
+at_link a l r None is at = cc
+at_link a l r (Some q) is at = let one : Some q ≡ Some r = cc in is_register (a % 256) r (sym is ∙ one)
+
+placed_by : (a l : ℕ) (r : Register) (first second link : Bool) → link ≡ (nat_le 256 a && nat_lt a 8448)
+    → (if first then Some DeviceId else (if second then Some Started else (if link then option_map (λ p. AtLink (a / 256 - 1) p) (register_at (a % 256)) else None))) ≡ Some (AtLink l r)
+    → IsPlaced a r
+placed_by a l r true second link is at = cc
+placed_by a l r false true link is at = cc
+placed_by a l r false false true is at = record { register = at_link a l r (register_at (a % 256)) refl at; below = grind (arith, nat_tests) }
+placed_by a l r false false false is at = cc
+
+placed : (a l : ℕ) (r : Register) → address_of a ≡ Some (AtLink l r) → IsPlaced a r
+placed a l r at = placed_by a l r _ _ _ refl at
+
+pub placed_below : (a l : ℕ) (r : Register) → address_of a ≡ Some (AtLink l r) → a < 8448
+placed_below a l r at = (placed a l r at).below
+
+-- a value that is kept is of a register that can be written, and not that after a reset
+record IsUnlessReset (r : Register) (w v : ℕ) : Type 0 where
+  pub writable : (register_properties r).is_writable ≡ true
+  pub same : w ≡ v
+  pub differs : (w == (register_properties r).reset) ≡ false
+
+unless_by : (r : Register) (w v : ℕ) (writable resets : Bool) → (register_properties r).is_writable ≡ writable → (w == (register_properties r).reset) ≡ resets → (if writable && not resets then Some w else None) ≡ Some v → IsUnlessReset r w v
+unless_by r w v true false may differs is = record { writable = may; same = cc; differs = differs }
+unless_by r w v true true may differs is = cc
+unless_by r w v false resets may differs is = cc
+
+module _ (settings : List Settings) (ranges : (l : ℕ) → IsInRange (get_or settings l reset_settings)) (a v : ℕ) where
+  module _ (l : ℕ) (r : Register) (at : address_of a ≡ Some (AtLink l r)) where
+    -- what is read there
+    abbrev read : ℕ
+    read = register_read (get_or settings l reset_settings) reset_status r
+
+    reads_placed : bank_peek (placed_bank settings) a ≡ Ok read
+    reads_placed = rw at (ap Ok (ap (λ (t : Status). register_read (get_or settings l reset_settings) t r) (get_or-same 32 l reset_status)))
+
+    reads_reset : bank_peek reset_bank a ≡ Ok (register_properties r).reset
+    reads_reset = rw at (ap Ok (reset_values l r))
+
+    one_value : (x y : ℕ) → ◌≡◌ {A = Result ℕ RegFault} (Ok x) (Ok y) → x ≡ y
+    one_value x y is = cc
+
+    from_kept : IsUnlessReset r read v → IsKept settings a v
+    from_kept u =
+        let fits : register_takes r v ≡ true = subst (λ n. IsTrue (register_takes r n)) u.same ((ranges l).takes reset_status r (placed a l r at).register u.writable) in
+        record {
+          settable = rw (at, u.writable, fits) refl;
+          reads = reads_placed ∙ ap Ok u.same;
+          differs = λ is.
+              let back : (register_properties r).reset ≡ v = one_value _ _ (sym reads_reset ∙ is) in
+              let same = u.same in
+              let differs = u.differs in
+              grind (arith, nat_tests);
+        }
+
+    to_kept : IsKept settings a v → unless_reset r read ≡ Some v
+    to_kept k = by_tests (register_properties r).is_writable (read == (register_properties r).reset) refl refl
+      where
+        by_tests : (writable resets : Bool) → (register_properties r).is_writable ≡ writable → (read == (register_properties r).reset) ≡ resets → unless_reset r read ≡ Some v
+        by_tests true false may differs = rw (may, differs) (ap Some (one_value _ _ (sym reads_placed ∙ k.reads)))
+        by_tests true true may resets =
+            let same : read ≡ (register_properties r).reset = grind (arith, nat_tests) in
+            absurd (k.differs (reads_reset ∙ ap Ok (sym same) ∙ sym reads_placed ∙ k.reads))
+        by_tests false resets never differs =
+            let fixed : settable a v ≡ Err ReadOnly = rw (at, never) refl in
+            let done = k.settable in
+            cc
+
+  no_register : settable a v ≡ Err NoRegister → IsKept settings a v → kept_value settings a ≡ Some v
+  no_register none k = let done = k.settable in cc
+
+  read_only : settable a v ≡ Err ReadOnly → IsKept settings a v → kept_value settings a ≡ Some v
+  read_only fixed k = let done = k.settable in cc
+
+  pub kept_value_is : (kept_value settings a ≡ Some v) ↔ IsKept settings a v
+  kept_value_is = (λ is. from (address_of a) refl is, λ k. to (address_of a) refl k)
+    where
+      from : (x : Option Address) → address_of a ≡ x → kept_value settings a ≡ Some v → IsKept settings a v
+      from None at is = let no : ◌≡◌ {A = Option ℕ} None (Some v) = rw at at is in cc
+      from (Some DeviceId) at is = let no : ◌≡◌ {A = Option ℕ} None (Some v) = rw at at is in cc
+      from (Some Started) at is = let no : ◌≡◌ {A = Option ℕ} None (Some v) = rw at at is in cc
+      from (Some (AtLink l r)) at is = from_kept l r at (unless_by r (read l r at) v _ _ refl refl (rw at at is))
+
+      to : (x : Option Address) → address_of a ≡ x → IsKept settings a v → kept_value settings a ≡ Some v
+      to None at k = no_register (rw at refl) k
+      to (Some DeviceId) at k = read_only (rw at refl) k
+      to (Some Started) at k = read_only (rw at refl) k
+      to (Some (AtLink l r)) at k = rw at (to_kept l r at k)
+
+  pub kept_value_below : kept_value settings a ≡ Some v → a < 8448
+  kept_value_below is = by_address (address_of a) refl is
+    where
+      by_address : (x : Option Address) → address_of a ≡ x → kept_value settings a ≡ Some v → a < 8448
+      by_address None at is = let no : ◌≡◌ {A = Option ℕ} None (Some v) = rw at at is in cc
+      by_address (Some DeviceId) at is = let no : ◌≡◌ {A = Option ℕ} None (Some v) = rw at at is in cc
+      by_address (Some Started) at is = let no : ◌≡◌ {A = Option ℕ} None (Some v) = rw at at is in cc
+      by_address (Some (AtLink l r)) at is = (placed a l r at).below
+
+-- so all of them are the finite map of those that are kept
+module _ (settings : List Settings) (ranges : (l : ℕ) → IsInRange (get_or settings l reset_settings)) where
+  entries_are : (a v : ℕ) → Contains {X = ℕ × ℕ} (entries (kept_value settings) 0 8448) (a, v) ↔ IsKept settings a v
+  entries_are a v = (
+    λ has. (kept_value_is settings ranges a v).0 (entry_value (kept_value settings) 0 8448 a v has),
+    λ is. let value = (kept_value_is settings ranges a v).1 is in entry_has (kept_value settings) 0 8448 a v value (omega arith) (omega (arith, kept_value_below settings ranges a v value)),
+  )
+
+  pub map_of_entries : (end : ℕ) → end ≡ 8448 → IsMapOf settings (entries (kept_value settings) 0 end)
+  map_of_entries end is = subst (λ n. IsMapOf settings (entries (kept_value settings) 0 n)) (sym is) (record { ascending = ascending (kept_value settings) 0 8448; entries = entries_are })
+
+-- the last entries make all of them
+pub entries_all : (settings : List Settings) (end : ℕ) → end ≡ 8448 → entries (kept_value settings) 0 end ≡ kept_values settings
+unfolding kept_values
+entries_all settings end is = ap (λ n. entries (kept_value settings) 0 n) is
+
+pub map_of_kept : (settings : List Settings) → ((l : ℕ) → IsInRange (get_or settings l reset_settings)) → IsMapOf settings (kept_values settings)
+map_of_kept settings ranges = subst (IsMapOf settings) (entries_all settings 8448 refl) (map_of_entries settings ranges 8448 refl)
+
+-- after a reset nothing is kept
+reset_by : (n : ℕ) (writable : Bool) → ◌≡◌ {A = Option ℕ} (if writable && not (n == n) then Some n else None) None
+reset_by n true = let same : (n == n) ≡ true = grind (arith, nat_tests) in rw same refl
+reset_by n false = refl
+
+none_kept : (a : ℕ) → kept_value (replicate 32 reset_settings) a ≡ None
+none_kept a = by_address (address_of a) refl
+  where
+    by_address : (x : Option Address) → address_of a ≡ x → kept_value (replicate 32 reset_settings) a ≡ None
+    by_address None at = rw at refl
+    by_address (Some DeviceId) at = rw at refl
+    by_address (Some Started) at = rw at refl
+    by_address (Some (AtLink l r)) at =
+        let reset : register_read (get_or (replicate 32 reset_settings) l reset_settings) reset_status r ≡ (register_properties r).reset =
+            ap (λ (s : Settings). register_read s reset_status r) (get_or-same 32 l reset_settings) ∙ value_reset r in
+        rw (at, reset) (reset_by (register_properties r).reset (register_properties r).is_writable)
+
+pub none_kept_values : [] ≡ kept_values (replicate 32 reset_settings)
+none_kept_values = sym (entries_none (kept_value (replicate 32 reset_settings)) none_kept 0 8448) ∙ entries_all (replicate 32 reset_settings) 8448 refl
+
+-- one more address: its value goes behind those so far, if it has one
+pub entries_next : (settings : List Settings) (n v : ℕ) (before after : List (ℕ × ℕ)) → before ≡ entries (kept_value settings) 0 n → Some v ≡ kept_value settings n → after ≡ before ++ (n, v) ∷ [] → after ≡ entries (kept_value settings) 0 (n + 1)
+entries_next settings n v before after made is pushed =
+    pushed ∙ ap (λ xs. xs ++ (n, v) ∷ []) made ∙ ap (λ o. entries (kept_value settings) 0 n ++ cons_option (option_map (λ w. (n, w)) o) []) is ∙ sym (entries_more (kept_value settings) n)
+
+pub entries_skip : (settings : List Settings) (n : ℕ) (before : List (ℕ × ℕ)) → before ≡ entries (kept_value settings) 0 n → None ≡ kept_value settings n → before ≡ entries (kept_value settings) 0 (n + 1)
+entries_skip settings n before made is =
+    made ∙ sym (append-nil (entries (kept_value settings) 0 n)) ∙ ap (λ o. entries (kept_value settings) 0 n ++ cons_option (option_map (λ w. (n, w)) o) []) is ∙ sym (entries_more (kept_value settings) n)

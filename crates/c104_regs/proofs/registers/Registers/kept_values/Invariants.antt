@@ -1,0 +1,8 @@
+use Rattle.std.proofs.Common.{◌≡◌}
+use Rattle.c104_regs.specs.KeptValues.{kept_value}
+use Rattle.c104_regs.proofs.KeptEntries.{entries}
+use Rattle.c104_regs.proofs.registers.Registers.kept_values.Given as goal
+
+-- the values of the addresses so far
+abbrev pub invariant-loop-addr : goal.invariant-loop-addr
+invariant-loop-addr l = l.values.items ≡ entries (kept_value l.settings) 0 l.addr
