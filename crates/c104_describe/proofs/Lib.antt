@@ -25,3 +25,7 @@ mod NameText
 mod PrintedSteps
 mod PrintedPlans
 mod PrintedParts
+pub mod KeptUpdates
+pub mod SwitchImageSteps
+pub mod ImageSteps
+pub mod ImageMade

@@ -13,4 +13,7 @@ pub mod PlanIndex
 pub mod PlanParts
 pub mod PlanText
 pub mod PlanImage
+pub mod ImageFaults
+pub mod ImageEdits
+pub mod SwitchImages
 pub mod PlanPrint

@@ -11,7 +11,7 @@ use Rattle.c104_regs.specs.declared.settings.Settings.{Settings}
 use Rattle.c104_regs.specs.Settings.{plain_settings}
 use Rattle.c104_describe.specs.declared.ports.Port.TheVariants as port
 use Rattle.c104_describe.specs.Ports.{Port, is_port}
-use Rattle.c104_describe.specs.Plans.{Plan, PlanBase, PlanRandom, PlanRow, Terminal, deletes_at, is_base_of, is_continued, rows_of}
+use Rattle.c104_describe.specs.Plans.{IsRange, Plan, PlanBase, PlanRandom, PlanRow, Terminal, deletes_at, is_base_of, is_continued, rows_of}
 use Rattle.c104_describe.specs.Wiring.{peer}
 
 -- a range for each terminal, by its first label and how many they are, and what is set at each link of
@@ -93,6 +93,7 @@ pub record Fits (image : Image) (plan : Plan) : Type 0 where
 abbrev pub AreSettings : List Settings → Type 0
 AreSettings settings = (length settings ≡ LINKS) × All IsInRange settings
 
--- what the type of an image keeps of each switch
-abbrev pub IsImage : Image → Type 0
-IsImage image = All AreSettings image.settings
+-- what the type of an image keeps: the settings of each switch, and ranges of labels
+pub record IsImage (image : Image) : Type 0 where
+  pub switches : All AreSettings image.settings
+  pub ranges : All (λ range. IsRange range.0 range.1) image.ranges

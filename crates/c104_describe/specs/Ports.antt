@@ -14,6 +14,11 @@ is_port (port.Terminal t) (port.Terminal t') = t == t'
 is_port (port.Switch s l) (port.Terminal t) = false
 is_port (port.Terminal t) (port.Switch s l) = false
 
+-- whether a port is a link of this switch
+abbrev pub is_of_switch : ℕ → Port → Bool
+is_of_switch switch (port.Switch s l) = s == switch
+is_of_switch switch (port.Terminal t) = false
+
 -- the other end of the first of these wires that has this port
 abbrev pub other_end : List Wire → Port → Option Port
 other_end [] p = None

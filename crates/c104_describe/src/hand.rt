@@ -1,16 +1,19 @@
 //! The image that a plan's own lines give.
-ghost use Rattle.std.specs.Prelude.{◌≡◌, length, map, slice_get, IfOk};
+ghost use Rattle.std.specs.Prelude.{◌≡◌, ℕ, length, map, slice_get, IfOk};
 ghost use Rattle.std.specs.List.{find, range_with_len};
-ghost use Rattle.c104_describe.specs.Plans.{IsPlan, deletes_at, is_on};
-ghost use Rattle.c104_describe.specs.PlanImage.{Fits, hand_image, range_of};
+ghost use Rattle.c104_describe.specs.declared.ports.Port.TheVariants as kind;
+ghost use Rattle.c104_describe.specs.Ports.{is_of_switch};
+ghost use Rattle.c104_describe.specs.Plans.{IsPlan, deletes_at, is_on, rows_of};
+ghost use Rattle.c104_describe.specs.PlanImage.{Fits, hand_image};
 ghost use Rattle.c104_describe.specs.PlanImage.{base_of, is_random_of, settings_of, switch_settings, table_of};
 
-use crate::image::Image;
-use crate::plans::{Plan, PlanRandom};
+use crate::image::{Image, ranges};
+use crate::plans::{Plan, PlanRandom, PlanRow};
 use crate::ports::Port;
+use crate::switch_image::SwitchImage;
 use c104_interval::{Row, Table};
 use c104_regs::{LINKS, Settings};
-use c104_token::{Items, NoMemory};
+use c104_token::NoMemory;
 use std::alloc::{AllocError, Global};
 
 /// The image that a plan's own lines give: each terminal's range, the links at which headers are
@@ -21,51 +24,80 @@ pub fn hand_image(alloc: Global, plan: &Plan) -> Result<Image, NoMemory>
     ensures fits { IfOk result (λ image. Fits image plan.now) }
 {
     let ranges = ranges(alloc, plan)?;
-    let settings = all_settings(alloc, plan)?;
-    Ok(Image { ranges, settings })
+    let switches = hand_switches(alloc, plan)?;
+    Ok(Image { ranges, switches })
 }
 
-/// The range of each terminal.
-fn ranges(alloc: Global, plan: &Plan) -> Result<Vec<(u32, u32)>, AllocError>
-    ensures { IfOk result (λ ranges. ranges.items ≡ map range_of plan.now.terminals) }
-{
-    plan.terminals()
-        .iter()
-        .map(|terminal| (terminal.first, terminal.count))
-        .collect(alloc)
-}
-
-/// What is set at the links of each switch.
-fn all_settings(alloc: Global, plan: &Plan) -> Result<Vec<Items<Settings>>, AllocError>
-    ensures settings { IfOk result (λ settings. settings.items
+/// What each switch is to hold.
+fn hand_switches(alloc: Global, plan: &Plan) -> Result<Vec<SwitchImage>, AllocError>
+    ensures settings { IfOk result (λ switches. switches.items
         ≡ map (switch_settings plan.now) (range_with_len 0 (length plan.now.switches))) }
     ensures kept { IsPlan plan.now }
 {
-    let mut all = Vec::new(alloc);
+    let mut switches = Vec::new(alloc);
     for switch in 0..plan.switches().len() {
-        let settings = switch_settings(alloc, plan, switch)?;
-        all.push(Items::new(settings))?;
+        switches.push(hand_switch(alloc, plan, switch)?)?;
     }
-    Ok(all)
+    Ok(switches)
+}
+
+/// What a switch is to hold.
+fn hand_switch(alloc: Global, plan: &Plan, switch: usize) -> Result<SwitchImage, AllocError>
+    ensures { IfOk result (λ image. image ≡ switch_settings plan.now switch) }
+{
+    let settings = switch_settings(alloc, plan, switch)?;
+    SwitchImage::with_settings(alloc, settings.as_slice())
 }
 
 /// What is set at a switch's links.
 fn switch_settings(alloc: Global, plan: &Plan, switch: usize) -> Result<Vec<Settings>, AllocError>
-    ensures { IfOk result (λ settings. settings.items ≡ switch_settings plan.now switch) }
+    ensures settings { IfOk result (λ settings. settings.items ≡ switch_settings plan.now switch) }
+    ensures kept { IsPlan plan.now }
 {
+    let rows = rows_of_switch(alloc, plan, switch)?;
     let mut settings = Vec::new(alloc);
     for link in 0..LINKS {
-        settings.push(settings_of(plan, Port::Switch(switch, link)))?;
+        let port = Port::Switch(switch, link);
+        settings.push(settings_of(plan, rows.as_slice(), port))?;
     }
     Ok(settings)
 }
 
-/// What is set at a port of a switch.
+/// The rows of a switch's inputs. Each of its inputs has among them the rows that it has in the
+/// plan.
+fn rows_of_switch(
+    alloc: Global,
+    plan: &Plan,
+    switch: usize,
+) -> Result<Vec<PlanRow>, AllocError>
+    ensures { IfOk result (λ rows. (link : ℕ) →
+        rows_of (kind.Switch switch link) rows.items ≡
+        rows_of (kind.Switch switch link) plan.now.rows) }
+{
+    plan.rows()
+        .iter()
+        .filter(|row| is_of_switch(row.port, switch))
+        .copied()
+        .collect(alloc)
+}
+
+/// Whether a port is one of a switch.
+fn is_of_switch(port: Port, switch: usize) -> bool
+    ensures { result ≡ is_of_switch switch port }
+{
+    match port {
+        Port::Switch(own, _) => own == switch,
+        Port::Terminal(_) => false,
+    }
+}
+
+/// What is set at a port of a switch, by rows among which are those of the port.
 #[tactic(auto, unfolding(crate::specs::PlanImage::settings_of))]
-fn settings_of(plan: &Plan, port: Port) -> Settings
+fn settings_of(plan: &Plan, rows: &[PlanRow], port: Port) -> Settings
+    requires { rows_of port rows.now ≡ rows_of port plan.now.rows }
     ensures { result ≡ settings_of plan.now port }
 {
-    let mut settings = Settings::plain(table_of(plan, port));
+    let mut settings = Settings::plain(table_of(plan, rows, port));
     settings.two_byte = plan.header() == 2 && plan.peer(port).is_some();
     settings.delete_header = deletes_at(plan, port);
     settings.continue_group = plan.parts.is_continued(port);
@@ -122,15 +154,15 @@ fn random_of(plan: &Plan, port: Port) -> Option<PlanRandom>
     None
 }
 
-/// The table of an input.
-#[tactic(auto, using(crate::proofs::PlanTables::room_in))]
-fn table_of(plan: &Plan, port: Port) -> Table
+/// The table of an input, by rows among which are its own.
+fn table_of(plan: &Plan, rows: &[PlanRow], port: Port) -> Table
+    requires { rows_of port rows.now ≡ rows_of port plan.now.rows }
     ensures { result ≡ table_of plan.now port }
 {
     let mut table = Table::reset();
     table.base = base_of(plan, port);
     let mut count = 0;
-    for row in plan.rows() {
+    for row in rows {
         if row.port.is_same(port) {
             table.rows[count] = Row {
                 limit: row.limit,

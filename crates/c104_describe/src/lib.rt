@@ -21,6 +21,7 @@ mod drafts;
 mod faults;
 mod hand;
 mod image;
+mod image_faults;
 mod limits;
 mod lines;
 mod name_index;
@@ -30,6 +31,7 @@ mod plans;
 mod ports;
 mod print;
 mod row_list;
+mod switch_image;
 mod switch_list;
 mod terminal_list;
 mod text;
@@ -40,10 +42,12 @@ pub use description::{MAX_DESCRIPTION, read_description};
 pub use faults::{PlanFault, PlanFaultKind};
 pub use hand::hand_image;
 pub use image::Image;
+pub use image_faults::ImageFault;
 pub use names::Name;
 pub use plans::{Plan, PlanBase, PlanRandom, PlanRow, Shape, Terminal};
 pub use ports::{Port, Wire};
 pub use print::print_plan;
+pub use switch_image::SwitchImage;
 pub use text::{
     Dots, cut_lines, cut_words, find_dots, first_word, is_name, is_plain, read_number, uncommented,
 };

@@ -1,6 +1,7 @@
 //! What of a switch's settings differs from a reset, by address.
 ghost use Rattle.std.specs.Prelude.{◌≡◌, ◌↔◌, ℕ, Some, IfOk, length};
 ghost use Rattle.c104_regs.specs.Addresses.{register_properties};
+ghost use Rattle.c104_regs.specs.Registers.{IsRegisterBank};
 ghost use Rattle.c104_regs.specs.KeptValues.{IsKept, IsMapOf, address_end, kept_value, kept_values, unless_reset};
 
 use crate::addresses::{Address, Register};
@@ -43,8 +44,10 @@ impl Registers {
     pub fn kept_value(&self, addr: u16) -> Option<u32>
         ensures value { result ≡ kept_value self.now.settings addr }
         ensures kept { (v : ℕ) → (result ≡ Some v) ↔ IsKept self.now.settings addr v }
+        ensures in_range { IsRegisterBank self.now }
     {
-        kept_value(self.all_settings(), addr)
+        let settings = self.all_settings();
+        kept_value(settings, addr)
     }
 
     /// The values that are kept, each with its address, in ascending order of addresses: what is to
@@ -53,6 +56,7 @@ impl Registers {
     pub fn kept_values(&self, alloc: Global) -> Result<Vec<(u16, u32)>, AllocError>
         ensures values { IfOk result (λ values. values.items ≡ kept_values self.now.settings) }
         ensures map { IfOk result (λ values. IsMapOf self.now.settings values.items) }
+        ensures in_range { IsRegisterBank self.now }
     {
         let settings = self.all_settings();
         let mut values = Vec::new(alloc);

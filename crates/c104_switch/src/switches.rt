@@ -1,11 +1,9 @@
 //! The switch: what is set at each link, and the two sides of each link.
-ghost use Rattle.std.specs.Prelude.{◌≡◌, true, length, All, IfOk};
+ghost use Rattle.std.specs.Prelude.{◌≡◌, true, IfOk};
 ghost use Rattle.std.specs.Option.{option_copied};
 ghost use Rattle.c104_crossbar.specs.Marks.{ArePartition};
 ghost use Rattle.c104_link.specs.Buffers.{IsValidCap};
 ghost use Rattle.c104_link.specs.Steps.{bool_outcome, option_outcome};
-ghost use Rattle.c104_regs.specs.declared.registers.TheConstants.{LINKS};
-ghost use Rattle.c104_regs.specs.Ranges.{IsInRange};
 ghost use Rattle.c104_switch.specs.Switch.{Switch as State, new_switch, new_switch_with, switch_enter, switch_leave, switch_credit_out, switch_credit_in};
 ghost use Rattle.c104_switch.specs.Turns.{switch_input};
 ghost use Rattle.c104_switch.specs.Claims.{switch_claim};
@@ -22,7 +20,7 @@ use crate::actions::LinkView;
 use crate::inputs::InputsOf;
 use crate::outputs::OutputsOf;
 use c104_crossbar::{Claim, Crossbar};
-use c104_regs::{Registers, Settings};
+use c104_regs::Registers;
 use c104_token::{NoMemory, Token, TokenKind};
 use std::alloc::Global;
 use std::marker::Model;
@@ -80,19 +78,17 @@ impl<T: TokenKind> SwitchOf<T> {
         })
     }
 
-    /// A switch that is started, with these settings at its 32 links, each in its range, and no
-    /// token anywhere. Its input buffers have room for `cap` tokens each, one of 8, 16, .. 64. It
-    /// fails only when out of memory.
-    pub fn placed(alloc: Global, cap: usize, settings: &[Settings]) -> Result<Self, NoMemory>
-        requires cap { IsValidCap cap }
-        requires links { length settings.now ≡ LINKS }
-        requires ranges { All IsInRange settings.now }
-        ensures { IfOk result (λ s. s ≡ new_switch_with cap settings.now true) }
+    /// A switch that is started, with the settings of these registers at its 32 links, and no token
+    /// anywhere. Its input buffers have room for `cap` tokens each, one of 8, 16, .. 64. It fails
+    /// only when out of memory.
+    pub fn placed(alloc: Global, cap: usize, registers: &Registers) -> Result<Self, NoMemory>
+        requires { IsValidCap cap }
+        ensures { IfOk result (λ s. s ≡ new_switch_with cap registers.now.settings true) }
     {
         let outputs = OutputsOf::new(alloc)?;
         let inputs = InputsOf::new(alloc, cap)?;
         Ok(SwitchOf {
-            registers: Registers::placed(settings),
+            registers: Registers::placed(registers.all_settings()),
             inputs,
             outputs,
         })

@@ -3,5 +3,5 @@ use Rattle.c104_regs.proofs.registers.Registers.kept_value.Goals as goal
 
 pub returns-clause-kept : goal.returns-clause-kept
 returns-clause-kept c v =
-    let ranges = c.all_settings.ensures.kept.in_range in
-    rw (c.kept_value.ensures, c.all_settings.ensures.settings) (kept_value_is c.args.self.now.settings ranges c.args.addr v)
+    let ranges = c.all_settings-settings.ensures.kept.in_range in
+    rw (c.kept_value.ensures, c.all_settings-settings.ensures.settings) (kept_value_is c.args.self.now.settings ranges c.args.addr v)
