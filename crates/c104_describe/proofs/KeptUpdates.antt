@@ -73,7 +73,7 @@ module _ (front back : List (ℕ × ℕ)) (a : ℕ) (above : All (λ x. a < x.0)
       let more : a < (get_or back 0 d).0 = above 0 d (omega (arith, ap length is, length-append front back)) in
       let on : place ≡ length front + 0 = omega arith in
       let first : get_or values place d ≡ get_or back 0 d =
-          ap (λ (xs : List (ℕ × ℕ)). get_or xs place d) is ∙ ap (λ n. get_or (front ++ back) n d) on ∙ get_or-append-add front back 0 d in
+      ap (λ (xs : List (ℕ × ℕ)). get_or xs place d) is ∙ ap (λ n. get_or (front ++ back) n d) on ∙ get_or-append-add front back 0 d in
       let less : a < (get_or values place d).0 = subst (λ (x : ℕ × ℕ). a < x.0) (sym first) more in
       absurd (omega arith)
   taken_out (Some v) values place d here is there =
@@ -87,7 +87,7 @@ module _ (front back : List (ℕ × ℕ)) (a : ℕ) (above : All (λ x. a < x.0)
   none_there None values place d here is other = is
   none_there (Some v) values place d here is other =
       let first : get_or values place d ≡ (a, v) =
-          ap (λ (xs : List (ℕ × ℕ)). get_or xs place d) is ∙ ap (λ n. get_or (front ++ (a, v) ∷ back) n d) here ∙ get_or-append_seam front (a, v) back d in
+      ap (λ (xs : List (ℕ × ℕ)). get_or xs place d) is ∙ ap (λ n. get_or (front ++ (a, v) ∷ back) n d) here ∙ get_or-append_seam front (a, v) back d in
       let same : (get_or values place d).0 ≡ a = ap (λ (x : ℕ × ℕ). x.0) first in
       let inside : place < length values = omega (arith, ap length is, length-append front ((a, v) ∷ back)) in
       absurd (grind (arith, nat_tests))

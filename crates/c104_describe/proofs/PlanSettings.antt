@@ -46,7 +46,7 @@ settings_in_range plan p kept =
     rw (no_random plan p kept) (IsInRange-from _ (one_byte plan p kept) refl (lit< tt) (lit≤ tt) (table_in_range plan p kept))
 
 -- a switch has settings for each of its links
-are_settings : (plan : Plan) (switch : ℕ) → IsPlan plan → AreSettings (switch_settings plan switch)
+pub are_settings : (plan : Plan) (switch : ℕ) → IsPlan plan → AreSettings (switch_settings plan switch)
 unfolding switch_settings
 are_settings plan switch kept = (
   length-map-range_with_len (settings_at plan switch) 0 32,

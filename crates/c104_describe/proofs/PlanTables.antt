@@ -1,9 +1,10 @@
 -- The rows of an input, filled into its table one after another.
-use Rattle.std.proofs.Common.{◌≡◌, ℕ, suc, ◌+◌, ◌-◌, ◌<◌, ◌≤◌, Bool, true, false, cond, List, [], ◌∷◌, ◌++◌, length, map, filter, take, set, get_or, replicate, All, inl, inr, subst, sym, ◌∙◌, ap, arith, append_assoc, append-nil, length-append, Some, lit<}
+use Rattle.std.proofs.Common.{◌≡◌, ℕ, suc, ◌+◌, ◌-◌, ◌<◌, ◌≤◌, Bool, true, false, cond, List, [], ◌∷◌, ◌++◌, length, map, filter, take, set, get_or, replicate, All, inl, inr, subst, sym, ◌∙◌, ap, arith, append_assoc, append-nil, length-append, Some, lit<, refl}
 use Rattle.std.proofs.Math.Seq.{set-append_seam}
 use Rattle.std.proofs.lemmas.List.{get_or_past, length-map, length-replicate, map-append, take_all}
 use Rattle.std.proofs.lemmas.List.Elements.{All-head, All-tail, All-append, All-filter, All-map, All-replicate, All-weaker, filter_more}
 use Rattle.std.proofs.lemmas.Bool.{cases_lt}
+use Rattle.std.proofs.lemmas.Bool.Decides.{nat_tests}
 use Rattle.std.specs.List.{find}
 use Rattle.std.proofs.lemmas.List.Sums.{length-filter, sum_by-take-le}
 use Rattle.c104_regs.specs.Ranges.{IsTableInRange}
@@ -13,7 +14,8 @@ use Rattle.c104_interval.specs.declared.intervals.Select.TheVariants.{Link, Disc
 use Rattle.c104_interval.specs.declared.intervals.Row.{Row}
 use Rattle.c104_interval.specs.declared.intervals.Table.{Table}
 use Rattle.c104_interval.specs.Selection.{reset_row}
-use Rattle.c104_describe.specs.Ports.{Port}
+use Rattle.c104_describe.specs.Ports.{Port, is_of_switch, is_port}
+use Rattle.c104_describe.specs.declared.ports.Port.TheVariants as port
 use Rattle.c104_describe.specs.Plans.{IsPlan, IsPlanSelect, Plan, PlanBase, PlanRow, is_base_of, is_row_of, rows_of}
 use Rattle.c104_describe.specs.PlanImage.{base_of, base_or_zero, padded_rows, table_of, table_row}
 
@@ -47,7 +49,7 @@ filled-next rows row fits =
     ∙ sym (append_assoc rows (row ∷ []) (replicate (36 - length (rows ++ row ∷ [])) reset_row))
 
 -- where a row of the input comes, there is room for it in the table
-pub room_in : (plan : Plan) (p : Port) (rows : List PlanRow) (i : ℕ) (d : PlanRow) → IsPlan plan → rows ≡ plan.rows → i < length rows → true ≡ is_row_of p (get_or rows i d) → length (so_far p rows i) < 36
+pub room_in : (plan : Plan) (p : Port) (rows : List PlanRow) (i : ℕ) (d : PlanRow) → IsPlan plan → rows_of p rows ≡ rows_of p plan.rows → i < length rows → true ≡ is_row_of p (get_or rows i d) → length (so_far p rows i) < 36
 unfolding rows_of
 room_in plan p rows i d kept same inside is =
     room p rows i d inside (sym is) (rw same (kept.rows.few p))
@@ -74,10 +76,30 @@ count_next p rows i d count inside is counted =
     omega (arith, ap length (so_far-next p rows i d inside (sym is)), length-append (so_far p rows i) (table_row (get_or rows i d) ∷ []))
 
 -- the table after the last row
-pub table_last : (plan : Plan) (p : Port) (rows : List PlanRow) (i : ℕ) → rows ≡ plan.rows → length rows ≤ i → of_rows (base_of plan p) (padded_rows (so_far p rows i)) ≡ table_of plan p
+pub table_last : (plan : Plan) (p : Port) (rows : List PlanRow) (i : ℕ) → rows_of p rows ≡ rows_of p plan.rows → length rows ≤ i → of_rows (base_of plan p) (padded_rows (so_far p rows i)) ≡ table_of plan p
 unfolding table_of rows_of
 table_last plan p rows i same all =
-    ap (λ (some : List PlanRow). of_rows (base_of plan p) (padded_rows (map table_row (filter (is_row_of p) some)))) (take_all i rows all ∙ same)
+    ap (λ (some : List PlanRow). of_rows (base_of plan p) (padded_rows (map table_row (filter (is_row_of p) some)))) (take_all i rows all)
+    ∙ ap (λ (own : List PlanRow). of_rows (base_of plan p) (padded_rows (map table_row own))) same
+
+-- the rows of an input are among those of its switch
+row_among : (s l : ℕ) (q : Port) → is_port q (port.Switch s l) ≡ true → is_of_switch s q ≡ true
+row_among s l (port.Switch t k) is = grind (arith, nat_tests)
+row_among s l (port.Terminal t) is = cc
+
+rows_cons : (s l : ℕ) (row : PlanRow) (rows more : List PlanRow) (own of_switch : Bool) → own ≡ is_row_of (port.Switch s l) row → of_switch ≡ is_of_switch s row.port → filter (is_row_of (port.Switch s l)) more ≡ filter (is_row_of (port.Switch s l)) rows
+    → filter (is_row_of (port.Switch s l)) (cond of_switch (row ∷ more) more) ≡ cond own (row ∷ filter (is_row_of (port.Switch s l)) rows) (filter (is_row_of (port.Switch s l)) rows)
+rows_cons s l row rows more true true is of same = rw (sym is) (ap (λ xs. row ∷ xs) same)
+rows_cons s l row rows more false true is of same = rw (sym is) same
+rows_cons s l row rows more false false is of same = same
+rows_cons s l row rows more true false is of same =
+    let among : is_of_switch s row.port ≡ true = row_among s l row.port (sym is) in
+    cc
+
+pub rows_of_input : (s l : ℕ) (rows : List PlanRow) → rows_of (port.Switch s l) (filter (λ row. is_of_switch s row.port) rows) ≡ rows_of (port.Switch s l) rows
+unfolding rows_of
+rows_of_input s l [] = refl
+rows_of_input s l (row ∷ rows) = rows_cons s l row rows (filter (λ row. is_of_switch s row.port) rows) _ _ refl refl (rows_of_input s l rows)
 
 -- a row within the ranges of its registers
 abbrev IsRowInRange : Row → Type 0

@@ -1,10 +1,9 @@
 //! The image that a plan's own lines give.
-ghost use Rattle.std.specs.Prelude.{◌≡◌, ℕ, length, map, slice_get, IfOk};
+ghost use Rattle.std.specs.Prelude.{◌≡◌, filter, length, map, slice_get, IfOk};
 ghost use Rattle.std.specs.List.{find, range_with_len};
-ghost use Rattle.c104_describe.specs.declared.ports.Port.TheVariants as kind;
 ghost use Rattle.c104_describe.specs.Ports.{is_of_switch};
 ghost use Rattle.c104_describe.specs.Plans.{IsPlan, deletes_at, is_on, rows_of};
-ghost use Rattle.c104_describe.specs.PlanImage.{Fits, hand_image};
+ghost use Rattle.c104_describe.specs.PlanImage.{AreSettings, Fits, hand_image};
 ghost use Rattle.c104_describe.specs.PlanImage.{base_of, is_random_of, settings_of, switch_settings, table_of};
 
 use crate::image::{Image, ranges};
@@ -52,7 +51,7 @@ fn hand_switch(alloc: Global, plan: &Plan, switch: usize) -> Result<SwitchImage,
 /// What is set at a switch's links.
 fn switch_settings(alloc: Global, plan: &Plan, switch: usize) -> Result<Vec<Settings>, AllocError>
     ensures settings { IfOk result (λ settings. settings.items ≡ switch_settings plan.now switch) }
-    ensures kept { IsPlan plan.now }
+    ensures all { IfOk result (λ settings. AreSettings settings.items) }
 {
     let rows = rows_of_switch(alloc, plan, switch)?;
     let mut settings = Vec::new(alloc);
@@ -63,16 +62,11 @@ fn switch_settings(alloc: Global, plan: &Plan, switch: usize) -> Result<Vec<Sett
     Ok(settings)
 }
 
-/// The rows of a switch's inputs. Each of its inputs has among them the rows that it has in the
-/// plan.
-fn rows_of_switch(
-    alloc: Global,
-    plan: &Plan,
-    switch: usize,
-) -> Result<Vec<PlanRow>, AllocError>
-    ensures { IfOk result (λ rows. (link : ℕ) →
-        rows_of (kind.Switch switch link) rows.items ≡
-        rows_of (kind.Switch switch link) plan.now.rows) }
+/// The rows of a switch's inputs, so that the rows of one input are looked for among these alone.
+fn rows_of_switch(alloc: Global, plan: &Plan, switch: usize) -> Result<Vec<PlanRow>, AllocError>
+    ensures rows { IfOk result (λ rows.
+        rows.items ≡ filter (λ row. is_of_switch switch row.port) plan.now.rows) }
+    ensures kept { IsPlan plan.now }
 {
     plan.rows()
         .iter()
@@ -132,7 +126,8 @@ fn is_on(plan: &Plan, terminal: usize, port: Port) -> bool
 /// The base of an input's table.
 #[tactic(auto, unfolding(crate::specs::PlanImage::base_of))]
 fn base_of(plan: &Plan, port: Port) -> u32
-    ensures { result ≡ base_of plan.now port }
+    ensures base { result ≡ base_of plan.now port }
+    ensures kept { IsPlan plan.now }
 {
     for base in plan.bases() {
         if base.port.is_same(port) {
@@ -155,6 +150,7 @@ fn random_of(plan: &Plan, port: Port) -> Option<PlanRandom>
 }
 
 /// The table of an input, by rows among which are its own.
+#[tactic(auto, using(crate::proofs::PlanTables::room_in))]
 fn table_of(plan: &Plan, rows: &[PlanRow], port: Port) -> Table
     requires { rows_of port rows.now ≡ rows_of port plan.now.rows }
     ensures { result ≡ table_of plan.now port }

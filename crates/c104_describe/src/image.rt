@@ -56,8 +56,7 @@ impl Image {
     /// has the address, ReadOnly where it can't be written, and OutOfRange where it doesn't take
     /// the value; then NoMemory. What is refused changes nothing.
     pub fn set(&mut self, switch: usize, addr: u16, value: u32) -> Result<(), ImageFault>
-        ensures answer {
-            AnswersDue self.old (image_set self.old switch addr value) result self.new }
+        ensures answer { AnswersDue self.old (image_set self.old switch addr value) result self.new }
 
         // The registers' faults are those of the address and the value: no switch is busy.
         ensures faults { (e : TheRegFault) →
@@ -67,7 +66,7 @@ impl Image {
         ensures written { OnOk result (image_peek self.new switch addr ≡ Some (Ok value)) }
         ensures others { OnOk result
             ((s a : ℕ) → (s ≢ switch) ⊎ (a ≢ addr) →
-             image_peek self.new s a ≡ image_peek self.old s a) }
+            image_peek self.new s a ≡ image_peek self.old s a) }
         ensures ranges { self.new.ranges ≡ self.old.ranges }
         ensures refused { OnErr result (self.new ≡ self.old) }
     {
@@ -112,8 +111,7 @@ impl Image {
     /// What a switch's registers read that isn't what they read after a reset, each with its
     /// address, in ascending order of addresses. None where the image has no such switch.
     pub fn values(&self, switch: usize) -> Option<&[(u16, u32)]>
-        ensures values {
-            option_copied result ≡ option_map kept_values (slice_get self.now.settings switch) }
+        ensures values { option_copied result ≡ option_map kept_values (slice_get self.now.settings switch) }
 
         // They are a map: no address comes twice, and of each that may be set there is the value
         // that it reads, unless it reads the same after a reset.

@@ -7,8 +7,11 @@
 //! the first faulty line and the least of its faults, of kind `PlanFaultKind`.
 //!
 //! An `Image` holds the labels of each terminal, and for each switch what is set at its 32 links,
-//! within the ranges of the registers. `hand_image` gives that of the plan's own `base`, `row`,
-//! `continue` and `delete` lines, which fits the plan.
+//! within the ranges of the registers. `Image::new` gives one with the plan's labels and nothing
+//! set, and `hand_image` that of the plan's own `base`, `row`, `continue` and `delete` lines; both
+//! fit the plan. `Image::set` sets a register by its address, and `Image::values` are the values
+//! that aren't those after a reset. Each switch is a `SwitchImage`, and an `ImageFault` is why a
+//! value or a range isn't set.
 //!
 //! `print_plan` prints a plan as a description, which gives that plan.
 //!

@@ -93,7 +93,7 @@ impl SwitchImage {
         ensures written { OnOk result (bank_peek (placed_bank self.new) addr ≡ Ok value) }
         ensures others { OnOk result
             ((a : ℕ) → a ≢ addr →
-             bank_peek (placed_bank self.new) a ≡ bank_peek (placed_bank self.old) a) }
+            bank_peek (placed_bank self.new) a ≡ bank_peek (placed_bank self.old) a) }
         ensures refused { OnErr result (self.new ≡ self.old) }
     {
         Registers::settable(addr, value)?;
@@ -138,8 +138,7 @@ fn clear(values: &mut Vec<(u16, u32)>, place: usize, addr: u16)
         All (λ x. addr < x.0) back → place ≡ length front →
         values.old.items ≡ front ++ led_by addr present back → values.new.items ≡ front ++ back }
     ensures within { place ≤ vec_len values.old → place ≤ vec_len values.new }
-    ensures room {
-        vec_len values.old < vec_capacity values.old → vec_len values.new < vec_capacity values.new }
+    ensures room { vec_len values.old < vec_capacity values.old → vec_len values.new < vec_capacity values.new }
 {
     if is_at(values.as_slice(), place, addr) {
         values.remove(place);

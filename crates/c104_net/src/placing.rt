@@ -69,9 +69,9 @@ fn add_switches<T: TokenKind>(
     ensures { OnOk result (list.new.items ≡ switch_nodes plan.now.cap image.now.settings) }
 {
     let cap = plan.cap();
-    for settings in image.all_settings() {
+    for switch in image.switches() {
         list.reserve(1)?;
-        let switch = SwitchOf::placed(alloc, cap, settings.as_slice())?;
+        let switch = SwitchOf::placed(alloc, cap, switch.registers())?;
         list.push_reserved(NodeOf::Switch(switch));
     }
     Ok(())

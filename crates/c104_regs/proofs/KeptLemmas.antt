@@ -184,7 +184,7 @@ none_kept a = by_address (address_of a) refl
     by_address (Some Started) at = rw at refl
     by_address (Some (AtLink l r)) at =
         let reset : register_read (get_or (replicate 32 reset_settings) l reset_settings) reset_status r ≡ (register_properties r).reset =
-            ap (λ (s : Settings). register_read s reset_status r) (get_or-same 32 l reset_settings) ∙ value_reset r in
+        ap (λ (s : Settings). register_read s reset_status r) (get_or-same 32 l reset_settings) ∙ value_reset r in
         rw (at, reset) (reset_by (register_properties r).reset (register_properties r).is_writable)
 
 pub none_kept_values : [] ≡ kept_values (replicate 32 reset_settings)

@@ -1,5 +1,5 @@
 use c104_control::CommandFault;
-use c104_describe::{PlanFault, PlanFaultKind};
+use c104_describe::{ImageFault, PlanFault, PlanFaultKind};
 use c104_net::{EventFault, PlaceFault};
 use c104_regs::RegFault;
 use c104_token::{NoMemory, TokenFault};
@@ -173,6 +173,31 @@ fn of_descriptions(rt: HostRuntime) -> Result<(), Fail> {
         kind: PlanFaultKind::NameTaken,
     };
     assert!(rt; message_of(rt.alloc(), &fault)?.as_str() == "line 2: the name is taken");
+    Ok(())
+}
+
+#[test]
+fn of_images(rt: HostRuntime) -> Result<(), Fail> {
+    for (fault, number, name, message) in [
+        (ImageFault::NoNode, 1, "NoNode", "there is no such node"),
+        (
+            ImageFault::Register(RegFault::ReadOnly),
+            2,
+            "Register",
+            "the register can't be written",
+        ),
+        (
+            ImageFault::BadRange,
+            3,
+            "BadRange",
+            "a range has at least one label, and ends at 65535 at most",
+        ),
+        (ImageFault::NoMemory, 4, "NoMemory", "out of memory"),
+    ] {
+        let found = message_of(rt.alloc(), &fault)?;
+        let told = (fault.number(), fault.name(), found.as_str());
+        assert!(rt; told == (number, name, message), "{found}");
+    }
     Ok(())
 }
 

@@ -18,6 +18,8 @@ mod describe;
 #[cfg(test)]
 mod faults;
 #[cfg(test)]
+mod image;
+#[cfg(test)]
 mod interval;
 #[cfg(test)]
 mod link;

@@ -1,9 +1,19 @@
-use Rattle.std.proofs.Common.{◌∙◌, arith}
-use Rattle.c104_describe.proofs.PlanSettings.{made_next, settings_at, settings_last}
+use Rattle.std.proofs.Common.{◌∙◌, ap, arith, sym}
+use Rattle.c104_describe.specs.declared.ports.Port.TheVariants as port
+use Rattle.c104_describe.specs.Plans.{rows_of}
+use Rattle.c104_describe.specs.PlanImage.{AreSettings}
+use Rattle.c104_describe.proofs.PlanSettings.{are_settings, made_next, settings_at, settings_last}
+use Rattle.c104_describe.proofs.PlanTables.{rows_of_input}
 use Rattle.c104_describe.proofs.hand.switch_settings.Goals as goal
+
+pub settings_of-requires : goal.settings_of-requires
+settings_of-requires c = ap (rows_of (port.Switch c.args.switch c.loop-link.link)) (c.as_slice.ensures.value ∙ c.in_ok-rows.ensures.rows) ∙ rows_of_input c.args.switch c.loop-link.link c.args.plan.now.rows
 
 pub loop-link-preserved : goal.loop-link-preserved
 loop-link-preserved c = made_next (settings_at c.args.plan.now c.args.switch) c.loop-link.link _ _ _ c.loop-link.invariant c.in_ok-push.ensures.items c.settings_of.ensures
 
-pub returns : goal.returns
-returns c = c.loop-link.invariant ∙ settings_last c.args.plan.now c.args.switch c.loop-link.link (omega arith)
+pub returns-clause-settings : goal.returns-clause-settings
+returns-clause-settings c = c.loop-link.invariant ∙ settings_last c.args.plan.now c.args.switch c.loop-link.link (omega arith)
+
+pub returns-clause-all : goal.returns-clause-all
+returns-clause-all c = rw (c.loop-link.invariant, settings_last c.args.plan.now c.args.switch c.loop-link.link (omega arith)) (are_settings c.args.plan.now c.args.switch c.rows_of_switch.ensures.kept)

@@ -8,12 +8,12 @@ use Rattle.c104_describe.proofs.hand.table_of.Goals.{then-is_same, else-is_same}
 pub loop-row-preserved : goal.loop-row-preserved
 loop-row-preserved c =
     let at = c.loop-row.invariant in
-    let rows = c.rows-row-items.result.now in
+    let rows = c.args.rows.now in
     let i = c.loop-row.row-index in
     elim c.if-is_same.branch [
       | then-is_same w ↦
           let here = w.if-is_same.ensures in
-          let below : length (so_far c.args.port rows i) < 36 = room_in c.args.plan.now c.args.port rows i _ c.rows-row-items.ensures.kept c.rows-row-items.ensures.rows c.loop-row-test.true here in
+          let below : length (so_far c.args.port rows i) < 36 = room_in c.args.plan.now c.args.port rows i _ c.base_of.ensures.kept c.requires c.loop-row-test.true here in
           record {
             count = w.count-is ∙ count_next c.args.port rows i _ c.loop-row.count c.loop-row-test.true here at.count;
             table = w.table-is ∙ table_next (base_of c.args.plan.now c.args.port) c.args.port rows i _ c.loop-row.table c.loop-row.count c.loop-row-test.true here below at.count at.table;
@@ -28,4 +28,4 @@ loop-row-preserved c =
 
 -- after the last row the table is whole
 pub returns : goal.returns
-returns c = c.loop-row.invariant.table ∙ table_last c.args.plan.now c.args.port c.rows-row-items.result.now c.loop-row.row-index c.rows-row-items.ensures.rows (omega arith)
+returns c = c.loop-row.invariant.table ∙ table_last c.args.plan.now c.args.port c.args.rows.now c.loop-row.row-index c.requires (omega arith)

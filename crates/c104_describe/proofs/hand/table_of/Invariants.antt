@@ -6,6 +6,6 @@ use Rattle.c104_describe.proofs.hand.table_of.Given as goal
 -- the rows so far are filled in
 abbrev pub invariant-loop-row : goal.invariant-loop-row
 invariant-loop-row l = record {
-  count : l.count ≡ length (so_far l.port l.row-items l.row-index);
-  table : l.table ≡ of_rows (base_of l.plan l.port) (padded_rows (so_far l.port l.row-items l.row-index));
+  count : l.count ≡ length (so_far l.port l.rows l.row-index);
+  table : l.table ≡ of_rows (base_of l.plan l.port) (padded_rows (so_far l.port l.rows l.row-index));
 }

@@ -3,5 +3,5 @@ use Rattle.c104_net.specs.Network.{switch_nodes}
 use Rattle.c104_net.proofs.placing.add_switches.Given as goal
 
 -- the switches so far are made
-abbrev pub invariant-loop-settings : goal.invariant-loop-settings
-invariant-loop-settings g l = l.list.items ≡ switch_nodes l.cap (take l.settings-index l.settings-items)
+abbrev pub invariant-loop-switch : goal.invariant-loop-switch
+invariant-loop-switch g l = l.list.items ≡ switch_nodes l.cap (take l.switch-index l.switch-items)
