@@ -9,7 +9,7 @@ use Rattle.c104_switch.specs.Switch.{new_switch_with, new_input}
 use Rattle.c104_describe.specs.declared.ports.Port.{Port}
 use Rattle.c104_describe.specs.Ports.{IsSwitchPort}
 use Rattle.c104_describe.specs.declared.ports.Port.TheVariants as port
-use Rattle.c104_net.specs.declared.nodes.End.{End}
+use Rattle.c104_net.specs.declared.ends.End.{End}
 use Rattle.c104_net.specs.declared.node.NodeOf.TheVariants.{Switch, Terminal}
 use Rattle.c104_describe.specs.Plans.{Plan, IsPlan}
 use Rattle.c104_describe.specs.declared.plans.Terminal as plans
@@ -18,7 +18,7 @@ use Rattle.c104_net.specs.Terminals.{new_terminal}
 use Rattle.c104_net.specs.Nodes.{Node}
 use Rattle.c104_describe.specs.Wiring.{peer}
 use Rattle.c104_net.specs.Ends.{end_of}
-use Rattle.c104_net.specs.Network.{new_switch_nodes, switch_nodes, terminal_nodes}
+use Rattle.c104_net.specs.Network.{network_of, new_switch_nodes, switch_nodes, terminal_nodes}
 use Rattle.c104_net.specs.Balance.{credit_of, granted_of, credit_at, granted_at, is_switch, IsSteady}
 use Rattle.c104_net.proofs.BalanceWires.{peer_back, switch_inside, terminal_inside}
 
@@ -129,3 +129,7 @@ steady_made {A} plan copy image nodes copied made fits is_plan =
 -- a new network of a copy of the plan
 pub steady_new : {A : Type 0} (plan : Plan) (nodes : List (Node A)) → nodes ≡ new_switch_nodes plan.cap plan.switches ++ terminal_nodes plan.cap plan.terminals → IsPlan plan → IsSteady (record { plan = plan; nodes = nodes })
 steady_new {A} plan nodes made is_plan = subst (λ (n : List (Node A)). IsSteady (record { plan = plan; nodes = n })) (sym made) (balanced_first {A = A} plan plan.switches (λ name. (replicate 32 reset_settings, false)) refl is_plan)
+
+-- the same with a copy of the plan
+pub steady_copy : {A : Type 0} (plan copy : Plan) (nodes : List (Node A)) → copy ≡ plan → IsSteady (network_of plan nodes) → IsSteady (network_of copy nodes)
+steady_copy plan copy nodes same steady = subst (λ p. IsSteady (network_of p nodes)) (sym same) steady

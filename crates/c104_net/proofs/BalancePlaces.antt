@@ -2,7 +2,7 @@
 use Rattle.std.proofs.Common.{◌≡◌, ◌≢◌, ◌<◌, ◌+◌, ◌-◌, ◌++◌, ℕ, zero, suc, true, false, inl, inr, List, [], ◌∷◌, Option, Some, length, map, replicate, slice_get, slice_set, refl, sym, ◌∙◌, ap, subst, arith}
 use Rattle.std.proofs.lemmas.Bool.{cases_eq}
 use Rattle.c104_link.specs.Steps.{◌>>=◌}
-use Rattle.c104_net.specs.declared.nodes.End.{End}
+use Rattle.c104_net.specs.declared.ends.End.{End}
 use Rattle.c104_net.specs.Nodes.{Node}
 use Rattle.c104_describe.specs.Plans.{Plan}
 use Rattle.c104_net.specs.Balance.{credit_of, granted_of, is_switch, AreInPlace}

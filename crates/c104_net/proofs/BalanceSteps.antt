@@ -1,24 +1,19 @@
 -- What crosses a wire keeps every network in balance, and so does each step of one node.
-use Rattle.std.proofs.Common.{◌≡◌, ◌≢◌, ℕ, Bool, inl, inr, List, Option, Some, None, length, slice_get, slice_set, refl, sym, ◌∙◌, ap, subst}
-use Rattle.std.specs.Option.{option_map}
-use Rattle.c104_link.specs.Steps.{step_at, yield_step_at, bool_outcome, option_outcome}
-use Rattle.c104_link.proofs.MadeSteps.{given, at_place_made, from_place_made, holds_tried, holds_taken}
+use Rattle.std.proofs.Common.{◌≡◌, ◌≢◌, ℕ, inl, inr, List, Option, Some, length, slice_get, slice_set, refl, sym, ◌∙◌, ap, subst}
+use Rattle.c104_link.specs.Steps.{step_at, yield_step_at}
+use Rattle.c104_link.proofs.MadeSteps.{given, at_place_made, from_place_made}
 use Rattle.c104_describe.specs.declared.ports.Port.{Port}
-use Rattle.c104_net.specs.declared.nodes.End.{End}
+use Rattle.c104_net.specs.declared.ends.End.{End}
 use Rattle.c104_describe.specs.Plans.{Plan, IsPlan}
 use Rattle.c104_net.specs.Nodes.{Node, node_enter, node_leave, node_credit_out, node_credit_in}
 use Rattle.c104_net.specs.Wires.{nodes_cross, nodes_credit}
 use Rattle.c104_describe.specs.Wiring.{peer}
 use Rattle.c104_net.specs.Ends.{end_of}
-use Rattle.c104_net.specs.Network.{Network}
+use Rattle.c104_net.specs.Network.{Network, network_of}
 use Rattle.c104_net.specs.Balance.{credit_of, granted_of, AreLevel, IsSteady}
 use Rattle.c104_net.proofs.BalanceWires.{port_cases, peer_back, peer_one, ends_apart}
 use Rattle.c104_net.proofs.BalancePlaces.{changed, lower, raise, ActsAt, Rests, acts_at, seen_kept, still_in_place, switches_first}
 use Rattle.c104_net.proofs.BalanceNodes.{leave_acts, enter_acts, credit_out_acts, credit_in_acts}
-
--- a network of this plan
-abbrev pub network_of : {A : Type 0} → Plan → List (Node A) → Network A
-network_of plan nodes = record { plan = plan; nodes = nodes }
 
 module _ {A : Type 0} (plan : Plan) where
   -- a step of one node that keeps both numbers
@@ -131,33 +126,3 @@ module _ {A : Type 0} (plan : Plan) where
         let first : ActsAt credit_of granted_of raise (length plan.switches) from nodes mid = subst (ActsAt credit_of granted_of raise (length plan.switches) from nodes) set (acts_at credit_of granted_of raise (length plan.switches) from nodes n y here (credit_out_acts from.link n y gone)) in
         let second : ActsAt granted_of credit_of raise (length plan.switches) to mid after = subst (ActsAt granted_of credit_of raise (length plan.switches) to mid) made (acts_at granted_of credit_of raise (length plan.switches) to mid o m there (credit_in_acts to.link o m came)) in
         granted_then_credit is_plan p q wired raise nodes mid after first second steady)))
-
-module _ {A : Type 0} (plan : Plan) (nodes : List (Node A)) where
-  -- a step at one place that was tried
-  pub steady_tried : (b : Bool) (after : List (Node A)) (i : ℕ) (f : Node A → Option (Node A)) → ◌≡◌ {A = Bool × List (Node A)} (b, after) (bool_outcome (step_at nodes i f) nodes) → ((n m : Node A) → f n ≡ Some m → Rests n m) → IsSteady (network_of plan nodes) → IsSteady (network_of plan after)
-  steady_tried b after i f is rests steady = holds_tried (λ ns. IsSteady (network_of plan ns)) b (step_at nodes i f) nodes after is steady (λ ns made. steady_at plan nodes ns i f made rests steady)
-
-  -- the same, where something comes of it
-  pub steady_taken : {Y : Type 0} (o : Option Y) (after : List (Node A)) (i : ℕ) (f : Node A → Option (Y × Node A)) → ◌≡◌ {A = Option Y × List (Node A)} (o, after) (option_outcome (yield_step_at nodes i f) nodes) → ((n : Node A) (v : Y × Node A) → f n ≡ Some v → Rests n v.1) → IsSteady (network_of plan nodes) → IsSteady (network_of plan after)
-  steady_taken o after i f is rests steady = holds_taken (λ ns. IsSteady (network_of plan ns)) o (yield_step_at nodes i f) nodes after is steady (λ r made. steady_from plan nodes i f r made rests steady)
-
-  module _ (is_plan : IsPlan plan) (p : Port) (near far : End) (at_near : near ≡ end_of plan p) (at_far : option_map (end_of plan) (peer plan p) ≡ Some far) where
-    -- the wire of a port, by its ends
-    by_ends : {C : Type 0} → ((q : Port) → peer plan p ≡ Some q → far ≡ end_of plan q → C) → C
-    by_ends {C} then = by_peer (peer plan p) refl at_far
-      where
-        by_peer : (o : Option Port) → peer plan p ≡ o → option_map (end_of plan) o ≡ Some far → C
-        by_peer (Some q) wired ends = let one : far ≡ end_of plan q = cc in then q wired one
-        by_peer None wired ends = cc
-
-    -- a token was to cross a wire
-    pub steady_cross : (o : Option A) (after : List (Node A)) → ◌≡◌ {A = Option A × List (Node A)} (o, after) (option_outcome (nodes_cross nodes near far) nodes) → IsSteady (network_of plan nodes) → IsSteady (network_of plan after)
-    steady_cross o after is steady = by_ends (λ q wired one.
-        holds_taken (λ ns. IsSteady (network_of plan ns)) o (nodes_cross nodes near far) nodes after is steady (λ r made.
-        steady_crossed plan is_plan p q wired nodes r (ap (nodes_cross nodes (end_of plan p)) (sym one) ∙ ap (λ e. nodes_cross nodes e far) (sym at_near) ∙ made) steady))
-
-    -- credit was to cross a wire
-    pub steady_credit : (b : Bool) (after : List (Node A)) → ◌≡◌ {A = Bool × List (Node A)} (b, after) (bool_outcome (nodes_credit nodes near far) nodes) → IsSteady (network_of plan nodes) → IsSteady (network_of plan after)
-    steady_credit b after is steady = by_ends (λ q wired one.
-        holds_tried (λ ns. IsSteady (network_of plan ns)) b (nodes_credit nodes near far) nodes after is steady (λ ns made.
-        steady_credited plan is_plan p q wired nodes ns (ap (nodes_credit nodes (end_of plan p)) (sym one) ∙ ap (λ e. nodes_credit nodes e far) (sym at_near) ∙ made) steady))

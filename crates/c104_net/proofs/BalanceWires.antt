@@ -1,15 +1,18 @@
 -- The wires of a plan: each has two ends, and no two ports that have a wire stand at one end.
-use Rattle.std.proofs.Common.{◌≡◌, ◌≢◌, ◌<◌, ◌+◌, ℕ, ◌⊎◌, inl, inr, false, Some, length, sym, ◌∙◌, ap, subst, arith}
+use Rattle.std.proofs.Common.{◌≡◌, ◌≢◌, ◌<◌, ◌+◌, ℕ, ◌⊎◌, inl, inr, false, Option, Some, None, length, refl, sym, ◌∙◌, ap, subst, arith}
 use Rattle.std.proofs.lemmas.Bool.{cases_eq}
 use Rattle.c104_describe.specs.declared.ports.Port.TheVariants as port
 use Rattle.c104_describe.specs.declared.ports.Port.{Port}
+use Rattle.std.specs.Option.{option_map}
+use Rattle.c104_describe.specs.Ports as ports
 use Rattle.c104_describe.specs.Ports.{IsSwitchPort, is_port}
 use Rattle.c104_describe.specs.Plans.{Plan, IsPlan}
-use Rattle.c104_describe.specs.Wiring.{peer}
+use Rattle.c104_describe.specs.Wiring.{IsPlanPort, peer}
 use Rattle.c104_describe.proofs.PortLemmas.{cases_port, is_port-refl}
 use Rattle.c104_describe.proofs.Wires.{wiring}
-use Rattle.c104_net.specs.declared.nodes.End.{End}
+use Rattle.c104_net.specs.declared.ends.End.{End}
 use Rattle.c104_net.specs.Ends.{end_of}
+use Rattle.c104_net.specs.FarEnds.{far_end}
 
 -- two ports are one, or they differ
 pub port_cases : (p q : Port) → (p ≡ q) ⊎ (p ≢ q)
@@ -58,3 +61,21 @@ module _ (plan : Plan) (is_plan : IsPlan plan) where
       inl (λ same. let e : length plan.switches + t ≡ s' = same in omega arith)
   ends_apart (port.Terminal t) q (port.Terminal t') q' is is' differ =
       inl (λ same. let e : length plan.switches + t ≡ length plan.switches + t' = same in let number : t ≡ t' = omega arith in differ (ap port.Terminal number))
+
+  -- the two ends of a wire are at two nodes
+  nodes_apart : (p q : Port) → peer plan p ≡ Some q → (end_of plan p).node ≢ (end_of plan q).node
+  nodes_apart p q is = by_ports p q ((wiring plan is_plan).apart p q is) ((wiring plan is_plan).inside p q is) ((wiring plan is_plan).inside q p (peer_back p q is))
+    where
+      by_ports : (p q : Port) → ports.AreApart p q → IsPlanPort plan p → IsPlanPort plan q → (end_of plan p).node ≢ (end_of plan q).node
+      by_ports (port.Switch s l) (port.Switch s' l') apart near far = apart
+      by_ports (port.Switch s l) (port.Terminal t) apart near far = λ same. let e : s ≡ length plan.switches + t = same in omega (arith, near.0)
+      by_ports (port.Terminal t) (port.Switch s l) apart near far = λ same. let e : length plan.switches + t ≡ s = same in omega (arith, far.0)
+      by_ports (port.Terminal t) (port.Terminal u) apart near far = absurd apart
+
+  -- the same of the far end as the table has it
+  pub far_apart : (p : Port) (near far : End) → near ≡ end_of plan p → far_end plan p ≡ Some far → near.node ≢ far.node
+  far_apart p near far at_near at_far = by_peer (peer plan p) refl at_far
+    where
+      by_peer : (o : Option Port) → peer plan p ≡ o → option_map (end_of plan) o ≡ Some far → near.node ≢ far.node
+      by_peer None wired ends = cc
+      by_peer (Some q) wired ends = λ same. let one : end_of plan q ≡ far = cc in nodes_apart p q wired (ap (λ (e : End). e.node) (sym at_near) ∙ same ∙ ap (λ (e : End). e.node) (sym one))

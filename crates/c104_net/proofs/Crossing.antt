@@ -1,14 +1,15 @@
 -- What goes out at one end of a wire changes nothing of what can come in at the other.
-use Rattle.std.proofs.Common.{◌≡◌, ◌≢◌, ℕ, zero, suc, inl, inr, Bool, true, false, List, [], ◌∷◌, Option, Some, None, slice_get, slice_set, is_some, refl, sym, ◌∙◌, ap, subst}
+use Rattle.std.proofs.Common.{◌≡◌, ◌≢◌, ℕ, zero, suc, inl, inr, false, List, [], ◌∷◌, Option, Some, None, slice_get, slice_set, is_some, refl, sym, ◌∙◌, ap, subst}
 use Rattle.std.proofs.lemmas.Bool.{cases_eq}
-use Rattle.c104_link.specs.Steps.{◌>>=◌, step_at, yield_step_at, option_outcome, bool_outcome}
+use Rattle.c104_link.specs.Steps.{◌>>=◌, step_at, yield_step_at}
+use Rattle.c104_link.proofs.MadeSteps.{given, required, at_place_made}
 use Rattle.c104_link.specs.Buffers as buffer
 use Rattle.c104_link.specs.Buffers.{Incoming, Outgoing}
 use Rattle.c104_switch.specs.Switch as switch
-use Rattle.c104_net.specs.declared.nodes.End.{End}
+use Rattle.c104_net.specs.declared.ends.End.{End}
 use Rattle.c104_net.specs.declared.node.NodeOf.TheVariants.{Switch, Terminal}
 use Rattle.c104_net.specs.Terminals as terminal
-use Rattle.c104_net.specs.Nodes.{Node, node_enter, node_leave}
+use Rattle.c104_net.specs.Nodes.{Node, node_enter, node_leave, node_credit_out, node_credit_in}
 use Rattle.c104_net.specs.Wires.{nodes_cross}
 
 -- the element at a place that was changed
@@ -121,25 +122,29 @@ none_crosses {A} nodes from to closed = by_left (yield_step_at nodes from.node (
     by_left None left = refl
     by_left (Some r) left = by_entered (step_at r.1 to.node (node_enter r.0 to.link)) r.0 (closed r.0 ∙ sym (entry_kept nodes from to r.0 r left))
 
--- a token crosses where it goes out, and one can come in
-pub one_crosses : {A : Type 0} (nodes after : List (Node A)) (from to : End) (x : A) (entered : Bool) (last : List (Node A)) → ((y : A) → true ≡ is_some (step_at nodes to.node (node_enter y to.link))) →
-    ◌≡◌ {A = Option A × List (Node A)} (Some x, after) (option_outcome (yield_step_at nodes from.node (node_leave from.link)) nodes) →
-    ◌≡◌ {A = Bool × List (Node A)} (entered, last) (bool_outcome (step_at after to.node (node_enter x to.link)) after) → nodes_cross nodes from to ≡ Some (x, last)
-one_crosses {A} nodes after from to x entered last ready left came = by_left (yield_step_at nodes from.node (node_leave from.link)) refl left
+-- a link that grants changes nothing of what credit can come in there
+credit_out_keeps : {A : Type 0} (n m : Node A) (l k : ℕ) → node_credit_out l n ≡ Some m → is_some (node_credit_in k m) ≡ is_some (node_credit_in k n)
+credit_out_keeps {A} (Switch s) m l k is = given (switch.switch_credit_out s l) _ m is (λ t out last. required s.started _ t out (λ on more. given (step_at s.inputs l switch.input_grant) _ t more (λ ps at end.
+    let one : switch.with_inputs s ps ≡ t = cc in
+    let two : ◌≡◌ {A = Node A} (Switch t) m = cc in
+    let Keeps : Node A → Type 0 = λ n. is_some (node_credit_in k n) ≡ is_some (node_credit_in k (Switch s)) in
+    subst Keeps two (subst (λ (t : switch.Switch A). Keeps (Switch t)) one (same_outputs ps (step_at s.outputs k buffer.outgoing_credited) refl)))))
   where
-    by_entered : (o : Option (List (Node A))) → step_at after to.node (node_enter x to.link) ≡ o → true ≡ is_some o → ◌≡◌ {A = Bool × List (Node A)} (entered, last) (bool_outcome o after) → (o >>= with_token x) ≡ Some (x, last)
-    by_entered None at can made = cc
-    by_entered (Some ns) at can made = ap (λ (r : Bool × List (Node A)). with_token x r.1) (sym made)
+    same_outputs : (ps : List (switch.Input A)) (made : Option (List (Outgoing A))) → step_at s.outputs k buffer.outgoing_credited ≡ made → is_some (node_credit_in k (Switch (switch.with_inputs s ps))) ≡ is_some (node_credit_in k (Switch s))
+    same_outputs ps None made = rw made refl
+    same_outputs ps (Some qs) made = rw made refl
+credit_out_keeps {A} (Terminal t) m l k is = given (terminal.terminal_credit_out t) _ m is (λ u out last. given (buffer.incoming_grant t.input) _ u out (λ b at end.
+    let one : terminal.with_input t b ≡ u = cc in
+    let two : ◌≡◌ {A = Node A} (Terminal u) m = cc in
+    let Keeps : Node A → Type 0 = λ n. is_some (node_credit_in k n) ≡ is_some (node_credit_in k (Terminal t)) in
+    subst Keeps two (subst (λ (u : terminal.Terminal A). Keeps (Terminal u)) one (same_output b (buffer.outgoing_credited t.output) refl))))
+  where
+    same_output : (b : Incoming A) (made : Option (Outgoing A)) → buffer.outgoing_credited t.output ≡ made → is_some (node_credit_in k (Terminal (terminal.with_input t b))) ≡ is_some (node_credit_in k (Terminal t))
+    same_output b None made = rw made refl
+    same_output b (Some q) made = rw made refl
 
-    by_left : (o : Option (A × List (Node A))) → yield_step_at nodes from.node (node_leave from.link) ≡ o → ◌≡◌ {A = Option A × List (Node A)} (Some x, after) (option_outcome o nodes) → nodes_cross nodes from to ≡ Some (x, last)
-    by_left None left gives = let none : Some x ≡ None = ap (λ (r : Option A × List (Node A)). r.0) gives in cc
-    by_left (Some r) left gives =
-        let some : Some x ≡ Some r.0 = ap (λ (v : Option A × List (Node A)). v.0) gives in
-        let token : x ≡ r.0 = cc in
-        let rest : after ≡ r.1 = ap (λ (v : Option A × List (Node A)). v.1) gives in
-        let at_token : A → A × List (Node A) = λ y. (y, after) in
-        let at_rest : List (Node A) → A × List (Node A) = λ ns. (r.0, ns) in
-        let same : ◌≡◌ {A = A × List (Node A)} (x, after) r = ap at_token token ∙ ap at_rest rest in
-        let Crosses : (A × List (Node A)) → Type 0 = λ v. (step_at v.1 to.node (node_enter v.0 to.link) >>= with_token v.0) ≡ Some (x, last) in
-        let can : true ≡ is_some (step_at after to.node (node_enter x to.link)) = ready x ∙ sym (entry_kept nodes from to x r left) ∙ ap (λ (v : A × List (Node A)). is_some (step_at v.1 to.node (node_enter x to.link))) (sym same) in
-        rw left (subst Crosses same (by_entered (step_at after to.node (node_enter x to.link)) refl can came))
+-- what credit can come in at the other end of a wire, before and after eight tokens were granted
+pub credit_kept : {A : Type 0} (nodes : List (Node A)) (from to : End) (granted : List (Node A)) → step_at nodes from.node (node_credit_out from.link) ≡ Some granted → is_some (step_at granted to.node (node_credit_in to.link)) ≡ is_some (step_at nodes to.node (node_credit_in to.link))
+credit_kept nodes from to granted out = at_place_made nodes from.node (node_credit_out from.link) granted out (λ n m here made set.
+    subst (λ ns. is_some (step_at ns to.node (node_credit_in to.link)) ≡ is_some (step_at nodes to.node (node_credit_in to.link))) set
+    (can_after nodes from.node to.node (node_credit_in to.link) n m here (credit_out_keeps n m from.link to.link made)))

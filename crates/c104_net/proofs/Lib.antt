@@ -1,5 +1,9 @@
 pub mod Sending
+pub mod ActionSteps
+pub mod PlaceSteps
 pub mod Crossing
+pub mod CrossingActs
+pub mod FarEndLists
 pub mod Running
 pub mod RoundLists
 pub mod RoundRuns
@@ -11,5 +15,6 @@ pub mod BalanceTurns
 pub mod BalanceControl
 pub mod BalanceNodes
 pub mod BalanceSteps
+pub mod BalanceEvents
 pub mod BalancePlaced
 pub mod Finishing

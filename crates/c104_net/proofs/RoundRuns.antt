@@ -2,8 +2,8 @@
 use Rattle.std.proofs.Common.{false, ℕ, ◌≡◌, ◌+◌, ◌<◌, List, [], ◌∷◌, ◌++◌, Result, Ok, Err, IsErr, IsErrAnd, Option, Some, None, refl, sym, ap, ◌∙◌, subst, inl, inr, length, get_or, take, drop}
 use Rattle.std.proofs.lemmas.List.{drop_more, take-append-drop, take_more}
 use Rattle.c104_token.specs.Kinds.{Kind}
-use Rattle.c104_switch.specs.declared.actions.Reply.{Reply}
-use Rattle.c104_switch.specs.declared.actions.Reply.TheVariants as reply
+use Rattle.c104_switch.specs.Actions.{Reply}
+use Rattle.c104_switch.specs.declared.actions.ReplyOf.TheVariants as reply
 use Rattle.c104_link.specs.Steps.{◌>>=◌, step_at, yield_step_at}
 use Rattle.c104_describe.specs.declared.ports.Port.{Port}
 use Rattle.c104_event.specs.declared.events.Event.{Event}

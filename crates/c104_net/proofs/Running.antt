@@ -1,7 +1,7 @@
 -- A run of events goes on by one event.
 use Rattle.std.proofs.Common.{List, [], ◌∷◌, ◌++◌, Result, refl, subst}
 use Rattle.c104_token.specs.Kinds.{Kind}
-use Rattle.c104_switch.specs.declared.actions.Reply.{Reply}
+use Rattle.c104_switch.specs.Actions.{Reply}
 use Rattle.c104_event.specs.declared.events.Event.{Event}
 use Rattle.c104_event.specs.declared.faults.EventFault.{EventFault}
 use Rattle.c104_net.specs.Network.{Network, AnswersEvent, AnswersEvents}

@@ -2,6 +2,9 @@ pub mod Terminals
 pub mod Nodes
 pub mod Wires
 pub mod Ends
+pub mod FarEnds
+pub mod Acts
+pub mod Places
 pub mod Network
 pub mod Balance
 pub mod Finished

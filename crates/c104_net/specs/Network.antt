@@ -3,8 +3,8 @@ use Rattle.std.specs.Prelude.{ℕ, ◌+◌, ◌≡◌, ◌⊎◌, true, List, []
 use Rattle.c104_token.specs.declared.text.TheConstants.{MAX_PACKET_BYTES}
 use Rattle.c104_token.specs.Kinds.{Kind}
 use Rattle.c104_link.specs.Steps.{◌>>=◌, step_at, yield_step_at}
-use Rattle.c104_switch.specs.declared.actions.Reply.{Reply}
-use Rattle.c104_switch.specs.declared.actions.Reply.TheVariants as reply
+use Rattle.c104_switch.specs.Actions.{Reply}
+use Rattle.c104_switch.specs.declared.actions.ReplyOf.TheVariants as reply
 use Rattle.c104_regs.specs.declared.registers.TheConstants.{LINKS}
 use Rattle.c104_regs.specs.declared.settings.Settings.{Settings}
 use Rattle.c104_switch.specs.Switch.{new_switch, new_switch_with}
@@ -29,6 +29,10 @@ pub record Network (A : Type 0) : Type 0 where
   pub plan : Plan
   -- the switches in order, and then the terminals
   pub nodes : List (Node A)
+
+-- a network of this plan, with these nodes
+abbrev pub network_of : {A : Type 0} → Plan → List (Node A) → Network A
+network_of plan nodes = record { plan = plan; nodes = nodes }
 
 -- the network with these nodes
 abbrev pub with_nodes : {A : Type 0} → Network A → List (Node A) → Network A

@@ -1,7 +1,7 @@
 -- What crosses a wire: a token one way, and credit the other way. Both ends act, or neither does.
 use Rattle.std.specs.Prelude.{List, Option, Some}
 use Rattle.c104_link.specs.Steps.{◌>>=◌, step_at, yield_step_at}
-use Rattle.c104_net.specs.declared.nodes.End.{End}
+use Rattle.c104_net.specs.declared.ends.End.{End}
 use Rattle.c104_net.specs.Nodes.{Node, node_enter, node_leave, node_credit_out, node_credit_in}
 
 -- a token goes out at one end and comes in at the other

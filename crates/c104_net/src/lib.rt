@@ -10,14 +10,20 @@
 //! why a network was not made. `rounds` does the events of all parts in turn, again and again.
 #![tactic(auto)]
 
+mod acts;
+mod ends;
+mod events;
 mod faults;
 mod net;
 mod node;
-mod nodes;
+mod place;
+mod places;
 mod placing;
 mod rounds;
 mod run;
 mod terminal;
+mod wire_acts;
+mod wires;
 
 pub use c104_event::{Event, EventFault, Port};
 pub use faults::PlaceFault;

@@ -1,8 +1,10 @@
 //! A run of a network that is finished.
-ghost use Rattle.std.specs.Prelude.{◌≡◌};
+ghost use Rattle.std.specs.Prelude.{◌≡◌, ◌≤◌, [], length};
 ghost use Rattle.std.specs.Option.{option_copied};
-ghost use Rattle.c104_net.specs.Finished.{run_arrived};
+ghost use Rattle.std.specs.Vec.{vec_capacity};
+ghost use Rattle.c104_net.specs.Finished.{run_arrived, terminals_of};
 
+use crate::node::NodeOf;
 use crate::terminal::TerminalOf;
 use c104_describe::Plan;
 use c104_token::{Token, TokenKind};
@@ -45,4 +47,23 @@ impl<T: TokenKind> RunOf<T> {
             None => None,
         }
     }
+}
+
+/// The terminals among nodes, in order, in an empty list with room for them. The switches are retired.
+pub fn terminals_of<T: TokenKind>(
+    mut list: Vec<NodeOf<T>>,
+    mut room: Vec<TerminalOf<T>>,
+) -> Vec<TerminalOf<T>>
+    requires empty { room.items ≡ [] }
+    requires room { length (terminals_of list.items) ≤ vec_capacity room }
+    ensures { result.items ≡ terminals_of list.items }
+{
+    while let Some(node) = list.pop() {
+        if let Some(terminal) = node.retire() {
+            room.push_reserved(terminal);
+        }
+    }
+    list.destroy_empty();
+    room.reverse();
+    room
 }

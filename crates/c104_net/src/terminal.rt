@@ -98,11 +98,25 @@ impl<T: TokenKind> TerminalOf<T> {
         Some(token)
     }
 
+    /// Whether `leave` would let a token out.
+    pub fn can_leave(&self) -> bool
+        ensures { result ≡ is_some (terminal_leave self.now) }
+    {
+        self.credit > 0 && !self.outbox.is_empty()
+    }
+
     /// The terminal grants eight more tokens. False where its input buffer has no room for them.
     pub fn credit_out(&mut self) -> bool
         ensures { (result, self.new) ≡ bool_outcome (terminal_credit_out self.old) self.old }
     {
         self.input.grant()
+    }
+
+    /// Whether `credit_out` would grant.
+    pub fn can_credit_out(&self) -> bool
+        ensures { result ≡ is_some (terminal_credit_out self.now) }
+    {
+        self.input.can_grant()
     }
 
     /// The terminal may send eight more tokens. False where its credit would pass 64.

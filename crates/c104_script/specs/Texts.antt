@@ -5,8 +5,8 @@ use Rattle.c104_token.specs.declared.tokens.Token.{Token}
 use Rattle.c104_token.specs.declared.tokens.Token.TheVariants as token
 use Rattle.c104_token.specs.declared.tokens.Mark.TheVariants as mark
 use Rattle.c104_token.specs.Text.{hex_digit, mark_word}
-use Rattle.c104_switch.specs.declared.actions.Reply.{Reply}
-use Rattle.c104_switch.specs.declared.actions.Reply.TheVariants as reply
+use Rattle.c104_switch.specs.Actions.{Reply}
+use Rattle.c104_switch.specs.declared.actions.ReplyOf.TheVariants as reply
 use Rattle.c104_event.specs.declared.faults.EventFault.{EventFault}
 use Rattle.c104_event.specs.EventFaults.{event_fault_number, event_fault_name}
 use Rattle.c104_describe.specs.declared.faults.PlanFault.{PlanFault}

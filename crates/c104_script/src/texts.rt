@@ -2,7 +2,7 @@
 ghost use Rattle.std.specs.Prelude.{◌≡◌, ◌++◌, IfOk, OnOk, Ok, Err};
 ghost use Rattle.std.specs.String.{string_bytes};
 ghost use Rattle.c104_token.specs.declared.tokens.Token.TheVariants as token;
-ghost use Rattle.c104_switch.specs.declared.actions.Reply.TheVariants as reply;
+ghost use Rattle.c104_switch.specs.declared.actions.ReplyOf.TheVariants as reply;
 ghost use Rattle.c104_script.specs.Texts.{answer_text, byte_text, description_text, line_fault_text, numbered_line, reply_text};
 
 use crate::faults::LineFault;

@@ -3,8 +3,8 @@ use Rattle.std.specs.Prelude.{ℕ, suc, Bool, true, false, List, [], ◌∷◌, 
 use Rattle.c104_token.specs.declared.tokens.Token.{Token}
 use Rattle.c104_token.specs.Kinds.{plain_kind}
 use Rattle.c104_token.specs.Cut.{whole_pieces}
-use Rattle.c104_switch.specs.declared.actions.Reply.{Reply}
-use Rattle.c104_switch.specs.declared.actions.Reply.TheVariants.{Done}
+use Rattle.c104_switch.specs.Actions.{Reply}
+use Rattle.c104_switch.specs.declared.actions.ReplyOf.TheVariants.{Done}
 use Rattle.c104_event.specs.declared.faults.EventFault.{EventFault}
 use Rattle.c104_describe.specs.Plans.{Plan}
 use Rattle.c104_describe.specs.declared.plans.Terminal.{Terminal}

@@ -6,12 +6,12 @@ use crate::phase::Phase;
 use c104_control::ControlBytes;
 use c104_token::Token;
 
-/// What is asked of a switch. Links, inputs and outputs have the numbers 0 to 31; an action on any
+/// What is asked of a switch, over any kind of token. Links, inputs and outputs have the numbers 0 to 31; an action on any
 /// other is never ready.
 #[derive(Debug, Drop, PartialEq, Eq)]
-pub enum Action {
+pub enum ActionOf<T> {
     /// A token comes in over this link's wire. Not ready where none is granted.
-    Enter(usize, Token),
+    Enter(usize, T),
     /// The first token of this link's output goes out over its wire. Not ready without a token or
     /// without a credit.
     Leave(usize),
@@ -33,18 +33,24 @@ pub enum Action {
     Control(ControlBytes),
 }
 
-/// What a switch answers.
+/// What a switch answers, over any kind of token.
 #[derive(Debug, Drop, PartialEq, Eq)]
-pub enum Reply {
+pub enum ReplyOf<T> {
     /// It is done.
     Done,
     /// A condition of the action doesn't hold. Nothing has changed.
     NotReady,
     /// It is done, and this token went out.
-    Token(Token),
+    Token(T),
     /// The command was answered, by these bytes. Where they are a refusal, nothing has changed.
     Control(ControlBytes),
 }
+
+/// What is asked of a switch of plain tokens.
+pub type Action = ActionOf<Token>;
+
+/// What a switch of plain tokens answers.
+pub type Reply = ReplyOf<Token>;
 
 /// What can be seen of one link.
 #[derive(Debug, Drop)]

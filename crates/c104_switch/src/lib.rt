@@ -23,7 +23,7 @@ mod ready;
 mod step;
 mod switches;
 
-pub use actions::{Action, LinkView, Reply};
+pub use actions::{Action, ActionOf, LinkView, Reply, ReplyOf};
 pub use c104_regs::LINKS;
 pub use header::HeaderBytes;
 pub use phase::Phase;

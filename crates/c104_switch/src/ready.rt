@@ -5,23 +5,23 @@ ghost use Rattle.c104_switch.specs.Turns.{switch_input};
 ghost use Rattle.c104_switch.specs.Claims.{switch_claim};
 ghost use Rattle.c104_switch.specs.Actions.{switch_step, is_ready};
 
-use crate::actions::Action;
+use crate::actions::ActionOf;
 use crate::switches::SwitchOf;
-use c104_token::Token;
+use c104_token::TokenKind;
 
-impl SwitchOf<Token> {
+impl<T: TokenKind> SwitchOf<T> {
     /// Whether `step` would do this action: false exactly where it would answer NotReady.
-    pub fn ready(&self, action: &Action) -> bool
-        ensures { result ≡ is_ready (switch_step self.now action.now).0 }
+    pub fn ready(&self, action: &ActionOf<T>) -> bool
+        ensures { result ≡ is_ready (switch_step T.kind self.now action.now).0 }
     {
         match action {
-            Action::Enter(link, _) => self.can_enter(*link),
-            Action::Leave(link) => self.can_leave(*link),
-            Action::CreditOut(link) => self.can_credit_out(*link),
-            Action::CreditIn(link) => self.can_credit_in(*link),
-            Action::Input(link, _) => self.can_input(*link),
-            Action::Claim(input, output) => self.can_claim(*input, *output),
-            Action::Control(_) => true,
+            ActionOf::Enter(link, _) => self.can_enter(*link),
+            ActionOf::Leave(link) => self.can_leave(*link),
+            ActionOf::CreditOut(link) => self.can_credit_out(*link),
+            ActionOf::CreditIn(link) => self.can_credit_in(*link),
+            ActionOf::Input(link, _) => self.can_input(*link),
+            ActionOf::Claim(input, output) => self.can_claim(*input, *output),
+            ActionOf::Control(_) => true,
         }
     }
 }

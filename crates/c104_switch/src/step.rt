@@ -1,40 +1,51 @@
-//! The step of a switch of plain tokens.
+//! The step of a switch.
 ghost use Rattle.std.specs.Prelude.{◌≡◌};
 ghost use Rattle.c104_switch.specs.Actions.{switch_step, done_reply, token_reply};
 
-use crate::actions::{Action, Reply};
+use crate::actions::{ActionOf, ReplyOf};
 use crate::switches::SwitchOf;
-use c104_token::Token;
+use c104_token::TokenKind;
 
-impl SwitchOf<Token> {
+impl<T: TokenKind> SwitchOf<T> {
     /// Does an action, and answers Done or the token that went out; or answers NotReady, and
     /// changes nothing, where a condition of the action doesn't hold.
-    pub fn step(&mut self, action: Action) -> Reply
-        ensures { (result, self.new) ≡ switch_step self.old action }
+    pub fn step(&mut self, action: ActionOf<T>) -> ReplyOf<T>
+        ensures { (result, self.new) ≡ switch_step T.kind self.old action }
+    {
+        self.act(&action)
+    }
+
+    /// The same, of an action that is kept.
+    pub fn act(&mut self, action: &ActionOf<T>) -> ReplyOf<T>
+        ensures { (result, self.new) ≡ switch_step T.kind self.old action.now }
     {
         match action {
-            Action::Enter(link, token) => done(self.enter(link, token)),
-            Action::Leave(link) => gave(self.leave(link)),
-            Action::CreditOut(link) => done(self.credit_out(link)),
-            Action::CreditIn(link) => done(self.credit_in(link)),
-            Action::Input(link, word) => done(self.input(link, word)),
-            Action::Claim(input, output) => done(self.claim(input, output)),
-            Action::Control(bytes) => Reply::Control(self.control(bytes.as_slice())),
+            ActionOf::Enter(link, token) => done(self.enter(*link, *token)),
+            ActionOf::Leave(link) => gave(self.leave(*link)),
+            ActionOf::CreditOut(link) => done(self.credit_out(*link)),
+            ActionOf::CreditIn(link) => done(self.credit_in(*link)),
+            ActionOf::Input(link, word) => done(self.input(*link, *word)),
+            ActionOf::Claim(input, output) => done(self.claim(*input, *output)),
+            ActionOf::Control(bytes) => ReplyOf::Control(self.control(bytes.as_slice())),
         }
     }
 }
 
-fn done(made: bool) -> Reply
+fn done<T: TokenKind>(made: bool) -> ReplyOf<T>
     ensures { result ≡ done_reply made }
 {
-    if made { Reply::Done } else { Reply::NotReady }
+    if made {
+        ReplyOf::Done
+    } else {
+        ReplyOf::NotReady
+    }
 }
 
-fn gave(token: Option<Token>) -> Reply
+fn gave<T: TokenKind>(token: Option<T>) -> ReplyOf<T>
     ensures { result ≡ token_reply token }
 {
     match token {
-        Some(token) => Reply::Token(token),
-        None => Reply::NotReady,
+        Some(token) => ReplyOf::Token(token),
+        None => ReplyOf::NotReady,
     }
 }

@@ -1,0 +1,9 @@
+use Rattle.c104_net.specs.Acts.{node_act}
+use Rattle.c104_net.proofs.PlaceSteps.{acted_here, room_others}
+use Rattle.c104_net.proofs.places.act_at.Goals as goal
+
+pub returns-clause-acted : goal.returns-clause-acted
+returns-clause-acted g c = acted_here c.args.places.now c.args.place c.index-places-place.result c.act.new.self c.requires.inside g.P.Place.state (node_act g.T.TokenKind.kind c.args.number c.args.act) c.act.result c.requires.ready c.act.ensures.acted
+
+pub returns-clause-others : goal.returns-clause-others
+returns-clause-others g c = λ j differs room. room_others g.P.Place.has_room c.args.places.now c.args.place c.act.new.self j differs room

@@ -1,0 +1,180 @@
+//! The acts of a node.
+ghost use Rattle.std.specs.Prelude.{◌≡◌, true, is_some, MatchResult};
+ghost use Rattle.c104_net.specs.Acts.{IsShort, node_act, reply_outcome, wants_memory};
+ghost use Rattle.c104_net.specs.Acts.{leave_act, enter_act, credit_out_act, credit_in_act};
+ghost use Rattle.c104_net.specs.Nodes.{node_enter, node_leave, node_credit_out, node_credit_in, node_drain};
+ghost use Rattle.c104_switch.specs.Actions.{done_reply, token_reply};
+
+use crate::acts::ActOf;
+use crate::node::NodeOf;
+use c104_switch::{ActionOf, ReplyOf};
+use c104_token::{NoMemory, TokenKind};
+
+impl<T: TokenKind> NodeOf<T> {
+    /// Does an act, or answers NotReady and changes nothing. The number is the terminal's, if the
+    /// node is one. Only Send and Drain may want memory, and then nothing has changed.
+    #[tactic(auto, using(crate::proofs::ActionSteps::step_as_node))]
+    pub fn act(&mut self, number: usize, act: &ActOf<T>) -> Result<ReplyOf<T>, NoMemory>
+        requires { IsShort act.now }
+        ensures acted { MatchResult result
+            (λ reply. (reply, self.new) ≡
+                reply_outcome (node_act T.kind number act.now self.old) self.old)
+            (λ _. self.new ≡ self.old) }
+        ensures memory { MatchResult result
+            (λ _. Unit {0})
+            (λ _. wants_memory act.now ≡ true) }
+    {
+        match self {
+            NodeOf::Switch(switch) => match act {
+                ActOf::Step(action) => Ok(switch.act(action)),
+                _ => Ok(ReplyOf::NotReady),
+            },
+            NodeOf::Terminal(terminal) => match act {
+                ActOf::Step(_) => Ok(ReplyOf::NotReady),
+                ActOf::Send(packet) => {
+                    terminal.send(number, packet)?;
+                    Ok(ReplyOf::Done)
+                }
+                ActOf::Drain => {
+                    let token = terminal.drain()?;
+                    Ok(gave(token))
+                }
+                ActOf::Leave => Ok(gave(terminal.leave())),
+                ActOf::Enter(token) => Ok(done(terminal.enter(*token))),
+                ActOf::CreditOut => Ok(done(terminal.credit_out())),
+                ActOf::CreditIn => Ok(done(terminal.credit_in())),
+            },
+        }
+    }
+
+    /// Whether an act would be done.
+    #[tactic(auto, using(crate::proofs::ActionSteps::ready_as_node))]
+    pub fn ready(&self, number: usize, act: &ActOf<T>) -> bool
+        ensures { result ≡ is_some (node_act T.kind number act.now self.now) }
+    {
+        match self {
+            NodeOf::Switch(switch) => match act {
+                ActOf::Step(action) => switch.ready(action),
+                _ => false,
+            },
+            NodeOf::Terminal(terminal) => match act {
+                ActOf::Step(_) => false,
+                ActOf::Send(_) => true,
+                ActOf::Drain => terminal.can_drain(),
+                ActOf::Leave => terminal.can_leave(),
+                ActOf::Enter(_) => terminal.can_enter(),
+                ActOf::CreditOut => terminal.can_credit_out(),
+                ActOf::CreditIn => terminal.can_credit_in(),
+            },
+        }
+    }
+
+    /// The act by which a token goes out over a link's wire.
+    pub fn leave_act(&self, link: usize) -> ActOf<T>
+        ensures { result ≡ leave_act link self.now }
+    {
+        match self {
+            NodeOf::Switch(_) => ActOf::Step(ActionOf::Leave(link)),
+            NodeOf::Terminal(_) => ActOf::Leave,
+        }
+    }
+
+    /// The act by which a token comes in over a link's wire.
+    pub fn enter_act(&self, link: usize, token: T) -> ActOf<T>
+        ensures { result ≡ enter_act token link self.now }
+    {
+        match self {
+            NodeOf::Switch(_) => ActOf::Step(ActionOf::Enter(link, token)),
+            NodeOf::Terminal(_) => ActOf::Enter(token),
+        }
+    }
+
+    /// The act by which a link grants eight more tokens.
+    pub fn credit_out_act(&self, link: usize) -> ActOf<T>
+        ensures { result ≡ credit_out_act link self.now }
+    {
+        match self {
+            NodeOf::Switch(_) => ActOf::Step(ActionOf::CreditOut(link)),
+            NodeOf::Terminal(_) => ActOf::CreditOut,
+        }
+    }
+
+    /// The act by which a link may send eight more tokens.
+    pub fn credit_in_act(&self, link: usize) -> ActOf<T>
+        ensures { result ≡ credit_in_act link self.now }
+    {
+        match self {
+            NodeOf::Switch(_) => ActOf::Step(ActionOf::CreditIn(link)),
+            NodeOf::Terminal(_) => ActOf::CreditIn,
+        }
+    }
+
+    /// Whether a token can go out over a link's wire.
+    pub fn can_leave(&self, link: usize) -> bool
+        ensures { result ≡ is_some (node_leave link self.now) }
+    {
+        match self {
+            NodeOf::Switch(switch) => switch.can_leave(link),
+            NodeOf::Terminal(terminal) => terminal.can_leave(),
+        }
+    }
+
+    /// Whether a token can come in over a link's wire.
+    pub fn can_enter(&self, link: usize) -> bool
+        ensures { (token : T) → result ≡ is_some (node_enter token link self.now) }
+    {
+        match self {
+            NodeOf::Switch(switch) => switch.can_enter(link),
+            NodeOf::Terminal(terminal) => terminal.can_enter(),
+        }
+    }
+
+    /// Whether a token can arrive.
+    pub fn can_drain(&self) -> bool
+        ensures { result ≡ is_some (node_drain self.now) }
+    {
+        match self {
+            NodeOf::Switch(_) => false,
+            NodeOf::Terminal(terminal) => terminal.can_drain(),
+        }
+    }
+
+    /// Whether a link can grant eight more tokens.
+    pub fn can_credit_out(&self, link: usize) -> bool
+        ensures { result ≡ is_some (node_credit_out link self.now) }
+    {
+        match self {
+            NodeOf::Switch(switch) => switch.can_credit_out(link),
+            NodeOf::Terminal(terminal) => terminal.can_credit_out(),
+        }
+    }
+
+    /// Whether a link may be granted eight more tokens.
+    pub fn can_credit_in(&self, link: usize) -> bool
+        ensures { result ≡ is_some (node_credit_in link self.now) }
+    {
+        match self {
+            NodeOf::Switch(switch) => switch.can_credit_in(link),
+            NodeOf::Terminal(terminal) => terminal.can_credit_in(),
+        }
+    }
+}
+
+fn done<T: TokenKind>(made: bool) -> ReplyOf<T>
+    ensures { result ≡ done_reply made }
+{
+    if made {
+        ReplyOf::Done
+    } else {
+        ReplyOf::NotReady
+    }
+}
+
+fn gave<T: TokenKind>(token: Option<T>) -> ReplyOf<T>
+    ensures { result ≡ token_reply token }
+{
+    match token {
+        Some(token) => ReplyOf::Token(token),
+        None => ReplyOf::NotReady,
+    }
+}

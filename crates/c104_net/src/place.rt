@@ -1,0 +1,73 @@
+//! What stands for each node of a network: the node, and whatever is kept beside it.
+ghost use Rattle.std.specs.Prelude.{◌≡◌, true, is_some, MatchResult, OnOk};
+ghost use Rattle.c104_net.specs.Acts.{IsShort, node_act, reply_outcome, wants_memory};
+ghost use Rattle.c104_net.specs.Nodes.{Node};
+
+use crate::acts::ActOf;
+use crate::node::NodeOf;
+use c104_switch::ReplyOf;
+use c104_token::{NoMemory, TokenKind};
+
+/// A place of a node, as an event sees it: the node can be asked, room can be made for whatever is
+/// kept of an act, and then the node can act.
+pub trait Place<T: TokenKind> {
+    /// The state of the node.
+    ghost state: { Self → Node T };
+
+    /// There is room for whatever is kept of one act.
+    ghost has_room: { Self → Type 0 };
+
+    /// The node.
+    fn node(&self) -> &NodeOf<T>
+        ensures { result.now ≡ state self.now };
+
+    /// Makes room for whatever is kept of one act. The only error is out of memory.
+    fn room(&mut self) -> Result<(), NoMemory>
+        ensures state { state self.new ≡ state self.old }
+        ensures room { OnOk result (has_room self.new) };
+
+    /// The node does an act that it is ready for. The number is the terminal's, if the node is one.
+    /// Only Send and Drain may want memory, and then nothing has changed.
+    fn act(&mut self, number: usize, act: ActOf<T>) -> Result<ReplyOf<T>, NoMemory>
+        requires short { IsShort act }
+        requires room { has_room self.old }
+        requires ready { is_some (node_act T.kind number act (state self.old)) ≡ true }
+        ensures acted { MatchResult result
+            (λ reply. (reply, state self.new) ≡
+                reply_outcome (node_act T.kind number act (state self.old)) (state self.old))
+            (λ _. state self.new ≡ state self.old) }
+        ensures memory { MatchResult result (λ _. Unit {0}) (λ _. wants_memory act ≡ true) };
+}
+
+/// The node alone, of whose acts nothing is kept.
+impl<T: TokenKind> Place<T> for NodeOf<T> {
+    ghost use Rattle.std.specs.Prelude.{◌≡◌, true, MatchResult, OnOk};
+    ghost use Rattle.c104_net.specs.Acts.{IsShort, node_act, reply_outcome, wants_memory};
+
+    ghost state = { λ n. n };
+    ghost has_room = { λ n. Unit {0} };
+
+    fn node(&self) -> &NodeOf<T>
+        ensures { result.now ≡ self.now }
+    {
+        self
+    }
+
+    fn room(&mut self) -> Result<(), NoMemory>
+        ensures state { self.new ≡ self.old }
+        ensures room { OnOk result (Unit {0}) }
+    {
+        Ok(())
+    }
+
+    fn act(&mut self, number: usize, act: ActOf<T>) -> Result<ReplyOf<T>, NoMemory>
+        requires { IsShort act }
+        ensures acted { MatchResult result
+            (λ reply. (reply, self.new) ≡
+                reply_outcome (node_act T.kind number act self.old) self.old)
+            (λ _. self.new ≡ self.old) }
+        ensures memory { MatchResult result (λ _. Unit {0}) (λ _. wants_memory act ≡ true) }
+    {
+        NodeOf::act(self, number, &act)
+    }
+}

@@ -1,0 +1,196 @@
+//! One act of one place among all places.
+ghost use Rattle.std.specs.Prelude.{◌≡◌, ◌≢◌, ◌<◌, ℕ, Some, true, length, is_some, map, MatchResult, OnOk};
+ghost use Rattle.c104_link.specs.Steps.{step_at, yield_step_at};
+ghost use Rattle.c104_net.specs.Acts.{IsShort, nodes_act, reply_outcome, wants_memory};
+ghost use Rattle.c104_net.specs.Nodes.{node_enter, node_leave, node_credit_out, node_credit_in};
+ghost use Rattle.c104_net.specs.Places.{HasRoomAt, StepEnds};
+
+use crate::acts::ActOf;
+use crate::ends::End;
+use crate::place::Place;
+use c104_switch::ReplyOf;
+use c104_token::{NoMemory, TokenKind};
+
+/// Whether the node at a place would do an act.
+fn ready_at<T: TokenKind, P: Place<T>>(
+    places: &[P],
+    place: usize,
+    number: usize,
+    act: &ActOf<T>,
+) -> bool
+    ensures { result ≡ is_some (nodes_act T.kind (map P.state places.now) place number act.now) }
+{
+    match places.get(place) {
+        Some(found) => found.node().ready(number, act),
+        None => false,
+    }
+}
+
+/// Makes room at a place for whatever is kept of one act.
+pub fn room_at<T: TokenKind, P: Place<T>>(places: &mut [P], place: usize) -> Result<(), NoMemory>
+    requires { place < length places.old }
+    ensures state { map P.state places.new ≡ map P.state places.old }
+    ensures room { OnOk result (HasRoomAt P.has_room places.new place) }
+    ensures others { (j : ℕ) → j ≢ place →
+        HasRoomAt P.has_room places.old j → HasRoomAt P.has_room places.new j }
+{
+    let found = &mut places[place];
+    found.room()
+}
+
+/// The node at a place does an act that it is ready for.
+fn act_at<T: TokenKind, P: Place<T>>(
+    places: &mut [P],
+    place: usize,
+    number: usize,
+    act: ActOf<T>,
+) -> Result<ReplyOf<T>, NoMemory>
+    requires inside { place < length places.old }
+    requires short { IsShort act }
+    requires room { HasRoomAt P.has_room places.old place }
+    requires ready { is_some (nodes_act T.kind (map P.state places.old) place number act) ≡ true }
+    ensures acted { MatchResult result
+        (λ reply. nodes_act T.kind (map P.state places.old) place number act
+            ≡ Some (reply, map P.state places.new))
+        (λ _. map P.state places.new ≡ map P.state places.old) }
+    ensures memory { MatchResult result (λ _. Unit {0}) (λ _. wants_memory act ≡ true) }
+    ensures others { (j : ℕ) → j ≢ place →
+        HasRoomAt P.has_room places.old j → HasRoomAt P.has_room places.new j }
+{
+    let found = &mut places[place];
+    found.act(number, act)
+}
+
+/// The node at a place does an act, if it is ready.
+pub fn act_alone<T: TokenKind, P: Place<T>>(
+    places: &mut [P],
+    place: usize,
+    number: usize,
+    act: ActOf<T>,
+) -> Result<ReplyOf<T>, NoMemory>
+    requires { IsShort act }
+    ensures { StepEnds
+        (reply_outcome
+            (nodes_act T.kind (map P.state places.old) place number act)
+            (map P.state places.old))
+        (is_some (nodes_act T.kind (map P.state places.old) place number act))
+        (map P.state places.old) result (map P.state places.new) }
+{
+    if place >= places.len() || !ready_at(places, place, number, &act) {
+        return Ok(ReplyOf::NotReady);
+    }
+    room_at(places, place)?;
+    act_at(places, place, number, act)
+}
+
+/// Whether a token can go out at an end of a wire.
+pub fn can_leave_at<T: TokenKind, P: Place<T>>(places: &[P], end: End) -> bool
+    ensures { result ≡ is_some
+        (yield_step_at (map P.state places.now) end.node (node_leave end.link)) }
+{
+    match places.get(end.node) {
+        Some(found) => found.node().can_leave(end.link),
+        None => false,
+    }
+}
+
+/// Whether a token can come in at an end of a wire.
+pub fn can_enter_at<T: TokenKind, P: Place<T>>(places: &[P], end: End) -> bool
+    ensures { (token : T) → result ≡
+        is_some (step_at (map P.state places.now) end.node (node_enter token end.link)) }
+{
+    match places.get(end.node) {
+        Some(found) => found.node().can_enter(end.link),
+        None => false,
+    }
+}
+
+/// Whether an end of a wire can grant eight more tokens.
+pub fn can_credit_out_at<T: TokenKind, P: Place<T>>(places: &[P], end: End) -> bool
+    ensures { result ≡
+        is_some (step_at (map P.state places.now) end.node (node_credit_out end.link)) }
+{
+    match places.get(end.node) {
+        Some(found) => found.node().can_credit_out(end.link),
+        None => false,
+    }
+}
+
+/// Whether an end of a wire may be granted eight more tokens.
+pub fn can_credit_in_at<T: TokenKind, P: Place<T>>(places: &[P], end: End) -> bool
+    ensures { result ≡
+        is_some (step_at (map P.state places.now) end.node (node_credit_in end.link)) }
+{
+    match places.get(end.node) {
+        Some(found) => found.node().can_credit_in(end.link),
+        None => false,
+    }
+}
+
+/// A token goes out at an end of a wire, where one can.
+pub fn leave_at<T: TokenKind, P: Place<T>>(places: &mut [P], end: End) -> T
+    requires inside { end.node < length places.old }
+    requires room { HasRoomAt P.has_room places.old end.node }
+    requires ready { is_some
+        (yield_step_at (map P.state places.old) end.node (node_leave end.link)) ≡ true }
+    ensures left { yield_step_at (map P.state places.old) end.node (node_leave end.link)
+        ≡ Some (result, map P.state places.new) }
+    ensures others { (j : ℕ) → j ≢ end.node →
+        HasRoomAt P.has_room places.old j → HasRoomAt P.has_room places.new j }
+{
+    let act = places[end.node].node().leave_act(end.link);
+    match act_at(places, end.node, 0, act) {
+        Ok(ReplyOf::Token(token)) => token,
+        _ => unreachable!(),
+    }
+}
+
+/// A token comes in at an end of a wire, where one can.
+pub fn enter_at<T: TokenKind, P: Place<T>>(places: &mut [P], end: End, token: T)
+    requires inside { end.node < length places.old }
+    requires room { HasRoomAt P.has_room places.old end.node }
+    requires ready { is_some
+        (step_at (map P.state places.old) end.node (node_enter token end.link)) ≡ true }
+    ensures { step_at (map P.state places.old) end.node (node_enter token end.link)
+        ≡ Some (map P.state places.new) }
+{
+    let act = places[end.node].node().enter_act(end.link, token);
+    match act_at(places, end.node, 0, act) {
+        Ok(_) => (),
+        Err(_) => unreachable!(),
+    }
+}
+
+/// An end of a wire grants eight more tokens, where it can.
+pub fn credit_out_at<T: TokenKind, P: Place<T>>(places: &mut [P], end: End)
+    requires inside { end.node < length places.old }
+    requires room { HasRoomAt P.has_room places.old end.node }
+    requires ready { is_some
+        (step_at (map P.state places.old) end.node (node_credit_out end.link)) ≡ true }
+    ensures granted { step_at (map P.state places.old) end.node (node_credit_out end.link)
+        ≡ Some (map P.state places.new) }
+    ensures others { (j : ℕ) → j ≢ end.node →
+        HasRoomAt P.has_room places.old j → HasRoomAt P.has_room places.new j }
+{
+    let act = places[end.node].node().credit_out_act(end.link);
+    match act_at(places, end.node, 0, act) {
+        Ok(_) => (),
+        Err(_) => unreachable!(),
+    }
+}
+
+/// An end of a wire is granted eight more tokens, where it may be.
+pub fn credit_in_at<T: TokenKind, P: Place<T>>(places: &mut [P], end: End)
+    requires inside { end.node < length places.old }
+    requires room { HasRoomAt P.has_room places.old end.node }
+    requires ready { is_some
+        (step_at (map P.state places.old) end.node (node_credit_in end.link)) ≡ true }
+    ensures { step_at (map P.state places.old) end.node (node_credit_in end.link)
+        ≡ Some (map P.state places.new) }
+{
+    let act = places[end.node].node().credit_in_act(end.link);
+    match act_at(places, end.node, 0, act) {
+        Ok(_) => (),
+        Err(_) => unreachable!(),
+    }
+}
