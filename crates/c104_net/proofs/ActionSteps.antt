@@ -1,5 +1,5 @@
 -- An action of a switch is the same step of the node that is the switch.
-use Rattle.std.proofs.Common.{◌≡◌, Option, Some, None, is_some, refl, List, ℕ}
+use Rattle.std.proofs.Common.{◌≡◌, Option, Some, None, is_some, refl}
 use Rattle.c104_token.specs.Kinds.{Kind}
 use Rattle.c104_switch.specs.Switch.{Switch as State, switch_enter, switch_leave, switch_credit_out, switch_credit_in}
 use Rattle.c104_switch.specs.Turns.{switch_input}

@@ -1,7 +1,7 @@
 -- Each event keeps every network in balance.
-use Rattle.std.proofs.Common.{◌≡◌, ℕ, inl, inr, List, Option, Some, None, Result, refl, sym, ap, subst}
+use Rattle.std.proofs.Common.{◌≡◌, inl, inr, List, Option, Some, None, Result, refl, sym, ap, subst}
 use Rattle.c104_token.specs.Kinds.{Kind}
-use Rattle.c104_link.specs.Steps.{◌>>=◌, step_at, yield_step_at}
+use Rattle.c104_link.specs.Steps.{step_at, yield_step_at}
 use Rattle.c104_link.proofs.MadeSteps.{given}
 use Rattle.c104_switch.specs.Actions.{Reply}
 use Rattle.c104_switch.specs.declared.actions.ReplyOf.TheVariants as reply
@@ -13,7 +13,7 @@ use Rattle.c104_event.specs.declared.faults.EventFault.{EventFault}
 use Rattle.c104_net.specs.Nodes.{Node, node_input, node_claim, node_control, node_send, node_drain}
 use Rattle.c104_net.specs.Wires.{nodes_cross, nodes_credit}
 use Rattle.c104_net.specs.Ends.{end_of}
-use Rattle.c104_net.specs.Network.{Network, network_of, network_step, network_apply, terminal_place, event_fault, limit_fault, limited_node, outcome_within_limit, outcome_if_ready, outcome_if_possible, AnswersEvent, WouldBeDone}
+use Rattle.c104_net.specs.Network.{Network, network_of, network_step, terminal_place, event_fault, limit_fault, limited_node, outcome_within_limit, outcome_if_ready, outcome_if_possible, AnswersEvent}
 use Rattle.c104_net.specs.Balance.{IsSteady}
 use Rattle.c104_net.proofs.BalanceNodes.{input_rests, claim_rests, control_rests, send_rests, drain_rests}
 use Rattle.c104_net.proofs.BalanceSteps.{steady_at, steady_from, steady_crossed, steady_credited}

@@ -1,5 +1,5 @@
 -- What crosses a wire keeps every network in balance, and so does each step of one node.
-use Rattle.std.proofs.Common.{◌≡◌, ◌≢◌, ℕ, inl, inr, List, Option, Some, length, slice_get, slice_set, refl, sym, ◌∙◌, ap, subst}
+use Rattle.std.proofs.Common.{◌≡◌, ◌≢◌, ℕ, inl, inr, List, Option, Some, length, slice_get, slice_set, sym, ◌∙◌, ap, subst}
 use Rattle.c104_link.specs.Steps.{step_at, yield_step_at}
 use Rattle.c104_link.proofs.MadeSteps.{given, at_place_made, from_place_made}
 use Rattle.c104_describe.specs.declared.ports.Port.{Port}
@@ -9,7 +9,7 @@ use Rattle.c104_net.specs.Nodes.{Node, node_enter, node_leave, node_credit_out, 
 use Rattle.c104_net.specs.Wires.{nodes_cross, nodes_credit}
 use Rattle.c104_describe.specs.Wiring.{peer}
 use Rattle.c104_net.specs.Ends.{end_of}
-use Rattle.c104_net.specs.Network.{Network, network_of}
+use Rattle.c104_net.specs.Network.{network_of}
 use Rattle.c104_net.specs.Balance.{credit_of, granted_of, AreLevel, IsSteady}
 use Rattle.c104_net.proofs.BalanceWires.{port_cases, peer_back, peer_one, ends_apart}
 use Rattle.c104_net.proofs.BalancePlaces.{changed, lower, raise, ActsAt, Rests, acts_at, seen_kept, still_in_place, switches_first}

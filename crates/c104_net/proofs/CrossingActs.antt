@@ -1,5 +1,5 @@
 -- A token crosses, and credit does, where both ends can act.
-use Rattle.std.proofs.Common.{◌≡◌, ◌∙◌, ◌≤◌, ℕ, true, false, List, Option, Some, None, length, slice_get, is_some, refl, sym}
+use Rattle.std.proofs.Common.{◌≡◌, ◌∙◌, ◌≤◌, true, false, List, Option, Some, None, length, slice_get, is_some, refl, sym}
 use Rattle.std.proofs.lemmas.Option.{slice_get_past}
 use Rattle.c104_link.specs.Steps.{◌>>=◌, step_at, yield_step_at}
 use Rattle.c104_net.specs.declared.ends.End.{End}

@@ -1,5 +1,5 @@
 -- The table of wires: the far end of the wire at each port.
-use Rattle.std.specs.Prelude.{ℕ, ◌*◌, ◌/◌, ◌%◌, List, Option, length, map, option_map}
+use Rattle.std.specs.Prelude.{◌*◌, ◌/◌, ◌%◌, List, Option, length, map, option_map}
 use Rattle.std.specs.List.{range_with_len}
 use Rattle.c104_regs.specs.declared.registers.TheConstants.{LINKS}
 use Rattle.c104_describe.specs.declared.ports.Port.TheVariants as port
@@ -17,7 +17,7 @@ far_end plan p = option_map (end_of plan) (peer plan p)
 abbrev pub link_ends : Plan → List (Option End)
 link_ends plan =
     map (λ place. far_end plan (port.Switch (place / LINKS) (place % LINKS)))
-        (range_with_len 0 (length plan.switches * LINKS))
+    (range_with_len 0 (length plan.switches * LINKS))
 
 -- the far ends of the terminals, in order
 abbrev pub terminal_ends : Plan → List (Option End)

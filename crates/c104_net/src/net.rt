@@ -147,9 +147,7 @@ impl<T: TokenKind> NetOf<T> {
         if terminal >= plan.terminals().len() {
             return None;
         }
-        self.places
-            .get(plan.switches().len() + terminal)?
-            .arrived()
+        self.places.get(plan.switches().len() + terminal)?.arrived()
     }
 
     /// The value of the register at this address of a switch. None where the plan has no such

@@ -34,7 +34,7 @@ pub trait Place<T: TokenKind> {
         requires ready { is_some (node_act T.kind number act (state self.old)) ≡ true }
         ensures acted { MatchResult result
             (λ reply. (reply, state self.new) ≡
-                reply_outcome (node_act T.kind number act (state self.old)) (state self.old))
+            reply_outcome (node_act T.kind number act (state self.old)) (state self.old))
             (λ _. state self.new ≡ state self.old) }
         ensures memory { MatchResult result (λ _. Unit {0}) (λ _. wants_memory act ≡ true) };
 }
@@ -45,6 +45,7 @@ impl<T: TokenKind> Place<T> for NodeOf<T> {
     ghost use Rattle.c104_net.specs.Acts.{IsShort, node_act, reply_outcome, wants_memory};
 
     ghost state = { λ n. n };
+
     ghost has_room = { λ n. Unit {0} };
 
     fn node(&self) -> &NodeOf<T>
@@ -64,7 +65,7 @@ impl<T: TokenKind> Place<T> for NodeOf<T> {
         requires { IsShort act }
         ensures acted { MatchResult result
             (λ reply. (reply, self.new) ≡
-                reply_outcome (node_act T.kind number act self.old) self.old)
+            reply_outcome (node_act T.kind number act self.old) self.old)
             (λ _. self.new ≡ self.old) }
         ensures memory { MatchResult result (λ _. Unit {0}) (λ _. wants_memory act ≡ true) }
     {

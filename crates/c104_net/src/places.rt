@@ -51,7 +51,7 @@ fn act_at<T: TokenKind, P: Place<T>>(
     requires ready { is_some (nodes_act T.kind (map P.state places.old) place number act) ≡ true }
     ensures acted { MatchResult result
         (λ reply. nodes_act T.kind (map P.state places.old) place number act
-            ≡ Some (reply, map P.state places.new))
+        ≡ Some (reply, map P.state places.new))
         (λ _. map P.state places.new ≡ map P.state places.old) }
     ensures memory { MatchResult result (λ _. Unit {0}) (λ _. wants_memory act ≡ true) }
     ensures others { (j : ℕ) → j ≢ place →
@@ -71,8 +71,8 @@ pub fn act_alone<T: TokenKind, P: Place<T>>(
     requires { IsShort act }
     ensures { StepEnds
         (reply_outcome
-            (nodes_act T.kind (map P.state places.old) place number act)
-            (map P.state places.old))
+        (nodes_act T.kind (map P.state places.old) place number act)
+        (map P.state places.old))
         (is_some (nodes_act T.kind (map P.state places.old) place number act))
         (map P.state places.old) result (map P.state places.new) }
 {

@@ -6,8 +6,10 @@ ghost use Rattle.c104_net.specs.Wires.{nodes_cross, nodes_credit};
 
 use crate::ends::End;
 use crate::place::Place;
-use crate::places::{can_credit_in_at, can_credit_out_at, can_enter_at, can_leave_at};
-use crate::places::{credit_in_at, credit_out_at, enter_at, leave_at, room_at};
+use crate::places::{
+    can_credit_in_at, can_credit_out_at, can_enter_at, can_leave_at, credit_in_at, credit_out_at,
+    enter_at, leave_at, room_at,
+};
 use c104_token::{NoMemory, TokenKind};
 
 /// A token goes out at one end of a wire and comes in at the other, or nothing changes.

@@ -18,7 +18,7 @@ impl<T: TokenKind> NodeOf<T> {
         requires { IsShort act.now }
         ensures acted { MatchResult result
             (λ reply. (reply, self.new) ≡
-                reply_outcome (node_act T.kind number act.now self.old) self.old)
+            reply_outcome (node_act T.kind number act.now self.old) self.old)
             (λ _. self.new ≡ self.old) }
         ensures memory { MatchResult result
             (λ _. Unit {0})
