@@ -1,46 +1,100 @@
 //! The program: reads a description of a network and a script, and shows what the network answers.
 //!
-//! `main` reads the command line, calls the function of a command and says what that function's `Status`
-//! means: a message on standard error and an exit status. Nothing is kept here. The functions of the
+//! `main` reads the command line, opens what it names, calls the function of a command and says what that
+//! function's `Status` means: a message on standard error and an exit status. The words of the command
+//! line and its help are in `command_line`, what a path stands for in `sources`; the functions of the
 //! commands are those of `c104_commands`.
 #![tactic(auto)]
 
+mod command_line;
+mod sources;
+
 pub use c104_commands::{Status, run, run_text};
+use clap::error::ErrorKind;
+use command_line::Order;
+use sources::Source;
+use std::fs::File;
+use std::io::Input;
 use std::process::ExitCode;
 use std::{env, io};
-
-/// What is said of words on the command line, of which there are none so far.
-const USAGE: &str = "usage: c104 < TEXT
-
-Runs one text from standard input: the description of a network, then a line
-whose only word is `script`, and then the script, which is answered line by line.";
 
 /// The exit status of a wrong command line.
 const WRONG_USAGE: u8 = 2;
 
+/// A file of the host's, or its standard input.
+type HostSource = Source<File, <HostRuntime as Input>::Reader>;
+
 fn main(rt: HostRuntime) -> ExitCode {
-    let status = match env::args(&rt) {
-        Ok(words) if words.len() <= 1 => {
-            run_text(rt.alloc(), &mut rt.reader(), &mut io::writer(&rt))
+    match command_words(&rt) {
+        Ok(words) => do_words(&rt, words.as_slice()),
+        Err(error) if error.kind() == io::ErrorKind::OutOfMemory => {
+            finish(&rt, Status::NoMemory, Order::RunText)
         }
-        Err(error) if error.kind() == io::ErrorKind::OutOfMemory => Status::NoMemory,
-        _ => {
-            let _ = rt.eprintln(USAGE);
-            return ExitCode::from(WRONG_USAGE);
+        Err(_) => {
+            let _ = rt.eprintln("error: a word isn't UTF-8\n\nFor more information, try '--help'.");
+            ExitCode::from(WRONG_USAGE)
         }
-    };
-    if let Some(message) = fault_message(status) {
-        let _ = rt.eprintln(message);
     }
-    ExitCode::from(status.exit_code())
 }
 
-/// What is said on standard error, where a run of standard input failed.
-fn fault_message(status: Status) -> Option<&'static str> {
-    match status {
-        Status::Done | Status::Refused => None,
-        Status::CannotRead(_) => Some("c104: cannot read -"),
-        Status::CannotWrite => Some("c104: cannot write"),
-        Status::NoMemory => Some("c104: no memory"),
+/// The words of the command line. The error's kind is OutOfMemory, or a word isn't text.
+fn command_words(rt: &HostRuntime) -> io::Result<Vec<String>> {
+    let words = env::args(rt)?.collect(rt.alloc())?;
+    Ok(words)
+}
+
+/// Does what the words ask for, or says what is wrong with them. Help and the version are no fault.
+fn do_words(rt: &HostRuntime, words: &[String]) -> ExitCode {
+    let error = match Order::read(rt.alloc(), words) {
+        Ok(order) => return finish(rt, do_order(rt, order), order),
+        Err(error) => error,
+    };
+    if error.kind() == ErrorKind::OutOfMemory {
+        return finish(rt, Status::NoMemory, Order::RunText);
     }
+    let shown = error.print(rt);
+    if error.use_stderr() {
+        return ExitCode::from(WRONG_USAGE);
+    }
+    let status = match shown {
+        Ok(()) => Status::Done,
+        Err(_) => Status::CannotWrite,
+    };
+    finish(rt, status, Order::RunText)
+}
+
+/// Does an order. Of two files both are opened, the description's first, before anything is read.
+fn do_order(rt: &HostRuntime, order: Order<'_>) -> Status {
+    let Order::RunFiles {
+        description,
+        script,
+    } = order
+    else {
+        return run_text(rt.alloc(), &mut rt.reader(), &mut io::writer(rt));
+    };
+    let opened: io::Result<HostSource> = Source::open(rt, description);
+    let Ok(mut description) = opened else {
+        return Status::CannotRead(0);
+    };
+    let opened: io::Result<HostSource> = Source::open(rt, script);
+    let Ok(mut script) = opened else {
+        return Status::CannotRead(1);
+    };
+    run(
+        rt.alloc(),
+        &mut description,
+        &mut script,
+        &mut io::writer(rt),
+    )
+}
+
+/// Says on standard error what failed, and gives the exit status.
+fn finish(rt: &HostRuntime, status: Status, order: Order<'_>) -> ExitCode {
+    let _ = match status {
+        Status::Done | Status::Refused => Ok(()),
+        Status::CannotRead(number) => eprintln!(rt; "c104: cannot read {}", order.path(number)),
+        Status::CannotWrite => rt.eprintln("c104: cannot write"),
+        Status::NoMemory => rt.eprintln("c104: no memory"),
+    };
+    ExitCode::from(status.exit_code())
 }

@@ -1,0 +1,115 @@
+//! The command line: its words, what they ask for, and the text of its help.
+
+use crate::sources::STANDARD_INPUT;
+use clap::{Arg, ArgMatches, Command, Error};
+use std::alloc::{AllocError, Global};
+
+const VERSION: &str = "0.5.0";
+
+const ABOUT: &str = "Emulates networks of IMS C104 packet routing switches, event by event";
+
+const ABOUT_RUN: &str = "Runs a script on the network of a description, and shows what arrived";
+
+const TEACHING: &str = "A run has two inputs, which are text:
+
+  The description says of what the network consists, a part on each line:
+  switches, the wires between them, the terminals on their links, and the rows
+  by which an input of a switch chooses the output for a packet's header.
+
+  The script says what happens in it, an event on each line. A line is answered
+  behind its number as soon as it is read. At the end stands each packet that
+  arrived, behind the name of its terminal.
+
+They are two files, or one text on standard input: the description, a line whose
+only word is `script`, and then the script. `c104` alone is `c104 run`.
+
+Examples:
+  c104 run network.txt events.txt     a description and a script from two files
+  c104 < examples/first-network.txt   both in one text
+
+Exit status:
+  0  done, also where an event was refused
+  1  the description, or a line of the script, was refused
+  2  the command line is wrong
+  3  a file can't be opened or read, or the output can't be written
+  4  no memory";
+
+const TEACHING_RUN: &str =
+    "Without DESC and SCRIPT both are read from standard input as one text: the
+description, a line whose only word is `script`, and then the script.";
+
+/// What the command line asks for. A path is a file's, or `-` for standard input.
+#[derive(Clone, Copy)]
+pub enum Order<'a> {
+    /// A run of one text from standard input: a description, and a script behind it.
+    RunText,
+    /// A run of two files.
+    RunFiles {
+        /// The description's path.
+        description: &'a str,
+        /// The script's path.
+        script: &'a str,
+    },
+}
+
+impl<'a> Order<'a> {
+    /// What the words ask for, of which the first is the program's name. The error is a wrong usage,
+    /// a text of help or of the version that was asked for, or out of memory.
+    pub fn read(alloc: Global, words: &'a [String]) -> Result<Self, Error> {
+        let matches = command_line(alloc)?.try_get_matches_from(words)?;
+        Ok(Order::of_matches(&matches))
+    }
+
+    /// The order of words that were matched: no command, or the only one there is.
+    fn of_matches(matches: &ArgMatches<'a>) -> Self {
+        let Some((_run, given)) = matches.subcommand() else {
+            return Order::RunText;
+        };
+        match (given.get_str(DESCRIPTION), given.get_str(SCRIPT)) {
+            (Some(description), Some(script)) => Order::RunFiles {
+                description,
+                script,
+            },
+            _ => Order::RunText,
+        }
+    }
+
+    /// The path of what was read, of which the number is that of a `Status`: 0 for the description, and
+    /// else the script.
+    pub fn path(self, number: u8) -> &'a str {
+        match self {
+            Order::RunText => STANDARD_INPUT,
+            Order::RunFiles { description, .. } if number == 0 => description,
+            Order::RunFiles { script, .. } => script,
+        }
+    }
+}
+
+/// The names of arguments, as help shows them.
+const DESCRIPTION: &str = "DESC";
+
+const SCRIPT: &str = "SCRIPT";
+
+/// All that the program takes. The only error is out of memory.
+fn command_line<'a>(alloc: Global) -> Result<Command<'a>, AllocError> {
+    let command = Command::new(alloc, "c104")
+        .bin_name("c104")?
+        .version(VERSION)
+        .about(ABOUT)
+        .after_help(TEACHING)
+        .subcommand(run_command(alloc)?)?;
+    Ok(command)
+}
+
+/// `run [DESC SCRIPT]`: neither of the two stands without the other.
+fn run_command<'a>(alloc: Global) -> Result<Command<'a>, AllocError> {
+    let description = Arg::new(alloc, DESCRIPTION)
+        .help("The description: a file, or - for standard input")
+        .requires_arg(SCRIPT)?;
+    let script = Arg::new(alloc, SCRIPT).help("The script: a file, or - for standard input");
+    Command::new(alloc, "run")
+        .about(ABOUT_RUN)
+        .after_help(TEACHING_RUN)
+        .arg(description)?
+        .arg(script)
+}

@@ -1,0 +1,40 @@
+//! What a path of the command line stands for: a file, or standard input.
+ghost use Rattle.c104.specs.Sources.{source_remaining};
+
+use std::io::{Input, Read};
+use std::rt::Files;
+use std::{fs, io};
+
+/// The path of standard input.
+pub const STANDARD_INPUT: &str = "-";
+
+/// An open file, or standard input. Each read asks it once, whatever it answers.
+#[derive(Drop)]
+pub enum Source<F: Read + Drop, I: Read + Drop> {
+    /// A file.
+    File(F),
+    /// Standard input.
+    Input(I),
+}
+
+impl<F: Read + Drop, I: Read + Drop> Source<F, I> {
+    /// Opens a path, of which nothing is read yet. `-` is standard input.
+    pub fn open<R: Files<File = F> + Input<Reader = I>>(rt: &R, path: &str) -> io::Result<Self> {
+        if path == STANDARD_INPUT {
+            return Ok(Source::Input(rt.reader()));
+        }
+        let file = fs::open(rt, path)?;
+        Ok(Source::File(file))
+    }
+}
+
+impl<F: Read + Drop, I: Read + Drop> Read for Source<F, I> {
+    ghost remaining = { source_remaining F.remaining I.remaining };
+
+    fn read(&mut self, buf: &mut [u8]) -> io::Result<usize> {
+        match self {
+            Source::File(file) => file.read(buf),
+            Source::Input(input) => input.read(buf),
+        }
+    }
+}
