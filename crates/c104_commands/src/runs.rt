@@ -12,7 +12,8 @@ use std::alloc::Global;
 use std::io::{Read, Write};
 
 /// Reads a description, and then reads and answers a script on its network, started with its own
-/// rows; at the end writes what arrived. Each line is answered before the next is read.
+/// rows; at the end writes what arrived. All answers are written before the script's reader is asked for
+/// more.
 ///
 /// Reading ends at 1 MiB of a description and at 16 MiB of a script, whatever the reader. Each error
 /// of a reader or a writer is a fault at once.

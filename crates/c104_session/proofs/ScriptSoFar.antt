@@ -1,18 +1,18 @@
 -- A script as it is read and answered: how far it is, and what it comes to.
 use Rattle.std.proofs.Common.{◌≡◌, ℕ, zero, suc, ◌+◌, ◌-◌, ◌<◌, ◌≤◌, ◌==◌, false, true, List, [], ◌∷◌, ◌++◌, length, nat_lt, Option, Ok, Err, sym, ap, ◌∙◌, refl, subst, arith}
 use Rattle.std.proofs.lemmas.Bool.Decides.{nat_tests}
-use mathlib.Core.List.{append-nil}
+use mathlib.Core.List.{append-nil, append_assoc}
 use Rattle.std.proofs.lemmas.List.{length-append}
 use Rattle.std.specs.Io.KnownBytes.{Appends, Consumes, Keeps}
 use Rattle.c104_stream.specs.declared.halt.Halt.{Halt}
 use Rattle.c104_stream.specs.declared.halt.Halt.TheVariants as halt
 use Rattle.c104_session.specs.declared.session.Session.{Session}
 use Rattle.c104_session.specs.Lines.{whole_lines, last_line, lines_within, script_lines, most_script}
-use Rattle.c104_stream.specs.Writing.{AppendsPrefix}
+use Rattle.c104_stream.specs.Writing.{AppendsAndKeeps, AppendsPrefix}
 use Rattle.c104_session.specs.Shown.{line_outcome, lines_outcome}
-use Rattle.c104_session.specs.Runs.{ScriptEnds, LineStops}
-use Rattle.std.proofs.KnownBytes.{Consumes-trans, Consumes-nil, Appends-trans, Appends-nil, Appends-kept}
-use Rattle.c104_stream.proofs.Prefixes.{prefix_after, prefix_only}
+use Rattle.c104_session.specs.Runs.{KeepsPrefix, LinesEnd, LineStops}
+use Rattle.std.proofs.KnownBytes.{Consumes-trans, Consumes-nil}
+use Rattle.c104_stream.proofs.Prefixes.{kept_next, kept_on, kept_only, kept_stops, kept_fails, prefix_longer}
 use Rattle.c104_session.proofs.Lines.{whole_byte, last_byte, whole_feed, last_feed, lines_after, shown_after, text_on, session_on}
 
 -- one more line after these
@@ -36,31 +36,35 @@ fed (suc left) line rest some =
     let same : left ≡ suc left - 1 = omega arith in
     ap (λ n. line ∷ lines_within n [] rest) same
 
--- how far a script is read and answered: the lines that had ended are answered, and left bytes may
--- still be read
-pub record Reached (all now held holds : Option (List ℕ)) (start session : Session) (number : ℕ) (line : List ℕ) (left : ℕ) : Type 0 where
+-- how far a script is read and answered: the lines that had ended are answered, though the last answers
+-- may be kept, and left bytes may still be read
+pub record Reached (all now held holds : Option (List ℕ)) (kept : List ℕ) (start session : Session) (number : ℕ) (line : List ℕ) (left : ℕ) : Type 0 where
   pub read : List ℕ
   pub consumed : Consumes all now read
   pub counted : length read + left ≡ most_script
   pub is_line : line ≡ last_line [] read
   pub is_number : number ≡ 1 + length (whole_lines [] read)
   pub is_session : session ≡ (lines_outcome 1 start (whole_lines [] read)).1
-  pub wrote : Appends held holds (lines_outcome 1 start (whole_lines [] read)).0
+  pub wrote : AppendsAndKeeps held holds kept (lines_outcome 1 start (whole_lines [] read)).0
   pub few : number + left ≤ 1 + most_script
 
 -- the line by another name
-pub reached_text : {all now held holds : Option (List ℕ)} {start session : Session} {number left : ℕ} (line text : List ℕ) → text ≡ line → Reached all now held holds start session number line left → Reached all now held holds start session number text left
+pub reached_text : {all now held holds : Option (List ℕ)} {kept : List ℕ} {start session : Session} {number left : ℕ} (line text : List ℕ) → text ≡ line → Reached all now held holds kept start session number line left → Reached all now held holds kept start session number text left
 reached_text line text is reached = record { read = reached.read; consumed = reached.consumed; counted = reached.counted; is_line = is ∙ reached.is_line; is_number = reached.is_number; is_session = reached.is_session; wrote = reached.wrote; few = reached.few }
 
-pub reached_first : (all held : Option (List ℕ)) (start : Session) → Reached all all held held start start 1 [] most_script
-reached_first all held start = record { read = []; consumed = Consumes-nil all; counted = omega arith; is_line = refl; is_number = refl; is_session = refl; wrote = Appends-nil held; few = omega arith }
+pub reached_first : (all held : Option (List ℕ)) (kept : List ℕ) (start : Session) → kept ≡ [] → Reached all all held held kept start start 1 [] most_script
+reached_first all held kept start none = record { read = []; consumed = Consumes-nil all; counted = omega arith; is_line = refl; is_number = refl; is_session = refl; wrote = subst (λ xs. AppendsAndKeeps held held kept xs) none (kept_only held kept); few = omega arith }
 
-module _ {all now held holds : Option (List ℕ)} {start session : Session} {number left : ℕ} {line : List ℕ} (reached : Reached all now held holds start session number line left) where
+module _ {all now held holds : Option (List ℕ)} {kept : List ℕ} {start session : Session} {number left : ℕ} {line : List ℕ} (reached : Reached all now held holds kept start session number line left) where
   abbrev so_far : List ℕ × Session
   so_far = lines_outcome 1 start (whole_lines [] reached.read)
 
+  -- what was kept is written further
+  pub reached_on : (wrote : Option (List ℕ)) (keeps : List ℕ) → AppendsAndKeeps holds wrote keeps kept → Reached all now held wrote keeps start session number line left
+  reached_on wrote keeps on = record { read = reached.read; consumed = reached.consumed; counted = reached.counted; is_line = reached.is_line; is_number = reached.is_number; is_session = reached.is_session; wrote = kept_on held holds wrote kept keeps so_far.0 reached.wrote on; few = reached.few }
+
   -- a byte of a line
-  pub reached_byte : (new : Option (List ℕ)) (byte : ℕ) → 0 < left → Consumes now new (byte ∷ []) → (byte ≡ 10 → ⊥) → Reached all new held holds start session number (line ++ byte ∷ []) (left - 1)
+  pub reached_byte : (new : Option (List ℕ)) (byte : ℕ) → 0 < left → Consumes now new (byte ∷ []) → (byte ≡ 10 → ⊥) → Reached all new held holds kept start session number (line ++ byte ∷ []) (left - 1)
   reached_byte new byte some took no_feed =
       let other : (byte == 10) ≡ false = grind (arith, nat_tests, no_feed) in
       let lines : whole_lines [] (reached.read ++ byte ∷ []) ≡ whole_lines [] reached.read = whole_byte [] reached.read byte other in
@@ -71,13 +75,13 @@ module _ {all now held holds : Option (List ℕ)} {start session : Session} {num
         is_line = ap (λ xs. xs ++ byte ∷ []) reached.is_line ∙ sym (last_byte [] reached.read byte other);
         is_number = reached.is_number ∙ ap (λ xs. 1 + length xs) (sym lines);
         is_session = reached.is_session ∙ ap (λ xs. (lines_outcome 1 start xs).1) (sym lines);
-        wrote = subst (λ xs. Appends held holds (lines_outcome 1 start xs).0) (sym lines) reached.wrote;
+        wrote = subst (λ xs. AppendsAndKeeps held holds kept (lines_outcome 1 start xs).0) (sym lines) reached.wrote;
         few = omega (arith, reached.few);
       }
 
   -- a line feed, and the line was answered
-  pub reached_line : (new wrote : Option (List ℕ)) (after : Session) → 0 < left → Consumes now new (10 ∷ []) → after ≡ (line_outcome number session line).1 → Appends holds wrote (line_outcome number session line).0 → Reached all new held wrote start after (number + 1) [] (left - 1)
-  reached_line new wrote after some took is_after writes =
+  pub reached_line : (new wrote : Option (List ℕ)) (keeps : List ℕ) (after : Session) → 0 < left → Consumes now new (10 ∷ []) → after ≡ (line_outcome number session line).1 → AppendsAndKeeps holds wrote keeps (kept ++ (line_outcome number session line).0) → Reached all new held wrote keeps start after (number + 1) [] (left - 1)
+  reached_line new wrote keeps after some took is_after writes =
       let lines : whole_lines [] (reached.read ++ 10 ∷ []) ≡ whole_lines [] reached.read ++ line ∷ [] = whole_feed [] reached.read ∙ ap (λ l. whole_lines [] reached.read ++ l ∷ []) (sym reached.is_line) in
       record {
         read = reached.read ++ 10 ∷ [];
@@ -86,7 +90,7 @@ module _ {all now held holds : Option (List ℕ)} {start session : Session} {num
         is_line = sym (last_feed [] reached.read);
         is_number = omega (arith, reached.is_number, ap length lines, length-append (whole_lines [] reached.read) (line ∷ []));
         is_session = is_after ∙ sym (session_more start session (whole_lines [] reached.read) number line reached.is_number reached.is_session) ∙ ap (λ xs. (lines_outcome 1 start xs).1) (sym lines);
-        wrote = subst (λ text. Appends held wrote text) (sym (text_more start session (whole_lines [] reached.read) number line reached.is_number reached.is_session) ∙ ap (λ xs. (lines_outcome 1 start xs).0) (sym lines)) (Appends-trans held holds wrote so_far.0 (line_outcome number session line).0 reached.wrote writes);
+        wrote = subst (λ text. AppendsAndKeeps held wrote keeps text) (sym (text_more start session (whole_lines [] reached.read) number line reached.is_number reached.is_session) ∙ ap (λ xs. (lines_outcome 1 start xs).0) (sym lines)) (kept_next held holds wrote kept keeps so_far.0 (line_outcome number session line).0 reached.wrote writes);
         few = omega (arith, reached.few);
       }
 
@@ -100,39 +104,51 @@ module _ {all now held holds : Option (List ℕ)} {start session : Session} {num
       ∙ ap (λ n. whole_lines [] reached.read ++ lines_within n (last_line [] reached.read) rest) same
       ∙ ap (λ l. whole_lines [] reached.read ++ lines_within left l rest) (sym reached.is_line)
 
-  -- no more is written
-  pub memory_stops : (script rest : List ℕ) (remains wrote : Option (List ℕ)) (after : Session) → script ≡ reached.read ++ rest → Keeps holds wrote → ScriptEnds start script remains held wrote after (Err halt.NoMemory)
-  memory_stops script rest remains wrote after is kept =
-      subst (λ text. AppendsPrefix held wrote text) (sym (ap (λ xs. (lines_outcome 1 start xs).0) (cut script rest is) ∙ text_on 1 start (whole_lines [] reached.read) (lines_within left line rest)))
-      (prefix_only held wrote so_far.0 (shown_after 1 start (whole_lines [] reached.read) (lines_within left line rest)).0 (Appends-kept held holds wrote so_far.0 reached.wrote kept))
+  -- the answers to the script begin with those so far
+  pub begins : (script rest : List ℕ) → script ≡ reached.read ++ rest → (lines_outcome 1 start (script_lines script)).0 ≡ so_far.0 ++ (shown_after 1 start (whole_lines [] reached.read) (lines_within left line rest)).0
+  begins script rest is = ap (λ xs. (lines_outcome 1 start xs).0) (cut script rest is) ∙ text_on 1 start (whole_lines [] reached.read) (lines_within left line rest)
+
+  -- no more is answered
+  pub memory_stops : (script rest : List ℕ) (remains wrote : Option (List ℕ)) (keeps : List ℕ) (after : Session) → script ≡ reached.read ++ rest → AppendsAndKeeps holds wrote keeps kept → LinesEnd start script remains held wrote keeps after (Err halt.NoMemory)
+  memory_stops script rest remains wrote keeps after is on =
+      record { front = so_far.0; rest = (shown_after 1 start (whole_lines [] reached.read) (lines_within left line rest)).0; is_prefix = begins script rest is; grew = kept_on held holds wrote kept keeps so_far.0 reached.wrote on }
+
+  -- the writer failed, of what was kept
+  pub writer_fails : (script rest : List ℕ) (remains wrote : Option (List ℕ)) (keeps : List ℕ) (after : Session) → script ≡ reached.read ++ rest → (keeps ≡ []) × AppendsPrefix holds wrote kept → LinesEnd start script remains held wrote keeps after (Err halt.CannotWrite)
+  writer_fails script rest remains wrote keeps after is front =
+      (front.0, subst (λ text. AppendsPrefix held wrote text) (sym (begins script rest is)) (kept_fails held holds wrote kept so_far.0 (shown_after 1 start (whole_lines [] reached.read) (lines_within left line rest)).0 reached.wrote front.1))
 
   -- the answer to the next line isn't written, or a prefix of it
-  pub stops_at : (script rest : List ℕ) (more : List (List ℕ)) (remains wrote : Option (List ℕ)) (last : Session) (kind : Halt) → script ≡ reached.read ++ rest → lines_within left line rest ≡ line ∷ more
-      → LineStops session number line holds wrote kind → ScriptEnds start script remains held wrote last (Err kind)
-  stops_at script rest more remains wrote last halt.CannotRead is next stopped = absurd stopped
-  stops_at script rest more remains wrote last halt.CannotWrite is next stopped =
-      subst (λ text. AppendsPrefix held wrote text) (sym (ap (λ xs. (lines_outcome 1 start xs).0) (cut script rest is ∙ ap (λ xs. whole_lines [] reached.read ++ xs) next) ∙ text_with start session (whole_lines [] reached.read) number line reached.is_number reached.is_session more))
-      (prefix_after held holds wrote so_far.0 (line_outcome number session line).0 (lines_outcome (suc (1 + length (whole_lines [] reached.read))) (line_outcome number session line).1 more).0 reached.wrote stopped)
-  stops_at script rest more remains wrote last halt.NoMemory is next stopped = memory_stops script rest remains wrote last is stopped
+  pub stops_at : (script rest : List ℕ) (more : List (List ℕ)) (remains wrote : Option (List ℕ)) (keeps : List ℕ) (last : Session) (kind : Halt) → script ≡ reached.read ++ rest → lines_within left line rest ≡ line ∷ more
+      → LineStops session number line holds wrote kept keeps kind → LinesEnd start script remains held wrote keeps last (Err kind)
+  stops_at script rest more remains wrote keeps last halt.CannotRead is next stopped = absurd stopped
+  stops_at script rest more remains wrote keeps last halt.CannotWrite is next stopped =
+      let answer : List ℕ = (line_outcome number session line).0 in
+      let others : List ℕ = (lines_outcome (suc (1 + length (whole_lines [] reached.read))) (line_outcome number session line).1 more).0 in (
+        stopped.0,
+        subst (λ text. AppendsPrefix held wrote text) (sym (ap (λ xs. (lines_outcome 1 start xs).0) (cut script rest is ∙ ap (λ xs. whole_lines [] reached.read ++ xs) next) ∙ text_with start session (whole_lines [] reached.read) number line reached.is_number reached.is_session more ∙ sym (append_assoc so_far.0 answer others)))
+            (prefix_longer held wrote (so_far.0 ++ answer) others (kept_stops held holds wrote kept so_far.0 answer reached.wrote stopped.1)),
+      )
+  stops_at script rest more remains wrote keeps last halt.NoMemory is next stopped = memory_stops script rest remains wrote keeps last is stopped
 
   -- the whole script is read and answered
-  pub all_answered : (script : List ℕ) (remains wrote : Option (List ℕ)) (after : Session) → script ≡ reached.read ++ [] → after ≡ (line_outcome number session line).1 → Appends holds wrote (line_outcome number session line).0 → ScriptEnds start script remains held wrote after (Ok false)
-  all_answered script remains wrote after is is_after writes =
+  pub all_answered : (script : List ℕ) (remains wrote : Option (List ℕ)) (keeps : List ℕ) (after : Session) → script ≡ reached.read ++ [] → after ≡ (line_outcome number session line).1 → AppendsAndKeeps holds wrote keeps (kept ++ (line_outcome number session line).0) → LinesEnd start script remains held wrote keeps after (Ok false)
+  all_answered script remains wrote keeps after is is_after writes =
       let lines : script_lines script ≡ whole_lines [] reached.read ++ line ∷ [] = cut script [] is in
       let size : length script ≡ length reached.read + 0 = ap length is ∙ length-append reached.read [] in
       let short : nat_lt most_script (length script) ≡ false = grind (arith, nat_tests, reached.counted, size) in (
         sym short,
         is_after ∙ sym (session_more start session (whole_lines [] reached.read) number line reached.is_number reached.is_session) ∙ ap (λ xs. (lines_outcome 1 start xs).1) (sym lines),
-        subst (λ text. Appends held wrote text) (sym (text_more start session (whole_lines [] reached.read) number line reached.is_number reached.is_session) ∙ ap (λ xs. (lines_outcome 1 start xs).0) (sym lines)) (Appends-trans held holds wrote so_far.0 (line_outcome number session line).0 reached.wrote writes),
+        subst (λ text. AppendsAndKeeps held wrote keeps text) (sym (text_more start session (whole_lines [] reached.read) number line reached.is_number reached.is_session) ∙ ap (λ xs. (lines_outcome 1 start xs).0) (sym lines)) (kept_next held holds wrote kept keeps so_far.0 (line_outcome number session line).0 reached.wrote writes),
       )
 
   -- a byte more than a script may have
-  pub longer : (script rest : List ℕ) (remains : Option (List ℕ)) (byte : ℕ) → left ≡ 0 → script ≡ reached.read ++ byte ∷ rest → ScriptEnds start script remains held holds session (Ok true)
+  pub longer : (script rest : List ℕ) (remains : Option (List ℕ)) (byte : ℕ) → left ≡ 0 → script ≡ reached.read ++ byte ∷ rest → LinesEnd start script remains held holds kept session (Ok true)
   longer script rest remains byte none is =
       let lines : script_lines script ≡ whole_lines [] reached.read = cut script (byte ∷ rest) is ∙ ap (λ n. whole_lines [] reached.read ++ lines_within n line (byte ∷ rest)) none ∙ append-nil (whole_lines [] reached.read) in
       let size : length script ≡ length reached.read + suc (length rest) = ap length is ∙ length-append reached.read (byte ∷ rest) in
       let long : nat_lt most_script (length script) ≡ true = grind (arith, nat_tests, reached.counted, size, none) in (
         sym long,
         reached.is_session ∙ ap (λ xs. (lines_outcome 1 start xs).1) (sym lines),
-        subst (λ text. Appends held holds text) (ap (λ xs. (lines_outcome 1 start xs).0) (sym lines)) reached.wrote,
+        subst (λ text. AppendsAndKeeps held holds kept text) (ap (λ xs. (lines_outcome 1 start xs).0) (sym lines)) reached.wrote,
       )

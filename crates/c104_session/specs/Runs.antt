@@ -7,19 +7,33 @@ use Rattle.c104_stream.specs.declared.halt.Halt.{Halt}
 use Rattle.c104_stream.specs.declared.halt.Halt.TheVariants as halt
 use Rattle.c104_session.specs.declared.session.Session.{Session}
 use Rattle.c104_session.specs.Lines.{whole_lines, is_long}
-use Rattle.c104_stream.specs.Writing.{AppendsPrefix}
+use Rattle.c104_stream.specs.Writing.{AppendsAndKeeps, AppendsPrefix}
 use Rattle.c104_session.specs.Shown.{line_outcome, lines_outcome, script_outcome, new_session, run_output}
 
--- a line was answered
-abbrev pub AnswersLine : Session → ℕ → List ℕ → Option (List ℕ) → Option (List ℕ) → Session → Type 0
-AnswersLine session number line held holds after = (after ≡ (line_outcome number session line).1) × Appends held holds (line_outcome number session line).0
+-- a line was answered, and the answer joined what is kept, which may have been written by that
+abbrev pub AnswersLine : Session → ℕ → List ℕ → Option (List ℕ) → Option (List ℕ) → List ℕ → List ℕ → Session → Type 0
+AnswersLine session number line held holds kept keeps after = (after ≡ (line_outcome number session line).1) × AppendsAndKeeps held holds keeps (kept ++ (line_outcome number session line).0)
 
--- the answering of a line stopped: out of memory, and nothing was written; or the writer failed, and a
--- prefix of the answer was
-abbrev pub LineStops : Session → ℕ → List ℕ → Option (List ℕ) → Option (List ℕ) → Halt → Type 0
-LineStops session number line held holds halt.CannotRead = ⊥
-LineStops session number line held holds halt.CannotWrite = AppendsPrefix held holds (line_outcome number session line).0
-LineStops session number line held holds halt.NoMemory = Keeps held holds
+-- the answering of a line stopped: out of memory, and what was kept is written or kept; or the writer
+-- failed, and a prefix of what was kept and of the answer was written
+abbrev pub LineStops : Session → ℕ → List ℕ → Option (List ℕ) → Option (List ℕ) → List ℕ → List ℕ → Halt → Type 0
+LineStops session number line held holds kept keeps halt.CannotRead = ⊥
+LineStops session number line held holds kept keeps halt.CannotWrite = (keeps ≡ []) × AppendsPrefix held holds (kept ++ (line_outcome number session line).0)
+LineStops session number line held holds kept keeps halt.NoMemory = AppendsAndKeeps held holds keeps kept
+
+-- no further byte was read: what was kept is written before the reader fails, or a prefix of it where
+-- the writer fails
+abbrev pub ReadStops : Option (List ℕ) → Option (List ℕ) → Option (List ℕ) → Option (List ℕ) → List ℕ → List ℕ → Halt → Type 0
+ReadStops now remains held holds kept keeps halt.CannotRead = (keeps ≡ []) × Appends held holds kept × Keeps now remains
+ReadStops now remains held holds kept keeps halt.CannotWrite = (keeps ≡ []) × AppendsPrefix held holds kept
+ReadStops now remains held holds kept keeps halt.NoMemory = AppendsAndKeeps held holds keeps kept
+
+-- a prefix of these bytes is written or kept
+pub record KeepsPrefix (held holds : Option (List ℕ)) (keeps bytes : List ℕ) : Type 0 where
+  pub front : List ℕ
+  pub rest : List ℕ
+  pub is_prefix : bytes ≡ front ++ rest
+  pub grew : AppendsAndKeeps held holds keeps front
 
 -- the reader failed after a prefix of the script: each line that had ended is answered, and no more
 -- is written
@@ -41,6 +55,18 @@ ScriptEnds session script left held holds after (Err halt.NoMemory) = AppendsPre
 abbrev pub AnswersScript : Session → Option (List ℕ) → Option (List ℕ) → Option (List ℕ) → Option (List ℕ) → Session → Result Bool Halt → Type 0
 AnswersScript session None left held holds after result = ⊤
 AnswersScript session (Some script) left held holds after result = ScriptEnds session script left held holds after result
+
+-- a script was answered, from a session on, and the last answers may be kept
+abbrev pub LinesEnd : Session → List ℕ → Option (List ℕ) → Option (List ℕ) → Option (List ℕ) → List ℕ → Session → Result Bool Halt → Type 0
+LinesEnd session script left held holds keeps after (Ok long) = (long ≡ is_long script) × (after ≡ (script_outcome session script).1) × AppendsAndKeeps held holds keeps (script_outcome session script).0
+LinesEnd session script left held holds keeps after (Err halt.CannotRead) = (keeps ≡ []) × AnswersPrefix session script left held holds
+LinesEnd session script left held holds keeps after (Err halt.CannotWrite) = (keeps ≡ []) × AppendsPrefix held holds (script_outcome session script).0
+LinesEnd session script left held holds keeps after (Err halt.NoMemory) = KeepsPrefix held holds keeps (script_outcome session script).0
+
+-- the same where nothing may be known of the script
+abbrev pub AnswersLines : Session → Option (List ℕ) → Option (List ℕ) → Option (List ℕ) → Option (List ℕ) → List ℕ → Session → Result Bool Halt → Type 0
+AnswersLines session None left held holds keeps after result = ⊤
+AnswersLines session (Some script) left held holds keeps after result = LinesEnd session script left held holds keeps after result
 
 -- a script was run on the network of a plan
 abbrev pub PlanEnds : Plan → List ℕ → Option (List ℕ) → Option (List ℕ) → Option (List ℕ) → Result Bool Halt → Type 0

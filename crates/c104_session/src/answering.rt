@@ -1,12 +1,12 @@
 //! A script, read and answered line by line.
 ghost use Rattle.std.specs.Prelude.{◌≡◌, [], ◌∷◌, ◌++◌, MatchResult, OnOk};
-ghost use Rattle.std.specs.Io.KnownBytes.{Appends, prepend_known};
-ghost use Rattle.c104_stream.specs.Writing.{AppendsPrefix};
-ghost use Rattle.c104_session.specs.Shown.{line_outcome};
-ghost use Rattle.c104_session.specs.Runs.{AnswersScript, AnswersLine, LineStops};
+ghost use Rattle.std.specs.Io.KnownBytes.{prepend_known};
+ghost use Rattle.c104_stream.specs.Reading.{GivesByte};
+ghost use Rattle.c104_stream.specs.Writing.{AppendsAndKeeps};
+ghost use Rattle.c104_session.specs.Runs.{AnswersLine, AnswersLines, AnswersScript, LineStops, ReadStops};
 
 use crate::session::Session;
-use c104_stream::{Ahead, Halt, write_whole};
+use c104_stream::{Ahead, Halt, Kept};
 use c104_token::NoMemory;
 use std::alloc::Global;
 use std::io::{Read, Write};
@@ -14,9 +14,9 @@ use std::io::{Read, Write};
 /// The most bytes of a script: 16 MiB.
 pub const MAX_SCRIPT: usize = 16_777_216;
 
-/// Answers the lines of a script as they are read, each before the next one. Says whether the
-/// script is longer than it may be; of such a script the lines that end within the first 16 MiB are
-/// answered.
+/// Answers the lines of a script as they are read. Answers are written before the script's reader is asked for
+/// more, where there are 64 KiB of them, and at the end. Says whether the script is longer than it may
+/// be; of such a script the lines that end within the first 16 MiB are answered.
 pub fn answer_script<S: Read, W: Write>(
     alloc: Global,
     session: &mut Session,
@@ -27,16 +27,39 @@ pub fn answer_script<S: Read, W: Write>(
     ensures { AnswersScript session.old (prepend_known ahead.old (S.remaining script.old))
         (S.remaining script.new) (W.contents writer.old) (W.contents writer.new) session.new result }
 {
+    let Ok(mut kept) = Kept::new(alloc) else {
+        return Err(Halt::NoMemory);
+    };
+    let answered = answer_lines(alloc, session, ahead, script, &mut kept, writer);
+    let written = kept.flush(writer);
+    let is_long = answered?;
+    written?;
+    Ok(is_long)
+}
+
+/// Answers the lines of a script, of which the last answers may be kept.
+fn answer_lines<S: Read, W: Write>(
+    alloc: Global,
+    session: &mut Session,
+    ahead: &mut Ahead,
+    script: &mut S,
+    kept: &mut Kept,
+    writer: &mut W,
+) -> Result<bool, Halt>
+    requires { kept.old ≡ [] }
+    ensures { AnswersLines session.old (prepend_known ahead.old (S.remaining script.old))
+        (S.remaining script.new) (W.contents writer.old) (W.contents writer.new) kept.new session.new result }
+{
     let mut line = Vec::new(alloc);
     let mut number = 1;
     let mut left = MAX_SCRIPT;
     while left > 0 {
-        let Some(byte) = ahead.next_byte(script)? else {
-            answer_line(alloc, session, number, line.as_slice(), writer)?;
+        let Some(byte) = next_byte(ahead, script, kept, writer)? else {
+            answer_line(alloc, session, number, line.as_slice(), kept, writer)?;
             return Ok(false);
         };
         if byte == b'\n' {
-            answer_line(alloc, session, number, line.as_slice(), writer)?;
+            answer_line(alloc, session, number, line.as_slice(), kept, writer)?;
             line.clear();
             number += 1;
         } else {
@@ -44,31 +67,53 @@ pub fn answer_script<S: Read, W: Write>(
         }
         left -= 1;
     }
-    match ahead.next_byte(script)? {
+    match next_byte(ahead, script, kept, writer)? {
         Some(_) => Ok(true),
         None => {
-            answer_line(alloc, session, number, line.as_slice(), writer)?;
+            answer_line(alloc, session, number, line.as_slice(), kept, writer)?;
             Ok(false)
         }
     }
 }
 
-/// Does what a line asks, and writes the line that answers it.
+/// The next byte of a script, or None at its end. What is kept is written before the reader is asked.
+fn next_byte<S: Read, W: Write>(
+    ahead: &mut Ahead,
+    script: &mut S,
+    kept: &mut Kept,
+    writer: &mut W,
+) -> Result<Option<u8>, Halt>
+    ensures { MatchResult result
+        (λ next. GivesByte (prepend_known ahead.old (S.remaining script.old))
+        (prepend_known ahead.new (S.remaining script.new)) next ×
+        AppendsAndKeeps (W.contents writer.old) (W.contents writer.new) kept.new kept.old)
+        (λ halt. ReadStops (prepend_known ahead.old (S.remaining script.old)) (S.remaining script.new)
+        (W.contents writer.old) (W.contents writer.new) kept.old kept.new halt) }
+{
+    if ahead.is_empty() {
+        kept.flush(writer)?;
+    }
+    let next = ahead.next_byte(script)?;
+    Ok(next)
+}
+
+/// Does what a line asks. The line that answers it joins what is kept.
 fn answer_line<W: Write>(
     alloc: Global,
     session: &mut Session,
     number: usize,
     line: &[u8],
+    kept: &mut Kept,
     writer: &mut W,
 ) -> Result<(), Halt>
     ensures { MatchResult result
         (λ _. AnswersLine session.old number line.now
-        (W.contents writer.old) (W.contents writer.new) session.new)
+        (W.contents writer.old) (W.contents writer.new) kept.old kept.new session.new)
         (λ halt. LineStops session.old number line.now
-        (W.contents writer.old) (W.contents writer.new) halt) }
+        (W.contents writer.old) (W.contents writer.new) kept.old kept.new halt) }
 {
     let text = session.answer(alloc, number, line)?;
-    write_whole(writer, text.as_bytes())?;
+    kept.add(writer, text.as_bytes())?;
     Ok(())
 }
 

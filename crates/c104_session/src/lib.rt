@@ -5,9 +5,9 @@
 //! `answer_script` answers the lines of a script as they are read, `summary_text` tells what arrived
 //! at each terminal, and `run_plan` does both on the network of a plan.
 //!
-//! Each line is answered, and its answer written, before the next line is read. A faulty line
-//! changes nothing but that there was one; running out of memory ends the script, and so does a
-//! failing reader or writer.
+//! Lines are answered as they are read, and all answers are written before the reader is asked for
+//! more. A faulty line changes nothing but that there was one; running out of memory ends the script,
+//! and so does a failing reader or writer.
 #![tactic(auto)]
 
 mod answering;

@@ -10,9 +10,9 @@ use c104_stream::{Ahead, Halt, write_whole};
 use std::alloc::Global;
 use std::io::{Read, Write};
 
-/// Runs a script on the network of a plan, started with its own rows: each line is answered before the
-/// next is read, and at the end what arrived is written. Says whether the script was refused, for its
-/// length or for one of its lines.
+/// Runs a script on the network of a plan, started with its own rows: lines are answered as they are
+/// read, and at the end what arrived is written. Says whether the script was refused, for its length or
+/// for one of its lines.
 pub fn run_plan<S: Read, W: Write>(
     alloc: Global,
     plan: &Plan,

@@ -8,3 +8,9 @@ pub record AppendsPrefix (old new : Option (List ℕ)) (bytes : List ℕ) : Type
   pub unwritten : List ℕ
   pub grew : Appends old new written
   pub is_prefix : bytes ≡ written ++ unwritten
+
+-- what a writer holds grew by these bytes but for the last of them, which are kept
+pub record AppendsAndKeeps (old new : Option (List ℕ)) (kept bytes : List ℕ) : Type 0 where
+  pub written : List ℕ
+  pub grew : Appends old new written
+  pub is_all : bytes ≡ written ++ kept

@@ -1,6 +1,7 @@
 //! Bytes from a reader, one by one, and bytes to a writer.
 //!
 //! `Ahead` keeps what a reader gave and nobody has taken yet, at most one piece of 8,192 bytes.
+//! `Kept` keeps what is to be written, at most 64 KiB, until it is flushed or full.
 //! `read_up_to` and `write_whole` read to the end of a text and write all of one. A `ReadFault`, a
 //! `CannotWrite` and a `Halt`, which stands for either, say why a text was not read or written to its
 //! end.
@@ -11,9 +12,11 @@
 #![tactic(auto)]
 
 mod halt;
+mod kept;
 mod reading;
 mod writing;
 
 pub use halt::Halt;
+pub use kept::Kept;
 pub use reading::{Ahead, ReadFault, read_up_to};
 pub use writing::{CannotWrite, write_whole};

@@ -1,5 +1,5 @@
 //! Bytes, one by one, from a reader that is asked once for each piece of them.
-ghost use Rattle.std.specs.Prelude.{◌≡◌, [], MatchResult, IfOk};
+ghost use Rattle.std.specs.Prelude.{◌≡◌, ◌↔◌, [], IsTrue, MatchResult, IfOk};
 ghost use Rattle.std.specs.Io.KnownBytes.{Consumes, Keeps, IsAtEnd, prepend_known};
 ghost use Rattle.c104_stream.specs.Reading.{GivesByte, TakesUpTo};
 ghost use Rattle.c104_stream.specs.declared.reading.ReadFault.TheVariants as fault;
@@ -60,14 +60,21 @@ impl Ahead {
         })
     }
 
+    /// Whether nothing is left of what the reader gave, so that it is asked for the next byte.
+    pub fn is_empty(&self) -> bool
+        ensures { IsTrue result ↔ (self.now ≡ []) }
+    {
+        self.start >= self.end
+    }
+
     /// The next byte, or None at the end. The reader is asked where nothing is left of what it gave
     /// before, and once only.
     pub fn next_byte<R: Read>(&mut self, reader: &mut R) -> Result<Option<u8>, ReadFault>
         ensures { MatchResult result
             (λ next. GivesByte (prepend_known self.old (R.remaining reader.old))
             (prepend_known self.new (R.remaining reader.new)) next)
-            (λ _. (self.new ≡ []) ×
-            Keeps (prepend_known self.old (R.remaining reader.old)) (R.remaining reader.new)) }
+            (λ _. (self.old ≡ []) × (self.new ≡ []) ×
+            Keeps (R.remaining reader.old) (R.remaining reader.new)) }
     {
         if self.start >= self.end {
             self.read_piece(reader)?;

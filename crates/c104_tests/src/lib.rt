@@ -26,6 +26,8 @@ mod link;
 #[cfg(test)]
 mod net;
 #[cfg(test)]
+mod output;
+#[cfg(test)]
 mod regs;
 #[cfg(test)]
 mod script;

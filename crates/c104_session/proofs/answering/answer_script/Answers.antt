@@ -1,63 +1,13 @@
-use Rattle.std.proofs.Common.{arith}
-use Rattle.c104_session.proofs.ScriptEnds.{err_is, read_halts, byte_halts, line_halts, last_halts, script_ends, script_is_long}
-use Rattle.c104_session.proofs.ScriptSoFar.{reached_byte, reached_line, reached_text}
+use Rattle.c104_stream.specs.declared.halt.Halt.TheVariants as halt
+use Rattle.c104_session.proofs.ScriptEnds.{err_is, flushed, script_stops, script_unwritten}
 use Rattle.c104_session.proofs.answering.answer_script.Goals as goal
-use Rattle.c104_session.proofs.answering.answer_script.Goals.{then-byte-eq10+in_ok-answer_line-2, else-byte-eq10+in_ok-add_byte}
 
-pub returns-in_err-byte : goal.returns-in_err-byte
-returns-in_err-byte g c =
-    rw (err_is _ _ c.from_residual.ensures) (read_halts _ _ _ _ _ _ _ _ _ _ c.in_err-byte.field-0.0 c.loop-left.invariant c.in_err-byte.ensures.1)
+pub returns-in_err-is_long : goal.returns-in_err-is_long
+returns-in_err-is_long g c =
+    rw (err_is _ _ c.from_residual.ensures)
+    (script_stops _ _ _ _ _ _ _ _ c.in_err-is_long.field-0.0 c.in_err-is_long.ensures (flushed c.flush-written.result _ _ _ c.flush-written.ensures.written c.flush-written.ensures.prefix))
 
-pub returns-in_err-answer_line : goal.returns-in_err-answer_line
-returns-in_err-answer_line g c =
-    let ended = rw c.in_default.is at c.in_ok-byte.ensures in
-    rw (err_is _ _ c.from_residual-in_err-answer_line.ensures)
-    (last_halts _ _ _ _ _ _ _ _ _ _ _ _ _ c.in_err-answer_line.field-0.0 (reached_text _ _ c.as_slice.ensures.value c.loop-left.invariant) ended c.in_err-answer_line.ensures)
-
-pub returns-in_default : goal.returns-in_default
-returns-in_default g c =
-    let ended = rw c.in_default.is at c.in_ok-byte.ensures in
-    script_ends _ _ _ _ _ _ _ _ _ _ _ _ _ (reached_text _ _ c.as_slice.ensures.value c.loop-left.invariant) ended c.in_ok-answer_line.ensures.0 c.in_ok-answer_line.ensures.1
-
-pub returns-in_err-answer_line-2 : goal.returns-in_err-answer_line-2
-returns-in_err-answer_line-2 g c =
-    let took = rw (c.in-Some.is, c.if-byte-eq10.true) at c.in_ok-byte.ensures in
-    rw (err_is _ _ c.from_residual-in_err-answer_line-2.ensures)
-    (line_halts _ _ _ _ _ _ _ _ _ _ _ _ _ c.in_err-answer_line-2.field-0.0 (reached_text _ _ c.as_slice-then-byte-eq10.ensures.value c.loop-left.invariant) (omega arith) took c.in_err-answer_line-2.ensures)
-
-pub returns-in_err-add_byte : goal.returns-in_err-add_byte
-returns-in_err-add_byte g c =
-    rw (err_is _ _ c.from_residual-in_err-add_byte.ensures)
-    (byte_halts _ _ _ _ _ _ _ _ _ _ c.loop-left.invariant)
-
-pub loop-left-preserved : goal.loop-left-preserved
-loop-left-preserved g c = elim c.if-byte-eq10.branch [
-  | then-byte-eq10+in_ok-answer_line-2 w ↦
-      let took = rw (c.in-Some.is, w.if-byte-eq10.true) at c.in_ok-byte.ensures in
-      rw (w.session-is, w.writer-is, w.line-is, w.number-is, w.clear.ensures.items)
-      (reached_line (reached_text _ _ w.as_slice-then-byte-eq10.ensures.value c.loop-left.invariant) _ _ _ (omega arith) took w.in_ok-answer_line-2.ensures.0 w.in_ok-answer_line-2.ensures.1)
-  | else-byte-eq10+in_ok-add_byte w ↦
-      let took = rw c.in-Some.is at c.in_ok-byte.ensures in
-      rw (w.session-is, w.writer-is, w.line-is, w.number-is, w.in_ok-add_byte.ensures)
-      (reached_byte c.loop-left.invariant _ c.in-Some.byte (omega arith) took w.if-byte-eq10.false)
-]
-
-pub returns-in_err-next_byte : goal.returns-in_err-next_byte
-returns-in_err-next_byte g c =
-    rw (err_is _ _ c.from_residual-in_err-next_byte.ensures) (read_halts _ _ _ _ _ _ _ _ _ _ c.in_err-next_byte.field-0.0 c.loop-left.invariant c.in_err-next_byte.ensures.1)
-
-pub returns-in-Some-2 : goal.returns-in-Some-2
-returns-in-Some-2 g c =
-    let took = rw c.in-Some-2.is at c.in_ok-next_byte.ensures in
-    script_is_long _ _ _ _ _ _ _ _ _ _ _ _ c.loop-left.invariant (omega (arith, c.loop-left-test.false)) took
-
-pub returns-in_err-answer_line-in-None : goal.returns-in_err-answer_line-in-None
-returns-in_err-answer_line-in-None g c =
-    let ended = rw c.in-None.is at c.in_ok-next_byte.ensures in
-    rw (err_is _ _ c.from_residual-in_err-answer_line-in-None.ensures)
-    (last_halts _ _ _ _ _ _ _ _ _ _ _ _ _ c.in_err-answer_line-in-None.field-0.0 (reached_text _ _ c.as_slice-in-None.ensures.value c.loop-left.invariant) ended c.in_err-answer_line-in-None.ensures)
-
-pub returns : goal.returns
-returns g c =
-    let ended = rw c.in-None.is at c.in_ok-next_byte.ensures in
-    script_ends _ _ _ _ _ _ _ _ _ _ _ _ _ (reached_text _ _ c.as_slice-in-None.ensures.value c.loop-left.invariant) ended c.in_ok-answer_line-in-None.ensures.0 c.in_ok-answer_line-in-None.ensures.1
+pub returns-in_err-written : goal.returns-in_err-written
+returns-in_err-written g c =
+    rw (err_is _ halt.CannotWrite c.from_residual-in_err-written.ensures)
+    (script_unwritten _ _ _ _ _ _ _ _ c.in_ok-is_long.is_long c.in_ok-is_long.ensures c.in_err-written.ensures.prefix)

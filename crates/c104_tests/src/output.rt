@@ -1,0 +1,107 @@
+use c104_commands::{Status, run};
+use std::alloc::{AllocError, Global};
+use std::cell::Cell;
+use std::io;
+use std::io::{Read, Write};
+use std::test::Fail;
+
+/// One switch with a terminal.
+const DESCRIPTION: &str = "switch A\nterminal b A.0\n";
+
+const LINE: &[u8] = b"drain b\n";
+
+/// A reader that gives so many lines, one each time that it is asked.
+#[derive(Drop)]
+struct LineReader<'a> {
+    count: usize,
+    given: usize,
+    answered: &'a Cell<usize>,
+    /// Whether it was asked again before each line that it gave was answered.
+    is_early: bool,
+}
+
+impl Read for LineReader<'_> {
+    fn read(&mut self, buf: &mut [u8]) -> io::Result<usize> {
+        self.is_early = self.is_early || self.answered.get() < self.given;
+        if self.given >= self.count {
+            return Ok(0);
+        }
+        self.given += 1;
+        let mut line = LINE;
+        line.read(buf)
+    }
+}
+
+/// A writer that counts its calls, and the lines that it is given.
+#[derive(Drop)]
+struct CountingWriter<'a> {
+    writes: usize,
+    answered: &'a Cell<usize>,
+}
+
+impl Write for CountingWriter<'_> {
+    fn write(&mut self, buf: &[u8]) -> io::Result<usize> {
+        let lines = buf.iter().filter(|byte| **byte == b'\n').count();
+        self.answered.set(self.answered.get().saturating_add(lines));
+        self.writes = self.writes.saturating_add(1);
+        Ok(buf.len())
+    }
+
+    fn flush(&mut self) -> io::Result<()> {
+        Ok(())
+    }
+}
+
+fn repeated(alloc: Global, line: &[u8], count: usize) -> Result<Vec<u8>, AllocError> {
+    line.repeat(alloc, count)
+}
+
+/// A reader that gives line by line, as a terminal does, has each line answered before it is asked for
+/// the next.
+#[test]
+fn answers_before_reads(rt: HostRuntime) -> Result<(), Fail> {
+    let answered = Cell::new(0);
+    let mut script = LineReader {
+        count: 40,
+        given: 0,
+        answered: &answered,
+        is_early: false,
+    };
+    let mut writer = CountingWriter {
+        writes: 0,
+        answered: &answered,
+    };
+    let status = run(
+        rt.alloc(),
+        &mut DESCRIPTION.as_bytes(),
+        &mut script,
+        &mut writer,
+    );
+    assert!(rt; status == Status::Done);
+    assert!(rt; !script.is_early);
+    assert!(rt; answered.get() == 40);
+    assert!(rt; writer.writes == 40);
+    Ok(())
+}
+
+/// A reader that gives much at once, as a file does, costs one write for each time that it is asked.
+#[test]
+fn few_writes(rt: HostRuntime) -> Result<(), Fail> {
+    let answered = Cell::new(0);
+    let text = repeated(rt.alloc(), LINE, 20000)?;
+    let mut writer = CountingWriter {
+        writes: 0,
+        answered: &answered,
+    };
+    let status = run(
+        rt.alloc(),
+        &mut DESCRIPTION.as_bytes(),
+        &mut text.as_slice(),
+        &mut writer,
+    );
+    assert!(rt; status == Status::Done);
+    assert!(rt; answered.get() == 20000);
+    // pieces of 8,192 bytes
+    assert!(rt; writer.writes <= text.len() / 8192 + 1);
+    Ok(())
+}
