@@ -1,2 +1,3 @@
 pub mod FirstPart
+mod FirstWord
 pub mod ControlLine

@@ -1,9 +1,10 @@
 //! The two parts of a text: a description, and the script that follows the line `script`.
 ghost use Rattle.std.specs.Prelude.{ℕ, suc, ◌≡◌, ◌+◌, false, List, [], ◌∷◌, ◌++◌, length, map, IfOk, if◌then◌else◌};
 ghost use Rattle.std.specs.Io.KnownBytes.{prepend_known};
+ghost use Rattle.c104_describe.specs.TextCut.{line_words};
 ghost use Rattle.c104_script.specs.Parts.{is_script_word, is_script_line, parts_within, TakesFirstPart};
 
-use c104_describe::{MAX_DESCRIPTION, cut_words, uncommented};
+use c104_describe::{MAX_DESCRIPTION, cut_words, first_word, uncommented};
 use c104_stream::{Ahead, ReadFault};
 use std::alloc::{AllocError, Global};
 use std::io::Read;
@@ -101,13 +102,29 @@ impl FirstPart {
     }
 }
 
-/// Whether the only word of a line is `script`.
+/// Whether the only word of a line is `script`. A line that begins with another word, as nearly all do,
+/// needs no list of its words.
 #[tactic(auto, unfolding(crate::specs::Parts::is_script_line))]
 fn is_script_line(alloc: Global, line: &[u8]) -> Result<bool, AllocError>
     ensures { IfOk result (λ found. found ≡ is_script_line line.now) }
 {
-    let words = cut_words(alloc, uncommented(line))?;
+    let line = uncommented(line);
+    if !begins_with_script(line) {
+        return Ok(false);
+    }
+    let words = cut_words(alloc, line)?;
     Ok(is_script_word(words.as_slice()))
+}
+
+/// Whether the first word of a line is `script`.
+#[tactic(auto, using(crate::proofs::FirstWord::no_word, crate::proofs::FirstWord::other_word))]
+fn begins_with_script(line: &[u8]) -> bool
+    ensures { result ≡ false → is_script_word (line_words line.now) ≡ false }
+{
+    match first_word(line) {
+        Some(word) => word == b"script".as_slice(),
+        None => false,
+    }
 }
 
 /// Whether the only word is `script`.
