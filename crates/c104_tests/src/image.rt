@@ -3,10 +3,36 @@ use c104_regs::RegFault;
 use std::alloc::Global;
 use std::test::Fail;
 
-/// The plan of a description, which comes as an argument, since the prover would compute with a
-/// literal.
+// What follows promises nothing, since the prover would compute with literals: a description's text, and
+// what is set in an image.
+
 fn plan_of(alloc: Global, text: &[u8]) -> Result<Plan, Fail> {
     Ok(read_description(alloc, text)?)
+}
+
+fn new_image(alloc: Global, plan: &Plan) -> Result<Image, Fail> {
+    Ok(Image::new(alloc, plan)?)
+}
+
+fn image_of(alloc: Global, plan: &Plan) -> Result<Image, Fail> {
+    Ok(hand_image(alloc, plan)?)
+}
+
+fn set(image: &mut Image, switch: usize, addr: u16, value: u32) -> Result<(), ImageFault> {
+    image.set(switch, addr, value)
+}
+
+fn set_range(
+    image: &mut Image,
+    terminal: usize,
+    first: u32,
+    count: u32,
+) -> Result<(), ImageFault> {
+    image.set_range(terminal, first, count)
+}
+
+fn values(image: &Image, switch: usize) -> Option<&[(u16, u32)]> {
+    image.values(switch)
 }
 
 /// One switch with two terminals, and rows from each to the other.
@@ -22,7 +48,7 @@ fn pair(alloc: Global) -> Result<Plan, Fail> {
 #[test]
 fn of_rows(rt: HostRuntime) -> Result<(), Fail> {
     let plan = pair(rt.alloc())?;
-    let image = hand_image(rt.alloc(), &plan)?;
+    let image = image_of(rt.alloc(), &plan)?;
     let expected = [
         (0x0140, 1),
         (0x0141, 2),
@@ -33,8 +59,8 @@ fn of_rows(rt: HostRuntime) -> Result<(), Fail> {
         (0x0280, 0),
         (0x0281, 1),
     ];
-    assert!(rt; image.values(0) == Some(expected.as_slice()));
-    assert!(rt; image.values(1).is_none());
+    assert!(rt; values(&image, 0) == Some(expected.as_slice()));
+    assert!(rt; values(&image, 1).is_none());
     Ok(())
 }
 
@@ -42,20 +68,20 @@ fn of_rows(rt: HostRuntime) -> Result<(), Fail> {
 #[test]
 fn of_values(rt: HostRuntime) -> Result<(), Fail> {
     let plan = pair(rt.alloc())?;
-    let mut image = Image::new(rt.alloc(), &plan)?;
+    let mut image = new_image(rt.alloc(), &plan)?;
     assert!(rt; image.fits(&plan));
     assert!(rt; image.range(1) == Some((1, 1)));
-    assert!(rt; image.values(0) == Some([].as_slice()));
-    image.set(0, 0x0181, 31)?;
-    image.set(0, 0x0100, 8)?;
-    image.set(0, 0x2040, 65536)?;
-    image.set(0, 0x0181, 5)?;
+    assert!(rt; values(&image, 0) == Some([].as_slice()));
+    set(&mut image, 0, 0x0181, 31)?;
+    set(&mut image, 0, 0x0100, 8)?;
+    set(&mut image, 0, 0x2040, 65536)?;
+    set(&mut image, 0, 0x0181, 5)?;
     let expected = [(0x0100, 8), (0x0181, 5), (0x2040, 65536)];
-    assert!(rt; image.values(0) == Some(expected.as_slice()));
-    image.set(0, 0x0181, 64)?;
-    image.set(0, 0x0140, 0)?;
+    assert!(rt; values(&image, 0) == Some(expected.as_slice()));
+    set(&mut image, 0, 0x0181, 64)?;
+    set(&mut image, 0, 0x0140, 0)?;
     let expected = [(0x0100, 8), (0x2040, 65536)];
-    assert!(rt; image.values(0) == Some(expected.as_slice()));
+    assert!(rt; values(&image, 0) == Some(expected.as_slice()));
     Ok(())
 }
 
@@ -63,7 +89,7 @@ fn of_values(rt: HostRuntime) -> Result<(), Fail> {
 #[test]
 fn refused(rt: HostRuntime) -> Result<(), Fail> {
     let plan = pair(rt.alloc())?;
-    let mut image = hand_image(rt.alloc(), &plan)?;
+    let mut image = image_of(rt.alloc(), &plan)?;
     for (switch, addr, value, fault) in [
         (0, 0x0003, 1, ImageFault::Register(RegFault::NoRegister)),
         (0, 0x0103, 1, ImageFault::Register(RegFault::ReadOnly)),
@@ -72,7 +98,7 @@ fn refused(rt: HostRuntime) -> Result<(), Fail> {
         (1, 0x0003, 1, ImageFault::NoNode),
     ] {
         assert!(rt;
-            image.set(switch, addr, value) == Err(fault),
+            set(&mut image, switch, addr, value) == Err(fault),
             "{addr:04x} of {switch}"
         );
     }
@@ -83,11 +109,11 @@ fn refused(rt: HostRuntime) -> Result<(), Fail> {
         (2, 0, 0, ImageFault::NoNode),
     ] {
         assert!(rt;
-            image.set_range(terminal, first, count) == Err(fault),
+            set_range(&mut image, terminal, first, count) == Err(fault),
             "{first} {count}"
         );
     }
-    image.set_range(0, 65535, 1)?;
+    set_range(&mut image, 0, 65535, 1)?;
     assert!(rt; image.range(0) == Some((65535, 1)));
     Ok(())
 }
