@@ -1,0 +1,88 @@
+-- A network is accepted exactly where no test refuses it.
+use Rattle.std.proofs.Common.{◌≡◌, ◌≢◌, ℕ, ◌<◌, inl, inr, Bool, true, false, Result, Ok, Err, MatchResult, IfOk, IfErr, refl, sym, subst, ◌∙◌, arith}
+use Rattle.std.proofs.lemmas.Bool.{cases_Bool, cases_eq, cases_lt, cases_order}
+use Rattle.c104_regs.specs.Settings.{header_length}
+use Rattle.c104_check.specs.declared.acceptance.Accepted.{Accepted}
+use Rattle.c104_check.specs.declared.faults.CheckFault.{CheckFault}
+use Rattle.c104_check.specs.declared.faults.CheckFault.TheVariants as fault
+use Rattle.c104_check.specs.declared.faults.WalkFault.TheVariants as walk
+use Rattle.c104_check.specs.Checks.{DeletesInside, HasLarge, IsCause, IsFirstRefused, IsMixed, IsPlain, Meet, NoneLarge, NoneMeet, Shown, fault_of}
+use Rattle.c104_check.specs.Refusals.{AllLand}
+use Rattle.c104_check.specs.Routes.{IsAccepted, Owns, Routes, SwitchPort, header_count}
+use Rattle.c104_check.specs.Trails.{IsNetwork}
+use Rattle.c104_check.specs.Walks.{WalkFault}
+use Rattle.c104_check.proofs.RouteLemmas.{never_random}
+
+module _ (routes : Routes) (net : IsNetwork routes) where
+  apart_of : NoneMeet routes → (t u h : ℕ) → Owns routes t h → Owns routes u h → t ≡ u
+  apart_of none t u h a b = elim (cases_order t u) [
+    | inl same ↦ same
+    | inr (inl below) ↦ absurd (none t u below (h, a, b))
+    | inr (inr above) ↦ absurd (none u t above (h, b, a))
+  ]
+
+  small_of : NoneLarge routes → (t h : ℕ) → Owns routes t h → h < header_count routes
+  small_of none t h owns = elim (cases_lt h (header_count routes)) [ inl below ↦ below | inr large ↦ absurd (none t (h, owns, large)) ]
+
+  length_of : (a b : ℕ) → (a ≢ b → ⊥) → a ≡ b
+  length_of a b not = elim (cases_eq a b) [ inl same ↦ same | inr differ ↦ absurd (not differ) ]
+
+  false_of : (b : Bool) → (b ≡ true → ⊥) → b ≡ false
+  false_of b not = elim (cases_Bool b) [ inl is ↦ absurd (not is) | inr is ↦ is ]
+
+  pub accepted_of : IsPlain routes → AllLand routes → IsAccepted routes
+  accepted_of plain land = record {
+    apart = apart_of plain.meet;
+    small = small_of plain.large;
+    one_length = λ p other x wired set. length_of (header_length x) routes.header (λ differ. plain.mixed p (other, x, wired, set, differ));
+    none_deleted = λ p q x wired set. false_of x.delete_header (λ deletes. plain.deletes p (q, x, wired, set, deletes));
+    none_random = λ p x set. never_random routes p x net set;
+    entries = λ t h p entry below. land t h below p entry;
+  }
+
+  no_pair : IsAccepted routes → (t u : ℕ) → t < u → Meet routes t u → ⊥
+  no_pair are t u below (h, a, b) = let same = are.apart t u h a b in absurd (omega (arith, below, same))
+
+  no_large : IsAccepted routes → (t : ℕ) → HasLarge routes t → ⊥
+  no_large are t (h, owns, large) = let below = are.small t h owns in absurd (omega (arith, below, large))
+
+  no_mixed : IsAccepted routes → (p : SwitchPort) → IsMixed routes p → ⊥
+  no_mixed are p (other, x, wired, set, differ) = differ (are.one_length p other x wired set)
+
+  no_deleting : IsAccepted routes → (p : SwitchPort) → DeletesInside routes p → ⊥
+  no_deleting are p (q, x, wired, set, deletes) = let not = are.none_deleted p q x wired set in let clash : true ≡ false = sym deletes ∙ not in absurd cc
+
+  no_refused : IsAccepted routes → (why : WalkFault) (shown : Shown) → IsFirstRefused routes why shown → ⊥
+  no_refused are why shown refused = refused.fails (are.entries shown.entry shown.header refused.entry refused.wired refused.below)
+
+  -- so of an accepted network no cause is told but want of memory
+  pub accepted_cause : IsAccepted routes → (why : CheckFault) → IsCause routes why → why ≡ fault.NoMemory
+  accepted_cause are (fault.RangesOverlap t u) pair = absurd (no_pair are t u pair.in_order pair.meet)
+  accepted_cause are (fault.LabelTooLarge t) large = absurd (no_large are t large.1.0)
+  accepted_cause are (fault.MixedHeaders p) mixed = absurd (no_mixed are p mixed.2.0)
+  accepted_cause are (fault.DeleteInside p) deletes = absurd (no_deleting are p deletes.3.0)
+  accepted_cause are (fault.WrongEnd shown) refused = absurd (no_refused are walk.WrongEnd shown refused.1)
+  accepted_cause are (fault.DeadEnd shown) refused = absurd (no_refused are walk.DeadEnd shown refused.1)
+  accepted_cause are (fault.Loop shown) refused = absurd (no_refused are walk.Loop shown refused.1)
+  accepted_cause are (fault.Stray shown) refused = absurd (no_refused are walk.Stray shown refused.1)
+  accepted_cause are fault.NoMemory none = refl
+
+  pub refused_cause : IsPlain routes → (why : WalkFault) (shown : Shown) → IsFirstRefused routes why shown → IsCause routes (fault_of why shown)
+  refused_cause plain walk.WrongEnd shown refused = (plain, refused)
+  refused_cause plain walk.DeadEnd shown refused = (plain, refused)
+  refused_cause plain walk.Loop shown refused = (plain, refused)
+  refused_cause plain walk.Stray shown refused = (plain, refused)
+
+-- What is judged of the routes of a plan and an image
+module _ (a b : Routes) (same : a ≡ b) where
+  pub judged_accepted : (r : Result Accepted CheckFault) → MatchResult r (λ _. IsAccepted a) (IsCause a) → IfOk r (λ _. IsAccepted b)
+  judged_accepted (Ok x) is = subst IsAccepted same is
+  judged_accepted (Err why) is = tt
+
+  pub judged_refused : (r : Result Accepted CheckFault) → MatchResult r (λ _. IsAccepted a) (IsCause a) → IfErr r (IsCause b)
+  judged_refused (Ok x) is = tt
+  judged_refused (Err why) is = subst (λ routes. IsCause routes why) same is
+
+  pub judged_exact : IsNetwork b → (r : Result Accepted CheckFault) → MatchResult r (λ _. IsAccepted a) (IsCause a) → IsAccepted b → IfErr r (λ why. why ≡ fault.NoMemory)
+  judged_exact net (Ok x) is are = tt
+  judged_exact net (Err why) is are = accepted_cause b net are why (subst (λ routes. IsCause routes why) same is)

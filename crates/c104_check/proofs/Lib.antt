@@ -1,0 +1,11 @@
+pub mod TrailLemmas
+pub mod RouteLemmas
+pub mod WalkLemmas
+pub mod ShownLemmas
+pub mod Walked
+pub mod NetworkLemmas
+pub mod RangeLemmas
+pub mod LinkLemmas
+pub mod TableLemmas
+pub mod RefusalLemmas
+pub mod CheckLemmas

@@ -1,0 +1,117 @@
+-- What the tables of a network's routes hold.
+use Rattle.std.proofs.Common.{◌≡◌, ◌↔◌, ℕ, ◌<◌, ◌+◌, ◌*◌, ◌&&◌, nat_lt, Bool, true, false, IsTrue, List, [], ◌∷◌, ◌++◌, length, map, take, slice_get, slice_index_or, option_map, Option, Some, None, refl, sym, ap, subst, ◌∙◌, arith}
+use Rattle.std.proofs.lemmas.List.{length-map, take_more}
+use Rattle.std.proofs.lemmas.List.FromFn.{get_or-map-range_with_len, length-map-range_with_len}
+use Rattle.std.proofs.lemmas.Option.{get_or_from_slice_get, slice_get-get_or, slice_get-map, slice_get_read, slice_get_within}
+use Rattle.std.specs.Int.{bit_at}
+use Rattle.c104_interval.specs.declared.intervals.Select.TheVariants.{Link}
+use Rattle.c104_crossbar.specs.Groups.{AreMembers, group_contains, has_bit}
+use Rattle.c104_regs.specs.Groups.{continue_bits, continues_at}
+use Rattle.c104_regs.specs.Settings.{header_length}
+use Rattle.c104_regs.specs.declared.settings.Settings.{Settings}
+use Rattle.c104_regs.proofs.ContinueLemmas.{bit-continues_at, bit_at-continue_bits}
+use Rattle.c104_describe.specs.declared.ports.Port.{Port}
+use Rattle.c104_check.specs.Checks.{DeletesInside, HasLarge, IsMixed, Meet}
+use Rattle.c104_check.specs.Routes.{Routes, SwitchPort, has_label, header_count, length_at, length_or_one, link_peers, link_settings, or_no_settings, place, port_at, select, settings_at, settings_in, to_port}
+use Rattle.c104_check.specs.Trails.{IsInput, IsNetwork, between}
+use Rattle.c104_check.specs.Walks.{peers_that, ways, ways_of}
+use Rattle.c104_check.proofs.LinkLemmas.{at_place, place_below}
+use Rattle.c104_check.proofs.RangeLemmas.{is_large, large_is, owns_has}
+use Rattle.c104_check.proofs.RouteLemmas.{is_input}
+
+pub peers_length : (far : Port → Option Port) (n : ℕ) → length (link_peers far n) ≡ n * 32
+peers_length far n = length-map-range_with_len (λ k. far (to_port (port_at k))) 0 (n * 32)
+
+-- what is read at a link's place
+pub peer_read : (far : Port → Option Port) (n k : ℕ) (items : List (Option Port)) (p : SwitchPort) (r : Option Port) → items ≡ link_peers far n → IsInput n p → k ≡ place p → r ≡ slice_index_or items k r → r ≡ far (to_port p)
+peer_read far n k items p r are here at is =
+    let below = place_below n p here in
+    let read : slice_index_or (link_peers far n) k r ≡ far (to_port (port_at k)) = get_or-map-range_with_len (λ j. far (to_port (port_at j))) 0 (n * 32) k k r (omega (arith, at, below)) (omega arith) in
+    is ∙ ap (λ xs. slice_index_or xs k r) are ∙ read ∙ ap (λ j. far (to_port (port_at j))) at ∙ ap (λ q. far (to_port q)) (at_place n p here)
+
+-- settings that are read where there are none
+abbrev pub no_settings : Settings
+no_settings = record {
+  two_byte = false;
+  delete_header = false;
+  randomize = false;
+  continue_group = false;
+  random_base = 0;
+  random_range = 0;
+  table = record { base = 0; rows = [] };
+}
+
+pub settings_read : (all : List (List Settings)) (p : SwitchPort) (inner : List Settings) → p.switch < length all → inner ≡ slice_index_or all p.switch inner → p.link < length inner → link_settings all p ≡ Some (slice_index_or inner p.link no_settings)
+settings_read all p inner below is inside =
+    let first : slice_get all p.switch ≡ Some inner = slice_get_read all (length all) p.switch inner refl below is in
+    ap (λ o. slice_get (or_no_settings o) p.link) first ∙ slice_get-get_or inner p.link no_settings inside
+
+pub length_read : (all : List (List Settings)) (o : Option ℕ) (k n : ℕ) (p : SwitchPort) (x : Settings) → o ≡ Some k → p ≡ port_at k → link_settings all p ≡ Some x → n ≡ header_length x → n ≡ length_at all o
+length_read all o k n p x found at there is = is ∙ sym (ap length_or_one there) ∙ ap (λ q. length_or_one (link_settings all q)) at ∙ ap (length_at all) (sym found)
+
+pub settings_links : (routes : Routes) (s : ℕ) (inner : List Settings) → IsNetwork routes → s < length routes.settings → inner ≡ slice_index_or routes.settings s inner → length inner ≡ 32
+settings_links routes s inner net below is = (net.settings s inner (slice_get_read routes.settings (length routes.settings) s inner refl below is)).0
+
+-- the word of a switch
+word_given : (w : ℕ) (o : Option (List Settings)) → option_map continue_bits o ≡ Some w → w ≡ continue_bits (or_no_settings o)
+word_given w None is = absurd cc
+word_given w (Some inner) is = cc
+
+pub word_read : (all : List (List Settings)) (words : List ℕ) (s w : ℕ) → words ≡ map continue_bits all → s < length all → w ≡ slice_index_or words s w → w ≡ continue_bits (settings_in all s)
+word_read all words s w are below is =
+    let count : length words ≡ length all = ap length are ∙ length-map all continue_bits in
+    let at : slice_get words s ≡ Some w = slice_get_read words (length words) s w refl (omega (arith, below, count)) is in
+    word_given w (slice_get all s) (sym (slice_get-map continue_bits all s) ∙ ap (λ xs. slice_get xs s) (sym are) ∙ at)
+
+-- the links of a group, by the word
+pub ways_link : (routes : Routes) (h g word first last : ℕ) (p : SwitchPort) → select routes p.switch p.link h ≡ Some (Link g) → word ≡ continue_bits (settings_at routes p.switch) → AreMembers (has_bit word) g first last → ways routes h p ≡ Some (peers_that routes p.switch (between first last) 0 32)
+ways_link routes h g word first last p at is members =
+    let xs = settings_at routes p.switch in
+    let bit : (l : ℕ) → has_bit word l ≡ continues_at xs l = λ l. bit-continues_at xs word (λ k. ap (λ w. bit_at w k) is ∙ bit_at-continue_bits xs k) l in
+    let tests : has_bit word ≡ continues_at xs = λ i l. bit l i in
+    let same : group_contains (continues_at xs) g ≡ between first last = λ i o. (ap (λ f. group_contains f g o) (sym tests) ∙ members o) i in
+    ap (ways_of routes p.switch) at ∙ ap (λ test. Some (peers_that routes p.switch test 0 32)) same
+
+-- Labels, over what is read of the ranges
+
+there : (routes : Routes) (xs : List (ℕ × ℕ)) (t : ℕ) (d : ℕ × ℕ) → xs ≡ routes.ranges → t < length routes.ranges → slice_get routes.ranges t ≡ Some (slice_index_or xs t d)
+there routes xs t d are below = slice_get-get_or routes.ranges t d below ∙ ap (λ ys. Some (slice_index_or ys t d)) (sym are)
+
+pub meet_of : (routes : Routes) (xs ys : List (ℕ × ℕ)) (t u : ℕ) (d : ℕ × ℕ) (b : Bool) → xs ≡ routes.ranges → ys ≡ routes.ranges → t < length routes.ranges → u < length routes.ranges → IsTrue b ↔ ((h : ℕ) × (has_label (slice_index_or xs t d) h ≡ true) × (has_label (slice_index_or ys u d) h ≡ true)) → IsTrue b ↔ Meet routes t u
+meet_of routes xs ys t u d b are too at other is = (
+  (λ holds. let found = is.0 holds in (found.0, (slice_index_or xs t d, there routes xs t d are at, found.1), (slice_index_or ys u d, there routes ys u d too other, found.2))),
+  (λ meet. is.1 (meet.0, owns_has routes t meet.0 (slice_index_or xs t d) (there routes xs t d are at) meet.1, owns_has routes u meet.0 (slice_index_or ys u d) (there routes ys u d too other) meet.2)),
+)
+
+pub large_of : (routes : Routes) (xs : List (ℕ × ℕ)) (t count : ℕ) (d : ℕ × ℕ) (b : Bool) → xs ≡ routes.ranges → t < length routes.ranges → count ≡ header_count routes → b ≡ (nat_lt 0 (slice_index_or xs t d).1 && nat_lt count ((slice_index_or xs t d).0 + (slice_index_or xs t d).1)) → IsTrue b ↔ HasLarge routes t
+large_of routes xs t count d b are at many is = (
+  (λ holds. let found = large_is (slice_index_or xs t d) count (sym is ∙ holds) in let past = found.2 in (found.0, (slice_index_or xs t d, there routes xs t d are at, found.1), omega (arith, past, many))),
+  (λ large. let past = large.2 in is ∙ is_large (slice_index_or xs t d) count large.0 (owns_has routes t large.0 (slice_index_or xs t d) (there routes xs t d are at) large.1) (omega (arith, past, many))),
+)
+
+-- Links
+
+Some-same : (x y : Settings) → Some x ≡ Some y → x ≡ y
+Some-same x y is = cc
+
+pub deletes_is : (routes : Routes) (p q : SwitchPort) (x : Settings) → routes.peer (to_port p) ≡ Some (to_port q) → link_settings routes.settings p ≡ Some x → IsTrue x.delete_header ↔ DeletesInside routes p
+deletes_is routes p q x wired set = (
+  (λ holds. (q, x, wired, set, holds)),
+  (λ deletes. subst (λ (z : Settings). z.delete_header ≡ true) (Some-same deletes.1 x (sym deletes.3 ∙ set)) deletes.4),
+)
+
+pub mixed_input : (routes : Routes) → IsNetwork routes → (p : SwitchPort) → IsMixed routes p → IsInput (length routes.settings) p
+mixed_input routes net p (other, x, wired, set, differ) = is_input routes p x net set
+
+pub deleting_input : (routes : Routes) → IsNetwork routes → (p : SwitchPort) → DeletesInside routes p → IsInput (length routes.settings) p
+deleting_input routes net p (q, x, wired, set, deletes) = is_input routes p x net set
+
+-- Lists that are made
+
+pub taken_next : (xs made new : List (ℕ × ℕ)) (k : ℕ) (x : ℕ × ℕ) → slice_get xs k ≡ Some x → made ≡ take k xs → new ≡ made ++ x ∷ [] → new ≡ take (k + 1) xs
+taken_next xs made new k x at are is =
+    let inside = slice_get_within xs k x at in
+    is ∙ ap (λ ys. ys ++ x ∷ []) are ∙ ap (λ y. take k xs ++ y ∷ []) (sym (get_or_from_slice_get xs k x x at)) ∙ sym (take_more xs k x inside)
+
+pub none_inside : (xs : List (ℕ × ℕ)) (k : ℕ) → k < length xs → slice_get xs k ≡ None → ⊥
+none_inside xs k inside none = let there = slice_get-get_or xs k (0, 0) inside in let clash : None ≡ Some (slice_index_or xs k (0, 0)) = sym none ∙ there in cc

@@ -1,0 +1,223 @@
+-- The steps of a walk in code.
+use Rattle.std.proofs.Common.{◌≡◌, ℕ, suc, ◌<◌, ◌+◌, ◌*◌, ◌-◌, ◌⊎◌, inl, inr, Bool, true, false, ◌||◌, List, [], ◌∷◌, ◌++◌, length, slice_index_or, slice_set, take, replicate, if◌then◌else◌, Option, Some, None, refl, sym, ap, subst, ◌∙◌, arith}
+use Rattle.std.proofs.lemmas.Bool.{cases_eq, cases_lt, cases_Bool, eq-eqb}
+use Rattle.std.proofs.lemmas.Bool.Decides.{eqb_tells}
+use Rattle.std.proofs.lemmas.Grind.{get_or-set_at}
+use Rattle.std.proofs.lemmas.List.{get_or-replicate, get_or_past, get_or-set_other, length-append, length-replicate, length-set}
+use Rattle.std.proofs.Math.Seq.{take-append_seam}
+use Rattle.c104_describe.specs.declared.ports.Port.{Port}
+use Rattle.c104_describe.specs.declared.ports.Port.TheVariants as port
+use Rattle.c104_check.specs.declared.faults.WalkFault.TheVariants.{WrongEnd, Loop}
+use Rattle.c104_check.specs.declared.walks.Halt.{Halt}
+use Rattle.c104_check.specs.declared.walks.Halt.TheVariants.{Fault, NoMemory}
+use Rattle.c104_check.specs.declared.walks.Mark.{Mark}
+use Rattle.c104_check.specs.declared.walks.Mark.TheVariants.{New, Met, Good}
+use Rattle.c104_check.specs.Routes.{Leads, Routes, SwitchPort, place, select}
+use Rattle.c104_check.specs.Shown.{Follows}
+use Rattle.c104_check.specs.Trails.{IsInput, IsNetwork, IsTrail}
+use Rattle.c104_check.specs.Walking.{AreGood, IsHalt, IsStep, TellMet, fault_from, fault_on, mark_at, tells_met}
+use Rattle.c104_check.specs.Walks.{Found, WalkFault, at_peer, at_peers, at_ways, first_fault, first_of, is_met, is_port, peers_that, port_of, ways}
+use Rattle.c104_check.proofs.RouteLemmas.{IsAmong, peers_step, range_among, ways_leave}
+use Rattle.c104_check.proofs.TrailLemmas.{is_port-true, trail_room}
+use Rattle.c104_check.proofs.WalkLemmas.{Leads-from, clear}
+
+-- what is found from an input that lengthens a walk
+abbrev pub further : Routes → ℕ → ℕ → List SwitchPort → List SwitchPort → SwitchPort → Found
+further routes h t walk = first_fault routes h t (32 * length routes.settings - length walk)
+
+pub fault_unfolds : (routes : Routes) (h t : ℕ) (walk : List SwitchPort) (p : SwitchPort) → IsTrail routes h walk p → fault_from routes h t walk p ≡ at_ways (further routes h t walk) t walk (ways routes h p)
+fault_unfolds routes h t walk p trail =
+    let short = trail_room routes h walk p trail in
+    let more : 32 * length routes.settings + 1 - length walk ≡ suc (32 * length routes.settings - length walk) = omega (arith, short) in
+    ap (λ k. first_fault routes h t k walk p) more
+
+pub further_is : (routes : Routes) (h t : ℕ) (walk : List SwitchPort) (q : SwitchPort) → further routes h t walk (walk ++ (q ∷ [])) q ≡ fault_from routes h t (walk ++ (q ∷ [])) q
+further_is routes h t walk q =
+    let e = length-append walk (q ∷ []) in
+    let same : 32 * length routes.settings - length walk ≡ 32 * length routes.settings + 1 - length (walk ++ (q ∷ [])) = omega (arith, e) in
+    ap (λ k. first_fault routes h t k (walk ++ (q ∷ [])) q) same
+
+-- what is found where a link leads to an input is what is found on the walk that goes on to it
+pub on_is : (routes : Routes) (h t : ℕ) (walk : List SwitchPort) (q : SwitchPort) → at_peer (further routes h t walk) t walk (Some (port.Switch q.switch q.link)) ≡ fault_on routes h t walk q
+on_is routes h t walk q = ap (λ x. if is_met q walk then Some (Loop, walk ++ (q ∷ [])) else x) (further_is routes h t walk q)
+
+pub on_new : (routes : Routes) (h t : ℕ) (walk : List SwitchPort) (q : SwitchPort) → is_met q walk ≡ false → fault_on routes h t walk q ≡ fault_from routes h t (walk ++ (q ∷ [])) q
+on_new routes h t walk q new = rw new refl
+
+-- from an input that leads to t there is no fault
+pub good_clear : (routes : Routes) (h t : ℕ) (walk : List SwitchPort) (p : SwitchPort) → IsNetwork routes → IsInput (length routes.settings) p → IsTrail routes h walk p → (j : ℕ) × Leads routes h t j p.switch p.link → fault_from routes h t walk p ≡ None
+good_clear routes h t walk p net here trail leads =
+    let short = trail_room routes h walk p trail in
+    clear routes h t net (32 * length routes.settings + 1 - length walk) walk p trail here (omega (arith, short)) leads.0 leads.1
+
+pub clear_good : (routes : Routes) (h t : ℕ) (walk : List SwitchPort) (p : SwitchPort) → IsNetwork routes → fault_from routes h t walk p ≡ None → (k : ℕ) × Leads routes h t k p.switch p.link
+clear_good routes h t walk p net is = (32 * length routes.settings + 1 - length walk, Leads-from routes h t net (32 * length routes.settings + 1 - length walk) walk p is)
+
+-- what is still to be found at the links from one on
+abbrev pub pending : Routes → ℕ → ℕ → ℕ → (ℕ → Bool) → List SwitchPort → ℕ → Found
+pending routes h t s test walk link = at_peers (further routes h t walk) t walk (peers_that routes s test link (32 - link))
+
+module _ (routes : Routes) (h t s : ℕ) (test : ℕ → Bool) (walk : List SwitchPort) (link : ℕ) (below : link < 32) where
+  pub pending_skip : test link ≡ false → pending routes h t s test walk link ≡ pending routes h t s test walk (link + 1)
+  pending_skip is =
+      let count : 32 - link ≡ suc (32 - (link + 1)) = omega (arith, below) in
+      ap (λ n. at_peers (further routes h t walk) t walk (peers_that routes s test link n)) count
+      ∙ ap (at_peers (further routes h t walk) t walk) (peers_step routes s link (32 - (link + 1)) test false is)
+
+  pub pending_next : test link ≡ true → pending routes h t s test walk link ≡ first_of (at_peer (further routes h t walk) t walk (routes.peer (port.Switch s link))) (pending routes h t s test walk (link + 1))
+  pending_next is =
+      let count : 32 - link ≡ suc (32 - (link + 1)) = omega (arith, below) in
+      ap (λ n. at_peers (further routes h t walk) t walk (peers_that routes s test link n)) count
+      ∙ ap (at_peers (further routes h t walk) t walk) (peers_step routes s link (32 - (link + 1)) test true is)
+
+  -- a link that shows a fault, and one that shows none
+  pub stops : (p : SwitchPort) (e : Option Port) (f : WalkFault × List SwitchPort) → test link ≡ true → routes.peer (port.Switch s link) ≡ e → pending routes h t s test walk link ≡ fault_from routes h t walk p → at_peer (further routes h t walk) t walk e ≡ Some f → fault_from routes h t walk p ≡ Some f
+  stops p e f tested here rest is =
+      let found : at_peer (further routes h t walk) t walk (routes.peer (port.Switch s link)) ≡ Some f = ap (at_peer (further routes h t walk) t walk) here ∙ is in
+      sym rest ∙ pending_next tested ∙ ap (λ x. first_of x (pending routes h t s test walk (link + 1))) found
+
+  pub goes_on : (p : SwitchPort) (e : Option Port) → test link ≡ true → routes.peer (port.Switch s link) ≡ e → pending routes h t s test walk link ≡ fault_from routes h t walk p → at_peer (further routes h t walk) t walk e ≡ None → pending routes h t s test walk (link + 1) ≡ fault_from routes h t walk p
+  goes_on p e tested here rest is =
+      let found : at_peer (further routes h t walk) t walk (routes.peer (port.Switch s link)) ≡ None = ap (at_peer (further routes h t walk) t walk) here ∙ is in
+      sym (pending_next tested ∙ ap (λ x. first_of x (pending routes h t s test walk (link + 1))) found) ∙ rest
+
+pub pending_end : (routes : Routes) (h t s : ℕ) (test : ℕ → Bool) (walk : List SwitchPort) (link : ℕ) (p : SwitchPort) → link ≡ 32 → pending routes h t s test walk link ≡ fault_from routes h t walk p → fault_from routes h t walk p ≡ None
+pending_end routes h t s test walk link p is rest = sym rest ∙ ap (λ n. pending routes h t s test walk n) is
+
+-- terminals
+pub at_wrong : (further : List SwitchPort → SwitchPort → Found) (t u : ℕ) (walk : List SwitchPort) → (u ≡ t → ⊥) → at_peer further t walk (Some (port.Terminal u)) ≡ Some (WrongEnd, walk)
+at_wrong further t u walk other =
+    elim (eqb_tells u t) [
+      | inl same ↦ absurd (other same.1)
+      | inr differ ↦ rw differ.0 refl
+    ]
+
+pub at_right : (further : List SwitchPort → SwitchPort → Found) (t u : ℕ) (walk : List SwitchPort) → u ≡ t → at_peer further t walk (Some (port.Terminal u)) ≡ None
+at_right further t u walk is =
+    elim (eqb_tells u t) [
+      | inl same ↦ rw same.0 refl
+      | inr differ ↦ absurd (differ.1 is)
+    ]
+
+-- a walk that couldn't go on
+pub step_halts : (routes : Routes) (h t : ℕ) (walk new : List SwitchPort) (q : SwitchPort) (mark : Mark) (halt : Halt) → IsStep mark q halt walk new → tells_met mark ≡ is_met q walk → IsHalt halt (fault_on routes h t walk q) new
+step_halts routes h t walk new q mark (Fault why) is tells =
+    let met : is_met q walk ≡ true = sym tells ∙ is.1 in
+    let same : (Loop, walk ++ (q ∷ [])) ≡ (why, new) = λ i. (sym is.0 i, sym is.2 i) in
+    rw met (ap Some same)
+step_halts routes h t walk new q mark NoMemory is tells = tt
+
+-- and one that went on, and stopped later
+pub later_halts : (routes : Routes) (h t : ℕ) (walk new : List SwitchPort) (q : SwitchPort) (halt : Halt) → IsHalt halt (fault_on routes h t walk q) new → (found : Found) → ((f : WalkFault × List SwitchPort) → at_peer (further routes h t walk) t walk (Some (port.Switch q.switch q.link)) ≡ Some f → found ≡ Some f) → IsHalt halt found new
+later_halts routes h t walk new q (Fault why) is found stop = stop (why, new) (on_is routes h t walk q ∙ is)
+later_halts routes h t walk new q NoMemory is found stop = tt
+
+-- Marks
+
+place-same : (n : ℕ) (p q : SwitchPort) → IsInput n p → IsInput n q → place p ≡ place q → p ≡ q
+place-same n p q (ps, pl) (qs, ql) same =
+    let e : p.switch * 32 + p.link ≡ q.switch * 32 + q.link = same in
+    let s : p.switch ≡ q.switch = omega (arith, pl, ql, e) in
+    let l : p.link ≡ q.link = omega (arith, s, e) in
+    ap (λ x. port_of x p.link) s ∙ ap (λ x. port_of q.switch x) l
+
+-- each mark is the new one at its own place, and else as it was
+pub mark_set : (n : ℕ) (marks : List Mark) (p q : SwitchPort) (m : Mark) → IsInput n p → IsInput n q → place p < length marks → ((q ≡ p) × (mark_at (slice_set marks (place p) m) q ≡ m)) ⊎ ((q ≡ p → ⊥) × (mark_at (slice_set marks (place p) m) q ≡ mark_at marks q))
+mark_set n marks p q m here there inside =
+    elim (cases_eq (place q) (place p)) [
+      | inl same ↦ inl (place-same n q p there here same, get_or-set_at marks (place p) (place q) m New same inside)
+      | inr differ ↦ inr ((λ e. differ (ap place e)), get_or-set_other marks (place p) (place q) m New differ)
+    ]
+
+is_port-refl : (p : SwitchPort) → is_port p p ≡ true
+is_port-refl p = rw (eq-eqb p.switch p.switch refl, eq-eqb p.link p.link refl) refl
+
+met_last : (walk : List SwitchPort) (p : SwitchPort) → is_met p (walk ++ (p ∷ [])) ≡ true
+met_last [] p = rw (is_port-refl p) refl
+met_last (x ∷ walk) p = or_true (is_port p x) (met_last walk p)
+  where
+    or_true : (a : Bool) {b : Bool} → b ≡ true → (a || b) ≡ true
+    or_true true is = refl
+    or_true false is = is
+
+other_port : (p q : SwitchPort) → (q ≡ p → ⊥) → is_port q p ≡ false
+other_port p q other = elim (cases_Bool (is_port q p)) [ inl same ↦ absurd (other (is_port-true q p same)) | inr differ ↦ differ ]
+
+met_others : (walk : List SwitchPort) (p q : SwitchPort) → (q ≡ p → ⊥) → is_met q (walk ++ (p ∷ [])) ≡ is_met q walk
+met_others [] p q other = rw (other_port p q other) refl
+met_others (x ∷ walk) p q other = ap (λ b. is_port q x || b) (met_others walk p q other)
+
+module _ (routes : Routes) (marks : List Mark) (walk : List SwitchPort) (p : SwitchPort) (here : IsInput (length routes.settings) p) (inside : place p < length marks) where
+  -- an input that joins the walk
+  pub met_good : (h t : ℕ) → AreGood routes h t marks → AreGood routes h t (slice_set marks (place p) Met)
+  met_good h t good q there is =
+      elim (mark_set (length routes.settings) marks p q Met here there inside) [
+        | inl (same, now) ↦ absurd (let clash : Met ≡ Good = sym now ∙ is in cc)
+        | inr (differ, now) ↦ good q there (sym now ∙ is)
+      ]
+
+  pub met_tells : TellMet routes marks walk → TellMet routes (slice_set marks (place p) Met) (walk ++ (p ∷ []))
+  met_tells tells q there =
+      elim (mark_set (length routes.settings) marks p q Met here there inside) [
+        | inl (same, now) ↦ ap tells_met now ∙ sym (ap (λ x. is_met x (walk ++ (p ∷ []))) same ∙ met_last walk p)
+        | inr (differ, now) ↦ ap tells_met now ∙ tells q there ∙ sym (met_others walk p q differ)
+      ]
+
+  -- and one that leaves it, and is good
+  pub good_good : (h t : ℕ) → (k : ℕ) × Leads routes h t k p.switch p.link → AreGood routes h t marks → AreGood routes h t (slice_set marks (place p) Good)
+  good_good h t leads good q there is =
+      elim (mark_set (length routes.settings) marks p q Good here there inside) [
+        | inl (same, now) ↦ subst (λ (x : SwitchPort). (k : ℕ) × Leads routes h t k x.switch x.link) (sym same) leads
+        | inr (differ, now) ↦ good q there (sym now ∙ is)
+      ]
+
+  pub good_tells : is_met p walk ≡ false → TellMet routes marks (walk ++ (p ∷ [])) → TellMet routes (slice_set marks (place p) Good) walk
+  good_tells new tells q there =
+      elim (mark_set (length routes.settings) marks p q Good here there inside) [
+        | inl (same, now) ↦ ap tells_met now ∙ sym (ap (λ x. is_met x walk) same ∙ new)
+        | inr (differ, now) ↦ ap tells_met now ∙ tells q there ∙ met_others walk p q differ
+      ]
+
+-- at first nothing is known
+new_at : (n : ℕ) (p : SwitchPort) → mark_at (replicate n New) p ≡ New
+new_at n p = elim (cases_lt (place p) n) [
+  | inl below ↦ get_or-replicate n (place p) New New below
+  | inr past ↦ get_or_past (replicate n New) (place p) New (rw length-replicate past)
+]
+
+pub new_good : (routes : Routes) (h t n : ℕ) → AreGood routes h t (replicate n New)
+new_good routes h t n q there is = absurd (let clash : New ≡ Good = sym (new_at n q) ∙ is in cc)
+
+pub new_tells : (routes : Routes) (n : ℕ) → TellMet routes (replicate n New) []
+new_tells routes n q there = ap tells_met (new_at n q)
+
+pub shortened : (n : ℕ) (front xs new : List SwitchPort) (last : SwitchPort) → new ≡ take (n - 1) xs → n ≡ length xs → xs ≡ front ++ (last ∷ []) → new ≡ front
+shortened n front xs new last is count longer =
+    let e = length-append front (last ∷ []) in
+    let same : length xs ≡ length (front ++ (last ∷ [])) = ap length longer in
+    let k : n - 1 ≡ length front = omega (arith, e, same, count) in
+    is ∙ ap (λ m. take m xs) k ∙ ap (take (length front)) longer ∙ take-append_seam front (last ∷ [])
+
+-- An input that is new
+
+pub fresh_of : (routes : Routes) (marks : List Mark) (walk : List SwitchPort) (p : SwitchPort) (k : ℕ) → TellMet routes marks walk → IsInput (length routes.settings) p → k ≡ place p → tells_met (slice_index_or marks k New) ≡ false → is_met p walk ≡ false
+fresh_of routes marks walk p k tells here at is = sym (tells p here) ∙ ap (λ n. tells_met (slice_index_or marks n New)) (sym at) ∙ is
+
+pub good_on : (routes : Routes) (h t : ℕ) (marks : List Mark) (walk : List SwitchPort) (p : SwitchPort) → IsNetwork routes → IsInput (length routes.settings) p → (is_met p walk ≡ false → IsTrail routes h (walk ++ (p ∷ [])) p) → AreGood routes h t marks → TellMet routes marks walk → mark_at marks p ≡ Good → fault_on routes h t walk p ≡ None
+good_on routes h t marks walk p net here trail good tells is =
+    let new : is_met p walk ≡ false = sym (tells p here) ∙ ap tells_met is in
+    on_new routes h t walk p new ∙ good_clear routes h t (walk ++ (p ∷ [])) p net here (trail new) (good p here is)
+
+-- what is found on the walk that went on, once it is known of the walk as it is then
+pub stops_on : (routes : Routes) (h t : ℕ) (walk w l : List SwitchPort) (p : SwitchPort) (found : Found) → is_met p walk ≡ false → w ≡ walk ++ (p ∷ []) → l ≡ w → fault_from routes h t l p ≡ found → fault_on routes h t walk p ≡ found
+stops_on routes h t walk w l p found new is same at = on_new routes h t walk p new ∙ ap (λ x. fault_from routes h t x p) (sym (same ∙ is)) ∙ at
+
+pub trail_of : (routes : Routes) (h : ℕ) (walk w : List SwitchPort) (p : SwitchPort) → (is_met p walk ≡ false → IsTrail routes h (walk ++ (p ∷ [])) p) → is_met p walk ≡ false → w ≡ walk ++ (p ∷ []) → IsTrail routes h w p
+trail_of routes h walk w p trail new is = subst (λ x. IsTrail routes h x p) (sym is) (trail new)
+
+-- a link of the group leads to an input
+pub follows_by : (routes : Routes) (h link : ℕ) (p q : SwitchPort) (test : ℕ → Bool) → ways routes h p ≡ Some (peers_that routes p.switch test 0 32) → link < 32 → test link ≡ true → routes.peer (port.Switch p.switch link) ≡ Some (port.Switch q.switch q.link) → Follows routes h p q
+follows_by routes h link p q test at below tested leads = ways_leave routes h p (peers_that routes p.switch test 0 32) (Some (port.Switch q.switch q.link)) (select routes p.switch p.link h) refl at (subst (λ e. IsAmong e (peers_that routes p.switch test 0 32)) leads (range_among routes p.switch link test tested 32 0 (omega arith) (omega (arith, below))))
+
+pub marks_length : (marks : List Mark) (k : ℕ) (m : Mark) → length (slice_set marks k m) ≡ length marks
+marks_length marks k m = length-set marks k m
