@@ -3,8 +3,8 @@ use c104_regs::RegFault;
 use std::alloc::Global;
 use std::test::Fail;
 
-// What follows promises nothing, since the prover would compute with literals: a description's text, and
-// what is set in an image.
+// These functions promise nothing, since the prover would compute with literals: a description's text, what is
+// set in an image, and what is expected of it.
 
 fn plan_of(alloc: Global, text: &[u8]) -> Result<Plan, Fail> {
     Ok(read_description(alloc, text)?)
@@ -18,21 +18,30 @@ fn image_of(alloc: Global, plan: &Plan) -> Result<Image, Fail> {
     Ok(hand_image(alloc, plan)?)
 }
 
-fn set(image: &mut Image, switch: usize, addr: u16, value: u32) -> Result<(), ImageFault> {
-    image.set(switch, addr, value)
+fn set(image: &mut Image, addr: u16, value: u32) -> Result<(), ImageFault> {
+    image.set(0, addr, value)
 }
 
-fn set_range(
+fn has_values(image: &Image, expected: &[(u16, u32)]) -> bool {
+    image.values(0) == Some(expected)
+}
+
+fn has_range(image: &Image, terminal: usize, first: u32, count: u32) -> bool {
+    image.range(terminal) == Some((first, count))
+}
+
+fn refuses(image: &mut Image, switch: usize, addr: u16, value: u32, fault: ImageFault) -> bool {
+    image.set(switch, addr, value) == Err(fault)
+}
+
+fn refuses_range(
     image: &mut Image,
     terminal: usize,
     first: u32,
     count: u32,
-) -> Result<(), ImageFault> {
-    image.set_range(terminal, first, count)
-}
-
-fn values(image: &Image, switch: usize) -> Option<&[(u16, u32)]> {
-    image.values(switch)
+    fault: ImageFault,
+) -> bool {
+    image.set_range(terminal, first, count) == Err(fault)
 }
 
 /// One switch with two terminals, and rows from each to the other.
@@ -59,8 +68,8 @@ fn of_rows(rt: HostRuntime) -> Result<(), Fail> {
         (0x0280, 0),
         (0x0281, 1),
     ];
-    assert!(rt; values(&image, 0) == Some(expected.as_slice()));
-    assert!(rt; values(&image, 1).is_none());
+    assert!(rt; has_values(&image, expected.as_slice()));
+    assert!(rt; image.values(1).is_none());
     Ok(())
 }
 
@@ -70,18 +79,20 @@ fn of_values(rt: HostRuntime) -> Result<(), Fail> {
     let plan = pair(rt.alloc())?;
     let mut image = new_image(rt.alloc(), &plan)?;
     assert!(rt; image.fits(&plan));
-    assert!(rt; image.range(1) == Some((1, 1)));
-    assert!(rt; values(&image, 0) == Some([].as_slice()));
-    set(&mut image, 0, 0x0181, 31)?;
-    set(&mut image, 0, 0x0100, 8)?;
-    set(&mut image, 0, 0x2040, 65536)?;
-    set(&mut image, 0, 0x0181, 5)?;
-    let expected = [(0x0100, 8), (0x0181, 5), (0x2040, 65536)];
-    assert!(rt; values(&image, 0) == Some(expected.as_slice()));
-    set(&mut image, 0, 0x0181, 64)?;
-    set(&mut image, 0, 0x0140, 0)?;
-    let expected = [(0x0100, 8), (0x2040, 65536)];
-    assert!(rt; values(&image, 0) == Some(expected.as_slice()));
+    assert!(rt; has_range(&image, 1, 1, 1));
+    assert!(rt; has_values(&image, [].as_slice()));
+    for (addr, value) in [(0x0181, 31), (0x0100, 8), (0x2040, 65536), (0x0181, 5)] {
+        set(&mut image, addr, value)?;
+    }
+    assert!(rt;
+        has_values(
+            &image,
+            [(0x0100, 8), (0x0181, 5), (0x2040, 65536)].as_slice()
+        )
+    );
+    set(&mut image, 0x0181, 64)?;
+    set(&mut image, 0x0140, 0)?;
+    assert!(rt; has_values(&image, [(0x0100, 8), (0x2040, 65536)].as_slice()));
     Ok(())
 }
 
@@ -98,7 +109,7 @@ fn refused(rt: HostRuntime) -> Result<(), Fail> {
         (1, 0x0003, 1, ImageFault::NoNode),
     ] {
         assert!(rt;
-            set(&mut image, switch, addr, value) == Err(fault),
+            refuses(&mut image, switch, addr, value, fault),
             "{addr:04x} of {switch}"
         );
     }
@@ -109,11 +120,11 @@ fn refused(rt: HostRuntime) -> Result<(), Fail> {
         (2, 0, 0, ImageFault::NoNode),
     ] {
         assert!(rt;
-            set_range(&mut image, terminal, first, count) == Err(fault),
+            refuses_range(&mut image, terminal, first, count, fault),
             "{first} {count}"
         );
     }
-    set_range(&mut image, 0, 65535, 1)?;
-    assert!(rt; image.range(0) == Some((65535, 1)));
+    image.set_range(0, 65535, 1)?;
+    assert!(rt; has_range(&image, 0, 65535, 1));
     Ok(())
 }
