@@ -1,5 +1,7 @@
 # make                        proves and builds the program, build/c104
 # make run                    builds it and runs the first example
+# make install                copies the program and its manual page below PREFIX, which is /usr/local unless
+#                             said, and below DESTDIR before it; what is built already isn't built again
 # make try                    runs the first example without proving anything
 # make check                  proves what has changed, over kept work, and runs the cases over the program
 # make edits CRATE=c104_link  tries the edits of one crate that the prover must refuse
@@ -8,10 +10,13 @@
 
 program := build/c104
 example := examples/first-network.txt
-cases := run_cases description_cases large_cases stream_cases
+cases := run_cases description_cases large_cases stream_cases refused_calls documents
 sources := $(shell find crates crates.txt -path '*/out' -prune -o -type f -print)
 
-.PHONY: all run try check edits test
+PREFIX ?= /usr/local
+installed := $(DESTDIR)$(PREFIX)
+
+.PHONY: all run install try check edits test
 
 all: $(program)
 
@@ -20,6 +25,14 @@ $(program): $(sources)
 
 run: $(program)
 	$(program) < $(example)
+
+install:
+	@[ -f $(program) ] || $(MAKE) --no-print-directory all
+	@$(MAKE) --no-print-directory --question all \
+	    || echo 'sources are newer than $(program), which is installed as it stands'
+	install -d '$(installed)/bin' '$(installed)/share/man/man1'
+	install -m 755 $(program) '$(installed)/bin/c104'
+	install -m 644 docs/c104.1 '$(installed)/share/man/man1/c104.1'
 
 # The interpreter, which rt also tries, is no use to a program that reads.
 try:
