@@ -6,6 +6,7 @@ mod ClaimSteps
 mod Owners
 mod GroupBits
 mod Readiness
+mod Wanting
 mod SoundnessBuffers
 mod SoundnessInputs
 mod SoundnessTurns

@@ -1,10 +1,13 @@
 -- A claim: an input that wants a group gets one output of it, until its packet's terminator has passed.
-use Rattle.std.specs.Prelude.{ℕ, Bool, not, List, Option, Some, None, if◌then◌else◌, slice_get}
+use Rattle.std.specs.Prelude.{ℕ, ◌≡◌, ◌<◌, ◌≤◌, Bool, false, true, not, List, Option, Some, None, IfSome, unwrap_or, if◌then◌else◌, slice_get}
+use Rattle.c104_regs.specs.declared.registers.TheConstants.{LINKS}
+use Rattle.std.specs.Option.{option_map_or}
 use Rattle.c104_link.specs.Steps.{◌>>=◌, ◌>>◌, require, step_at, joint_step_at}
 use Rattle.c104_link.specs.Buffers as buffer
 use Rattle.c104_link.specs.Buffers.{Outgoing}
 use Rattle.c104_regs.specs.declared.settings.Settings.{Settings}
 use Rattle.c104_switch.specs.Group.{is_in_group}
+use Rattle.c104_switch.specs.Phases.{is_want}
 use Rattle.c104_switch.specs.Sides.{IsOutcome}
 use Rattle.c104_switch.specs.Switch.{Phase, Fresh, Head, Want, Stream, Sinking, Input, Switch, is_owned, with_sides}
 
@@ -40,6 +43,17 @@ switch_claim s i o = do
   require s.started
   r ← inputs_claim s.settings s.inputs s.outputs i o
   Some (with_sides s r)
+
+-- whether input i wants an output; past the last link none does
+abbrev pub is_wanting : {A : Type 0} → List (Input A) → ℕ → Bool
+is_wanting ps i = option_map_or (λ p. is_want p.phase) (slice_get ps i) false
+
+-- the next link, from this one on, of which a test is so: each one before it was passed over. Where none
+-- was found all were.
+abbrev pub IsNextLink : (ℕ → Bool) → ℕ → Option ℕ → Type 0
+IsNextLink test from found =
+    ((l : ℕ) → from ≤ l → l < unwrap_or found LINKS → test l ≡ false)
+    × IfSome found (λ l. (from ≤ l) × (l < LINKS) × (test l ≡ true))
 
 -- a claim of output o was tried: whether it was made, and the input and the outputs after it, or as they were
 abbrev pub IsClaim : {A : Type 0} → List Settings → ℕ → Input A → List (Outgoing A) → Bool → Input A → List (Outgoing A) → Type 0

@@ -1,5 +1,5 @@
 -- Phases: where an input is with its packet, with what is known of a header that is read or that waits.
-use Rattle.std.specs.Prelude.{ℕ, ◌<◌, ◌==◌, Bool, false, List, [], length, Option, Some, None}
+use Rattle.std.specs.Prelude.{ℕ, ◌<◌, ◌==◌, Bool, false, true, List, [], length, Option, Some, None}
 use Rattle.std.specs.Option.{option_map_or}
 use Rattle.c104_switch.specs.declared.header.TheConstants.{HEADER_LIMIT}
 pub use Rattle.c104_switch.specs.declared.phase.Phase.{Phase}
@@ -13,6 +13,14 @@ module _ {H : Type 0} where
   streamed_output (Want b g) = None
   streamed_output (Stream o) = Some o
   streamed_output Sinking = None
+
+  -- whether an output is wanted for the header
+  abbrev pub is_want : Phase H → Bool
+  is_want Fresh = false
+  is_want (Head b) = false
+  is_want (Want b g) = true
+  is_want (Stream o) = false
+  is_want Sinking = false
 
   -- whether it is output o that is streamed to
   abbrev pub is_stream : ℕ → Phase H → Bool

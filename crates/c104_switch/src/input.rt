@@ -4,7 +4,7 @@ ghost use Rattle.std.specs.Option.{option_copied};
 ghost use Rattle.c104_link.specs.Buffers.{Incoming, empty_incoming, IsValidCap, IsWithinCap};
 ghost use Rattle.c104_link.specs.Steps.{bool_outcome};
 ghost use Rattle.c104_switch.specs.Switch.{Input, input_accept, input_grant, new_input};
-ghost use Rattle.c104_switch.specs.Phases.{is_stream, streamed_output};
+ghost use Rattle.c104_switch.specs.Phases.{is_stream, is_want, streamed_output};
 ghost use Rattle.c104_switch.specs.Holding.{phase_claims};
 ghost use Rattle.c104_switch.specs.Peeks.{is_busy};
 ghost use Rattle.c104_switch.specs.Views.{phase_view};
@@ -182,6 +182,16 @@ impl<T: TokenKind> InputOf<T> {
         match self.phase {
             Phase::Stream(owned) => owned == output,
             Phase::Fresh | Phase::Head(()) | Phase::Want((), _) | Phase::Sinking => false,
+        }
+    }
+
+    /// Whether the packet's header wants an output. Without that the input claims none.
+    pub fn is_wanting(&self) -> bool
+        ensures { result ≡ is_want self.now.phase }
+    {
+        match self.phase {
+            Phase::Want((), _) => true,
+            Phase::Fresh | Phase::Head(()) | Phase::Stream(_) | Phase::Sinking => false,
         }
     }
 

@@ -1,5 +1,5 @@
 //! The input sides of all links, and the crossbar whose outputs they claim.
-ghost use Rattle.std.specs.Prelude.{◌≡◌, ◌<◌, ℕ, [], length, map, replicate, slice_get, IfOk, IfSome, is_some};
+ghost use Rattle.std.specs.Prelude.{◌≡◌, ◌<◌, ◌≤◌, ℕ, [], length, map, replicate, slice_get, IfOk, IfSome, is_some};
 ghost use Rattle.std.specs.Option.{option_copied};
 ghost use Rattle.c104_crossbar.specs.Marks.{ArePartition};
 ghost use Rattle.c104_link.specs.Buffers.{IsValidCap};
@@ -8,7 +8,7 @@ ghost use Rattle.c104_regs.specs.declared.registers.TheConstants.{LINKS};
 ghost use Rattle.c104_regs.specs.declared.settings.Settings.{Settings as TheSettings};
 ghost use Rattle.c104_switch.specs.Switch.{input_accept, input_grant, new_input, is_owned};
 ghost use Rattle.c104_switch.specs.Turns.{inputs_turn, IsTurnAt};
-ghost use Rattle.c104_switch.specs.Claims.{inputs_claim, IsClaimAt};
+ghost use Rattle.c104_switch.specs.Claims.{inputs_claim, is_wanting, IsClaimAt, IsNextLink};
 ghost use Rattle.c104_switch.specs.Holding.{held_claims};
 ghost use Rattle.c104_switch.specs.Views.{owner_from};
 ghost use Rattle.c104_switch.specs.Commands.{input_reset};
@@ -219,6 +219,57 @@ impl<T: TokenKind> InputsOf<T> {
         }
     }
 
+    /// Whether the input of a link wants an output.
+    pub fn is_wanting(&self, link: usize) -> bool
+        ensures { result ≡ is_wanting self.now link }
+    {
+        match self.list.get(link) {
+            Some(input) => input.is_wanting(),
+            None => false,
+        }
+    }
+
+    /// The next input, from that of this link on, that wants an output.
+    pub fn next_wanting(&self, from: usize) -> Option<usize>
+        ensures { IsNextLink (is_wanting self.now) from result }
+    {
+        for link in from..LINKS {
+            if self.is_wanting(link) {
+                return Some(link);
+            }
+        }
+        None
+    }
+
+    /// The next output, from this one on, that an input can claim. Only the free outputs of the group
+    /// that it wants are asked.
+    pub fn next_claim(
+        &self,
+        link: usize,
+        registers: &Registers,
+        from: usize,
+        outputs: &OutputsOf<T>,
+    ) -> Option<usize>
+        requires { length registers.now.settings ≡ LINKS }
+        ensures { IsNextLink
+            (λ o. is_some
+            (inputs_claim registers.now.settings self.now outputs.now link o))
+            from result }
+    {
+        let Some(input) = self.list.get(link) else {
+            return None;
+        };
+        let Some(group) = input.wanted_group(registers) else {
+            return None;
+        };
+        for output in later(from, group.first)..group.last + 1 {
+            if self.can_claim(link, registers, output, outputs) {
+                return Some(output);
+            }
+        }
+        None
+    }
+
     /// The input of a link.
     pub fn get(&self, link: usize) -> Option<&InputOf<T>>
         ensures { option_copied result ≡ slice_get self.now link }
@@ -271,4 +322,13 @@ fn reset<T: TokenKind>(list: &mut [InputOf<T>], crossbar: &mut Crossbar)
             crossbar.release(claim);
         }
     }
+}
+
+/// The later of two links.
+fn later(link: usize, other: usize) -> usize
+    ensures after { link ≤ result }
+    ensures between { (l : ℕ) → link ≤ l → l < result → l < other }
+    ensures other { other ≤ result }
+{
+    if link < other { other } else { link }
 }

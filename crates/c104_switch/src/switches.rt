@@ -11,6 +11,7 @@ ghost use Rattle.c104_switch.specs.Views.{link_view};
 ghost use Rattle.c104_switch.specs.Soundness.{IsSound};
 ghost use Rattle.c104_switch.specs.Holding.{held_claims, claim_at};
 
+mod claims;
 mod commands;
 mod control;
 mod peeks;

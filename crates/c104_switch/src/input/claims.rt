@@ -1,5 +1,5 @@
 //! An input's claim of an output.
-ghost use Rattle.std.specs.Prelude.{option_to_list, ◌≡◌, ◌<◌, ◌∷◌, ◌++◌, Bool, List, Some, None, is_some, is_none};
+ghost use Rattle.std.specs.Prelude.{option_to_list, ◌≡◌, ◌<◌, ◌≤◌, ◌∷◌, ◌++◌, ◌&&◌, Bool, List, Some, None, ℕ, false, is_some, is_none, nat_le, IfNone, IfSome};
 ghost use Rattle.c104_link.specs.Buffers.{Outgoing};
 ghost use Rattle.c104_link.specs.Steps.{bool_outcome};
 ghost use Rattle.c104_regs.specs.declared.registers.TheConstants.{LINKS};
@@ -8,10 +8,10 @@ ghost use Rattle.c104_switch.specs.Claims.{input_claim, IsClaim};
 ghost use Rattle.c104_switch.specs.Holding.{phase_claims};
 
 use super::InputOf;
-use crate::group::is_in_group;
+use crate::group::{group_of, is_in_group};
 use crate::outputs::OutputsOf;
 use crate::phase::Phase;
-use c104_crossbar::Claim;
+use c104_crossbar::{Claim, Group};
 use c104_regs::Registers;
 use c104_token::TokenKind;
 use std::mem;
@@ -46,6 +46,22 @@ impl<T: TokenKind> InputOf<T> {
         fill(&mut self.claim, claim);
         self.phase = Phase::Stream(output);
         None
+    }
+
+    /// The group of outputs one of which the input wants. It claims no other output, and none where
+    /// there is no such group.
+    pub fn wanted_group(&self, registers: &Registers) -> Option<Group>
+        ensures others { IfSome result (λ group. (qs : List (Outgoing T)) (o : ℕ) →
+            (nat_le group.first o && nat_le o group.last) ≡ false →
+            input_claim registers.now.settings self.now qs o self.now.phase ≡ None) }
+        ensures below { IfSome result (λ group. group.last < LINKS) }
+        ensures none { IfNone result ((qs : List (Outgoing T)) (o : ℕ) → o < LINKS →
+            input_claim registers.now.settings self.now qs o self.now.phase ≡ None) }
+    {
+        let Phase::Want((), link) = self.phase else {
+            return None;
+        };
+        group_of(registers, link)
     }
 
     /// Whether `claim` would claim this output.
