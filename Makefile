@@ -7,6 +7,7 @@
 # make edits CRATE=c104_link  tries the edits of one crate that the prover must refuse
 # make test                   runs every proof, test, edit and case from nothing;
 #                             its last line is "N passed, M failed"
+# make bench                  times the program over grids of switches and over a long script; no part of the test
 
 program := build/c104
 example := examples/first-network.txt
@@ -16,7 +17,7 @@ sources := $(shell find crates crates.txt -path '*/out' -prune -o -type f -print
 PREFIX ?= /usr/local
 installed := $(DESTDIR)$(PREFIX)
 
-.PHONY: all run install try check edits test
+.PHONY: all run install try check edits test bench
 
 all: $(program)
 
@@ -56,3 +57,6 @@ edits:
 
 test:
 	@tests/all
+
+bench: $(program)
+	@tests/bench_networks $(program)

@@ -8,6 +8,10 @@ pub mod Running
 pub mod RoundLists
 pub mod RoundRuns
 pub mod RoundsTaken
+pub mod PartRuns
+pub mod IdleEvents
+pub mod RoundJoins
+pub mod WiredPorts
 pub mod PlanBuffers
 pub mod BalanceWires
 pub mod BalancePlaces

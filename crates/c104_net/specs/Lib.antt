@@ -9,4 +9,5 @@ pub mod Network
 pub mod Balance
 pub mod Finished
 pub mod Rounds
+pub mod RoundParts
 pub mod PlaceFaults

@@ -1,9 +1,9 @@
 -- The nodes of a network, switches and terminals, and what each does in an event. A terminal has one
 -- link, whatever its number. None is not ready.
-use Rattle.std.specs.Prelude.{ℕ, Bool, List, [], length, slice_get, Option, Some, None, Result, Ok, Err}
+use Rattle.std.specs.Prelude.{ℕ, List, [], length, slice_get, Option, Some, None, Result, Ok, Err}
 use Rattle.c104_token.specs.declared.packets.Packet.{Packet}
 use Rattle.c104_token.specs.Kinds.{Kind}
-use Rattle.c104_link.specs.Steps.{◌>>=◌, bool_outcome, option_outcome, step_at, yield_step_at}
+use Rattle.c104_link.specs.Steps.{◌>>=◌}
 use Rattle.c104_switch.specs.Switch as switch
 use Rattle.c104_switch.specs.Turns as turns
 use Rattle.c104_switch.specs.Claims as claims
@@ -70,14 +70,6 @@ node_send kind number packet (Terminal t) = Some (Terminal (terminal.terminal_se
 abbrev pub node_drain : {A : Type 0} → Node A → Option (A × Node A)
 node_drain (Switch s) = None
 node_drain (Terminal t) = terminal.terminal_drain t >>= (λ r. Some (r.0, Terminal r.1))
-
--- a step of the node at a place, where it can be made: whether it was, and the nodes after it
-abbrev pub outcome_at : {A : Type 0} → ℕ → (Node A → Option (Node A)) → List (Node A) → Bool × List (Node A)
-outcome_at place step nodes = bool_outcome (step_at nodes place step) nodes
-
--- the same of a step that something comes of: this, if it was made, and the nodes after it
-abbrev pub yield_outcome_at : {A X : Type 0} → ℕ → (Node A → Option (X × Node A)) → List (Node A) → Option X × List (Node A)
-yield_outcome_at place step nodes = option_outcome (yield_step_at nodes place step) nodes
 
 -- the tokens that wait to go out of a terminal; none of a switch
 abbrev pub waiting_tokens : {A : Type 0} → Node A → List A

@@ -1,15 +1,14 @@
 //! The events of a network, over any places of its nodes: one act, or one at each end of a wire.
-ghost use Rattle.std.specs.Prelude.{◌≡◌, ◌⊎◌, None, Some, is_some, length, map, option_map};
+ghost use Rattle.std.specs.Prelude.{◌≡◌, ◌⊎◌, None, Some, length, map, option_map};
 ghost use Rattle.c104_describe.specs.Plans.{IsPlan};
 ghost use Rattle.c104_event.specs.declared.events.Event.TheVariants as event;
-ghost use Rattle.c104_link.specs.Steps.{yield_step_at};
 ghost use Rattle.c104_net.specs.Network.{AnswersEvent, network_of};
-ghost use Rattle.c104_net.specs.Nodes.{node_drain, nodes_arrived, nodes_waiting};
+ghost use Rattle.c104_net.specs.Nodes.{nodes_arrived, nodes_waiting};
 ghost use Rattle.c104_net.specs.Acts.{plain_reply};
 
 use crate::acts::ActOf;
 use crate::place::Place;
-use crate::places::act_alone;
+use crate::places::{act_alone, can_drain_at};
 use crate::wire_acts::{credit_at, cross_at};
 use crate::wires::Wires;
 use c104_control::ControlBytes;
@@ -52,7 +51,7 @@ pub fn happen<T: TokenKind, P: Place<T>>(
 }
 
 /// A token crosses the wire at a port.
-fn cross<T: TokenKind, P: Place<T>>(
+pub fn cross<T: TokenKind, P: Place<T>>(
     wires: &Wires,
     places: &mut [P],
     port: Port,
@@ -69,7 +68,7 @@ fn cross<T: TokenKind, P: Place<T>>(
 }
 
 /// A port grants eight more tokens to the other end of its wire.
-fn credit<T: TokenKind, P: Place<T>>(
+pub fn credit<T: TokenKind, P: Place<T>>(
     wires: &Wires,
     places: &mut [P],
     port: Port,
@@ -87,7 +86,7 @@ fn credit<T: TokenKind, P: Place<T>>(
 }
 
 /// An input of a switch takes a turn.
-fn input<T: TokenKind, P: Place<T>>(
+pub fn input<T: TokenKind, P: Place<T>>(
     plan: &Plan,
     places: &mut [P],
     switch: usize,
@@ -109,7 +108,7 @@ fn input<T: TokenKind, P: Place<T>>(
 }
 
 /// An input of a switch claims an output.
-fn claim<T: TokenKind, P: Place<T>>(
+pub fn claim<T: TokenKind, P: Place<T>>(
     plan: &Plan,
     places: &mut [P],
     switch: usize,
@@ -180,7 +179,7 @@ fn send<T: TokenKind, P: Place<T>>(
 }
 
 /// The first token that came in at a terminal arrives.
-fn drain<T: TokenKind, P: Place<T>>(
+pub fn drain<T: TokenKind, P: Place<T>>(
     plan: &Plan,
     places: &mut [P],
     terminal: usize,
@@ -221,16 +220,6 @@ fn waiting_at<T: TokenKind, P: Place<T>>(places: &[P], place: usize) -> Option<u
     match places.get(place) {
         Some(found) => found.node().waiting(),
         None => None,
-    }
-}
-
-/// Whether a token can arrive at a place.
-fn can_drain_at<T: TokenKind, P: Place<T>>(places: &[P], place: usize) -> bool
-    ensures { result ≡ is_some (yield_step_at (map P.state places.now) place node_drain) }
-{
-    match places.get(place) {
-        Some(found) => found.node().can_drain(),
-        None => false,
     }
 }
 

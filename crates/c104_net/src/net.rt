@@ -6,11 +6,13 @@ ghost use Rattle.c104_net.specs.Balance.{IsBalanced};
 ghost use Rattle.c104_net.specs.Finished.{network_finish, run_arrived};
 ghost use Rattle.c104_net.specs.Network.{AnswersEvent, AnswersEvents};
 ghost use Rattle.c104_net.specs.Network.{new_network, placed_network, network_arrived, network_peek};
+ghost use Rattle.c104_net.specs.Rounds.{RoundsEnd};
 
 use crate::events::happen;
 use crate::faults::PlaceFault;
 use crate::node::NodeOf;
 use crate::placing::{place, place_new, retire_all};
+use crate::rounds::rounds_at;
 use crate::run::{RunOf, terminals_of};
 use crate::terminal::TerminalOf;
 use crate::wires::Wires;
@@ -169,6 +171,19 @@ impl<T: TokenKind> NetOf<T> {
         ensures { AnswersEvent T.kind self.old event.now result self.new }
     {
         happen(&self.wires, self.places.as_mut_slice(), event)
+    }
+
+    /// Does so many rounds, up to the first fault of an event. A round is Credit of each wired port,
+    /// those of the switches by switch and link and then the terminals; Cross of the same; Input of
+    /// each wired input, with word 0; Claim of each input and output of each switch; and Drain of
+    /// each terminal. An event that isn't ready stops nothing. The order is this emulator's own.
+    ///
+    /// The events before a fault stand. NoMemory comes when out of memory for an event that would be
+    /// done.
+    pub fn rounds(&mut self, count: u32) -> Result<(), EventFault>
+        ensures { RoundsEnd T.kind self.old count result self.new }
+    {
+        rounds_at(&self.wires, self.places.as_mut_slice(), count)
     }
 
     /// Applies events in turn, and gives their answers. The only error is out of memory for the

@@ -1,8 +1,10 @@
 //! One act of one place among all places.
-ghost use Rattle.std.specs.Prelude.{◌≡◌, ◌≢◌, ◌<◌, ℕ, Some, true, length, is_some, map, MatchResult, OnOk};
+ghost use Rattle.std.specs.Prelude.{◌≡◌, ◌≢◌, ◌<◌, ◌≤◌, ℕ, None, Some, true, length, is_some, map, unwrap_or, IfSome, MatchResult, OnOk};
+ghost use Rattle.c104_regs.specs.declared.registers.TheConstants.{LINKS};
 ghost use Rattle.c104_link.specs.Steps.{step_at, yield_step_at};
 ghost use Rattle.c104_net.specs.Acts.{IsShort, nodes_act, reply_outcome, wants_memory};
-ghost use Rattle.c104_net.specs.Nodes.{node_enter, node_leave, node_credit_out, node_credit_in};
+ghost use Rattle.c104_switch.specs.Claims.{IsNextLink};
+ghost use Rattle.c104_net.specs.Nodes.{node_enter, node_leave, node_credit_out, node_credit_in, node_input, node_claim, node_drain};
 ghost use Rattle.c104_net.specs.Places.{HasRoomAt, StepEnds};
 
 use crate::acts::ActOf;
@@ -124,6 +126,62 @@ pub fn can_credit_in_at<T: TokenKind, P: Place<T>>(places: &[P], end: End) -> bo
     match places.get(end.node) {
         Some(found) => found.node().can_credit_in(end.link),
         None => false,
+    }
+}
+
+/// Whether an input of the switch at a place can take a turn, which no word decides.
+pub fn can_input_at<T: TokenKind, P: Place<T>>(places: &[P], place: usize, link: usize) -> bool
+    ensures { (word : ℕ) → result ≡
+        is_some (step_at (map P.state places.now) place (node_input T.kind link word)) }
+{
+    match places.get(place) {
+        Some(found) => found.node().can_input(link),
+        None => false,
+    }
+}
+
+/// Whether a token can arrive at a place.
+pub fn can_drain_at<T: TokenKind, P: Place<T>>(places: &[P], place: usize) -> bool
+    ensures { result ≡ is_some (yield_step_at (map P.state places.now) place node_drain) }
+{
+    match places.get(place) {
+        Some(found) => found.node().can_drain(),
+        None => false,
+    }
+}
+
+/// The next input of the switch at a place, from that of this link on, that wants an output. None
+/// where no further one does. An input that is passed over claims no output.
+pub fn next_wanting_at<T: TokenKind, P: Place<T>>(
+    places: &[P],
+    place: usize,
+    from: usize,
+) -> Option<usize>
+    ensures passed { (input output : ℕ) → from ≤ input → input < unwrap_or result LINKS →
+        step_at (map P.state places.now) place (node_claim input output) ≡ None }
+    ensures found { IfSome result (λ input. (from ≤ input) × (input < LINKS)) }
+{
+    match places.get(place) {
+        Some(found) => found.node().next_wanting(from),
+        None => None,
+    }
+}
+
+/// The next output of the switch at a place, from this one on, that an input can claim. None where it
+/// can claim no further one.
+pub fn next_claim_at<T: TokenKind, P: Place<T>>(
+    places: &[P],
+    place: usize,
+    input: usize,
+    from: usize,
+) -> Option<usize>
+    ensures { IsNextLink
+        (λ output. is_some (step_at (map P.state places.now) place (node_claim input output)))
+        from result }
+{
+    match places.get(place) {
+        Some(found) => found.node().next_claim(input, from),
+        None => None,
     }
 }
 

@@ -1,11 +1,12 @@
 //! The wires of a plan, by port.
-ghost use Rattle.std.specs.Prelude.{◌≡◌, ◌≢◌, Some, None, IfOk, MatchResult};
+ghost use Rattle.std.specs.Prelude.{◌≡◌, ◌≢◌, ◌++◌, ◌∷◌, [], All, Some, None, filter, IfOk, MatchResult, OnOk};
 ghost use Rattle.c104_describe.specs.declared.ports.Port.TheVariants as port;
 ghost use Rattle.c104_describe.specs.Plans.{IsPlan};
 ghost use Rattle.c104_describe.specs.Wiring.{IsPlanPort};
 ghost use Rattle.c104_net.specs.Ends.{end_of};
 ghost use Rattle.c104_net.specs.FarEnds.{far_end, link_ends, terminal_ends};
 ghost use Rattle.c104_net.specs.Network.{wired_fault};
+ghost use Rattle.c104_net.specs.Rounds.{is_wired, wired_links, wired_ports, wired_terminals};
 
 use crate::ends::End;
 use c104_describe::Plan;
@@ -22,12 +23,15 @@ pub struct Wires {
     // The far end at link l of switch s is at place 32 s + l.
     links: Vec<Option<End>>,
     terminals: Vec<Option<End>>,
+    // The wired ports, those of the switches first.
+    ports: Vec<Port>,
 }
 
 impl Model for Wires {
     ghost use Rattle.std.specs.Prelude.{◌≡◌};
     ghost use Rattle.c104_describe.specs.Plans.{Plan};
     ghost use Rattle.c104_net.specs.FarEnds.{link_ends, terminal_ends};
+    ghost use Rattle.c104_net.specs.Rounds.{wired_ports};
 
     ghost Value = { Plan };
 
@@ -35,7 +39,8 @@ impl Model for Wires {
 
     ghost invariant = { λ wires.
         (wires.links.items ≡ link_ends wires.plan)
-        × (wires.terminals.items ≡ terminal_ends wires.plan) };
+        × (wires.terminals.items ≡ terminal_ends wires.plan)
+        × (wires.ports.items ≡ wired_ports wires.plan) };
 }
 
 /// The ends of a wire: that of the port that was named, and the other.
@@ -52,10 +57,12 @@ impl Wires {
     {
         let links = link_ends(alloc, &plan)?;
         let terminals = terminal_ends(alloc, &plan)?;
+        let ports = wired_ports(alloc, &plan)?;
         Ok(Wires {
             plan,
             links,
             terminals,
+            ports,
         })
     }
 
@@ -67,6 +74,24 @@ impl Wires {
         // The proof reads here what every plan keeps.
         let _switches = self.plan.switches();
         &self.plan
+    }
+
+    /// The wired ports: those of the switches by switch and link, and then the terminals.
+    pub fn ports(&self) -> &[Port]
+        ensures ports { result.now ≡ wired_ports self.now }
+        ensures wired { All (λ port. wired_fault self.now port ≡ None) result.now }
+    {
+        // The proof reads here what every plan keeps.
+        let _switches = self.plan.switches();
+        self.ports.as_slice()
+    }
+
+    /// The near end of the wire at a port.
+    pub fn near_end(&self, port: Port) -> End
+        requires { wired_fault self.now port ≡ None }
+        ensures { result ≡ end_of self.now port }
+    {
+        end_of(&self.plan, port)
     }
 
     /// The plan alone.
@@ -149,6 +174,49 @@ fn terminal_ends(alloc: Global, plan: &Plan) -> Result<Vec<Option<End>>, NoMemor
         ends.push(find_far_end(plan, Port::Terminal(terminal)))?;
     }
     Ok(ends)
+}
+
+/// The wired ports, those of the switches first.
+fn wired_ports(alloc: Global, plan: &Plan) -> Result<Vec<Port>, NoMemory>
+    ensures { IfOk result (λ ports. ports.items ≡ wired_ports plan.now) }
+{
+    let mut ports = Vec::new(alloc);
+    for switch in 0..plan.switches().len() {
+        add_wired_links(&mut ports, plan, switch)?;
+    }
+    add_wired_terminals(&mut ports, plan)?;
+    Ok(ports)
+}
+
+/// The wired links of a switch.
+fn add_wired_links(ports: &mut Vec<Port>, plan: &Plan, switch: usize) -> Result<(), NoMemory>
+    ensures { OnOk result (ports.new.items ≡ ports.old.items ++ wired_links plan.now switch) }
+{
+    for link in 0..LINKS {
+        add_if_wired(ports, plan, Port::Switch(switch, link))?;
+    }
+    Ok(())
+}
+
+/// The wired terminals.
+fn add_wired_terminals(ports: &mut Vec<Port>, plan: &Plan) -> Result<(), NoMemory>
+    ensures { OnOk result (ports.new.items ≡ ports.old.items ++ wired_terminals plan.now) }
+{
+    for terminal in 0..plan.terminals().len() {
+        add_if_wired(ports, plan, Port::Terminal(terminal))?;
+    }
+    Ok(())
+}
+
+/// A port, if it is wired.
+fn add_if_wired(ports: &mut Vec<Port>, plan: &Plan, port: Port) -> Result<(), NoMemory>
+    ensures { OnOk result
+        (ports.new.items ≡ ports.old.items ++ filter (is_wired plan.now) (port ∷ [])) }
+{
+    if plan.peer(port).is_some() {
+        ports.push(port)?;
+    }
+    Ok(())
 }
 
 /// The far end of the wire at a port, found among the plan's wires.

@@ -93,7 +93,7 @@ impl Session {
     {
         let answer = match request {
             Request::Asked(event) => self.net.apply(event),
-            Request::Rounds(count) => do_rounds(alloc, &mut self.net, *count),
+            Request::Rounds(count) => do_rounds(&mut self.net, *count),
             Request::Refused(fault) => Err(*fault),
         };
         let text = match answer {
@@ -106,10 +106,10 @@ impl Session {
 }
 
 /// Does so many rounds, up to the first event that is refused.
-fn do_rounds(alloc: Global, net: &mut Net, count: u32) -> Result<Reply, EventFault>
+fn do_rounds(net: &mut Net, count: u32) -> Result<Reply, EventFault>
     ensures { (◌≡◌ {A = Result TheReply TheFault × Network Token}
         (result, net.new) (rounds_outcome net.old count)) ⊎ (result ≡ Err fault.NoMemory) }
 {
-    net.rounds(alloc, count)?;
+    net.rounds(count)?;
     Ok(Reply::Done)
 }

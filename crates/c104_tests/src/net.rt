@@ -70,7 +70,7 @@ fn start(rt: &impl Abort, alloc: Global, net: &mut Net) -> Result<(), Fail> {
     ];
     assert!(rt; answers.as_slice() == due.as_slice());
     assert!(rt; net.peek(0, 0x0140) == Some(2));
-    net.rounds(alloc, 8)?;
+    net.rounds(8)?;
     Ok(())
 }
 

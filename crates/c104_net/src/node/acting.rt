@@ -1,9 +1,11 @@
 //! The acts of a node.
-ghost use Rattle.std.specs.Prelude.{◌≡◌, true, is_some, MatchResult};
+ghost use Rattle.std.specs.Prelude.{◌≡◌, ◌<◌, ◌≤◌, ℕ, None, true, is_some, unwrap_or, IfSome, MatchResult};
 ghost use Rattle.c104_net.specs.Acts.{IsShort, node_act, reply_outcome, wants_memory};
 ghost use Rattle.c104_net.specs.Acts.{leave_act, enter_act, credit_out_act, credit_in_act};
-ghost use Rattle.c104_net.specs.Nodes.{node_enter, node_leave, node_credit_out, node_credit_in, node_drain};
+ghost use Rattle.c104_regs.specs.declared.registers.TheConstants.{LINKS};
+ghost use Rattle.c104_net.specs.Nodes.{node_enter, node_leave, node_credit_out, node_credit_in, node_input, node_claim, node_drain};
 ghost use Rattle.c104_switch.specs.Actions.{done_reply, token_reply};
+ghost use Rattle.c104_switch.specs.Claims.{IsNextLink};
 
 use crate::acts::ActOf;
 use crate::node::NodeOf;
@@ -126,6 +128,40 @@ impl<T: TokenKind> NodeOf<T> {
         match self {
             NodeOf::Switch(switch) => switch.can_enter(link),
             NodeOf::Terminal(terminal) => terminal.can_enter(),
+        }
+    }
+
+    /// Whether an input can take a turn, which no word decides.
+    pub fn can_input(&self, link: usize) -> bool
+        ensures { (word : ℕ) → result ≡ is_some (node_input T.kind link word self.now) }
+    {
+        match self {
+            NodeOf::Switch(switch) => switch.can_input(link),
+            NodeOf::Terminal(_) => false,
+        }
+    }
+
+    /// The next input, from that of this link on, that wants an output. None where no further one
+    /// does. An input that is passed over claims no output.
+    pub fn next_wanting(&self, from: usize) -> Option<usize>
+        ensures passed { (input output : ℕ) → from ≤ input → input < unwrap_or result LINKS →
+            node_claim input output self.now ≡ None }
+        ensures found { IfSome result (λ input. (from ≤ input) × (input < LINKS)) }
+    {
+        match self {
+            NodeOf::Switch(switch) => switch.next_wanting(from),
+            NodeOf::Terminal(_) => None,
+        }
+    }
+
+    /// The next output, from this one on, that an input can claim. None where it can claim no further
+    /// one.
+    pub fn next_claim(&self, input: usize, from: usize) -> Option<usize>
+        ensures { IsNextLink (λ output. is_some (node_claim input output self.now)) from result }
+    {
+        match self {
+            NodeOf::Switch(switch) => switch.next_claim(input, from),
+            NodeOf::Terminal(_) => None,
         }
     }
 

@@ -2,7 +2,7 @@ use Rattle.std.proofs.Common.{◌++◌, ◌∙◌, filter, map, ap, arith}
 use Rattle.c104_describe.specs.declared.ports.Port.TheVariants as port
 use Rattle.c104_net.specs.Rounds.{is_wired}
 use Rattle.c104_net.proofs.RoundLists.{filter_next, links_passed}
-use Rattle.c104_net.proofs.rounds.add_wired_links.Goals as goal
+use Rattle.c104_net.proofs.wires.add_wired_links.Goals as goal
 
 pub loop-link-preserved : goal.loop-link-preserved
 loop-link-preserved c = filter_next (is_wired c.args.plan.now) (port.Switch c.args.switch) c.loop-link.link _ _ _ c.loop-link.invariant c.in_ok-add_if_wired.ensures

@@ -2,7 +2,7 @@ use Rattle.std.proofs.Common.{◌≡◌, ◌++◌, map, filter}
 use Rattle.std.specs.List.{range_with_len}
 use Rattle.c104_describe.specs.declared.ports.Port.TheVariants as port
 use Rattle.c104_net.specs.Rounds.{is_wired}
-use Rattle.c104_net.proofs.rounds.add_wired_terminals.Given as goal
+use Rattle.c104_net.proofs.wires.add_wired_terminals.Given as goal
 
 -- the wired ones of the terminals so far
 abbrev pub invariant-loop-terminal : goal.invariant-loop-terminal

@@ -1,29 +1,27 @@
-use Rattle.std.proofs.Common.{◌≡◌, ◌∙◌, ap, arith, inl, inr, refl, sym, Ok}
-use Rattle.c104_net.specs.Rounds.{round, rounds, run_until}
-use Rattle.c104_net.proofs.RoundRuns.{err_is}
-use Rattle.c104_net.proofs.RoundsTaken.{round_taken, round_refused, round_idle}
+use Rattle.std.proofs.Common.{◌≡◌, ◌∙◌, List, inl, subst, sym}
+use Rattle.std.specs.Vec.{with_items}
+use Rattle.std.proofs.lemmas.List.{with_items_is}
+use Rattle.c104_net.specs.Nodes.{Node}
+use Rattle.c104_net.specs.Network.{network_of}
+use Rattle.c104_net.specs.Rounds.{rounds, EventsEnd}
+use Rattle.c104_net.specs.Balance.{IsSteady}
+use Rattle.c104_net.proofs.RoundJoins.{ends_as_they_are, events_steady}
 use Rattle.c104_net.proofs.net.NetOf.rounds.Goals as goal
 
-pub loop-round-preserved : goal.loop-round-preserved
-loop-round-preserved g c =
-    round_taken g.T.TokenKind.kind c.args.self.now c.loop-round.self c.apply_until.new.self c.args.self.now.plan c.as_slice.result.now c.loop-round._round
-    (c.as_slice.ensures.value ∙ c.in_ok-events.ensures ∙ ap round c.plan.ensures) c.loop-round.invariant c.in_ok-changed.ensures.ends
+-- the nodes that rounds leave are those of the list
+pub invariant_of-self : goal.invariant_of-self
+invariant_of-self g c =
+    let old : List (Node g.row.T.Denot) = c.self.inside.places.items in
+    let new : List (Node g.row.T.Denot) = c.rounds_at.new.places in
+    let ends : EventsEnd g.T.TokenKind.kind (network_of c.self.inside.wires old) (rounds c.self.inside.wires c.args.count) c.rounds_at.result (network_of c.self.inside.wires new) = ends_as_they_are g.T.TokenKind.kind c.self.inside.wires old c.as_mut_slice.result.now new (rounds c.self.inside.wires c.args.count) c.rounds_at.result c.as_mut_slice.ensures.value c.rounds_at.ensures.ends in
+    let steady : IsSteady (network_of c.self.inside.wires new) = events_steady g.T.TokenKind.kind (network_of c.self.inside.wires old) (network_of c.self.inside.wires new) (rounds c.self.inside.wires c.args.count) c.rounds_at.result c.rounds_at.ensures.kept c.self.invariant.0 ends in
+    let placed : (with_items c.self.inside.places new).items ≡ new = with_items_is c.self.inside.places new (c.rounds_at.auto.places ∙ c.as_mut_slice.ensures.len) in
+    (subst (λ ns. IsSteady (network_of c.self.inside.wires ns)) (sym placed) steady, c.self.invariant.1, c.self.invariant.2)
 
 pub returns : goal.returns
 returns g c =
-    let all : c.loop-round._round ≡ c.args.count = omega arith in
-    inl (inl (sym (ap (λ n. run_until g.T.TokenKind.kind c.args.self.now (rounds c.args.self.now.plan n)) (sym all) ∙ c.loop-round.invariant)))
-
-pub returns-in_err-events : goal.returns-in_err-events
-returns-in_err-events g c = rw (err_is _ _ c.from_residual.ensures) (inr (refl, refl))
-
-pub returns-in_err-changed : goal.returns-in_err-changed
-returns-in_err-changed g c =
-    rw (err_is _ _ c.from_residual-in_err-changed.ensures)
-    (inl (round_refused g.T.TokenKind.kind c.args.self.now c.loop-round.self c.apply_until.new.self c.args.self.now.plan c.as_slice.result.now c.loop-round._round c.args.count c.in_err-changed.field-0.0
-    (c.as_slice.ensures.value ∙ c.in_ok-events.ensures ∙ ap round c.plan.ensures) c.loop-round-test.true c.loop-round.invariant c.in_err-changed.ensures.ends))
-
-pub returns-then-not-changed : goal.returns-then-not-changed
-returns-then-not-changed g c =
-    inl (round_idle g.T.TokenKind.kind c.args.self.now c.loop-round.self c.apply_until.new.self c.args.self.now.plan c.as_slice.result.now c.loop-round._round c.args.count
-    (c.as_slice.ensures.value ∙ c.in_ok-events.ensures ∙ ap round c.plan.ensures) c.loop-round-test.true c.loop-round.invariant c.in_ok-changed.ensures.ends (c.in_ok-changed.ensures.unchanged (ap Ok c.if-not-changed.true)))
+    let old : List (Node g.row.T.Denot) = c.self.inside.places.items in
+    let new : List (Node g.row.T.Denot) = c.rounds_at.new.places in
+    let ends : EventsEnd g.T.TokenKind.kind (network_of c.self.inside.wires old) (rounds c.self.inside.wires c.args.count) c.rounds_at.result (network_of c.self.inside.wires new) = ends_as_they_are g.T.TokenKind.kind c.self.inside.wires old c.as_mut_slice.result.now new (rounds c.self.inside.wires c.args.count) c.rounds_at.result c.as_mut_slice.ensures.value c.rounds_at.ensures.ends in
+    let placed : (with_items c.self.inside.places new).items ≡ new = with_items_is c.self.inside.places new (c.rounds_at.auto.places ∙ c.as_mut_slice.ensures.len) in
+    rw (sym c.self.view_is) (inl (subst (λ ns. EventsEnd g.T.TokenKind.kind (network_of c.self.inside.wires old) (rounds c.self.inside.wires c.args.count) c.rounds_at.result (network_of c.self.inside.wires ns)) (sym placed) ends))

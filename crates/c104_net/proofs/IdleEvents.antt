@@ -1,0 +1,104 @@
+-- Events of a round whose near end isn't ready: they do nothing.
+use Rattle.std.proofs.Common.{◌≡◌, ◌<◌, ◌∙◌, ℕ, nat_lt, Bool, true, false, List, [], ◌∷◌, Option, Some, None, Result, Ok, is_some, if◌then◌else◌, length, refl, sym, ap, arith}
+use Rattle.std.proofs.lemmas.Bool.Decides.{nat_tests}
+use Rattle.c104_token.specs.Kinds.{Kind}
+use Rattle.c104_link.specs.Steps.{◌>>=◌, step_at, yield_step_at}
+use Rattle.c104_switch.specs.Actions.{Reply}
+use Rattle.c104_switch.specs.declared.actions.ReplyOf.TheVariants as reply
+use Rattle.c104_describe.specs.declared.ports.Port.{Port}
+use Rattle.c104_describe.specs.declared.ports.Port.TheVariants as port
+use Rattle.c104_describe.specs.Plans.{Plan}
+use Rattle.c104_describe.specs.Wiring.{peer, IsPlanPort}
+use Rattle.c104_event.specs.declared.events.Event.{Event}
+use Rattle.c104_event.specs.declared.events.Event.TheVariants as event
+use Rattle.c104_event.specs.declared.faults.EventFault.{EventFault}
+use Rattle.c104_event.specs.declared.faults.EventFault.TheVariants as fault
+use Rattle.c104_net.specs.Nodes.{Node, node_leave, node_credit_out, node_input, node_claim}
+use Rattle.c104_net.specs.Wires.{nodes_cross, nodes_credit}
+use Rattle.c104_net.specs.Ends.{end_of}
+use Rattle.c104_net.specs.Network.{Network, network_apply, network_step, event_fault, outcome_if_possible, outcome_if_ready, done_step, token_step, node_fault, link_fault, wire_fault, wired_fault}
+use Rattle.c104_net.specs.RoundParts.{PartEnds}
+use Rattle.c104_net.proofs.RoundRuns.{run_reply}
+
+pub none_of : {X : Type 0} (o : Option X) → is_some o ≡ false → o ≡ None
+none_of None is = refl
+none_of (Some x) is = absurd (cc is)
+
+-- a port of the plan that has a wire
+module _ (plan : Plan) where
+  there : (count : ℕ) (n : ℕ) (other : Option EventFault) → node_fault count n other ≡ None → n < count
+  there count n other is = by_test (nat_lt n count) refl is
+    where
+      by_test : (below : Bool) → nat_lt n count ≡ below → (if below then other else Some fault.NoNode) ≡ None → n < count
+      by_test true test is = grind (arith, nat_tests)
+      by_test false test is = absurd (cc is)
+
+  linked : (l : ℕ) (other : Option EventFault) → link_fault l other ≡ None → l < 32
+  linked l other is = by_test (nat_lt l 32) refl is
+    where
+      by_test : (below : Bool) → nat_lt l 32 ≡ below → (if below then other else Some fault.NoLink) ≡ None → l < 32
+      by_test true test is = grind (arith, nat_tests)
+      by_test false test is = absurd (cc is)
+
+  past_node : (count n : ℕ) (other : Option EventFault) → node_fault count n other ≡ None → other ≡ None
+  past_node count n other is = by_test (nat_lt n count) is
+    where
+      by_test : (below : Bool) → (if below then other else Some fault.NoNode) ≡ None → other ≡ None
+      by_test true is = is
+      by_test false is = absurd (cc is)
+
+  pub port_inside : (p : Port) → wired_fault plan p ≡ None → IsPlanPort plan p
+  port_inside (port.Switch s l) wired =
+      let other : Option EventFault = wire_fault (peer plan (port.Switch s l)) in
+      (there (length plan.switches) s (link_fault l other) wired, linked l other (past_node (length plan.switches) s (link_fault l other) wired))
+  port_inside (port.Terminal t) wired = there (length plan.terminals) t (wire_fault (peer plan (port.Terminal t))) wired
+
+  pub wired_inside : (p q : Port) → IsPlanPort plan p → peer plan p ≡ Some q → wired_fault plan p ≡ None
+  wired_inside (port.Switch s l) q inside is =
+      let is_switch : nat_lt s (length plan.switches) ≡ true = let below : s < length plan.switches = inside.0 in grind (arith, nat_tests) in
+      let is_link : nat_lt l 32 ≡ true = let below : l < 32 = inside.1 in grind (arith, nat_tests) in
+      rw (is_switch, is_link, is) refl
+  wired_inside (port.Terminal t) q inside is =
+      let is_terminal : nat_lt t (length plan.terminals) ≡ true = grind (arith, nat_tests) in
+      rw (is_terminal, is) refl
+
+module _ {A : Type 0} (kind : Kind A) (net : Network A) where
+  -- an event that could happen and isn't ready
+  idle_event : (e : Event) → event_fault net.plan e ≡ None → network_step kind net e ≡ None → PartEnds kind net (e ∷ []) (Ok false) net
+  idle_event e possible unready =
+      let unchanged : network_apply kind net e ≡ (Ok reply.NotReady, net) = ap (outcome_if_possible kind net e) possible ∙ ap (outcome_if_ready kind net e) unready in
+      (run_reply kind net net net [] e reply.NotReady refl (sym unchanged), λ none. refl)
+
+  pub idle_credit : (p : Port) → wired_fault net.plan p ≡ None → is_some (step_at net.nodes (end_of net.plan p).node (node_credit_out (end_of net.plan p).link)) ≡ false → PartEnds kind net (event.Credit p ∷ []) (Ok false) net
+  idle_credit p wired unready = idle_event (event.Credit p) wired (by_peer (peer net.plan p))
+    where
+      none : step_at net.nodes (end_of net.plan p).node (node_credit_out (end_of net.plan p).link) ≡ None
+      none = none_of (step_at net.nodes (end_of net.plan p).node (node_credit_out (end_of net.plan p).link)) unready
+
+      by_peer : (other : Option Port) → (other >>= (λ q. done_step kind net (nodes_credit net.nodes (end_of net.plan p) (end_of net.plan q)))) ≡ None
+      by_peer None = refl
+      by_peer (Some q) = rw none refl
+
+  pub idle_cross : (p : Port) → wired_fault net.plan p ≡ None → is_some (yield_step_at net.nodes (end_of net.plan p).node (node_leave (end_of net.plan p).link)) ≡ false → PartEnds kind net (event.Cross p ∷ []) (Ok false) net
+  idle_cross p wired unready = idle_event (event.Cross p) wired (by_peer (peer net.plan p))
+    where
+      none : yield_step_at net.nodes (end_of net.plan p).node (node_leave (end_of net.plan p).link) ≡ None
+      none = none_of (yield_step_at net.nodes (end_of net.plan p).node (node_leave (end_of net.plan p).link)) unready
+
+      by_peer : (other : Option Port) → (other >>= (λ q. token_step kind net (nodes_cross net.nodes (end_of net.plan p) (end_of net.plan q)))) ≡ None
+      by_peer None = refl
+      by_peer (Some q) = rw none refl
+
+  pub idle_turn : (s l : ℕ) → wired_fault net.plan (port.Switch s l) ≡ None → is_some (step_at net.nodes s (node_input kind l 0)) ≡ false → PartEnds kind net (event.Input s l 0 ∷ []) (Ok false) net
+  idle_turn s l wired unready =
+      let inside = port_inside net.plan (port.Switch s l) wired in
+      let is_switch : nat_lt s (length net.plan.switches) ≡ true = let below : s < length net.plan.switches = inside.0 in grind (arith, nat_tests) in
+      let is_link : nat_lt l 32 ≡ true = let below : l < 32 = inside.1 in grind (arith, nat_tests) in
+      idle_event (event.Input s l 0) (rw (is_switch, is_link) refl) (ap (done_step kind net) (none_of (step_at net.nodes s (node_input kind l 0)) unready))
+
+  pub idle_claim : (s i o : ℕ) → s < length net.plan.switches → i < 32 → o < 32 → step_at net.nodes s (node_claim i o) ≡ None → PartEnds kind net (event.Claim s i o ∷ []) (Ok false) net
+  idle_claim s i o switch input output none =
+      let is_switch : nat_lt s (length net.plan.switches) ≡ true = grind (arith, nat_tests) in
+      let is_input : nat_lt i 32 ≡ true = grind (arith, nat_tests) in
+      let is_output : nat_lt o 32 ≡ true = grind (arith, nat_tests) in
+      idle_event (event.Claim s i o) (rw (is_switch, is_input, is_output) refl) (ap (done_step kind net) none)

@@ -1,0 +1,161 @@
+//! The parts of a round: all its events of one kind. Each tells whether any of them was done.
+ghost use Rattle.std.specs.Prelude.{◌≡◌, ◌<◌, flat_map, length, map, slice_index_or};
+ghost use Rattle.c104_event.specs.declared.events.Event.TheVariants as event;
+ghost use Rattle.c104_regs.specs.declared.registers.TheConstants.{LINKS};
+ghost use Rattle.c104_net.specs.Network.{network_of};
+ghost use Rattle.c104_net.specs.Rounds.{all_claims, all_drains, claims_of, switch_claims};
+ghost use Rattle.c104_net.specs.Rounds.{turn_at, wired_ports};
+ghost use Rattle.c104_net.specs.RoundParts.{PartEnds};
+
+use super::attempts::{try_claim, try_credit, try_cross, try_drain, try_turn};
+use crate::place::Place;
+use crate::places::{next_claim_at, next_wanting_at};
+use crate::wires::Wires;
+use c104_event::{EventFault, Port};
+use c104_token::TokenKind;
+
+/// Credit of each wired port.
+pub fn credit_ports<T: TokenKind, P: Place<T>>(
+    wires: &Wires,
+    places: &mut [P],
+) -> Result<bool, EventFault>
+    ensures { PartEnds T.kind
+        (network_of wires.now (map P.state places.old)) (map event.Credit (wired_ports wires.now))
+        result (network_of wires.now (map P.state places.new)) }
+{
+    let mut changed = false;
+    let ports = wires.ports();
+    for place in 0..ports.len() {
+        let port = port_at(ports, place);
+        let done = try_credit(wires, places, port)?;
+        changed |= done;
+    }
+    Ok(changed)
+}
+
+/// A crossing from each wired port.
+pub fn cross_ports<T: TokenKind, P: Place<T>>(
+    wires: &Wires,
+    places: &mut [P],
+) -> Result<bool, EventFault>
+    ensures { PartEnds T.kind
+        (network_of wires.now (map P.state places.old)) (map event.Cross (wired_ports wires.now))
+        result (network_of wires.now (map P.state places.new)) }
+{
+    let mut changed = false;
+    let ports = wires.ports();
+    for place in 0..ports.len() {
+        let port = port_at(ports, place);
+        let done = try_cross(wires, places, port)?;
+        changed |= done;
+    }
+    Ok(changed)
+}
+
+/// A turn of each wired input.
+pub fn turn_inputs<T: TokenKind, P: Place<T>>(
+    wires: &Wires,
+    places: &mut [P],
+) -> Result<bool, EventFault>
+    ensures { PartEnds T.kind
+        (network_of wires.now (map P.state places.old)) (flat_map turn_at (wired_ports wires.now))
+        result (network_of wires.now (map P.state places.new)) }
+{
+    let mut changed = false;
+    let ports = wires.ports();
+    for place in 0..ports.len() {
+        let port = port_at(ports, place);
+        let done = try_turn(wires, places, port)?;
+        changed |= done;
+    }
+    Ok(changed)
+}
+
+/// The claims of all switches.
+pub fn claim_outputs<T: TokenKind, P: Place<T>>(
+    wires: &Wires,
+    places: &mut [P],
+) -> Result<bool, EventFault>
+    ensures { PartEnds T.kind
+        (network_of wires.now (map P.state places.old)) (all_claims (length wires.now.switches))
+        result (network_of wires.now (map P.state places.new)) }
+{
+    let mut changed = false;
+    let switches = wires.plan().switches().len();
+    for switch in 0..switches {
+        let done = claim_in_switch(wires, places, switch)?;
+        changed |= done;
+    }
+    Ok(changed)
+}
+
+/// The claims of a switch. Those of an input that wants no output are left out.
+fn claim_in_switch<T: TokenKind, P: Place<T>>(
+    wires: &Wires,
+    places: &mut [P],
+    switch: usize,
+) -> Result<bool, EventFault>
+    requires { switch < length wires.now.switches }
+    ensures { PartEnds T.kind
+        (network_of wires.now (map P.state places.old)) (switch_claims switch)
+        result (network_of wires.now (map P.state places.new)) }
+{
+    let mut changed = false;
+    let mut from = 0;
+    while let Some(input) = next_wanting_at(places, switch, from) {
+        let done = claim_for_input(wires, places, switch, input)?;
+        changed |= done;
+        from = input + 1;
+    }
+    Ok(changed)
+}
+
+/// The claims of an input. Those that it can't make are left out, and after one that is made it can
+/// make no more.
+fn claim_for_input<T: TokenKind, P: Place<T>>(
+    wires: &Wires,
+    places: &mut [P],
+    switch: usize,
+    input: usize,
+) -> Result<bool, EventFault>
+    requires switch { switch < length wires.now.switches }
+    requires input { input < LINKS }
+    ensures { PartEnds T.kind
+        (network_of wires.now (map P.state places.old)) (claims_of switch input)
+        result (network_of wires.now (map P.state places.new)) }
+{
+    let mut changed = false;
+    let mut from = 0;
+    while let Some(output) = next_claim_at(places, switch, input, from) {
+        let done = try_claim(wires, places, switch, input, output)?;
+        changed |= done;
+        from = output + 1;
+    }
+    Ok(changed)
+}
+
+/// The port at a place of a list.
+fn port_at(ports: &[Port], place: usize) -> Port
+    requires { place < length ports.now }
+    ensures { result ≡ slice_index_or ports.now place result }
+{
+    ports[place]
+}
+
+/// A token's arrival at each terminal.
+pub fn drain_terminals<T: TokenKind, P: Place<T>>(
+    wires: &Wires,
+    places: &mut [P],
+) -> Result<bool, EventFault>
+    ensures { PartEnds T.kind
+        (network_of wires.now (map P.state places.old)) (all_drains (length wires.now.terminals))
+        result (network_of wires.now (map P.state places.new)) }
+{
+    let mut changed = false;
+    let terminals = wires.plan().terminals().len();
+    for terminal in 0..terminals {
+        let done = try_drain(wires, places, terminal)?;
+        changed |= done;
+    }
+    Ok(changed)
+}
