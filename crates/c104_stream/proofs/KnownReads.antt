@@ -1,5 +1,8 @@
 -- How a reader's known bytes go to those read ahead, and from there one by one to what was taken.
-use Rattle.std.proofs.Common.{◌≡◌, ℕ, suc, ◌<◌, ◌≤◌, ◌+◌, ◌-◌, List, [], ◌∷◌, ◌++◌, Option, None, Some, length, take, drop, get_or, slice_range, sym, ap, ◌∙◌, arith, drop-cons}
+use Rattle.std.proofs.Common.{◌≡◌, ℕ, suc, ◌<◌, ◌≤◌, ◌+◌, ◌-◌, List, [], ◌∷◌, ◌++◌, Option, None, Some, length, take, drop, get_or, min, slice_range, zero, ◌==◌, sym, ap, ◌∙◌, refl, arith, drop-cons, take-append-drop}
+use Rattle.std.specs.List.{before_first}
+use Rattle.std.proofs.lemmas.List.{drop-drop, drop-take, take_min}
+use Rattle.c104_stream.specs.Reading.{piece_before}
 use Rattle.std.specs.Io.KnownBytes.{Keeps, Consumes, prepend_known}
 
 -- a piece that was read stands before what the reader has left
@@ -29,3 +32,27 @@ first_between xs start end byte some within is =
     let next : suc start ≡ start + 1 = omega arith in
     let split : drop start xs ≡ byte ∷ drop (start + 1) xs = drop-cons xs start byte inside ∙ ap (λ b. b ∷ drop (suc start) xs) (sym is) ∙ ap (λ n. byte ∷ drop n xs) next in
     ap (λ n. take n (drop start xs)) count ∙ ap (take (suc (end - (start + 1)))) split
+
+-- so is a front of a front
+front_of_front : (n m : ℕ) (xs : List ℕ) → take n (take m xs) ≡ take (length (take n (take m xs))) xs
+front_of_front zero m xs = refl
+front_of_front (suc n) zero xs = refl
+front_of_front (suc n) (suc m) [] = refl
+front_of_front (suc n) (suc m) (x ∷ xs) = ap (λ ys. x ∷ ys) (front_of_front n m xs)
+
+-- what lies between the ends, but for so many of the first
+between_after : (xs : List ℕ) (start end n : ℕ) → n ≤ end - start → drop n (slice_range xs start end) ≡ slice_range xs (start + n) end
+between_after xs start end n within =
+    let count : end - start ≡ n + (end - (start + n)) = omega (arith, within) in
+    ap (λ m. drop n (take m (drop start xs))) count ∙ drop-take n (end - (start + n)) (drop start xs) ∙ ap (take (end - (start + n))) (drop-drop n start xs)
+
+-- what stands before a byte was taken, and what lies after it stays
+pub took_before : (xs old front piece : List ℕ) (start end most byte : ℕ) → slice_range xs start end ≡ old → length old ≡ end - start → front ≡ take (min most (length old)) old → piece ≡ before_first (λ other. other == byte) front → length piece ≤ length old
+    → (piece ≡ piece_before byte most old) × (old ≡ piece ++ slice_range xs (start + length piece) end)
+took_before xs old front piece start end most byte is_old size is_front is_piece short =
+    let all : front ≡ take most old = is_front ∙ take_min most old in
+    let is : piece ≡ piece_before byte most old = is_piece ∙ ap (before_first (λ other. other == byte)) all in
+    let begins : take (length piece) old ≡ piece = ap (λ ys. take (length ys) old) is ∙ sym (front_of_front _ most old) ∙ sym is in
+    let within : length piece ≤ end - start = omega (arith, short, size) in
+    let rest : drop (length piece) old ≡ slice_range xs (start + length piece) end = ap (drop (length piece)) (sym is_old) ∙ between_after xs start end (length piece) within in
+    (is, sym (take-append-drop (length piece) old) ∙ ap (λ ys. ys ++ drop (length piece) old) begins ∙ ap (λ ys. piece ++ ys) rest)

@@ -1,11 +1,17 @@
 -- What is known of the bytes that a reader gives.
-use Rattle.std.specs.Prelude.{ℕ, ◌+◌, ◌≡◌, ◌≤◌, ◌⊎◌, List, [], ◌∷◌, ◌++◌, length, Option, Some, None, IfSome}
+use Rattle.std.specs.Prelude.{ℕ, ◌+◌, ◌==◌, ◌≡◌, ◌≤◌, ◌⊎◌, List, [], ◌∷◌, ◌++◌, length, take, Option, Some, None, IfSome}
+use Rattle.std.specs.List.{before_first}
 use Rattle.std.specs.Io.KnownBytes.{Consumes, Keeps, IsAtEnd}
 
 -- a byte was taken, or none is left
 abbrev pub GivesByte : Option (List ℕ) → Option (List ℕ) → Option ℕ → Type 0
 GivesByte old new None = Keeps old new × IsAtEnd new
 GivesByte old new (Some byte) = Consumes old new (byte ∷ [])
+
+-- what stands before the first such byte among so many of these bytes, or all of so many where none of them
+-- is such a byte
+abbrev pub piece_before : ℕ → ℕ → List ℕ → List ℕ
+piece_before byte most bytes = before_first (λ other. other == byte) (take most bytes)
 
 -- all that was left was taken; or one byte more than there may be, and then more may be lost
 abbrev pub TakesUpTo : ℕ → Option (List ℕ) → Option (List ℕ) → List ℕ → Type 0

@@ -1,7 +1,8 @@
 //! Bytes, one by one, from a reader that is asked once for each piece of them.
-ghost use Rattle.std.specs.Prelude.{◌≡◌, ◌↔◌, [], IsTrue, MatchResult, IfOk};
+ghost use Rattle.std.specs.Prelude.{◌≡◌, ◌↔◌, ◌==◌, ◌<◌, ◌≤◌, ◌++◌, [], length, position, IsTrue, MatchResult, IfOk, IfSome};
+ghost use Rattle.std.specs.List.{before_first};
 ghost use Rattle.std.specs.Io.KnownBytes.{Consumes, Keeps, IsAtEnd, prepend_known};
-ghost use Rattle.c104_stream.specs.Reading.{GivesByte, TakesUpTo};
+ghost use Rattle.c104_stream.specs.Reading.{GivesByte, TakesUpTo, piece_before};
 ghost use Rattle.c104_stream.specs.declared.reading.ReadFault.TheVariants as fault;
 
 use std::alloc::{AllocError, Global};
@@ -87,6 +88,29 @@ impl Ahead {
         Ok(Some(byte))
     }
 
+    /// Takes what was read before the first such byte, which stays, but no more than so many bytes. They
+    /// join the text. Says how many they are. The reader isn't asked. The only error is out of memory,
+    /// and then nothing is taken.
+    pub fn take_before(
+        &mut self,
+        byte: u8,
+        most: usize,
+        text: &mut Vec<u8>,
+    ) -> Result<usize, AllocError>
+        ensures { MatchResult result
+            (λ count. (count ≡ length (piece_before byte most self.old)) × (count ≤ most) ×
+            (self.old ≡ piece_before byte most self.old ++ self.new) ×
+            (text.new.items ≡ text.old.items ++ piece_before byte most self.old))
+            (λ _. self.new ≡ self.old) }
+    {
+        let ahead = &self.piece[self.start..self.end];
+        let piece = before_first(&ahead[..most.min(ahead.len())], byte);
+        text.extend_from_slice(piece)?;
+        let count = piece.len();
+        self.start += count;
+        Ok(count)
+    }
+
     /// Asks the reader for one piece, in place of what was left.
     fn read_piece<R: Read>(&mut self, reader: &mut R) -> Result<(), ReadFault>
         ensures { MatchResult result
@@ -104,6 +128,25 @@ impl Ahead {
             Err(_) => Err(ReadFault::CannotRead),
         }
     }
+}
+
+/// The bytes before the first such byte, or all where there is none.
+fn before_first(bytes: &[u8], byte: u8) -> &[u8]
+    ensures value { result.now ≡ before_first (λ other. other == byte) bytes.now }
+    ensures short { length result.now ≤ length bytes.now }
+{
+    match place_of(byte, bytes) {
+        Some(place) => &bytes[..place],
+        None => bytes,
+    }
+}
+
+/// The first place of a byte.
+fn place_of(byte: u8, bytes: &[u8]) -> Option<usize>
+    ensures place { result ≡ position (λ other. other == byte) bytes.now }
+    ensures inside { IfSome result (λ place. place < length bytes.now) }
+{
+    bytes.iter().position(|other| *other == byte)
 }
 
 /// All bytes to the end, or one more than there may be.
