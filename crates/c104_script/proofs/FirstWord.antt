@@ -1,5 +1,5 @@
 -- A line that begins with another word isn't the line `script`.
-use Rattle.std.proofs.Common.{◌≡◌, ◌∙◌, ℕ, Bool, false, List, [], ◌∷◌, bytes_eq, codes, slice_get, Some, None, refl, ap, subst}
+use Rattle.std.proofs.Common.{◌≡◌, ℕ, false, List, [], ◌∷◌, bytes_eq, codes, slice_get, Some, None, refl, subst}
 use Rattle.c104_script.specs.Parts.{is_script_word}
 
 pub no_word : (words : List (List ℕ)) → None ≡ slice_get words 0 → is_script_word words ≡ false

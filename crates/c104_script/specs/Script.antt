@@ -2,6 +2,7 @@
 -- line the fault of the least number is answered, so conditions stand in the order of the faults'
 -- numbers; but a packet's words are read from the left, after all else.
 use Rattle.std.specs.Prelude.{ℕ, ◌+◌, ◌&&◌, ◌≡◌, ◌⊎◌, Bool, List, [], ◌∷◌, ◌++◌, length, take, drop, nat_le, bytes_eq, codes, if◌then◌else◌, Option, Some, None, Result, Ok, Err}
+use Rattle.std.specs.Map.{lookup}
 use Rattle.c104_token.specs.declared.faults.TokenFault.{TokenFault}
 use Rattle.c104_token.specs.declared.faults.TokenFault.TheVariants as token_fault
 use Rattle.c104_token.specs.Text.{spelled_byte, parse_words}
@@ -21,7 +22,7 @@ use Rattle.c104_describe.specs.TextWords.{read_number, dots}
 use Rattle.c104_describe.specs.Plans.{Plan, switch_number, terminal_number}
 pub use Rattle.c104_script.specs.declared.faults.LineFault.{LineFault}
 use Rattle.c104_script.specs.declared.faults.LineFault.TheVariants as fault
-use Rattle.c104_script.specs.declared.words.Verb.{Verb}
+pub use Rattle.c104_script.specs.declared.words.Verb.{Verb}
 use Rattle.c104_script.specs.declared.words.Verb.TheVariants as verb
 pub use Rattle.c104_script.specs.declared.places.Request.{Request}
 use Rattle.c104_script.specs.declared.places.Request.TheVariants.{Asked, Refused, Rounds}
@@ -165,18 +166,22 @@ rounds_line count_word = do
   require (nat_le 1 count && nat_le count most_rounds) fault.BadNumber
   Ok (Rounds count)
 
+-- the words with which lines begin
+abbrev pub verbs : List (List ℕ × Verb)
+verbs =
+    (codes "send", verb.Send)
+    ∷ (codes "drain", verb.Drain)
+    ∷ (codes "cross", verb.Cross)
+    ∷ (codes "credit", verb.Credit)
+    ∷ (codes "input", verb.Input)
+    ∷ (codes "claim", verb.Claim)
+    ∷ (codes "control", verb.Control)
+    ∷ (codes "rounds", verb.Rounds)
+    ∷ []
+
 -- what the first word of a line asks for
 abbrev pub verb_of : List ℕ → Option Verb
-verb_of word =
-    if bytes_eq word (codes "send") then Some verb.Send
-    else (if bytes_eq word (codes "drain") then Some verb.Drain
-    else (if bytes_eq word (codes "cross") then Some verb.Cross
-    else (if bytes_eq word (codes "credit") then Some verb.Credit
-    else (if bytes_eq word (codes "input") then Some verb.Input
-    else (if bytes_eq word (codes "claim") then Some verb.Claim
-    else (if bytes_eq word (codes "control") then Some verb.Control
-    else (if bytes_eq word (codes "rounds") then Some verb.Rounds
-    else None)))))))
+verb_of word = lookup (λ known. bytes_eq known word) verbs
 
 -- a line, by what its first word asks for and the words after it
 abbrev pub verb_line : Verb → Plan → List (List ℕ) → Result Request LineFault

@@ -1,5 +1,5 @@
 -- What is printed: tokens, replies, refusals and faults.
-use Rattle.std.specs.Prelude.{ℕ, ◌/◌, ◌%◌, List, [], ◌∷◌, ◌++◌, flat_map, codes, Result, Ok, Err}
+use Rattle.std.specs.Prelude.{ℕ, ◌/◌, ◌%◌, List, [], ◌∷◌, ◌++◌, flat_map, codes}
 use Rattle.std.specs.Fmt.{decimal}
 use Rattle.c104_token.specs.declared.tokens.Token.{Token}
 use Rattle.c104_token.specs.declared.tokens.Token.TheVariants as token
@@ -7,12 +7,13 @@ use Rattle.c104_token.specs.declared.tokens.Mark.TheVariants as mark
 use Rattle.c104_token.specs.Text.{hex_digit, mark_word}
 use Rattle.c104_switch.specs.Actions.{Reply}
 use Rattle.c104_switch.specs.declared.actions.ReplyOf.TheVariants as reply
-use Rattle.c104_event.specs.declared.faults.EventFault.{EventFault}
 use Rattle.c104_event.specs.EventFaults.{event_fault_number, event_fault_name}
 use Rattle.c104_describe.specs.declared.faults.PlanFault.{PlanFault}
 use Rattle.c104_describe.specs.PlanFaults.{plan_fault_number, plan_fault_name}
 use Rattle.c104_script.specs.declared.faults.LineFault.{LineFault}
 use Rattle.c104_script.specs.declared.faults.LineFault.TheVariants as fault
+pub use Rattle.c104_script.specs.declared.answers.Answer.{Answer}
+use Rattle.c104_script.specs.declared.answers.Answer.TheVariants.{Replied, Refused, Faulty}
 
 -- the number that is printed
 abbrev pub line_fault_number : LineFault → ℕ
@@ -59,18 +60,19 @@ reply_text reply.NotReady = codes "not ready"
 reply_text (reply.Token x) = codes "token " ++ token_text x
 reply_text (reply.Control bytes) = codes "control" ++ flat_map spaced_byte bytes
 
--- what an event's answer is printed as, a refusal by its number and name
-abbrev pub answer_text : Result Reply EventFault → List ℕ
-answer_text (Ok r) = reply_text r
-answer_text (Err kind) = codes "refused " ++ (decimal (event_fault_number kind) ++ (codes " " ++ event_fault_name kind))
+-- a fault, by its number and name
+abbrev pub fault_words : ℕ → List ℕ → List ℕ
+fault_words number name = decimal number ++ (codes " " ++ name)
 
--- what a line's fault is printed as
-abbrev pub line_fault_text : LineFault → List ℕ
-line_fault_text kind = codes "fault " ++ (decimal (line_fault_number kind) ++ (codes " " ++ line_fault_name kind))
+-- what an answer is printed as: a reply, or a refusal or a line's fault by its number and name
+abbrev pub answer_text : Answer → List ℕ
+answer_text (Replied r) = reply_text r
+answer_text (Refused kind) = codes "refused " ++ fault_words (event_fault_number kind) (event_fault_name kind)
+answer_text (Faulty kind) = codes "fault " ++ fault_words (line_fault_number kind) (line_fault_name kind)
 
--- an answer's line, by the number of the line that it answers
-abbrev pub numbered_line : ℕ → List ℕ → List ℕ
-numbered_line line text = decimal line ++ (codes ": " ++ (text ++ codes "\n"))
+-- the line of an answer, by the number of the line that it answers
+abbrev pub answer_line : ℕ → Answer → List ℕ
+answer_line number answer = decimal number ++ (codes ": " ++ (answer_text answer ++ codes "\n"))
 
 -- the line of a refused description
 abbrev pub description_text : PlanFault → List ℕ

@@ -3,12 +3,14 @@
 //! A text has two parts, a description and a script; `read_first_part` reads the first. A `Request` is
 //! what a line asks of a network of a given plan: an event, so many rounds, or one of a node or a link
 //! that the plan doesn't have. It keeps numbers of nodes that were looked up in the plan. A `LineFault`
-//! is why a line asks nothing, with the number and the name that are printed.
+//! is why a line asks nothing, with the number and the name that are printed. An `Answer` is what is
+//! shown of a line: what it asked was done, or refused, or it is faulty.
 //!
-//! The grammar is a function over the list of a line's words. Nothing here acts: a network answers what
-//! was asked, and what it answered is printed by the functions whose names end in `text`.
+//! The grammar is a function over the list of a line's words: the first is looked up in one table, and has a
+//! reader of the others. Nothing here acts: a network answers what was asked, and `add_answer` prints it.
 #![tactic(auto)]
 
+mod answers;
 mod faults;
 mod lines;
 mod parts;
@@ -16,8 +18,9 @@ mod places;
 mod texts;
 mod words;
 
+pub use answers::{Answer, add_answer};
 pub use faults::LineFault;
 pub use lines::{MAX_LINE, read_line};
 pub use parts::read_first_part;
 pub use places::Request;
-pub use texts::{description_text, fault_text, numbered, refusal_text, reply_text};
+pub use texts::description_text;

@@ -1,5 +1,6 @@
 //! The words of a script's line.
-ghost use Rattle.std.specs.Prelude.{◌≡◌, ◌≤◌, [], length, map, Err, MatchResult, Ok};
+ghost use Rattle.std.specs.Prelude.{◌≡◌, ◌≤◌, [], bytes_eq, length, map, Err, MatchResult, Ok};
+ghost use Rattle.std.specs.Map.{lookup};
 ghost use Rattle.c104_script.specs.Script.{bytes_after, number_word, place_word, verb_of};
 
 use crate::faults::LineFault;
@@ -21,6 +22,18 @@ pub(crate) enum Verb {
     Rounds,
 }
 
+/// The words with which lines begin.
+const VERBS: [(&[u8], Verb); 8] = [
+    (b"send", Verb::Send),
+    (b"drain", Verb::Drain),
+    (b"cross", Verb::Cross),
+    (b"credit", Verb::Credit),
+    (b"input", Verb::Input),
+    (b"claim", Verb::Claim),
+    (b"control", Verb::Control),
+    (b"rounds", Verb::Rounds),
+];
+
 /// A node or a port as a line names it.
 #[derive(Clone, Copy)]
 pub(crate) struct PlaceWord<'a> {
@@ -30,30 +43,26 @@ pub(crate) struct PlaceWord<'a> {
     pub(crate) link: Option<u32>,
 }
 
+/// What a word asks for. None where no line begins with it.
 pub(crate) fn read_verb(word: &[u8]) -> Option<Verb>
     ensures { result ≡ verb_of word.now }
 {
-    if word == b"send".as_slice() {
-        Some(Verb::Send)
-    } else if word == b"drain".as_slice() {
-        Some(Verb::Drain)
-    } else if word == b"cross".as_slice() {
-        Some(Verb::Cross)
-    } else if word == b"credit".as_slice() {
-        Some(Verb::Credit)
-    } else if word == b"input".as_slice() {
-        Some(Verb::Input)
-    } else if word == b"claim".as_slice() {
-        Some(Verb::Claim)
-    } else if word == b"control".as_slice() {
-        Some(Verb::Control)
-    } else if word == b"rounds".as_slice() {
-        Some(Verb::Rounds)
-    } else {
-        None
-    }
+    verb_among(VERBS.as_slice(), word)
 }
 
+fn verb_among(known: &[(&[u8], Verb)], word: &[u8]) -> Option<Verb>
+    ensures { result ≡ lookup (λ text. bytes_eq text word.now)
+        (map (λ row. (row.0.now, row.1)) known.now) }
+{
+    for (text, verb) in known {
+        if *text == word {
+            return Some(*verb);
+        }
+    }
+    None
+}
+
+/// The number that a word spells.
 pub(crate) fn read_number_word(word: &[u8]) -> Result<u32, LineFault>
     ensures { result ≡ number_word word.now }
 {

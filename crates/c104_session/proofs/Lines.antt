@@ -1,6 +1,7 @@
 -- Lines, as a text grows byte by byte, and what they show.
-use Rattle.std.proofs.Common.{◌≡◌, ℕ, zero, suc, ◌+◌, ◌-◌, ◌≤◌, ◌==◌, Bool, true, false, List, [], ◌∷◌, ◌++◌, length, if◌then◌else◌, sym, ap, ◌∙◌, refl, arith}
-use mathlib.Core.List.{append_assoc}
+use Rattle.std.proofs.Common.{◌≡◌, ℕ, zero, suc, ◌+◌, ◌-◌, ◌≤◌, ◌==◌, Bool, true, false, not, cond, List, [], ◌∷◌, ◌++◌, length, take, if◌then◌else◌, sym, ap, ◌∙◌, refl, subst, arith}
+use Rattle.std.specs.List.{before_first}
+use mathlib.Core.List.{append_assoc, append-nil}
 use Rattle.c104_session.specs.declared.session.Session.{Session}
 use Rattle.c104_session.specs.Lines.{whole_lines, last_line, lines_within}
 use Rattle.c104_session.specs.Shown.{line_outcome, lines_outcome}
@@ -27,6 +28,32 @@ whole_feed front (b ∷ text) = by_test (λ lines line. lines ++ line ∷ []) (b
 pub last_feed : (front text : List ℕ) → last_line front (text ++ 10 ∷ []) ≡ []
 last_feed front [] = refl
 last_feed front (b ∷ text) = by_test (λ line x. []) (b == 10) _ _ b b b b (last_feed [] text) (last_feed (front ++ b ∷ []) text)
+
+-- bytes of which none is a line feed
+abbrev pub HasNoFeed : List ℕ → Type 0
+HasNoFeed [] = Unit {0}
+HasNoFeed (b ∷ piece) = ((b == 10) ≡ false) × HasNoFeed piece
+
+before_byte : (test : Bool) (b n : ℕ) (bytes : List ℕ) → (b == 10) ≡ test → HasNoFeed (take n bytes) → HasNoFeed (take (cond (not test) (1 + n) 0) (b ∷ bytes))
+before_byte true b n bytes is rest = tt
+before_byte false b n bytes is rest =
+    let one : suc n ≡ 1 + n = omega arith in
+    subst (λ m. HasNoFeed (take m (b ∷ bytes))) one (is, rest)
+
+pub before_feed : (bytes : List ℕ) → HasNoFeed (before_first (λ b. b == 10) bytes)
+before_feed [] = tt
+before_feed (b ∷ bytes) = before_byte (b == 10) b _ bytes refl (before_feed bytes)
+
+pub whole_piece : (front text piece : List ℕ) → HasNoFeed piece → whole_lines front (text ++ piece) ≡ whole_lines front text
+whole_piece front text [] none = ap (whole_lines front) (append-nil text)
+whole_piece front text (b ∷ piece) none =
+    ap (whole_lines front) (sym (append_assoc text (b ∷ []) piece)) ∙ whole_piece front (text ++ b ∷ []) piece none.1 ∙ whole_byte front text b none.0
+
+pub last_piece : (front text piece : List ℕ) → HasNoFeed piece → last_line front (text ++ piece) ≡ last_line front text ++ piece
+last_piece front text [] none = ap (last_line front) (append-nil text) ∙ sym (append-nil (last_line front text))
+last_piece front text (b ∷ piece) none =
+    ap (last_line front) (sym (append_assoc text (b ∷ []) piece)) ∙ last_piece front (text ++ b ∷ []) piece none.1
+    ∙ ap (λ xs. xs ++ piece) (last_byte front text b none.0) ∙ append_assoc (last_line front text) (b ∷ []) piece
 
 -- the lines of a prefix of a script, and then those of the rest
 pub lines_after : (bytes : ℕ) (front read rest : List ℕ) → length read ≤ bytes → lines_within bytes front (read ++ rest) ≡ whole_lines front read ++ lines_within (bytes - length read) (last_line front read) rest

@@ -1,19 +1,20 @@
 -- A script as it is read and answered: how far it is, and what it comes to.
-use Rattle.std.proofs.Common.{◌≡◌, ℕ, zero, suc, ◌+◌, ◌-◌, ◌<◌, ◌≤◌, ◌==◌, false, true, List, [], ◌∷◌, ◌++◌, length, nat_lt, Option, Ok, Err, sym, ap, ◌∙◌, refl, subst, arith}
+use Rattle.std.proofs.Common.{◌≡◌, ℕ, zero, suc, ◌+◌, ◌-◌, ◌<◌, ◌≤◌, ◌==◌, false, true, List, [], ◌∷◌, ◌++◌, length, nat_lt, take, Option, Some, None, Ok, Err, sym, ap, ◌∙◌, refl, subst, arith}
 use Rattle.std.proofs.lemmas.Bool.Decides.{nat_tests}
 use mathlib.Core.List.{append-nil, append_assoc}
 use Rattle.std.proofs.lemmas.List.{length-append}
-use Rattle.std.specs.Io.KnownBytes.{Appends, Consumes, Keeps}
+use Rattle.std.specs.Io.KnownBytes.{Appends, Consumes, Keeps, prepend_known}
+use Rattle.c104_stream.specs.Reading.{piece_before}
 use Rattle.c104_stream.specs.declared.halt.Halt.{Halt}
 use Rattle.c104_stream.specs.declared.halt.Halt.TheVariants as halt
 use Rattle.c104_session.specs.declared.session.Session.{Session}
-use Rattle.c104_session.specs.Lines.{whole_lines, last_line, lines_within, script_lines, most_script}
+use Rattle.c104_session.specs.Lines.{JoinsLine, whole_lines, last_line, lines_within, script_lines, most_script}
 use Rattle.c104_stream.specs.Writing.{AppendsAndKeeps, AppendsPrefix}
 use Rattle.c104_session.specs.Shown.{line_outcome, lines_outcome}
 use Rattle.c104_session.specs.Runs.{KeepsPrefix, LinesEnd, LineStops}
 use Rattle.std.proofs.KnownBytes.{Consumes-trans, Consumes-nil}
 use Rattle.c104_stream.proofs.Prefixes.{kept_next, kept_on, kept_only, kept_stops, kept_fails, prefix_longer}
-use Rattle.c104_session.proofs.Lines.{whole_byte, last_byte, whole_feed, last_feed, lines_after, shown_after, text_on, session_on}
+use Rattle.c104_session.proofs.Lines.{HasNoFeed, before_feed, whole_piece, last_piece, whole_feed, last_feed, lines_after, shown_after, text_on, session_on}
 
 -- one more line after these
 module _ (start session : Session) (lines : List (List ℕ)) (number : ℕ) (line : List ℕ) (is_number : number ≡ 1 + length lines) (is_session : session ≡ (lines_outcome 1 start lines).1) where
@@ -63,16 +64,15 @@ module _ {all now held holds : Option (List ℕ)} {kept : List ℕ} {start sessi
   pub reached_on : (wrote : Option (List ℕ)) (keeps : List ℕ) → AppendsAndKeeps holds wrote keeps kept → Reached all now held wrote keeps start session number line left
   reached_on wrote keeps on = record { read = reached.read; consumed = reached.consumed; counted = reached.counted; is_line = reached.is_line; is_number = reached.is_number; is_session = reached.is_session; wrote = kept_on held holds wrote kept keeps so_far.0 reached.wrote on; few = reached.few }
 
-  -- a byte of a line
-  pub reached_byte : (new : Option (List ℕ)) (byte : ℕ) → 0 < left → Consumes now new (byte ∷ []) → (byte ≡ 10 → ⊥) → Reached all new held holds kept start session number (line ++ byte ∷ []) (left - 1)
-  reached_byte new byte some took no_feed =
-      let other : (byte == 10) ≡ false = grind (arith, nat_tests, no_feed) in
-      let lines : whole_lines [] (reached.read ++ byte ∷ []) ≡ whole_lines [] reached.read = whole_byte [] reached.read byte other in
+  -- bytes of a line
+  pub reached_piece : (new : Option (List ℕ)) (piece : List ℕ) → length piece ≤ left → Consumes now new piece → HasNoFeed piece → Reached all new held holds kept start session number (line ++ piece) (left - length piece)
+  reached_piece new piece some took no_feed =
+      let lines : whole_lines [] (reached.read ++ piece) ≡ whole_lines [] reached.read = whole_piece [] reached.read piece no_feed in
       record {
-        read = reached.read ++ byte ∷ [];
-        consumed = Consumes-trans all now new reached.read (byte ∷ []) reached.consumed took;
-        counted = omega (arith, reached.counted, length-append reached.read (byte ∷ []));
-        is_line = ap (λ xs. xs ++ byte ∷ []) reached.is_line ∙ sym (last_byte [] reached.read byte other);
+        read = reached.read ++ piece;
+        consumed = Consumes-trans all now new reached.read piece reached.consumed took;
+        counted = omega (arith, some, reached.counted, length-append reached.read piece);
+        is_line = ap (λ xs. xs ++ piece) reached.is_line ∙ sym (last_piece [] reached.read piece no_feed);
         is_number = reached.is_number ∙ ap (λ xs. 1 + length xs) (sym lines);
         is_session = reached.is_session ∙ ap (λ xs. (lines_outcome 1 start xs).1) (sym lines);
         wrote = subst (λ xs. AppendsAndKeeps held holds kept (lines_outcome 1 start xs).0) (sym lines) reached.wrote;
@@ -152,3 +152,20 @@ module _ {all now held holds : Option (List ℕ)} {kept : List ℕ} {start sessi
         reached.is_session ∙ ap (λ xs. (lines_outcome 1 start xs).1) (sym lines),
         subst (λ text. AppendsAndKeeps held holds kept text) (ap (λ xs. (lines_outcome 1 start xs).0) (sym lines)) reached.wrote,
       )
+
+-- what was read ahead is taken from what is known of the reader
+took_ahead : (known : Option (List ℕ)) (before piece rest : List ℕ) → before ≡ piece ++ rest → Consumes (prepend_known before known) (prepend_known rest known) piece
+took_ahead None before piece rest is = tt
+took_ahead (Some text) before piece rest is = ap (λ xs. xs ++ text) is ∙ append_assoc piece rest text
+
+-- a byte joined the line, and so did what was read ahead of that line
+pub reached_bytes : {all now held holds : Option (List ℕ)} {kept line longer : List ℕ} {start session : Session} {number left byte count : ℕ} (known : Option (List ℕ)) (mid rest : List ℕ) → Reached all now held holds kept start session number line left → 0 < left → Consumes now (prepend_known mid known) (byte ∷ []) → (byte ≡ 10 → ⊥)
+    → JoinsLine byte (left - 1) mid rest line longer count → Reached all (prepend_known rest known) held holds kept start session number longer (left - 1 - count)
+reached_bytes {all} {now} {held} {holds} {kept} {line} {longer} {start} {session} {number} {left} {byte} {count} known mid rest reached some took no_feed joins =
+    let piece : List ℕ = piece_before 10 (left - 1) mid in
+    let other : (byte == 10) ≡ false = grind (arith, nat_tests, no_feed) in
+    let took_all : Consumes now (prepend_known rest known) (byte ∷ piece) = Consumes-trans now (prepend_known mid known) (prepend_known rest known) (byte ∷ []) piece took (took_ahead known mid piece rest joins.taken) in
+    let room : suc (length piece) ≤ left = omega (arith, some, joins.counted, joins.few) in
+    let same : left - suc (length piece) ≡ left - 1 - count = omega (arith, joins.counted) in
+    subst (λ n. Reached all (prepend_known rest known) held holds kept start session number longer n) same
+    (reached_text (line ++ byte ∷ piece) longer joins.joined (reached_piece reached (prepend_known rest known) (byte ∷ piece) room took_all (other, before_feed (take (left - 1) mid))))

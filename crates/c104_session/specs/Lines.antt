@@ -1,5 +1,6 @@
 -- The lines of a script that comes byte by byte.
-use Rattle.std.specs.Prelude.{ℕ, zero, suc, ◌==◌, Bool, List, [], ◌∷◌, ◌++◌, length, nat_lt, if◌then◌else◌}
+use Rattle.std.specs.Prelude.{ℕ, zero, suc, ◌==◌, ◌≡◌, ◌≤◌, Bool, List, [], ◌∷◌, ◌++◌, length, nat_lt, if◌then◌else◌}
+use Rattle.c104_stream.specs.Reading.{piece_before}
 
 -- the lines of a text that end in a line feed; front is what was read of the first
 abbrev pub whole_lines : List ℕ → List ℕ → List (List ℕ)
@@ -33,3 +34,11 @@ script_lines script = lines_within most_script [] script
 -- whether a script is too long
 abbrev pub is_long : List ℕ → Bool
 is_long script = nat_lt most_script (length script)
+
+-- a byte joined the line, and then so many bytes that were read ahead of it: those before the next line
+-- feed, but no more than most
+pub record JoinsLine (byte most : ℕ) (old new line longer : List ℕ) (count : ℕ) : Type 0 where
+  pub counted : count ≡ length (piece_before 10 most old)
+  pub few : count ≤ most
+  pub taken : old ≡ piece_before 10 most old ++ new
+  pub joined : longer ≡ line ++ byte ∷ piece_before 10 most old

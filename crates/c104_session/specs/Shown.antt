@@ -17,17 +17,15 @@ use Rattle.c104_session.specs.Lines.{script_lines, is_long}
 use Rattle.c104_script.specs.Script.{read_script_line}
 use Rattle.c104_script.specs.declared.faults.LineFault.{LineFault}
 use Rattle.c104_script.specs.declared.places.Request.{Request}
-use Rattle.c104_script.specs.declared.places.Request.TheVariants.{Asked, Refused, Rounds}
+use Rattle.c104_script.specs.declared.places.Request.TheVariants as ask
+use Rattle.c104_script.specs.declared.answers.Answer.TheVariants.{Replied, Refused, Faulty}
 use Rattle.c104_session.specs.declared.session.Session.{Session}
-use Rattle.c104_script.specs.Texts.{token_text, answer_text, line_fault_text, numbered_line, description_text, script_too_long}
+use Rattle.c104_script.specs.declared.answers.Answer.{Answer}
+use Rattle.c104_script.specs.Texts.{token_text, answer_line, description_text, script_too_long}
 
 -- a network of this plan with its own image, before the first line
 abbrev pub new_session : Plan → Session
 new_session plan = record { net = placed_network plan (hand_image plan); faulty = false }
-
--- what an event shows, and the run after it
-abbrev pub event_outcome : ℕ → Bool → Result Reply EventFault × Network Token → List ℕ × Session
-event_outcome line faulty r = (numbered_line line (answer_text r.0), record { net = r.1; faulty = faulty })
 
 -- what rounds answer: that they are done, or the refusal of the event that they stopped at
 abbrev pub rounds_answer : Result (Unit {0}) EventFault → Result Reply EventFault
@@ -38,21 +36,39 @@ rounds_answer (Err kind) = Err kind
 abbrev pub rounds_outcome : Network Token → ℕ → Result Reply EventFault × Network Token
 rounds_outcome net count = let r = run_until plain_kind net (rounds net.plan count) in (rounds_answer r.0, r.1)
 
--- what a request shows, and the run after it
-abbrev pub request_outcome : ℕ → Session → Request → List ℕ × Session
-request_outcome line session (Asked event) = event_outcome line session.faulty (network_apply plain_kind session.net event)
-request_outcome line session (Rounds count) = event_outcome line session.faulty (rounds_outcome session.net count)
-request_outcome line session (Refused kind) = (numbered_line line (answer_text (Err kind)), session)
+-- what answers an event: the reply, or the refusal
+abbrev pub event_answer : Result Reply EventFault → Answer
+event_answer (Ok r) = Replied r
+event_answer (Err kind) = Refused kind
 
--- a line without words shows nothing; a faulty one changes nothing but that there was one
-abbrev pub line_request_outcome : ℕ → Session → Result (Option Request) LineFault → List ℕ × Session
-line_request_outcome line session (Ok None) = ([], session)
-line_request_outcome line session (Ok (Some request)) = request_outcome line session request
-line_request_outcome line session (Err kind) = (numbered_line line (line_fault_text kind), record { net = session.net; faulty = true })
+-- what answers a request that a network did, and the run after it
+abbrev pub answer_after : Bool → Result Reply EventFault × Network Token → Answer × Session
+answer_after faulty r = (event_answer r.0, record { net = r.1; faulty = faulty })
+
+-- what answers a request, and the run after it
+abbrev pub request_answer : Session → Request → Answer × Session
+request_answer session (ask.Asked event) = answer_after session.faulty (network_apply plain_kind session.net event)
+request_answer session (ask.Rounds count) = answer_after session.faulty (rounds_outcome session.net count)
+request_answer session (ask.Refused kind) = (Refused kind, session)
+
+-- a line without words has no answer; a faulty one changes nothing but that there was one
+abbrev pub answer_of_read : Session → Result (Option Request) LineFault → Option Answer × Session
+answer_of_read session (Ok None) = (None, session)
+answer_of_read session (Ok (Some request)) = let r = request_answer session request in (Some r.0, r.1)
+answer_of_read session (Err kind) = (Some (Faulty kind), record { net = session.net; faulty = true })
+
+-- what answers a line, and the run after it
+unfoldable pub line_answer : Session → List ℕ → Option Answer × Session
+line_answer session text = answer_of_read session (read_script_line session.net.plan text)
+
+-- what is shown of a line of this number: the line of its answer, if it has one
+abbrev pub shown : ℕ → Option Answer → List ℕ
+shown number None = []
+shown number (Some answer) = answer_line number answer
 
 -- what a line of this number shows, and the run after it
 unfoldable pub line_outcome : ℕ → Session → List ℕ → List ℕ × Session
-line_outcome line session text = line_request_outcome line session (read_script_line session.net.plan text)
+line_outcome number session text = let r = line_answer session text in (shown number r.0, r.1)
 
 -- what these lines show, the first of which has this number, and the run after them
 abbrev pub lines_outcome : ℕ → Session → List (List ℕ) → List ℕ × Session

@@ -1,11 +1,13 @@
 //! A script, read and answered line by line.
-ghost use Rattle.std.specs.Prelude.{◌≡◌, [], ◌∷◌, ◌++◌, MatchResult, OnOk};
+ghost use Rattle.std.specs.Prelude.{◌≡◌, [], IfOk, MatchResult};
 ghost use Rattle.std.specs.Io.KnownBytes.{prepend_known};
 ghost use Rattle.c104_stream.specs.Reading.{GivesByte};
 ghost use Rattle.c104_stream.specs.Writing.{AppendsAndKeeps};
+ghost use Rattle.c104_session.specs.Lines.{JoinsLine};
 ghost use Rattle.c104_session.specs.Runs.{AnswersLine, AnswersLines, AnswersScript, LineStops, ReadStops};
 
 use crate::session::Session;
+use c104_script::add_answer;
 use c104_stream::{Ahead, Halt, Kept};
 use c104_token::NoMemory;
 use std::alloc::Global;
@@ -51,26 +53,51 @@ fn answer_lines<S: Read, W: Write>(
         (S.remaining script.new) (W.contents writer.old) (W.contents writer.new) kept.new session.new result }
 {
     let mut line = Vec::new(alloc);
+    let mut answer = Vec::new(alloc);
     let mut number = 1;
     let mut left = MAX_SCRIPT;
     while left > 0 {
         let Some(byte) = next_byte(ahead, script, kept, writer)? else {
-            answer_line(alloc, session, number, line.as_slice(), kept, writer)?;
+            answer_line(
+                alloc,
+                session,
+                number,
+                line.as_slice(),
+                &mut answer,
+                kept,
+                writer,
+            )?;
             return Ok(false);
         };
+        left -= 1;
         if byte == b'\n' {
-            answer_line(alloc, session, number, line.as_slice(), kept, writer)?;
+            answer_line(
+                alloc,
+                session,
+                number,
+                line.as_slice(),
+                &mut answer,
+                kept,
+                writer,
+            )?;
             line.clear();
             number += 1;
         } else {
-            add_byte(&mut line, byte)?;
+            left -= add_bytes(ahead, &mut line, byte, left)?;
         }
-        left -= 1;
     }
     match next_byte(ahead, script, kept, writer)? {
         Some(_) => Ok(true),
         None => {
-            answer_line(alloc, session, number, line.as_slice(), kept, writer)?;
+            answer_line(
+                alloc,
+                session,
+                number,
+                line.as_slice(),
+                &mut answer,
+                kept,
+                writer,
+            )?;
             Ok(false)
         }
     }
@@ -97,12 +124,14 @@ fn next_byte<S: Read, W: Write>(
     Ok(next)
 }
 
-/// Does what a line asks. The line that answers it joins what is kept.
+/// Does what a line asks. The line that answers it joins what is kept; the text is where it is printed.
+#[tactic(auto, unfolding(crate::specs::Shown::line_outcome))]
 fn answer_line<W: Write>(
     alloc: Global,
     session: &mut Session,
     number: usize,
     line: &[u8],
+    text: &mut Vec<u8>,
     kept: &mut Kept,
     writer: &mut W,
 ) -> Result<(), Halt>
@@ -112,15 +141,25 @@ fn answer_line<W: Write>(
         (λ halt. LineStops session.old number line.now
         (W.contents writer.old) (W.contents writer.new) kept.old kept.new halt) }
 {
-    let text = session.answer(alloc, number, line)?;
-    kept.add(writer, text.as_bytes())?;
+    text.clear();
+    if let Some(answer) = session.answer(alloc, line)? {
+        add_answer(number, &answer, text)?;
+    }
+    kept.add(writer, text.as_slice())?;
     Ok(())
 }
 
-/// The byte joins the line. The only error is out of memory.
-fn add_byte(line: &mut Vec<u8>, byte: u8) -> Result<(), NoMemory>
-    ensures { OnOk result (line.new.items ≡ line.old.items ++ byte ∷ []) }
+/// A byte joins the line, and so does what is read ahead of that line, but no more than so many bytes. Says
+/// how many joined after the first. The only error is out of memory.
+fn add_bytes(
+    ahead: &mut Ahead,
+    line: &mut Vec<u8>,
+    byte: u8,
+    most: usize,
+) -> Result<usize, NoMemory>
+    ensures { IfOk result (λ count. JoinsLine byte most ahead.old ahead.new line.old.items line.new.items count) }
 {
     line.push(byte)?;
-    Ok(())
+    let count = ahead.take_before(b'\n', most, line)?;
+    Ok(count)
 }

@@ -1,6 +1,5 @@
 //! A run of a network, line by line.
-ghost use Rattle.std.specs.Prelude.{◌≡◌, ◌⊎◌, ℕ, List, Result, Err, IfOk};
-ghost use Rattle.std.specs.String.{string_bytes};
+ghost use Rattle.std.specs.Prelude.{◌≡◌, ◌⊎◌, Option, Result, Err, IfOk};
 ghost use Rattle.c104_token.specs.declared.tokens.Token.{Token};
 ghost use Rattle.c104_switch.specs.Actions.{Reply as TheReply};
 ghost use Rattle.c104_event.specs.declared.faults.EventFault.{EventFault as TheFault};
@@ -8,13 +7,14 @@ ghost use Rattle.c104_event.specs.declared.faults.EventFault.TheVariants as faul
 ghost use Rattle.c104_net.specs.Finished.{network_finish};
 ghost use Rattle.c104_describe.specs.PlanImage.{hand_image};
 ghost use Rattle.c104_net.specs.Network.{Network};
-ghost use Rattle.c104_session.specs.Shown.{new_session, line_outcome, request_outcome, rounds_outcome};
+ghost use Rattle.c104_script.specs.declared.answers.Answer.{Answer as TheAnswer};
+ghost use Rattle.c104_session.specs.Shown.{new_session, line_answer, request_answer, rounds_outcome};
 ghost use Rattle.c104_session.specs.declared.session.Session.{Session as TheSession};
 
 use c104_describe::{Plan, hand_image};
 use c104_event::EventFault;
 use c104_net::{Net, PlaceFault, Run};
-use c104_script::{LineFault, Request, fault_text, numbered, read_line, refusal_text, reply_text};
+use c104_script::{Answer, LineFault, Request, read_line};
 use c104_switch::Reply;
 use c104_token::NoMemory;
 use std::alloc::Global;
@@ -62,46 +62,42 @@ impl Session {
         }
     }
 
-    /// Does what a line asks and gives the line that answers it, or no text where it asks nothing.
-    /// The only error is out of memory; an event may be done by then.
-    #[tactic(auto, unfolding(crate::specs::Shown::line_outcome))]
-    pub fn answer(&mut self, alloc: Global, number: usize, line: &[u8]) -> Result<String, NoMemory>
-        ensures { IfOk result (λ text. ◌≡◌ {A = List ℕ × TheSession}
-            (string_bytes text, self.new) (line_outcome number self.old line.now)) }
+    /// Does what a line asks. None where it asks nothing. The only error is out of memory; an event may
+    /// be done by then.
+    #[tactic(auto, unfolding(crate::specs::Shown::line_answer))]
+    pub fn answer(&mut self, alloc: Global, line: &[u8]) -> Result<Option<Answer>, NoMemory>
+        ensures { IfOk result (λ answer. ◌≡◌ {A = Option TheAnswer × TheSession}
+            (answer, self.new) (line_answer self.old line.now)) }
     {
         match read_line(alloc, self.net.plan(), line) {
-            Ok(None) => Ok(String::new(alloc)),
-            Ok(Some(request)) => self.answer_request(alloc, number, &request),
+            Ok(None) => Ok(None),
+            Ok(Some(request)) => {
+                let answer = self.answer_request(alloc, &request)?;
+                Ok(Some(answer))
+            }
             Err(LineFault::NoMemory) => Err(NoMemory),
             Err(fault) => {
                 self.faulty = true;
-                let text = fault_text(alloc, fault)?;
-                Ok(numbered(alloc, number, text.as_str())?)
+                Ok(Some(Answer::Faulty(fault)))
             }
         }
     }
 
-    /// Does what a line asks and gives the line that answers it.
-    fn answer_request(
-        &mut self,
-        alloc: Global,
-        number: usize,
-        request: &Request,
-    ) -> Result<String, NoMemory>
-        ensures { IfOk result (λ text. ◌≡◌ {A = List ℕ × TheSession}
-            (string_bytes text, self.new) (request_outcome number self.old request.now)) }
+    /// Does what a request says.
+    fn answer_request(&mut self, alloc: Global, request: &Request) -> Result<Answer, NoMemory>
+        ensures { IfOk result (λ answer. ◌≡◌ {A = TheAnswer × TheSession}
+            (answer, self.new) (request_answer self.old request.now)) }
     {
-        let answer = match request {
+        let done = match request {
             Request::Asked(event) => self.net.apply(event),
             Request::Rounds(count) => do_rounds(&mut self.net, *count),
             Request::Refused(fault) => Err(*fault),
         };
-        let text = match answer {
-            Ok(reply) => reply_text(alloc, reply)?,
-            Err(EventFault::NoMemory) => return Err(NoMemory),
-            Err(fault) => refusal_text(alloc, fault)?,
-        };
-        Ok(numbered(alloc, number, text.as_str())?)
+        match done {
+            Ok(reply) => Ok(Answer::Replied(reply)),
+            Err(EventFault::NoMemory) => Err(NoMemory),
+            Err(fault) => Ok(Answer::Refused(fault)),
+        }
     }
 }
 

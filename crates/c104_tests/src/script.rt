@@ -1,10 +1,18 @@
 use c104_control::ControlBytes;
 use c104_describe::{PlanFault, PlanFaultKind};
 use c104_event::EventFault;
-use c104_script::{LineFault, description_text, fault_text, numbered, refusal_text, reply_text};
+use c104_script::{Answer, LineFault, add_answer, description_text};
 use c104_switch::Reply;
 use c104_token::Token;
+use std::alloc::Global;
 use std::test::Fail;
+
+/// Whether a script's tenth line is answered so. Nothing is promised: the prover would compute the text.
+fn is_tenth(alloc: Global, answer: &Answer, line: &str) -> Result<bool, Fail> {
+    let mut text = Vec::new(alloc);
+    add_answer(10, answer, &mut text)?;
+    Ok(text.as_slice() == line.as_bytes())
+}
 
 /// What is printed of each faulty line, and what is told of it.
 #[test]
@@ -12,46 +20,46 @@ fn faulty_lines(rt: HostRuntime) -> Result<(), Fail> {
     for (fault, text, message) in [
         (
             LineFault::LineTooLong,
-            "fault 1 LineTooLong",
+            "10: fault 1 LineTooLong\n",
             "a line has at most 16384 bytes",
         ),
         (
             LineFault::UnknownWord,
-            "fault 2 UnknownWord",
+            "10: fault 2 UnknownWord\n",
             "the first word is not one that a script has",
         ),
         (
             LineFault::BadShape,
-            "fault 3 BadShape",
+            "10: fault 3 BadShape\n",
             "the line has a wrong byte or a wrong count of words, or a second dot",
         ),
         (
             LineFault::BadNumber,
-            "fault 4 BadNumber",
+            "10: fault 4 BadNumber\n",
             "a number is 1 to 7 decimal digits",
         ),
         (
             LineFault::BadHex,
-            "fault 5 BadHex",
+            "10: fault 5 BadHex\n",
             "a word is neither two hexadecimal digits nor `eop` or `eom`",
         ),
         (
             LineFault::NoEnd,
-            "fault 6 NoEnd",
+            "10: fault 6 NoEnd\n",
             "the packet has no end: `eop` or `eom` is wanted",
         ),
         (
             LineFault::AfterEnd,
-            "fault 7 AfterEnd",
+            "10: fault 7 AfterEnd\n",
             "a word follows the packet's end",
         ),
         (
             LineFault::PacketTooLong,
-            "fault 8 PacketTooLong",
+            "10: fault 8 PacketTooLong\n",
             "the packet has more than 4096 bytes",
         ),
     ] {
-        assert!(rt; fault_text(rt.alloc(), fault)?.as_str() == text);
+        assert!(rt; is_tenth(rt.alloc(), &Answer::Faulty(fault), text)?);
         let found = format!(in rt.alloc(); "{fault}")?;
         assert!(rt; found.as_str() == message);
     }
@@ -60,34 +68,39 @@ fn faulty_lines(rt: HostRuntime) -> Result<(), Fail> {
     Ok(())
 }
 
-/// What is printed of each reply and of each refused event.
+/// What is printed of each reply.
 #[test]
-fn answers(rt: HostRuntime) -> Result<(), Fail> {
-    for (answer, text) in [
-        (Ok(Reply::Done), "done"),
-        (Ok(Reply::NotReady), "not ready"),
-        (Ok(Reply::Token(Token::Byte(0x0a))), "token 0a"),
-        (Ok(Reply::Token(Token::Eop)), "token eop"),
-        (Ok(Reply::Token(Token::Eom)), "token eom"),
+fn replies(rt: HostRuntime) -> Result<(), Fail> {
+    for (reply, line) in [
+        (Reply::Done, "10: done\n"),
+        (Reply::NotReady, "10: not ready\n"),
+        (Reply::Token(Token::Byte(0x0a)), "10: token 0a\n"),
+        (Reply::Token(Token::Eop), "10: token eop\n"),
+        (Reply::Token(Token::Eom), "10: token eom\n"),
         (
-            Ok(Reply::Control(ControlBytes::new(&[0x84, 0x04, 0xc1, 0, 0]))),
-            "control 84 04 c1 00 00",
+            Reply::Control(ControlBytes::new(&[0x84, 0x04, 0xc1, 0, 0])),
+            "10: control 84 04 c1 00 00\n",
         ),
-        (Err(EventFault::NoNode), "refused 1 NoNode"),
-        (Err(EventFault::NoLink), "refused 2 NoLink"),
-        (Err(EventFault::NotWired), "refused 3 NotWired"),
-        (Err(EventFault::TooLong), "refused 4 TooLong"),
-        (Err(EventFault::OutboxFull), "refused 5 OutboxFull"),
-        (Err(EventFault::InboxFull), "refused 6 InboxFull"),
-        (Err(EventFault::NoMemory), "refused 8 NoMemory"),
     ] {
-        let found = match answer {
-            Ok(reply) => reply_text(rt.alloc(), reply)?,
-            Err(fault) => refusal_text(rt.alloc(), fault)?,
-        };
-        assert!(rt; found.as_str() == text);
+        assert!(rt; is_tenth(rt.alloc(), &Answer::Replied(reply), line)?);
     }
-    assert!(rt; numbered(rt.alloc(), 10, "done")?.as_str() == "10: done\n");
+    Ok(())
+}
+
+/// What is printed of each refused event.
+#[test]
+fn refusals(rt: HostRuntime) -> Result<(), Fail> {
+    for (fault, line) in [
+        (EventFault::NoNode, "10: refused 1 NoNode\n"),
+        (EventFault::NoLink, "10: refused 2 NoLink\n"),
+        (EventFault::NotWired, "10: refused 3 NotWired\n"),
+        (EventFault::TooLong, "10: refused 4 TooLong\n"),
+        (EventFault::OutboxFull, "10: refused 5 OutboxFull\n"),
+        (EventFault::InboxFull, "10: refused 6 InboxFull\n"),
+        (EventFault::NoMemory, "10: refused 8 NoMemory\n"),
+    ] {
+        assert!(rt; is_tenth(rt.alloc(), &Answer::Refused(fault), line)?);
+    }
     Ok(())
 }
 

@@ -1,8 +1,7 @@
 use Rattle.std.proofs.Common.{arith}
 use Rattle.c104_session.proofs.ScriptEnds.{err_is, read_halts, byte_halts, line_halts, last_halts, script_ends, script_is_long}
-use Rattle.c104_session.proofs.ScriptSoFar.{reached_byte, reached_line, reached_on, reached_text}
+use Rattle.c104_session.proofs.ScriptSoFar.{reached_bytes, reached_line, reached_on, reached_text}
 use Rattle.c104_session.proofs.answering.answer_lines.Goals as goal
-use Rattle.c104_session.proofs.answering.answer_lines.Goals.{then-byte-eq10+in_ok-answer_line-2, else-byte-eq10+in_ok-add_byte}
 
 pub returns-in_err-byte : goal.returns-in_err-byte
 returns-in_err-byte g c =
@@ -25,22 +24,21 @@ returns-in_err-answer_line-2 g c =
     rw (err_is _ _ c.from_residual-in_err-answer_line-2.ensures)
     (line_halts _ _ _ _ _ _ _ _ _ _ _ _ _ _ _ c.in_err-answer_line-2.field-0.0 (reached_text _ _ c.as_slice-then-byte-eq10.ensures.value (reached_on c.loop-left.invariant _ _ c.in_ok-byte.ensures.1)) (omega arith) took c.in_err-answer_line-2.ensures)
 
-pub returns-in_err-add_byte : goal.returns-in_err-add_byte
-returns-in_err-add_byte g c =
-    rw (err_is _ _ c.from_residual-in_err-add_byte.ensures)
+pub returns-in_err-left : goal.returns-in_err-left
+returns-in_err-left g c =
+    rw (err_is _ _ c.from_residual-in_err-left.ensures)
     (byte_halts _ _ _ _ _ _ _ _ _ _ _ (reached_on c.loop-left.invariant _ _ c.in_ok-byte.ensures.1))
 
+pub loop-left-preserved-then-byte-eq10 : goal.loop-left-preserved-then-byte-eq10
+loop-left-preserved-then-byte-eq10 g c =
+    let took = rw (c.in-Some.is, c.if-byte-eq10.true) at c.in_ok-byte.ensures.0 in
+    let a = reached_line (reached_text _ _ c.as_slice-then-byte-eq10.ensures.value (reached_on c.loop-left.invariant _ _ c.in_ok-byte.ensures.1)) _ _ _ _ (omega arith) took c.in_ok-answer_line-2.ensures.0 c.in_ok-answer_line-2.ensures.1 in
+    rw (c.clear.ensures.items) a
+
 pub loop-left-preserved : goal.loop-left-preserved
-loop-left-preserved g c = elim c.if-byte-eq10.branch [
-  | then-byte-eq10+in_ok-answer_line-2 w ↦
-      let took = rw (c.in-Some.is, w.if-byte-eq10.true) at c.in_ok-byte.ensures.0 in
-      rw (w.session-is, w.writer-is, w.kept-is, w.line-is, w.number-is, w.clear.ensures.items)
-      (reached_line (reached_text _ _ w.as_slice-then-byte-eq10.ensures.value (reached_on c.loop-left.invariant _ _ c.in_ok-byte.ensures.1)) _ _ _ _ (omega arith) took w.in_ok-answer_line-2.ensures.0 w.in_ok-answer_line-2.ensures.1)
-  | else-byte-eq10+in_ok-add_byte w ↦
-      let took = rw c.in-Some.is at c.in_ok-byte.ensures.0 in
-      rw (w.session-is, w.writer-is, w.kept-is, w.line-is, w.number-is, w.in_ok-add_byte.ensures)
-      (reached_byte (reached_on c.loop-left.invariant _ _ c.in_ok-byte.ensures.1) _ c.in-Some.byte (omega arith) took w.if-byte-eq10.false)
-]
+loop-left-preserved g c =
+    let took = rw c.in-Some.is at c.in_ok-byte.ensures.0 in
+    reached_bytes _ _ _ (reached_on c.loop-left.invariant _ _ c.in_ok-byte.ensures.1) (omega arith) took c.if-byte-eq10.false c.in_ok-left.ensures
 
 pub returns-in_err-next_byte : goal.returns-in_err-next_byte
 returns-in_err-next_byte g c =

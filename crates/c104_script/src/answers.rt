@@ -1,0 +1,109 @@
+//! What answers a line, and how it is printed.
+ghost use Rattle.std.specs.Prelude.{◌≡◌, ◌++◌, OnOk, decimal};
+ghost use Rattle.c104_switch.specs.declared.actions.ReplyOf.TheVariants as reply;
+ghost use Rattle.c104_script.specs.Texts.{answer_line, byte_text, fault_words, reply_text};
+
+use crate::faults::LineFault;
+use c104_control::ControlBytes;
+use c104_event::EventFault;
+use c104_switch::Reply;
+use c104_token::{NoMemory, Token, digit_of};
+use itoa::Buffer;
+
+/// What answers a line of a script.
+#[derive(Debug, Drop)]
+pub enum Answer {
+    /// What was asked is done or isn't ready, or this is what it gave.
+    Replied(Reply),
+    /// What was asked is refused.
+    Refused(EventFault),
+    /// The line is faulty, and asks nothing.
+    Faulty(LineFault),
+}
+
+/// The line that answers a line of this number joins the text. The only error is out of memory.
+pub fn add_answer(number: usize, answer: &Answer, text: &mut Vec<u8>) -> Result<(), NoMemory>
+    ensures { OnOk result (text.new.items ≡ text.old.items ++ answer_line number answer.now) }
+{
+    add_number(number, text)?;
+    text.extend_from_slice(b": ")?;
+    match answer {
+        Answer::Replied(reply) => add_reply(reply, text)?,
+        Answer::Refused(fault) => {
+            text.extend_from_slice(b"refused ")?;
+            add_fault(fault.number(), fault.name(), text)?;
+        }
+        Answer::Faulty(fault) => {
+            text.extend_from_slice(b"fault ")?;
+            add_fault(fault.number(), fault.name(), text)?;
+        }
+    }
+    text.push(b'\n')?;
+    Ok(())
+}
+
+/// A number joins the text, in decimal digits.
+fn add_number(number: usize, text: &mut Vec<u8>) -> Result<(), NoMemory>
+    ensures { OnOk result (text.new.items ≡ text.old.items ++ decimal number) }
+{
+    let mut digits = Buffer::new();
+    text.extend_from_slice(digits.format(number).as_bytes())?;
+    Ok(())
+}
+
+/// A fault's number and name join the text.
+fn add_fault(number: u8, name: &str, text: &mut Vec<u8>) -> Result<(), NoMemory>
+    ensures { OnOk result (text.new.items ≡ text.old.items ++ fault_words number name.now) }
+{
+    add_number(usize::from(number), text)?;
+    text.push(b' ')?;
+    text.extend_from_slice(name.as_bytes())?;
+    Ok(())
+}
+
+/// A reply to an event joins the text.
+fn add_reply(reply: &Reply, text: &mut Vec<u8>) -> Result<(), NoMemory>
+    ensures { OnOk result (text.new.items ≡ text.old.items ++ reply_text reply.now) }
+{
+    match reply {
+        Reply::Done => text.extend_from_slice(b"done")?,
+        Reply::NotReady => text.extend_from_slice(b"not ready")?,
+        Reply::Token(token) => add_token(*token, text)?,
+        Reply::Control(bytes) => add_control(bytes, text)?,
+    }
+    Ok(())
+}
+
+/// A token that moved joins the text.
+fn add_token(token: Token, text: &mut Vec<u8>) -> Result<(), NoMemory>
+    ensures { OnOk result (text.new.items ≡ text.old.items ++ reply_text (reply.Token token)) }
+{
+    text.extend_from_slice(b"token ")?;
+    match token {
+        Token::Byte(byte) => add_byte(byte, text)?,
+        Token::Eop => text.extend_from_slice(b"eop")?,
+        Token::Eom => text.extend_from_slice(b"eom")?,
+    }
+    Ok(())
+}
+
+/// The bytes that a switch replied to a command join the text.
+fn add_control(bytes: &ControlBytes, text: &mut Vec<u8>) -> Result<(), NoMemory>
+    ensures { OnOk result (text.new.items ≡ text.old.items ++ reply_text (reply.Control bytes.now)) }
+{
+    text.extend_from_slice(b"control")?;
+    for byte in bytes.as_slice() {
+        text.push(b' ')?;
+        add_byte(*byte, text)?;
+    }
+    Ok(())
+}
+
+/// The two hexadecimal digits of a byte join the text.
+fn add_byte(byte: u8, text: &mut Vec<u8>) -> Result<(), NoMemory>
+    ensures { OnOk result (text.new.items ≡ text.old.items ++ byte_text byte) }
+{
+    text.push(digit_of(byte / 16) as u8)?;
+    text.push(digit_of(byte % 16) as u8)?;
+    Ok(())
+}
