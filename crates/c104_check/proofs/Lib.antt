@@ -1,5 +1,6 @@
 pub mod TrailLemmas
 pub mod RouteLemmas
+pub mod RunLemmas
 pub mod WalkLemmas
 pub mod ShownLemmas
 pub mod Walked

@@ -1,5 +1,5 @@
 -- What the tables of a network's routes hold.
-use Rattle.std.proofs.Common.{◌≡◌, ◌↔◌, ℕ, ◌<◌, ◌+◌, ◌*◌, ◌&&◌, nat_lt, Bool, true, false, IsTrue, List, [], ◌∷◌, ◌++◌, length, map, take, slice_get, slice_index_or, option_map, Option, Some, None, refl, sym, ap, subst, ◌∙◌, arith}
+use Rattle.std.proofs.Common.{◌≡◌, ◌↔◌, ℕ, ◌<◌, ◌≤◌, ◌+◌, ◌*◌, ◌&&◌, nat_lt, Bool, true, false, IsTrue, List, [], ◌∷◌, ◌++◌, length, map, take, slice_get, slice_index_or, option_map, Option, Some, None, refl, sym, ap, subst, ◌∙◌, arith}
 use Rattle.std.proofs.lemmas.List.{length-map, take_more}
 use Rattle.std.proofs.lemmas.List.FromFn.{get_or-map-range_with_len, length-map-range_with_len}
 use Rattle.std.proofs.lemmas.Option.{get_or_from_slice_get, slice_get-get_or, slice_get-map, slice_get_read, slice_get_within}
@@ -13,11 +13,12 @@ use Rattle.c104_regs.proofs.ContinueLemmas.{bit-continues_at, bit_at-continue_bi
 use Rattle.c104_describe.specs.declared.ports.Port.{Port}
 use Rattle.c104_check.specs.Checks.{DeletesInside, HasLarge, IsMixed, Meet}
 use Rattle.c104_check.specs.Routes.{Routes, SwitchPort, has_label, header_count, length_at, length_or_one, link_peers, link_settings, or_no_settings, place, port_at, select, settings_at, settings_in, to_port}
-use Rattle.c104_check.specs.Trails.{IsInput, IsNetwork, between}
-use Rattle.c104_check.specs.Walks.{peers_that, ways, ways_of}
+use Rattle.c104_check.specs.Trails.{AreWays, IsInput, IsNetwork}
+use Rattle.c104_check.specs.Walks.{peers_that, ways_of}
 use Rattle.c104_check.proofs.LinkLemmas.{at_place, place_below}
 use Rattle.c104_check.proofs.RangeLemmas.{is_large, large_is, owns_has}
 use Rattle.c104_check.proofs.RouteLemmas.{is_input}
+use Rattle.c104_check.proofs.RunLemmas.{between, run_is}
 
 pub peers_length : (far : Port → Option Port) (n : ℕ) → length (link_peers far n) ≡ n * 32
 peers_length far n = length-map-range_with_len (λ k. far (to_port (port_at k))) 0 (n * 32)
@@ -64,13 +65,17 @@ word_read all words s w are below is =
     word_given w (slice_get all s) (sym (slice_get-map continue_bits all s) ∙ ap (λ xs. slice_get xs s) (sym are) ∙ at)
 
 -- the links of a group, by the word
-pub ways_link : (routes : Routes) (h g word first last : ℕ) (p : SwitchPort) → select routes p.switch p.link h ≡ Some (Link g) → word ≡ continue_bits (settings_at routes p.switch) → AreMembers (has_bit word) g first last → ways routes h p ≡ Some (peers_that routes p.switch (between first last) 0 32)
-ways_link routes h g word first last p at is members =
+pub ways_link : (routes : Routes) (h g word first last : ℕ) (p : SwitchPort) → select routes p.switch p.link h ≡ Some (Link g) → word ≡ continue_bits (settings_at routes p.switch) → AreMembers (has_bit word) g first last → first ≤ last → last < 32 → AreWays routes h p first last
+ways_link routes h g word first last p at is members order below =
     let xs = settings_at routes p.switch in
     let bit : (l : ℕ) → has_bit word l ≡ continues_at xs l = λ l. bit-continues_at xs word (λ k. ap (λ w. bit_at w k) is ∙ bit_at-continue_bits xs k) l in
     let tests : has_bit word ≡ continues_at xs = λ i l. bit l i in
     let same : group_contains (continues_at xs) g ≡ between first last = λ i o. (ap (λ f. group_contains f g o) (sym tests) ∙ members o) i in
-    ap (ways_of routes p.switch) at ∙ ap (λ test. Some (peers_that routes p.switch test 0 32)) same
+    record {
+      in_order = order;
+      below = below;
+      are = ap (ways_of routes p.switch) at ∙ ap (λ test. Some (peers_that routes p.switch test 0 32)) same ∙ ap Some (run_is routes p.switch first last below order);
+    }
 
 -- Labels, over what is read of the ranges
 

@@ -1,23 +1,24 @@
 -- The steps of a walk in code.
-use Rattle.std.proofs.Common.{◌≡◌, ℕ, suc, ◌<◌, ◌+◌, ◌*◌, ◌-◌, ◌⊎◌, inl, inr, Bool, true, false, ◌||◌, List, [], ◌∷◌, ◌++◌, length, slice_index_or, slice_set, take, replicate, if◌then◌else◌, Option, Some, None, refl, sym, ap, subst, ◌∙◌, arith}
+use Rattle.std.proofs.Common.{◌≡◌, ℕ, suc, ◌<◌, ◌≤◌, ◌+◌, ◌*◌, ◌-◌, ◌==◌, ◌⊎◌, inl, inr, Bool, true, false, ◌||◌, List, [], ◌∷◌, ◌++◌, length, slice_index_or, slice_set, take, replicate, if◌then◌else◌, Option, Some, None, refl, sym, ap, subst, ◌∙◌, arith}
 use Rattle.std.proofs.lemmas.Bool.{cases_eq, cases_lt, cases_Bool, eq-eqb}
-use Rattle.std.proofs.lemmas.Bool.Decides.{eqb_tells}
 use Rattle.std.proofs.lemmas.Grind.{get_or-set_at}
 use Rattle.std.proofs.lemmas.List.{get_or-replicate, get_or_past, get_or-set_other, length-append, length-replicate, length-set}
 use Rattle.std.proofs.Math.Seq.{take-append_seam}
 use Rattle.c104_describe.specs.declared.ports.Port.{Port}
 use Rattle.c104_describe.specs.declared.ports.Port.TheVariants as port
-use Rattle.c104_check.specs.declared.faults.WalkFault.TheVariants.{WrongEnd, Loop}
+use Rattle.c104_check.specs.declared.faults.WalkFault.TheVariants.{WrongEnd, DeadEnd, Loop}
 use Rattle.c104_check.specs.declared.walks.Halt.{Halt}
 use Rattle.c104_check.specs.declared.walks.Halt.TheVariants.{Fault, NoMemory}
 use Rattle.c104_check.specs.declared.walks.Mark.{Mark}
 use Rattle.c104_check.specs.declared.walks.Mark.TheVariants.{New, Met, Good}
-use Rattle.c104_check.specs.Routes.{Leads, Routes, SwitchPort, place, select}
+use Rattle.c104_check.specs.declared.walks.Way.TheVariants.{Home, On, Astray}
+use Rattle.c104_check.specs.Routes.{Leads, Routes, SwitchPort, place, select, to_port}
 use Rattle.c104_check.specs.Shown.{Follows}
-use Rattle.c104_check.specs.Trails.{IsInput, IsNetwork, IsTrail}
-use Rattle.c104_check.specs.Walking.{AreGood, IsHalt, IsStep, TellMet, fault_from, fault_on, mark_at, tells_met}
-use Rattle.c104_check.specs.Walks.{Found, WalkFault, at_peer, at_peers, at_ways, first_fault, first_of, is_met, is_port, peers_that, port_of, ways}
-use Rattle.c104_check.proofs.RouteLemmas.{IsAmong, peers_step, range_among, ways_leave}
+use Rattle.c104_check.specs.Trails.{AreWays, IsInput, IsNetwork, IsTrail, run_peers}
+use Rattle.c104_check.specs.Walking.{AreGood, IsHalt, IsStep, TellMet, fault_from, fault_on, mark_at, tells_met, way_of}
+use Rattle.c104_check.specs.Walks.{Found, WalkFault, at_peer, at_peers, at_ways, first_fault, first_of, is_met, is_port, port_of, ways}
+use Rattle.c104_check.proofs.RouteLemmas.{IsAmong, ways_leave}
+use Rattle.c104_check.proofs.RunLemmas.{run_among}
 use Rattle.c104_check.proofs.TrailLemmas.{is_port-true, trail_room}
 use Rattle.c104_check.proofs.WalkLemmas.{Leads-from, clear}
 
@@ -53,51 +54,66 @@ good_clear routes h t walk p net here trail leads =
 pub clear_good : (routes : Routes) (h t : ℕ) (walk : List SwitchPort) (p : SwitchPort) → IsNetwork routes → fault_from routes h t walk p ≡ None → (k : ℕ) × Leads routes h t k p.switch p.link
 clear_good routes h t walk p net is = (32 * length routes.settings + 1 - length walk, Leads-from routes h t net (32 * length routes.settings + 1 - length walk) walk p is)
 
--- what is still to be found at the links from one on
-abbrev pub pending : Routes → ℕ → ℕ → ℕ → (ℕ → Bool) → List SwitchPort → ℕ → Found
-pending routes h t s test walk link = at_peers (further routes h t walk) t walk (peers_that routes s test link (32 - link))
+-- what is still to be found at the links from one on, before an end
+abbrev pub pending : Routes → ℕ → ℕ → ℕ → List SwitchPort → ℕ → ℕ → Found
+pending routes h t s walk end link = at_peers (further routes h t walk) t walk (run_peers routes s link (end - link))
 
-module _ (routes : Routes) (h t s : ℕ) (test : ℕ → Bool) (walk : List SwitchPort) (link : ℕ) (below : link < 32) where
-  pub pending_skip : test link ≡ false → pending routes h t s test walk link ≡ pending routes h t s test walk (link + 1)
-  pending_skip is =
-      let count : 32 - link ≡ suc (32 - (link + 1)) = omega (arith, below) in
-      ap (λ n. at_peers (further routes h t walk) t walk (peers_that routes s test link n)) count
-      ∙ ap (at_peers (further routes h t walk) t walk) (peers_step routes s link (32 - (link + 1)) test false is)
-
-  pub pending_next : test link ≡ true → pending routes h t s test walk link ≡ first_of (at_peer (further routes h t walk) t walk (routes.peer (port.Switch s link))) (pending routes h t s test walk (link + 1))
-  pending_next is =
-      let count : 32 - link ≡ suc (32 - (link + 1)) = omega (arith, below) in
-      ap (λ n. at_peers (further routes h t walk) t walk (peers_that routes s test link n)) count
-      ∙ ap (at_peers (further routes h t walk) t walk) (peers_step routes s link (32 - (link + 1)) test true is)
+module _ (routes : Routes) (h t s : ℕ) (walk : List SwitchPort) (end link : ℕ) (below : link < end) where
+  pending_next : pending routes h t s walk end link ≡ first_of (at_peer (further routes h t walk) t walk (routes.peer (port.Switch s link))) (pending routes h t s walk end (link + 1))
+  pending_next =
+      let count : end - link ≡ suc (end - (link + 1)) = omega (arith, below) in
+      ap (λ n. at_peers (further routes h t walk) t walk (run_peers routes s link n)) count
 
   -- a link that shows a fault, and one that shows none
-  pub stops : (p : SwitchPort) (e : Option Port) (f : WalkFault × List SwitchPort) → test link ≡ true → routes.peer (port.Switch s link) ≡ e → pending routes h t s test walk link ≡ fault_from routes h t walk p → at_peer (further routes h t walk) t walk e ≡ Some f → fault_from routes h t walk p ≡ Some f
-  stops p e f tested here rest is =
+  pub stops : (p : SwitchPort) (e : Option Port) (f : WalkFault × List SwitchPort) → routes.peer (port.Switch s link) ≡ e → pending routes h t s walk end link ≡ fault_from routes h t walk p → at_peer (further routes h t walk) t walk e ≡ Some f → fault_from routes h t walk p ≡ Some f
+  stops p e f here rest is =
       let found : at_peer (further routes h t walk) t walk (routes.peer (port.Switch s link)) ≡ Some f = ap (at_peer (further routes h t walk) t walk) here ∙ is in
-      sym rest ∙ pending_next tested ∙ ap (λ x. first_of x (pending routes h t s test walk (link + 1))) found
+      sym rest ∙ pending_next ∙ ap (λ x. first_of x (pending routes h t s walk end (link + 1))) found
 
-  pub goes_on : (p : SwitchPort) (e : Option Port) → test link ≡ true → routes.peer (port.Switch s link) ≡ e → pending routes h t s test walk link ≡ fault_from routes h t walk p → at_peer (further routes h t walk) t walk e ≡ None → pending routes h t s test walk (link + 1) ≡ fault_from routes h t walk p
-  goes_on p e tested here rest is =
+  pub goes_on : (p : SwitchPort) (e : Option Port) → routes.peer (port.Switch s link) ≡ e → pending routes h t s walk end link ≡ fault_from routes h t walk p → at_peer (further routes h t walk) t walk e ≡ None → pending routes h t s walk end (link + 1) ≡ fault_from routes h t walk p
+  goes_on p e here rest is =
       let found : at_peer (further routes h t walk) t walk (routes.peer (port.Switch s link)) ≡ None = ap (at_peer (further routes h t walk) t walk) here ∙ is in
-      sym (pending_next tested ∙ ap (λ x. first_of x (pending routes h t s test walk (link + 1))) found) ∙ rest
+      sym (pending_next ∙ ap (λ x. first_of x (pending routes h t s walk end (link + 1))) found) ∙ rest
 
-pub pending_end : (routes : Routes) (h t s : ℕ) (test : ℕ → Bool) (walk : List SwitchPort) (link : ℕ) (p : SwitchPort) → link ≡ 32 → pending routes h t s test walk link ≡ fault_from routes h t walk p → fault_from routes h t walk p ≡ None
-pending_end routes h t s test walk link p is rest = sym rest ∙ ap (λ n. pending routes h t s test walk n) is
+pub pending_end : (routes : Routes) (h t s : ℕ) (walk : List SwitchPort) (end link : ℕ) (p : SwitchPort) → end ≤ link → pending routes h t s walk end link ≡ fault_from routes h t walk p → fault_from routes h t walk p ≡ None
+pending_end routes h t s walk end link p past rest =
+    let none : end - link ≡ 0 = omega (arith, past) in
+    sym rest ∙ ap (λ n. at_peers (further routes h t walk) t walk (run_peers routes s link n)) none
 
--- terminals
-pub at_wrong : (further : List SwitchPort → SwitchPort → Found) (t u : ℕ) (walk : List SwitchPort) → (u ≡ t → ⊥) → at_peer further t walk (Some (port.Terminal u)) ≡ Some (WrongEnd, walk)
-at_wrong further t u walk other =
-    elim (eqb_tells u t) [
-      | inl same ↦ absurd (other same.1)
-      | inr differ ↦ rw differ.0 refl
-    ]
+-- Where a link leads
 
-pub at_right : (further : List SwitchPort → SwitchPort → Found) (t u : ℕ) (walk : List SwitchPort) → u ≡ t → at_peer further t walk (Some (port.Terminal u)) ≡ None
-at_right further t u walk is =
-    elim (eqb_tells u t) [
-      | inl same ↦ rw same.0 refl
-      | inr differ ↦ absurd (differ.1 is)
-    ]
+abbrev found_at : WalkFault → List SwitchPort → Found
+found_at why walk = Some (why, walk)
+
+terminal_stops : (walk : List SwitchPort) (why : WalkFault) (b : Bool) → (if b then Home else Astray WrongEnd) ≡ Astray why → (if b then None else found_at WrongEnd walk) ≡ found_at why walk
+terminal_stops walk why true is = absurd cc
+terminal_stops walk why false is = let same : WrongEnd ≡ why = cc in ap (λ f. found_at f walk) same
+
+pub way_stops : (further : List SwitchPort → SwitchPort → Found) (t : ℕ) (walk : List SwitchPort) (e : Option Port) (why : WalkFault) → way_of t e ≡ Astray why → at_peer further t walk e ≡ Some (why, walk)
+way_stops further t walk None why is = let same : DeadEnd ≡ why = cc in ap (λ f. found_at f walk) same
+way_stops further t walk (Some (port.Terminal u)) why is = terminal_stops walk why (u == t) is
+way_stops further t walk (Some (port.Switch s i)) why is = absurd cc
+
+terminal_home : (walk : List SwitchPort) (b : Bool) → (if b then Home else Astray WrongEnd) ≡ Home → (if b then None else found_at WrongEnd walk) ≡ None
+terminal_home walk true is = refl
+terminal_home walk false is = absurd cc
+
+pub way_home : (further : List SwitchPort → SwitchPort → Found) (t : ℕ) (walk : List SwitchPort) (e : Option Port) → way_of t e ≡ Home → at_peer further t walk e ≡ None
+way_home further t walk None is = absurd cc
+way_home further t walk (Some (port.Terminal u)) is = terminal_home walk (u == t) is
+way_home further t walk (Some (port.Switch s i)) is = absurd cc
+
+terminal_on : (q : SwitchPort) (b : Bool) → (if b then Home else Astray WrongEnd) ≡ On q → ⊥
+terminal_on q true is = cc
+terminal_on q false is = cc
+
+port_same : (s i : ℕ) (q : SwitchPort) → On (port_of s i) ≡ On q → port_of s i ≡ q
+port_same s i q is = cc
+
+pub way_on : (t : ℕ) (e : Option Port) (q : SwitchPort) → way_of t e ≡ On q → e ≡ Some (to_port q)
+way_on t None q is = absurd cc
+way_on t (Some (port.Terminal u)) q is = absurd (terminal_on q (u == t) is)
+way_on t (Some (port.Switch s i)) q is = ap (λ x. Some (to_port x)) (port_same s i q is)
 
 -- a walk that couldn't go on
 pub step_halts : (routes : Routes) (h t : ℕ) (walk new : List SwitchPort) (q : SwitchPort) (mark : Mark) (halt : Halt) → IsStep mark q halt walk new → tells_met mark ≡ is_met q walk → IsHalt halt (fault_on routes h t walk q) new
@@ -216,8 +232,8 @@ pub trail_of : (routes : Routes) (h : ℕ) (walk w : List SwitchPort) (p : Switc
 trail_of routes h walk w p trail new is = subst (λ x. IsTrail routes h x p) (sym is) (trail new)
 
 -- a link of the group leads to an input
-pub follows_by : (routes : Routes) (h link : ℕ) (p q : SwitchPort) (test : ℕ → Bool) → ways routes h p ≡ Some (peers_that routes p.switch test 0 32) → link < 32 → test link ≡ true → routes.peer (port.Switch p.switch link) ≡ Some (port.Switch q.switch q.link) → Follows routes h p q
-follows_by routes h link p q test at below tested leads = ways_leave routes h p (peers_that routes p.switch test 0 32) (Some (port.Switch q.switch q.link)) (select routes p.switch p.link h) refl at (subst (λ e. IsAmong e (peers_that routes p.switch test 0 32)) leads (range_among routes p.switch link test tested 32 0 (omega arith) (omega (arith, below))))
+pub follows_by : (routes : Routes) (h link first last : ℕ) (p q : SwitchPort) → AreWays routes h p first last → first ≤ link → link < last + 1 → routes.peer (port.Switch p.switch link) ≡ Some (port.Switch q.switch q.link) → Follows routes h p q
+follows_by routes h link first last p q ways low high leads = ways_leave routes h p (run_peers routes p.switch first (last + 1 - first)) (Some (port.Switch q.switch q.link)) (select routes p.switch p.link h) refl ways.are (subst (λ e. IsAmong e (run_peers routes p.switch first (last + 1 - first))) leads (run_among routes p.switch link (last + 1 - first) first low (omega (arith, low, high))))
 
 pub marks_length : (marks : List Mark) (k : ℕ) (m : Mark) → length (slice_set marks k m) ≡ length marks
 marks_length marks k m = length-set marks k m

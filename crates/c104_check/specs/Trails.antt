@@ -1,14 +1,15 @@
 -- What is known of a walk while it is walked.
-use Rattle.std.specs.Prelude.{◌≡◌, ℕ, zero, suc, ◌<◌, ◌≤◌, ◌&&◌, Bool, nat_le, List, length, slice_get, Some}
-use Rattle.std.specs.List.{AllByRecursion, IsDistinct}
+use Rattle.std.specs.Prelude.{◌≡◌, ℕ, zero, suc, ◌+◌, ◌-◌, ◌<◌, ◌≤◌, List, length, map, slice_get, Option, Some}
+use Rattle.std.specs.List.{AllByRecursion, IsDistinct, range_with_len}
 use Rattle.c104_regs.specs.declared.registers.TheConstants.{LINKS}
 use Rattle.c104_regs.specs.declared.settings.Settings.{Settings}
 use Rattle.c104_describe.specs.declared.ports.Port.{Port}
+use Rattle.c104_describe.specs.declared.ports.Port.TheVariants as port
 use Rattle.c104_describe.specs.Plans.{Plan, most_switches}
 use Rattle.c104_describe.specs.PlanImage.{AreSettings, Image}
 use Rattle.c104_check.specs.Routes.{IsEntryOf, Routes, SwitchPort, routes_of, to_port}
 use Rattle.c104_check.specs.Shown.{Follows}
-use Rattle.c104_check.specs.Walks.{is_port}
+use Rattle.c104_check.specs.Walks.{is_port, ways}
 
 -- a plan and an image that are checked, and what of them decides where packets go
 pub record Checked : Type 0 where
@@ -22,9 +23,15 @@ routes_in checked = routes_of checked.plan checked.image
 abbrev pub IsInput : ℕ → SwitchPort → Type 0
 IsInput n p = (p.switch < n) × (p.link < LINKS)
 
--- a run of links
-abbrev pub between : ℕ → ℕ → ℕ → Bool
-between first last o = nat_le first o && nat_le o last
+-- what a run of so many links from one on is wired to
+abbrev pub run_peers : Routes → ℕ → ℕ → ℕ → List (Option Port)
+run_peers routes s from count = map (λ o. routes.peer (port.Switch s o)) (range_with_len from count)
+
+-- header h selects the links from one to another at input p, none of them past the switch's last
+pub record AreWays (routes : Routes) (h : ℕ) (p : SwitchPort) (first last : ℕ) : Type 0 where
+  pub in_order : first ≤ last
+  pub below : last < LINKS
+  pub are : ways routes h p ≡ Some (run_peers routes p.switch first (last + 1 - first))
 
 -- wires lead to inputs of the network, what is set is within its ranges, and each terminal has an entry
 pub record IsNetwork (routes : Routes) : Type 0 where

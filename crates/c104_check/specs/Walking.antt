@@ -1,13 +1,17 @@
 -- What walking on answers.
-use Rattle.std.specs.Prelude.{◌≡◌, ℕ, ◌+◌, ◌*◌, ◌-◌, Bool, true, false, List, [], ◌∷◌, ◌++◌, length, slice_index_or, Some, if◌then◌else◌}
-use Rattle.c104_check.specs.declared.faults.WalkFault.TheVariants.{Loop}
+use Rattle.std.specs.Prelude.{◌≡◌, ℕ, ◌+◌, ◌*◌, ◌-◌, ◌==◌, Bool, true, false, List, [], ◌∷◌, ◌++◌, length, slice_index_or, Option, Some, None, if◌then◌else◌}
+use Rattle.c104_describe.specs.declared.ports.Port.{Port}
+use Rattle.c104_describe.specs.declared.ports.Port.TheVariants as port
+use Rattle.c104_check.specs.declared.faults.WalkFault.TheVariants.{WrongEnd, DeadEnd, Loop}
 use Rattle.c104_check.specs.declared.walks.Halt.{Halt}
 use Rattle.c104_check.specs.declared.walks.Halt.TheVariants.{Fault, NoMemory}
 use Rattle.c104_check.specs.declared.walks.Mark.{Mark}
 use Rattle.c104_check.specs.declared.walks.Mark.TheVariants.{New, Met, Good}
+use Rattle.c104_check.specs.declared.walks.Way.{Way}
+use Rattle.c104_check.specs.declared.walks.Way.TheVariants.{Home, On, Astray}
 use Rattle.c104_check.specs.Routes.{Leads, Routes, SwitchPort, place}
 use Rattle.c104_check.specs.Trails.{IsInput}
-use Rattle.c104_check.specs.Walks.{Found, first_fault, is_met}
+use Rattle.c104_check.specs.Walks.{Found, first_fault, is_met, port_of}
 
 -- the first fault from the last input of a walk that meets no input twice
 abbrev pub fault_from : Routes → ℕ → ℕ → List SwitchPort → SwitchPort → Found
@@ -17,6 +21,12 @@ fault_from routes h t walk p = first_fault routes h t (32 * length routes.settin
 abbrev pub fault_on : Routes → ℕ → ℕ → List SwitchPort → SwitchPort → Found
 fault_on routes h t walk p =
     if is_met p walk then Some (Loop, walk ++ (p ∷ [])) else fault_from routes h t (walk ++ (p ∷ [])) p
+
+-- where a link leads a header that terminal t owns, by what it is wired to
+abbrev pub way_of : ℕ → Option Port → Way
+way_of t None = Astray DeadEnd
+way_of t (Some (port.Terminal u)) = if u == t then Home else Astray WrongEnd
+way_of t (Some (port.Switch s i)) = On (port_of s i)
 
 abbrev pub mark_at : List Mark → SwitchPort → Mark
 mark_at marks p = slice_index_or marks (place p) New

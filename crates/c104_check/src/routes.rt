@@ -55,9 +55,8 @@ impl<'a> Routes<'a> {
     ghost use Rattle.std.specs.Prelude.{◌≡◌, ◌<◌, length, nat_le, ◌&&◌, IfOk, MatchOption, None, Some};
     ghost use Rattle.c104_describe.specs.PlanImage.{Fits};
     ghost use Rattle.c104_check.specs.Routes.{IsEntryOf, header_count, link_settings, owner, routes_of, select, to_port};
-    ghost use Rattle.c104_check.specs.Trails.{IsInput, IsNetwork, between, routes_in};
-    ghost use Rattle.c104_check.specs.Walks.{peers_that, ways};
-    ghost use Rattle.c104_regs.specs.declared.registers.TheConstants.{LINKS as THE_LINKS};
+    ghost use Rattle.c104_check.specs.Trails.{AreWays, IsInput, IsNetwork, routes_in};
+    ghost use Rattle.c104_check.specs.Walks.{ways};
 
     /// What decides in a network of this plan and image.
     pub(crate) fn new(
@@ -145,8 +144,7 @@ impl<'a> Routes<'a> {
     pub(crate) fn group(&self, header: u32, at: SwitchPort) -> Option<Group>
         requires { IsInput (length (routes_in self.now).settings) at }
         ensures { MatchOption result (ways (routes_in self.now) header at ≡ None)
-            (λ group. ways (routes_in self.now) header at
-            ≡ Some (peers_that (routes_in self.now) at.switch (between group.first group.last) 0 THE_LINKS)) }
+            (λ group. AreWays (routes_in self.now) header at group.first group.last) }
     {
         match self.select(header, at) {
             Select::Link(link) => Some(Group::of(self.continues[at.switch], usize::from(link))),

@@ -3,14 +3,13 @@ ghost use Rattle.std.specs.Prelude.{◌≡◌, ◌+◌, ◌*◌, ◌<◌, ◌++�
 ghost use Rattle.c104_regs.specs.declared.registers.TheConstants.{LINKS};
 ghost use Rattle.c104_check.specs.Routes.{SwitchPort as ThePort};
 ghost use Rattle.c104_check.specs.Trails.{IsInput, IsNetwork, IsTrail, routes_in};
-ghost use Rattle.c104_check.specs.Walking.{AreGood, IsHalt, IsStep, TellMet, fault_on, tells_met};
+ghost use Rattle.c104_check.specs.Walking.{AreGood, IsHalt, IsStep, TellMet, fault_on, tells_met, way_of};
 ghost use Rattle.c104_check.specs.Walks.{is_met};
 
 use crate::faults::WalkFault;
 use crate::ports::SwitchPort;
 use crate::routes::Routes;
 use c104_describe::Port;
-use c104_regs::LINKS;
 
 /// Why a walk stops.
 #[derive(Clone, Copy, Debug)]
@@ -30,6 +29,17 @@ pub(crate) enum Mark {
     Met,
     /// The header leads from it to its owner.
     Good,
+}
+
+/// Where a link leads a header.
+#[derive(Clone, Copy, Debug)]
+enum Way {
+    /// To its owner.
+    Home,
+    /// To an input.
+    On(SwitchPort),
+    /// Nowhere, or to a terminal that doesn't own it.
+    Astray(WalkFault),
 }
 
 impl<'a> Routes<'a> {
@@ -70,23 +80,17 @@ impl<'a> Routes<'a> {
             None => return Err(Halt::Fault(WalkFault::DeadEnd)),
             Some(group) => group,
         };
-        for link in 0..LINKS {
-            if group.contains(link) {
-                match self.peer(SwitchPort {
-                    switch: at.switch,
-                    link,
-                }) {
-                    None => return Err(Halt::Fault(WalkFault::DeadEnd)),
-                    Some(Port::Terminal(terminal)) => {
-                        if terminal != owner {
-                            return Err(Halt::Fault(WalkFault::WrongEnd));
-                        }
-                    }
-                    Some(Port::Switch(switch, link)) => {
-                        let next = SwitchPort { switch, link };
-                        if let Err(halt) = self.walk_on(header, owner, next, walk, marks) {
-                            return Err(halt);
-                        }
+        for link in group.first..group.last + 1 {
+            let peer = self.peer(SwitchPort {
+                switch: at.switch,
+                link,
+            });
+            match way_of(peer, owner) {
+                Way::Astray(fault) => return Err(Halt::Fault(fault)),
+                Way::Home => (),
+                Way::On(next) => {
+                    if let Err(halt) = self.walk_on(header, owner, next, walk, marks) {
+                        return Err(halt);
                     }
                 }
             }
@@ -94,6 +98,23 @@ impl<'a> Routes<'a> {
         shorten(walk);
         marks[at.place()] = Mark::Good;
         Ok(())
+    }
+}
+
+/// Where a link leads a header with this owner, by what the link is wired to.
+fn way_of(peer: Option<Port>, owner: usize) -> Way
+    ensures { result ≡ way_of owner peer }
+{
+    match peer {
+        None => Way::Astray(WalkFault::DeadEnd),
+        Some(Port::Terminal(terminal)) => {
+            if terminal == owner {
+                Way::Home
+            } else {
+                Way::Astray(WalkFault::WrongEnd)
+            }
+        }
+        Some(Port::Switch(switch, link)) => Way::On(SwitchPort { switch, link }),
     }
 }
 

@@ -1,5 +1,5 @@
 use Rattle.std.proofs.Common.{◌≡◌, ◌+◌, ◌*◌, ◌-◌, length}
-use Rattle.c104_check.specs.Trails.{between, routes_in}
+use Rattle.c104_check.specs.Trails.{routes_in}
 use Rattle.c104_check.specs.Walking.{AreGood, TellMet, fault_from}
 use Rattle.c104_check.proofs.Walked.{pending}
 use Rattle.c104_check.proofs.routes.Routes.+walk_on.Given as goal
@@ -13,5 +13,5 @@ invariant-loop-link l = record {
   kept : l.walk.items ≡ l.initial.walk.items;
   good : AreGood (routes_in l.self) l.header l.owner l.marks;
   met : TellMet (routes_in l.self) l.marks l.walk.items;
-  rest : pending (routes_in l.self) l.header l.owner l.at.switch (between l.group.first l.group.last) l.walk.items l.link ≡ fault_from (routes_in l.self) l.header l.owner l.walk.items l.at;
+  rest : pending (routes_in l.self) l.header l.owner l.at.switch l.walk.items l.link-end l.link ≡ fault_from (routes_in l.self) l.header l.owner l.walk.items l.at;
 }

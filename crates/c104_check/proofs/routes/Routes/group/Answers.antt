@@ -19,4 +19,6 @@ returns-in-Link c =
     let word : c.index.result.now ≡ continue_bits (settings_at (routes_in c.args.self.now) c.args.at.switch) =
     subst (λ (x : Checked). c.index.result.now ≡ continue_bits (settings_at (routes_in x) c.args.at.switch)) c.self.view_is
     (word_read c.self.inside.image.now.settings c.self.inside.continues.items c.args.at.switch c.index.result.now c.self.invariant.2 here.0 c.index.ensures) in
-    ways_link (routes_in c.args.self.now) c.args.header c.from.result c.index.result.now c.of.result.first c.of.result.last c.args.at (c.select.ensures ∙ ap Some c.in-Link.is ∙ ap (λ g. Some (Link g)) (sym c.from.ensures)) word c.of.ensures.members
+    let low = c.of.ensures.group.from_first in
+    let high = c.of.ensures.group.to_last in
+    ways_link (routes_in c.args.self.now) c.args.header c.from.result c.index.result.now c.of.result.first c.of.result.last c.args.at (c.select.ensures ∙ ap Some c.in-Link.is ∙ ap (λ g. Some (Link g)) (sym c.from.ensures)) word c.of.ensures.members (omega (arith, low, high)) c.of.ensures.group.below
