@@ -10,6 +10,9 @@ const ABOUT: &str = "Emulates networks of IMS C104 packet routing switches, even
 
 const ABOUT_RUN: &str = "Runs a script on the network of a description, and shows what arrived";
 
+const ABOUT_CHECK: &str =
+    "Checks the labels of a description: whether each header comes to its owner";
+
 const TEACHING: &str = "A run has two inputs, which are text:
 
   The description says of what the network consists, a part on each line:
@@ -26,10 +29,11 @@ only word is `script`, and then the script. `c104` alone is `c104 run`.
 Examples:
   c104 run network.txt events.txt     a description and a script from two files
   c104 < examples/first-network.txt   both in one text
+  c104 check network.txt              whether its packets can go astray
 
 Exit status:
   0  done, also where an event was refused
-  1  the description, or a line of the script, was refused
+  1  the description, its labels or a line of the script was refused
   2  the command line is wrong
   3  a file can't be opened or read, or the output can't be written
   4  no memory";
@@ -37,6 +41,12 @@ Exit status:
 const TEACHING_RUN: &str =
     "Without DESC and SCRIPT both are read from standard input as one text: the
 description, a line whose only word is `script`, and then the script.";
+
+const TEACHING_CHECK: &str =
+    "The labels of a terminal are the headers that are to come to it, from every
+terminal and by any choice of a link in a group; a header that is no label is to
+be dropped where it comes in. Prints `accepted`, or the first fault, with the
+header, the terminal that it comes from, and the inputs on its way.";
 
 /// What the command line asks for. A path is a file's, or `-` for standard input.
 #[derive(Clone, Copy)]
@@ -50,6 +60,11 @@ pub enum Order<'a> {
         /// The script's path.
         script: &'a str,
     },
+    /// A check of a description's labels.
+    Check {
+        /// The description's path.
+        description: &'a str,
+    },
 }
 
 impl<'a> Order<'a> {
@@ -60,17 +75,23 @@ impl<'a> Order<'a> {
         Ok(Order::of_matches(&matches))
     }
 
-    /// The order of words that were matched: no command, or the only one there is.
+    /// The order of words that were matched: no command, or one of those that there are.
     fn of_matches(matches: &ArgMatches<'a>) -> Self {
-        let Some((_run, given)) = matches.subcommand() else {
+        let Some((command, given)) = matches.subcommand() else {
             return Order::RunText;
         };
-        match (given.get_str(DESCRIPTION), given.get_str(SCRIPT)) {
-            (Some(description), Some(script)) => Order::RunFiles {
+        let Some(description) = given.get_str(DESCRIPTION) else {
+            return Order::RunText;
+        };
+        if command == CHECK {
+            return Order::Check { description };
+        }
+        match given.get_str(SCRIPT) {
+            Some(script) => Order::RunFiles {
                 description,
                 script,
             },
-            _ => Order::RunText,
+            None => Order::RunText,
         }
     }
 
@@ -79,16 +100,24 @@ impl<'a> Order<'a> {
     pub fn path(self, number: u8) -> &'a str {
         match self {
             Order::RunText => STANDARD_INPUT,
+            Order::Check { description } => description,
             Order::RunFiles { description, .. } if number == 0 => description,
             Order::RunFiles { script, .. } => script,
         }
     }
 }
 
+/// The names of commands.
+const RUN: &str = "run";
+
+const CHECK: &str = "check";
+
 /// The names of arguments, as help shows them.
 const DESCRIPTION: &str = "DESC";
 
 const SCRIPT: &str = "SCRIPT";
+
+const DESCRIPTION_HELP: &str = "The description: a file, or - for standard input";
 
 /// All that the program takes. The only error is out of memory.
 fn command_line<'a>(alloc: Global) -> Result<Command<'a>, AllocError> {
@@ -97,19 +126,31 @@ fn command_line<'a>(alloc: Global) -> Result<Command<'a>, AllocError> {
         .version(VERSION)
         .about(ABOUT)
         .after_help(TEACHING)
-        .subcommand(run_command(alloc)?)?;
+        .subcommand(run_command(alloc)?)?
+        .subcommand(check_command(alloc)?)?;
     Ok(command)
 }
 
 /// `run [DESC SCRIPT]`: neither of the two stands without the other.
 fn run_command<'a>(alloc: Global) -> Result<Command<'a>, AllocError> {
     let description = Arg::new(alloc, DESCRIPTION)
-        .help("The description: a file, or - for standard input")
+        .help(DESCRIPTION_HELP)
         .requires_arg(SCRIPT)?;
     let script = Arg::new(alloc, SCRIPT).help("The script: a file, or - for standard input");
-    Command::new(alloc, "run")
+    Command::new(alloc, RUN)
         .about(ABOUT_RUN)
         .after_help(TEACHING_RUN)
         .arg(description)?
         .arg(script)
+}
+
+/// `check DESC`.
+fn check_command<'a>(alloc: Global) -> Result<Command<'a>, AllocError> {
+    let description = Arg::new(alloc, DESCRIPTION)
+        .help(DESCRIPTION_HELP)
+        .required(true);
+    Command::new(alloc, CHECK)
+        .about(ABOUT_CHECK)
+        .after_help(TEACHING_CHECK)
+        .arg(description)
 }

@@ -9,7 +9,7 @@
 mod command_line;
 mod sources;
 
-pub use c104_commands::{Status, run, run_text};
+pub use c104_commands::{Status, check_command, run, run_text};
 use clap::error::ErrorKind;
 use command_line::Order;
 use sources::Source;
@@ -63,15 +63,20 @@ fn do_words(rt: &HostRuntime, words: &[String]) -> ExitCode {
     finish(rt, status, Order::RunText)
 }
 
-/// Does an order. Of two files both are opened, the description's first, before anything is read.
+/// Does an order.
 fn do_order(rt: &HostRuntime, order: Order<'_>) -> Status {
-    let Order::RunFiles {
-        description,
-        script,
-    } = order
-    else {
-        return run_text(rt.alloc(), &mut rt.reader(), &mut io::writer(rt));
-    };
+    match order {
+        Order::RunText => run_text(rt.alloc(), &mut rt.reader(), &mut io::writer(rt)),
+        Order::RunFiles {
+            description,
+            script,
+        } => run_files(rt, description, script),
+        Order::Check { description } => check_file(rt, description),
+    }
+}
+
+/// Runs two files. Both are opened, the description's first, before anything is read.
+fn run_files(rt: &HostRuntime, description: &str, script: &str) -> Status {
     let opened: io::Result<HostSource> = Source::open(rt, description);
     let Ok(mut description) = opened else {
         return Status::CannotRead(0);
@@ -86,6 +91,15 @@ fn do_order(rt: &HostRuntime, order: Order<'_>) -> Status {
         &mut script,
         &mut io::writer(rt),
     )
+}
+
+/// Checks the labels of a description's file.
+fn check_file(rt: &HostRuntime, description: &str) -> Status {
+    let opened: io::Result<HostSource> = Source::open(rt, description);
+    let Ok(mut description) = opened else {
+        return Status::CannotRead(0);
+    };
+    check_command(rt.alloc(), &mut description, &mut io::writer(rt))
 }
 
 /// Says on standard error what failed, and gives the exit status.

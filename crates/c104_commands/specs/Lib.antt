@@ -1,2 +1,4 @@
 pub mod Statuses
 pub mod Runs
+pub mod CheckTexts
+pub mod Checks

@@ -3,11 +3,12 @@ ghost use Rattle.std.specs.Io.KnownBytes.{prepend_known};
 ghost use Rattle.c104_describe.specs.PlanText.{read_description};
 ghost use Rattle.c104_commands.specs.Runs.{RunsParts, RunsDescription, RunsText};
 
+use crate::descriptions::refuse_description;
 use crate::status::Status;
 use c104_describe::{MAX_DESCRIPTION, PlanFaultKind, read_description};
-use c104_script::{description_text, read_first_part};
+use c104_script::read_first_part;
 use c104_session::run_plan;
-use c104_stream::{Ahead, Halt, read_up_to, write_whole};
+use c104_stream::{Ahead, Halt, read_up_to};
 use std::alloc::Global;
 use std::io::{Read, Write};
 
@@ -79,11 +80,5 @@ fn run_description<S: Read, W: Write>(
     if fault.kind == PlanFaultKind::NoMemory {
         return Status::NoMemory;
     }
-    let Ok(text) = description_text(alloc, fault) else {
-        return Status::NoMemory;
-    };
-    match write_whole(writer, text.as_bytes()) {
-        Ok(()) => Status::Refused,
-        Err(_) => Status::CannotWrite,
-    }
+    refuse_description(alloc, fault, writer)
 }

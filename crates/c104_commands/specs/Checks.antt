@@ -1,0 +1,48 @@
+-- How a check of a description's labels ends, and what it has written then, where its reader and its writer
+-- tell their bytes.
+use Rattle.std.specs.Prelude.{ℕ, ◌≡◌, ◌≢◌, ⊤, Bool, true, false, List, Option, Some, None, Result, Ok, Err}
+use Rattle.std.specs.Io.KnownBytes.{Appends, Keeps}
+use Rattle.c104_describe.specs.Plans.{Plan}
+use Rattle.c104_describe.specs.PlanImage.{hand_image}
+use Rattle.c104_describe.specs.declared.faults.PlanFault.{PlanFault}
+use Rattle.c104_describe.specs.PlanText.{read_description}
+use Rattle.c104_stream.specs.Writing.{AppendsPrefix}
+use Rattle.c104_script.specs.Texts.{description_text}
+use Rattle.c104_check.specs.Checks.{IsCause}
+use Rattle.c104_check.specs.Routes.{IsAccepted, Routes, routes_of}
+use Rattle.c104_check.specs.declared.faults.CheckFault.{CheckFault}
+use Rattle.c104_check.specs.declared.faults.CheckFault.TheVariants as fault
+use Rattle.c104_commands.specs.CheckTexts.{accepted_text, check_fault_text}
+use Rattle.c104_commands.specs.declared.status.Status.{Status}
+use Rattle.c104_commands.specs.declared.status.Status.TheVariants as status
+
+-- what decides where packets go in the network of a plan with its own labels
+abbrev pub own_routes : Plan → Routes
+own_routes plan = routes_of plan (hand_image plan)
+
+-- a plan's own labels are refused: they aren't accepted, and this line tells the first fault
+pub record IsRefusedBy (plan : Plan) (text : List ℕ) : Type 0 where
+  pub why : CheckFault
+  pub cause : IsCause (own_routes plan) why
+  pub told : why ≢ fault.NoMemory
+  pub line : text ≡ check_fault_text plan why
+
+-- what a check prints of a description, and whether it is refused, itself or its labels
+abbrev pub Prints : Result Plan PlanFault → List ℕ → Bool → Type 0
+Prints (Err why) text refused = (text ≡ description_text why) × (refused ≡ true)
+Prints (Ok plan) text false = (text ≡ accepted_text) × IsAccepted (own_routes plan)
+Prints (Ok plan) text true = IsRefusedBy plan text
+
+-- what a check has written when it ends so: all that it prints; or, where the writer failed, a prefix of
+-- that; and where the reader failed, or it is out of memory, nothing
+abbrev pub CheckEnds : Result Plan PlanFault → Option (List ℕ) → Option (List ℕ) → Status → Type 0
+CheckEnds due held holds status.Done = (text : List ℕ) × Prints due text false × Appends held holds text
+CheckEnds due held holds status.Refused = (text : List ℕ) × Prints due text true × Appends held holds text
+CheckEnds due held holds (status.CannotRead n) = (n ≡ 0) × Keeps held holds
+CheckEnds due held holds status.CannotWrite = (text : List ℕ) × (refused : Bool) × Prints due text refused × AppendsPrefix held holds text
+CheckEnds due held holds status.NoMemory = Keeps held holds
+
+-- a check of the description that a reader has left
+abbrev pub ChecksText : Option (List ℕ) → Option (List ℕ) → Option (List ℕ) → Status → Type 0
+ChecksText None held holds status = ⊤
+ChecksText (Some description) held holds status = CheckEnds (read_description description) held holds status

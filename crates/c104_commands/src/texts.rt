@@ -1,0 +1,93 @@
+//! What a check prints.
+ghost use Rattle.std.specs.Prelude.{◌≡◌, IfOk};
+ghost use Rattle.std.specs.String.{string_bytes};
+ghost use Rattle.c104_check.specs.Routes.{to_port};
+ghost use Rattle.c104_commands.specs.CheckTexts.{check_fault_place, check_fault_text, shown_text};
+ghost use Rattle.c104_describe.specs.PlanPrint.{port_text, switch_name, terminal_name};
+
+use c104_check::{CheckFault, Shown, SwitchPort};
+use c104_describe::Plan;
+use std::alloc::{AllocError, Global};
+
+/// The line that tells why the labels of a plan's network are refused: the fault's number, its name, and
+/// where it is, by the names of the plan.
+pub fn check_fault_text(
+    alloc: Global,
+    plan: &Plan,
+    fault: &CheckFault,
+) -> Result<String, AllocError>
+    ensures { IfOk result (λ text. string_bytes text ≡ check_fault_text plan.now fault.now) }
+{
+    let number = fault.number();
+    let name = fault.name();
+    let place = place_text(alloc, plan, fault)?;
+    format!(in alloc; "refused {number} {name}: {place}\n")
+}
+
+/// Where a fault is.
+fn place_text(alloc: Global, plan: &Plan, fault: &CheckFault) -> Result<String, AllocError>
+    ensures { IfOk result (λ text. string_bytes text ≡ check_fault_place plan.now fault.now) }
+{
+    match fault {
+        CheckFault::RangesOverlap(terminal, other) => {
+            let terminal = terminal_name(plan, *terminal);
+            let other = terminal_name(plan, *other);
+            format!(in alloc; "{terminal} {other}")
+        }
+        CheckFault::LabelTooLarge(terminal) => {
+            let terminal = terminal_name(plan, *terminal);
+            format!(in alloc; "{terminal}")
+        }
+        CheckFault::MixedHeaders(port) => port_text(alloc, plan, *port),
+        CheckFault::DeleteInside(port) => port_text(alloc, plan, *port),
+        CheckFault::WrongEnd(shown) => shown_text(alloc, plan, shown),
+        CheckFault::DeadEnd(shown) => shown_text(alloc, plan, shown),
+        CheckFault::Loop(shown) => shown_text(alloc, plan, shown),
+        CheckFault::Stray(shown) => shown_text(alloc, plan, shown),
+        CheckFault::NoMemory => format!(in alloc; ""),
+    }
+}
+
+/// A header that goes wrong, and its walk.
+fn shown_text(alloc: Global, plan: &Plan, shown: &Shown) -> Result<String, AllocError>
+    ensures { IfOk result (λ text. string_bytes text ≡ shown_text plan.now shown.now) }
+{
+    let terminal = terminal_name(plan, shown.entry);
+    let header = shown.header;
+    let mut text = format!(in alloc; "from {terminal} header {header} walk")?;
+    for port in shown.walk.as_slice() {
+        let port = port_text(alloc, plan, *port)?;
+        text.push(' ')?;
+        text.push_str(port.as_str())?;
+    }
+    Ok(text)
+}
+
+/// A port of a switch.
+fn port_text(alloc: Global, plan: &Plan, port: SwitchPort) -> Result<String, AllocError>
+    ensures { IfOk result (λ text. string_bytes text ≡ port_text plan.now (to_port port)) }
+{
+    let name = switch_name(plan, port.switch);
+    let link = port.link;
+    format!(in alloc; "{name}.{link}")
+}
+
+/// The name of a switch; where there is none, nothing.
+fn switch_name(plan: &Plan, number: usize) -> &str
+    ensures { result.now ≡ switch_name plan.now number }
+{
+    match plan.switches().get(number) {
+        Some(name) => name.as_str(),
+        None => "",
+    }
+}
+
+/// The name of a terminal; where there is none, nothing.
+fn terminal_name(plan: &Plan, number: usize) -> &str
+    ensures { result.now ≡ terminal_name plan.now number }
+{
+    match plan.terminals().get(number) {
+        Some(terminal) => terminal.name.as_str(),
+        None => "",
+    }
+}
