@@ -31,7 +31,8 @@ use std::marker::Model;
 /// An action answers false or None where it isn't ready, and then nothing has changed. No action
 /// takes memory. A switch can't be let go of while its inputs hold claims: `retire` spends them.
 pub struct SwitchOf<T: TokenKind> {
-    registers: Registers,
+    // On the heap, so that a node of a network takes no 10 KB, whatever it is.
+    registers: Box<Registers>,
     inputs: InputsOf<T>,
     outputs: OutputsOf<T>,
 }
@@ -47,16 +48,16 @@ impl<T: TokenKind> Model for SwitchOf<T> {
 
     ghost view = { λ s.
         record {
-          started = s.registers.started;
-          settings = s.registers.settings;
+          started = s.registers.value.started;
+          settings = s.registers.value.settings;
           inputs = s.inputs;
           outputs = s.outputs;
         } };
 
     ghost invariant = { λ s.
         IsSound (record {
-          started = s.registers.started;
-          settings = s.registers.settings;
+          started = s.registers.value.started;
+          settings = s.registers.value.settings;
           inputs = s.inputs;
           outputs = s.outputs;
         }) };
@@ -70,10 +71,11 @@ impl<T: TokenKind> SwitchOf<T> {
         requires { IsValidCap cap }
         ensures { IfOk result (λ s. s ≡ new_switch cap) }
     {
+        let registers = Box::new(alloc, Registers::new())?;
         let outputs = OutputsOf::new(alloc)?;
         let inputs = InputsOf::new(alloc, cap)?;
         Ok(SwitchOf {
-            registers: Registers::new(),
+            registers,
             inputs,
             outputs,
         })
@@ -86,10 +88,11 @@ impl<T: TokenKind> SwitchOf<T> {
         requires { IsValidCap cap }
         ensures { IfOk result (λ s. s ≡ new_switch_with cap registers.now.settings true) }
     {
+        let registers = Box::new(alloc, Registers::placed(registers.all_settings()))?;
         let outputs = OutputsOf::new(alloc)?;
         let inputs = InputsOf::new(alloc, cap)?;
         Ok(SwitchOf {
-            registers: Registers::placed(registers.all_settings()),
+            registers,
             inputs,
             outputs,
         })

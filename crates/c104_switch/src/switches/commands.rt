@@ -13,7 +13,7 @@ impl<T: TokenKind> SwitchOf<T> {
     pub(crate) fn reset(&mut self)
         ensures { self.new ≡ switch_reset self.old }
     {
-        self.registers = Registers::new();
+        *self.registers = Registers::new();
         self.inputs.reset();
         self.outputs.clear();
     }
@@ -34,7 +34,7 @@ impl<T: TokenKind> SwitchOf<T> {
         let mut registers = self.told_registers();
         let answer = registers.poke(addr, value);
         // The statuses in them are told anew whenever they matter.
-        self.registers = registers;
+        *self.registers = registers;
         answer
     }
 }

@@ -1,5 +1,7 @@
-use Rattle.std.proofs.Common.{refl, sym, ◌∙◌}
+use Rattle.std.proofs.Common.{refl, sym, ap, ◌∙◌}
 use Rattle.std.proofs.lemmas.Option.{slice_get_read}
+use Rattle.c104_regs.specs.Registers.{RegisterBank}
+use Rattle.c104_switch.specs.Switch.{Switch}
 use Rattle.c104_switch.proofs.SoundnessMethods.{sound_turn, input_tried}
 use Rattle.c104_switch.proofs.switches.SwitchOf.input.Goals as goal
 
@@ -9,5 +11,6 @@ invariant_of-self g c = sound_turn c.self.invariant g.T.TokenKind.kind c.turn.re
 pub returns : goal.returns
 returns g c =
     let found = c.in-Some.ensures.lookup in
-    let own = rw c.all_settings.ensures.settings at (slice_get_read c.all_settings.result.now _ c.args.link c.in-Some.settings.now refl found.3.0 found.1) in
-    rw (sym c.self.view_is) (input_tried g.T.TokenKind.kind _ c.turn.result c.args.link c.in-Some.settings.now c.args.word c.turn.new.self c.turn.new.outputs (sym c.started.ensures ∙ c.if-not-started.false) own c.turn.ensures)
+    let inside : Switch g.row.T.Denot = record { started = c.self.inside.registers.value.started; settings = c.self.inside.registers.value.settings; inputs = c.self.inside.inputs; outputs = c.self.inside.outputs } in
+    let own = rw (c.all_settings.ensures.settings, c.deref-2.ensures) at (slice_get_read c.all_settings.result.now _ c.args.link c.in-Some.settings.now refl found.3.0 found.1) in
+    rw (sym c.self.view_is) (input_tried g.T.TokenKind.kind inside c.turn.result c.args.link c.in-Some.settings.now c.args.word c.turn.new.self c.turn.new.outputs (ap (λ (b : RegisterBank). b.started) (sym c.deref.ensures) ∙ sym c.started.ensures ∙ c.if-not-started.false) own c.turn.ensures)

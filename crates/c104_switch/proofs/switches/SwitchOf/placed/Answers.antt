@@ -10,4 +10,4 @@ placed-requires-clause-ranges g c = rw c.all_settings.ensures.settings (all_in_r
 pub invariant_of-result : goal.invariant_of-result
 invariant_of-result g c =
     let links : length c.all_settings.result.now ≡ 32 = rw c.all_settings.ensures.settings (c.all_settings.ensures.kept.links) in
-    sound_made c.args.cap _ _ _ _ c.requires (ap (λ (b : RegisterBank). length b.settings) c.placed.ensures ∙ links) c.in_ok-inputs.ensures c.in_ok-outputs.ensures
+    sound_made c.args.cap _ _ _ _ c.requires (ap (λ (b : RegisterBank). length b.settings) (c.in_ok-registers.ensures.ok ∙ c.placed.ensures) ∙ links) c.in_ok-inputs.ensures c.in_ok-outputs.ensures
