@@ -1,0 +1,93 @@
+-- A cube's rows as they are added.
+use Rattle.std.proofs.Common.{◌≡◌, ℕ, zero, suc, ◌<◌, ◌≤◌, ◌+◌, ◌*◌, ◌-◌, ◌/◌, ◌%◌, ◌^◌, List, [], ◌∷◌, ◌++◌, map, refl, sym, ap, ◌∙◌, append_assoc, arith}
+use Rattle.std.specs.List.{range_with_len}
+use Rattle.std.proofs.lemmas.Nat.{div_below, pow-add, pow_pos}
+use Rattle.c104_interval.specs.declared.intervals.Row.{Row}
+use Rattle.c104_label.specs.LabelRows.{kept_rows, label_row, own_rows, with_row}
+use Rattle.c104_label.specs.CubeLabels.{cube_rows}
+use Rattle.c104_label.proofs.Quotients.{times}
+use Rattle.c104_label.proofs.AddedRows.{rows_so_far, so_far_first, so_far_next}
+use Rattle.c104_label.proofs.CubeLists.{above_row, below_row, cube_flat, rows_above, rows_below}
+
+unfoldable pub cube_down : ℕ → ℕ → ℕ → ℕ → List Row
+cube_down d p x i = rows_so_far [] (λ i. below_row p x (d - suc i)) i
+
+unfoldable pub cube_own : ℕ → ℕ → ℕ → ℕ → List Row
+cube_own d p x j = rows_so_far (rows_below p x d) (λ j. label_row (x * p + j + 1) (d + j)) j
+
+unfoldable pub cube_up : ℕ → ℕ → ℕ → ℕ → List Row
+cube_up d p x k = rows_so_far (rows_below p x d ++ own_rows d p x) (above_row p x) k
+
+pub down_first : (d p x : ℕ) → cube_down d p x 0 ≡ []
+unfolding cube_down rows_so_far kept_rows
+down_first d p x = refl
+
+pub down_next : (d p x i limit bit : ℕ) → limit ≡ x / 2 ^ bit * 2 ^ bit * p → bit ≡ d - 1 - i → with_row (cube_down d p x i) (label_row limit bit) ≡ cube_down d p x (i + 1)
+unfolding cube_down
+down_next d p x i limit bit is at =
+    let e : bit ≡ d - suc i = omega (arith, at) in
+    ap (λ n. with_row (rows_so_far [] (λ i. below_row p x (d - suc i)) i) (label_row n bit)) is
+    ∙ ap (λ b. with_row (rows_so_far [] (λ i. below_row p x (d - suc i)) i) (below_row p x b)) e
+    ∙ so_far_next [] (λ i. below_row p x (d - suc i)) i
+
+pub own_first : (d p x : ℕ) → cube_down d p x d ≡ cube_own d p x 0
+unfolding cube_down cube_own
+own_first d p x = so_far_first [] (λ i. below_row p x (d - suc i)) (λ j. label_row (x * p + j + 1) (d + j)) d
+
+pub own_next : (d p x j : ℕ) → with_row (cube_own d p x j) (label_row (x * p + j + 1) (d + j)) ≡ cube_own d p x (j + 1)
+unfolding cube_own
+own_next d p x j = so_far_next (rows_below p x d) (λ j. label_row (x * p + j + 1) (d + j)) j
+
+pub up_first : (d p x : ℕ) → cube_own d p x p ≡ cube_up d p x 0
+unfolding cube_own cube_up
+up_first d p x = so_far_first (rows_below p x d) (λ j. label_row (x * p + j + 1) (d + j)) (above_row p x) p
+
+pub up_next : (d p x k limit : ℕ) → limit ≡ (x / 2 ^ suc k + 1) * 2 ^ suc k * p → with_row (cube_up d p x k) (label_row limit k) ≡ cube_up d p x (k + 1)
+unfolding cube_up
+up_next d p x k limit is = ap (λ n. with_row (rows_so_far (rows_below p x d ++ own_rows d p x) (above_row p x) k) (label_row n k)) is ∙ so_far_next (rows_below p x d ++ own_rows d p x) (above_row p x) k
+
+pub up_last : (d p x : ℕ) → cube_up d p x d ≡ cube_rows d p x
+unfolding cube_up rows_so_far cube_rows
+up_last d p x = ap kept_rows (append_assoc (rows_below p x d) (own_rows d p x) (rows_above p x d) ∙ sym (cube_flat d p x d))
+
+-- a shifted bit keeps its value
+pub size_is : (b : ℕ) → b ≤ 6 → (1 * 2 ^ b) % 18446744073709551616 ≡ 2 ^ b
+size_is zero le = refl
+size_is (suc zero) le = refl
+size_is (suc (suc zero)) le = refl
+size_is (suc (suc (suc zero))) le = refl
+size_is (suc (suc (suc (suc zero)))) le = refl
+size_is (suc (suc (suc (suc (suc zero))))) le = refl
+size_is (suc (suc (suc (suc (suc (suc zero)))))) le = refl
+size_is (suc (suc (suc (suc (suc (suc (suc b))))))) le = absurd (omega (arith, le))
+
+pub size_small : (b : ℕ) → b ≤ 6 → (1 * 2 ^ b) % 18446744073709551616 ≤ 64
+size_small zero le = omega arith
+size_small (suc zero) le = omega arith
+size_small (suc (suc zero)) le = omega arith
+size_small (suc (suc (suc zero))) le = omega arith
+size_small (suc (suc (suc (suc zero)))) le = omega arith
+size_small (suc (suc (suc (suc (suc zero))))) le = omega arith
+size_small (suc (suc (suc (suc (suc (suc zero)))))) le = omega arith
+size_small (suc (suc (suc (suc (suc (suc (suc b))))))) le = absurd (omega (arith, le))
+
+pub double_is : (b : ℕ) → b < 6 → (2 * 2 ^ b) % 18446744073709551616 ≡ 2 ^ suc b
+double_is zero le = refl
+double_is (suc zero) le = refl
+double_is (suc (suc zero)) le = refl
+double_is (suc (suc (suc zero))) le = refl
+double_is (suc (suc (suc (suc zero)))) le = refl
+double_is (suc (suc (suc (suc (suc zero))))) le = refl
+double_is (suc (suc (suc (suc (suc (suc b)))))) le = absurd (omega (arith, le))
+
+upper : (d x k : ℕ) → x < 2 ^ d → k ≤ d → (x / 2 ^ k + 1) * 2 ^ k ≤ 2 ^ d
+upper d x k lt le =
+    let size : d - k + k ≡ d = omega (arith, le) in
+    let all : 2 ^ d ≡ 2 ^ (d - k) * 2 ^ k = ap (λ n. 2 ^ n) (sym size) ∙ pow-add 2 (d - k) k in
+    let below : x / 2 ^ k < 2 ^ (d - k) = div_below x (2 ^ k) (2 ^ (d - k)) (pow_pos k) (omega (arith, lt, all)) in
+    omega (arith, all, times (x / 2 ^ k + 1) (2 ^ (d - k)) (2 ^ k) (omega (arith, below)))
+
+pub up_small : (d p x b : ℕ) → b < d → d ≤ 6 → x < 2 ^ d → 2 ^ d * p ≤ 256 → (x / ((2 * 2 ^ b) % 18446744073709551616) + 1) * ((2 * 2 ^ b) % 18446744073709551616) * p ≤ 256
+up_small d p x b lt low inside few =
+    let is : (x / ((2 * 2 ^ b) % 18446744073709551616) + 1) * ((2 * 2 ^ b) % 18446744073709551616) * p ≡ (x / 2 ^ suc b + 1) * 2 ^ suc b * p = ap (λ s. (x / s + 1) * s * p) (double_is b (omega (arith, lt, low))) in
+    omega (arith, is, few, times ((x / 2 ^ suc b + 1) * 2 ^ suc b) (2 ^ d) p (upper d x (suc b) inside (omega (arith, lt))))

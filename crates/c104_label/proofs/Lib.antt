@@ -1,0 +1,12 @@
+pub mod Quotients
+pub mod Pieces
+pub mod MeshSelections
+pub mod CubeSelections
+pub mod Runs
+pub mod MeshTables
+pub mod CubeLists
+pub mod CubeTables
+pub mod AddedRows
+pub mod MeshRows
+pub mod CubeRows
+pub mod FilledTables

@@ -1,0 +1,104 @@
+-- What a mesh's tables select is what labels are to select.
+use Rattle.std.proofs.Common.{◌≡◌, ◌≢◌, ℕ, zero, suc, ◌<◌, ◌≤◌, ◌+◌, ◌*◌, ◌-◌, ◌/◌, ◌%◌, ◌^◌, ◌==◌, true, false, nat_lt, if◌then◌else◌, [], ◌∷◌, map, refl, sym, ap, subst, ◌∙◌, ⊎_elim, arith}
+use Rattle.std.specs.List.{range_with_len}
+use Rattle.std.proofs.lemmas.Bool.Decides.{nat_tests}
+use Rattle.std.proofs.lemmas.Bool.{cases_Bool, eq-eqb, ne_eqb}
+use Rattle.std.proofs.lemmas.Nat.{div_below, le-div, pow_pos}
+use Rattle.c104_interval.specs.declared.intervals.Select.{Select}
+use Rattle.c104_interval.specs.declared.intervals.Select.TheVariants.{Link, Sink}
+use Rattle.c104_interval.specs.Selection.{select}
+use Rattle.c104_label.specs.LabelRows.{around, kept_rows, label_row, own_rows, owner}
+use Rattle.c104_label.specs.MeshLabels.{SelectsInMesh, all_mesh_rows, mesh_rows, mesh_table}
+use Rattle.c104_label.proofs.Quotients.{mesh_ends, next_above, parts, place_at, times, whole_below}
+use Rattle.c104_label.proofs.Pieces.{IsPiece, none_of, one_of, own_is, piece_around, picked, table_selects}
+
+-- the link for a label whose owner is switch u and whose terminal's link is own
+abbrev pub mesh_link : ℕ → ℕ → ℕ → ℕ → ℕ
+mesh_link w s u own =
+    if nat_lt (u / w) (s / w) then 0 else
+    if nat_lt u s then 1 else
+    if u == s then own else
+    if nat_lt (u / w) (s / w + 1) then 2 else 3
+
+-- the five cases of a mesh
+pub mesh_above : (w s u own : ℕ) → 0 < w → u < s / w * w → mesh_link w s u own ≡ 0
+mesh_above w s u own pos lt = let t : nat_lt (u / w) (s / w) ≡ true = grind (arith, nat_tests, div_below u w (s / w) pos lt) in rw t refl
+
+not_above : (w s u : ℕ) → 0 < w → s / w * w ≤ u → nat_lt (u / w) (s / w) ≡ false
+not_above w s u pos le = grind (arith, nat_tests, le-div (s / w) u w pos le)
+
+pub mesh_left : (w s u own : ℕ) → 0 < w → s / w * w ≤ u → u < s → mesh_link w s u own ≡ 1
+mesh_left w s u own pos le lt = let t : nat_lt u s ≡ true = grind (arith, nat_tests) in rw (not_above w s u pos le, t) refl
+
+pub mesh_own : (w s u own : ℕ) → 0 < w → u ≡ s → mesh_link w s u own ≡ own
+mesh_own w s u own pos is =
+    let a : nat_lt (u / w) (s / w) ≡ false = not_above w s u pos (omega (arith, is, whole_below s w)) in
+    let b : nat_lt u s ≡ false = grind (arith, nat_tests) in
+    let c : (u == s) ≡ true = grind (arith, nat_tests) in
+    rw (a, b, c) refl
+
+pub mesh_right : (w s u own : ℕ) → 0 < w → s + 1 ≤ u → u < (s / w + 1) * w → mesh_link w s u own ≡ 2
+mesh_right w s u own pos gt lt =
+    let a : nat_lt (u / w) (s / w) ≡ false = not_above w s u pos (omega (arith, gt, whole_below s w)) in
+    let b : nat_lt u s ≡ false = grind (arith, nat_tests) in
+    let c : (u == s) ≡ false = grind (arith, nat_tests) in
+    let d : nat_lt (u / w) (s / w + 1) ≡ true = grind (arith, nat_tests, div_below u w (s / w + 1) pos lt) in
+    rw (a, b, c, d) refl
+
+pub mesh_below : (w s u own : ℕ) → 0 < w → (s / w + 1) * w ≤ u → mesh_link w s u own ≡ 3
+mesh_below w s u own pos le =
+    let gt : s < u = omega (arith, le, next_above s w pos) in
+    let a : nat_lt (u / w) (s / w) ≡ false = not_above w s u pos (omega (arith, gt, whole_below s w)) in
+    let b : nat_lt u s ≡ false = grind (arith, nat_tests) in
+    let c : (u == s) ≡ false = grind (arith, nat_tests) in
+    let d : nat_lt (u / w) (s / w + 1) ≡ false = grind (arith, nat_tests, le-div (s / w + 1) u w pos le) in
+    rw (a, b, c, d) refl
+
+mesh_piece : (w h p s : ℕ) → 0 < w → 0 < p → s < w * h → IsPiece 0 (w * h * p) (all_mesh_rows w h p s) (λ l. Link (mesh_link w s (l / p) (4 + l % p)))
+mesh_piece w h p s wide some lt =
+    let ends = mesh_ends w h p s wide lt in
+    let start : s / w * w * p ≤ s * p = ends.0 in
+    let end : s * p + p ≤ (s / w + 1) * w * p = ends.1 in
+    let last : (s / w + 1) * w * p ≤ w * h * p = ends.2 in
+    let pick : ℕ → Select = λ l. Link (mesh_link w s (l / p) (4 + l % p)) in
+    piece_around 0 (s / w * w * p) ((s / w + 1) * w * p) (w * h * p) 0 3 (around (label_row (s * p) 1) (own_rows 4 p s) (label_row ((s / w + 1) * w * p) 2)) pick pick
+    (omega arith) (omega (arith, start, end)) last
+    (piece_around (s / w * w * p) (s * p) (s * p + p) ((s / w + 1) * w * p) 1 2 (own_rows 4 p s) (λ l. Link (4 + (l - s * p))) pick
+    start (omega arith) end (own_is 4 p s)
+    (λ l from to. ap Link (mesh_left w s (l / p) (4 + l % p) wide (le-div (s / w * w) l p some from) (div_below l p s some to)))
+    (λ l from to. let at = place_at l s p from to in ap Link (mesh_own w s (l / p) (4 + l % p) wide at.0 ∙ ap (λ n. 4 + n) at.1))
+    (λ l from to. ap Link (mesh_right w s (l / p) (4 + l % p) wide (le-div (s + 1) l p some (omega (arith, from))) (div_below l p ((s / w + 1) * w) some to))))
+    (λ l from to. ap Link (mesh_above w s (l / p) (4 + l % p) wide (div_below l p (s / w * w) some to)))
+    (λ l from to. refl)
+    (λ l from to. ap Link (mesh_below w s (l / p) (4 + l % p) wide (le-div ((s / w + 1) * w) l p some from)))
+
+-- the table of a mesh's switch selects what a label is to select
+pub mesh_selects : (w h p s l : ℕ) → 0 < w → 0 < p → s < w * h → select (mesh_table w h p s) l ≡ picked (w * h * p) 4 p (mesh_link w) s l
+unfolding mesh_rows
+mesh_selects w h p s l wide some lt = table_selects (w * h * p) (all_mesh_rows w h p s) (λ l. Link (mesh_link w s (l / p) (4 + l % p))) (mesh_piece w h p s wide some lt) l
+
+-- of two switches in one row the column says which is before
+before_in_row : (w a b : ℕ) → a / w ≡ b / w → a % w < b % w → a < b
+before_in_row w a b row column = omega (arith, parts a w, parts b w, ap (λ n. n * w) row, column)
+
+same_row : (w s u : ℕ) → 0 < w → u / w ≡ s / w → (s / w * w ≤ u) × (u < (s / w + 1) * w)
+same_row w s u wide row = (omega (arith, whole_below u w, ap (λ n. n * w) row), omega (arith, next_above u w wide, ap (λ n. (n + 1) * w) row))
+
+in_above : (w s u : ℕ) → 0 < w → u / w < s / w → u < s / w * w
+in_above w s u wide row = omega (arith, next_above u w wide, times (u / w + 1) (s / w) w (omega (arith, row)))
+
+in_below : (w s u : ℕ) → s / w < u / w → (s / w + 1) * w ≤ u
+in_below w s u row = omega (arith, whole_below u w, times (s / w + 1) (u / w) w (omega (arith, row)))
+
+pub selects_in_mesh : (w h p s : ℕ) → 0 < w → 0 < p → s < w * h → SelectsInMesh w h p s (mesh_table w h p s)
+selects_in_mesh w h p s wide some inside =
+    let says = λ (l : ℕ). mesh_selects w h p s l wide some inside in
+    let one = λ (l : ℕ). one_of (w * h * p) 4 p s l (mesh_link w) in
+    record {
+      above = λ l lt row. says l ∙ one l lt ∙ ap Link (mesh_above w s (owner p l) (4 + l % p) wide (in_above w s (owner p l) wide row));
+      before = λ l lt row column. says l ∙ one l lt ∙ ap Link (mesh_left w s (owner p l) (4 + l % p) wide (same_row w s (owner p l) wide row).0 (before_in_row w (owner p l) s row column));
+      own = λ l lt is. says l ∙ one l lt ∙ ap Link (mesh_own w s (owner p l) (4 + l % p) wide is);
+      after = λ l lt row column. says l ∙ one l lt ∙ ap Link (mesh_right w s (owner p l) (4 + l % p) wide (omega (arith, before_in_row w s (owner p l) (sym row) column)) (same_row w s (owner p l) wide row).1);
+      below = λ l lt row. says l ∙ one l lt ∙ ap Link (mesh_below w s (owner p l) (4 + l % p) wide (in_below w s (owner p l) row));
+      none = λ l le. says l ∙ none_of (w * h * p) 4 p s l (mesh_link w) le;
+    }

@@ -1,0 +1,75 @@
+-- Quotients, and multiples.
+use Rattle.std.proofs.Common.{◌≡◌, ℕ, zero, suc, ◌<◌, ◌≤◌, ◌+◌, ◌*◌, ◌-◌, ◌/◌, ◌%◌, ◌^◌, sym, ap, ◌∙◌, arith}
+use native.Mathlib.Nat.{pow-suc, div-div-eq-div-mul, div-one, div-eq_of_lt}
+use Rattle.std.proofs.lemmas.Nat.{div_below, div-add-mod', div-mul-add, mod-mul-add, mod_below, mul-le}
+
+pub times : (a b p : ℕ) → a ≤ b → a * p ≤ b * p
+times a b p le = mul-le a p b p le (omega arith)
+
+pub parts : (n w : ℕ) → n / w * w + n % w ≡ n
+parts n w = div-add-mod' n w
+
+pub whole_below : (n w : ℕ) → n / w * w ≤ n
+whole_below n w = omega (arith, parts n w)
+
+pub next_above : (n w : ℕ) → 0 < w → n < (n / w + 1) * w
+next_above n w pos = omega (arith, parts n w, mod_below n w pos)
+
+-- all of a row are within the rows
+pub rows_fit : (s w h : ℕ) → 0 < w → s < w * h → (s / w + 1) * w ≤ w * h
+rows_fit s w h pos lt = let below : s / w < h = div_below s w h pos (omega (arith, lt)) in omega (arith, times (s / w + 1) h w (omega (arith, below)))
+
+-- where a number stands among the multiples
+pub place_at : (h s p : ℕ) → s * p ≤ h → h < s * p + p → (h / p ≡ s) × (h % p ≡ h - s * p)
+place_at h s p le lt =
+    let is : h ≡ s * p + (h - s * p) = omega (arith, le) in
+    (ap (λ n. n / p) is ∙ div-mul-add s p (h - s * p) (omega (arith, le, lt)), ap (λ n. n % p) is ∙ mod-mul-add s p (h - s * p) (omega (arith, le, lt)))
+
+-- where the labels begin and end of the rows of a mesh above a switch, of its own row, and of the mesh
+pub mesh_ends : (w h p s : ℕ) → 0 < w → s < w * h →
+    (s / w * w * p ≤ s * p) × (s * p + p ≤ (s / w + 1) * w * p) × ((s / w + 1) * w * p ≤ w * h * p)
+mesh_ends w h p s wide inside = (
+  times (s / w * w) s p (whole_below s w),
+  omega (arith, times (s + 1) ((s / w + 1) * w) p (omega (arith, next_above s w wide))),
+  times ((s / w + 1) * w) (w * h) p (rows_fit s w h wide inside),
+)
+
+-- the switches that agree with x from a bit on are half of those that agree with it from the next on
+half : (x k : ℕ) → x / 2 ^ suc k ≡ x / 2 ^ k / 2
+half x k = ap (λ n. x / n) (pow-suc 2 k) ∙ sym (div-div-eq-div-mul x (2 ^ k) 2)
+
+double : (a k : ℕ) → a * 2 ^ suc k ≡ a * 2 * 2 ^ k
+double a k = omega (arith, ap (λ n. a * n) (pow-suc 2 k))
+
+pub lower_end : (x k : ℕ) → x / 2 ^ suc k * 2 ^ suc k ≡ x / 2 ^ k / 2 * 2 * 2 ^ k
+lower_end x k = ap (λ n. n * 2 ^ suc k) (half x k) ∙ double (x / 2 ^ k / 2) k
+
+pub upper_end : (x k : ℕ) → (x / 2 ^ suc k + 1) * 2 ^ suc k ≡ (x / 2 ^ k / 2 + 1) * 2 * 2 ^ k
+upper_end x k = ap (λ n. (n + 1) * 2 ^ suc k) (half x k) ∙ double (x / 2 ^ k / 2 + 1) k
+
+-- where the labels of both begin and end
+pub cube_ends : (p x k : ℕ) →
+    (x / 2 ^ suc k * 2 ^ suc k * p ≤ x / 2 ^ k * 2 ^ k * p)
+    × (x / 2 ^ k * 2 ^ k * p ≤ (x / 2 ^ k + 1) * 2 ^ k * p)
+    × ((x / 2 ^ k + 1) * 2 ^ k * p ≤ (x / 2 ^ suc k + 1) * 2 ^ suc k * p)
+cube_ends p x k =
+    let a : ℕ = x / 2 ^ k in (
+      times _ _ p (omega (arith, lower_end x k, times (a / 2 * 2) a (2 ^ k) (omega arith))),
+      times _ _ p (times a (a + 1) (2 ^ k) (omega arith)),
+      times _ _ p (omega (arith, upper_end x k, times (a + 1) ((a / 2 + 1) * 2) (2 ^ k) (omega arith))),
+    )
+
+-- from bit 0 on x alone agrees with itself
+pub cube_one : (p x : ℕ) → (x / 2 ^ 0 * 2 ^ 0 * p ≡ x * p) × ((x / 2 ^ 0 + 1) * 2 ^ 0 * p ≡ x * p + p)
+cube_one p x = (
+  ap (λ n. n * 2 ^ 0 * p) (div-one x) ∙ ap (λ n. n * p) (omega arith),
+  ap (λ n. (n + 1) * 2 ^ 0 * p) (div-one x) ∙ omega arith,
+)
+
+-- and from the number of bits on all do
+pub cube_whole : (d p x : ℕ) → x < 2 ^ d → (x / 2 ^ d * 2 ^ d * p ≡ 0) × ((x / 2 ^ d + 1) * 2 ^ d * p ≡ 2 ^ d * p)
+cube_whole d p x lt =
+    let none : x / 2 ^ d ≡ 0 = div-eq_of_lt lt in (
+      ap (λ n. n * 2 ^ d * p) none ∙ omega arith,
+      ap (λ n. (n + 1) * 2 ^ d * p) none ∙ ap (λ n. n * p) (omega arith),
+    )

@@ -1,0 +1,6 @@
+use Rattle.c104_label.specs.CubeLabels.{cube_table}
+use Rattle.c104_label.proofs.FilledTables.{made_next}
+use Rattle.c104_label.proofs.cubes.cube_tables.Goals as goal
+
+pub loop-switch-preserved : goal.loop-switch-preserved
+loop-switch-preserved c = made_next (cube_table c.args.dimensions c.args.terminals) c.loop-switch.switch _ _ _ c.loop-switch.invariant c.in_ok-push.ensures.items c.in_ok-cube_table.ensures

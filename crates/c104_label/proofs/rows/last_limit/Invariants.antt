@@ -1,0 +1,7 @@
+use Rattle.std.proofs.Common.{◌≡◌, drop}
+use Rattle.c104_label.specs.LabelRows.{last_limit}
+use Rattle.c104_label.proofs.rows.last_limit.Given as goal
+
+-- the last limit of what is left, from the one so far
+abbrev pub invariant-loop-row : goal.invariant-loop-row
+invariant-loop-row l = last_limit l.limit (drop l.row-index l.rows) ≡ last_limit 0 l.rows

@@ -1,0 +1,3 @@
+pub mod LabelRows
+pub mod MeshLabels
+pub mod CubeLabels
