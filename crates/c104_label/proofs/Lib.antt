@@ -10,3 +10,5 @@ pub mod AddedRows
 pub mod MeshRows
 pub mod CubeRows
 pub mod FilledTables
+pub mod ForestLemmas
+pub mod VisitLemmas

@@ -1,0 +1,6 @@
+use Rattle.std.proofs.Common.{◌+◌, ◌*◌, ◌-◌, length}
+use Rattle.c104_label.proofs.forests.+visit.Given as goal
+
+-- the switches that are left, and then the links
+abbrev pub decreases-visit : goal.decreases-visit
+decreases-visit l = 33 * (length l.plan.now.switches - length l.seen.now.items) + (32 - l.link)
