@@ -80,7 +80,8 @@ class Edit:
             self.find_function(read_text(crate.folder, self.path), self.texts[self.path])
 
     def find_function(self, text, edited):
-        """Finds the one function in whose body the texts differ. A method of a trait can't be copied."""
+        """Finds the one function in whose body the texts differ. A method of a trait can't be copied, nor a function that
+        calls itself."""
         if not self.path.startswith('src/'):
             return
         first = len(os.path.commonprefix([text, edited]))
@@ -91,7 +92,8 @@ class Edit:
         self.changed, = inside
         self.edited = edited[self.changed.start:self.changed.end + len(edited) - len(text)]
         self.is_of_impl = self.changed.impl_name is not None
-        self.is_copied = not self.changed.is_of_trait and len(self.proof_folders(self.crate.folder)) < 2
+        is_alone = self.changed.is_of_trait or self.calls_itself(self.crate.folder)
+        self.is_copied = not is_alone and len(self.proof_folders(self.crate.folder)) < 2
 
     def full_name(self):
         """The prover's name of the changed method of a trait."""
@@ -100,6 +102,11 @@ class Edit:
     def module(self):
         """The path of the module that the edited file is."""
         return [it for it in self.path[:-len('.rt')].split('/')[1:] if it not in ROOTS]
+
+    def calls_itself(self, folder):
+        """Whether the function's proofs are those of functions that call each other, of which it is the first: a copy
+        would call the function, and not itself, so that these proofs aren't its own."""
+        return any('+' + self.changed.name in folders for _, folders, _ in os.walk(os.path.join(folder, 'proofs')))
 
     def proof_folders(self, folder):
         """The folders of the proof files of the function: a method's stands at the path of its type."""
