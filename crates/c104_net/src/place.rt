@@ -61,6 +61,7 @@ impl<T: TokenKind> Place<T> for NodeOf<T> {
         Ok(())
     }
 
+    #[inline(always)]
     fn act(&mut self, number: usize, act: ActOf<T>) -> Result<ReplyOf<T>, NoMemory>
         requires { IsShort act }
         ensures acted { MatchResult result

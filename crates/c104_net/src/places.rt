@@ -41,6 +41,8 @@ pub fn room_at<T: TokenKind, P: Place<T>>(places: &mut [P], place: usize) -> Res
 }
 
 /// The node at a place does an act that it is ready for.
+// Inlined: where the act is known, its other cases go.
+#[inline(always)]
 fn act_at<T: TokenKind, P: Place<T>>(
     places: &mut [P],
     place: usize,

@@ -16,6 +16,8 @@ impl<T: TokenKind> SwitchOf<T> {
     }
 
     /// The same, of an action that is kept.
+    // Inlined: where the action is known, its other cases go.
+    #[inline(always)]
     pub fn act(&mut self, action: &ActionOf<T>) -> ReplyOf<T>
         ensures { (result, self.new) ≡ switch_step T.kind self.old action.now }
     {

@@ -15,6 +15,7 @@ use c104_token::{NoMemory, TokenKind};
 impl<T: TokenKind> NodeOf<T> {
     /// Does an act, or answers NotReady and changes nothing. The number is the terminal's, if the
     /// node is one. Only Send and Drain may want memory, and then nothing has changed.
+    #[inline(always)]
     #[tactic(auto, using(crate::proofs::ActionSteps::step_as_node))]
     pub fn act(&mut self, number: usize, act: &ActOf<T>) -> Result<ReplyOf<T>, NoMemory>
         requires { IsShort act.now }

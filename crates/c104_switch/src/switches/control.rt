@@ -12,6 +12,8 @@ use c104_token::TokenKind;
 impl<T: TokenKind> SwitchOf<T> {
     /// Does what a control command says, and gives the bytes of the reply. Where the bytes are no
     /// command, or the command is refused, the reply says why and nothing has changed.
+    // A command takes the stack of a whole bank of registers, which no other action is to pay for.
+    #[inline(never)]
     pub fn control(&mut self, bytes: &[u8]) -> ControlBytes
         ensures { (result, self.new) ≡ switch_control self.old bytes.now }
     {
