@@ -1,5 +1,11 @@
 """Descriptions of large networks with labels of their own: meshes, chains and a cube."""
 
+import os
+import sys
+
+sys.path.insert(0, os.path.join(os.path.dirname(os.path.abspath(__file__)), 'bench'))
+from grid import Grid
+
 
 def row_lines(port, selects):
     """The rows of an input by which header h selects selects[h], from header 0 on."""
@@ -12,25 +18,8 @@ def text_of(lines):
 
 
 def mesh(width, height, count):
-    """A mesh with so many terminals on each switch, labelled row by row. Links 0, 1, 2 and 3 of a switch go
-    up, left, right and down, and the terminals are on those from 4 on."""
-    switches = range(width * height)
-    lines = ['switch s%d' % s for s in switches]
-    lines += ['terminal t%d s%d.%d' % (s * count + j, s, 4 + j) for s in switches for j in range(count)]
-    used = {s: list(range(4, 4 + count)) for s in switches}
-    for s in switches:
-        for other, link, there in ((s + 1, 2, 1), (s + width, 3, 0)):
-            if other in switches and (link == 3 or other % width):
-                lines.append('wire s%d.%d s%d.%d' % (s, link, other, there))
-                used[s].append(link)
-                used[other].append(there)
-    for s in switches:
-        x, y = s % width, s // width
-        selects = ([0] * (y * width * count) + [1] * (x * count) + list(range(4, 4 + count))
-                   + [2] * ((width - 1 - x) * count) + [3] * ((height - 1 - y) * width * count))
-        for link in sorted(used[s]):
-            lines += row_lines('s%d.%d' % (s, link), selects)
-    return text_of(lines)
+    """A mesh with so many terminals on each switch, labelled row by row: the grid of the benches."""
+    return text_of(Grid(width, height, count).description())
 
 
 def chain(length, width, hosts):

@@ -1,7 +1,7 @@
 //! The command line: its words, what they ask for, and the text of its help.
 
 use crate::sources::STANDARD_INPUT;
-use clap::{Arg, ArgMatches, Command, Error};
+use clap::{Arg, ArgAction, ArgMatches, Command, Error};
 use std::alloc::{AllocError, Global};
 
 const VERSION: &str = "0.5.0";
@@ -12,6 +12,8 @@ const ABOUT_RUN: &str = "Runs a script on the network of a description, and show
 
 const ABOUT_CHECK: &str =
     "Checks the labels of a description: whether each header comes to its owner";
+
+const ABOUT_LABEL: &str = "Shows the labels of a description, and the registers that lead to them";
 
 const TEACHING: &str = "A run has two inputs, which are text:
 
@@ -30,6 +32,10 @@ Examples:
   c104 run network.txt events.txt     a description and a script from two files
   c104 < examples/first-network.txt   both in one text
   c104 check network.txt              whether its packets can go astray
+  c104 label network.txt              which labels and registers it gives
+
+Where standard error is a terminal, or under --explain, it is told there what is wrong
+with a line, and what didn't arrive. Standard output is the same.
 
 Exit status:
   0  done, also where an event was refused
@@ -48,6 +54,33 @@ terminal and by any choice of a link in a group; a header that is no label is to
 be dropped where it comes in. Prints `accepted`, or the first fault, with the
 header, the terminal that it comes from, and the inputs on its way.";
 
+const TEACHING_LABEL: &str =
+    "For each terminal a line with its first label and how many it has, in decimal;
+then for each switch a line for each register that doesn't read as after a reset,
+with its address and its value in hexadecimal digits.";
+
+/// What the command line asks for, and whether people are to be told of what goes wrong wherever standard error
+/// goes.
+#[derive(Clone, Copy)]
+pub struct Words<'a> {
+    /// What is asked for.
+    pub order: Order<'a>,
+    /// Whether `--explain` is said.
+    pub explain: bool,
+}
+
+impl<'a> Words<'a> {
+    /// What the words ask for, of which the first is the program's name. The error is a wrong usage,
+    /// a text of help or of the version that was asked for, or out of memory.
+    pub fn read(alloc: Global, words: &'a [String]) -> Result<Self, Error> {
+        let matches = command_line(alloc)?.try_get_matches_from(words)?;
+        Ok(Words {
+            order: Order::of_matches(&matches),
+            explain: matches.get_flag(EXPLAIN),
+        })
+    }
+}
+
 /// What the command line asks for. A path is a file's, or `-` for standard input.
 #[derive(Clone, Copy)]
 pub enum Order<'a> {
@@ -65,16 +98,14 @@ pub enum Order<'a> {
         /// The description's path.
         description: &'a str,
     },
+    /// The labels of a description.
+    Label {
+        /// The description's path.
+        description: &'a str,
+    },
 }
 
 impl<'a> Order<'a> {
-    /// What the words ask for, of which the first is the program's name. The error is a wrong usage,
-    /// a text of help or of the version that was asked for, or out of memory.
-    pub fn read(alloc: Global, words: &'a [String]) -> Result<Self, Error> {
-        let matches = command_line(alloc)?.try_get_matches_from(words)?;
-        Ok(Order::of_matches(&matches))
-    }
-
     /// The order of words that were matched: no command, or one of those that there are.
     fn of_matches(matches: &ArgMatches<'a>) -> Self {
         let Some((command, given)) = matches.subcommand() else {
@@ -85,6 +116,9 @@ impl<'a> Order<'a> {
         };
         if command == CHECK {
             return Order::Check { description };
+        }
+        if command == LABEL {
+            return Order::Label { description };
         }
         match given.get_str(SCRIPT) {
             Some(script) => Order::RunFiles {
@@ -100,7 +134,7 @@ impl<'a> Order<'a> {
     pub fn path(self, number: u8) -> &'a str {
         match self {
             Order::RunText => STANDARD_INPUT,
-            Order::Check { description } => description,
+            Order::Check { description } | Order::Label { description } => description,
             Order::RunFiles { description, .. } if number == 0 => description,
             Order::RunFiles { script, .. } => script,
         }
@@ -111,6 +145,17 @@ impl<'a> Order<'a> {
 const RUN: &str = "run";
 
 const CHECK: &str = "check";
+
+const LABEL: &str = "label";
+
+/// The option that asks for messages.
+const EXPLAIN: &str = "explain";
+
+/// The same, as a word of the command line.
+pub const EXPLAIN_WORD: &str = "--explain";
+
+const EXPLAIN_HELP: &str = "Tells on standard error what is wrong with a line, and what didn't arrive;
+so it is without this where standard error is a terminal";
 
 /// The names of arguments, as help shows them.
 const DESCRIPTION: &str = "DESC";
@@ -126,9 +171,20 @@ fn command_line<'a>(alloc: Global) -> Result<Command<'a>, AllocError> {
         .version(VERSION)
         .about(ABOUT)
         .after_help(TEACHING)
+        .arg(explain_option(alloc))?
         .subcommand(run_command(alloc)?)?
-        .subcommand(check_command(alloc)?)?;
+        .subcommand(check_command(alloc)?)?
+        .subcommand(label_command(alloc)?)?;
     Ok(command)
+}
+
+/// `--explain`, before or behind any command.
+fn explain_option<'a>(alloc: Global) -> Arg<'a> {
+    Arg::new(alloc, EXPLAIN)
+        .long(EXPLAIN)
+        .help(EXPLAIN_HELP)
+        .action(ArgAction::SetTrue)
+        .global(true)
 }
 
 /// `run [DESC SCRIPT]`: neither of the two stands without the other.
@@ -152,5 +208,16 @@ fn check_command<'a>(alloc: Global) -> Result<Command<'a>, AllocError> {
     Command::new(alloc, CHECK)
         .about(ABOUT_CHECK)
         .after_help(TEACHING_CHECK)
+        .arg(description)
+}
+
+/// `label DESC`.
+fn label_command<'a>(alloc: Global) -> Result<Command<'a>, AllocError> {
+    let description = Arg::new(alloc, DESCRIPTION)
+        .help(DESCRIPTION_HELP)
+        .required(true);
+    Command::new(alloc, LABEL)
+        .about(ABOUT_LABEL)
+        .after_help(TEACHING_LABEL)
         .arg(description)
 }

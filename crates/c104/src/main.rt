@@ -2,21 +2,24 @@
 //!
 //! `main` reads the command line, opens what it names, calls the function of a command and says what that
 //! function's `Status` means: a message on standard error and an exit status. The words of the command
-//! line and its help are in `command_line`, what a path stands for in `sources`; the functions of the
-//! commands are those of `c104_commands`.
+//! line and its help are in `command_line`, what a path stands for in `sources`, what people are told beside the
+//! answers in `told`; the functions of the commands are those of `c104_commands`.
 #![tactic(auto)]
 
 mod command_line;
 mod sources;
+mod told;
 
-pub use c104_commands::{Status, check_command, run, run_text};
+pub use c104_commands::{Status, check_command, label_command, run, run_text};
+pub use c104_commands::{check_explained, label_explained, run_explained, run_text_explained};
 use clap::error::ErrorKind;
-use command_line::Order;
+use command_line::{Order, Words};
 use sources::Source;
 use std::fs::File;
 use std::io::Input;
 use std::process::ExitCode;
 use std::{env, io};
+use told::{Told, tell_of_words};
 
 /// The exit status of a wrong command line.
 const WRONG_USAGE: u8 = 2;
@@ -45,8 +48,11 @@ fn command_words(rt: &HostRuntime) -> io::Result<Vec<String>> {
 
 /// Does what the words ask for, or says what is wrong with them. Help and the version are no fault.
 fn do_words(rt: &HostRuntime, words: &[String]) -> ExitCode {
-    let error = match Order::read(rt.alloc(), words) {
-        Ok(order) => return finish(rt, do_order(rt, order), order),
+    let error = match Words::read(rt.alloc(), words) {
+        Ok(words) => {
+            let mut told = Told::new(rt, words.order, words.explain);
+            return finish(rt, do_order(rt, words.order, &mut told), words.order);
+        }
         Err(error) => error,
     };
     if error.kind() == ErrorKind::OutOfMemory {
@@ -54,6 +60,7 @@ fn do_words(rt: &HostRuntime, words: &[String]) -> ExitCode {
     }
     let shown = error.print(rt);
     if error.use_stderr() {
+        tell_of_words(rt, words, &error);
         return ExitCode::from(WRONG_USAGE);
     }
     let status = match shown {
@@ -63,20 +70,28 @@ fn do_words(rt: &HostRuntime, words: &[String]) -> ExitCode {
     finish(rt, status, Order::RunText)
 }
 
-/// Does an order.
-fn do_order(rt: &HostRuntime, order: Order<'_>) -> Status {
+/// Does an order, and tells what people are to be told.
+fn do_order(rt: &HostRuntime, order: Order<'_>, told: &mut Told<'_>) -> Status {
     match order {
-        Order::RunText => run_text(rt.alloc(), &mut rt.reader(), &mut io::writer(rt)),
+        Order::RunText => {
+            run_text_explained(rt.alloc(), &mut rt.reader(), &mut io::writer(rt), told)
+        }
         Order::RunFiles {
             description,
             script,
-        } => run_files(rt, description, script),
-        Order::Check { description } => check_file(rt, description),
+        } => run_files(rt, description, script, told),
+        Order::Check { description } => check_file(rt, description, told),
+        Order::Label { description } => label_file(rt, description, told),
     }
 }
 
 /// Runs two files. Both are opened, the description's first, before anything is read.
-fn run_files(rt: &HostRuntime, description: &str, script: &str) -> Status {
+fn run_files(
+    rt: &HostRuntime,
+    description: &str,
+    script: &str,
+    told: &mut Told<'_>,
+) -> Status {
     let opened: io::Result<HostSource> = Source::open(rt, description);
     let Ok(mut description) = opened else {
         return Status::CannotRead(0);
@@ -85,21 +100,41 @@ fn run_files(rt: &HostRuntime, description: &str, script: &str) -> Status {
     let Ok(mut script) = opened else {
         return Status::CannotRead(1);
     };
-    run(
+    run_explained(
         rt.alloc(),
         &mut description,
         &mut script,
         &mut io::writer(rt),
+        told,
     )
 }
 
 /// Checks the labels of a description's file.
-fn check_file(rt: &HostRuntime, description: &str) -> Status {
+fn check_file(rt: &HostRuntime, description: &str, told: &mut Told<'_>) -> Status {
     let opened: io::Result<HostSource> = Source::open(rt, description);
     let Ok(mut description) = opened else {
         return Status::CannotRead(0);
     };
-    check_command(rt.alloc(), &mut description, &mut io::writer(rt))
+    check_explained(
+        rt.alloc(),
+        &mut description,
+        &mut io::writer(rt),
+        told,
+    )
+}
+
+/// Labels the network of a description's file.
+fn label_file(rt: &HostRuntime, description: &str, told: &mut Told<'_>) -> Status {
+    let opened: io::Result<HostSource> = Source::open(rt, description);
+    let Ok(mut description) = opened else {
+        return Status::CannotRead(0);
+    };
+    label_explained(
+        rt.alloc(),
+        &mut description,
+        &mut io::writer(rt),
+        told,
+    )
 }
 
 /// Says on standard error what failed, and gives the exit status.

@@ -10,3 +10,5 @@ pub mod LinkLemmas
 pub mod TableLemmas
 pub mod RefusalLemmas
 pub mod CheckLemmas
+pub mod PeerLemmas
+pub mod MendLemmas

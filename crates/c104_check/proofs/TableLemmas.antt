@@ -12,7 +12,7 @@ use Rattle.c104_regs.specs.declared.settings.Settings.{Settings}
 use Rattle.c104_regs.proofs.ContinueLemmas.{bit-continues_at, bit_at-continue_bits}
 use Rattle.c104_describe.specs.declared.ports.Port.{Port}
 use Rattle.c104_check.specs.Checks.{DeletesInside, HasLarge, IsMixed, Meet}
-use Rattle.c104_check.specs.Routes.{Routes, SwitchPort, has_label, header_count, length_at, length_or_one, link_peers, link_settings, or_no_settings, place, port_at, select, settings_at, settings_in, to_port}
+use Rattle.c104_check.specs.Routes.{Routes, SwitchPort, has_label, is_in_group, header_count, length_at, length_or_one, link_peers, link_settings, or_no_settings, place, port_at, select, settings_at, settings_in, to_port}
 use Rattle.c104_check.specs.Trails.{AreWays, IsInput, IsNetwork}
 use Rattle.c104_check.specs.Walks.{peers_that, ways_of}
 use Rattle.c104_check.proofs.LinkLemmas.{at_place, place_below}
@@ -65,12 +65,16 @@ word_read all words s w are below is =
     word_given w (slice_get all s) (sym (slice_get-map continue_bits all s) ∙ ap (λ xs. slice_get xs s) (sym are) ∙ at)
 
 -- the links of a group, by the word
-pub ways_link : (routes : Routes) (h g word first last : ℕ) (p : SwitchPort) → select routes p.switch p.link h ≡ Some (Link g) → word ≡ continue_bits (settings_at routes p.switch) → AreMembers (has_bit word) g first last → first ≤ last → last < 32 → AreWays routes h p first last
-ways_link routes h g word first last p at is members order below =
-    let xs = settings_at routes p.switch in
+pub group_members : (routes : Routes) (s g word first last : ℕ) → word ≡ continue_bits (settings_at routes s) → AreMembers (has_bit word) g first last → (o : ℕ) → is_in_group routes s g o ≡ between first last o
+group_members routes s g word first last is members o =
+    let xs = settings_at routes s in
     let bit : (l : ℕ) → has_bit word l ≡ continues_at xs l = λ l. bit-continues_at xs word (λ k. ap (λ w. bit_at w k) is ∙ bit_at-continue_bits xs k) l in
     let tests : has_bit word ≡ continues_at xs = λ i l. bit l i in
-    let same : group_contains (continues_at xs) g ≡ between first last = λ i o. (ap (λ f. group_contains f g o) (sym tests) ∙ members o) i in
+    ap (λ f. group_contains f g o) (sym tests) ∙ members o
+
+pub ways_link : (routes : Routes) (h g first last : ℕ) (p : SwitchPort) → select routes p.switch p.link h ≡ Some (Link g) → ((o : ℕ) → is_in_group routes p.switch g o ≡ between first last o) → first ≤ last → last < 32 → AreWays routes h p first last
+ways_link routes h g first last p at members order below =
+    let same : is_in_group routes p.switch g ≡ between first last = λ i o. members o i in
     record {
       in_order = order;
       below = below;

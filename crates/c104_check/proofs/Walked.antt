@@ -145,7 +145,7 @@ mark_set n marks p q m here there inside =
       | inr differ ↦ inr ((λ e. differ (ap place e)), get_or-set_other marks (place p) (place q) m New differ)
     ]
 
-is_port-refl : (p : SwitchPort) → is_port p p ≡ true
+pub is_port-refl : (p : SwitchPort) → is_port p p ≡ true
 is_port-refl p = rw (eq-eqb p.switch p.switch refl, eq-eqb p.link p.link refl) refl
 
 met_last : (walk : List SwitchPort) (p : SwitchPort) → is_met p (walk ++ (p ∷ [])) ≡ true
@@ -156,7 +156,7 @@ met_last (x ∷ walk) p = or_true (is_port p x) (met_last walk p)
     or_true true is = refl
     or_true false is = is
 
-other_port : (p q : SwitchPort) → (q ≡ p → ⊥) → is_port q p ≡ false
+pub other_port : (p q : SwitchPort) → (q ≡ p → ⊥) → is_port q p ≡ false
 other_port p q other = elim (cases_Bool (is_port q p)) [ inl same ↦ absurd (other (is_port-true q p same)) | inr differ ↦ differ ]
 
 met_others : (walk : List SwitchPort) (p q : SwitchPort) → (q ≡ p → ⊥) → is_met q (walk ++ (p ∷ [])) ≡ is_met q walk

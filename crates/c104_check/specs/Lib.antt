@@ -6,3 +6,5 @@ pub mod CheckFaults
 pub mod Trails
 pub mod Walking
 pub mod Refusals
+pub mod Tables
+pub mod Mends

@@ -3,13 +3,17 @@
 //!
 //! [`check`] accepts an image for a plan, or tells the first [`CheckFault`]. It looks at the labels, at
 //! the settings of the links, and then walks with each header from each terminal's input. A walk that
-//! shows a fault is told with it, as [`Shown`].
+//! shows a fault is told with it, as [`Shown`]. Of such a fault [`find_misstep`] tells which step of the walk
+//! leads wrong, and [`find_mend`] what the header would have to select.
 #![tactic(auto)]
 
 mod acceptance;
 mod faults;
 mod headers;
 mod links;
+mod mends;
+mod missteps;
+mod peers;
 mod ports;
 mod ranges;
 mod routes;
@@ -17,4 +21,6 @@ mod walks;
 
 pub use acceptance::{Accepted, check};
 pub use faults::{CheckFault, Shown};
+pub use mends::{Mend, find_mend};
+pub use missteps::{Misstep, find_misstep};
 pub use ports::SwitchPort;

@@ -2,11 +2,10 @@
 ghost use Rattle.std.specs.Prelude.{◌≡◌, ◌≤◌, ◌*◌, length, map, position, is_some, ◌<◌, All, IfOk, IfSome};
 ghost use Rattle.c104_regs.specs.Groups.{continue_bits};
 ghost use Rattle.c104_regs.specs.declared.registers.TheConstants.{LINKS};
-ghost use Rattle.c104_describe.specs.Plans.{most_switches};
-ghost use Rattle.c104_describe.specs.PlanImage.{AreSettings, Fits};
-ghost use Rattle.c104_describe.specs.Wiring.{peer};
-ghost use Rattle.c104_check.specs.Routes.{has_label, length_at, link_peers, to_port};
+ghost use Rattle.c104_describe.specs.PlanImage.{AreSettings};
+ghost use Rattle.c104_check.specs.Routes.{has_label, length_at};
 
+use crate::peers::link_peers;
 use crate::ports::SwitchPort;
 use c104_crossbar::Group;
 use c104_describe::{Image, Plan, Port, SwitchImage};
@@ -52,9 +51,11 @@ impl<'a> Model for Routes<'a> {
 }
 
 impl<'a> Routes<'a> {
-    ghost use Rattle.std.specs.Prelude.{◌≡◌, ◌<◌, length, nat_le, ◌&&◌, IfOk, MatchOption, None, Some};
+    ghost use Rattle.std.specs.Prelude.{◌≡◌, ◌<◌, ◌≤◌, ℕ, length, nat_le, ◌&&◌, IfOk, MatchOption, None, Some};
+    ghost use Rattle.c104_interval.specs.declared.intervals.Select.TheVariants.{Link};
+    ghost use Rattle.c104_regs.specs.declared.registers.TheConstants.{LINKS as THE_LINKS};
     ghost use Rattle.c104_describe.specs.PlanImage.{Fits};
-    ghost use Rattle.c104_check.specs.Routes.{IsEntryOf, header_count, link_settings, owner, routes_of, select, to_port};
+    ghost use Rattle.c104_check.specs.Routes.{IsEntryOf, header_count, is_in_group, link_settings, owner, routes_of, select, to_port};
     ghost use Rattle.c104_check.specs.Trails.{AreWays, IsInput, IsNetwork, routes_in};
     ghost use Rattle.c104_check.specs.Walks.{ways};
 
@@ -70,7 +71,7 @@ impl<'a> Routes<'a> {
     {
         let terminals = plan.terminals().len();
         let settings = image.switches();
-        let peers = link_peers(alloc, plan, settings.len())?;
+        let peers = link_peers(alloc, plan)?;
         let continues = all_continues(alloc, settings)?;
         let ranges = ranges(alloc, image, terminals)?;
         let header = header_bytes(peers.as_slice(), settings);
@@ -126,16 +127,18 @@ impl<'a> Routes<'a> {
     /// What is set at a link.
     pub(crate) fn settings(&self, at: SwitchPort) -> &Settings
         requires { IsInput (length (routes_in self.now).settings) at }
-        ensures { link_settings (routes_in self.now).settings at ≡ Some result.now }
+        ensures settings { link_settings (routes_in self.now).settings at ≡ Some result.now }
+        ensures network { IsNetwork (routes_in self.now) }
     {
         let switches = self.settings;
         &switches[at.switch].settings()[at.link]
     }
 
-    /// What a header selects at an input.
+    /// What a header selects at an input. A link is one of the switch's.
     pub(crate) fn select(&self, header: u32, at: SwitchPort) -> Select
         requires { IsInput (length (routes_in self.now).settings) at }
-        ensures { select (routes_in self.now) at.switch at.link header ≡ Some result }
+        ensures select { select (routes_in self.now) at.switch at.link header ≡ Some result }
+        ensures below { (g : ℕ) → result ≡ Link g → g < THE_LINKS }
     {
         self.settings(at).table.select(header)
     }
@@ -147,10 +150,22 @@ impl<'a> Routes<'a> {
             (λ group. AreWays (routes_in self.now) header at group.first group.last) }
     {
         match self.select(header, at) {
-            Select::Link(link) => Some(Group::of(self.continues[at.switch], usize::from(link))),
+            Select::Link(link) => Some(self.group_of(at.switch, usize::from(link))),
             Select::Discard => None,
             Select::Sink => None,
         }
+    }
+
+    /// The group of a link.
+    pub(crate) fn group_of(&self, switch: usize, link: usize) -> Group
+        requires switch { switch < length (routes_in self.now).settings }
+        requires link { link < THE_LINKS }
+        ensures members { (o : ℕ) → is_in_group (routes_in self.now) switch link o
+            ≡ (nat_le result.first o && nat_le o result.last) }
+        ensures in_order { result.first ≤ result.last }
+        ensures below { result.last < THE_LINKS }
+    {
+        Group::of(self.continues[switch], link)
     }
 
     /// The first terminal whose range has a header.
@@ -184,26 +199,6 @@ pub(crate) fn has_label(range: (u32, u32), label: u32) -> bool
     ensures { result ≡ has_label range label }
 {
     range.0 <= label && label - range.0 < range.1
-}
-
-/// What each link of so many switches is wired to.
-fn link_peers(alloc: Global, plan: &Plan, switches: usize) -> Result<Vec<Option<Port>>, AllocError>
-    requires { switches ≤ most_switches }
-    ensures { IfOk result (λ peers. peers.items ≡ link_peers (peer plan.now) switches) }
-{
-    let mut peers = Vec::new(alloc);
-    for place in 0..switches * LINKS {
-        let at = SwitchPort::at(place);
-        peers.push(peer_at(plan, at))?;
-    }
-    Ok(peers)
-}
-
-/// What a link is wired to.
-fn peer_at(plan: &Plan, at: SwitchPort) -> Option<Port>
-    ensures { result ≡ peer plan.now (to_port at) }
-{
-    plan.peer(Port::Switch(at.switch, at.link))
 }
 
 /// The links that continue a group, by switch.

@@ -33,7 +33,7 @@ pub(crate) enum Mark {
 
 /// Where a link leads a header.
 #[derive(Clone, Copy, Debug)]
-enum Way {
+pub(crate) enum Way {
     /// To its owner.
     Home,
     /// To an input.
@@ -102,7 +102,7 @@ impl<'a> Routes<'a> {
 }
 
 /// Where a link leads a header with this owner, by what the link is wired to.
-fn way_of(peer: Option<Port>, owner: usize) -> Way
+pub(crate) fn way_of(peer: Option<Port>, owner: usize) -> Way
     ensures { result ≡ way_of owner peer }
 {
     match peer {

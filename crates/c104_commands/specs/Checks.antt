@@ -3,43 +3,39 @@
 use Rattle.std.specs.Prelude.{ℕ, ◌≡◌, ◌≢◌, ⊤, Bool, true, false, List, Option, Some, None, Result, Ok, Err}
 use Rattle.std.specs.Io.KnownBytes.{Appends, Keeps}
 use Rattle.c104_describe.specs.Plans.{Plan}
-use Rattle.c104_describe.specs.PlanImage.{hand_image}
+use Rattle.c104_describe.specs.PlanImage.{Image}
 use Rattle.c104_describe.specs.declared.faults.PlanFault.{PlanFault}
 use Rattle.c104_describe.specs.PlanText.{read_description}
 use Rattle.c104_stream.specs.Writing.{AppendsPrefix}
-use Rattle.c104_script.specs.Texts.{description_text}
 use Rattle.c104_check.specs.Checks.{IsCause}
-use Rattle.c104_check.specs.Routes.{IsAccepted, Routes, routes_of}
+use Rattle.c104_check.specs.Routes.{IsAccepted, routes_of}
 use Rattle.c104_check.specs.declared.faults.CheckFault.{CheckFault}
 use Rattle.c104_check.specs.declared.faults.CheckFault.TheVariants as fault
 use Rattle.c104_commands.specs.CheckTexts.{accepted_text, check_fault_text}
+use Rattle.c104_commands.specs.Setups.{ComesTo, SetupResult, refused_text}
 use Rattle.c104_commands.specs.declared.status.Status.{Status}
 use Rattle.c104_commands.specs.declared.status.Status.TheVariants as status
 
--- what decides where packets go in the network of a plan with its own labels
-abbrev pub own_routes : Plan → Routes
-own_routes plan = routes_of plan (hand_image plan)
-
--- a plan's own labels are refused: they aren't accepted, and this line tells the first fault
-pub record IsRefusedBy (plan : Plan) (text : List ℕ) : Type 0 where
+-- the labels of a plan with an image are refused: they aren't accepted, and this line tells the first fault
+pub record IsRefusedBy (plan : Plan) (image : Image) (text : List ℕ) : Type 0 where
   pub why : CheckFault
-  pub cause : IsCause (own_routes plan) why
+  pub cause : IsCause (routes_of plan image) why
   pub told : why ≢ fault.NoMemory
   pub line : text ≡ check_fault_text plan why
 
--- what a check prints of a description, and whether it is refused, itself or its labels
-abbrev pub Prints : Result Plan PlanFault → List ℕ → Bool → Type 0
-Prints (Err why) text refused = (text ≡ description_text why) × (refused ≡ true)
-Prints (Ok plan) text false = (text ≡ accepted_text) × IsAccepted (own_routes plan)
-Prints (Ok plan) text true = IsRefusedBy plan text
+-- what a check prints, by what its description comes to, and whether that is refused, itself or its labels
+abbrev pub Prints : SetupResult → List ℕ → Bool → Type 0
+Prints (Err why) text refused = (text ≡ refused_text why) × (refused ≡ true)
+Prints (Ok both) text false = (text ≡ accepted_text) × IsAccepted (routes_of both.0 both.1)
+Prints (Ok both) text true = IsRefusedBy both.0 both.1 text
 
 -- what a check has written when it ends so: all that it prints; or, where the writer failed, a prefix of
 -- that; and where the reader failed, or it is out of memory, nothing
 abbrev pub CheckEnds : Result Plan PlanFault → Option (List ℕ) → Option (List ℕ) → Status → Type 0
-CheckEnds due held holds status.Done = (text : List ℕ) × Prints due text false × Appends held holds text
-CheckEnds due held holds status.Refused = (text : List ℕ) × Prints due text true × Appends held holds text
+CheckEnds due held holds status.Done = (setup : SetupResult) × ComesTo due setup × (text : List ℕ) × Prints setup text false × Appends held holds text
+CheckEnds due held holds status.Refused = (setup : SetupResult) × ComesTo due setup × (text : List ℕ) × Prints setup text true × Appends held holds text
 CheckEnds due held holds (status.CannotRead n) = (n ≡ 0) × Keeps held holds
-CheckEnds due held holds status.CannotWrite = (text : List ℕ) × (refused : Bool) × Prints due text refused × AppendsPrefix held holds text
+CheckEnds due held holds status.CannotWrite = (setup : SetupResult) × ComesTo due setup × (text : List ℕ) × (refused : Bool) × Prints setup text refused × AppendsPrefix held holds text
 CheckEnds due held holds status.NoMemory = Keeps held holds
 
 -- a check of the description that a reader has left

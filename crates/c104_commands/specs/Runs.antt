@@ -1,5 +1,5 @@
 -- How a run ends, and what it has written then, where its reader and its writer tell their bytes.
-use Rattle.std.specs.Prelude.{ℕ, ◌≡◌, ◌⊎◌, ⊤, true, false, List, [], Option, Some, None, Result, Ok, Err}
+use Rattle.std.specs.Prelude.{ℕ, ◌≡◌, ◌⊎◌, ⊤, Bool, true, false, List, [], Option, Some, None, Result, Ok, Err}
 use Rattle.std.specs.Io.KnownBytes.{Appends, Keeps}
 use Rattle.c104_describe.specs.Plans.{Plan}
 use Rattle.c104_describe.specs.declared.faults.PlanFault.{PlanFault}
@@ -8,29 +8,36 @@ use Rattle.c104_stream.specs.Writing.{AppendsPrefix}
 use Rattle.c104_script.specs.Parts.{parts}
 use Rattle.c104_session.specs.Shown.{script_outcome, new_session, run_output}
 use Rattle.c104_session.specs.Runs.{AnswersPrefix}
+use Rattle.c104_commands.specs.Setups.{ComesTo, SetupResult, refused_text}
 use Rattle.c104_commands.specs.declared.status.Status.{Status}
 use Rattle.c104_commands.specs.declared.status.Status.TheVariants as status
 
--- the bytes of the answers to a script, of which a run that is out of memory has written a prefix; there
--- are none to a refused description
-abbrev pub answerable : Result Plan PlanFault → List ℕ → List ℕ
-answerable (Err fault) script = []
-answerable (Ok plan) script = (script_outcome (new_session plan) script).0
+-- what a run shows, by what its description comes to, and whether any of it was refused: the one line of a
+-- description or labels that are refused, or else what the run on the network shows
+abbrev pub setup_output : SetupResult → List ℕ → List ℕ × Bool
+setup_output (Err why) script = (refused_text why, true)
+setup_output (Ok both) script = run_output both.0 both.1 script
 
--- the script's reader failed, and the description is one
-abbrev pub FailsInScript : Result Plan PlanFault → List ℕ → Option (List ℕ) → Option (List ℕ) → Option (List ℕ) → Type 0
-FailsInScript (Err fault) script left held holds = ⊥
-FailsInScript (Ok plan) script left held holds = AnswersPrefix (new_session plan) script left held holds
+-- the bytes of the answers to a script, of which a run that is out of memory has written a prefix; there
+-- are none where there is no network
+abbrev pub answerable : SetupResult → List ℕ → List ℕ
+answerable (Err why) script = []
+answerable (Ok both) script = (script_outcome (new_session both.0 both.1) script).0
+
+-- the script's reader failed, and there is a network
+abbrev pub FailsInScript : SetupResult → List ℕ → Option (List ℕ) → Option (List ℕ) → Option (List ℕ) → Type 0
+FailsInScript (Err why) script left held holds = ⊥
+FailsInScript (Ok both) script left held holds = AnswersPrefix (new_session both.0 both.1) script left held holds
 
 -- what a run has written when it ends so: all that it shows; or, where a writer failed, a prefix of
--- that; where it is out of memory, a prefix of the answers; where the script's reader failed, the answers
--- to the lines that had ended; and where the description's reader failed, nothing
+-- that; where it is out of memory, nothing, or a prefix of the answers; where the script's reader failed, the
+-- answers to the lines that had ended; and where the description's reader failed, nothing
 abbrev pub DescriptionEnds : Result Plan PlanFault → List ℕ → Option (List ℕ) → Option (List ℕ) → Option (List ℕ) → Status → Type 0
-DescriptionEnds due script left held holds status.Done = Appends held holds (run_output due script).0 × ((run_output due script).1 ≡ false)
-DescriptionEnds due script left held holds status.Refused = Appends held holds (run_output due script).0 × ((run_output due script).1 ≡ true)
-DescriptionEnds due script left held holds (status.CannotRead n) = ((n ≡ 0) × Keeps held holds) ⊎ ((n ≡ 1) × FailsInScript due script left held holds)
-DescriptionEnds due script left held holds status.CannotWrite = AppendsPrefix held holds (run_output due script).0
-DescriptionEnds due script left held holds status.NoMemory = AppendsPrefix held holds (answerable due script)
+DescriptionEnds due script left held holds status.Done = (setup : SetupResult) × ComesTo due setup × Appends held holds (setup_output setup script).0 × ((setup_output setup script).1 ≡ false)
+DescriptionEnds due script left held holds status.Refused = (setup : SetupResult) × ComesTo due setup × Appends held holds (setup_output setup script).0 × ((setup_output setup script).1 ≡ true)
+DescriptionEnds due script left held holds (status.CannotRead n) = ((n ≡ 0) × Keeps held holds) ⊎ ((n ≡ 1) × ((setup : SetupResult) × ComesTo due setup × FailsInScript setup script left held holds))
+DescriptionEnds due script left held holds status.CannotWrite = (setup : SetupResult) × ComesTo due setup × AppendsPrefix held holds (setup_output setup script).0
+DescriptionEnds due script left held holds status.NoMemory = Keeps held holds ⊎ ((setup : SetupResult) × ComesTo due setup × AppendsPrefix held holds (answerable setup script))
 
 -- the same where nothing may be known of the script
 abbrev pub RunsDescription : Result Plan PlanFault → Option (List ℕ) → Option (List ℕ) → Option (List ℕ) → Option (List ℕ) → Status → Type 0

@@ -1,19 +1,28 @@
 //! Runs: a description, and a script that is answered on its network.
-ghost use Rattle.std.specs.Io.KnownBytes.{prepend_known};
-ghost use Rattle.c104_describe.specs.PlanText.{read_description};
+ghost use Rattle.std.specs.Prelude.{ℕ, ◌≡◌, ◌≤◌, List, Ok, Result, length};
+ghost use Rattle.std.specs.Io.KnownBytes.{IsAtEnd, prepend_known};
+ghost use Rattle.c104_describe.specs.PlanImage.{Fits};
+ghost use Rattle.c104_describe.specs.PlanText.{most_bytes, read_description};
+ghost use Rattle.c104_describe.specs.Plans.{Plan as ThePlan};
+ghost use Rattle.c104_describe.specs.declared.faults.PlanFault.{PlanFault as ThePlanFault};
+ghost use Rattle.c104_script.specs.Parts.{parts, AreOnlyParts, StopsBeforeScript};
+ghost use Rattle.c104_session.specs.Lines.{script_lines, AreOnlyLines};
+ghost use Rattle.c104_commands.specs.declared.status.Status.TheVariants as status;
+ghost use Rattle.c104_commands.specs.Setups.{ComesTo};
 ghost use Rattle.c104_commands.specs.Runs.{RunsParts, RunsDescription, RunsText};
 
-use crate::descriptions::refuse_description;
+use crate::setups::{Setup, refuse, set_up};
 use crate::status::Status;
-use c104_describe::{MAX_DESCRIPTION, PlanFaultKind, read_description};
+use c104_describe::MAX_DESCRIPTION;
+use c104_explain::{Behind, Messages, Silent};
 use c104_script::read_first_part;
-use c104_session::run_plan;
+use c104_session::run_plan_explained;
 use c104_stream::{Ahead, Halt, read_up_to};
 use std::alloc::Global;
 use std::io::{Read, Write};
 
-/// Reads a description, and then reads and answers a script on its network, started with its own
-/// rows; at the end writes what arrived. All answers are written before the script's reader is asked for
+/// Reads a description, and then reads and answers a script on its network, started with the image of
+/// its labels; at the end writes what arrived. All answers are written before the script's reader is asked for
 /// more.
 ///
 /// Reading ends at 1 MiB of a description and at 16 MiB of a script, whatever the reader. Each error
@@ -24,9 +33,37 @@ pub fn run<D: Read, S: Read, W: Write>(
     script: &mut S,
     writer: &mut W,
 ) -> Status
-    ensures { RunsParts (D.remaining description.old) (S.remaining script.old)
+    ensures runs { RunsParts (D.remaining description.old) (S.remaining script.old)
         (S.remaining script.new)
         (W.contents writer.old) (W.contents writer.new) result }
+
+    // A read fault 0 is of the description, and the script's reader wasn't asked; 1 is of the script, and
+    // the description was read to its end.
+    ensures of_description { result ≡ status.CannotRead 0 → script.new ≡ script.old }
+    ensures of_script { result ≡ status.CannotRead 1 → IsAtEnd (D.remaining description.new) }
+
+    // What the lines of a script are, in words.
+    ensures lines { (script : List ℕ) → AreOnlyLines script (script_lines script) }
+{
+    run_explained(alloc, description, script, writer, &mut Silent)
+}
+
+/// The same, and tells people of each line that is faulty, refused or not ready, and at the end of what
+/// didn't arrive. What is written and how it ends are what they are in `run`, whatever takes the messages does.
+#[tactic(auto, using(c104_session::proofs::LinesLaw::lines_law))]
+pub fn run_explained<D: Read, S: Read, W: Write, M: Messages>(
+    alloc: Global,
+    description: &mut D,
+    script: &mut S,
+    writer: &mut W,
+    messages: &mut M,
+) -> Status
+    ensures runs { RunsParts (D.remaining description.old) (S.remaining script.old)
+        (S.remaining script.new)
+        (W.contents writer.old) (W.contents writer.new) result }
+    ensures of_description { result ≡ status.CannotRead 0 → script.new ≡ script.old }
+    ensures of_script { result ≡ status.CannotRead 1 → IsAtEnd (D.remaining description.new) }
+    ensures lines { (script : List ℕ) → AreOnlyLines script (script_lines script) }
 {
     let text = match read_up_to(alloc, MAX_DESCRIPTION, description) {
         Ok(text) => text,
@@ -35,15 +72,41 @@ pub fn run<D: Read, S: Read, W: Write>(
     let Ok(mut ahead) = Ahead::new(alloc) else {
         return Status::NoMemory;
     };
-    run_description(alloc, text.as_slice(), &mut ahead, script, writer)
+    run_description(alloc, text.as_slice(), &mut ahead, script, writer, messages)
 }
 
 /// The same of one text: its description ends at the first line whose only word is `script`, and the
 /// script follows that line. Where there is no such line the script is empty, and where it hasn't
 /// ended within 1 MiB the description is too long.
 pub fn run_text<R: Read, W: Write>(alloc: Global, text: &mut R, writer: &mut W) -> Status
-    ensures { RunsText (R.remaining text.old) (R.remaining text.new)
+    ensures runs { RunsText (R.remaining text.old) (R.remaining text.new)
         (W.contents writer.old) (W.contents writer.new) result }
+
+    // A read fault 0 is of the description: the line `script` hasn't ended in what the reader gave.
+    ensures of_description { result ≡ status.CannotRead 0 →
+        StopsBeforeScript (R.remaining text.old) (R.remaining text.new) }
+
+    // What the parts of a text and the lines of a script are, in words.
+    ensures parted { (text : List ℕ) → AreOnlyParts text (parts text) }
+    ensures lines { (script : List ℕ) → AreOnlyLines script (script_lines script) }
+{
+    run_text_explained(alloc, text, writer, &mut Silent)
+}
+
+/// The same, and tells people what `run_explained` does, by the lines of the text.
+#[tactic(auto, using(c104_script::proofs::PartsLaw::parts_law, c104_session::proofs::LinesLaw::lines_law))]
+pub fn run_text_explained<R: Read, W: Write, M: Messages>(
+    alloc: Global,
+    text: &mut R,
+    writer: &mut W,
+    messages: &mut M,
+) -> Status
+    ensures runs { RunsText (R.remaining text.old) (R.remaining text.new)
+        (W.contents writer.old) (W.contents writer.new) result }
+    ensures of_description { result ≡ status.CannotRead 0 →
+        StopsBeforeScript (R.remaining text.old) (R.remaining text.new) }
+    ensures parted { (text : List ℕ) → AreOnlyParts text (parts text) }
+    ensures lines { (script : List ℕ) → AreOnlyLines script (script_lines script) }
 {
     let Ok(mut ahead) = Ahead::new(alloc) else {
         return Status::NoMemory;
@@ -52,33 +115,51 @@ pub fn run_text<R: Read, W: Write>(alloc: Global, text: &mut R, writer: &mut W) 
         Ok(description) => description,
         Err(fault) => return Status::of_halt(Halt::from(fault), 0),
     };
-    run_description(alloc, description.as_slice(), &mut ahead, text, writer)
+    let description = description.as_slice();
+    let mut messages = Behind::first_part(description, messages);
+    run_description(alloc, description, &mut ahead, text, writer, &mut messages)
 }
 
 /// Runs a script on the network of a description that is read.
-fn run_description<S: Read, W: Write>(
+#[tactic(auto, using(crate::proofs::Refusals::run_refused))]
+fn run_description<S: Read, W: Write, M: Messages>(
     alloc: Global,
     description: &[u8],
     ahead: &mut Ahead,
     script: &mut S,
     writer: &mut W,
+    messages: &mut M,
 ) -> Status
-    ensures { RunsDescription (read_description description.now)
+    ensures runs { RunsDescription (read_description description.now)
         (prepend_known ahead.old (S.remaining script.old)) (S.remaining script.new)
         (W.contents writer.old) (W.contents writer.new) result }
+    ensures of_script { (n : ℕ) → result ≡ status.CannotRead n → (n ≡ 1) × (length description.now ≤ most_bytes) }
 {
-    let fault = match read_description(alloc, description) {
-        Ok(plan) => {
-            return match run_plan(alloc, &plan, ahead, script, writer) {
-                Ok(false) => Status::Done,
-                Ok(true) => Status::Refused,
-                Err(halt) => Status::of_halt(halt, 1),
-            };
-        }
-        Err(fault) => fault,
-    };
-    if fault.kind == PlanFaultKind::NoMemory {
-        return Status::NoMemory;
+    match set_up(alloc, description) {
+        Ok(setup) => run_setup(alloc, &setup, ahead, script, writer, messages),
+        Err(fault) => refuse(alloc, description, fault, writer, messages),
     }
-    refuse_description(alloc, fault, writer)
+}
+
+/// Runs a script on a network.
+fn run_setup<S: Read, W: Write, M: Messages>(
+    alloc: Global,
+    setup: &Setup,
+    ahead: &mut Ahead,
+    script: &mut S,
+    writer: &mut W,
+    messages: &mut M,
+) -> Status
+    requires { Fits setup.now.image setup.now.plan }
+    ensures runs { (due : Result ThePlan ThePlanFault) → ComesTo due (Ok (setup.now.plan, setup.now.image))
+        → RunsDescription due
+        (prepend_known ahead.old (S.remaining script.old)) (S.remaining script.new)
+        (W.contents writer.old) (W.contents writer.new) result }
+    ensures of_script { (n : ℕ) → result ≡ status.CannotRead n → n ≡ 1 }
+{
+    match run_plan_explained(alloc, &setup.plan, &setup.image, ahead, script, writer, messages) {
+        Ok(false) => Status::Done,
+        Ok(true) => Status::Refused,
+        Err(halt) => Status::of_halt(halt, 1),
+    }
 }

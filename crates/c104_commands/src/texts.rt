@@ -64,7 +64,7 @@ fn shown_text(alloc: Global, plan: &Plan, shown: &Shown) -> Result<String, Alloc
 }
 
 /// A port of a switch.
-fn port_text(alloc: Global, plan: &Plan, port: SwitchPort) -> Result<String, AllocError>
+pub(crate) fn port_text(alloc: Global, plan: &Plan, port: SwitchPort) -> Result<String, AllocError>
     ensures { IfOk result (λ text. string_bytes text ≡ port_text plan.now (to_port port)) }
 {
     let name = switch_name(plan, port.switch);
@@ -73,7 +73,7 @@ fn port_text(alloc: Global, plan: &Plan, port: SwitchPort) -> Result<String, All
 }
 
 /// The name of a switch; where there is none, nothing.
-fn switch_name(plan: &Plan, number: usize) -> &str
+pub(crate) fn switch_name(plan: &Plan, number: usize) -> &str
     ensures { result.now ≡ switch_name plan.now number }
 {
     match plan.switches().get(number) {
@@ -83,7 +83,7 @@ fn switch_name(plan: &Plan, number: usize) -> &str
 }
 
 /// The name of a terminal; where there is none, nothing.
-fn terminal_name(plan: &Plan, number: usize) -> &str
+pub(crate) fn terminal_name(plan: &Plan, number: usize) -> &str
     ensures { result.now ≡ terminal_name plan.now number }
 {
     match plan.terminals().get(number) {

@@ -11,10 +11,10 @@ use Rattle.c104_describe.specs.PlanImage.{AreSettings, IsImage, range_of, switch
 use Rattle.c104_describe.proofs.PlanSettings.{all_have_settings}
 use Rattle.std.specs.List.{range_with_len}
 
-abbrev AreRanges : List (ℕ × ℕ) → Type 0
+abbrev pub AreRanges : List (ℕ × ℕ) → Type 0
 AreRanges ranges = All (λ (range : ℕ × ℕ). IsRange range.0 range.1) ranges
 
-ranges_kept : (plan : Plan) (ranges : List (ℕ × ℕ)) → IsPlan plan → ranges ≡ map range_of plan.terminals → AreRanges ranges
+pub ranges_kept : (plan : Plan) (ranges : List (ℕ × ℕ)) → IsPlan plan → ranges ≡ map range_of plan.terminals → AreRanges ranges
 ranges_kept plan ranges kept same =
     All-same (λ (range : ℕ × ℕ). IsRange range.0 range.1) ranges (map range_of plan.terminals) same
     (All-map (λ (range : ℕ × ℕ). IsRange range.0 range.1) range_of plan.terminals kept.terminals.ranges)

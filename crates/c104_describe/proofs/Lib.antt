@@ -8,6 +8,20 @@ pub mod PlanLinks
 pub mod PlanRanges
 pub mod RowCounts
 pub mod PlanKept
+mod DistinctPlaces
+mod PrintedText
+mod PrintedNumbers
+mod PrintedPorts
+-- plans of meshes and cubes
+pub mod LayoutNumbers
+pub mod LayoutJoins
+pub mod RangeLists
+pub mod FilledNames
+pub mod FilledLinks
+pub mod FilledSteps
+pub mod FilledKept
+pub mod PlanRooted
+pub mod DraftsKept
 pub mod PlanLinesKept
 -- what the wiring of a plan keeps: networks of the plan are proved over it
 pub mod Wires
@@ -15,17 +29,21 @@ pub mod PlanTables
 pub mod PlanSettings
 pub mod FaultOrder
 pub mod FaultSteps
+pub mod MixedLast
 pub mod LineFaultLaws
 pub mod PlanDue
-mod DistinctPlaces
-mod PrintedText
-mod PrintedNumbers
-mod PrintedPorts
 mod NameText
 mod PrintedSteps
-mod PrintedPlans
 mod PrintedParts
+mod PrintedWords
+mod PrintedByHand
+mod PrintedDeletes
+mod CountedPlans
+mod PrintedTrees
+mod PrintedFills
+mod PrintedPlans
 pub mod KeptUpdates
 pub mod SwitchImageSteps
 pub mod ImageSteps
 pub mod ImageMade
+pub mod LabelledSettings

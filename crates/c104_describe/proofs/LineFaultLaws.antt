@@ -1,8 +1,8 @@
 -- What a line answers is the first of its faults: its conditions, in the order in which they are asked,
 -- and the conditions of each fault by itself agree. A law for each kind of line.
-use Rattle.std.proofs.Common.{◌≡◌, ℕ, ◌+◌, ◌==◌, ◌&&◌, ◌||◌, Bool, true, false, not, List, [], ◌∷◌, length, nat_le, nat_lt, bytes_eq, codes, if◌then◌else◌, is_some, Option, Some, None, Result, Ok, Err, get_or, sym, ◌∙◌, ap, ap₂, refl, arith}
+use Rattle.std.proofs.Common.{◌≡◌, ℕ, ◌+◌, ◌*◌, ◌^◌, ◌==◌, ◌&&◌, ◌||◌, Bool, true, false, not, List, [], ◌∷◌, length, nat_le, nat_lt, bytes_eq, codes, if◌then◌else◌, is_some, Option, Some, None, Result, Ok, Err, get_or, sym, ◌∙◌, ap, ap₂, refl, arith}
 use Rattle.std.specs.List.{find}
-use Rattle.std.specs.Option.{option_map_or}
+use Rattle.std.specs.Option.{option_map_or, unwrap_or}
 use Rattle.std.proofs.lemmas.Bool.{both_ways, and_from, and_parts, eqb-true, eqb-false, le-leb}
 use Rattle.std.proofs.lemmas.Bool.Decides.{nat_tests}
 use Rattle.std.proofs.lemmas.Slice.Eq.{bytes_eq-Decides}
@@ -12,7 +12,7 @@ use Rattle.c104_interval.specs.declared.intervals.Select.{Select}
 use Rattle.c104_interval.specs.declared.intervals.Select.TheVariants.{Link, Sink}
 use Rattle.c104_describe.specs.declared.ports.Port.TheVariants as port
 use Rattle.c104_describe.specs.declared.words.Keyword.TheVariants as keyword
-use Rattle.c104_describe.specs.declared.faults.PlanFaultKind.TheVariants.{BadName, BadNumber, BadShape, LinkTaken, NameTaken, SelfWire, TooMany, Twice, UnknownName, UnknownWord}
+use Rattle.c104_describe.specs.declared.faults.PlanFaultKind.TheVariants.{BadName, BadNumber, BadShape, LinkTaken, MixedStyle, NameTaken, SelfWire, TooMany, Twice, UnknownName, UnknownWord}
 use Rattle.c104_describe.specs.TextCut.{uncommented_line, line_words, is_plain_line}
 use Rattle.c104_describe.specs.TextWords.{read_number, is_name}
 use Rattle.c104_describe.specs.PlanFaults.{PlanFaultKind}
@@ -20,14 +20,12 @@ use Rattle.c104_describe.specs.Ports.{Port, is_any_at}
 use Rattle.c104_describe.specs.Plans.{Plan, PlanBase, switch_number, terminal_number, is_taken, is_linked, is_continued, is_deleted, rows_of, next_first, most_switches, most_terminals, most_header_bytes, label_count, last_link, is_buffer_size}
 use Rattle.c104_describe.specs.Checks.{◌>>=◌, ◌>>◌, require, value_or_fault}
 use Rattle.c104_describe.specs.PlanWords.{Keyword, keyword_of, range_words, select_word, number_within}
-use Rattle.c104_describe.specs.PlanLines.{Draft, switch_line, terminal_line, wire_line, continue_line, delete_line, base_line, row_line, header_line, buffer_line, in_draft, keyword_line, read_plan_words, read_plan_line}
-use Rattle.c104_describe.specs.LineFaults.{LineParts, keyword_parts, terminal_parts, first_word_parts, line_parts, is_fault_of, port_name, port_link, named_port, names_port, row_count, number_said, is_from_to, is_bad_number, selected_link, has_fault, IsLeastFault, IsFaultless}
+use Rattle.c104_describe.specs.PlanDrafts.{Draft, is_mixed}
+use Rattle.c104_describe.specs.PlanLines.{label_line, mesh_line, cube_line, after_from, switch_line, terminal_line, wire_line, continue_line, delete_line, base_line, row_line, header_line, buffer_line, in_draft, keyword_line, read_plan_words, read_plan_line}
+use Rattle.c104_describe.specs.LineFaults.{LineParts, keyword_parts, terminal_parts, first_word_parts, line_parts, port_name, port_link, named_port, names_port, row_count, number_said, value_said, is_from_to, is_bad_number, selected_link, has_fault, IsLeastFault, IsFaultless}
 use Rattle.c104_describe.proofs.FaultOrder.{all_faults, applies, none_lesser, none_at_all}
+use Rattle.c104_describe.proofs.MixedLast.{first_fault, mixed_last}
 use Rattle.c104_describe.proofs.FaultSteps.{error_of, of_draft, holds_as, holds, fails_as, both_as, value, tested, number, number_if_said, cut, lone, after_both, port_first}
-
--- the first of the faults of a line of these parts
-abbrev pub first_fault : Plan → LineParts → Option PlanFaultKind
-first_fault plan parts = find (is_fault_of plan parts) all_faults
 
 -- one more is too many where there are as many as there may be
 one_more : (there most : ℕ) → nat_lt most (there + 1) ≡ not (nat_lt there most)
@@ -106,10 +104,14 @@ range_fault (a ∷ b ∷ c ∷ []) fault is = cc
 range_fault (a ∷ b ∷ c ∷ d ∷ []) fault is = chosen (bytes_eq a (codes "labels") && bytes_eq c (codes "from")) _ _ fault is (λ is. cc)
 range_fault (a ∷ b ∷ c ∷ d ∷ e ∷ more) fault is = cc
 
+-- a number that was read is the one that is said
+said : (word : List ℕ) (v : ℕ) → read_number word ≡ Some v → value_said word ≡ v
+said word v is = ap (λ o. unwrap_or o 0) is
+
 module _ (draft : Draft) where
   -- the faults of a line whose first word is known, and all of whose bytes are plain
   abbrev of_keyword : LineParts → Option PlanFaultKind
-  of_keyword parts = first_fault draft.plan (record parts { is_known = true; is_plain = true })
+  of_keyword parts = first_fault draft.plan (record parts { is_known = true; is_plain = true; is_mixed = false })
 
   switch_law : (name : List ℕ) → error_of (in_draft draft (switch_line draft.plan name)) ≡ of_keyword (keyword_parts draft keyword.Switch (name ∷ []))
   switch_law name =
@@ -118,9 +120,9 @@ module _ (draft : Draft) where
       fails_as _ _ (is_taken draft.plan name) (is_taken draft.plan name) NameTaken _ refl (
       holds_as _ _ (nat_lt (length draft.plan.switches) most_switches) (nat_lt most_switches (length draft.plan.switches + 1)) TooMany _ (one_more _ _) (λ room. refl)))
 
-  terminal_law : (name at : List ℕ) (labels from : Option (List ℕ)) → error_of (in_draft draft (terminal_line draft.plan name at labels from)) ≡ of_keyword (terminal_parts draft.plan name at (Ok (labels, from)))
-  terminal_law name at labels from =
-      of_draft draft _
+  terminal_law : (after : Draft) (name at : List ℕ) (labels from : Option (List ℕ)) → error_of (in_draft after (terminal_line draft.plan name at labels from)) ≡ of_keyword (terminal_parts draft.plan name at (Ok (labels, from)))
+  terminal_law after name at labels from =
+      of_draft after _
       ∙ port_first at _
       ∙ cut _ _ at _ (
       number _ _ 0 last_link (port_link at) _ (λ link is within.
@@ -202,10 +204,39 @@ module _ (draft : Draft) where
       holds_as _ _ (nat_lt (length (rows_of (port.Switch switch link) draft.plan.rows)) ROWS) (nat_lt ROWS (row_count draft.plan at + 1)) TooMany _
       (ap (λ n. nat_lt ROWS (n + 1)) (counted draft.plan at switch link known is) ∙ one_more _ _) (λ room. refl)))))))
 
+  label_law : (style name : List ℕ) → error_of (label_line draft style name) ≡ of_keyword (keyword_parts draft keyword.Label (style ∷ name ∷ []))
+  label_law style name =
+      holds _ _ (bytes_eq style (codes "tree")) BadShape _ (λ shaped.
+      holds _ _ (is_name name) BadName _ (λ named.
+      value _ _ (switch_number draft.plan name) UnknownName _ (λ root known.
+      lone _ (is_some draft.root) (is_some draft.root) Twice _ refl refl)))
+
+  mesh_law : (width height terminals : List ℕ) → error_of (in_draft draft (mesh_line draft.plan width height terminals)) ≡ of_keyword (keyword_parts draft keyword.Mesh (width ∷ height ∷ terminals ∷ []))
+  mesh_law width height terminals =
+      of_draft draft _
+      ∙ number _ _ 1 64 width _ (λ w wide wide_within.
+      number _ _ 1 64 height _ (λ h high high_within.
+      number _ _ 1 28 terminals _ (λ p some some_within.
+      both_as _ _
+      (nat_le (w * h) most_switches) (nat_le (w * h * p) most_terminals)
+      (nat_lt most_switches (value_said width * value_said height)) (nat_lt most_terminals (value_said width * value_said height * value_said terminals))
+      TooMany _
+      (ap₂ (λ a b. nat_lt most_switches (a * b)) (said width w wide) (said height h high) ∙ past (w * h) most_switches)
+      ((λ i. nat_lt most_terminals (said width w wide i * said height h high i * said terminals p some i)) ∙ past (w * h * p) most_terminals)
+      refl)))
+
+  cube_law : (dimensions terminals : List ℕ) → error_of (in_draft draft (cube_line draft.plan dimensions terminals)) ≡ of_keyword (keyword_parts draft keyword.Cube (dimensions ∷ terminals ∷ []))
+  cube_law dimensions terminals =
+      of_draft draft _
+      ∙ number _ _ 0 6 dimensions _ (λ d low low_within.
+      number _ _ 1 26 terminals _ (λ p some some_within.
+      holds_as _ _ (nat_le (2 ^ d * p) most_terminals) (nat_lt most_terminals (2 ^ value_said dimensions * value_said terminals)) TooMany _
+      (ap₂ (λ a b. nat_lt most_terminals (2 ^ a * b)) (said dimensions d low) (said terminals p some) ∙ past (2 ^ d * p) most_terminals) (λ room. refl)))
+
   -- with the words of its range
   range_law : (name at : List ℕ) (range : Result (Option (List ℕ) × Option (List ℕ)) PlanFaultKind) → ((fault : PlanFaultKind) → range ≡ Err fault → fault ≡ BadShape)
-      → error_of (in_draft draft (range >>= (λ range. terminal_line draft.plan name at range.0 range.1))) ≡ of_keyword (terminal_parts draft.plan name at range)
-  range_law name at (Ok range) shaped = terminal_law name at range.0 range.1
+      → error_of (range >>= (λ range. in_draft (after_from draft range.1) (terminal_line draft.plan name at range.0 range.1))) ≡ of_keyword (terminal_parts draft.plan name at range)
+  range_law name at (Ok range) shaped = terminal_law (after_from draft range.1) name at range.0 range.1
   range_law name at (Err fault) shaped = ap Some (shaped fault refl)
 
   keyword_law : (k : Keyword) (rest : List (List ℕ)) → error_of (keyword_line k draft rest) ≡ of_keyword (keyword_parts draft k rest)
@@ -218,14 +249,17 @@ module _ (draft : Draft) where
   keyword_law keyword.Delete (name ∷ []) = delete_law name
   keyword_law keyword.Base (at ∷ base ∷ []) = base_law at base
   keyword_law keyword.Row (at ∷ limit ∷ word ∷ []) = row_law at limit word
+  keyword_law keyword.Label (style ∷ name ∷ []) = label_law style name
+  keyword_law keyword.Mesh (width ∷ height ∷ terminals ∷ []) = mesh_law width height terminals
+  keyword_law keyword.Cube (dimensions ∷ terminals ∷ []) = cube_law dimensions terminals
   keyword_law k rest = refl
 
   first_word_law : (k : Option Keyword) (is_plain : Bool) (rest : List (List ℕ))
-      → error_of (value_or_fault k UnknownWord >>= λ k. require is_plain BadShape >> keyword_line k draft rest)
+      → error_of (value_or_fault k UnknownWord >>= λ k. require is_plain BadShape >> (keyword_line k draft rest >>= λ next. require (not (is_mixed draft k rest)) MixedStyle >> Ok next))
       ≡ first_fault draft.plan (record (first_word_parts draft k rest) { is_known = is_some k; is_plain = is_plain })
   first_word_law None is_plain rest = refl
   first_word_law (Some k) false rest = refl
-  first_word_law (Some k) true rest = keyword_law k rest
+  first_word_law (Some k) true rest = mixed_last draft.plan (record (keyword_parts draft k rest) { is_known = true; is_plain = true }) (keyword_line k draft rest) (is_mixed draft k rest) (keyword_law k rest)
 
   words_law : (is_plain : Bool) (words : List (List ℕ)) → error_of (read_plan_words draft is_plain words) ≡ first_fault draft.plan (line_parts draft is_plain words)
   words_law is_plain [] = refl

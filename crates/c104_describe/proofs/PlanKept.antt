@@ -10,7 +10,8 @@ use Rattle.c104_describe.specs.Distinctness.{AreDistinct}
 use Rattle.c104_describe.specs.TextWords.{is_name}
 use Rattle.c104_describe.specs.declared.ports.Port.TheVariants as port
 use Rattle.c104_describe.specs.Ports.{Port, Wire, is_port, both_ends, is_any_at, IsSwitchPort}
-use Rattle.c104_describe.specs.Plans.{Plan, PlanBase, PlanRow, Terminal, IsPlan, AreNames, AreTerminals, AreContinues, AreDeletes, AreBases, AreRows, IsPlanWire, IsLaterPort, IsRange, IsPlanSelect, names, host_port, linked_ports, is_taken, is_linked, is_continued, is_deleted, is_row_of, rows_of, is_buffer_size, label_count, most_switches, most_terminals, most_header_bytes}
+use Rattle.c104_describe.specs.declared.plans.Shape.TheVariants.{Hand, Tree, Mesh, Cube}
+use Rattle.c104_describe.specs.Plans.{Plan, PlanBase, PlanRow, Shape, Terminal, IsOfShape, IsPlan, AreNames, AreTerminals, AreContinues, AreDeletes, AreBases, AreRows, IsPlanWire, IsLaterPort, IsRange, IsPlanSelect, names, host_port, linked_ports, is_taken, is_linked, is_continued, is_deleted, is_row_of, rows_of, is_buffer_size, label_count, most_switches, most_terminals, most_header_bytes}
 use Rattle.c104_describe.proofs.Distinct.{distinct_inserted, distinct_pushed}
 use Rattle.c104_describe.proofs.PortLemmas.{is_port-flips, is_port-true, once-pushed}
 
@@ -59,21 +60,25 @@ module _ (m n : ℕ) (more : m ≤ n) where
     few = are.few;
   }
 
+-- the shape of a plan that is made line by line says nothing of it
+by_hand : (shape : Shape) (plan : Plan) → shape ≡ Hand → IsOfShape shape plan
+by_hand shape plan hand = subst (λ s. IsOfShape s plan) (sym hand) tt
+
 both_ends-append : (ws : List Wire) (w : Wire) → both_ends (ws ++ w ∷ []) ≡ both_ends ws ++ (w.here ∷ w.there ∷ [])
 both_ends-append [] w = refl
 both_ends-append (v ∷ ws) w = ap (λ ports. v.here ∷ v.there ∷ ports) (both_ends-append ws w)
 
 module _ (plan : Plan) (kept : IsPlan plan) where
-  pub with_switch : (name : List ℕ) → is_name name ≡ true → is_taken plan name ≡ false → length plan.switches < most_switches → IsPlan (record plan { switches = plan.switches ++ name ∷ [] })
+  pub with_switch : (name : List ℕ) → plan.shape ≡ Hand → is_name name ≡ true → is_taken plan name ≡ false → length plan.switches < most_switches → IsPlan (record plan { switches = plan.switches ++ name ∷ [] })
   unfolding is_taken
-  with_switch name named free room =
+  with_switch name hand named free room =
       let longer : length (plan.switches ++ name ∷ []) ≡ length plan.switches + 1 = length-append plan.switches (name ∷ []) in
       let more : length plan.switches ≤ length (plan.switches ++ name ∷ []) = omega arith in
       let of_terminals : List (List ℕ) = map (λ (t : Terminal). t.name) plan.terminals in
       record {
         header = kept.header;
         cap = kept.cap;
-        shape = kept.shape;
+        shape = by_hand plan.shape _ hand;
         few_switches = omega arith;
         names = record {
           named = All-inserted (λ other. is_name other ≡ true) plan.switches of_terminals name kept.names.named named;
@@ -103,13 +108,13 @@ module _ (plan : Plan) (kept : IsPlan plan) where
   unfolding is_linked
   links_with t free = rw (map-append host_port plan.terminals (t ∷ [])) (distinct_inserted is_port is_port-flips (map host_port plan.terminals) (both_ends plan.wires) (host_port t) free kept.links)
 
-  pub with_terminal : (t : Terminal) → is_name t.name ≡ true → is_taken plan t.name ≡ false → IsSwitchPort (length plan.switches) (host_port t) → is_linked plan (host_port t) ≡ false → length plan.terminals < most_terminals → IsRange t.first t.count → IsPlan (record plan { terminals = plan.terminals ++ t ∷ [] })
-  with_terminal t named free on_switch unlinked room range =
+  pub with_terminal : (t : Terminal) → plan.shape ≡ Hand → is_name t.name ≡ true → is_taken plan t.name ≡ false → IsSwitchPort (length plan.switches) (host_port t) → is_linked plan (host_port t) ≡ false → length plan.terminals < most_terminals → IsRange t.first t.count → IsPlan (record plan { terminals = plan.terminals ++ t ∷ [] })
+  with_terminal t hand named free on_switch unlinked room range =
       let longer : length (plan.terminals ++ t ∷ []) ≡ length plan.terminals + 1 = length-append plan.terminals (t ∷ []) in
       record {
         header = kept.header;
         cap = kept.cap;
-        shape = kept.shape;
+        shape = by_hand plan.shape _ hand;
         few_switches = kept.few_switches;
         names = names_with t named free;
         terminals = record {
@@ -142,11 +147,11 @@ module _ (plan : Plan) (kept : IsPlan plan) where
       ∙ ap (λ ends. map host_port plan.terminals ++ ends) (sym (both_ends-append plan.wires w)) in
       subst (AreDistinct is_port) same both
 
-  pub with_wire : (w : Wire) → IsPlanWire (length plan.switches) w → is_port w.here w.there ≡ false → is_linked plan w.here ≡ false → is_linked plan w.there ≡ false → IsPlan (record plan { wires = plan.wires ++ w ∷ [] })
-  with_wire w is_wire differ here_free there_free = record {
+  pub with_wire : (w : Wire) → plan.shape ≡ Hand → IsPlanWire (length plan.switches) w → is_port w.here w.there ≡ false → is_linked plan w.here ≡ false → is_linked plan w.there ≡ false → IsPlan (record plan { wires = plan.wires ++ w ∷ [] })
+  with_wire w hand is_wire differ here_free there_free = record {
     header = kept.header;
     cap = kept.cap;
-    shape = kept.shape;
+    shape = by_hand plan.shape _ hand;
     few_switches = kept.few_switches;
     names = kept.names;
     terminals = kept.terminals;
@@ -159,12 +164,19 @@ module _ (plan : Plan) (kept : IsPlan plan) where
     randoms = kept.randoms;
   }
 
+  -- what its shape says doesn't hang on its header length, its buffer size and its deletes
+  of_shape : (header cap : ℕ) (deletes : List ℕ) (shape : Shape) → IsOfShape shape plan → IsOfShape shape (record plan { header = header; cap = cap; deletes = deletes })
+  of_shape header cap deletes Hand is = tt
+  of_shape header cap deletes (Tree root) is = record { inside = is.inside; firsts = is.firsts; counts = is.counts; unset = record { continues = is.unset.continues; bases = is.unset.bases; rows = is.unset.rows } }
+  of_shape header cap deletes (Mesh w h p) is = (is.0, record { switches = is.1.switches; terminals = is.1.terminals; wires = is.1.wires; unset = record { continues = is.1.unset.continues; bases = is.1.unset.bases; rows = is.1.unset.rows } })
+  of_shape header cap deletes (Cube d p) is = (is.0, record { switches = is.1.switches; terminals = is.1.terminals; wires = is.1.wires; unset = record { continues = is.1.unset.continues; bases = is.1.unset.bases; rows = is.1.unset.rows } })
+
   -- the same switches, terminals and wires, and what else is said of them
-  with_settings : {header cap : ℕ} {continues : List Port} {deletes : List ℕ} {bases : List PlanBase} {rows : List PlanRow} → (0 < header) × (header ≤ most_header_bytes) → is_buffer_size cap ≡ true → AreContinues (length plan.switches) continues → AreDeletes (length plan.terminals) deletes → AreBases (length plan.switches) bases → AreRows (length plan.switches) rows → IsPlan (record plan { header = header; cap = cap; continues = continues; deletes = deletes; bases = bases; rows = rows })
-  with_settings header cap continues deletes bases rows = record {
+  with_settings : {header cap : ℕ} {continues : List Port} {deletes : List ℕ} {bases : List PlanBase} {rows : List PlanRow} → IsOfShape plan.shape (record plan { header = header; cap = cap; continues = continues; deletes = deletes; bases = bases; rows = rows }) → (0 < header) × (header ≤ most_header_bytes) → is_buffer_size cap ≡ true → AreContinues (length plan.switches) continues → AreDeletes (length plan.terminals) deletes → AreBases (length plan.switches) bases → AreRows (length plan.switches) rows → IsPlan (record plan { header = header; cap = cap; continues = continues; deletes = deletes; bases = bases; rows = rows })
+  with_settings shape header cap continues deletes bases rows = record {
     header = header;
     cap = cap;
-    shape = kept.shape;
+    shape = shape;
     few_switches = kept.few_switches;
     names = kept.names;
     terminals = kept.terminals;
@@ -177,21 +189,21 @@ module _ (plan : Plan) (kept : IsPlan plan) where
     randoms = kept.randoms;
   }
 
-  pub with_continue : (p : Port) → IsLaterPort (length plan.switches) p → is_continued plan p ≡ false → IsPlan (record plan { continues = plan.continues ++ p ∷ [] })
-  with_continue p later once = with_settings kept.header kept.cap (record {
+  pub with_continue : (p : Port) → plan.shape ≡ Hand → IsLaterPort (length plan.switches) p → is_continued plan p ≡ false → IsPlan (record plan { continues = plan.continues ++ p ∷ [] })
+  with_continue p hand later once = with_settings (by_hand plan.shape _ hand) kept.header kept.cap (record {
     later = All-push (IsLaterPort (length plan.switches)) plan.continues p kept.continues.later later;
     once = once-pushed (λ q. q) plan.continues p once kept.continues.once;
   }) kept.deletes kept.bases kept.rows
 
   pub with_delete : (terminal : ℕ) → terminal < length plan.terminals → is_deleted plan terminal ≡ false → IsPlan (record plan { deletes = plan.deletes ++ terminal ∷ [] })
   unfolding is_deleted
-  with_delete terminal known once = with_settings kept.header kept.cap kept.continues (record {
+  with_delete terminal known once = with_settings (of_shape plan.header plan.cap (plan.deletes ++ terminal ∷ []) plan.shape kept.shape) kept.header kept.cap kept.continues (record {
     known = All-push (λ t. t < length plan.terminals) plan.deletes terminal kept.deletes.known known;
     once = distinct_pushed (λ t u. t == u) plan.deletes terminal once kept.deletes.once;
   }) kept.bases kept.rows
 
-  pub with_base : (b : PlanBase) → IsSwitchPort (length plan.switches) b.port → b.base < label_count → is_any_at (λ (c : PlanBase). c.port) plan.bases b.port ≡ false → IsPlan (record plan { bases = plan.bases ++ b ∷ [] })
-  with_base b of_input range once = with_settings kept.header kept.cap kept.continues kept.deletes (record {
+  pub with_base : (b : PlanBase) → plan.shape ≡ Hand → IsSwitchPort (length plan.switches) b.port → b.base < label_count → is_any_at (λ (c : PlanBase). c.port) plan.bases b.port ≡ false → IsPlan (record plan { bases = plan.bases ++ b ∷ [] })
+  with_base b hand of_input range once = with_settings (by_hand plan.shape _ hand) kept.header kept.cap kept.continues kept.deletes (record {
     of_inputs = All-push (λ (c : PlanBase). IsSwitchPort (length plan.switches) c.port) plan.bases b kept.bases.of_inputs of_input;
     ranges = All-push (λ (c : PlanBase). c.base < label_count) plan.bases b kept.bases.ranges range;
     once = once-pushed (λ (c : PlanBase). c.port) plan.bases b once kept.bases.once;
@@ -207,15 +219,15 @@ module _ (plan : Plan) (kept : IsPlan plan) where
   unfolding rows_of
   few-row r p room = rw (filter-append (is_row_of p) plan.rows (r ∷ [])) (few-row_by r p (is_port r.port p) refl room)
 
-  pub with_row : (r : PlanRow) → IsSwitchPort (length plan.switches) r.port → r.limit ≤ label_count → IsPlanSelect r.select → length (rows_of r.port plan.rows) < 36 → IsPlan (record plan { rows = plan.rows ++ r ∷ [] })
-  with_row r of_input limit selectable room = with_settings kept.header kept.cap kept.continues kept.deletes kept.bases (record {
+  pub with_row : (r : PlanRow) → plan.shape ≡ Hand → IsSwitchPort (length plan.switches) r.port → r.limit ≤ label_count → IsPlanSelect r.select → length (rows_of r.port plan.rows) < 36 → IsPlan (record plan { rows = plan.rows ++ r ∷ [] })
+  with_row r hand of_input limit selectable room = with_settings (by_hand plan.shape _ hand) kept.header kept.cap kept.continues kept.deletes kept.bases (record {
     of_inputs = All-push (λ (q : PlanRow). IsSwitchPort (length plan.switches) q.port) plan.rows r kept.rows.of_inputs of_input;
     ranges = All-push (λ (q : PlanRow). (q.limit ≤ label_count) × IsPlanSelect q.select) plan.rows r kept.rows.ranges (limit, selectable);
     few = λ p. few-row r p room;
   })
 
   pub with_header : (bytes : ℕ) → 0 < bytes → bytes ≤ most_header_bytes → IsPlan (record plan { header = bytes })
-  with_header bytes some few = with_settings (some, few) kept.cap kept.continues kept.deletes kept.bases kept.rows
+  with_header bytes some few = with_settings (of_shape bytes plan.cap plan.deletes plan.shape kept.shape) (some, few) kept.cap kept.continues kept.deletes kept.bases kept.rows
 
   pub with_buffer : (size : ℕ) → is_buffer_size size ≡ true → IsPlan (record plan { cap = size })
-  with_buffer size is_size = with_settings kept.header is_size kept.continues kept.deletes kept.bases kept.rows
+  with_buffer size is_size = with_settings (of_shape plan.header size plan.deletes plan.shape kept.shape) kept.header is_size kept.continues kept.deletes kept.bases kept.rows

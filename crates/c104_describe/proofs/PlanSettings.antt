@@ -30,17 +30,17 @@ unfolding switch_settings
 settings_last plan switch links all = ap (λ n. map (settings_at plan switch) (range_with_len 0 n)) all
 
 -- a plan without random headers has none at a port
-no_random : (plan : Plan) (p : Port) → IsPlan plan → find (is_random_of p) plan.randoms ≡ None
+pub no_random : (plan : Plan) (p : Port) → IsPlan plan → find (is_random_of p) plan.randoms ≡ None
 no_random plan p kept = ap (find (is_random_of p)) kept.randoms
 
 -- a plan whose headers have one byte has no two-byte ones at a port
-one_byte : (plan : Plan) (p : Port) → IsPlan plan → (plan.header == 2 && is_some (peer plan p)) ≡ false
+pub one_byte : (plan : Plan) (p : Port) → IsPlan plan → (plan.header == 2 && is_some (peer plan p)) ≡ false
 one_byte plan p kept =
     let few : plan.header ≤ 1 = kept.header.1 in
     let no : (plan.header == 2) ≡ false = grind (arith, nat_tests) in
     rw no refl
 
-settings_in_range : (plan : Plan) (p : Port) → IsPlan plan → IsInRange (settings_of plan p)
+pub settings_in_range : (plan : Plan) (p : Port) → IsPlan plan → IsInRange (settings_of plan p)
 unfolding settings_of
 settings_in_range plan p kept =
     rw (no_random plan p kept) (IsInRange-from _ (one_byte plan p kept) refl (lit< tt) (lit≤ tt) (table_in_range plan p kept))

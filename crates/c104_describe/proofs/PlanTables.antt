@@ -1,11 +1,11 @@
 -- The rows of an input, filled into its table one after another.
-use Rattle.std.proofs.Common.{◌≡◌, ℕ, suc, ◌+◌, ◌-◌, ◌<◌, ◌≤◌, Bool, true, false, cond, List, [], ◌∷◌, ◌++◌, length, map, filter, take, set, get_or, replicate, All, inl, inr, subst, sym, ◌∙◌, ap, arith, append_assoc, append-nil, length-append, Some, lit<, refl}
+use Rattle.std.proofs.Common.{◌≡◌, ◌||◌, ℕ, suc, ◌+◌, ◌-◌, ◌<◌, ◌≤◌, Bool, true, false, cond, List, [], ◌∷◌, ◌++◌, length, map, filter, take, set, get_or, replicate, All, inl, inr, subst, sym, ◌∙◌, ap, arith, append_assoc, append-nil, length-append, Some, lit<, refl}
 use Rattle.std.proofs.Math.Seq.{set-append_seam}
 use Rattle.std.proofs.lemmas.List.{get_or_past, length-map, length-replicate, map-append, take_all}
 use Rattle.std.proofs.lemmas.List.Elements.{All-head, All-tail, All-append, All-filter, All-map, All-replicate, All-weaker, filter_more}
 use Rattle.std.proofs.lemmas.Bool.{cases_lt}
 use Rattle.std.proofs.lemmas.Bool.Decides.{nat_tests}
-use Rattle.std.specs.List.{find}
+use Rattle.std.specs.List.{find, list_any}
 use Rattle.std.proofs.lemmas.List.Sums.{length-filter, sum_by-take-le}
 use Rattle.c104_regs.specs.Ranges.{IsTableInRange}
 use Rattle.c104_regs.proofs.RangeNumbers.{IsSelectable, IsTableInRange-from}
@@ -14,7 +14,7 @@ use Rattle.c104_interval.specs.declared.intervals.Select.TheVariants.{Link, Disc
 use Rattle.c104_interval.specs.declared.intervals.Row.{Row}
 use Rattle.c104_interval.specs.declared.intervals.Table.{Table}
 use Rattle.c104_interval.specs.Selection.{reset_row}
-use Rattle.c104_describe.specs.Ports.{Port, is_of_switch, is_port}
+use Rattle.c104_describe.specs.Ports.{Port, is_any_at, is_of_switch, is_port}
 use Rattle.c104_describe.specs.declared.ports.Port.TheVariants as port
 use Rattle.c104_describe.specs.Plans.{IsPlan, IsPlanSelect, Plan, PlanBase, PlanRow, is_base_of, is_row_of, rows_of}
 use Rattle.c104_describe.specs.PlanImage.{base_of, base_or_zero, padded_rows, table_of, table_row}
@@ -148,3 +148,18 @@ table_in_range plan p kept =
       limits = λ k. (row_in_range (padded_rows rows) k (rows_in_range plan p kept)).0;
       selects = λ k. (row_in_range (padded_rows rows) k (rows_in_range plan p kept)).1;
     })
+
+-- and so are its continues
+continues_cons : (s l : ℕ) (q : Port) (ports more : List Port) (own of_switch : Bool) → own ≡ is_port q (port.Switch s l) → of_switch ≡ is_of_switch s q → list_any (λ p. is_port p (port.Switch s l)) more ≡ list_any (λ p. is_port p (port.Switch s l)) ports
+    → list_any (λ p. is_port p (port.Switch s l)) (cond of_switch (q ∷ more) more) ≡ (own || list_any (λ p. is_port p (port.Switch s l)) ports)
+continues_cons s l q ports more true true is of same = rw (sym is) refl
+continues_cons s l q ports more false true is of same = rw (sym is) same
+continues_cons s l q ports more false false is of same = same
+continues_cons s l q ports more true false is of same =
+    let among : is_of_switch s q ≡ true = row_among s l q (sym is) in
+    cc
+
+pub continues_of_link : (s l : ℕ) (ports : List Port) → is_any_at (λ q. q) (filter (λ q. is_of_switch s q) ports) (port.Switch s l) ≡ is_any_at (λ q. q) ports (port.Switch s l)
+unfolding is_any_at
+continues_of_link s l [] = refl
+continues_of_link s l (q ∷ ports) = continues_cons s l q ports (filter (λ q. is_of_switch s q) ports) _ _ refl refl (continues_of_link s l ports)

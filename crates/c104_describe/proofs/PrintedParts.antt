@@ -1,7 +1,7 @@
 -- A plan's text is the header length and the buffer size, and then one kind after the other.
 use Rattle.std.proofs.Common.{◌≡◌, ℕ, List, [], ◌∷◌, ◌++◌, map, refl, sym, ap, ◌∙◌, append_assoc}
 use Rattle.c104_describe.specs.Plans.{Plan}
-use Rattle.c104_describe.specs.PlanPrint.{sentence, text_of, header_words, buffer_words, switch_words, terminal_words, wire_words, continue_words, delete_words, base_words, row_words, plan_lines, plan_text}
+use Rattle.c104_describe.specs.PlanPrint.{sentence, text_of, header_words, buffer_words, network_lines, continue_words, delete_words, base_words, row_words, plan_lines, plan_text}
 
 -- The lines of a plan behind those of one kind, told from the last kind on
 
@@ -17,21 +17,13 @@ lines_after_deletes plan = map (base_words plan) plan.bases ++ lines_after_bases
 abbrev pub lines_after_continues : Plan → List (List (List ℕ))
 lines_after_continues plan = map (delete_words plan) plan.deletes ++ lines_after_deletes plan
 
--- behind the wires
-abbrev pub lines_after_wires : Plan → List (List (List ℕ))
-lines_after_wires plan = map (continue_words plan) plan.continues ++ lines_after_continues plan
-
--- behind the terminals
-abbrev pub lines_after_terminals : Plan → List (List (List ℕ))
-lines_after_terminals plan = map (wire_words plan) plan.wires ++ lines_after_wires plan
-
--- behind the switches
-abbrev pub lines_after_switches : Plan → List (List (List ℕ))
-lines_after_switches plan = map (terminal_words plan) plan.terminals ++ lines_after_terminals plan
+-- behind the network
+abbrev pub lines_after_network : Plan → List (List (List ℕ))
+lines_after_network plan = map (continue_words plan) plan.continues ++ lines_after_continues plan
 
 -- behind the buffer size
 abbrev pub lines_after_buffer : Plan → List (List (List ℕ))
-lines_after_buffer plan = map switch_words plan.switches ++ lines_after_switches plan
+lines_after_buffer plan = network_lines plan plan.shape ++ lines_after_network plan
 
 -- all lines
 abbrev pub lines_by_kinds : Plan → List (List (List ℕ))
@@ -39,17 +31,13 @@ lines_by_kinds plan = header_words plan.header ∷ buffer_words plan.cap ∷ lin
 
 pub plan_lines-by_kinds : (plan : Plan) → plan_lines plan ≡ lines_by_kinds plan
 plan_lines-by_kinds plan =
-    let begun : List (List (List ℕ)) = header_words plan.header ∷ buffer_words plan.cap ∷ map switch_words plan.switches in
-    let terminals : List (List (List ℕ)) = map (terminal_words plan) plan.terminals in
-    let wires : List (List (List ℕ)) = map (wire_words plan) plan.wires in
+    let begun : List (List (List ℕ)) = header_words plan.header ∷ buffer_words plan.cap ∷ network_lines plan plan.shape in
     let continues : List (List (List ℕ)) = map (continue_words plan) plan.continues in
     let deletes : List (List (List ℕ)) = map (delete_words plan) plan.deletes in
     let bases : List (List (List ℕ)) = map (base_words plan) plan.bases in
-    append_assoc (begun ++ terminals ++ wires ++ continues ++ deletes) bases (lines_after_bases plan)
-    ∙ append_assoc (begun ++ terminals ++ wires ++ continues) deletes (lines_after_deletes plan)
-    ∙ append_assoc (begun ++ terminals ++ wires) continues (lines_after_continues plan)
-    ∙ append_assoc (begun ++ terminals) wires (lines_after_wires plan)
-    ∙ append_assoc begun terminals (lines_after_terminals plan)
+    append_assoc (begun ++ continues ++ deletes) bases (lines_after_bases plan)
+    ∙ append_assoc (begun ++ continues) deletes (lines_after_deletes plan)
+    ∙ append_assoc begun continues (lines_after_continues plan)
 
 text_of-append : (xs ys : List (List (List ℕ))) → text_of (xs ++ ys) ≡ text_of xs ++ text_of ys
 text_of-append [] ys = refl
@@ -64,23 +52,23 @@ joined text next lines rest is =
     ∙ append_assoc text (text_of lines) (text_of rest)
     ∙ ap (λ more. text ++ more) (sym (text_of-append lines rest))
 
-module _ (plan : Plan) (begun switches terminals wires continues deletes bases rows : List ℕ) where
+-- two kinds of lines, one after the other
+pub both_kinds : (text next last : List ℕ) (xs ys : List (List (List ℕ))) → next ≡ text ++ text_of xs → last ≡ next ++ text_of ys → last ≡ text ++ text_of (xs ++ ys)
+both_kinds text next last xs ys first second = second ∙ joined text next xs ys first
+
+module _ (plan : Plan) (begun network continues deletes bases rows : List ℕ) where
   pub parts_are_text : begun ≡ text_of (header_words plan.header ∷ buffer_words plan.cap ∷ [])
-      → switches ≡ begun ++ text_of (map switch_words plan.switches)
-      → terminals ≡ switches ++ text_of (map (terminal_words plan) plan.terminals)
-      → wires ≡ terminals ++ text_of (map (wire_words plan) plan.wires)
-      → continues ≡ wires ++ text_of (map (continue_words plan) plan.continues)
+      → network ≡ begun ++ text_of (network_lines plan plan.shape)
+      → continues ≡ network ++ text_of (map (continue_words plan) plan.continues)
       → deletes ≡ continues ++ text_of (map (delete_words plan) plan.deletes)
       → bases ≡ deletes ++ text_of (map (base_words plan) plan.bases)
       → rows ≡ bases ++ text_of (map (row_words plan) plan.rows)
       → rows ≡ plan_text plan
-  parts_are_text is_begun with_switches with_terminals with_wires with_continues with_deletes with_bases with_rows =
+  parts_are_text is_begun with_network with_continues with_deletes with_bases with_rows =
       with_rows
       ∙ joined deletes bases (map (base_words plan) plan.bases) (lines_after_bases plan) with_bases
       ∙ joined continues deletes (map (delete_words plan) plan.deletes) (lines_after_deletes plan) with_deletes
-      ∙ joined wires continues (map (continue_words plan) plan.continues) (lines_after_continues plan) with_continues
-      ∙ joined terminals wires (map (wire_words plan) plan.wires) (lines_after_wires plan) with_wires
-      ∙ joined switches terminals (map (terminal_words plan) plan.terminals) (lines_after_terminals plan) with_terminals
-      ∙ joined begun switches (map switch_words plan.switches) (lines_after_switches plan) with_switches
+      ∙ joined network continues (map (continue_words plan) plan.continues) (lines_after_continues plan) with_continues
+      ∙ joined begun network (network_lines plan plan.shape) (lines_after_network plan) with_network
       ∙ joined [] begun (header_words plan.header ∷ buffer_words plan.cap ∷ []) (lines_after_buffer plan) is_begun
       ∙ ap text_of (sym (plan_lines-by_kinds plan))

@@ -102,7 +102,7 @@ word-port name link is is_link =
 
 -- What a row selects
 
-differ_eq : (xs ys : List ℕ) → xs ≢ ys → bytes_eq xs ys ≡ false
+pub differ_eq : (xs ys : List ℕ) → xs ≢ ys → bytes_eq xs ys ≡ false
 differ_eq xs ys differ = by_test (bytes_eq xs ys) refl
   where
     by_test : (b : Bool) → bytes_eq xs ys ≡ b → b ≡ false

@@ -1,5 +1,5 @@
 -- Each printed line is read back, after the lines before it.
-use Rattle.std.proofs.Common.{◌≡◌, ◌≢◌, ℕ, ◌+◌, ◌<◌, ◌≤◌, ◌==◌, Bool, true, false, cond, List, [], ◌∷◌, ◌++◌, length, map, filter, position, get_or, bytes_eq, nat_le, nat_lt, All, Some, Ok, refl, sym, subst, ap, ◌∙◌, arith, append_assoc, append-nil, length-append}
+use Rattle.std.proofs.Common.{◌≡◌, ◌≢◌, ℕ, ◌+◌, ◌<◌, ◌≤◌, ◌==◌, ◌||◌, Bool, true, false, cond, List, [], ◌∷◌, ◌++◌, length, map, filter, position, get_or, bytes_eq, nat_le, nat_lt, All, Option, Some, None, Ok, refl, sym, subst, ap, ◌∙◌, arith, append_assoc, append-nil, length-append}
 use Rattle.std.proofs.lemmas.Bool.Decides.{nat_tests}
 use Rattle.std.proofs.lemmas.Bool.{or_parts}
 use Rattle.std.proofs.lemmas.Slice.Eq.{bytes_eq-Decides}
@@ -17,19 +17,32 @@ use Rattle.c104_describe.specs.TextWords.{is_name}
 use Rattle.c104_describe.specs.Ports.{Port, Wire, is_port, is_any_at, both_ends, IsSwitchPort}
 use Rattle.c104_describe.specs.Plans.{Plan, PlanBase, PlanRow, Terminal, IsPlan, IsPlanSelect, IsPlanWire, IsLaterPort, IsRange, names, host_port, linked_ports, is_taken, is_linked, is_deleted, is_row_of, rows_of, switch_number, terminal_number, label_count}
 use Rattle.c104_describe.specs.PlanWords.{number_within, port_sides, port_word, select_word}
-use Rattle.c104_describe.specs.PlanLines.{Draft, read_plan_words}
+use Rattle.c104_describe.specs.PlanDrafts.{Draft, has_some, is_by_hand}
+use Rattle.c104_describe.specs.PlanLines.{read_plan_words}
 use Rattle.c104_describe.specs.PlanPrint.{terminal_name, port_text, select_text, switch_words, terminal_words, wire_words, continue_words, delete_words, base_words, row_words}
 use Rattle.c104_describe.proofs.DistinctPlaces.{All-here, fresh, distinct_front, distinct_back, distinct_mapped, position_at}
 use Rattle.c104_describe.proofs.PortLemmas.{is_port-refl}
 use Rattle.c104_describe.proofs.PrintedNumbers.{number_within-decimal}
 use Rattle.c104_describe.proofs.PrintedPorts.{port_sides-port, port_word-port, link-decimal, select_word-select}
 
-bytes_eq-refl : (xs : List ℕ) → bytes_eq xs xs ≡ true
+pub bytes_eq-refl : (xs : List ℕ) → bytes_eq xs xs ≡ true
 bytes_eq-refl xs = (bytes_eq-Decides xs xs).1 refl
 
 -- a draft of this plan, behind the lines of the header length and of the buffer size
-abbrev pub draft_with : Plan → Draft
-draft_with plan = record { plan = plan; header_said = true; buffer_said = true }
+abbrev pub draft_with : Bool → Option ℕ → Plan → Draft
+draft_with from_said root plan = record { plan = plan; header_said = true; buffer_said = true; from_said = from_said; root = root }
+
+-- one of a plan that is made line by line, whose terminals' lines say where ranges begin if there are any
+abbrev pub draft_by_hand : List Terminal → Plan → Draft
+draft_by_hand terminals plan = draft_with (has_some terminals) None plan
+
+has_more : {X : Type 0} (xs : List X) (x : X) → has_some (xs ++ x ∷ []) ≡ true
+has_more [] x = refl
+has_more (y ∷ xs) x = grind (arith, nat_tests)
+
+or_true : (b : Bool) → (b || true) ≡ true
+or_true true = refl
+or_true false = refl
 
 module _ (plan : Plan) (kept : IsPlan plan) where
   -- The plan as it is while each kind is read
@@ -60,7 +73,7 @@ module _ (plan : Plan) (kept : IsPlan plan) where
   abbrev of_terminals : List (List ℕ)
   of_terminals = map (λ (t : Terminal). t.name) plan.terminals
 
-  switches_differ : AreDistinct bytes_eq plan.switches
+  pub switches_differ : AreDistinct bytes_eq plan.switches
   switches_differ = distinct_front bytes_eq plan.switches of_terminals kept.names.differ
 
   pub switch_named : All (λ name. is_name name ≡ true) plan.switches
@@ -68,9 +81,10 @@ module _ (plan : Plan) (kept : IsPlan plan) where
       let first : get_or (names plan.switches plan.terminals) s d ≡ get_or plan.switches s d = get_or_append_left plan.switches of_terminals d s inside in
       subst (λ name. is_name name ≡ true) first (kept.names.named s d (omega (arith, length-append plan.switches of_terminals)))
 
-  pub switch_step : (done : List (List ℕ)) (name : List ℕ) (more : List (List ℕ)) → done ++ name ∷ more ≡ plan.switches → read_plan_words (draft_with (with_switches done)) true (switch_words name) ≡ Ok (draft_with (with_switches (done ++ name ∷ [])))
+  pub switch_step : is_by_hand plan.shape ≡ true → (done : List (List ℕ)) (name : List ℕ) (more : List (List ℕ)) → done ++ name ∷ more ≡ plan.switches
+      → read_plan_words (draft_with false None (with_switches done)) true (switch_words name) ≡ Ok (draft_with false None (with_switches (done ++ name ∷ [])))
   unfolding is_taken
-  switch_step done name more is =
+  switch_step hand done name more is =
       let named : is_name name ≡ true = All-here (λ n. is_name n ≡ true) plan.switches done name more is switch_named in
       let free : list_any (λ other. bytes_eq other name) (done ++ []) ≡ false =
       ap (list_any (λ other. bytes_eq other name)) (append-nil done)
@@ -78,7 +92,7 @@ module _ (plan : Plan) (kept : IsPlan plan) where
       let long = length-append done (name ∷ more) in
       let whole : length (done ++ name ∷ more) ≡ length plan.switches = ap length is in
       let room : nat_lt (length done) 64 ≡ true = grind (arith, nat_tests, kept.few_switches) in
-      rw (named, free, room) refl
+      rw (named, free, room, hand) refl
 
   -- Ports of switches
 
@@ -92,13 +106,13 @@ module _ (plan : Plan) (kept : IsPlan plan) where
     pub port_printed : port_text plan (port.Switch s l) ≡ name_of s ++ 0x2e ∷ decimal l
     port_printed = ap (λ name. unwrap_or name [] ++ 0x2e ∷ decimal l) (slice_get-get_or plan.switches s [] is.0)
 
-    port_read : port_word (port_text plan (port.Switch s l)) ≡ Ok (name_of s, l)
+    pub port_read : port_word (port_text plan (port.Switch s l)) ≡ Ok (name_of s, l)
     port_read = ap port_word port_printed ∙ port_word-port (name_of s) l port_named is.1
 
     sides_read : port_sides (port_text plan (port.Switch s l)) ≡ Ok (name_of s, decimal l)
     sides_read = ap port_sides port_printed ∙ port_sides-port (name_of s) l port_named is.1
 
-    port_number : position (λ switch. bytes_eq switch (name_of s)) plan.switches ≡ Some s
+    pub port_number : position (λ switch. bytes_eq switch (name_of s)) plan.switches ≡ Some s
     port_number = position_at bytes_eq bytes_eq-refl plan.switches s [] is.0 switches_differ
 
   -- Terminals
@@ -116,7 +130,7 @@ module _ (plan : Plan) (kept : IsPlan plan) where
   terminals_differ = distinct_mapped bytes_eq (λ (t : Terminal). t.name) plan.terminals (distinct_back bytes_eq plan.switches of_terminals kept.names.differ)
 
   module _ (done : List Terminal) (t : Terminal) (more : List Terminal) (is : done ++ t ∷ more ≡ plan.terminals) where
-    name_free : list_any (λ other. bytes_eq other t.name) (names plan.switches done) ≡ false
+    pub name_free : list_any (λ other. bytes_eq other t.name) (names plan.switches done) ≡ false
     name_free =
         let name : Terminal → List ℕ = λ (u : Terminal). u.name in
         let cut : names plan.switches plan.terminals ≡ names plan.switches done ++ t.name ∷ map name more =
@@ -125,7 +139,7 @@ module _ (plan : Plan) (kept : IsPlan plan) where
         ∙ sym (append_assoc plan.switches (map name done) (t.name ∷ map name more)) in
         fresh bytes_eq (names plan.switches done) t.name (map name more) (subst (AreDistinct bytes_eq) cut kept.names.differ)
 
-    host_free : list_any (λ q. is_port q (host_port t)) (map host_port done ++ []) ≡ false
+    pub host_free : list_any (λ q. is_port q (host_port t)) (map host_port done ++ []) ≡ false
     host_free =
         let cut : linked_ports plan.terminals plan.wires ≡ map host_port done ++ host_port t ∷ (map host_port more ++ both_ends plan.wires) =
         ap (λ terminals. linked_ports terminals plan.wires) (sym is)
@@ -134,9 +148,9 @@ module _ (plan : Plan) (kept : IsPlan plan) where
         ap (list_any (λ q. is_port q (host_port t))) (append-nil (map host_port done))
         ∙ fresh is_port (map host_port done) (host_port t) (map host_port more ++ both_ends plan.wires) (subst (AreDistinct is_port) cut kept.links)
 
-    pub terminal_step : read_plan_words (draft_with (with_terminals done)) true (terminal_words plan t) ≡ Ok (draft_with (with_terminals (done ++ t ∷ [])))
+    pub terminal_step : is_by_hand plan.shape ≡ true → read_plan_words (draft_by_hand done (with_terminals done)) true (terminal_words plan t) ≡ Ok (draft_by_hand (done ++ t ∷ []) (with_terminals (done ++ t ∷ [])))
     unfolding is_taken is_linked switch_number
-    terminal_step =
+    terminal_step hand =
         let on_switch : IsSwitchPort (length plan.switches) (host_port t) = All-here (λ (u : Terminal). IsSwitchPort (length plan.switches) (host_port u)) plan.terminals done t more is kept.terminals.on_switches in
         let range : IsRange t.first t.count = All-here (λ (u : Terminal). IsRange u.first u.count) plan.terminals done t more is kept.terminals.ranges in
         let named : is_name t.name ≡ true = All-here (λ (u : Terminal). is_name u.name ≡ true) plan.terminals done t more is terminal_named in
@@ -146,7 +160,8 @@ module _ (plan : Plan) (kept : IsPlan plan) where
         let whole : length (done ++ t ∷ more) ≡ length plan.terminals = ap length is in
         let room : nat_lt (length done) 256 ≡ true = grind (arith, nat_tests, kept.terminals.few) in
         let ends : nat_le (t.first + t.count) label_count ≡ true = grind (arith, nat_tests, range.1) in
-        rw (port_read t.switch t.link on_switch, count_read, first_read, named, port_named t.switch t.link on_switch, name_free, port_number t.switch t.link on_switch, host_free, room, ends) refl
+        let said : has_some (done ++ t ∷ []) ≡ true = has_more done t in
+        rw (port_read t.switch t.link on_switch, count_read, first_read, named, port_named t.switch t.link on_switch, name_free, port_number t.switch t.link on_switch, host_free, room, ends, hand, or_true (has_some done), said) refl
 
   -- Wires
 
@@ -174,43 +189,47 @@ module _ (plan : Plan) (kept : IsPlan plan) where
         let none = fresh is_port (ports ++ w.here ∷ []) w.there (both_ends more) behind in
         (or_parts _ _ (sym (list_any-append (λ q. is_port q w.there) ports (w.here ∷ [])) ∙ none)).0
 
-  wire_line : (done : List Wire) (here there : Port) → IsPlanWire (length plan.switches) (record { here = here; there = there })
+  wire_line : (said : Bool) → is_by_hand plan.shape ≡ true → (done : List Wire) (here there : Port) → IsPlanWire (length plan.switches) (record { here = here; there = there })
       → list_any (λ q. is_port q here) (linked_ports plan.terminals done) ≡ false → list_any (λ q. is_port q there) (linked_ports plan.terminals done) ≡ false
-      → read_plan_words (draft_with (with_wires done)) true (wire_words plan (record { here = here; there = there })) ≡ Ok (draft_with (with_wires (done ++ record { here = here; there = there } ∷ [])))
+      → read_plan_words (draft_with said None (with_wires done)) true (wire_words plan (record { here = here; there = there })) ≡ Ok (draft_with said None (with_wires (done ++ record { here = here; there = there } ∷ [])))
   unfolding is_linked switch_number
-  wire_line done (port.Terminal t) there is free far_free = absurd is.0
-  wire_line done (port.Switch s l) (port.Terminal t) is free far_free = absurd is.1
-  wire_line done (port.Switch s l) (port.Switch r k) is free far_free =
+  wire_line said hand done (port.Terminal t) there is free far_free = absurd is.0
+  wire_line said hand done (port.Switch s l) (port.Terminal t) is free far_free = absurd is.1
+  wire_line said hand done (port.Switch s l) (port.Switch r k) is free far_free =
       let differ : s ≢ r = is.2 in
       let apart : (s == r) ≡ false = grind (arith, nat_tests) in
-      rw (sides_read s l is.0, sides_read r k is.1, link-decimal l is.0.1, link-decimal k is.1.1, port_named s l is.0, port_named r k is.1, port_number s l is.0, port_number r k is.1, apart, free, far_free) refl
+      rw (sides_read s l is.0, sides_read r k is.1, link-decimal l is.0.1, link-decimal k is.1.1, port_named s l is.0, port_named r k is.1, port_number s l is.0, port_number r k is.1, apart, free, far_free, hand) refl
 
-  pub wire_step : (done : List Wire) (w : Wire) (more : List Wire) → done ++ w ∷ more ≡ plan.wires → read_plan_words (draft_with (with_wires done)) true (wire_words plan w) ≡ Ok (draft_with (with_wires (done ++ w ∷ [])))
-  wire_step done w more is = wire_line done w.here w.there (All-here (IsPlanWire (length plan.switches)) plan.wires done w more is kept.wires) (here_free done w more is) (there_free done w more is)
+  pub wire_step : (said : Bool) → is_by_hand plan.shape ≡ true → (done : List Wire) (w : Wire) (more : List Wire) → done ++ w ∷ more ≡ plan.wires
+      → read_plan_words (draft_with said None (with_wires done)) true (wire_words plan w) ≡ Ok (draft_with said None (with_wires (done ++ w ∷ [])))
+  wire_step said hand done w more is = wire_line said hand done w.here w.there (All-here (IsPlanWire (length plan.switches)) plan.wires done w more is kept.wires) (here_free done w more is) (there_free done w more is)
 
   -- Continues
 
-  continue_line : (done : List Port) (p : Port) → IsLaterPort (length plan.switches) p → list_any (λ q. is_port q p) done ≡ false → read_plan_words (draft_with (with_continues done)) true (continue_words plan p) ≡ Ok (draft_with (with_continues (done ++ p ∷ [])))
+  continue_line : (said : Bool) → is_by_hand plan.shape ≡ true → (done : List Port) (p : Port) → IsLaterPort (length plan.switches) p → list_any (λ q. is_port q p) done ≡ false
+      → read_plan_words (draft_with said None (with_continues done)) true (continue_words plan p) ≡ Ok (draft_with said None (with_continues (done ++ p ∷ [])))
   unfolding is_any_at switch_number
-  continue_line done (port.Terminal t) later free = absurd later
-  continue_line done (port.Switch s l) later free =
+  continue_line said hand done (port.Terminal t) later free = absurd later
+  continue_line said hand done (port.Switch s l) later free =
       let is : IsSwitchPort (length plan.switches) (port.Switch s l) = (later.0, later.2) in
       let not_first : (l == 0) ≡ false = let some = later.1 in grind (arith, nat_tests) in
-      rw (port_read s l is, not_first, port_named s l is, port_number s l is, free) refl
+      rw (port_read s l is, not_first, port_named s l is, port_number s l is, free, hand) refl
 
-  pub continue_step : (done : List Port) (p : Port) (more : List Port) → done ++ p ∷ more ≡ plan.continues → read_plan_words (draft_with (with_continues done)) true (continue_words plan p) ≡ Ok (draft_with (with_continues (done ++ p ∷ [])))
-  continue_step done p more is =
+  pub continue_step : (said : Bool) → is_by_hand plan.shape ≡ true → (done : List Port) (p : Port) (more : List Port) → done ++ p ∷ more ≡ plan.continues
+      → read_plan_words (draft_with said None (with_continues done)) true (continue_words plan p) ≡ Ok (draft_with said None (with_continues (done ++ p ∷ [])))
+  continue_step said hand done p more is =
       let differ : AreDistinct is_port plan.continues = distinct_mapped is_port (λ q. q) plan.continues kept.continues.once in
-      continue_line done p (All-here (IsLaterPort (length plan.switches)) plan.continues done p more is kept.continues.later) (fresh is_port done p more (subst (AreDistinct is_port) (sym is) differ))
+      continue_line said hand done p (All-here (IsLaterPort (length plan.switches)) plan.continues done p more is kept.continues.later) (fresh is_port done p more (subst (AreDistinct is_port) (sym is) differ))
 
   -- Deletes
 
   pub delete_printed : (terminal : ℕ) (d : Terminal) → terminal < length plan.terminals → terminal_name plan terminal ≡ (get_or plan.terminals terminal d).name
   delete_printed terminal d known = ap (λ found. option_map_or (λ (t : Terminal). t.name) found []) (slice_get-get_or plan.terminals terminal d known)
 
-  pub delete_step : (done : List ℕ) (terminal : ℕ) (more : List ℕ) → done ++ terminal ∷ more ≡ plan.deletes → read_plan_words (draft_with (with_deletes done)) true (delete_words plan terminal) ≡ Ok (draft_with (with_deletes (done ++ terminal ∷ [])))
+  pub delete_step : (said : Bool) (root : Option ℕ) (done : List ℕ) (terminal : ℕ) (more : List ℕ) → done ++ terminal ∷ more ≡ plan.deletes
+      → read_plan_words (draft_with said root (with_deletes done)) true (delete_words plan terminal) ≡ Ok (draft_with said root (with_deletes (done ++ terminal ∷ [])))
   unfolding is_deleted terminal_number
-  delete_step done terminal more is =
+  delete_step said root done terminal more is =
       let d : Terminal = record { name = []; switch = 0; link = 0; first = 0; count = 0 } in
       let known : terminal < length plan.terminals = All-here (λ t. t < length plan.terminals) plan.deletes done terminal more is kept.deletes.known in
       let name : List ℕ = (get_or plan.terminals terminal d).name in
@@ -222,33 +241,34 @@ module _ (plan : Plan) (kept : IsPlan plan) where
 
   -- Bases
 
-  base_line : (done : List PlanBase) (p : Port) (base : ℕ) → IsSwitchPort (length plan.switches) p → base < label_count → list_any (λ (b : PlanBase). is_port b.port p) done ≡ false
-      → read_plan_words (draft_with (with_bases done)) true (base_words plan (record { port = p; base = base })) ≡ Ok (draft_with (with_bases (done ++ record { port = p; base = base } ∷ [])))
+  base_line : (said : Bool) → is_by_hand plan.shape ≡ true → (done : List PlanBase) (p : Port) (base : ℕ) → IsSwitchPort (length plan.switches) p → base < label_count → list_any (λ (b : PlanBase). is_port b.port p) done ≡ false
+      → read_plan_words (draft_with said None (with_bases done)) true (base_words plan (record { port = p; base = base })) ≡ Ok (draft_with said None (with_bases (done ++ record { port = p; base = base } ∷ [])))
   unfolding is_any_at switch_number
-  base_line done (port.Terminal t) base is range free = absurd is
-  base_line done (port.Switch s l) base is range free =
+  base_line said hand done (port.Terminal t) base is range free = absurd is
+  base_line said hand done (port.Switch s l) base is range free =
       let base_read : number_within 0 0xffff (decimal base) ≡ Ok base = number_within-decimal 0 0xffff base (omega arith) (omega arith) (omega arith) in
-      rw (port_read s l is, base_read, port_named s l is, port_number s l is, free) refl
+      rw (port_read s l is, base_read, port_named s l is, port_number s l is, free, hand) refl
 
-  pub base_step : (done : List PlanBase) (b : PlanBase) (more : List PlanBase) → done ++ b ∷ more ≡ plan.bases → read_plan_words (draft_with (with_bases done)) true (base_words plan b) ≡ Ok (draft_with (with_bases (done ++ b ∷ [])))
-  base_step done b more is =
+  pub base_step : (said : Bool) → is_by_hand plan.shape ≡ true → (done : List PlanBase) (b : PlanBase) (more : List PlanBase) → done ++ b ∷ more ≡ plan.bases
+      → read_plan_words (draft_with said None (with_bases done)) true (base_words plan b) ≡ Ok (draft_with said None (with_bases (done ++ b ∷ [])))
+  base_step said hand done b more is =
       let same : PlanBase → PlanBase → Bool = λ (x : PlanBase) (y : PlanBase). is_port x.port y.port in
       let differ : AreDistinct same plan.bases = distinct_mapped is_port (λ (x : PlanBase). x.port) plan.bases kept.bases.once in
-      base_line done b.port b.base (All-here (λ (x : PlanBase). IsSwitchPort (length plan.switches) x.port) plan.bases done b more is kept.bases.of_inputs)
+      base_line said hand done b.port b.base (All-here (λ (x : PlanBase). IsSwitchPort (length plan.switches) x.port) plan.bases done b more is kept.bases.of_inputs)
       (All-here (λ (x : PlanBase). x.base < label_count) plan.bases done b more is kept.bases.ranges)
       (fresh same done b more (subst (AreDistinct same) (sym is) differ))
 
   -- Rows
 
-  row_line : (done : List PlanRow) (p : Port) (limit : ℕ) (select : Select) → IsSwitchPort (length plan.switches) p → limit ≤ label_count → IsPlanSelect select → length (rows_of p done) < 36
-      → read_plan_words (draft_with (with_rows done)) true (row_words plan (record { port = p; limit = limit; select = select })) ≡ Ok (draft_with (with_rows (done ++ record { port = p; limit = limit; select = select } ∷ [])))
+  row_line : (said : Bool) → is_by_hand plan.shape ≡ true → (done : List PlanRow) (p : Port) (limit : ℕ) (select : Select) → IsSwitchPort (length plan.switches) p → limit ≤ label_count → IsPlanSelect select → length (rows_of p done) < 36
+      → read_plan_words (draft_with said None (with_rows done)) true (row_words plan (record { port = p; limit = limit; select = select })) ≡ Ok (draft_with said None (with_rows (done ++ record { port = p; limit = limit; select = select } ∷ [])))
   unfolding switch_number
-  row_line done (port.Terminal t) limit select is few selectable room = absurd is
-  row_line done (port.Switch s l) limit select is few selectable room =
+  row_line said hand done (port.Terminal t) limit select is few selectable room = absurd is
+  row_line said hand done (port.Switch s l) limit select is few selectable room =
       let limit_read : number_within 0 label_count (decimal limit) ≡ Ok limit = number_within-decimal 0 label_count limit (omega arith) few (omega arith) in
       let select_read : select_word (select_text select) ≡ Ok select = select_word-select select selectable in
       let fits : nat_lt (length (rows_of (port.Switch s l) done)) 36 ≡ true = grind (arith, nat_tests) in
-      rw (port_read s l is, limit_read, select_read, port_named s l is, port_number s l is, fits) refl
+      rw (port_read s l is, limit_read, select_read, port_named s l is, port_number s l is, fits, hand) refl
 
   row_room : (done : List PlanRow) (r : PlanRow) (more : List PlanRow) → done ++ r ∷ more ≡ plan.rows → length (rows_of r.port done) < 36
   unfolding rows_of
@@ -261,7 +281,8 @@ module _ (plan : Plan) (kept : IsPlan plan) where
       let whole : length (filter of_it plan.rows) ≡ length (filter of_it done ++ (r ∷ filter of_it more)) = ap length parts in
       omega (arith, long, whole, kept.rows.few r.port)
 
-  pub row_step : (done : List PlanRow) (r : PlanRow) (more : List PlanRow) → done ++ r ∷ more ≡ plan.rows → read_plan_words (draft_with (with_rows done)) true (row_words plan r) ≡ Ok (draft_with (with_rows (done ++ r ∷ [])))
-  row_step done r more is =
+  pub row_step : (said : Bool) → is_by_hand plan.shape ≡ true → (done : List PlanRow) (r : PlanRow) (more : List PlanRow) → done ++ r ∷ more ≡ plan.rows
+      → read_plan_words (draft_with said None (with_rows done)) true (row_words plan r) ≡ Ok (draft_with said None (with_rows (done ++ r ∷ [])))
+  row_step said hand done r more is =
       let range : (r.limit ≤ label_count) × IsPlanSelect r.select = All-here (λ (x : PlanRow). (x.limit ≤ label_count) × IsPlanSelect x.select) plan.rows done r more is kept.rows.ranges in
-      row_line done r.port r.limit r.select (All-here (λ (x : PlanRow). IsSwitchPort (length plan.switches) x.port) plan.rows done r more is kept.rows.of_inputs) range.0 range.1 (row_room done r more is)
+      row_line said hand done r.port r.limit r.select (All-here (λ (x : PlanRow). IsSwitchPort (length plan.switches) x.port) plan.rows done r more is kept.rows.of_inputs) range.0 range.1 (row_room done r more is)

@@ -4,9 +4,11 @@ pub mod TextCut
 pub mod TextWords
 pub mod PlanFaults
 pub mod Ports
+pub mod Layouts
 pub mod Plans
 pub mod Wiring
 pub mod PlanWords
+pub mod PlanDrafts
 pub mod PlanLines
 pub mod LineFaults
 pub mod PlanIndex
@@ -15,5 +17,6 @@ pub mod PlanText
 pub mod PlanImage
 pub mod ImageFaults
 pub mod ImageEdits
+pub mod LabelledImages
 pub mod SwitchImages
 pub mod PlanPrint

@@ -1,7 +1,7 @@
 -- The faults of a line, each by itself. What a line says is laid out by its first word, in a row for each
 -- as in the format's table, and each fault has a condition of its own over that. No condition rests on
 -- another, and their order says nothing.
-use Rattle.std.specs.Prelude.{◌≡◌, ℕ, ◌+◌, ◌<◌, ◌&&◌, ◌||◌, Bool, true, false, not, List, [], ◌∷◌, ◌++◌, length, map, take, drop, is_none, is_some, nat_le, nat_lt, bytes_eq, codes, if◌then◌else◌, IsTrue, option_map, Option, Some, None, Result, Ok, Err}
+use Rattle.std.specs.Prelude.{◌≡◌, ℕ, ◌+◌, ◌*◌, ◌^◌, ◌<◌, ◌&&◌, ◌||◌, Bool, true, false, not, List, [], ◌∷◌, ◌++◌, length, map, take, drop, is_none, is_some, nat_le, nat_lt, bytes_eq, codes, if◌then◌else◌, IsTrue, option_map, Option, Some, None, Result, Ok, Err}
 use Rattle.std.specs.List.{list_any}
 use Rattle.std.specs.Option.{option_map_or, unwrap_or}
 use Rattle.c104_interval.specs.declared.intervals.TheConstants.{ROWS}
@@ -15,7 +15,7 @@ use Rattle.c104_describe.specs.TextWords.{read_number, is_name, dots}
 use Rattle.c104_describe.specs.PlanFaults.{PlanFaultKind, plan_fault_number}
 use Rattle.c104_describe.specs.Ports.{Port, is_any_at}
 use Rattle.c104_describe.specs.PlanWords.{Keyword, keyword_of, range_words}
-use Rattle.c104_describe.specs.PlanLines.{Draft}
+use Rattle.c104_describe.specs.PlanDrafts.{Draft, is_mixed}
 use Rattle.c104_describe.specs.Plans.{Plan, PlanBase, switch_number, terminal_number, is_taken, is_linked, is_continued, is_deleted, rows_of, next_first, most_switches, most_terminals, most_header_bytes, label_count, last_link, is_buffer_size}
 
 -- what stands before and behind a word's one dot; all stands before it where it hasn't one
@@ -44,9 +44,13 @@ abbrev pub number_said : ℕ → Option (List ℕ) → ℕ
 number_said other None = other
 number_said other (Some word) = unwrap_or (read_number word) 0
 
+-- what a number says
+abbrev pub value_said : List ℕ → ℕ
+value_said word = number_said 0 (Some word)
+
 -- the port that a word names, where a switch has the name
 abbrev pub named_port : Plan → List ℕ → Option Port
-named_port plan word = option_map (λ switch. port.Switch switch (number_said 0 (Some (port_link word)))) (switch_number plan (port_name word))
+named_port plan word = option_map (λ switch. port.Switch switch (value_said (port_link word))) (switch_number plan (port_name word))
 
 -- whether a word names a port with this property
 abbrev pub names_port : Plan → (Port → Bool) → List ℕ → Bool
@@ -78,6 +82,8 @@ pub record LineParts : Type 0 where
   pub numbers : List (Option (List ℕ) × (ℕ → Bool))
   -- the names that it defines
   pub defined : List (List ℕ)
+  -- the names that are to be switches'
+  pub switches : List (List ℕ)
   -- the names that are to be terminals'
   pub terminals : List (List ℕ)
   -- the ports that are to be of two switches
@@ -88,6 +94,8 @@ pub record LineParts : Type 0 where
   pub counts : List (ℕ × ℕ)
   -- whether a line before has said what may be said once
   pub is_said : Bool
+  -- whether it doesn't go with the lines before
+  pub is_mixed : Bool
 
 -- a line that says nothing
 abbrev pub no_parts : LineParts
@@ -98,11 +106,13 @@ no_parts = record {
   ports = [];
   numbers = [];
   defined = [];
+  switches = [];
   terminals = [];
   joined = [];
   linked = [];
   counts = [];
   is_said = false;
+  is_mixed = false;
 }
 
 -- `terminal N S.l`, with `labels n` and `from f` where these are said
@@ -158,12 +168,28 @@ keyword_parts draft keyword.Row (at ∷ limit ∷ select ∷ []) = record no_par
   numbers = (Some limit, is_from_to 0 label_count) ∷ (selected_link select, is_from_to 0 last_link) ∷ [];
   counts = (row_count draft.plan at + 1, ROWS) ∷ [];
 }
+keyword_parts draft keyword.Label (style ∷ name ∷ []) = record no_parts {
+  is_shaped = bytes_eq style (codes "tree");
+  switches = name ∷ [];
+  is_said = is_some draft.root;
+}
+keyword_parts draft keyword.Mesh (width ∷ height ∷ terminals ∷ []) = record no_parts {
+  numbers = (Some width, is_from_to 1 64) ∷ (Some height, is_from_to 1 64) ∷ (Some terminals, is_from_to 1 28) ∷ [];
+  counts =
+      (value_said width * value_said height, most_switches)
+      ∷ (value_said width * value_said height * value_said terminals, most_terminals)
+      ∷ [];
+}
+keyword_parts draft keyword.Cube (dimensions ∷ terminals ∷ []) = record no_parts {
+  numbers = (Some dimensions, is_from_to 0 6) ∷ (Some terminals, is_from_to 1 26) ∷ [];
+  counts = (2 ^ value_said dimensions * value_said terminals, most_terminals) ∷ [];
+}
 keyword_parts draft keyword rest = record no_parts { is_shaped = false }
 
 -- the same by the first word, if it is one with which lines begin
 abbrev pub first_word_parts : Draft → Option Keyword → List (List ℕ) → LineParts
 first_word_parts draft None rest = no_parts
-first_word_parts draft (Some keyword) rest = keyword_parts draft keyword rest
+first_word_parts draft (Some keyword) rest = record (keyword_parts draft keyword rest) { is_mixed = is_mixed draft keyword rest }
 
 -- a line's parts, by its words; is_plain says that it has no byte that no line may have
 abbrev pub line_parts : Draft → Bool → List (List ℕ) → LineParts
@@ -179,11 +205,13 @@ all_numbers parts = map (λ at. (Some (port_link at), is_from_to 0 last_link)) p
 
 -- all names of a line
 abbrev pub all_names : LineParts → List (List ℕ)
-all_names parts = parts.defined ++ (map port_name parts.ports ++ parts.terminals)
+all_names parts = parts.defined ++ (map port_name parts.ports ++ (parts.switches ++ parts.terminals))
 
 -- the numbers of the switches and of the terminals that a line names, where there are such
 abbrev pub used_numbers : Plan → LineParts → List (Option ℕ)
-used_numbers plan parts = map (λ at. switch_number plan (port_name at)) parts.ports ++ map (terminal_number plan) parts.terminals
+used_numbers plan parts =
+    map (λ at. switch_number plan (port_name at)) parts.ports
+    ++ (map (switch_number plan) parts.switches ++ map (terminal_number plan) parts.terminals)
 
 -- whether a word is no number or one that may not be, where there is such a word
 abbrev pub is_bad_number : Option (List ℕ) → (ℕ → Bool) → Bool
@@ -202,7 +230,7 @@ is_fault_of plan parts kind.BadNumber = list_any (λ number. is_bad_number numbe
 is_fault_of plan parts kind.BadName = list_any (λ name. not (is_name name)) (all_names parts)
 -- a name that is to be new is a switch's or a terminal's
 is_fault_of plan parts kind.NameTaken = list_any (is_taken plan) parts.defined
--- the name in a port is no switch's, or one that is to be a terminal's isn't
+-- the name in a port, or one that is to be a switch's, is no switch's, or one that is to be a terminal's isn't
 is_fault_of plan parts kind.UnknownName = list_any is_none (used_numbers plan parts)
 -- ports that are to be of two switches name the same one
 is_fault_of plan parts kind.SelfWire = list_any (λ ends. bytes_eq (port_name ends.0) (port_name ends.1)) parts.joined
@@ -212,10 +240,10 @@ is_fault_of plan parts kind.LinkTaken = list_any (names_port plan (is_linked pla
 is_fault_of plan parts kind.TooMany = list_any (λ count. nat_lt count.1 count.0) parts.counts
 -- it was said before
 is_fault_of plan parts kind.Twice = parts.is_said
--- no line has one of the others: a whole text is too long or not, out of memory is no line's, and all
--- lines go with each other for now
+-- it doesn't go with the lines before it
+is_fault_of plan parts kind.MixedStyle = parts.is_mixed
+-- no line has one of the others: a whole text is too long or not, and out of memory is no line's
 is_fault_of plan parts kind.TooLong = false
-is_fault_of plan parts kind.MixedStyle = false
 is_fault_of plan parts kind.NoMemory = false
 
 -- whether a line has a fault, after the lines that gave the draft

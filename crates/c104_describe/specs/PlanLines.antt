@@ -1,24 +1,22 @@
 -- The grammar of a description: what a line says after the lines before it. Of all that is wrong
 -- with a line the fault of the least number is answered, so each line's conditions stand in the
 -- order of the faults' numbers.
-use Rattle.std.specs.Prelude.{ℕ, ◌+◌, ◌==◌, ◌&&◌, Bool, true, not, List, [], ◌∷◌, ◌++◌, length, nat_le, nat_lt, Option, Result, Ok, Err}
+use Rattle.std.specs.Prelude.{ℕ, ◌+◌, ◌*◌, ◌^◌, ◌==◌, ◌&&◌, ◌||◌, Bool, true, not, List, [], ◌∷◌, ◌++◌, length, nat_le, nat_lt, bytes_eq, codes, is_some, Option, Some, Result, Ok, Err}
 use Rattle.c104_interval.specs.declared.intervals.TheConstants.{ROWS}
 use Rattle.c104_describe.specs.declared.ports.Port.TheVariants as port
 use Rattle.c104_describe.specs.declared.words.Keyword.TheVariants as keyword
-use Rattle.c104_describe.specs.declared.faults.PlanFaultKind.TheVariants.{BadName, BadNumber, BadShape, LinkTaken, NameTaken, SelfWire, TooMany, Twice, UnknownName, UnknownWord}
+use Rattle.c104_describe.specs.declared.faults.PlanFaultKind.TheVariants.{BadName, BadNumber, BadShape, LinkTaken, MixedStyle, NameTaken, SelfWire, TooMany, Twice, UnknownName, UnknownWord}
 use Rattle.c104_describe.specs.Checks.{◌>>=◌, ◌>>◌, require, value_or_fault}
 use Rattle.c104_describe.specs.TextCut.{uncommented_line, line_words, is_plain_line}
 use Rattle.c104_describe.specs.TextWords.{read_number, is_name}
 use Rattle.c104_describe.specs.PlanFaults.{PlanFaultKind}
 use Rattle.c104_describe.specs.Ports.{is_any_at}
 use Rattle.c104_describe.specs.PlanWords.{Keyword, keyword_of, number_within, number_or, select_word, port_sides, port_word, range_words}
-use Rattle.c104_describe.specs.Plans.{Plan, PlanBase, switch_number, terminal_number, is_taken, is_linked, is_continued, is_deleted, rows_of, next_first, most_switches, most_terminals, most_header_bytes, label_count, last_link, is_buffer_size}
-
--- what the lines before have said: a plan, and whether its header length and its buffer size were said
-pub record Draft : Type 0 where
-  pub plan : Plan
-  pub header_said : Bool
-  pub buffer_said : Bool
+use Rattle.c104_describe.specs.declared.plans.Shape.TheVariants.{Mesh, Cube}
+use Rattle.c104_describe.specs.Layouts.{Layout, mesh, cube, filled_switches, filled_terminals, filled_wires}
+pub use Rattle.c104_describe.specs.PlanDrafts.{Draft}
+use Rattle.c104_describe.specs.PlanDrafts.{is_mixed}
+use Rattle.c104_describe.specs.Plans.{Plan, Shape, PlanBase, switch_number, terminal_number, is_taken, is_linked, is_continued, is_deleted, rows_of, next_first, most_switches, most_terminals, most_header_bytes, label_count, last_link, is_buffer_size}
 
 -- `switch N`
 abbrev pub switch_line : Plan → List ℕ → Result Plan PlanFaultKind
@@ -130,15 +128,54 @@ buffer_line draft size = do
   require (not draft.buffer_said) Twice
   Ok (record draft { plan = record (draft.plan) { cap = size }; buffer_said = true })
 
+-- `label tree S`: labels are to be those of a tree from a switch on, the root
+abbrev pub label_line : Draft → List ℕ → List ℕ → Result Draft PlanFaultKind
+label_line draft style name = do
+  require (bytes_eq style (codes "tree")) BadShape
+  require (is_name name) BadName
+  root ← value_or_fault (switch_number draft.plan name) UnknownName
+  require (not (is_some draft.root)) Twice
+  Ok (record draft { root = Some root })
+
+-- the plan with the switches, terminals and wires of a layout
+abbrev pub filled_plan : Shape → Layout → ℕ → Plan → Plan
+filled_plan shape layout p plan = record plan {
+  shape = shape;
+  switches = filled_switches layout;
+  terminals = filled_terminals layout p;
+  wires = filled_wires layout;
+}
+
+-- `mesh w h p`: all of a mesh of w columns and h rows, with p terminals at each switch
+abbrev pub mesh_line : Plan → List ℕ → List ℕ → List ℕ → Result Plan PlanFaultKind
+mesh_line plan width height terminals = do
+  w ← number_within 1 64 width
+  h ← number_within 1 64 height
+  p ← number_within 1 28 terminals
+  require (nat_le (w * h) most_switches && nat_le (w * h * p) most_terminals) TooMany
+  Ok (filled_plan (Mesh w h p) (mesh w h) p plan)
+
+-- `cube d p`: all of a cube of d dimensions, with p terminals at each switch
+abbrev pub cube_line : Plan → List ℕ → List ℕ → Result Plan PlanFaultKind
+cube_line plan dimensions terminals = do
+  d ← number_within 0 6 dimensions
+  p ← number_within 1 26 terminals
+  require (nat_le (2 ^ d * p) most_terminals) TooMany
+  Ok (filled_plan (Cube d p) (cube d) p plan)
+
 -- the draft with the plan that a line makes of its own
 abbrev pub in_draft : Draft → Result Plan PlanFaultKind → Result Draft PlanFaultKind
 in_draft draft made = made >>= (λ plan. Ok (record draft { plan = plan }))
+
+-- the draft where a terminal's line has said where its range begins, or hasn't
+abbrev pub after_from : Draft → Option (List ℕ) → Draft
+after_from draft from = record draft { from_said = draft.from_said || is_some from }
 
 -- a line, by what its first word says and the words after it
 abbrev pub keyword_line : Keyword → Draft → List (List ℕ) → Result Draft PlanFaultKind
 keyword_line keyword.Switch draft (name ∷ []) = in_draft draft (switch_line draft.plan name)
 keyword_line keyword.Terminal draft (name ∷ at ∷ rest) =
-    in_draft draft (range_words rest >>= (λ range. terminal_line draft.plan name at range.0 range.1))
+    range_words rest >>= (λ range. in_draft (after_from draft range.1) (terminal_line draft.plan name at range.0 range.1))
 keyword_line keyword.Wire draft (here ∷ there ∷ []) = in_draft draft (wire_line draft.plan here there)
 keyword_line keyword.Header draft (bytes ∷ []) = header_line draft bytes
 keyword_line keyword.Buffer draft (size ∷ []) = buffer_line draft size
@@ -146,6 +183,9 @@ keyword_line keyword.Continue draft (at ∷ []) = in_draft draft (continue_line 
 keyword_line keyword.Delete draft (name ∷ []) = in_draft draft (delete_line draft.plan name)
 keyword_line keyword.Base draft (at ∷ base ∷ []) = in_draft draft (base_line draft.plan at base)
 keyword_line keyword.Row draft (at ∷ limit ∷ select ∷ []) = in_draft draft (row_line draft.plan at limit select)
+keyword_line keyword.Label draft (style ∷ name ∷ []) = label_line draft style name
+keyword_line keyword.Mesh draft (width ∷ height ∷ terminals ∷ []) = in_draft draft (mesh_line draft.plan width height terminals)
+keyword_line keyword.Cube draft (dimensions ∷ terminals ∷ []) = in_draft draft (cube_line draft.plan dimensions terminals)
 keyword_line keyword draft rest = Err BadShape
 
 -- a line, by its words; is_plain says that it has no byte that no line may have
@@ -154,7 +194,9 @@ read_plan_words draft is_plain [] = Ok draft
 read_plan_words draft is_plain (first ∷ rest) = do
   keyword ← value_or_fault (keyword_of first) UnknownWord
   require is_plain BadShape
-  keyword_line keyword draft rest
+  next ← keyword_line keyword draft rest
+  require (not (is_mixed draft keyword rest)) MixedStyle
+  Ok next
 
 -- the draft after a line, or what is wrong with it
 abbrev pub read_plan_line : Draft → List ℕ → Result Draft PlanFaultKind

@@ -26,4 +26,6 @@ draft_of draft = record {
   plan = plan_of draft.parts;
   header_said = draft.header_said;
   buffer_said = draft.buffer_said;
+  from_said = draft.from_said;
+  root = draft.root;
 }

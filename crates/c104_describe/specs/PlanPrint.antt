@@ -7,7 +7,8 @@ use Rattle.c104_interval.specs.declared.intervals.Select.{Select}
 use Rattle.c104_interval.specs.declared.intervals.Select.TheVariants.{Link, Discard, Sink}
 use Rattle.c104_describe.specs.declared.ports.Port.TheVariants as port
 use Rattle.c104_describe.specs.Ports.{Port, Wire}
-use Rattle.c104_describe.specs.Plans.{Plan, PlanBase, PlanRow, Terminal, host_port}
+use Rattle.c104_describe.specs.declared.plans.Shape.TheVariants.{Hand, Tree, Mesh, Cube}
+use Rattle.c104_describe.specs.Plans.{Plan, Shape, PlanBase, PlanRow, Terminal, host_port}
 
 -- words with a space (0x20) between neighbours
 abbrev pub sentence : List (List ℕ) → List ℕ
@@ -58,9 +59,26 @@ terminal_words plan t =
     codes "terminal" ∷ t.name ∷ port_text plan (host_port t)
     ∷ codes "labels" ∷ decimal t.count ∷ codes "from" ∷ decimal t.first ∷ []
 
+-- the line of a terminal of which only the count is said
+abbrev pub counted_words : Plan → Terminal → List (List ℕ)
+counted_words plan t =
+    codes "terminal" ∷ t.name ∷ port_text plan (host_port t) ∷ codes "labels" ∷ decimal t.count ∷ []
+
 -- the line of a wire
 abbrev pub wire_words : Plan → Wire → List (List ℕ)
 wire_words plan w = codes "wire" ∷ port_text plan w.here ∷ port_text plan w.there ∷ []
+
+-- the line of a tree's root
+abbrev pub label_words : Plan → ℕ → List (List ℕ)
+label_words plan root = codes "label" ∷ codes "tree" ∷ switch_name plan root ∷ []
+
+-- the line of a mesh
+abbrev pub mesh_words : ℕ → ℕ → ℕ → List (List ℕ)
+mesh_words w h p = codes "mesh" ∷ decimal w ∷ decimal h ∷ decimal p ∷ []
+
+-- the line of a cube
+abbrev pub cube_words : ℕ → ℕ → List (List ℕ)
+cube_words d p = codes "cube" ∷ decimal d ∷ decimal p ∷ []
 
 -- the line of a link that continues a group
 abbrev pub continue_words : Plan → Port → List (List ℕ)
@@ -78,16 +96,21 @@ base_words plan b = codes "base" ∷ port_text plan b.port ∷ decimal b.base �
 abbrev pub row_words : Plan → PlanRow → List (List ℕ)
 row_words plan r = codes "row" ∷ port_text plan r.port ∷ decimal r.limit ∷ select_text r.select ∷ []
 
--- the lines of a plan, each kind in the order of its list, and what a name stands for before what names
--- it. For now each plan is made by hand, so a terminal's line says where its range begins, and none has
--- random headers, so these have no line
+-- the lines of a network by its plan's shape, each kind in the order of its list, and what a name stands for
+-- before what names it. What a labeller gives isn't said, and of a mesh and a cube nothing but its sizes
+abbrev pub network_lines : Plan → Shape → List (List (List ℕ))
+network_lines plan Hand = map switch_words plan.switches ++ map (terminal_words plan) plan.terminals ++ map (wire_words plan) plan.wires
+network_lines plan (Tree root) =
+    map switch_words plan.switches ++ map (counted_words plan) plan.terminals ++ map (wire_words plan) plan.wires ++ label_words plan root ∷ []
+network_lines plan (Mesh w h p) = mesh_words w h p ∷ []
+network_lines plan (Cube d p) = cube_words d p ∷ []
+
+-- the lines of a plan. For now none has random headers, so these have no line
 abbrev pub plan_lines : Plan → List (List (List ℕ))
 plan_lines plan =
     header_words plan.header
     ∷ buffer_words plan.cap
-    ∷ map switch_words plan.switches
-    ++ map (terminal_words plan) plan.terminals
-    ++ map (wire_words plan) plan.wires
+    ∷ network_lines plan plan.shape
     ++ map (continue_words plan) plan.continues
     ++ map (delete_words plan) plan.deletes
     ++ map (base_words plan) plan.bases

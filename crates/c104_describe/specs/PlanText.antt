@@ -1,11 +1,12 @@
 -- Descriptions: lines in order, up to the first faulty one.
-use Rattle.std.specs.Prelude.{◌≡◌, ℕ, ◌+◌, ◌<◌, ◌≤◌, ◌⊎◌, false, List, [], ◌∷◌, length, take, nat_le, slice_get, if◌then◌else◌, Some, Result, Ok, Err, MatchResult}
+use Rattle.std.specs.Prelude.{◌≡◌, ℕ, ◌+◌, ◌<◌, ◌≤◌, ◌⊎◌, false, List, [], ◌∷◌, length, take, nat_le, slice_get, if◌then◌else◌, Some, None, Result, Ok, Err, MatchResult}
 use Rattle.c104_describe.specs.declared.faults.PlanFaultKind.TheVariants.{NoMemory, TooLong}
 use Rattle.c104_describe.specs.declared.drafts.Draft.{Draft as Kept}
 use Rattle.c104_describe.specs.TextCut.{lines}
 use Rattle.c104_describe.specs.PlanFaults.{PlanFault, PlanFaultKind, fault_at, no_memory}
 use Rattle.c104_describe.specs.declared.plans.Shape.TheVariants.{Hand}
 use Rattle.c104_describe.specs.Plans.{Plan}
+use Rattle.c104_describe.specs.PlanDrafts.{finished}
 use Rattle.c104_describe.specs.PlanLines.{Draft, read_plan_line}
 use Rattle.c104_describe.specs.LineFaults.{IsLeastFault, IsFaultless}
 use Rattle.c104_describe.specs.PlanParts.{draft_of}
@@ -39,7 +40,7 @@ empty_plan = record {
 
 -- the draft of no line
 abbrev pub empty_draft : Draft
-empty_draft = record { plan = empty_plan; header_said = false; buffer_said = false }
+empty_draft = record { plan = empty_plan; header_said = false; buffer_said = false; from_said = false; root = None }
 
 -- the most bytes of a description: 1 MiB
 abbrev pub most_bytes : ℕ
@@ -47,7 +48,7 @@ most_bytes = 1048576
 
 -- the plan of a draft
 abbrev pub plan_of_draft : Result Draft PlanFault → Result Plan PlanFault
-plan_of_draft (Ok draft) = Ok draft.plan
+plan_of_draft (Ok draft) = Ok (finished draft)
 plan_of_draft (Err fault) = Err fault
 
 -- the plan that a description gives, or its fault

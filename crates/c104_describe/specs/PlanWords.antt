@@ -25,6 +25,9 @@ keywords =
     ∷ (codes "delete", keyword.Delete)
     ∷ (codes "header", keyword.Header)
     ∷ (codes "buffer", keyword.Buffer)
+    ∷ (codes "label", keyword.Label)
+    ∷ (codes "mesh", keyword.Mesh)
+    ∷ (codes "cube", keyword.Cube)
     ∷ []
 
 -- what the first word of a line says

@@ -7,11 +7,12 @@ use Rattle.c104_interval.specs.declared.intervals.Select.{Select}
 use Rattle.c104_interval.specs.declared.intervals.Select.TheVariants.{Link, Discard, Sink}
 use Rattle.c104_regs.specs.declared.registers.TheConstants.{LINKS}
 use Rattle.c104_describe.specs.TextWords.{is_name}
+use Rattle.c104_describe.specs.Layouts.{Layout, mesh, cube, filled_switches, filled_terminals, filled_wires, IsMesh, IsCube}
 use Rattle.c104_describe.specs.declared.limits.TheConstants.{MAX_SWITCHES, MAX_TERMINALS, MAX_HEADER_BYTES, LABELS}
 use Rattle.c104_describe.specs.Ports.{Port, Wire, is_port, both_ends, is_any_at, AreOncePerPort, IsSwitchPort, AreApart}
 use Rattle.c104_describe.specs.declared.ports.Port.TheVariants as port
 pub use Rattle.c104_describe.specs.declared.plans.Shape.{Shape}
-use Rattle.c104_describe.specs.declared.plans.Shape.TheVariants.{Hand}
+use Rattle.c104_describe.specs.declared.plans.Shape.TheVariants.{Hand, Tree, Mesh, Cube}
 pub use Rattle.c104_describe.specs.declared.plans.Terminal.{Terminal}
 pub use Rattle.c104_describe.specs.declared.plans.PlanBase.{PlanBase}
 pub use Rattle.c104_describe.specs.declared.plans.PlanRow.{PlanRow}
@@ -174,11 +175,43 @@ pub record AreRows (switches : ℕ) (rows : List PlanRow) : Type 0 where
   pub ranges : All (λ (r : PlanRow). (r.limit ≤ label_count) × IsPlanSelect r.select) rows
   pub few : (p : Port) → length (rows_of p rows) ≤ ROWS
 
--- what the type of a plan keeps. For now each is made by hand, and none has random headers.
+-- nothing is set at links by lines of their own: labellers do
+pub record IsUnset (plan : Plan) : Type 0 where
+  pub continues : plan.continues ≡ []
+  pub bases : plan.bases ≡ []
+  pub rows : plan.rows ≡ []
+
+-- how many labels terminals have in all
+abbrev pub total_count : List Terminal → ℕ
+total_count [] = 0
+total_count (t ∷ terminals) = t.count + total_count terminals
+
+-- a plan to be labelled as a tree from one of its switches: its terminals carry counts alone
+pub record IsTreePlan (root : ℕ) (plan : Plan) : Type 0 where
+  pub inside : root < length plan.switches
+  pub firsts : All (λ (t : Terminal). t.first ≡ 0) plan.terminals
+  pub counts : total_count plan.terminals ≤ label_count
+  pub unset : IsUnset plan
+
+-- a plan of a layout whose switches have p terminals each
+pub record IsFilled (layout : Layout) (p : ℕ) (plan : Plan) : Type 0 where
+  pub switches : plan.switches ≡ filled_switches layout
+  pub terminals : plan.terminals ≡ filled_terminals layout p
+  pub wires : plan.wires ≡ filled_wires layout
+  pub unset : IsUnset plan
+
+-- what a plan keeps by its shape
+abbrev pub IsOfShape : Shape → Plan → Type 0
+IsOfShape Hand plan = Unit {0}
+IsOfShape (Tree root) plan = IsTreePlan root plan
+IsOfShape (Mesh w h p) plan = IsMesh w h p × IsFilled (mesh w h) p plan
+IsOfShape (Cube d p) plan = IsCube d p × IsFilled (cube d) p plan
+
+-- what the type of a plan keeps. For now none has random headers.
 pub record IsPlan (plan : Plan) : Type 0 where
   pub header : (0 < plan.header) × (plan.header ≤ most_header_bytes)
   pub cap : IsTrue (is_buffer_size plan.cap)
-  pub shape : plan.shape ≡ Hand
+  pub shape : IsOfShape plan.shape plan
   pub few_switches : length plan.switches ≤ most_switches
   pub names : AreNames (names plan.switches plan.terminals)
   pub terminals : AreTerminals (length plan.switches) plan.terminals

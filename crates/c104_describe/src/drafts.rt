@@ -1,9 +1,13 @@
 //! What the lines of a description have said so far.
 ghost use Rattle.std.specs.Prelude.{◌≡◌, IfOk};
-ghost use Rattle.c104_describe.specs.PlanParts.{draft_of};
+ghost use Rattle.std.specs.Prelude.{map};
+ghost use Rattle.c104_describe.specs.PlanDrafts.{finished, is_mixed, says_from};
+ghost use Rattle.c104_describe.specs.PlanParts.{draft_of, plan_of};
 ghost use Rattle.c104_describe.specs.PlanText.{empty_draft};
 
 use crate::parts::Parts;
+use crate::plans::Shape;
+use crate::words::{Keyword, read_range};
 use std::alloc::{AllocError, Global};
 
 /// The parts of a plan, and what was said that may be said once and that they don't show.
@@ -14,6 +18,10 @@ pub(crate) struct Draft {
     pub(crate) header_said: bool,
     /// Whether a line has given the size of buffers.
     pub(crate) buffer_said: bool,
+    /// Whether a line has said where the range of a terminal begins.
+    pub(crate) from_said: bool,
+    /// The root of the tree whose labels a line asks for.
+    pub(crate) root: Option<usize>,
 }
 
 impl Draft {
@@ -26,6 +34,48 @@ impl Draft {
             parts,
             header_said: false,
             buffer_said: false,
+            from_said: false,
+            root: None,
         })
+    }
+
+    /// Whether a line, by what its first word says and the words after it, doesn't go with the lines before.
+    pub(crate) fn is_mixed(&self, keyword: Keyword, rest: &[&[u8]]) -> bool
+        ensures { result ≡ is_mixed (draft_of self.now) keyword (map (λ word. word.now) rest.now) }
+    {
+        let is_filled = !matches!(self.parts.shape, Shape::Hand);
+        match keyword {
+            Keyword::Header | Keyword::Buffer | Keyword::Delete => false,
+            Keyword::Switch | Keyword::Wire => is_filled,
+            Keyword::Terminal => is_filled || (self.root.is_some() && says_from(rest)),
+            Keyword::Continue | Keyword::Base | Keyword::Row => is_filled || self.root.is_some(),
+            Keyword::Label => is_filled || self.from_said || self.parts.has_settings(),
+            Keyword::Mesh | Keyword::Cube => self.parts.switches.len() != 0,
+        }
+    }
+
+    /// The parts of the plan that the lines give. With a tree's root terminals carry counts alone.
+    pub(crate) fn finish(self) -> Parts
+        ensures { plan_of result ≡ finished (draft_of self) }
+    {
+        let mut parts = self.parts;
+        if let Some(root) = self.root {
+            parts.shape = Shape::Tree(root);
+            parts.terminals.forget_ranges();
+        }
+        parts
+    }
+}
+
+/// Whether the words behind `terminal` say where its range begins.
+fn says_from(words: &[&[u8]]) -> bool
+    ensures { result ≡ says_from (map (λ word. word.now) words.now) }
+{
+    match words {
+        [_, _, rest @ ..] => match read_range(rest) {
+            Ok(range) => range.from.is_some(),
+            Err(_) => false,
+        },
+        _ => false,
     }
 }

@@ -1,8 +1,8 @@
 //! The image that a plan's own lines give.
 ghost use Rattle.std.specs.Prelude.{◌≡◌, filter, length, map, slice_get, IfOk};
 ghost use Rattle.std.specs.List.{find, range_with_len};
-ghost use Rattle.c104_describe.specs.Ports.{is_of_switch};
-ghost use Rattle.c104_describe.specs.Plans.{IsPlan, deletes_at, is_on, rows_of};
+ghost use Rattle.c104_describe.specs.Ports.{is_any_at, is_of_switch};
+ghost use Rattle.c104_describe.specs.Plans.{IsPlan, deletes_at, is_continued, is_on, rows_of};
 ghost use Rattle.c104_describe.specs.PlanImage.{AreSettings, Fits, hand_image};
 ghost use Rattle.c104_describe.specs.PlanImage.{base_of, is_random_of, settings_of, switch_settings, table_of};
 
@@ -54,16 +54,21 @@ fn switch_settings(alloc: Global, plan: &Plan, switch: usize) -> Result<Vec<Sett
     ensures all { IfOk result (λ settings. AreSettings settings.items) }
 {
     let rows = rows_of_switch(alloc, plan, switch)?;
+    let continues = continues_of_switch(alloc, plan, switch)?;
     let mut settings = Vec::new(alloc);
     for link in 0..LINKS {
         let port = Port::Switch(switch, link);
-        settings.push(settings_of(plan, rows.as_slice(), port))?;
+        settings.push(settings_of(plan, rows.as_slice(), continues.as_slice(), port))?;
     }
     Ok(settings)
 }
 
 /// The rows of a switch's inputs, so that the rows of one input are looked for among these alone.
-fn rows_of_switch(alloc: Global, plan: &Plan, switch: usize) -> Result<Vec<PlanRow>, AllocError>
+pub(crate) fn rows_of_switch(
+    alloc: Global,
+    plan: &Plan,
+    switch: usize,
+) -> Result<Vec<PlanRow>, AllocError>
     ensures rows { IfOk result (λ rows.
         rows.items ≡ filter (λ row. is_of_switch switch row.port) plan.now.rows) }
     ensures kept { IsPlan plan.now }
@@ -71,6 +76,22 @@ fn rows_of_switch(alloc: Global, plan: &Plan, switch: usize) -> Result<Vec<PlanR
     plan.rows()
         .iter()
         .filter(|row| is_of_switch(row.port, switch))
+        .copied()
+        .collect(alloc)
+}
+
+/// The links of a switch that continue groups, so that one link is looked for among these alone.
+pub(crate) fn continues_of_switch(
+    alloc: Global,
+    plan: &Plan,
+    switch: usize,
+) -> Result<Vec<Port>, AllocError>
+    ensures { IfOk result (λ ports.
+        ports.items ≡ filter (λ port. is_of_switch switch port) plan.now.continues) }
+{
+    plan.continues()
+        .iter()
+        .filter(|port| is_of_switch(**port, switch))
         .copied()
         .collect(alloc)
 }
@@ -85,22 +106,37 @@ fn is_of_switch(port: Port, switch: usize) -> bool
     }
 }
 
-/// What is set at a port of a switch, by rows among which are those of the port.
+/// What is set at a port of a switch, by rows among which are those of the port, and by links that continue
+/// groups, among which the port is if it does.
 #[tactic(auto, unfolding(crate::specs::PlanImage::settings_of))]
-fn settings_of(plan: &Plan, rows: &[PlanRow], port: Port) -> Settings
-    requires { rows_of port rows.now ≡ rows_of port plan.now.rows }
+pub(crate) fn settings_of(
+    plan: &Plan,
+    rows: &[PlanRow],
+    continues: &[Port],
+    port: Port,
+) -> Settings
+    requires rows { rows_of port rows.now ≡ rows_of port plan.now.rows }
+    requires continues { is_any_at (λ q. q) continues.now port ≡ is_continued plan.now port }
     ensures { result ≡ settings_of plan.now port }
 {
     let mut settings = Settings::plain(table_of(plan, rows, port));
     settings.two_byte = plan.header() == 2 && plan.peer(port).is_some();
     settings.delete_header = deletes_at(plan, port);
-    settings.continue_group = plan.parts.is_continued(port);
+    settings.continue_group = is_among(continues, port);
     if let Some(random) = random_of(plan, port) {
         settings.randomize = true;
         settings.random_base = random.base;
         settings.random_range = random.range;
     }
     settings
+}
+
+/// Whether a port is one of these.
+#[tactic(auto, unfolding(crate::specs::Ports::is_any_at))]
+fn is_among(ports: &[Port], port: Port) -> bool
+    ensures { result ≡ is_any_at (λ q. q) ports.now port }
+{
+    ports.iter().any(|other| other.is_same(port))
 }
 
 /// Whether headers are deleted at a port: one of the plan's deletes is of a terminal on it.

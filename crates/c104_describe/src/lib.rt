@@ -22,9 +22,11 @@
 mod description;
 mod drafts;
 mod faults;
+mod fills;
 mod hand;
 mod image;
 mod image_faults;
+mod labelled;
 mod limits;
 mod lines;
 mod name_index;

@@ -1,13 +1,14 @@
 //! Descriptions, line by line.
 ghost use Rattle.std.specs.Prelude.{◌≡◌, [], ◌∷◌, ◌++◌, map, option_map, OnOk};
 ghost use Rattle.c104_describe.specs.PlanLines.{read_plan_line, read_plan_words, keyword_line, header_line, buffer_line};
-ghost use Rattle.c104_describe.specs.PlanLines.{base_line, continue_line, delete_line, row_line, switch_line, terminal_line, wire_line};
+ghost use Rattle.c104_describe.specs.PlanLines.{base_line, continue_line, delete_line, label_line, row_line, switch_line, terminal_line, wire_line};
 ghost use Rattle.c104_describe.specs.PlanParts.{draft_of, plan_of};
 ghost use Rattle.c104_describe.specs.Plans.{IsPlan, is_buffer_size};
 ghost use Rattle.c104_describe.specs.PlanText.{ReadsLine};
 
 use crate::drafts::Draft;
 use crate::faults::PlanFaultKind;
+use crate::fills::{set_cube, set_mesh};
 use crate::limits::{LABELS, MAX_HEADER_BYTES, MAX_SWITCHES, MAX_TERMINALS};
 use crate::names::Name;
 use crate::parts::Parts;
@@ -51,7 +52,12 @@ fn read_words(
     if !is_plain {
         return Err(PlanFaultKind::BadShape);
     }
-    read_keyword_line(alloc, draft, keyword, rest)
+    let is_mixed = draft.is_mixed(keyword, rest);
+    read_keyword_line(alloc, draft, keyword, rest)?;
+    if is_mixed {
+        return Err(PlanFaultKind::MixedStyle);
+    }
+    Ok(())
 }
 
 /// Reads a line by what its first word says, and the words after it.
@@ -69,6 +75,7 @@ fn read_keyword_line(
         (Keyword::Switch, [name]) => add_switch(alloc, &mut draft.parts, name),
         (Keyword::Terminal, [name, port, rest @ ..]) => {
             let range = read_range(rest)?;
+            draft.from_said = draft.from_said || range.from.is_some();
             add_terminal(alloc, &mut draft.parts, name, port, range)
         }
         (Keyword::Wire, [here, there]) => add_wire(&mut draft.parts, here, there),
@@ -78,6 +85,13 @@ fn read_keyword_line(
         (Keyword::Delete, [name]) => add_delete(&mut draft.parts, name),
         (Keyword::Base, [port, base]) => add_base(&mut draft.parts, port, base),
         (Keyword::Row, [port, limit, select]) => add_row(&mut draft.parts, port, limit, select),
+        (Keyword::Label, [style, name]) => set_root(draft, style, name),
+        (Keyword::Mesh, [width, height, terminals]) => {
+            set_mesh(alloc, &mut draft.parts, width, height, terminals)
+        }
+        (Keyword::Cube, [dimensions, terminals]) => {
+            set_cube(alloc, &mut draft.parts, dimensions, terminals)
+        }
         _ => Err(PlanFaultKind::BadShape),
     }
 }
@@ -259,6 +273,27 @@ fn add_row(parts: &mut Parts, port: &[u8], limit: &[u8], select: &[u8]) -> Resul
         select,
     };
     parts.rows.push(row)?;
+    Ok(())
+}
+
+/// Reads `label tree S`.
+fn set_root(draft: &mut Draft, style: &[u8], name: &[u8]) -> Result<(), PlanFaultKind>
+    ensures { ReadsLine result (draft_of draft.new)
+        (label_line (draft_of draft.old) style.now name.now) }
+{
+    if style != b"tree".as_slice() {
+        return Err(PlanFaultKind::BadShape);
+    }
+    if !is_name(name) {
+        return Err(PlanFaultKind::BadName);
+    }
+    let Some(root) = draft.parts.switch_number(name) else {
+        return Err(PlanFaultKind::UnknownName);
+    };
+    if draft.root.is_some() {
+        return Err(PlanFaultKind::Twice);
+    }
+    draft.root = Some(root);
     Ok(())
 }
 

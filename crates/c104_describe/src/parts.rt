@@ -30,6 +30,7 @@ impl Parts {
     ghost use Rattle.c104_describe.specs.Ports.{Wire as TheWire, is_any_at, is_port, IsSwitchPort};
     ghost use Rattle.c104_describe.specs.Plans.{Terminal as TheTerminal, PlanBase as TheBase, switch_number, terminal_number};
     ghost use Rattle.c104_describe.specs.Plans.{host_port, is_taken, is_linked, is_continued, is_deleted, next_first, rows_of, AreTerminals, label_count, most_switches};
+    ghost use Rattle.c104_describe.specs.PlanDrafts.{has_settings};
     ghost use Rattle.c104_describe.specs.PlanParts.{plan_of};
     ghost use Rattle.c104_describe.specs.PlanText.{empty_plan};
 
@@ -157,6 +158,13 @@ impl Parts {
         ensures { result ≡ is_any_at (λ (b : TheBase). b.port) (plan_of self.now).bases port }
     {
         self.bases.iter().any(|base| base.port.is_same(port))
+    }
+
+    /// Whether lines set something at links.
+    pub(crate) fn has_settings(&self) -> bool
+        ensures { result ≡ has_settings (plan_of self.now) }
+    {
+        !self.continues.is_empty() || !self.bases.is_empty() || !self.rows.as_slice().is_empty()
     }
 
     /// How many rows an input has.

@@ -1,19 +1,22 @@
 //! What a plan is printed as.
 ghost use Rattle.std.specs.Prelude.{◌≡◌, ◌≤◌, ◌++◌, ◌∷◌, [], length, map, IfOk, OnOk, Ok};
 ghost use Rattle.std.specs.String.{string_bytes};
-ghost use Rattle.c104_describe.specs.PlanPrint.{plan_text, port_text, select_text, sentence, switch_name, switch_words, terminal_name, text_of};
+ghost use Rattle.c104_describe.specs.declared.plans.Shape.TheVariants.{Hand, Tree};
+ghost use Rattle.c104_describe.specs.PlanPrint.{counted_words, label_words, network_lines, plan_text, port_text, select_text, sentence, switch_name, switch_words, terminal_name, text_of};
 ghost use Rattle.c104_describe.specs.PlanPrint.{terminal_words, wire_words, continue_words, delete_words, base_words, row_words};
 ghost use Rattle.c104_describe.specs.PlanText.{most_bytes, read_description};
 
-use crate::plans::{Plan, Terminal};
+use crate::plans::{Plan, Shape, Terminal};
 use crate::ports::Port;
 use c104_interval::Select;
 use c104_token::NoMemory;
 use std::alloc::{AllocError, Global};
 
-/// Prints a plan as a description: `header n` and `buffer n`, then the `switch`, `terminal`, `wire`,
-/// `continue`, `delete`, `base` and `row` lines, each kind in the order of its list. A terminal's line
-/// says how many labels its range has and where it begins.
+/// Prints a plan as a description: `header n` and `buffer n`, then the network, and then the `continue`,
+/// `delete`, `base` and `row` lines, each kind in the order of its list. The network is one `mesh` or `cube`
+/// line, or `switch`, `terminal` and `wire` lines, each kind in the order of its list, and behind these the
+/// `label` line where there was one. A terminal's line says how many labels its range has, and where it begins
+/// unless there is a `label` line.
 ///
 /// Of what is printed `read_description` gives that very plan, if it has at most 1 MiB.
 #[tactic(auto, using(crate::proofs::PrintedPlans::read_back))]
@@ -25,14 +28,64 @@ pub fn print_plan(alloc: Global, plan: &Plan) -> Result<String, NoMemory>
     let header = plan.header();
     let cap = plan.cap();
     let mut text = format!(in alloc; "header {header}\nbuffer {cap}\n")?;
-    add_switches(alloc, &mut text, plan)?;
-    add_terminals(alloc, &mut text, plan)?;
-    add_wires(alloc, &mut text, plan)?;
+    add_network(alloc, &mut text, plan)?;
     add_continues(alloc, &mut text, plan)?;
     add_deletes(alloc, &mut text, plan)?;
     add_bases(alloc, &mut text, plan)?;
     add_rows(alloc, &mut text, plan)?;
     Ok(text)
+}
+
+/// The lines of the network join the text.
+fn add_network(alloc: Global, text: &mut String, plan: &Plan) -> Result<(), AllocError>
+    ensures { OnOk result (string_bytes text.new ≡
+        string_bytes text.old ++ text_of (network_lines plan.now plan.now.shape)) }
+{
+    match plan.shape() {
+        Shape::Hand => add_by_hand(alloc, text, plan),
+        Shape::Tree(root) => add_tree(alloc, text, plan, root),
+        Shape::Mesh(width, height, terminals) => {
+            let line = format!(in alloc; "mesh {width} {height} {terminals}\n")?;
+            text.push_str(line.as_str())
+        }
+        Shape::Cube(dimensions, terminals) => {
+            let line = format!(in alloc; "cube {dimensions} {terminals}\n")?;
+            text.push_str(line.as_str())
+        }
+    }
+}
+
+/// The lines of a network that is made line by line join the text.
+fn add_by_hand(alloc: Global, text: &mut String, plan: &Plan) -> Result<(), AllocError>
+    ensures { OnOk result (string_bytes text.new ≡
+        string_bytes text.old ++ text_of (network_lines plan.now Hand)) }
+{
+    add_switches(alloc, text, plan)?;
+    add_terminals(alloc, text, plan)?;
+    add_wires(alloc, text, plan)?;
+    Ok(())
+}
+
+/// The lines of a network that is to be labelled as a tree from a switch on join the text.
+fn add_tree(alloc: Global, text: &mut String, plan: &Plan, root: usize) -> Result<(), AllocError>
+    ensures { OnOk result (string_bytes text.new ≡
+        string_bytes text.old ++ text_of (network_lines plan.now (Tree root))) }
+{
+    add_switches(alloc, text, plan)?;
+    add_counted_terminals(alloc, text, plan)?;
+    add_wires(alloc, text, plan)?;
+    add_root(alloc, text, plan, root)?;
+    Ok(())
+}
+
+/// The line of a tree's root joins the text.
+fn add_root(alloc: Global, text: &mut String, plan: &Plan, root: usize) -> Result<(), AllocError>
+    ensures { OnOk result (string_bytes text.new ≡
+        string_bytes text.old ++ text_of (label_words plan.now root ∷ [])) }
+{
+    let name = switch_name(plan, root);
+    let line = format!(in alloc; "label tree {name}\n")?;
+    text.push_str(line.as_str())
 }
 
 /// The lines of the switches join the text.
@@ -74,6 +127,34 @@ fn add_terminal(
     let count = terminal.count;
     let first = terminal.first;
     let line = format!(in alloc; "terminal {name} {port} labels {count} from {first}\n")?;
+    text.push_str(line.as_str())
+}
+
+/// The lines of terminals that carry counts alone join the text.
+fn add_counted_terminals(alloc: Global, text: &mut String, plan: &Plan) -> Result<(), AllocError>
+    ensures { OnOk result (string_bytes text.new ≡
+        string_bytes text.old ++ text_of (map (counted_words plan.now) plan.now.terminals)) }
+{
+    for terminal in plan.terminals() {
+        add_counted_terminal(alloc, text, plan, terminal)?;
+    }
+    Ok(())
+}
+
+/// The line of a terminal that carries its count alone joins the text.
+fn add_counted_terminal(
+    alloc: Global,
+    text: &mut String,
+    plan: &Plan,
+    terminal: &Terminal,
+) -> Result<(), AllocError>
+    ensures { OnOk result (string_bytes text.new ≡
+        string_bytes text.old ++ (sentence (counted_words plan.now terminal.now) ++ 0x0a ∷ [])) }
+{
+    let name = terminal.name.as_str();
+    let port = port_text(alloc, plan, terminal.host_port())?;
+    let count = terminal.count;
+    let line = format!(in alloc; "terminal {name} {port} labels {count}\n")?;
     text.push_str(line.as_str())
 }
 

@@ -1,6 +1,7 @@
 //! The terminals of a plan.
-ghost use Rattle.std.specs.Prelude.{◌≡◌, ◌<◌, [], ◌∷◌, ◌++◌, false, bytes_eq, length, position, IfOk, IfSome, OnErr, OnOk};
+ghost use Rattle.std.specs.Prelude.{◌≡◌, ◌<◌, [], ◌∷◌, ◌++◌, false, bytes_eq, length, map, position, IfOk, IfSome, OnErr, OnOk};
 ghost use Rattle.std.specs.List.{list_any};
+ghost use Rattle.c104_describe.specs.PlanDrafts.{without_first};
 ghost use Rattle.c104_describe.specs.Plans.{Terminal as TheTerminal};
 
 use crate::name_index::NameIndex;
@@ -57,6 +58,13 @@ impl TerminalList {
         Ok(())
     }
 
+    /// The terminals keep their counts alone.
+    pub(crate) fn forget_ranges(&mut self)
+        ensures { self.new ≡ map without_first self.old }
+    {
+        forget_firsts(&mut self.list);
+    }
+
     /// The terminals, by number.
     pub(crate) fn as_slice(&self) -> &[Terminal]
         ensures { result.now ≡ self.now }
@@ -94,5 +102,14 @@ impl TerminalList {
         let list = self.list.clone()?;
         let names = self.names.copy()?;
         Ok(TerminalList { list, names })
+    }
+}
+
+/// These terminals keep their counts alone.
+fn forget_firsts(terminals: &mut Vec<Terminal>)
+    ensures { terminals.new.items ≡ map without_first terminals.old.items }
+{
+    for terminal in terminals.iter_mut() {
+        terminal.first = 0;
     }
 }

@@ -24,10 +24,13 @@ pub(crate) enum Keyword {
     Delete,
     Base,
     Row,
+    Label,
+    Mesh,
+    Cube,
 }
 
 /// The words with which lines begin, the most frequent first.
-const KEYWORDS: [(&[u8], Keyword); 9] = [
+const KEYWORDS: [(&[u8], Keyword); 12] = [
     (b"row", Keyword::Row),
     (b"base", Keyword::Base),
     (b"wire", Keyword::Wire),
@@ -37,6 +40,9 @@ const KEYWORDS: [(&[u8], Keyword); 9] = [
     (b"delete", Keyword::Delete),
     (b"header", Keyword::Header),
     (b"buffer", Keyword::Buffer),
+    (b"label", Keyword::Label),
+    (b"mesh", Keyword::Mesh),
+    (b"cube", Keyword::Cube),
 ];
 
 /// What a word asks for. None where no line begins with it.
@@ -61,7 +67,8 @@ fn keyword_among(known: &[(&[u8], Keyword)], word: &[u8]) -> Option<Keyword>
 
 /// A number of at least and at most so much, or BadNumber.
 pub(crate) fn read_number_within(least: u32, most: u32, word: &[u8]) -> Result<u32, PlanFaultKind>
-    ensures { result ≡ number_within least most word.now }
+    ensures number { result ≡ number_within least most word.now }
+    ensures range { IfOk result (λ value. (least ≤ value) × (value ≤ most)) }
 {
     match read_number(word) {
         Some(value) if least <= value && value <= most => Ok(value),

@@ -12,3 +12,14 @@ pub mod CubeRows
 pub mod FilledTables
 pub mod ForestLemmas
 pub mod VisitLemmas
+pub mod TreeRows
+pub mod TreePlaces
+pub mod TreeSelections
+pub mod TreeSums
+pub mod RowRanges
+pub mod TreeTables
+pub mod TreeCounts
+pub mod TreeAdded
+pub mod TreeSteps
+pub mod ShapeTables
+mod ShapePlans

@@ -7,17 +7,7 @@ use Rattle.c104_interval.specs.declared.intervals.Table.{Table}
 use Rattle.c104_interval.specs.declared.intervals.Select.TheVariants.{Link, Sink}
 use Rattle.c104_interval.specs.Selection.{select}
 use Rattle.c104_label.specs.LabelRows.{AreLabelRows, around, kept_rows, label_row, label_table, own_rows, owner}
-
--- the sizes of a cube: at most 64 switches, for each as many links as it needs, and at most 256 labels
-pub record IsCube (d p : ℕ) : Type 0 where
-  pub low : d ≤ 6
-  pub some : 0 < p
-  pub links : p ≤ 26
-  pub labels : 2 ^ d * p ≤ 256
-
--- bit k of a number
-abbrev pub bit : ℕ → ℕ → ℕ
-bit x k = x / 2 ^ k % 2
+pub use Rattle.c104_describe.specs.Layouts.{IsCube, bit}
 
 -- k is the highest of d bits at which two numbers differ
 pub record IsHighestDifference (d x u k : ℕ) : Type 0 where

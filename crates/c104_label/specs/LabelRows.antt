@@ -1,6 +1,6 @@
 -- The rows of a table that labels give. A row is for the labels from the limit of the row before it, or from
 -- 0, up to and without its own limit.
-use Rattle.std.specs.Prelude.{◌≡◌, ℕ, ◌+◌, ◌-◌, ◌*◌, ◌/◌, ◌%◌, ◌==◌, ◌<◌, ◌≤◌, List, [], ◌∷◌, ◌++◌, map, length, replicate, if◌then◌else◌}
+use Rattle.std.specs.Prelude.{◌≡◌, ℕ, ◌+◌, ◌-◌, ◌*◌, ◌/◌, ◌==◌, ◌<◌, ◌≤◌, List, [], ◌∷◌, ◌++◌, map, length, replicate, if◌then◌else◌}
 use Rattle.std.specs.List.{AllByRecursion, range_with_len}
 use Rattle.c104_interval.specs.declared.intervals.TheConstants.{ROWS}
 use Rattle.c104_interval.specs.declared.intervals.Row.{Row}
@@ -71,3 +71,8 @@ owner terminals label = label / terminals
 -- rows, and one more unless its interval is empty
 abbrev pub with_row : List Row → Row → List Row
 with_row rows r = rows ++ (if r.limit == last_limit 0 rows then [] else r ∷ [])
+
+-- and more of them, one by one
+abbrev pub with_rows : List Row → List Row → List Row
+with_rows rows [] = rows
+with_rows rows (r ∷ more) = with_rows (with_row rows r) more

@@ -4,3 +4,6 @@ pub mod CubeLabels
 pub mod LabelFaults
 pub mod Forests
 pub mod Trees
+pub mod TreeLabels
+pub mod TreeImages
+pub mod Images

@@ -8,15 +8,7 @@ use Rattle.c104_interval.specs.declared.intervals.Table.{Table}
 use Rattle.c104_interval.specs.declared.intervals.Select.TheVariants.{Link, Sink}
 use Rattle.c104_interval.specs.Selection.{select}
 use Rattle.c104_label.specs.LabelRows.{AreLabelRows, around, kept_rows, label_row, label_table, own_rows, owner}
-
--- the sizes of a mesh: at most 64 switches, for each as many links as it needs, and at most 256 labels
-pub record IsMesh (w h p : ℕ) : Type 0 where
-  pub wide : (0 < w) × (w ≤ 64)
-  pub high : (0 < h) × (h ≤ 64)
-  pub some : 0 < p
-  pub links : p ≤ 28
-  pub switches : w * h ≤ 64
-  pub labels : w * h * p ≤ 256
+pub use Rattle.c104_describe.specs.Layouts.{IsMesh}
 
 -- the row and the column of a switch
 abbrev pub mesh_row : ℕ → ℕ → ℕ

@@ -1,9 +1,13 @@
 //! The labels of a cube.
-ghost use Rattle.std.specs.Prelude.{◌≡◌, ◌↔◌, ◌<◌, ◌≤◌, ◌+◌, ◌*◌, ◌^◌, map, IfOk, IsTrue};
+ghost use Rattle.std.specs.Prelude.{◌≡◌, ◌↔◌, ◌<◌, ◌≤◌, ◌+◌, ◌*◌, ◌^◌, length, map, IfOk, IsTrue};
 ghost use Rattle.std.specs.List.{range_with_len};
+ghost use Rattle.c104_describe.specs.LabelledImages.{labelled_image};
+ghost use Rattle.c104_describe.specs.PlanImage.{Fits, range_of};
 ghost use Rattle.c104_label.specs.CubeLabels.{AreCubeTables, IsCube, cube_rows, cube_table};
 
+use crate::images::image_with;
 use crate::rows::{add_row, table_of};
+use c104_describe::{Image, Plan};
 use c104_interval::{Row, Table};
 use c104_token::NoMemory;
 use std::alloc::{AllocError, Global};
@@ -50,6 +54,28 @@ pub fn cube_tables(
         tables.push(cube_table(alloc, dimensions, terminals, switch)?)?;
     }
     Ok(tables)
+}
+
+/// The image of a plan whose switches are those of a cube of so many dimensions, with so many terminals each: at
+/// each port that has a wire the table of its switch, and all else as the plan's own lines say. The only error
+/// is out of memory.
+#[tactic(auto, using(crate::proofs::CubeTables::are_cube_tables))]
+pub fn label_cube(
+    alloc: Global,
+    plan: &Plan,
+    dimensions: usize,
+    terminals: usize,
+) -> Result<Image, NoMemory>
+    requires sizes { IsCube dimensions terminals }
+    requires switches { length plan.now.switches ≡ 2 ^ dimensions }
+    ensures image { IfOk result (λ image. image ≡ labelled_image plan.now
+        (map range_of plan.now.terminals)
+        (map (cube_table dimensions terminals) (range_with_len 0 (2 ^ dimensions)))) }
+    ensures fits { IfOk result (λ image. Fits image plan.now) }
+    ensures labels { AreCubeTables dimensions terminals }
+{
+    let tables = cube_tables(alloc, dimensions, terminals)?;
+    image_with(alloc, plan, tables.as_slice())
 }
 
 /// The table of a switch of a cube.

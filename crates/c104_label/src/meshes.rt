@@ -1,9 +1,13 @@
 //! The labels of a mesh.
-ghost use Rattle.std.specs.Prelude.{◌≡◌, ◌↔◌, ◌<◌, ◌≤◌, ◌*◌, ◌&&◌, map, nat_le, nat_lt, IfOk, IsTrue};
+ghost use Rattle.std.specs.Prelude.{◌≡◌, ◌↔◌, ◌<◌, ◌≤◌, ◌*◌, ◌&&◌, length, map, nat_le, nat_lt, IfOk, IsTrue};
 ghost use Rattle.std.specs.List.{range_with_len};
+ghost use Rattle.c104_describe.specs.LabelledImages.{labelled_image};
+ghost use Rattle.c104_describe.specs.PlanImage.{Fits, range_of};
 ghost use Rattle.c104_label.specs.MeshLabels.{AreMeshTables, IsMesh, mesh_rows, mesh_table};
 
+use crate::images::image_with;
 use crate::rows::{add_row, table_of};
+use c104_describe::{Image, Plan};
 use c104_interval::{Row, Table};
 use c104_token::NoMemory;
 use std::alloc::{AllocError, Global};
@@ -49,6 +53,29 @@ pub fn mesh_tables(
         tables.push(mesh_table(alloc, width, height, terminals, switch)?)?;
     }
     Ok(tables)
+}
+
+/// The image of a plan whose switches are those of a mesh of so many columns and rows, with so many terminals
+/// each: at each port that has a wire the table of its switch, and all else as the plan's own lines say. The
+/// only error is out of memory.
+#[tactic(auto, using(crate::proofs::MeshTables::are_mesh_tables))]
+pub fn label_mesh(
+    alloc: Global,
+    plan: &Plan,
+    width: usize,
+    height: usize,
+    terminals: usize,
+) -> Result<Image, NoMemory>
+    requires sizes { IsMesh width height terminals }
+    requires switches { length plan.now.switches ≡ width * height }
+    ensures image { IfOk result (λ image. image ≡ labelled_image plan.now
+        (map range_of plan.now.terminals)
+        (map (mesh_table width height terminals) (range_with_len 0 (width * height)))) }
+    ensures fits { IfOk result (λ image. Fits image plan.now) }
+    ensures labels { AreMeshTables width height terminals }
+{
+    let tables = mesh_tables(alloc, width, height, terminals)?;
+    image_with(alloc, plan, tables.as_slice())
 }
 
 /// The table of a switch of a mesh.

@@ -7,8 +7,8 @@
 //!
 //! - [`InBufferOf`] keeps what it holds and what it has granted together within its capacity, which
 //!   is 8, 16, .. 64 tokens in this emulator.
-//! - [`OutBufferOf`] keeps at most 8 tokens and at most [`CREDIT_LIMIT`] credits (this emulator's
-//!   numbers).
+//! - [`OutBufferOf`] keeps at most [`OUTPUT_CAP`] tokens and at most [`CREDIT_LIMIT`] credits (this
+//!   emulator's numbers).
 //! - [`InBuffer`] and [`OutBuffer`] are those of plain tokens. Both hold tokens in the order in which
 //!   they came, and what is refused changes nothing.
 #![tactic(auto)]
@@ -17,7 +17,7 @@ mod incoming;
 mod outgoing;
 
 pub use incoming::{InBuffer, InBufferOf, valid_cap};
-pub use outgoing::{CREDIT_LIMIT, OutBuffer, OutBufferOf};
+pub use outgoing::{CREDIT_LIMIT, OUTPUT_CAP, OutBuffer, OutBufferOf};
 
 /// The tokens that one flow-control token grants (the data sheet's rule).
 pub const TOKENS_OF_A_GRANT: usize = 8;

@@ -12,6 +12,8 @@ pub mod PartRuns
 pub mod IdleEvents
 pub mod RoundJoins
 pub mod WiredPorts
+pub mod PortWalks
+pub mod ReadyNodes
 pub mod PlanBuffers
 pub mod BalanceWires
 pub mod BalancePlaces
@@ -22,3 +24,6 @@ pub mod BalanceSteps
 pub mod BalanceEvents
 pub mod BalancePlaced
 pub mod Finishing
+mod UnreadyNodes
+mod UnreadyEvents
+mod EventReasons

@@ -1,7 +1,7 @@
 -- The parts of a round make a round, and what rounds leave is in balance.
 use Rattle.std.proofs.Common.{◌≡◌, ◌∙◌, ◌<◌, ◌≤◌, ◌||◌, ℕ, Bool, true, false, List, [], ◌∷◌, ◌++◌, Option, Some, None, Result, Ok, Err, get_or, length, map, take, inl, inr, refl, sym, ap, subst, arith}
 use Rattle.std.specs.List.{flat_map, range_with_len}
-use Rattle.std.proofs.lemmas.List.{map-id, take_all}
+use Rattle.std.proofs.lemmas.List.{map-id}
 use Rattle.c104_token.specs.Kinds.{Kind}
 use Rattle.c104_link.specs.Steps.{◌>>=◌, step_at, yield_step_at}
 use Rattle.c104_link.proofs.MadeSteps.{given}
@@ -34,10 +34,6 @@ module _ {A : Type 0} (kind : Kind A) where
   -- events of one kind, one by one
   pub of_events : {X : Type 0} (f : X → Event) (xs : List X) (net after : Network A) (result : Result Bool EventFault) → PartEnds kind net (flat_map (single f) xs) result after → PartEnds kind net (map f xs) result after
   of_events f xs net after result ends = subst (λ es. PartEnds kind net es result after) (singles f xs) ends
-
-  -- parts of all of a list
-  pub all_taken : {X : Type 0} (part : X → List Event) (xs : List X) (i : ℕ) (net after : Network A) (a : Bool) → length xs ≤ i → PartEnds kind net (flat_map part (take i xs)) (Ok a) after → PartEnds kind net (flat_map part xs) (Ok a) after
-  all_taken part xs i net after a all ends = subst (λ ys. PartEnds kind net (flat_map part ys) (Ok a) after) (take_all i xs all) ends
 
   -- all claims of an input, where none of them can be made
   pub idle_claims : (net : Network A) (s i : ℕ) → ((o : ℕ) → o < 32 → PartEnds kind net (event.Claim s i o ∷ []) (Ok false) net) → PartEnds kind net (claims_of s i) (Ok false) net

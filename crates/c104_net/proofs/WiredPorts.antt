@@ -1,31 +1,49 @@
--- The wired ports of a plan have wires.
-use Rattle.std.proofs.Common.{◌≡◌, ℕ, true, List, [], ◌∷◌, ◌++◌, All, Option, Some, None, filter, is_some, length, slice_index_or, refl}
-use Rattle.std.specs.List.{flat_map, range_with_len}
-use Rattle.std.proofs.lemmas.List.Elements.{All-append, All-nil, filter_passes}
+-- The wired ports of a plan: they have wires, and the sets of links have those of the switches.
+use Rattle.std.proofs.Common.{◌≡◌, ◌∙◌, ◌<◌, ◌+◌, ◌-◌, ℕ, Bool, true, List, [], ◌∷◌, ◌++◌, Option, Some, None, get_or, is_some, length, inl, inr, refl, sym, ap, subst, arith}
+use Rattle.std.specs.Option.{option_map}
+use Rattle.std.proofs.lemmas.Bool.{cases_eq}
+use Rattle.std.proofs.lemmas.List.{get_or_append_left, get_or-append_right, length-append}
+use Rattle.c104_crossbar.specs.Groups.{has_bit}
 use Rattle.c104_describe.specs.declared.ports.Port.{Port}
+use Rattle.c104_describe.specs.declared.ports.Port.TheVariants as port
 use Rattle.c104_describe.specs.Plans.{Plan, IsPlan}
 use Rattle.c104_describe.specs.Wiring.{peer}
 use Rattle.c104_describe.proofs.Wires.{wiring}
+use Rattle.c104_net.specs.LinkedSets.{AreLinked}
 use Rattle.c104_net.specs.Network.{wired_fault}
-use Rattle.c104_net.specs.Rounds.{is_wired, wired_links, wired_ports, wired_terminals}
+use Rattle.c104_net.specs.Rounds.{is_wired}
 use Rattle.c104_net.proofs.IdleEvents.{wired_inside}
 
-all_parts : {X Y : Type 0} (P : Y → Type 0) (f : X → List Y) → ((x : X) → All P (f x)) → (xs : List X) → All P (flat_map f xs)
-all_parts P f each [] = All-nil P
-all_parts P f each (x ∷ xs) = All-append P (f x) (flat_map f xs) (each x) (all_parts P f each xs)
-
 module _ (plan : Plan) (is_plan : IsPlan plan) where
-  has_wire : (p : Port) → is_wired plan p ≡ true → wired_fault plan p ≡ None
+  pub has_wire : (p : Port) → is_wired plan p ≡ true → wired_fault plan p ≡ None
   has_wire p wired = by_peer (peer plan p) refl wired
     where
       by_peer : (other : Option Port) → peer plan p ≡ other → is_some other ≡ true → wired_fault plan p ≡ None
       by_peer None is wired = absurd (cc wired)
       by_peer (Some q) is wired = wired_inside plan p q ((wiring plan is_plan).inside p q is) is
 
-  pub all_wired : All (λ p. wired_fault plan p ≡ None) (wired_ports plan)
-  all_wired = λ k d inside. has_wire (slice_index_or (wired_ports plan) k d) (passed k d inside)
-    where
-      passed : All (λ p. is_wired plan p ≡ true) (wired_ports plan)
-      passed = All-append (λ p. is_wired plan p ≡ true) (flat_map (wired_links plan) (range_with_len 0 (length plan.switches))) (wired_terminals plan)
-          (all_parts (λ p. is_wired plan p ≡ true) (wired_links plan) (λ s. filter_passes (is_wired plan) _) (range_with_len 0 (length plan.switches)))
-          (filter_passes (is_wired plan) _)
+pub some_mapped : {X Y : Type 0} (f : X → Y) (o : Option X) → is_some (option_map f o) ≡ is_some o
+some_mapped f None = refl
+some_mapped f (Some x) = refl
+
+-- one link more is in a set as it is wired
+pub linked_more : (plan : Plan) (s i : ℕ) (old new : ℕ) → ((l : ℕ) → l < 32 → l < i → has_bit old l ≡ is_wired plan (port.Switch s l)) → (i < 32 → has_bit new i ≡ is_wired plan (port.Switch s i)) → ((l : ℕ) → l < 32 → (l ≡ i → ⊥) → has_bit new l ≡ has_bit old l) → (l : ℕ) → l < 32 → l < i + 1 → has_bit new l ≡ is_wired plan (port.Switch s l)
+linked_more plan s i old new so_far here others = λ l below upto.
+    elim (cases_eq l i) [
+      | inl same ↦ subst (λ k. has_bit new k ≡ is_wired plan (port.Switch s k)) (sym same) (here (subst (λ k. k < 32) same below))
+      | inr other ↦ others l below other ∙ so_far l below (omega arith)
+    ]
+
+-- the set of one switch more
+pub linked_next : (plan : Plan) (n set : ℕ) (sets more : List ℕ) → AreLinked plan n sets → ((l : ℕ) → l < 32 → has_bit set l ≡ is_wired plan (port.Switch n l)) → more ≡ sets ++ set ∷ [] → AreLinked plan (n + 1) more
+linked_next plan n set sets more before own is = record {
+  counted = ap length is ∙ length-append sets (set ∷ []) ∙ ap (λ k. k + 1) before.counted;
+  linked = λ s l inside below.
+      elim (cases_eq s n) [
+        | inl same ↦ subst (λ k. has_bit (get_or more k 0) l ≡ is_wired plan (port.Switch k l)) (sym same) (ap (λ w. has_bit w l) (last is) ∙ own l below)
+        | inr other ↦ ap (λ w. has_bit w l) (ap (λ xs. get_or xs s 0) is ∙ get_or_append_left sets (set ∷ []) 0 s (let counted = before.counted in omega arith)) ∙ before.linked s l (omega arith) below
+      ];
+}
+  where
+    last : more ≡ sets ++ set ∷ [] → get_or more n 0 ≡ set
+    last is = ap (λ xs. get_or xs n 0) is ∙ get_or-append_right sets (set ∷ []) n n 0 before.counted (omega arith) ∙ (let none : n - n ≡ 0 = omega arith in ap (λ k. get_or (set ∷ []) k 0) none)

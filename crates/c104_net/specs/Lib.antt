@@ -6,8 +6,12 @@ pub mod FarEnds
 pub mod Acts
 pub mod Places
 pub mod Network
+pub mod Reasons
+pub mod ReasonMeanings
 pub mod Balance
 pub mod Finished
 pub mod Rounds
+pub mod LinkedSets
+pub mod PortParts
 pub mod RoundParts
 pub mod PlaceFaults

@@ -51,6 +51,7 @@ pub fn happen<T: TokenKind, P: Place<T>>(
 }
 
 /// A token crosses the wire at a port.
+#[inline(always)]
 pub fn cross<T: TokenKind, P: Place<T>>(
     wires: &Wires,
     places: &mut [P],
@@ -68,6 +69,7 @@ pub fn cross<T: TokenKind, P: Place<T>>(
 }
 
 /// A port grants eight more tokens to the other end of its wire.
+#[inline(always)]
 pub fn credit<T: TokenKind, P: Place<T>>(
     wires: &Wires,
     places: &mut [P],
@@ -86,6 +88,7 @@ pub fn credit<T: TokenKind, P: Place<T>>(
 }
 
 /// An input of a switch takes a turn.
+#[inline(always)]
 pub fn input<T: TokenKind, P: Place<T>>(
     plan: &Plan,
     places: &mut [P],
@@ -179,6 +182,7 @@ fn send<T: TokenKind, P: Place<T>>(
 }
 
 /// The first token that came in at a terminal arrives.
+#[inline(always)]
 pub fn drain<T: TokenKind, P: Place<T>>(
     plan: &Plan,
     places: &mut [P],
@@ -202,6 +206,7 @@ pub fn drain<T: TokenKind, P: Place<T>>(
 }
 
 /// A reply as it is told, with a plain token.
+#[inline(always)]
 fn told<T: TokenKind>(reply: ReplyOf<T>) -> Reply
     ensures { result ≡ plain_reply T.kind reply }
 {
@@ -224,6 +229,7 @@ fn waiting_at<T: TokenKind, P: Place<T>>(places: &[P], place: usize) -> Option<u
 }
 
 /// How many tokens arrived at a place; none where it isn't a terminal's.
+#[inline(always)]
 fn arrived_count<T: TokenKind, P: Place<T>>(places: &[P], place: usize) -> usize
     ensures { (option_map length (nodes_arrived (map P.state places.now) place) ≡ Some result)
         ⊎ ((nodes_arrived (map P.state places.now) place ≡ None) × (result ≡ 0)) }

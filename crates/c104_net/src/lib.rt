@@ -7,7 +7,8 @@
 //!
 //! A network can't be dropped, since its switches hold claims: `finish` ends it, and gives a `RunOf`
 //! (a `Run`), which keeps the plan and what had arrived at each of its terminals. A `PlaceFault` is
-//! why a network was not made. `rounds` does the events of all parts in turn, again and again.
+//! why a network was not made, and a `Reason` why an event isn't ready, and where. `rounds` does the
+//! events of all parts in turn, again and again.
 #![tactic(auto)]
 
 mod acts;
@@ -19,6 +20,8 @@ mod node;
 mod place;
 mod places;
 mod placing;
+mod port_part;
+mod reason;
 mod rounds;
 mod run;
 mod terminal;
@@ -28,4 +31,5 @@ mod wires;
 pub use c104_event::{Event, EventFault, Port};
 pub use faults::PlaceFault;
 pub use net::{Net, NetOf};
+pub use reason::Reason;
 pub use run::{Run, RunOf};

@@ -8,6 +8,8 @@ ghost use Rattle.c104_net.specs.Network.{AnswersEvent, AnswersEvents};
 ghost use Rattle.c104_net.specs.Network.{new_network, placed_network, network_arrived, network_peek};
 ghost use Rattle.c104_net.specs.Rounds.{RoundsEnd};
 
+mod reasons;
+
 use crate::events::happen;
 use crate::faults::PlaceFault;
 use crate::node::NodeOf;

@@ -6,14 +6,17 @@ ghost use Rattle.c104_net.specs.Acts.{IsShort, nodes_act, reply_outcome, wants_m
 ghost use Rattle.c104_switch.specs.Claims.{IsNextLink};
 ghost use Rattle.c104_net.specs.Nodes.{node_enter, node_leave, node_credit_out, node_credit_in, node_input, node_claim, node_drain};
 ghost use Rattle.c104_net.specs.Places.{HasRoomAt, StepEnds};
+ghost use Rattle.c104_net.specs.PortParts.{is_ready_at, PassesUnready};
 
 use crate::acts::ActOf;
 use crate::ends::End;
 use crate::place::Place;
-use c104_switch::ReplyOf;
+use crate::port_part::PortPart;
+use c104_switch::{LinkSet, ReplyOf};
 use c104_token::{NoMemory, TokenKind};
 
 /// Whether the node at a place would do an act.
+#[inline(always)]
 fn ready_at<T: TokenKind, P: Place<T>>(
     places: &[P],
     place: usize,
@@ -29,6 +32,7 @@ fn ready_at<T: TokenKind, P: Place<T>>(
 }
 
 /// Makes room at a place for whatever is kept of one act.
+#[inline(always)]
 pub fn room_at<T: TokenKind, P: Place<T>>(places: &mut [P], place: usize) -> Result<(), NoMemory>
     requires { place < length places.old }
     ensures state { map P.state places.new ≡ map P.state places.old }
@@ -66,6 +70,7 @@ fn act_at<T: TokenKind, P: Place<T>>(
 }
 
 /// The node at a place does an act, if it is ready.
+#[inline(always)]
 pub fn act_alone<T: TokenKind, P: Place<T>>(
     places: &mut [P],
     place: usize,
@@ -88,6 +93,7 @@ pub fn act_alone<T: TokenKind, P: Place<T>>(
 }
 
 /// Whether a token can go out at an end of a wire.
+#[inline(always)]
 pub fn can_leave_at<T: TokenKind, P: Place<T>>(places: &[P], end: End) -> bool
     ensures { result ≡ is_some
         (yield_step_at (map P.state places.now) end.node (node_leave end.link)) }
@@ -99,6 +105,7 @@ pub fn can_leave_at<T: TokenKind, P: Place<T>>(places: &[P], end: End) -> bool
 }
 
 /// Whether a token can come in at an end of a wire.
+#[inline(always)]
 pub fn can_enter_at<T: TokenKind, P: Place<T>>(places: &[P], end: End) -> bool
     ensures { (token : T) → result ≡
         is_some (step_at (map P.state places.now) end.node (node_enter token end.link)) }
@@ -110,6 +117,7 @@ pub fn can_enter_at<T: TokenKind, P: Place<T>>(places: &[P], end: End) -> bool
 }
 
 /// Whether an end of a wire can grant eight more tokens.
+#[inline(always)]
 pub fn can_credit_out_at<T: TokenKind, P: Place<T>>(places: &[P], end: End) -> bool
     ensures { result ≡
         is_some (step_at (map P.state places.now) end.node (node_credit_out end.link)) }
@@ -121,6 +129,7 @@ pub fn can_credit_out_at<T: TokenKind, P: Place<T>>(places: &[P], end: End) -> b
 }
 
 /// Whether an end of a wire may be granted eight more tokens.
+#[inline(always)]
 pub fn can_credit_in_at<T: TokenKind, P: Place<T>>(places: &[P], end: End) -> bool
     ensures { result ≡
         is_some (step_at (map P.state places.now) end.node (node_credit_in end.link)) }
@@ -132,6 +141,7 @@ pub fn can_credit_in_at<T: TokenKind, P: Place<T>>(places: &[P], end: End) -> bo
 }
 
 /// Whether an input of the switch at a place can take a turn, which no word decides.
+#[inline(always)]
 pub fn can_input_at<T: TokenKind, P: Place<T>>(places: &[P], place: usize, link: usize) -> bool
     ensures { (word : ℕ) → result ≡
         is_some (step_at (map P.state places.now) place (node_input T.kind link word)) }
@@ -143,12 +153,31 @@ pub fn can_input_at<T: TokenKind, P: Place<T>>(places: &[P], place: usize, link:
 }
 
 /// Whether a token can arrive at a place.
+#[inline(always)]
 pub fn can_drain_at<T: TokenKind, P: Place<T>>(places: &[P], place: usize) -> bool
     ensures { result ≡ is_some (yield_step_at (map P.state places.now) place node_drain) }
 {
     match places.get(place) {
         Some(found) => found.node().can_drain(),
         None => false,
+    }
+}
+
+/// The next link of a set, from this one on, that may be ready for the act of a part at this place.
+#[inline(always)]
+pub fn next_ready_at<T: TokenKind, P: Place<T>>(
+    places: &[P],
+    place: usize,
+    part: PortPart,
+    from: usize,
+    among: LinkSet,
+) -> Option<usize>
+    ensures { PassesUnready (is_ready_at T.kind part (map P.state places.now) place)
+        from among result }
+{
+    match places.get(place) {
+        Some(found) => found.node().next_ready(part, from, among),
+        None => None,
     }
 }
 
@@ -188,6 +217,7 @@ pub fn next_claim_at<T: TokenKind, P: Place<T>>(
 }
 
 /// A token goes out at an end of a wire, where one can.
+#[inline(always)]
 pub fn leave_at<T: TokenKind, P: Place<T>>(places: &mut [P], end: End) -> T
     requires inside { end.node < length places.old }
     requires room { HasRoomAt P.has_room places.old end.node }
@@ -206,6 +236,7 @@ pub fn leave_at<T: TokenKind, P: Place<T>>(places: &mut [P], end: End) -> T
 }
 
 /// A token comes in at an end of a wire, where one can.
+#[inline(always)]
 pub fn enter_at<T: TokenKind, P: Place<T>>(places: &mut [P], end: End, token: T)
     requires inside { end.node < length places.old }
     requires room { HasRoomAt P.has_room places.old end.node }
@@ -222,6 +253,7 @@ pub fn enter_at<T: TokenKind, P: Place<T>>(places: &mut [P], end: End, token: T)
 }
 
 /// An end of a wire grants eight more tokens, where it can.
+#[inline(always)]
 pub fn credit_out_at<T: TokenKind, P: Place<T>>(places: &mut [P], end: End)
     requires inside { end.node < length places.old }
     requires room { HasRoomAt P.has_room places.old end.node }
@@ -240,6 +272,7 @@ pub fn credit_out_at<T: TokenKind, P: Place<T>>(places: &mut [P], end: End)
 }
 
 /// An end of a wire is granted eight more tokens, where it may be.
+#[inline(always)]
 pub fn credit_in_at<T: TokenKind, P: Place<T>>(places: &mut [P], end: End)
     requires inside { end.node < length places.old }
     requires room { HasRoomAt P.has_room places.old end.node }

@@ -10,6 +10,7 @@ ghost use Rattle.c104_net.specs.RoundParts.{PartEnds};
 
 mod attempts;
 mod parts;
+mod ports;
 
 use crate::place::Place;
 use crate::wires::Wires;

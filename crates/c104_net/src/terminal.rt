@@ -8,6 +8,8 @@ ghost use Rattle.c104_link.specs.Steps.{bool_outcome, option_outcome};
 ghost use Rattle.c104_net.specs.Terminals.{new_terminal, terminal_enter, terminal_leave, terminal_credit_out, terminal_credit_in, terminal_drain};
 ghost use Rattle.c104_net.specs.Terminals.{terminal_send, sent_from, sent_tokens};
 
+mod reasons;
+
 use c104_link::{CREDIT_LIMIT, InBufferOf, TOKENS_OF_A_GRANT};
 use c104_token::{NoMemory, Packet, Token, TokenKind};
 use std::alloc::Global;

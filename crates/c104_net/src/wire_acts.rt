@@ -13,6 +13,7 @@ use crate::places::{
 use c104_token::{NoMemory, TokenKind};
 
 /// A token goes out at one end of a wire and comes in at the other, or nothing changes.
+#[inline(always)]
 pub fn cross_at<T: TokenKind, P: Place<T>>(
     places: &mut [P],
     from: End,
@@ -42,6 +43,7 @@ pub fn cross_at<T: TokenKind, P: Place<T>>(
 }
 
 /// One end of a wire grants eight more tokens and the other may send them, or nothing changes.
+#[inline(always)]
 pub fn credit_at<T: TokenKind, P: Place<T>>(
     places: &mut [P],
     from: End,

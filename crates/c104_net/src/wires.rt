@@ -1,17 +1,20 @@
 //! The wires of a plan, by port.
-ghost use Rattle.std.specs.Prelude.{◌≡◌, ◌≢◌, ◌++◌, ◌∷◌, [], All, Some, None, filter, IfOk, MatchResult, OnOk};
+ghost use Rattle.std.specs.Prelude.{◌≡◌, ◌≢◌, ◌<◌, ℕ, Some, None, true, length, IfOk, MatchResult};
+ghost use Rattle.c104_crossbar.specs.Groups.{has_bit};
 ghost use Rattle.c104_describe.specs.declared.ports.Port.TheVariants as port;
 ghost use Rattle.c104_describe.specs.Plans.{IsPlan};
 ghost use Rattle.c104_describe.specs.Wiring.{IsPlanPort};
 ghost use Rattle.c104_net.specs.Ends.{end_of};
 ghost use Rattle.c104_net.specs.FarEnds.{far_end, link_ends, terminal_ends};
 ghost use Rattle.c104_net.specs.Network.{wired_fault};
-ghost use Rattle.c104_net.specs.Rounds.{is_wired, wired_links, wired_ports, wired_terminals};
+ghost use Rattle.c104_net.specs.Rounds.{is_wired};
+ghost use Rattle.c104_net.specs.LinkedSets.{AreLinked};
+ghost use Rattle.c104_regs.specs.declared.registers.TheConstants.{LINKS};
 
 use crate::ends::End;
 use c104_describe::Plan;
 use c104_event::{EventFault, Port};
-use c104_switch::LINKS;
+use c104_switch::{LINKS, LinkSet};
 use c104_token::NoMemory;
 use std::alloc::Global;
 use std::marker::Model;
@@ -23,15 +26,16 @@ pub struct Wires {
     // The far end at link l of switch s is at place 32 s + l.
     links: Vec<Option<End>>,
     terminals: Vec<Option<End>>,
-    // The wired ports, those of the switches first.
-    ports: Vec<Port>,
+    // The wired links of each switch.
+    linked: Vec<LinkSet>,
 }
 
 impl Model for Wires {
     ghost use Rattle.std.specs.Prelude.{◌≡◌};
     ghost use Rattle.c104_describe.specs.Plans.{Plan};
     ghost use Rattle.c104_net.specs.FarEnds.{link_ends, terminal_ends};
-    ghost use Rattle.c104_net.specs.Rounds.{wired_ports};
+    ghost use Rattle.std.specs.Prelude.{length};
+    ghost use Rattle.c104_net.specs.LinkedSets.{AreLinked};
 
     ghost Value = { Plan };
 
@@ -40,7 +44,7 @@ impl Model for Wires {
     ghost invariant = { λ wires.
         (wires.links.items ≡ link_ends wires.plan)
         × (wires.terminals.items ≡ terminal_ends wires.plan)
-        × (wires.ports.items ≡ wired_ports wires.plan) };
+        × AreLinked wires.plan (length wires.plan.switches) wires.linked.items };
 }
 
 /// The ends of a wire: that of the port that was named, and the other.
@@ -57,12 +61,12 @@ impl Wires {
     {
         let links = link_ends(alloc, &plan)?;
         let terminals = terminal_ends(alloc, &plan)?;
-        let ports = wired_ports(alloc, &plan)?;
+        let linked = linked_sets(alloc, &plan)?;
         Ok(Wires {
             plan,
             links,
             terminals,
-            ports,
+            linked,
         })
     }
 
@@ -76,17 +80,35 @@ impl Wires {
         &self.plan
     }
 
-    /// The wired ports: those of the switches by switch and link, and then the terminals.
-    pub fn ports(&self) -> &[Port]
-        ensures ports { result.now ≡ wired_ports self.now }
-        ensures wired { All (λ port. wired_fault self.now port ≡ None) result.now }
+    /// The wired links of a switch.
+    #[inline(always)]
+    pub fn linked(&self, switch: usize) -> LinkSet
+        requires { switch < length self.now.switches }
+        ensures linked { (l : ℕ) → l < LINKS →
+            has_bit result l ≡ is_wired self.now (port.Switch switch l) }
+        ensures wired { (l : ℕ) → l < LINKS → has_bit result l ≡ true →
+            wired_fault self.now (port.Switch switch l) ≡ None }
     {
         // The proof reads here what every plan keeps.
         let _switches = self.plan.switches();
-        self.ports.as_slice()
+        self.linked[switch]
+    }
+
+    /// Whether a terminal has a wire.
+    #[inline(always)]
+    pub fn is_linked(&self, terminal: usize) -> bool
+        requires { terminal < length self.now.terminals }
+        ensures linked { result ≡ is_wired self.now (port.Terminal terminal) }
+        ensures wired { result ≡ true → wired_fault self.now (port.Terminal terminal) ≡ None }
+    {
+        // The proof reads here what every plan keeps.
+        let _switches = self.plan.switches();
+        let far = self.far_end(Port::Terminal(terminal));
+        far.is_some()
     }
 
     /// The near end of the wire at a port.
+    #[inline(always)]
     pub fn near_end(&self, port: Port) -> End
         requires { wired_fault self.now port ≡ None }
         ensures { result ≡ end_of self.now port }
@@ -103,6 +125,7 @@ impl Wires {
 
     /// The ends of the wire at a port, which are at two nodes. NoNode, NoLink or NotWired where
     /// there is none.
+    #[inline(always)]
     pub fn ends(&self, port: Port) -> Result<Ends, EventFault>
         ensures fault { MatchResult result
             (λ ends. wired_fault self.now port ≡ None)
@@ -130,6 +153,7 @@ impl Wires {
     }
 
     /// The far end of the wire at a port of the plan. None where it has no wire.
+    #[inline(always)]
     fn far_end(&self, port: Port) -> Option<End>
         requires { IsPlanPort self.now port }
         ensures { result ≡ far_end self.now port }
@@ -141,6 +165,7 @@ impl Wires {
     }
 
     /// The far end of the wire at a link of a switch of the plan.
+    #[inline(always)]
     fn end_of_link(&self, switch: usize, link: usize) -> Option<End>
         requires { IsPlanPort self.now (port.Switch switch link) }
         ensures { result ≡ far_end self.now (port.Switch switch link) }
@@ -176,47 +201,35 @@ fn terminal_ends(alloc: Global, plan: &Plan) -> Result<Vec<Option<End>>, NoMemor
     Ok(ends)
 }
 
-/// The wired ports, those of the switches first.
-fn wired_ports(alloc: Global, plan: &Plan) -> Result<Vec<Port>, NoMemory>
-    ensures { IfOk result (λ ports. ports.items ≡ wired_ports plan.now) }
+/// The wired links of each switch, in order.
+fn linked_sets(alloc: Global, plan: &Plan) -> Result<Vec<LinkSet>, NoMemory>
+    ensures { IfOk result (λ sets. AreLinked plan.now (length plan.now.switches) sets.items) }
 {
-    let mut ports = Vec::new(alloc);
-    for switch in 0..plan.switches().len() {
-        add_wired_links(&mut ports, plan, switch)?;
+    let count = plan.switches().len();
+    let mut sets = Vec::with_capacity(alloc, count)?;
+    for switch in 0..count {
+        sets.push(linked_set(plan, switch))?;
     }
-    add_wired_terminals(&mut ports, plan)?;
-    Ok(ports)
+    Ok(sets)
 }
 
 /// The wired links of a switch.
-fn add_wired_links(ports: &mut Vec<Port>, plan: &Plan, switch: usize) -> Result<(), NoMemory>
-    ensures { OnOk result (ports.new.items ≡ ports.old.items ++ wired_links plan.now switch) }
+fn linked_set(plan: &Plan, switch: usize) -> LinkSet
+    ensures { (l : ℕ) → l < LINKS →
+        has_bit result l ≡ is_wired plan.now (port.Switch switch l) }
 {
+    let mut set = LinkSet::new();
     for link in 0..LINKS {
-        add_if_wired(ports, plan, Port::Switch(switch, link))?;
+        set.set(link, is_wired(plan, Port::Switch(switch, link)));
     }
-    Ok(())
+    set
 }
 
-/// The wired terminals.
-fn add_wired_terminals(ports: &mut Vec<Port>, plan: &Plan) -> Result<(), NoMemory>
-    ensures { OnOk result (ports.new.items ≡ ports.old.items ++ wired_terminals plan.now) }
+/// Whether a port of a plan has a wire.
+fn is_wired(plan: &Plan, port: Port) -> bool
+    ensures { result ≡ is_wired plan.now port }
 {
-    for terminal in 0..plan.terminals().len() {
-        add_if_wired(ports, plan, Port::Terminal(terminal))?;
-    }
-    Ok(())
-}
-
-/// A port, if it is wired.
-fn add_if_wired(ports: &mut Vec<Port>, plan: &Plan, port: Port) -> Result<(), NoMemory>
-    ensures { OnOk result
-        (ports.new.items ≡ ports.old.items ++ filter (is_wired plan.now) (port ∷ [])) }
-{
-    if plan.peer(port).is_some() {
-        ports.push(port)?;
-    }
-    Ok(())
+    plan.peer(port).is_some()
 }
 
 /// The far end of the wire at a port, found among the plan's wires.
@@ -230,6 +243,7 @@ fn find_far_end(plan: &Plan, port: Port) -> Option<End>
 }
 
 /// Where a port is among the nodes.
+#[inline(always)]
 fn end_of(plan: &Plan, port: Port) -> End
     requires { IsPlanPort plan.now port }
     ensures { result ≡ end_of plan.now port }

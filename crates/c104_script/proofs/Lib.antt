@@ -1,3 +1,4 @@
 pub mod FirstPart
 mod FirstWord
 pub mod ControlLine
+pub mod PartsLaw

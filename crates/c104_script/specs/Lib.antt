@@ -1,3 +1,4 @@
 pub mod Parts
 pub mod Script
 pub mod Texts
+pub mod TextLines

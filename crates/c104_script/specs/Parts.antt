@@ -1,7 +1,9 @@
 -- The two parts of a text that comes byte by byte: a description, and a script.
-use Rattle.std.specs.Prelude.{ℕ, zero, suc, ◌==◌, ◌≡◌, ◌<◌, ◌⊎◌, ⊤, Bool, false, List, [], ◌∷◌, ◌++◌, length, bytes_eq, codes, if◌then◌else◌, Option, Some, None}
+use Rattle.std.specs.Prelude.{ℕ, zero, suc, ◌+◌, ◌==◌, ◌≡◌, ◌<◌, ◌≤◌, ◌⊎◌, ⊤, Bool, true, false, List, [], ◌∷◌, ◌++◌, length, bytes_eq, codes, if◌then◌else◌, Option, Some, None}
+use Rattle.std.specs.List.{list_all, list_any}
 use Rattle.c104_describe.specs.TextCut.{uncommented_line, line_words}
 use Rattle.c104_describe.specs.PlanText.{most_bytes}
+use Rattle.c104_script.specs.TextLines.{is_line, ended}
 
 -- whether the only one of a line's words is `script`
 abbrev pub is_script_word : List (List ℕ) → Bool
@@ -36,6 +38,59 @@ parts_within (suc bytes) front line (byte ∷ text) =
 unfoldable pub parts : List ℕ → Parts
 parts text = parts_within most_bytes [] [] text
 
+-- whole lines, none of which is the line `script`
+pub record AreOtherLines (text : List ℕ) : Type 0 where
+  pub lines : List (List ℕ)
+  pub are_all : text ≡ ended lines
+  pub are_lines : list_all is_line lines ≡ true
+  pub are_others : list_any is_script_line lines ≡ false
+
+-- the description and the script are the text, parted by its first line whose only word is `script`; that
+-- line ends, by a line feed or with the text, within so many bytes
+pub record IsParted (most : ℕ) (text : List ℕ) (both : Parts) : Type 0 where
+  pub line : List ℕ
+  pub is_line : is_line line ≡ true
+  pub is_script : is_script_line line ≡ true
+  pub before : AreOtherLines both.description
+  pub is_text : ((text ≡ both.description ++ (line ++ 10 ∷ both.script)) × (length both.description + length line < most)) ⊎ ((text ≡ both.description ++ line) × (both.script ≡ []) × (length text ≤ most))
+
+-- no line whose only word is `script` ends within so many bytes of a text: what stands before the rest are other
+-- lines and one that has not ended, or that ends with the text and is no such line
+pub record HasNoScript (most : ℕ) (text : List ℕ) : Type 0 where
+  pub front : List ℕ
+  pub line : List ℕ
+  pub rest : List ℕ
+  pub is_text : text ≡ front ++ (line ++ rest)
+  pub before : AreOtherLines front
+  pub is_line : is_line line ≡ true
+  pub is_over : ((rest ≡ []) × (length text ≤ most) × (is_script_line line ≡ false)) ⊎ ((length front + length line ≡ most) × (most < length text))
+
+-- the parts of a text: parted by the line `script`, or all is the description where no such line ends within
+-- as many bytes as a description may have
+abbrev pub AreParts : List ℕ → Parts → Type 0
+AreParts text both = IsParted most_bytes text both ⊎ (HasNoScript most_bytes text × (both ≡ record { description = text; script = [] }))
+
+-- these are the parts of a text, and no others are
+unfoldable pub AreOnlyParts : List ℕ → Parts → Type 0
+AreOnlyParts text both = AreParts text both × ((others : Parts) → AreParts text others → others ≡ both)
+
+-- what was read of a text before a reader failed: other lines, and what there is of a further one, within so
+-- many bytes. No line whose only word is `script` has ended in it.
+pub record HasNoEnd (most : ℕ) (read : List ℕ) : Type 0 where
+  pub front : List ℕ
+  pub line : List ℕ
+  pub is_read : read ≡ front ++ line
+  pub before : AreOtherLines front
+  pub is_line : is_line line ≡ true
+  pub is_within : length read ≤ most
+
+-- the reader failed while a text's description was read: what it gave is a prefix in which the line `script`
+-- has not ended
+abbrev pub StopsBeforeScript : Option (List ℕ) → Option (List ℕ) → Type 0
+StopsBeforeScript None left = ⊤
+StopsBeforeScript (Some text) None = ⊥
+StopsBeforeScript (Some text) (Some left) = (read : List ℕ) × (text ≡ read ++ left) × HasNoEnd most_bytes read
+
 -- a description was taken, and what is left is the script; or more than a description may have
 abbrev pub TakesFirstPart : Option (List ℕ) → Option (List ℕ) → List ℕ → Type 0
 TakesFirstPart None new taken = ⊤
@@ -43,3 +98,10 @@ TakesFirstPart (Some text) None taken = ⊥
 TakesFirstPart (Some text) (Some rest) taken =
     (parts text ≡ record { description = taken; script = rest }) ⊎
     ((most_bytes < length taken) × (most_bytes < length (parts text).description))
+
+-- a byte joined what was read of the present line; or it ended that line, which isn't the line `script` and
+-- joined those before
+pub record TakesByte (byte : ℕ) (front line fronts longer : List ℕ) : Type 0 where
+  pub fronts_are : fronts ≡ (if byte == 10 then front ++ line ++ 10 ∷ [] else front)
+  pub line_is : longer ≡ (if byte == 10 then [] else line ++ byte ∷ [])
+  pub other : byte ≡ 10 → is_script_line line ≡ false

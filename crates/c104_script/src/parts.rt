@@ -2,7 +2,8 @@
 ghost use Rattle.std.specs.Prelude.{ℕ, suc, ◌≡◌, ◌+◌, false, List, [], ◌∷◌, ◌++◌, length, map, IfOk, if◌then◌else◌};
 ghost use Rattle.std.specs.Io.KnownBytes.{prepend_known};
 ghost use Rattle.c104_describe.specs.TextCut.{line_words};
-ghost use Rattle.c104_script.specs.Parts.{is_script_word, is_script_line, parts_within, TakesFirstPart};
+ghost use Rattle.c104_stream.specs.declared.reading.ReadFault.TheVariants as fault;
+ghost use Rattle.c104_script.specs.Parts.{is_script_word, is_script_line, parts, parts_within, AreOnlyParts, StopsBeforeScript, TakesByte, TakesFirstPart};
 
 use c104_describe::{MAX_DESCRIPTION, cut_words, first_word, uncommented};
 use c104_stream::{Ahead, ReadFault};
@@ -11,15 +12,22 @@ use std::io::Read;
 
 /// The first part of a text, its description: what stands before the first line whose only word is
 /// `script`. That line is read and left out; what follows it is the script, and is left. Where the
-/// line hasn't ended within 1 MiB, one byte more than a description may have.
+/// line hasn't ended within 1 MiB, one byte more than a description may have. Where the reader fails, that
+/// line hasn't ended in what it gave.
+#[tactic(auto, using(crate::proofs::PartsLaw::parts_law))]
 pub fn read_first_part<R: Read>(
     alloc: Global,
     ahead: &mut Ahead,
     reader: &mut R,
 ) -> Result<Vec<u8>, ReadFault>
-    ensures { IfOk result (λ bytes. TakesFirstPart
+    ensures taken { IfOk result (λ bytes. TakesFirstPart
         (prepend_known ahead.old (R.remaining reader.old))
         (prepend_known ahead.new (R.remaining reader.new)) bytes.items) }
+    ensures stopped { result ≡ Err fault.CannotRead →
+        StopsBeforeScript (prepend_known ahead.old (R.remaining reader.old)) (R.remaining reader.new) }
+
+    // What the parts of a text are, in words: what was taken is computed byte by byte.
+    ensures parted { (text : List ℕ) → AreOnlyParts text (parts text) }
 {
     let mut part = FirstPart::new(alloc);
     let mut left = MAX_DESCRIPTION;
@@ -66,6 +74,8 @@ impl FirstPart {
         ensures grows { IfOk result (λ is_over. is_over ≡ false →
             length self.new.front.items + length self.new.line.items ≡
             length self.old.front.items + length self.old.line.items + 1) }
+        ensures reads { IfOk result (λ is_over. is_over ≡ false → TakesByte byte
+            self.old.front.items self.old.line.items self.new.front.items self.new.line.items) }
     {
         if byte != b'\n' {
             self.line.push(byte)?;

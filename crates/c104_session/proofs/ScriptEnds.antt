@@ -7,8 +7,8 @@ use Rattle.c104_stream.specs.declared.halt.Halt.{Halt}
 use Rattle.c104_stream.specs.declared.halt.Halt.TheVariants as halt
 use Rattle.c104_session.specs.declared.session.Session.{Session}
 use Rattle.c104_session.specs.Shown.{line_outcome, script_outcome}
-use Rattle.c104_session.specs.Runs.{AnswersLines, AnswersScript, LineStops, ReadStops}
-use Rattle.c104_stream.proofs.Prefixes.{kept_all, kept_fails, kept_only, prefix_only}
+use Rattle.c104_session.specs.Runs.{AnswersLine, AnswersLines, AnswersScript, LineStops, ReadStops}
+use Rattle.c104_stream.proofs.Prefixes.{kept_all, kept_fails, kept_on, kept_only, prefix_only}
 use Rattle.std.proofs.KnownBytes.{Appends-trans}
 use Rattle.c104_session.proofs.ScriptSoFar.{Reached, fed, memory_stops, writer_fails, stops_at, all_answered, longer}
 
@@ -109,3 +109,15 @@ script_stops start after (Some script) left held now holds keeps halt.CannotWrit
     record { written = was.written; unwritten = was.unwritten; grew = still held now holds was.written keeps was.grew stopped.0 front; is_prefix = was.is_prefix }
 script_stops start after (Some script) left held now holds keeps halt.NoMemory stopped front =
     subst (λ text. AppendsPrefix held holds text) (sym stopped.is_prefix) (kept_fails held now holds keeps stopped.front stopped.rest stopped.grew front)
+
+-- what is kept was flushed for a message
+pub told_line : (session after : Session) (number : ℕ) (line : List ℕ) (held now holds : Option (List ℕ)) (kept keeps more : List ℕ) → AnswersLine session number line held now kept keeps after → AppendsAndKeeps now holds more keeps
+    → AnswersLine session number line held holds kept more after
+told_line session after number line held now holds kept keeps more answered wrote = (answered.0, kept_on held now holds keeps more (kept ++ (line_outcome number session line).0) answered.1 wrote)
+
+-- or a prefix of it
+pub untold_line : (session after : Session) (number : ℕ) (line : List ℕ) (held now holds : Option (List ℕ)) (kept keeps more : List ℕ) → AnswersLine session number line held now kept keeps after → more ≡ [] → AppendsPrefix now holds keeps
+    → LineStops session number line held holds kept more halt.CannotWrite
+untold_line session after number line held now holds kept keeps more answered none front =
+    let all : List ℕ = kept ++ (line_outcome number session line).0 in
+    (none, subst (λ text. AppendsPrefix held holds text) (append-nil all) (kept_fails held now holds keeps all [] answered.1 front))

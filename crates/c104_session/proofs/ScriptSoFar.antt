@@ -3,7 +3,7 @@ use Rattle.std.proofs.Common.{◌≡◌, ℕ, zero, suc, ◌+◌, ◌-◌, ◌<�
 use Rattle.std.proofs.lemmas.Bool.Decides.{nat_tests}
 use mathlib.Core.List.{append-nil, append_assoc}
 use Rattle.std.proofs.lemmas.List.{length-append}
-use Rattle.std.specs.Io.KnownBytes.{Appends, Consumes, Keeps, prepend_known}
+use Rattle.std.specs.Io.KnownBytes.{Consumes, prepend_known}
 use Rattle.c104_stream.specs.Reading.{piece_before}
 use Rattle.c104_stream.specs.declared.halt.Halt.{Halt}
 use Rattle.c104_stream.specs.declared.halt.Halt.TheVariants as halt
@@ -11,7 +11,7 @@ use Rattle.c104_session.specs.declared.session.Session.{Session}
 use Rattle.c104_session.specs.Lines.{JoinsLine, whole_lines, last_line, lines_within, script_lines, most_script}
 use Rattle.c104_stream.specs.Writing.{AppendsAndKeeps, AppendsPrefix}
 use Rattle.c104_session.specs.Shown.{line_outcome, lines_outcome}
-use Rattle.c104_session.specs.Runs.{KeepsPrefix, LinesEnd, LineStops}
+use Rattle.c104_session.specs.Runs.{LinesEnd, LineStops}
 use Rattle.std.proofs.KnownBytes.{Consumes-trans, Consumes-nil}
 use Rattle.c104_stream.proofs.Prefixes.{kept_next, kept_on, kept_only, kept_stops, kept_fails, prefix_longer}
 use Rattle.c104_session.proofs.Lines.{HasNoFeed, before_feed, whole_piece, last_piece, whole_feed, last_feed, lines_after, shown_after, text_on, session_on}

@@ -1,6 +1,8 @@
 -- The lines of a script that comes byte by byte.
-use Rattle.std.specs.Prelude.{ℕ, zero, suc, ◌==◌, ◌≡◌, ◌≤◌, Bool, List, [], ◌∷◌, ◌++◌, length, nat_lt, if◌then◌else◌}
+use Rattle.std.specs.Prelude.{ℕ, zero, suc, ◌-◌, ◌==◌, ◌≡◌, ◌<◌, ◌≤◌, Bool, true, List, [], ◌∷◌, ◌++◌, length, take, nat_lt, if◌then◌else◌}
+use Rattle.std.specs.List.{list_all}
 use Rattle.c104_stream.specs.Reading.{piece_before}
+use Rattle.c104_script.specs.TextLines.{is_line, ended, AreLinesOf}
 
 -- the lines of a text that end in a line feed; front is what was read of the first
 abbrev pub whole_lines : List ℕ → List ℕ → List (List ℕ)
@@ -30,6 +32,24 @@ lines_within (suc bytes) front (byte ∷ script) =
 -- many bytes as a script may have
 unfoldable pub script_lines : List ℕ → List (List ℕ)
 script_lines script = lines_within most_script [] script
+
+-- the lines of a text that a line feed ends within so many bytes: with their line feeds they begin the text,
+-- and within so many bytes no other line feed follows
+pub record AreFirstLines (most : ℕ) (text : List ℕ) (lines : List (List ℕ)) : Type 0 where
+  pub rest : List ℕ
+  pub is_text : text ≡ ended lines ++ rest
+  pub are_lines : list_all is_line lines ≡ true
+  pub are_within : length (ended lines) ≤ most
+  pub are_all : is_line (take (most - length (ended lines)) rest) ≡ true
+
+-- the lines of a script that are answered: all of its lines; or, where it is too long, those that a line feed
+-- ends within as many bytes as a script may have
+abbrev pub AreScriptLines : List ℕ → List (List ℕ) → Type 0
+AreScriptLines script lines = (length script ≤ most_script → AreLinesOf script lines) × (most_script < length script → AreFirstLines most_script script lines)
+
+-- these are the lines of a script that are answered, and no others are
+unfoldable pub AreOnlyLines : List ℕ → List (List ℕ) → Type 0
+AreOnlyLines script lines = AreScriptLines script lines × ((others : List (List ℕ)) → AreScriptLines script others → others ≡ lines)
 
 -- whether a script is too long
 abbrev pub is_long : List ℕ → Bool

@@ -3,6 +3,7 @@
 use Rattle.std.specs.Prelude.{ℕ, ◌≡◌, ⊤, Bool, List, [], ◌++◌, Option, Some, None, Result, Ok, Err}
 use Rattle.std.specs.Io.KnownBytes.{Appends, Keeps}
 use Rattle.c104_describe.specs.Plans.{Plan}
+use Rattle.c104_describe.specs.PlanImage.{Image}
 use Rattle.c104_stream.specs.declared.halt.Halt.{Halt}
 use Rattle.c104_stream.specs.declared.halt.Halt.TheVariants as halt
 use Rattle.c104_session.specs.declared.session.Session.{Session}
@@ -68,14 +69,14 @@ abbrev pub AnswersLines : Session → Option (List ℕ) → Option (List ℕ) �
 AnswersLines session None left held holds keeps after result = ⊤
 AnswersLines session (Some script) left held holds keeps after result = LinesEnd session script left held holds keeps after result
 
--- a script was run on the network of a plan
-abbrev pub PlanEnds : Plan → List ℕ → Option (List ℕ) → Option (List ℕ) → Option (List ℕ) → Result Bool Halt → Type 0
-PlanEnds plan script left held holds (Ok refused) = Appends held holds (run_output (Ok plan) script).0 × (refused ≡ (run_output (Ok plan) script).1)
-PlanEnds plan script left held holds (Err halt.CannotRead) = AnswersPrefix (new_session plan) script left held holds
-PlanEnds plan script left held holds (Err halt.CannotWrite) = AppendsPrefix held holds (run_output (Ok plan) script).0
-PlanEnds plan script left held holds (Err halt.NoMemory) = AppendsPrefix held holds (script_outcome (new_session plan) script).0
+-- a script was run on the network of a plan with an image
+abbrev pub PlanEnds : Plan → Image → List ℕ → Option (List ℕ) → Option (List ℕ) → Option (List ℕ) → Result Bool Halt → Type 0
+PlanEnds plan image script left held holds (Ok refused) = Appends held holds (run_output plan image script).0 × (refused ≡ (run_output plan image script).1)
+PlanEnds plan image script left held holds (Err halt.CannotRead) = AnswersPrefix (new_session plan image) script left held holds
+PlanEnds plan image script left held holds (Err halt.CannotWrite) = AppendsPrefix held holds (run_output plan image script).0
+PlanEnds plan image script left held holds (Err halt.NoMemory) = AppendsPrefix held holds (script_outcome (new_session plan image) script).0
 
 -- the same where nothing may be known of the script
-abbrev pub RunsPlan : Plan → Option (List ℕ) → Option (List ℕ) → Option (List ℕ) → Option (List ℕ) → Result Bool Halt → Type 0
-RunsPlan plan None left held holds result = ⊤
-RunsPlan plan (Some script) left held holds result = PlanEnds plan script left held holds result
+abbrev pub RunsPlan : Plan → Image → Option (List ℕ) → Option (List ℕ) → Option (List ℕ) → Option (List ℕ) → Result Bool Halt → Type 0
+RunsPlan plan image None left held holds result = ⊤
+RunsPlan plan image (Some script) left held holds result = PlanEnds plan image script left held holds result

@@ -8,8 +8,7 @@ use Rattle.c104_switch.specs.declared.actions.ReplyOf.TheVariants.{Done}
 use Rattle.c104_event.specs.declared.faults.EventFault.{EventFault}
 use Rattle.c104_describe.specs.Plans.{Plan}
 use Rattle.c104_describe.specs.declared.plans.Terminal.{Terminal}
-use Rattle.c104_describe.specs.declared.faults.PlanFault.{PlanFault}
-use Rattle.c104_describe.specs.PlanImage.{hand_image}
+use Rattle.c104_describe.specs.PlanImage.{Image}
 use Rattle.c104_net.specs.Network.{Network, placed_network, network_apply}
 use Rattle.c104_net.specs.Finished.{FinishedRun, network_finish, run_arrived}
 use Rattle.c104_net.specs.Rounds.{rounds, run_until}
@@ -21,11 +20,11 @@ use Rattle.c104_script.specs.declared.places.Request.TheVariants as ask
 use Rattle.c104_script.specs.declared.answers.Answer.TheVariants.{Replied, Refused, Faulty}
 use Rattle.c104_session.specs.declared.session.Session.{Session}
 use Rattle.c104_script.specs.declared.answers.Answer.{Answer}
-use Rattle.c104_script.specs.Texts.{token_text, answer_line, description_text, script_too_long}
+use Rattle.c104_script.specs.Texts.{token_text, answer_line, script_too_long}
 
--- a network of this plan with its own image, before the first line
-abbrev pub new_session : Plan → Session
-new_session plan = record { net = placed_network plan (hand_image plan); faulty = false }
+-- a network of this plan with an image, before the first line
+abbrev pub new_session : Plan → Image → Session
+new_session plan image = record { net = placed_network plan image; faulty = false }
 
 -- what rounds answer: that they are done, or the refusal of the event that they stopped at
 abbrev pub rounds_answer : Result (Unit {0}) EventFault → Result Reply EventFault
@@ -112,9 +111,8 @@ output_with_summary false r = (r.0 ++ summary (network_finish r.1.net), r.1.faul
 abbrev pub script_outcome : Session → List ℕ → List ℕ × Session
 script_outcome session script = lines_outcome 1 session (script_lines script)
 
--- what a run shows, by the plan of its description or that one's fault, and whether any of it was
--- refused: the one line of a refused description, or else the answers to the script, line by line, and
--- the summary
-abbrev pub run_output : Result Plan PlanFault → List ℕ → List ℕ × Bool
-run_output (Err fault) script = (description_text fault, true)
-run_output (Ok plan) script = output_with_summary (is_long script) (script_outcome (new_session plan) script)
+-- what a run on the network of a plan with an image shows, and whether any of it was refused: the answers to
+-- the script, line by line, and the summary
+abbrev pub run_output : Plan → Image → List ℕ → List ℕ × Bool
+run_output plan image script =
+    output_with_summary (is_long script) (script_outcome (new_session plan image) script)

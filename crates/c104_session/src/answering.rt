@@ -1,13 +1,15 @@
 //! A script, read and answered line by line.
-ghost use Rattle.std.specs.Prelude.{◌≡◌, [], IfOk, MatchResult};
+ghost use Rattle.std.specs.Prelude.{ℕ, ◌≡◌, List, [], IfOk, MatchResult};
 ghost use Rattle.std.specs.Io.KnownBytes.{prepend_known};
 ghost use Rattle.c104_stream.specs.Reading.{GivesByte};
 ghost use Rattle.c104_stream.specs.Writing.{AppendsAndKeeps};
-ghost use Rattle.c104_session.specs.Lines.{JoinsLine};
+ghost use Rattle.c104_session.specs.Lines.{script_lines, AreOnlyLines, JoinsLine};
 ghost use Rattle.c104_session.specs.Runs.{AnswersLine, AnswersLines, AnswersScript, LineStops, ReadStops};
 
+use crate::explaining::explain_answer;
 use crate::session::Session;
-use c104_script::add_answer;
+use c104_explain::{Messages, Silent};
+use c104_script::{Answer, add_answer};
 use c104_stream::{Ahead, Halt, Kept};
 use c104_token::NoMemory;
 use std::alloc::Global;
@@ -26,13 +28,34 @@ pub fn answer_script<S: Read, W: Write>(
     script: &mut S,
     writer: &mut W,
 ) -> Result<bool, Halt>
-    ensures { AnswersScript session.old (prepend_known ahead.old (S.remaining script.old))
+    ensures answered { AnswersScript session.old (prepend_known ahead.old (S.remaining script.old))
         (S.remaining script.new) (W.contents writer.old) (W.contents writer.new) session.new result }
+
+    // What the lines of a script are, in words: those that are answered are computed byte by byte.
+    ensures lines { (script : List ℕ) → AreOnlyLines script (script_lines script) }
+{
+    answer_script_explained(alloc, session, ahead, script, writer, &mut Silent)
+}
+
+/// The same, and tells of each line that is faulty or refused, and of each that asks for what isn't ready. What is
+/// answered is the same, whatever takes the messages does. The answer to a line is written before the message.
+#[tactic(auto, using(crate::proofs::LinesLaw::lines_law))]
+pub fn answer_script_explained<S: Read, W: Write, M: Messages>(
+    alloc: Global,
+    session: &mut Session,
+    ahead: &mut Ahead,
+    script: &mut S,
+    writer: &mut W,
+    messages: &mut M,
+) -> Result<bool, Halt>
+    ensures answered { AnswersScript session.old (prepend_known ahead.old (S.remaining script.old))
+        (S.remaining script.new) (W.contents writer.old) (W.contents writer.new) session.new result }
+    ensures lines { (script : List ℕ) → AreOnlyLines script (script_lines script) }
 {
     let Ok(mut kept) = Kept::new(alloc) else {
         return Err(Halt::NoMemory);
     };
-    let answered = answer_lines(alloc, session, ahead, script, &mut kept, writer);
+    let answered = answer_lines(alloc, session, ahead, script, &mut kept, writer, messages);
     let written = kept.flush(writer);
     let is_long = answered?;
     written?;
@@ -40,13 +63,14 @@ pub fn answer_script<S: Read, W: Write>(
 }
 
 /// Answers the lines of a script, of which the last answers may be kept.
-fn answer_lines<S: Read, W: Write>(
+fn answer_lines<S: Read, W: Write, M: Messages>(
     alloc: Global,
     session: &mut Session,
     ahead: &mut Ahead,
     script: &mut S,
     kept: &mut Kept,
     writer: &mut W,
+    messages: &mut M,
 ) -> Result<bool, Halt>
     requires { kept.old ≡ [] }
     ensures { AnswersLines session.old (prepend_known ahead.old (S.remaining script.old))
@@ -66,6 +90,7 @@ fn answer_lines<S: Read, W: Write>(
                 &mut answer,
                 kept,
                 writer,
+                messages,
             )?;
             return Ok(false);
         };
@@ -79,6 +104,7 @@ fn answer_lines<S: Read, W: Write>(
                 &mut answer,
                 kept,
                 writer,
+                messages,
             )?;
             line.clear();
             number += 1;
@@ -97,6 +123,7 @@ fn answer_lines<S: Read, W: Write>(
                 &mut answer,
                 kept,
                 writer,
+                messages,
             )?;
             Ok(false)
         }
@@ -124,9 +151,9 @@ fn next_byte<S: Read, W: Write>(
     Ok(next)
 }
 
-/// Does what a line asks. The line that answers it joins what is kept; the text is where it is printed.
-#[tactic(auto, unfolding(crate::specs::Shown::line_outcome))]
-fn answer_line<W: Write>(
+/// Does what a line asks. The line that answers it joins what is kept; the text is where it is printed. Then
+/// what is to be told of it is told.
+fn answer_line<W: Write, M: Messages>(
     alloc: Global,
     session: &mut Session,
     number: usize,
@@ -134,6 +161,7 @@ fn answer_line<W: Write>(
     text: &mut Vec<u8>,
     kept: &mut Kept,
     writer: &mut W,
+    messages: &mut M,
 ) -> Result<(), Halt>
     ensures { MatchResult result
         (λ _. AnswersLine session.old number line.now
@@ -141,12 +169,41 @@ fn answer_line<W: Write>(
         (λ halt. LineStops session.old number line.now
         (W.contents writer.old) (W.contents writer.new) kept.old kept.new halt) }
 {
+    let answer = give_answer(alloc, session, number, line, text, kept, writer)?;
+    if let Some(answer) = &answer
+        && messages.are_wanted()
+    {
+        explain_answer(
+            alloc, session, number, line, answer, kept, writer, messages,
+        )?;
+    }
+    Ok(())
+}
+
+/// Does what a line asks. The line that answers it joins what is kept; the text is where it is printed.
+#[tactic(auto, unfolding(crate::specs::Shown::line_outcome))]
+fn give_answer<W: Write>(
+    alloc: Global,
+    session: &mut Session,
+    number: usize,
+    line: &[u8],
+    text: &mut Vec<u8>,
+    kept: &mut Kept,
+    writer: &mut W,
+) -> Result<Option<Answer>, Halt>
+    ensures { MatchResult result
+        (λ _. AnswersLine session.old number line.now
+        (W.contents writer.old) (W.contents writer.new) kept.old kept.new session.new)
+        (λ halt. LineStops session.old number line.now
+        (W.contents writer.old) (W.contents writer.new) kept.old kept.new halt) }
+{
     text.clear();
-    if let Some(answer) = session.answer(alloc, line)? {
-        add_answer(number, &answer, text)?;
+    let answer = session.answer(alloc, line)?;
+    if let Some(answer) = &answer {
+        add_answer(number, answer, text)?;
     }
     kept.add(writer, text.as_slice())?;
-    Ok(())
+    Ok(answer)
 }
 
 /// A byte joins the line, and so does what is read ahead of that line, but no more than so many bytes. Says

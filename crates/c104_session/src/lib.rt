@@ -11,11 +11,12 @@
 #![tactic(auto)]
 
 mod answering;
+mod explaining;
 mod runs;
 mod session;
 mod summary;
 
-pub use answering::{MAX_SCRIPT, answer_script};
-pub use runs::run_plan;
+pub use answering::{MAX_SCRIPT, answer_script, answer_script_explained};
+pub use runs::{run_plan, run_plan_explained};
 pub use session::{Ended, Session};
 pub use summary::summary_text;

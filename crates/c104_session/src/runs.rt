@@ -1,37 +1,85 @@
 //! A script, run on the network of a plan.
 ghost use Rattle.std.specs.Io.KnownBytes.{prepend_known};
+ghost use Rattle.c104_describe.specs.PlanImage.{Fits};
 ghost use Rattle.c104_session.specs.Runs.{RunsPlan};
 
-use crate::answering::answer_script;
+use crate::answering::answer_script_explained;
 use crate::session::Session;
 use crate::summary::summary_text;
-use c104_describe::Plan;
+use c104_describe::{Image, Plan};
+use c104_explain::{About, Messages, Silent, leftover_messages};
 use c104_stream::{Ahead, Halt, write_whole};
 use std::alloc::Global;
 use std::io::{Read, Write};
 
-/// Runs a script on the network of a plan, started with its own rows: lines are answered as they are
+/// Runs a script on the network of a plan, started with an image that fits it: lines are answered as they are
 /// read, and at the end what arrived is written. Says whether the script was refused, for its length or
 /// for one of its lines.
 pub fn run_plan<S: Read, W: Write>(
     alloc: Global,
     plan: &Plan,
+    image: &Image,
     ahead: &mut Ahead,
     script: &mut S,
     writer: &mut W,
 ) -> Result<bool, Halt>
-    ensures { RunsPlan plan.now
+    requires { Fits image.now plan.now }
+    ensures { RunsPlan plan.now image.now
         (prepend_known ahead.old (S.remaining script.old)) (S.remaining script.new)
         (W.contents writer.old) (W.contents writer.new) result }
 {
-    let mut session = Session::new(alloc, plan)?;
-    let answered = answer_script(alloc, &mut session, ahead, script, writer);
+    run_plan_explained(alloc, plan, image, ahead, script, writer, &mut Silent)
+}
+
+/// The same, and tells of its lines, and at the end of what didn't arrive. What is written and answered is the
+/// same, whatever takes the messages does.
+pub fn run_plan_explained<S: Read, W: Write, M: Messages>(
+    alloc: Global,
+    plan: &Plan,
+    image: &Image,
+    ahead: &mut Ahead,
+    script: &mut S,
+    writer: &mut W,
+    messages: &mut M,
+) -> Result<bool, Halt>
+    requires { Fits image.now plan.now }
+    ensures { RunsPlan plan.now image.now
+        (prepend_known ahead.old (S.remaining script.old)) (S.remaining script.new)
+        (W.contents writer.old) (W.contents writer.new) result }
+{
+    let mut session = Session::new(alloc, plan, image)?;
+    let answered =
+        answer_script_explained(alloc, &mut session, ahead, script, writer, messages);
+    let leftovers = leftovers_of(alloc, &session, messages);
     let ended = session.finish();
     if answered? {
         write_whole(writer, b"script too long\n")?;
+        tell_all(&leftovers, messages);
         return Ok(true);
     }
     let summary = summary_text(alloc, &ended.run)?;
     write_whole(writer, summary.as_slice())?;
+    tell_all(&leftovers, messages);
     Ok(ended.faulty)
+}
+
+/// What is to be told at the end of what didn't arrive.
+fn leftovers_of<M: Messages>(
+    alloc: Global,
+    session: &Session,
+    messages: &M,
+) -> Option<Vec<String>> {
+    if !messages.are_wanted() {
+        return None;
+    }
+    leftover_messages(alloc, &session.net)
+}
+
+/// Tells what didn't arrive.
+fn tell_all<M: Messages>(leftovers: &Option<Vec<String>>, messages: &mut M) {
+    if let Some(leftovers) = leftovers {
+        for message in leftovers {
+            messages.tell(About::Run, message.as_str());
+        }
+    }
 }

@@ -5,13 +5,13 @@ ghost use Rattle.c104_switch.specs.Actions.{Reply as TheReply};
 ghost use Rattle.c104_event.specs.declared.faults.EventFault.{EventFault as TheFault};
 ghost use Rattle.c104_event.specs.declared.faults.EventFault.TheVariants as fault;
 ghost use Rattle.c104_net.specs.Finished.{network_finish};
-ghost use Rattle.c104_describe.specs.PlanImage.{hand_image};
+ghost use Rattle.c104_describe.specs.PlanImage.{Fits};
 ghost use Rattle.c104_net.specs.Network.{Network};
 ghost use Rattle.c104_script.specs.declared.answers.Answer.{Answer as TheAnswer};
 ghost use Rattle.c104_session.specs.Shown.{new_session, line_answer, request_answer, rounds_outcome};
 ghost use Rattle.c104_session.specs.declared.session.Session.{Session as TheSession};
 
-use c104_describe::{Plan, hand_image};
+use c104_describe::{Image, Plan};
 use c104_event::EventFault;
 use c104_net::{Net, PlaceFault, Run};
 use c104_script::{Answer, LineFault, Request, read_line};
@@ -37,13 +37,13 @@ pub struct Ended {
 }
 
 impl Session {
-    /// The network of a plan with its own image, before the first line. The only error
+    /// The network of a plan with an image that fits it, before the first line. The only error
     /// is out of memory.
-    pub fn new(alloc: Global, plan: &Plan) -> Result<Self, NoMemory>
-        ensures { IfOk result (λ session. session ≡ new_session plan.now) }
+    pub fn new(alloc: Global, plan: &Plan, image: &Image) -> Result<Self, NoMemory>
+        requires { Fits image.now plan.now }
+        ensures { IfOk result (λ session. session ≡ new_session plan.now image.now) }
     {
-        let image = hand_image(alloc, plan)?;
-        match Net::placed(alloc, plan, &image) {
+        match Net::placed(alloc, plan, image) {
             Ok(net) => Ok(Session { net, faulty: false }),
             Err(PlaceFault::NoMemory) => Err(NoMemory),
             Err(PlaceFault::NotFitting) => unreachable!(),

@@ -7,6 +7,8 @@ mod Owners
 mod GroupBits
 mod Readiness
 mod Wanting
+mod LinkSets
+mod KeptSets
 mod SoundnessBuffers
 mod SoundnessInputs
 mod SoundnessTurns
@@ -15,3 +17,7 @@ mod SoundnessMethods
 mod SoundnessCommands
 mod PokeSteps
 mod Peeks
+pub mod UnreadySteps
+pub mod UnreadyClaims
+pub mod UnreadyActions
+pub mod ReasonsHold

@@ -1,11 +1,16 @@
 -- Claims that aren't ready: of an input that can't make its own, outside of a group, and in a switch that isn't
 -- started.
-use Rattle.std.proofs.Common.{◌≡◌, ◌∙◌, ◌<◌, ◌&&◌, ℕ, not, nat_le, Bool, true, false, List, Option, Some, None, is_some, slice_get, refl, sym, ap, arith}
+use Rattle.std.proofs.Common.{◌≡◌, ◌∙◌, ◌<◌, ◌≤◌, ◌&&◌, ℕ, not, nat_le, Bool, true, false, List, Option, Some, None, is_some, slice_get, refl, sym, ap, arith}
 use Rattle.std.proofs.lemmas.Bool.Decides.{nat_tests}
-use Rattle.c104_link.specs.Buffers.{Outgoing}
-use Rattle.c104_link.specs.Steps.{◌>>=◌, ◌>>◌, require, joint_step_at}
+use Rattle.c104_link.specs.Buffers.{Outgoing, outgoing_emit}
+use Rattle.c104_link.specs.Steps.{◌>>=◌, ◌>>◌, require, joint_step_at, step_at, yield_step_at}
+use Rattle.c104_token.specs.Kinds.{Kind}
+use Rattle.std.specs.Option.{option_map_or}
 use Rattle.c104_regs.specs.declared.settings.Settings.{Settings}
-use Rattle.c104_switch.specs.Switch.{Input, Switch, is_owned, with_sides}
+use Rattle.c104_switch.specs.Switch.{Input, Switch, Phase, Fresh, Head, Want, Stream, Sinking, input_grant, is_owned, switch_credit_out, switch_leave, with_inputs, with_sides}
+use Rattle.c104_switch.specs.Phases.{is_want}
+use Rattle.c104_switch.specs.Readiness.{may_turn, may_turn_at}
+use Rattle.c104_switch.specs.Turns.{input_turn, inputs_turn, switch_input, turn_by_phase}
 use Rattle.c104_switch.specs.Claims.{input_claim, inputs_claim, switch_claim, IsNextLink}
 
 module _ {A : Type 0} (settings : List Settings) (ps : List (Input A)) (qs : List (Outgoing A)) (i o : ℕ) where
@@ -47,3 +52,73 @@ module _ {A : Type 0} (s : Switch A) (i o : ℕ) where
 pub next_same : (f h : ℕ → Bool) → ((l : ℕ) → f l ≡ h l) → (from : ℕ) (found : Option ℕ) → IsNextLink f from found → IsNextLink h from found
 next_same f h same from None next = (λ l after below. sym (same l) ∙ next.0 l after below, tt)
 next_same f h same from (Some i) next = (λ l after below. sym (same l) ∙ next.0 l after below, (next.1.0, next.1.1, sym (same i) ∙ next.1.2))
+
+-- and so it is by one that says the same of the links
+pub next_below : (f h : ℕ → Bool) → ((l : ℕ) → l < 32 → f l ≡ h l) → (from : ℕ) (found : Option ℕ) → IsNextLink f from found → IsNextLink h from found
+next_below f h same from None next = (λ l after below. sym (same l below) ∙ next.0 l after below, tt)
+next_below f h same from (Some i) next = (λ l after below. sym (same l (let inside : i < 32 = next.1.1 in omega arith)) ∙ next.0 l after below, (next.1.0, next.1.1, sym (same i next.1.1) ∙ next.1.2))
+
+pub twice : (b : Bool) → (b && b) ≡ b
+twice true = refl
+twice false = refl
+
+-- of two that aren't both so the second is, so the first isn't
+pub first_isnt : (a b : Bool) → (a && b) ≡ false → b ≡ true → a ≡ false
+first_isnt true true none is = none
+first_isnt true false none is = absurd (cc is)
+first_isnt false b none is = refl
+
+module _ {A : Type 0} (s : Switch A) (l : ℕ) where
+  abbrev grants_by : Bool → Option (Switch A)
+  grants_by started = require started >> (step_at s.inputs l input_grant >>= (λ ps. Some (with_inputs s ps)))
+
+  -- a switch that isn't started grants nothing, and one that is grants what its inputs can
+  pub grant_unstarted : s.started ≡ false → is_some (switch_credit_out s l) ≡ false
+  grant_unstarted is = ap (λ b. is_some (grants_by b)) is
+
+  pub grant_started : s.started ≡ true → is_some (switch_credit_out s l) ≡ is_some (step_at s.inputs l input_grant)
+  grant_started is = ap (λ b. is_some (grants_by b)) is ∙ by_made (step_at s.inputs l input_grant)
+    where
+      by_made : (made : Option (List (Input A))) → is_some (made >>= (λ ps. Some (with_inputs s ps))) ≡ is_some made
+      by_made None = refl
+      by_made (Some ps) = refl
+
+  -- a token leaves a switch where it leaves an output
+  pub leaves_there : is_some (yield_step_at s.outputs l outgoing_emit) ≡ is_some (switch_leave s l)
+  leaves_there = by_made (yield_step_at s.outputs l outgoing_emit) refl
+    where
+      by_made : (made : Option (A × List (Outgoing A))) → yield_step_at s.outputs l outgoing_emit ≡ made → is_some made ≡ is_some (switch_leave s l)
+      by_made None is = rw is refl
+      by_made (Some r) is = rw is refl
+
+module _ {A : Type 0} (kind : Kind A) where
+  -- an input without a token takes no turn, and none that wants an output
+  still : (t : Settings) (word : ℕ) (p : Input A) (qs : List (Outgoing A)) → may_turn p ≡ false → input_turn kind t word p qs ≡ None
+  still t word p qs none = by_first (slice_get p.buffer.items 0) none
+    where
+      by_phase : (x : A) (phase : Phase (List A)) → not (is_want phase) ≡ false → turn_by_phase kind t word p qs phase x ≡ None
+      by_phase x Fresh is = absurd (cc is)
+      by_phase x (Head b) is = absurd (cc is)
+      by_phase x (Want b g) is = refl
+      by_phase x (Stream o) is = absurd (cc is)
+      by_phase x Sinking is = absurd (cc is)
+
+      by_first : (first : Option A) → (is_some first && not (is_want p.phase)) ≡ false → (first >>= (λ x. turn_by_phase kind t word p qs p.phase x)) ≡ None
+      by_first None is = refl
+      by_first (Some x) is = by_phase x p.phase is
+
+  still_at : (t : Settings) (word : ℕ) (ps : List (Input A)) (qs : List (Outgoing A)) (l : ℕ) → may_turn_at ps l ≡ false → inputs_turn kind t word ps qs l ≡ None
+  still_at t word ps qs l none = by_found (slice_get ps l) refl none
+    where
+      by_found : (found : Option (Input A)) → slice_get ps l ≡ found → option_map_or may_turn found false ≡ false → inputs_turn kind t word ps qs l ≡ None
+      by_found None is none = rw is refl
+      by_found (Some p) is none = rw (is, still t word p qs none) refl
+
+  -- nor does it in a switch
+  pub unturned : (s : Switch A) (l word : ℕ) → may_turn_at s.inputs l ≡ false → switch_input kind s l word ≡ None
+  unturned s l word none = by_parts s.started (slice_get s.settings l)
+    where
+      by_parts : (on : Bool) (found : Option Settings) → (require on >> (found >>= (λ t. inputs_turn kind t word s.inputs s.outputs l >>= (λ r. Some (with_sides s r))))) ≡ None
+      by_parts false found = refl
+      by_parts true None = refl
+      by_parts true (Some t) = rw (still_at t word s.inputs s.outputs l none) refl

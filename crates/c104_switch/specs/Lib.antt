@@ -11,4 +11,7 @@ pub mod Peeks
 pub mod Commands
 pub mod Control
 pub mod Actions
+pub mod Reasons
+pub mod ReasonMeanings
 pub mod Soundness
+pub mod Readiness

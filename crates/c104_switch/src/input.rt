@@ -7,10 +7,12 @@ ghost use Rattle.c104_switch.specs.Switch.{Input, input_accept, input_grant, new
 ghost use Rattle.c104_switch.specs.Phases.{is_stream, is_want, streamed_output};
 ghost use Rattle.c104_switch.specs.Holding.{phase_claims};
 ghost use Rattle.c104_switch.specs.Peeks.{is_busy};
+ghost use Rattle.c104_switch.specs.Readiness.{may_turn};
 ghost use Rattle.c104_switch.specs.Views.{phase_view};
 ghost use Rattle.c104_switch.specs.Commands.{input_reset};
 
 mod claims;
+mod reasons;
 mod turns;
 
 use crate::header::{HeaderBytes, HeaderOf};
@@ -200,6 +202,13 @@ impl<T: TokenKind> InputOf<T> {
         ensures { (token : T) → result ≡ is_some (input_accept token self.now) }
     {
         self.buffer.granted() > 0
+    }
+
+    /// Whether the input has a token and doesn't want an output. Else it isn't ready for a turn.
+    pub fn may_turn(&self) -> bool
+        ensures { result ≡ may_turn self.now }
+    {
+        self.buffer.first().is_some() && !self.is_wanting()
     }
 
     /// Whether `grant` would grant.

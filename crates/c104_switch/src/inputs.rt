@@ -1,5 +1,5 @@
 //! The input sides of all links, and the crossbar whose outputs they claim.
-ghost use Rattle.std.specs.Prelude.{◌≡◌, ◌<◌, ◌≤◌, ℕ, [], length, map, replicate, slice_get, IfOk, IfSome, is_some};
+ghost use Rattle.std.specs.Prelude.{◌≡◌, ◌<◌, ◌≤◌, ◌&&◌, ℕ, [], length, map, replicate, slice_get, IfOk, IfSome, is_some};
 ghost use Rattle.std.specs.Option.{option_copied};
 ghost use Rattle.c104_crossbar.specs.Marks.{ArePartition};
 ghost use Rattle.c104_link.specs.Buffers.{IsValidCap};
@@ -12,9 +12,13 @@ ghost use Rattle.c104_switch.specs.Claims.{inputs_claim, is_wanting, IsClaimAt, 
 ghost use Rattle.c104_switch.specs.Holding.{held_claims};
 ghost use Rattle.c104_switch.specs.Views.{owner_from};
 ghost use Rattle.c104_switch.specs.Commands.{input_reset};
+ghost use Rattle.c104_switch.specs.Readiness.{may_turn_at};
+ghost use Rattle.c104_crossbar.specs.Groups.{has_bit};
 
 use crate::LINKS;
 use crate::input::{InputOf, Turn};
+use crate::input_sets::{InputSets, sets_of};
+use crate::link_set::LinkSet;
 use crate::outputs::OutputsOf;
 use c104_crossbar::Crossbar;
 use c104_regs::{Registers, Settings};
@@ -27,6 +31,7 @@ use std::marker::Model;
 pub struct InputsOf<T: TokenKind> {
     list: Vec<InputOf<T>>,
     crossbar: Crossbar,
+    sets: InputSets,
 }
 
 impl<T: TokenKind> Model for InputsOf<T> {
@@ -37,10 +42,13 @@ impl<T: TokenKind> Model for InputsOf<T> {
 
     ghost use Rattle.c104_crossbar.specs.Marks.{ArePartition};
     ghost use Rattle.c104_switch.specs.Holding.{held_claims};
+    ghost use Rattle.c104_switch.specs.Readiness.{AreKept};
 
     ghost view = { λ inputs. inputs.list.items };
 
-    ghost invariant = { λ inputs. ArePartition (held_claims inputs.list.items) inputs.crossbar };
+    ghost invariant = { λ inputs.
+        ArePartition (held_claims inputs.list.items) inputs.crossbar
+        × AreKept inputs.sets inputs.list.items };
 }
 
 impl<T: TokenKind> InputsOf<T> {
@@ -59,15 +67,21 @@ impl<T: TokenKind> InputsOf<T> {
                 }
             }
         }
+        let sets = sets_of(list.as_slice());
         Ok(InputsOf {
             list,
             crossbar: Crossbar::new(),
+            sets,
         })
     }
 
     /// Gives the claims of all inputs back, and lets go of all else.
     pub fn retire(self) {
-        let InputsOf { list, mut crossbar } = self;
+        let InputsOf {
+            list,
+            mut crossbar,
+            sets: _,
+        } = self;
         retire(list, &mut crossbar);
     }
 
@@ -76,6 +90,7 @@ impl<T: TokenKind> InputsOf<T> {
         ensures { self.new ≡ map input_reset self.old }
     {
         reset(&mut self.list, &mut self.crossbar);
+        self.sets = sets_of(self.list.as_slice());
     }
 
     /// The crossbar.
@@ -95,7 +110,9 @@ impl<T: TokenKind> InputsOf<T> {
             return false;
         }
         let input = &mut list[link];
-        input.accept(token)
+        let is_done = input.accept(token);
+        self.sets.keep(link, input);
+        is_done
     }
 
     /// An input grants eight more tokens, where it has room for all that would then be granted.
@@ -107,7 +124,9 @@ impl<T: TokenKind> InputsOf<T> {
             return false;
         }
         let input = &mut list[link];
-        input.grant()
+        let is_done = input.grant();
+        self.sets.keep(link, input);
+        is_done
     }
 
     /// A turn of an input, as its link's settings say. A terminator that ends a stream frees its
@@ -127,7 +146,9 @@ impl<T: TokenKind> InputsOf<T> {
             return false;
         }
         let input = &mut list[link];
-        match input.turn(settings, word, outputs) {
+        let turn = input.turn(settings, word, outputs);
+        self.sets.keep(link, input);
+        match turn {
             Turn::NotReady => false,
             Turn::Done => true,
             Turn::Freed(claim) => {
@@ -158,7 +179,9 @@ impl<T: TokenKind> InputsOf<T> {
             return false;
         };
         let input = &mut list[link];
-        match input.claim(registers, claim, outputs) {
+        let back = input.claim(registers, claim, outputs);
+        self.sets.keep(link, input);
+        match back {
             None => true,
             Some(claim) => {
                 self.crossbar.release(claim);
@@ -219,26 +242,27 @@ impl<T: TokenKind> InputsOf<T> {
         }
     }
 
-    /// Whether the input of a link wants an output.
-    pub fn is_wanting(&self, link: usize) -> bool
-        ensures { result ≡ is_wanting self.now link }
+    /// The next input, from that of this link on, that is in a set and can grant.
+    pub fn next_granting(&self, from: usize, among: LinkSet) -> Option<usize>
+        ensures { IsNextLink (λ l. is_some (step_at self.now l input_grant) && has_bit among l)
+            from result }
     {
-        match self.list.get(link) {
-            Some(input) => input.is_wanting(),
-            None => false,
-        }
+        self.sets.granting.next(from, among)
+    }
+
+    /// The next input, from that of this link on, that is in a set, has a token, and doesn't want an
+    /// output. No other can take a turn.
+    pub fn next_turning(&self, from: usize, among: LinkSet) -> Option<usize>
+        ensures { IsNextLink (λ l. may_turn_at self.now l && has_bit among l) from result }
+    {
+        self.sets.turning.next(from, among)
     }
 
     /// The next input, from that of this link on, that wants an output.
     pub fn next_wanting(&self, from: usize) -> Option<usize>
         ensures { IsNextLink (is_wanting self.now) from result }
     {
-        for link in from..LINKS {
-            if self.is_wanting(link) {
-                return Some(link);
-            }
-        }
-        None
+        self.sets.wanting.next(from, self.sets.wanting)
     }
 
     /// The next output, from this one on, that an input can claim. Only the free outputs of the group

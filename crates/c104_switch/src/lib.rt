@@ -7,27 +7,35 @@
 //!   input holds the claim of an output exactly while it streams to it, and while it reads a header
 //!   it has room for one more token of it.
 //! - [`Action`] is what is asked of a switch, and [`Reply`] what it answers. No action takes
-//!   memory, and one that isn't ready, or a command that is refused, changes nothing.
+//!   memory, and one that isn't ready, or a command that is refused, changes nothing. [`Unready`] is
+//!   why one isn't ready.
 //! - [`LinkView`] is what can be seen of a link: its levels, and the [`Phase`] that its input is
 //!   in, with the [`HeaderBytes`], at most two, of a header that is read or that waits.
+//! - [`LinkSet`] is a set of links. Beside its inputs and outputs a switch keeps which of them may be
+//!   ready, so that the next of these is found without asking the others.
 #![tactic(auto)]
 
 mod actions;
 mod group;
 mod header;
 mod input;
+mod input_sets;
 mod inputs;
+mod link_set;
 mod outputs;
 mod phase;
 mod ready;
 mod step;
 mod switches;
+mod unready;
 
 pub use actions::{Action, ActionOf, LinkView, Reply, ReplyOf};
 pub use c104_regs::LINKS;
 pub use header::HeaderBytes;
+pub use link_set::LinkSet;
 pub use phase::Phase;
 pub use switches::{Switch, SwitchOf};
+pub use unready::Unready;
 
 // The crates below each have a number of links and of the device of their own. Here they meet, and
 // agree; that the numbers of refusals do is a clause of each command's answer.

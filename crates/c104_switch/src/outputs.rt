@@ -1,13 +1,16 @@
 //! The output sides of all links.
-ghost use Rattle.std.specs.Prelude.{◌≡◌, map, replicate, slice_get, IfOk, is_some};
+ghost use Rattle.std.specs.Prelude.{◌≡◌, ◌<◌, ◌≢◌, ◌&&◌, ℕ, map, replicate, slice_get, IfOk, is_some};
 ghost use Rattle.std.specs.Option.{option_copied};
 ghost use Rattle.c104_link.specs.Buffers as buffer;
 ghost use Rattle.c104_link.specs.Buffers.{Outgoing, empty_outgoing, outgoing_clear};
 ghost use Rattle.c104_link.specs.Steps.{bool_outcome, option_outcome, step_at, yield_step_at};
 ghost use Rattle.c104_regs.specs.declared.registers.TheConstants.{LINKS};
-ghost use Rattle.c104_switch.specs.Claims.{put_header};
+ghost use Rattle.c104_crossbar.specs.Groups.{has_bit};
+ghost use Rattle.c104_switch.specs.Claims.{put_header, IsNextLink};
+ghost use Rattle.c104_switch.specs.Readiness.{AreSending};
 
 use crate::LINKS;
+use crate::link_set::LinkSet;
 use c104_link::OutBufferOf;
 use c104_regs::Settings;
 use c104_token::{NoMemory, TokenKind};
@@ -18,15 +21,20 @@ use std::marker::Model;
 #[derive(Drop)]
 pub struct OutputsOf<T: TokenKind> {
     list: Vec<OutBufferOf<T>>,
+    // Those that can send a token.
+    sending: LinkSet,
 }
 
 impl<T: TokenKind> Model for OutputsOf<T> {
     ghost use Rattle.std.specs.Prelude.{List};
     ghost use Rattle.c104_link.specs.Buffers.{Outgoing};
+    ghost use Rattle.c104_switch.specs.Readiness.{AreSending};
 
     ghost Value = { List (Outgoing T) };
 
     ghost view = { λ outputs. outputs.list.items };
+
+    ghost invariant = { λ outputs. AreSending outputs.sending outputs.list.items };
 }
 
 impl<T: TokenKind> OutputsOf<T> {
@@ -38,7 +46,10 @@ impl<T: TokenKind> OutputsOf<T> {
         for _ in 0..LINKS {
             list.push(OutBufferOf::new(alloc)?)?;
         }
-        Ok(OutputsOf { list })
+        Ok(OutputsOf {
+            list,
+            sending: LinkSet::new(),
+        })
     }
 
     /// Discards the tokens of all outputs. What they may send stays.
@@ -48,6 +59,7 @@ impl<T: TokenKind> OutputsOf<T> {
         for output in self.list.iter_mut() {
             output.clear();
         }
+        self.sending = sending_of(self.list.as_slice());
     }
 
     /// The first token of an output goes out, where there are a token and a credit.
@@ -60,7 +72,9 @@ impl<T: TokenKind> OutputsOf<T> {
             return None;
         }
         let output = &mut list[link];
-        output.emit()
+        let token = output.emit();
+        self.sending.set(link, output.can_emit());
+        token
     }
 
     /// An output may send eight more tokens, where its credit is then at most 64.
@@ -73,7 +87,9 @@ impl<T: TokenKind> OutputsOf<T> {
             return false;
         }
         let output = &mut list[link];
-        output.credited()
+        let is_done = output.credited();
+        self.sending.set(link, output.can_emit());
+        is_done
     }
 
     /// A token joins an output, where there is room for it.
@@ -86,7 +102,9 @@ impl<T: TokenKind> OutputsOf<T> {
             return false;
         }
         let output = &mut list[link];
-        put(output, token)
+        let is_done = put(output, token);
+        self.sending.set(link, output.can_emit());
+        is_done
     }
 
     /// A header joins an output as a whole, where there is room for it, or is deleted there, where
@@ -100,7 +118,9 @@ impl<T: TokenKind> OutputsOf<T> {
             return false;
         }
         let output = &mut list[link];
-        put_header(output, settings, header)
+        let is_done = put_header(output, settings, header);
+        self.sending.set(link, output.can_emit());
+        is_done
     }
 
     /// The output of a link.
@@ -108,6 +128,15 @@ impl<T: TokenKind> OutputsOf<T> {
         ensures { option_copied result ≡ slice_get self.now link }
     {
         self.list.get(link)
+    }
+
+    /// The next output, from that of this link on, that is in a set and can send a token.
+    pub fn next_sending(&self, from: usize, among: LinkSet) -> Option<usize>
+        ensures { IsNextLink
+            (λ l. is_some (yield_step_at self.now l buffer.outgoing_emit) && has_bit among l)
+            from result }
+    {
+        self.sending.next(from, among)
     }
 
     /// Whether `leave` would give a token.
@@ -150,6 +179,17 @@ impl<T: TokenKind> OutputsOf<T> {
             None => false,
         }
     }
+}
+
+/// Those of these outputs that can send a token.
+fn sending_of<T: TokenKind>(list: &[OutBufferOf<T>]) -> LinkSet
+    ensures { AreSending result list.now }
+{
+    let mut sending = LinkSet::new();
+    for (link, output) in list.iter().enumerate() {
+        sending.set(link, output.can_emit());
+    }
+    sending
 }
 
 /// A token joins an output buffer, where there is room for it.

@@ -11,11 +11,12 @@ ghost use Rattle.c104_switch.specs.Views.{link_view};
 ghost use Rattle.c104_switch.specs.Soundness.{IsSound};
 ghost use Rattle.c104_switch.specs.Holding.{held_claims, claim_at};
 
-mod claims;
 mod commands;
 mod control;
+mod next_links;
 mod peeks;
 mod readiness;
+mod reasons;
 
 use crate::actions::LinkView;
 use crate::inputs::InputsOf;

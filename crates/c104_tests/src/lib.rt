@@ -16,17 +16,23 @@ mod crossbar;
 #[cfg(test)]
 mod describe;
 #[cfg(test)]
+mod explain;
+#[cfg(test)]
 mod faults;
 #[cfg(test)]
 mod image;
 #[cfg(test)]
 mod interval;
 #[cfg(test)]
+mod label;
+#[cfg(test)]
 mod link;
 #[cfg(test)]
 mod net;
 #[cfg(test)]
 mod output;
+#[cfg(test)]
+mod reasons;
 #[cfg(test)]
 mod regs;
 #[cfg(test)]

@@ -6,10 +6,12 @@ ghost use Rattle.c104_regs.specs.declared.registers.TheConstants.{LINKS};
 ghost use Rattle.c104_net.specs.Nodes.{node_enter, node_leave, node_credit_out, node_credit_in, node_input, node_claim, node_drain};
 ghost use Rattle.c104_switch.specs.Actions.{done_reply, token_reply};
 ghost use Rattle.c104_switch.specs.Claims.{IsNextLink};
+ghost use Rattle.c104_net.specs.PortParts.{is_node_ready, PassesUnready};
 
 use crate::acts::ActOf;
 use crate::node::NodeOf;
-use c104_switch::{ActionOf, ReplyOf};
+use crate::port_part::PortPart;
+use c104_switch::{ActionOf, LinkSet, ReplyOf};
 use c104_token::{NoMemory, TokenKind};
 
 impl<T: TokenKind> NodeOf<T> {
@@ -52,6 +54,7 @@ impl<T: TokenKind> NodeOf<T> {
 
     /// Whether an act would be done.
     #[tactic(auto, using(crate::proofs::ActionSteps::ready_as_node))]
+    #[inline(always)]
     pub fn ready(&self, number: usize, act: &ActOf<T>) -> bool
         ensures { result ≡ is_some (node_act T.kind number act.now self.now) }
     {
@@ -73,6 +76,7 @@ impl<T: TokenKind> NodeOf<T> {
     }
 
     /// The act by which a token goes out over a link's wire.
+    #[inline(always)]
     pub fn leave_act(&self, link: usize) -> ActOf<T>
         ensures { result ≡ leave_act link self.now }
     {
@@ -83,6 +87,7 @@ impl<T: TokenKind> NodeOf<T> {
     }
 
     /// The act by which a token comes in over a link's wire.
+    #[inline(always)]
     pub fn enter_act(&self, link: usize, token: T) -> ActOf<T>
         ensures { result ≡ enter_act token link self.now }
     {
@@ -93,6 +98,7 @@ impl<T: TokenKind> NodeOf<T> {
     }
 
     /// The act by which a link grants eight more tokens.
+    #[inline(always)]
     pub fn credit_out_act(&self, link: usize) -> ActOf<T>
         ensures { result ≡ credit_out_act link self.now }
     {
@@ -103,6 +109,7 @@ impl<T: TokenKind> NodeOf<T> {
     }
 
     /// The act by which a link may send eight more tokens.
+    #[inline(always)]
     pub fn credit_in_act(&self, link: usize) -> ActOf<T>
         ensures { result ≡ credit_in_act link self.now }
     {
@@ -113,6 +120,7 @@ impl<T: TokenKind> NodeOf<T> {
     }
 
     /// Whether a token can go out over a link's wire.
+    #[inline(always)]
     pub fn can_leave(&self, link: usize) -> bool
         ensures { result ≡ is_some (node_leave link self.now) }
     {
@@ -123,6 +131,7 @@ impl<T: TokenKind> NodeOf<T> {
     }
 
     /// Whether a token can come in over a link's wire.
+    #[inline(always)]
     pub fn can_enter(&self, link: usize) -> bool
         ensures { (token : T) → result ≡ is_some (node_enter token link self.now) }
     {
@@ -133,12 +142,28 @@ impl<T: TokenKind> NodeOf<T> {
     }
 
     /// Whether an input can take a turn, which no word decides.
+    #[inline(always)]
     pub fn can_input(&self, link: usize) -> bool
         ensures { (word : ℕ) → result ≡ is_some (node_input T.kind link word self.now) }
     {
         match self {
             NodeOf::Switch(switch) => switch.can_input(link),
             NodeOf::Terminal(_) => false,
+        }
+    }
+
+    /// The next link of a set, from this one on, that may be ready for its own act of a part.
+    #[inline(always)]
+    pub fn next_ready(&self, part: PortPart, from: usize, among: LinkSet) -> Option<usize>
+        ensures { PassesUnready (λ l. is_node_ready T.kind part l self.now) from among result }
+    {
+        match self {
+            NodeOf::Switch(switch) => match part {
+                PortPart::Credit => switch.next_granting(from, among),
+                PortPart::Cross => switch.next_leaving(from, among),
+                PortPart::Turn => switch.next_turning(from, among),
+            },
+            NodeOf::Terminal(_) => among.next(from, among),
         }
     }
 
@@ -167,6 +192,7 @@ impl<T: TokenKind> NodeOf<T> {
     }
 
     /// Whether a token can arrive.
+    #[inline(always)]
     pub fn can_drain(&self) -> bool
         ensures { result ≡ is_some (node_drain self.now) }
     {
@@ -177,6 +203,7 @@ impl<T: TokenKind> NodeOf<T> {
     }
 
     /// Whether a link can grant eight more tokens.
+    #[inline(always)]
     pub fn can_credit_out(&self, link: usize) -> bool
         ensures { result ≡ is_some (node_credit_out link self.now) }
     {
@@ -187,6 +214,7 @@ impl<T: TokenKind> NodeOf<T> {
     }
 
     /// Whether a link may be granted eight more tokens.
+    #[inline(always)]
     pub fn can_credit_in(&self, link: usize) -> bool
         ensures { result ≡ is_some (node_credit_in link self.now) }
     {
@@ -197,6 +225,7 @@ impl<T: TokenKind> NodeOf<T> {
     }
 }
 
+#[inline(always)]
 fn done<T: TokenKind>(made: bool) -> ReplyOf<T>
     ensures { result ≡ done_reply made }
 {
@@ -207,6 +236,7 @@ fn done<T: TokenKind>(made: bool) -> ReplyOf<T>
     }
 }
 
+#[inline(always)]
 fn gave<T: TokenKind>(token: Option<T>) -> ReplyOf<T>
     ensures { result ≡ token_reply token }
 {

@@ -16,6 +16,7 @@ use c104_switch::Reply;
 use c104_token::TokenKind;
 
 /// A port grants eight more tokens to the other end of its wire.
+#[inline(always)]
 pub fn try_credit<T: TokenKind, P: Place<T>>(
     wires: &Wires,
     places: &mut [P],
@@ -33,6 +34,7 @@ pub fn try_credit<T: TokenKind, P: Place<T>>(
 }
 
 /// A token crosses the wire at a port.
+#[inline(always)]
 pub fn try_cross<T: TokenKind, P: Place<T>>(
     wires: &Wires,
     places: &mut [P],
@@ -50,6 +52,7 @@ pub fn try_cross<T: TokenKind, P: Place<T>>(
 }
 
 /// The input at a port takes a turn, if it is a switch's.
+#[inline(always)]
 pub fn try_turn<T: TokenKind, P: Place<T>>(
     wires: &Wires,
     places: &mut [P],
@@ -67,6 +70,7 @@ pub fn try_turn<T: TokenKind, P: Place<T>>(
 }
 
 /// An input of a switch takes a turn, with word 0.
+#[inline(always)]
 fn try_input<T: TokenKind, P: Place<T>>(
     wires: &Wires,
     places: &mut [P],
@@ -100,6 +104,7 @@ pub fn try_claim<T: TokenKind, P: Place<T>>(
 }
 
 /// The first token that came in at a terminal arrives.
+#[inline(always)]
 pub fn try_drain<T: TokenKind, P: Place<T>>(
     wires: &Wires,
     places: &mut [P],
@@ -113,6 +118,7 @@ pub fn try_drain<T: TokenKind, P: Place<T>>(
 }
 
 /// Whether an event that was answered so was done.
+#[inline(always)]
 fn was_done(answer: Result<Reply, EventFault>) -> Result<bool, EventFault>
     ensures { result ≡ done_answer answer }
 {

@@ -1,5 +1,5 @@
 //! The parts of a round: all its events of one kind. Each tells whether any of them was done.
-ghost use Rattle.std.specs.Prelude.{◌≡◌, ◌<◌, flat_map, length, map, slice_index_or};
+ghost use Rattle.std.specs.Prelude.{◌<◌, flat_map, length, map};
 ghost use Rattle.c104_event.specs.declared.events.Event.TheVariants as event;
 ghost use Rattle.c104_regs.specs.declared.registers.TheConstants.{LINKS};
 ghost use Rattle.c104_net.specs.Network.{network_of};
@@ -7,11 +7,13 @@ ghost use Rattle.c104_net.specs.Rounds.{all_claims, all_drains, claims_of, switc
 ghost use Rattle.c104_net.specs.Rounds.{turn_at, wired_ports};
 ghost use Rattle.c104_net.specs.RoundParts.{PartEnds};
 
-use super::attempts::{try_claim, try_credit, try_cross, try_drain, try_turn};
+use super::attempts::{try_claim, try_drain};
+use super::ports::walk_ports;
 use crate::place::Place;
 use crate::places::{next_claim_at, next_wanting_at};
+use crate::port_part::PortPart;
 use crate::wires::Wires;
-use c104_event::{EventFault, Port};
+use c104_event::EventFault;
 use c104_token::TokenKind;
 
 /// Credit of each wired port.
@@ -23,14 +25,7 @@ pub fn credit_ports<T: TokenKind, P: Place<T>>(
         (network_of wires.now (map P.state places.old)) (map event.Credit (wired_ports wires.now))
         result (network_of wires.now (map P.state places.new)) }
 {
-    let mut changed = false;
-    let ports = wires.ports();
-    for place in 0..ports.len() {
-        let port = port_at(ports, place);
-        let done = try_credit(wires, places, port)?;
-        changed |= done;
-    }
-    Ok(changed)
+    walk_ports(wires, places, PortPart::Credit)
 }
 
 /// A crossing from each wired port.
@@ -42,14 +37,7 @@ pub fn cross_ports<T: TokenKind, P: Place<T>>(
         (network_of wires.now (map P.state places.old)) (map event.Cross (wired_ports wires.now))
         result (network_of wires.now (map P.state places.new)) }
 {
-    let mut changed = false;
-    let ports = wires.ports();
-    for place in 0..ports.len() {
-        let port = port_at(ports, place);
-        let done = try_cross(wires, places, port)?;
-        changed |= done;
-    }
-    Ok(changed)
+    walk_ports(wires, places, PortPart::Cross)
 }
 
 /// A turn of each wired input.
@@ -61,14 +49,7 @@ pub fn turn_inputs<T: TokenKind, P: Place<T>>(
         (network_of wires.now (map P.state places.old)) (flat_map turn_at (wired_ports wires.now))
         result (network_of wires.now (map P.state places.new)) }
 {
-    let mut changed = false;
-    let ports = wires.ports();
-    for place in 0..ports.len() {
-        let port = port_at(ports, place);
-        let done = try_turn(wires, places, port)?;
-        changed |= done;
-    }
-    Ok(changed)
+    walk_ports(wires, places, PortPart::Turn)
 }
 
 /// The claims of all switches.
@@ -132,14 +113,6 @@ fn claim_for_input<T: TokenKind, P: Place<T>>(
         from = output + 1;
     }
     Ok(changed)
-}
-
-/// The port at a place of a list.
-fn port_at(ports: &[Port], place: usize) -> Port
-    requires { place < length ports.now }
-    ensures { result ≡ slice_index_or ports.now place result }
-{
-    ports[place]
 }
 
 /// A token's arrival at each terminal.

@@ -1,17 +1,18 @@
 use Rattle.c104_describe.specs.PlanParts.{draft_of}
-use Rattle.std.proofs.Common.{◌≡◌, Ok, rules}
+use Rattle.std.proofs.Common.{◌≡◌, Ok, rules, sym, subst}
+use Rattle.c104_describe.specs.Plans.{IsPlan}
 use Rattle.c104_describe.specs.TextCut.{lines}
 use Rattle.c104_describe.specs.PlanText.{read_description, empty_draft, read_plan_lines, GivesPlanOrNoMemory}
 use Rattle.c104_describe.proofs.PlanDue.{due, faultless_lines}
-use Rattle.c104_describe.proofs.PlanLinesKept.{empty-kept, read_lines-kept}
+use Rattle.c104_describe.proofs.DraftsKept.{empty-kept, read_lines-kept}
 use Rattle.c104_describe.proofs.PlanReading.{texts}
 use Rattle.c104_describe.proofs.description.read_description.Goals as goal
 
 pub invariant_of-result : goal.invariant_of-result
-invariant_of-result c = read_lines-kept 1 (texts c.as_slice.result.now) empty_draft (draft_of c.in_ok-draft.draft) empty-kept c.in_ok-draft.ensures
+invariant_of-result c = subst IsPlan (sym c.finish.ensures) (read_lines-kept 1 (texts c.as_slice.result.now) empty_draft (draft_of c.in_ok-draft.draft) empty-kept c.in_ok-draft.ensures)
 
 pub returns-clause-kept : goal.returns-clause-kept
-returns-clause-kept c = read_lines-kept 1 (texts c.as_slice.result.now) empty_draft (draft_of c.in_ok-draft.draft) empty-kept c.in_ok-draft.ensures
+returns-clause-kept c = subst IsPlan (sym c.finish.ensures) (read_lines-kept 1 (texts c.as_slice.result.now) empty_draft (draft_of c.in_ok-draft.draft) empty-kept c.in_ok-draft.ensures)
 
 -- the fault that is handed on is what the description is due
 pub returns-in_err-draft-clause-due : goal.returns-in_err-draft-clause-due

@@ -1,17 +1,16 @@
 use Rattle.std.proofs.Common.{◌+◌, ◌∙◌, ap, sym, subst, inl, inr, Err}
 use Rattle.c104_describe.specs.PlanFaults.{fault_at}
-use Rattle.c104_describe.specs.Plans.{IsPlan}
 use Rattle.c104_describe.specs.PlanLines.{Draft}
 use Rattle.c104_describe.specs.PlanText.{read_plan_lines}
 use Rattle.c104_describe.specs.PlanParts.{draft_of}
-use Rattle.c104_describe.proofs.PlanLinesKept.{empty-kept, line_kept}
+use Rattle.c104_describe.proofs.DraftsKept.{IsDraft, empty-kept, line_kept}
 use Rattle.c104_describe.proofs.PlanReading.{after_line, at_fault, texts}
 use Rattle.c104_describe.proofs.description.read_lines.Goals as goal
 
 pub loop-index-init : goal.loop-index-init
 loop-index-init c = record {
   due = ap (λ (d : Draft). read_plan_lines 1 (texts c.args.lines.now) d) c.in_ok-draft.ensures;
-  kept = subst (λ (d : Draft). IsPlan d.plan) (sym c.in_ok-draft.ensures) empty-kept;
+  kept = subst IsDraft (sym c.in_ok-draft.ensures) empty-kept;
 }
 
 pub loop-index-preserved : goal.loop-index-preserved

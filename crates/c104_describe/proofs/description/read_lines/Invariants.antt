@@ -1,12 +1,12 @@
 use Rattle.std.proofs.Common.{◌≡◌, ◌+◌, map, drop}
-use Rattle.c104_describe.specs.Plans.{IsPlan}
 use Rattle.c104_describe.specs.PlanParts.{draft_of}
 use Rattle.c104_describe.specs.PlanText.{empty_draft, read_plan_lines}
+use Rattle.c104_describe.proofs.DraftsKept.{IsDraft}
 use Rattle.c104_describe.proofs.description.read_lines.Given as goal
 
 -- what the rest says after the lines read is what all lines say, and what was read is a plan
 abbrev pub invariant-loop-index : goal.invariant-loop-index
 invariant-loop-index l = record {
   due : read_plan_lines (l.index + 1) (drop l.index (map (λ line. line.now) l.lines)) (draft_of l.draft) ≡ read_plan_lines 1 (map (λ line. line.now) l.lines) empty_draft;
-  kept : IsPlan (draft_of l.draft).plan;
+  kept : IsDraft (draft_of l.draft);
 }

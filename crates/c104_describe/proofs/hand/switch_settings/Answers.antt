@@ -1,13 +1,17 @@
-use Rattle.std.proofs.Common.{◌∙◌, ap, arith, sym}
+use Rattle.std.proofs.Common.{◌∙◌, List, ap, arith, sym}
 use Rattle.c104_describe.specs.declared.ports.Port.TheVariants as port
+use Rattle.c104_describe.specs.Ports.{Port, is_any_at}
 use Rattle.c104_describe.specs.Plans.{rows_of}
 use Rattle.c104_describe.specs.PlanImage.{AreSettings}
 use Rattle.c104_describe.proofs.PlanSettings.{are_settings, made_next, settings_at, settings_last}
-use Rattle.c104_describe.proofs.PlanTables.{rows_of_input}
+use Rattle.c104_describe.proofs.PlanTables.{continues_of_link, rows_of_input}
 use Rattle.c104_describe.proofs.hand.switch_settings.Goals as goal
 
-pub settings_of-requires : goal.settings_of-requires
-settings_of-requires c = ap (rows_of (port.Switch c.args.switch c.loop-link.link)) (c.as_slice.ensures.value ∙ c.in_ok-rows.ensures.rows) ∙ rows_of_input c.args.switch c.loop-link.link c.args.plan.now.rows
+pub settings_of-requires-clause-rows : goal.settings_of-requires-clause-rows
+settings_of-requires-clause-rows c = ap (rows_of (port.Switch c.args.switch c.loop-link.link)) (c.as_slice.ensures.value ∙ c.in_ok-rows.ensures.rows) ∙ rows_of_input c.args.switch c.loop-link.link c.args.plan.now.rows
+
+pub settings_of-requires-clause-continues : goal.settings_of-requires-clause-continues
+settings_of-requires-clause-continues c = ap (λ (ports : List Port). is_any_at (λ q. q) ports (port.Switch c.args.switch c.loop-link.link)) (c.as_slice-in-loop-link.ensures.value ∙ c.in_ok-continues.ensures) ∙ continues_of_link c.args.switch c.loop-link.link c.args.plan.now.continues
 
 pub loop-link-preserved : goal.loop-link-preserved
 loop-link-preserved c = made_next (settings_at c.args.plan.now c.args.switch) c.loop-link.link _ _ _ c.loop-link.invariant c.in_ok-push.ensures.items c.settings_of.ensures

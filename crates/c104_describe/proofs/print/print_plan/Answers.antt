@@ -7,6 +7,6 @@ use Rattle.c104_describe.proofs.print.print_plan.Goals as goal
 pub returns-clause-text : goal.returns-clause-text
 returns-clause-text c =
     let begun : string_bytes c.in_ok-text.text ≡ text_of (header_words c.args.plan.now.header ∷ buffer_words c.args.plan.now.cap ∷ []) = search rules in
-    parts_are_text c.args.plan.now _ _ _ _ _ _ _ _ begun
-    c.in_ok-add_switches.ensures c.in_ok-add_terminals.ensures c.in_ok-add_wires.ensures
+    parts_are_text c.args.plan.now _ _ _ _ _ _ begun
+    c.in_ok-add_network.ensures
     c.in_ok-add_continues.ensures c.in_ok-add_deletes.ensures c.in_ok-add_bases.ensures c.in_ok-add_rows.ensures

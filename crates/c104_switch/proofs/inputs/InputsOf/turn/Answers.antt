@@ -1,23 +1,36 @@
 use Rattle.std.proofs.Common.{true, false, [], ◌∷◌, sym, arith}
 use Rattle.c104_switch.proofs.HeldClaims.{claimed_not_free}
 use Rattle.c104_switch.proofs.HeldSteps.{partition_spent}
+use Rattle.c104_switch.proofs.KeptSets.{kept_set}
 use Rattle.c104_link.proofs.Lifts.{lift_beside}
 use Rattle.c104_switch.proofs.inputs.InputsOf.turn.Goals as goal
 
+pub invariant_of-self-in-NotReady : goal.invariant_of-self-in-NotReady
+invariant_of-self-in-NotReady g c = (
+  partition_spent c.self.inside.list.items c.args.link c.index_mut-input.result.now c.turn-turn.new.self (omega arith) c.index_mut-input.ensures.value [] c.self.inside.crossbar c.in-NotReady.ensures.claims c.self.invariant.0,
+  kept_set c.self.inside.list.items c.args.link c.turn-turn.new.self c.self.inside.sets c.keep.new.self (omega arith) c.self.invariant.1 c.keep.ensures.here c.keep.ensures.others,
+)
+
 pub invariant_of-self-in-Done : goal.invariant_of-self-in-Done
-invariant_of-self-in-Done g c = partition_spent c.self.inside.list.items c.args.link c.index_mut-input.result.now c.turn.new.self (omega arith) c.index_mut-input.ensures.value [] c.self.inside.crossbar c.in-Done.ensures.claims c.self.invariant
+invariant_of-self-in-Done g c = (
+  partition_spent c.self.inside.list.items c.args.link c.index_mut-input.result.now c.turn-turn.new.self (omega arith) c.index_mut-input.ensures.value [] c.self.inside.crossbar c.in-Done.ensures.claims c.self.invariant.0,
+  kept_set c.self.inside.list.items c.args.link c.turn-turn.new.self c.self.inside.sets c.keep.new.self (omega arith) c.self.invariant.1 c.keep.ensures.here c.keep.ensures.others,
+)
 
 pub release-requires : goal.release-requires
-release-requires g c = claimed_not_free c.in-Freed.claim _ c.self.inside.crossbar (partition_spent c.self.inside.list.items c.args.link c.index_mut-input.result.now c.turn.new.self (omega arith) c.index_mut-input.ensures.value (c.in-Freed.claim ∷ []) c.self.inside.crossbar c.in-Freed.ensures.claims c.self.invariant)
+release-requires g c = claimed_not_free c.in-Freed.claim _ c.self.inside.crossbar (partition_spent c.self.inside.list.items c.args.link c.index_mut-input.result.now c.turn-turn.new.self (omega arith) c.index_mut-input.ensures.value (c.in-Freed.claim ∷ []) c.self.inside.crossbar c.in-Freed.ensures.claims c.self.invariant.0)
 
 pub invariant_of-self-in-Freed : goal.invariant_of-self-in-Freed
-invariant_of-self-in-Freed g c = c.release.ensures.partition _ (partition_spent c.self.inside.list.items c.args.link c.index_mut-input.result.now c.turn.new.self (omega arith) c.index_mut-input.ensures.value (c.in-Freed.claim ∷ []) c.self.inside.crossbar c.in-Freed.ensures.claims c.self.invariant)
+invariant_of-self-in-Freed g c = (
+  c.release.ensures.partition _ (partition_spent c.self.inside.list.items c.args.link c.index_mut-input.result.now c.turn-turn.new.self (omega arith) c.index_mut-input.ensures.value (c.in-Freed.claim ∷ []) c.self.inside.crossbar c.in-Freed.ensures.claims c.self.invariant.0),
+  kept_set c.self.inside.list.items c.args.link c.turn-turn.new.self c.self.inside.sets c.keep.new.self (omega arith) c.self.invariant.1 c.keep.ensures.here c.keep.ensures.others,
+)
 
 pub returns-in-NotReady : goal.returns-in-NotReady
-returns-in-NotReady g c = rw (sym c.self.view_is) (lift_beside c.self.inside.list.items c.args.link c.index_mut-input.result.now c.turn.new.self (omega arith) c.index_mut-input.ensures.value false _ _ _ c.in-NotReady.ensures.turned)
+returns-in-NotReady g c = rw (sym c.self.view_is) (lift_beside c.self.inside.list.items c.args.link c.index_mut-input.result.now c.turn-turn.new.self (omega arith) c.index_mut-input.ensures.value false _ _ _ c.in-NotReady.ensures.turned)
 
 pub returns-in-Done : goal.returns-in-Done
-returns-in-Done g c = rw (sym c.self.view_is) (lift_beside c.self.inside.list.items c.args.link c.index_mut-input.result.now c.turn.new.self (omega arith) c.index_mut-input.ensures.value true _ _ _ c.in-Done.ensures.turned)
+returns-in-Done g c = rw (sym c.self.view_is) (lift_beside c.self.inside.list.items c.args.link c.index_mut-input.result.now c.turn-turn.new.self (omega arith) c.index_mut-input.ensures.value true _ _ _ c.in-Done.ensures.turned)
 
 pub returns-in-Freed : goal.returns-in-Freed
-returns-in-Freed g c = rw (sym c.self.view_is) (lift_beside c.self.inside.list.items c.args.link c.index_mut-input.result.now c.turn.new.self (omega arith) c.index_mut-input.ensures.value true _ _ _ c.in-Freed.ensures.turned)
+returns-in-Freed g c = rw (sym c.self.view_is) (lift_beside c.self.inside.list.items c.args.link c.index_mut-input.result.now c.turn-turn.new.self (omega arith) c.index_mut-input.ensures.value true _ _ _ c.in-Freed.ensures.turned)

@@ -1,0 +1,90 @@
+//! What people are told on standard error, and where that is wanted.
+
+use crate::command_line::{EXPLAIN_WORD, Order};
+use c104_explain::{About, Messages};
+use clap::Error;
+use clap::error::ErrorKind;
+use std::alloc::AllocError;
+use std::fs;
+use std::io::{IsTerminal, Write};
+
+/// Standard error, as what takes messages. Each is a line: the program's name, the file and the line that it is
+/// about, and what is told.
+#[derive(Drop)]
+pub struct Told<'a> {
+    rt: &'a HostRuntime,
+    order: Order<'a>,
+    is_wanted: bool,
+}
+
+impl<'a> Told<'a> {
+    /// What takes the messages of an order. They are wanted under `--explain`, and where standard error is a
+    /// terminal.
+    pub fn new(rt: &'a HostRuntime, order: Order<'a>, explain: bool) -> Self {
+        Told {
+            rt,
+            order,
+            is_wanted: explain || rt.stderr().is_terminal(),
+        }
+    }
+
+    /// The line of a message. The only error is out of memory.
+    fn line_of(&self, about: About, message: &str) -> Result<String, AllocError> {
+        let alloc = self.rt.alloc();
+        let description = self.order.path(0);
+        let script = self.order.path(1);
+        match about {
+            About::Run => format!(in alloc; "c104: {message}\n"),
+            About::Description => format!(in alloc; "c104: {description}: {message}\n"),
+            About::DescriptionLine(line) => {
+                format!(in alloc; "c104: {description}:{line}: {message}\n")
+            }
+            About::ScriptLine(line) => format!(in alloc; "c104: {script}:{line}: {message}\n"),
+        }
+    }
+}
+
+impl Messages for Told<'_> {
+    fn are_wanted(&self) -> bool {
+        self.is_wanted
+    }
+
+    fn tell(&mut self, about: About, message: &str) {
+        if let Ok(line) = self.line_of(about, message) {
+            // The whole line at once. Where that fails, the message is lost.
+            let _ = self.rt.stderr().write_all(line.as_bytes());
+        }
+    }
+}
+
+/// Tells of a file that stands in the place of a command, where messages are wanted.
+pub fn tell_of_words(rt: &HostRuntime, words: &[String], error: &Error) {
+    let explain = words.iter().any(|word| word.as_str() == EXPLAIN_WORD);
+    if error.kind() != ErrorKind::InvalidSubcommand || !(explain || rt.stderr().is_terminal()) {
+        return;
+    }
+    let Some(path) = first_path(words) else {
+        return;
+    };
+    if fs::open(rt, path).is_err() {
+        return;
+    }
+    let _ = eprintln!(rt;
+        "c104: {path}: a file stands in the place of a command; `c104 < {path}` runs a description and a script \
+         that are one text, `c104 run {path} SCRIPT` a description and its script, and `c104 check {path}` checks a \
+         description's labels"
+    );
+}
+
+/// The first word behind the program's name that is no option.
+fn first_path(words: &[String]) -> Option<&str> {
+    let [_, words @ ..] = words else {
+        return None;
+    };
+    for word in words {
+        if !word.as_str().starts_with('-') {
+            return Some(word.as_str());
+        }
+    }
+    None
+}

@@ -1,0 +1,13 @@
+use Rattle.std.proofs.Common.{◌++◌, List, [], ◌∷◌, sym, ap, subst, ◌∙◌}
+use Rattle.c104_check.specs.Routes.{SwitchPort}
+use Rattle.c104_check.specs.Trails.{IsTrail, routes_in}
+use Rattle.c104_check.specs.Walking.{fault_on}
+use Rattle.c104_check.proofs.TrailLemmas.{trail_first}
+use Rattle.c104_check.proofs.Walked.{clear_good}
+use Rattle.c104_check.proofs.routes.Routes.leads_from.Goals as goal
+
+pub walk_on-requires-clause-trail : goal.walk_on-requires-clause-trail
+walk_on-requires-clause-trail c = λ new. subst (λ (xs : List SwitchPort). IsTrail (routes_in c.args.self.now) c.args.header (xs ++ (c.args.at ∷ [])) c.args.at) (sym c.new-walk.ensures.items) (trail_first (routes_in c.args.self.now) c.args.header c.args.at c.requires.input)
+
+pub returns-in-Ok : goal.returns-in-Ok
+returns-in-Ok c = λ _. clear_good (routes_in c.args.self.now) c.args.header c.args.owner (c.args.at ∷ []) c.args.at c.requires.network (ap (λ (xs : List SwitchPort). fault_on (routes_in c.args.self.now) c.args.header c.args.owner xs c.args.at) (sym c.new-walk.ensures.items) ∙ c.in-Ok.ensures.answer.0)

@@ -1,0 +1,180 @@
+//! What would mend a refused walk.
+ghost use Rattle.std.specs.Prelude.{◌≡◌, true, IfOk, IfSome};
+ghost use Rattle.c104_interval.specs.declared.intervals.Select.TheVariants.{Sink};
+ghost use Rattle.c104_describe.specs.PlanImage.{Fits};
+ghost use Rattle.c104_check.specs.Mends.{IsMend};
+ghost use Rattle.c104_check.specs.Routes.{routes_of};
+ghost use Rattle.c104_check.specs.Walks.{is_met};
+
+use crate::faults::Shown;
+use crate::ports::SwitchPort;
+use crate::routes::Routes;
+use crate::walks::{Halt, Mark, Way, way_of};
+use c104_crossbar::Group;
+use c104_describe::{Image, Plan};
+use c104_interval::Select;
+use c104_regs::LINKS;
+use c104_token::NoMemory;
+use std::alloc::Global;
+
+/// What a header is to select at an input, so that it comes from there where it should.
+#[derive(Clone, Copy, Debug)]
+pub struct Mend {
+    /// The input, one of a refused walk.
+    pub at: SwitchPort,
+    /// What the header is to select there: a link of a group that leads to its owner by any choice, and
+    /// the sink where it has none.
+    pub select: Select,
+}
+
+/// What would mend a refused walk: at the last of its inputs from which some group leads the header to its
+/// owner, the first such group; and a header without an owner is to be dropped.
+///
+/// None where no group does at any input of the walk. It fails only when out of memory.
+pub fn find_mend(
+    alloc: Global,
+    plan: &Plan,
+    image: &Image,
+    shown: &Shown,
+) -> Result<Option<Mend>, NoMemory>
+    requires { Fits image.now plan.now }
+    ensures { IfOk result (λ found. IfSome found (IsMend (routes_of plan.now image.now) shown.now)) }
+{
+    let routes = Routes::new(alloc, plan, image)?;
+    match routes.owner(shown.header) {
+        Some(owner) => routes.mend_owned(alloc, shown, owner),
+        None => Ok(mend_stray(shown)),
+    }
+}
+
+impl<'a> Routes<'a> {
+    ghost use Rattle.std.specs.Prelude.{◌≡◌, ◌<◌, ◌≤◌, ℕ, true, length, Some, IfOk, IfSome};
+    ghost use Rattle.c104_regs.specs.declared.registers.TheConstants.{LINKS as THE_LINKS};
+    ghost use Rattle.c104_check.specs.Mends.{IsMend, LeadsBy};
+    ghost use Rattle.c104_check.specs.Routes.{Leads, is_in_group, owner as owner_of};
+    ghost use Rattle.c104_check.specs.Trails.{IsInput, IsNetwork, routes_in};
+
+    /// The same for a header with an owner.
+    fn mend_owned(
+        &self,
+        alloc: Global,
+        shown: &Shown,
+        owner: usize,
+    ) -> Result<Option<Mend>, NoMemory>
+        requires { owner_of (routes_in self.now) shown.now.header ≡ Some owner }
+        ensures { IfOk result (λ found. IfSome found (IsMend (routes_in self.now) shown.now)) }
+    {
+        let walk = shown.walk.as_slice();
+        for followers in 0..walk.len() {
+            let at = walk[walk.len() - 1 - followers];
+            if let Some(link) = self.first_leading(alloc, shown.header, owner, at.switch)? {
+                let select = Select::Link(link as u8);
+                return Ok(Some(Mend { at, select }));
+            }
+        }
+        Ok(None)
+    }
+
+    /// The first link of the first group of a switch that leads a header to its owner.
+    fn first_leading(
+        &self,
+        alloc: Global,
+        header: u32,
+        owner: usize,
+        switch: usize,
+    ) -> Result<Option<usize>, NoMemory>
+        ensures { IfOk result (λ found. IfSome found (λ link. (link < THE_LINKS)
+            × ((o : ℕ) → is_in_group (routes_in self.now) switch link o ≡ true
+            → LeadsBy (routes_in self.now) header owner switch o))) }
+    {
+        if switch >= self.switch_count() {
+            return Ok(None);
+        }
+        for link in 0..LINKS {
+            let group = self.group_of(switch, link);
+            if self.all_lead(alloc, header, owner, switch, group)? {
+                return Ok(Some(link));
+            }
+        }
+        Ok(None)
+    }
+
+    /// Whether all links of a group lead a header to its owner.
+    fn all_lead(
+        &self,
+        alloc: Global,
+        header: u32,
+        owner: usize,
+        switch: usize,
+        group: Group,
+    ) -> Result<bool, NoMemory>
+        requires network { IsNetwork (routes_in self.now) }
+        requires switch { switch < length (routes_in self.now).settings }
+        requires below { group.last < THE_LINKS }
+        ensures { IfOk result (λ all. all ≡ true → (o : ℕ) → group.first ≤ o → o ≤ group.last
+            → LeadsBy (routes_in self.now) header owner switch o) }
+    {
+        for link in group.first..group.last + 1 {
+            if !self.leads_by(alloc, header, owner, SwitchPort { switch, link })? {
+                return Ok(false);
+            }
+        }
+        Ok(true)
+    }
+
+    /// Whether a link leads a header to its owner.
+    fn leads_by(
+        &self,
+        alloc: Global,
+        header: u32,
+        owner: usize,
+        link: SwitchPort,
+    ) -> Result<bool, NoMemory>
+        requires network { IsNetwork (routes_in self.now) }
+        requires input { IsInput (length (routes_in self.now).settings) link }
+        ensures { IfOk result (λ leads. leads ≡ true
+            → LeadsBy (routes_in self.now) header owner link.switch link.link) }
+    {
+        match way_of(self.peer(link), owner) {
+            Way::Astray(_) => Ok(false),
+            Way::Home => Ok(true),
+            Way::On(next) => self.leads_from(alloc, header, owner, next),
+        }
+    }
+
+    /// Whether a header comes from an input to its owner.
+    fn leads_from(
+        &self,
+        alloc: Global,
+        header: u32,
+        owner: usize,
+        at: SwitchPort,
+    ) -> Result<bool, NoMemory>
+        requires network { IsNetwork (routes_in self.now) }
+        requires input { IsInput (length (routes_in self.now).settings) at }
+        ensures { IfOk result (λ leads. leads ≡ true
+            → (k : ℕ) × Leads (routes_in self.now) header owner k at.switch at.link) }
+    {
+        let mut marks = vec![in alloc; Mark::New; self.switch_count() * LINKS]?;
+        let mut walk = Vec::new(alloc);
+        match self.walk_on(header, owner, at, &mut walk, &mut marks) {
+            Ok(()) => Ok(true),
+            Err(Halt::NoMemory) => Err(NoMemory),
+            Err(Halt::Fault(_)) => Ok(false),
+        }
+    }
+}
+
+/// What would mend the walk of a header without an owner.
+fn mend_stray(shown: &Shown) -> Option<Mend>
+    ensures { IfSome result (λ mend. (is_met mend.at shown.now.walk ≡ true) × (mend.select ≡ Sink)) }
+{
+    let walk = shown.walk.as_slice();
+    if walk.is_empty() {
+        return None;
+    }
+    Some(Mend {
+        at: walk[0],
+        select: Select::Sink,
+    })
+}

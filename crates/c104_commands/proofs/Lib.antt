@@ -1,0 +1,3 @@
+mod Refusals
+mod ImageLines
+mod ReadFaults

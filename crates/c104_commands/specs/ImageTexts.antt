@@ -1,0 +1,44 @@
+-- What `label` prints: the ranges and the registers of an image, by the names of a plan.
+use Rattle.std.specs.Prelude.{ℕ, ◌-◌, false, List, [], ◌++◌, length, replicate, flat_map, codes, slice_get, Option, Some, None}
+use Rattle.std.specs.List.{range_with_len}
+use Rattle.std.specs.Fmt.{decimal, digits}
+use Rattle.c104_regs.specs.declared.settings.Settings.{Settings}
+use Rattle.c104_regs.specs.KeptValues.{kept_values}
+use Rattle.c104_describe.specs.Plans.{Plan}
+use Rattle.c104_describe.specs.PlanImage.{Image}
+use Rattle.c104_describe.specs.PlanPrint.{switch_name, terminal_name}
+
+-- a number in hexadecimal, in lower case, with so many digits at least: zeros (0x30) stand before them
+unfoldable pub hex_text : ℕ → ℕ → List ℕ
+hex_text width n = replicate (width - length (digits 16 false n)) 0x30 ++ digits 16 false n
+
+-- the line of a terminal's labels: the first, and how many; where there are none, nothing
+abbrev pub range_line : Plan → ℕ → Option (ℕ × ℕ) → List ℕ
+range_line plan terminal None = []
+range_line plan terminal (Some range) =
+    codes "range " ++ (terminal_name plan terminal ++ (codes " " ++ (decimal range.0 ++ (codes " " ++ (decimal range.1 ++ codes "\n")))))
+
+-- the line of a register: its switch, its address and its value
+abbrev pub value_line : List ℕ → ℕ × ℕ → List ℕ
+value_line switch value =
+    switch ++ (codes " " ++ (hex_text 4 value.0 ++ (codes " " ++ (hex_text 8 value.1 ++ codes "\n"))))
+
+-- the lines of a switch's registers, but for those that read as after a reset, in ascending order of addresses
+abbrev pub value_lines : List ℕ → Option (List Settings) → List ℕ
+value_lines switch None = []
+value_lines switch (Some settings) = flat_map (value_line switch) (kept_values settings)
+
+-- the lines of all terminals of a plan
+abbrev pub range_lines : Plan → Image → ℕ → List ℕ
+range_lines plan image terminals =
+    flat_map (λ t. range_line plan t (slice_get image.ranges t)) (range_with_len 0 terminals)
+
+-- the lines of so many of a plan's switches, the first ones
+abbrev pub switch_lines : Plan → Image → ℕ → List ℕ
+switch_lines plan image switches =
+    flat_map (λ s. value_lines (switch_name plan s) (slice_get image.settings s)) (range_with_len 0 switches)
+
+-- the lines of all terminals, and then those of all switches
+abbrev pub image_text : Plan → Image → List ℕ
+image_text plan image =
+    range_lines plan image (length plan.terminals) ++ switch_lines plan image (length plan.switches)

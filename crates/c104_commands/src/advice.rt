@@ -1,0 +1,220 @@
+//! What people are told of labels that are refused: what is wrong, and what mends it.
+ghost use Rattle.std.specs.Prelude.{◌≡◌, ◌≤◌, IfOk};
+ghost use Rattle.std.specs.String.{string_bytes};
+ghost use Rattle.c104_check.specs.Routes.{routes_of};
+ghost use Rattle.c104_check.specs.Walks.{is_met};
+ghost use Rattle.c104_commands.specs.Advice.{IsAdvice, TellsStep, end_text, misstep_text, owner_text, way_text};
+ghost use Rattle.c104_describe.specs.PlanImage.{Fits};
+
+use crate::mending::{range_change, row_change};
+use crate::texts::{port_text, terminal_name};
+use c104_check::{CheckFault, Misstep, Shown, SwitchPort, find_mend, find_misstep};
+use c104_describe::{Image, Plan, Port};
+use c104_token::NoMemory;
+use std::alloc::{AllocError, Global};
+
+/// Tells people why the labels of an image are refused for a plan, which it fits, by the names of the plan: a
+/// line that says what is wrong and at which input, and then the lines that mend it, if some do. These are
+/// `add: LINE`, for lines to be put behind the description's own, or `replace: LINE` with `by: LINE` after it,
+/// once or more.
+///
+/// What mends a fault of a walk is a select of the last of its inputs from which some group leads the header to
+/// its owner; where the ranges of two terminals meet or a label is no header it is another range. No line is
+/// given where there is none such, or where an input would have more than 36 rows. Of want of memory nothing is
+/// told. It fails only when out of memory.
+pub fn check_advice(
+    alloc: Global,
+    plan: &Plan,
+    image: &Image,
+    fault: &CheckFault,
+) -> Result<String, NoMemory>
+    requires { Fits image.now plan.now }
+    ensures { IfOk result (λ text.
+        IsAdvice plan.now (routes_of plan.now image.now) fault.now (string_bytes text)) }
+{
+    match fault {
+        CheckFault::RangesOverlap(terminal, other) => {
+            overlap_advice(alloc, plan, *terminal, *other)
+        }
+        CheckFault::LabelTooLarge(terminal) => large_advice(alloc, plan, *terminal),
+        CheckFault::MixedHeaders(port) => mixed_advice(alloc, plan, *port),
+        CheckFault::DeleteInside(port) => delete_advice(alloc, plan, *port),
+        CheckFault::WrongEnd(shown) => walk_advice(alloc, plan, image, fault, shown),
+        CheckFault::DeadEnd(shown) => walk_advice(alloc, plan, image, fault, shown),
+        CheckFault::Loop(shown) => walk_advice(alloc, plan, image, fault, shown),
+        CheckFault::Stray(shown) => walk_advice(alloc, plan, image, fault, shown),
+        CheckFault::NoMemory => Ok(String::new(alloc)),
+    }
+}
+
+/// Two terminals have a label in common.
+fn overlap_advice(
+    alloc: Global,
+    plan: &Plan,
+    terminal: usize,
+    other: usize,
+) -> Result<String, NoMemory> {
+    let name = terminal_name(plan, terminal);
+    let other_name = terminal_name(plan, other);
+    let label = first_label(plan, terminal).max(first_label(plan, other));
+    let change = range_change(alloc, plan, other)?;
+    let change = change.as_str();
+    let text = format!(in alloc; "label {label} belongs to {name} and to {other_name}\n{change}")?;
+    Ok(text)
+}
+
+/// A terminal has a label that is no header.
+fn large_advice(alloc: Global, plan: &Plan, terminal: usize) -> Result<String, NoMemory> {
+    let name = terminal_name(plan, terminal);
+    let last = last_header(plan);
+    let label = first_label(plan, terminal).max(last + 1);
+    let change = range_change(alloc, plan, terminal)?;
+    let change = change.as_str();
+    let text = format!(in alloc;
+        "label {label} of {name} is no header: headers are 0 to {last}\n{change}"
+    )?;
+    Ok(text)
+}
+
+/// Headers aren't equally long at all links that are wired.
+fn mixed_advice(alloc: Global, plan: &Plan, port: SwitchPort) -> Result<String, NoMemory> {
+    let port = port_text(alloc, plan, port)?;
+    let port = port.as_str();
+    let text = format!(in alloc;
+        "headers at {port} are of another length than at the first link that is wired\n"
+    )?;
+    Ok(text)
+}
+
+/// A link between switches deletes headers.
+fn delete_advice(alloc: Global, plan: &Plan, port: SwitchPort) -> Result<String, NoMemory> {
+    let port = port_text(alloc, plan, port)?;
+    let port = port.as_str();
+    let text = format!(in alloc; "{port} is wired to a switch, but deletes headers\n")?;
+    Ok(text)
+}
+
+/// A header goes wrong.
+fn walk_advice(
+    alloc: Global,
+    plan: &Plan,
+    image: &Image,
+    fault: &CheckFault,
+    shown: &Shown,
+) -> Result<String, NoMemory>
+    requires { Fits image.now plan.now }
+    ensures { IfOk result (λ text. TellsStep plan.now (routes_of plan.now image.now) fault.now
+        shown.now (string_bytes text)) }
+{
+    let Some(step) = find_misstep(alloc, plan, image, fault)? else {
+        return Ok(String::new(alloc));
+    };
+    let change = walk_change(alloc, plan, image, shown)?;
+    let text = misstep_text(alloc, plan, shown, step, change.as_str())?;
+    Ok(text)
+}
+
+/// The lines that mend a walk, if some do.
+fn walk_change(alloc: Global, plan: &Plan, image: &Image, shown: &Shown) -> Result<String, NoMemory>
+    requires { Fits image.now plan.now }
+{
+    match find_mend(alloc, plan, image, shown)? {
+        Some(mend) => {
+            let change = row_change(alloc, plan, shown.header, mend)?;
+            Ok(change)
+        }
+        None => Ok(String::new(alloc)),
+    }
+}
+
+/// The sentence on a header that goes wrong, and the lines that follow it.
+fn misstep_text(
+    alloc: Global,
+    plan: &Plan,
+    shown: &Shown,
+    step: Misstep,
+    change: &str,
+) -> Result<String, AllocError>
+    ensures { IfOk result (λ text.
+        string_bytes text ≡ misstep_text plan.now shown.now step change.now) }
+{
+    let header = shown.header;
+    let owner = owner_text(plan, step.owner);
+    let way = way_text(alloc, plan, shown, step)?;
+    format!(in alloc; "header {header} belongs to {owner}, but {way}\n{change}")
+}
+
+/// The owner of a header.
+fn owner_text(plan: &Plan, owner: Option<usize>) -> &str
+    ensures { result.now ≡ owner_text plan.now owner }
+{
+    match owner {
+        Some(owner) => terminal_name(plan, owner),
+        None => "nobody",
+    }
+}
+
+/// A step that leads wrong.
+fn way_text(alloc: Global, plan: &Plan, shown: &Shown, step: Misstep) -> Result<String, AllocError>
+    ensures { IfOk result (λ text.
+        string_bytes text ≡ way_text plan.now shown.now.walk step.at step.link step.peer) }
+{
+    let at = port_text(alloc, plan, step.at)?;
+    match step.link {
+        None => format!(in alloc; "{at} selects no link for it"),
+        Some(link) => {
+            let end = end_text(alloc, plan, shown.walk.as_slice(), step.peer)?;
+            format!(in alloc; "{at} may send it by link {link}{end}")
+        }
+    }
+}
+
+/// Where a link leads that is wired so.
+fn end_text(
+    alloc: Global,
+    plan: &Plan,
+    walk: &[SwitchPort],
+    peer: Option<Port>,
+) -> Result<String, AllocError>
+    ensures { IfOk result (λ text. string_bytes text ≡ end_text plan.now walk.now peer) }
+{
+    match peer {
+        None => format!(in alloc; ", which has no wire"),
+        Some(Port::Terminal(terminal)) => {
+            let name = terminal_name(plan, terminal);
+            format!(in alloc; " to {name}")
+        }
+        Some(Port::Switch(switch, link)) => {
+            let port = SwitchPort { switch, link };
+            let name = port_text(alloc, plan, port)?;
+            if is_met(walk, port) {
+                format!(in alloc; " to {name}, where it has been")
+            } else {
+                format!(in alloc; " to {name}")
+            }
+        }
+    }
+}
+
+/// Whether a walk has met an input.
+fn is_met(walk: &[SwitchPort], port: SwitchPort) -> bool
+    ensures { result ≡ is_met port walk.now }
+{
+    walk.iter()
+        .any(|met| port.switch == met.switch && port.link == met.link)
+}
+
+/// The first label of a terminal; 0 where there is no such terminal.
+fn first_label(plan: &Plan, terminal: usize) -> u32 {
+    match plan.terminals().get(terminal) {
+        Some(terminal) => terminal.first,
+        None => 0,
+    }
+}
+
+/// The last header that there is.
+fn last_header(plan: &Plan) -> u32
+    ensures { result ≤ 65535 }
+{
+    if plan.header() > 1 { 0xffff } else { 0xff }
+}

@@ -1,0 +1,139 @@
+//! What every command begins with: a description is read, and its network is labelled.
+ghost use Rattle.std.specs.Prelude.{ℕ, ◌≡◌, ◌≢◌, ◌≤◌, true, false, length, Ok, Err, IfErr, IfOk};
+ghost use Rattle.std.specs.String.{string_bytes};
+ghost use Rattle.c104_describe.specs.PlanImage.{Fits};
+ghost use Rattle.c104_describe.specs.PlanText.{most_bytes, read_description};
+ghost use Rattle.c104_commands.specs.Setups.{ComesTo, IsOutOfMemory, RefusalEnds, label_fault_text, refused_text};
+ghost use Rattle.c104_commands.specs.declared.status.Status.TheVariants as status;
+
+use crate::status::Status;
+use c104_describe::{Image, Plan, PlanFault, PlanFaultKind, read_description};
+use c104_explain::{About, Messages, description_message};
+use c104_label::{LabelFault, image_of};
+use c104_script::description_text;
+use c104_stream::write_whole;
+use std::alloc::{AllocError, Global};
+use std::io::Write;
+
+/// A network with its labels: its plan, and the image of them.
+#[derive(Drop)]
+pub(crate) struct Setup {
+    pub plan: Plan,
+    pub image: Image,
+}
+
+/// Why a description gives no network with labels.
+#[derive(Clone, Copy, Debug)]
+pub(crate) enum SetupFault {
+    /// The description is faulty.
+    Description(PlanFault),
+    /// Its network can't be labelled.
+    Labels(LabelFault),
+}
+
+/// Reads a description and labels its network.
+pub(crate) fn set_up(alloc: Global, description: &[u8]) -> Result<Setup, SetupFault>
+    ensures network { IfOk result (λ setup.
+        ComesTo (read_description description.now) (Ok (setup.plan, setup.image))) }
+    ensures fits { IfOk result (λ setup. Fits setup.image setup.plan) }
+    ensures within { IfOk result (λ _. length description.now ≤ most_bytes) }
+    ensures refused { IfErr result (λ why.
+        (IsOutOfMemory why → ⊥) → ComesTo (read_description description.now) (Err why)) }
+{
+    let plan = match read_description(alloc, description) {
+        Ok(plan) => plan,
+        Err(fault) => return Err(SetupFault::Description(fault)),
+    };
+    match image_of(alloc, &plan) {
+        Ok(image) => Ok(Setup { plan, image }),
+        Err(fault) => Err(SetupFault::Labels(fault)),
+    }
+}
+
+/// Tells why a description gives no network with labels, which ends any command.
+pub(crate) fn refuse<W: Write, M: Messages>(
+    alloc: Global,
+    description: &[u8],
+    fault: SetupFault,
+    writer: &mut W,
+    messages: &mut M,
+) -> Status
+    ensures ends { RefusalEnds fault (W.contents writer.old) (W.contents writer.new) result }
+    ensures of_writer { (n : ℕ) → result ≢ status.CannotRead n }
+{
+    if fault.is_no_memory() {
+        return Status::NoMemory;
+    }
+    let Ok(text) = refused_text(alloc, fault) else {
+        return Status::NoMemory;
+    };
+    let Ok(()) = write_whole(writer, text.as_bytes()) else {
+        return Status::CannotWrite;
+    };
+    if messages.are_wanted() {
+        explain(alloc, description, fault, messages);
+    }
+    Status::Refused
+}
+
+/// Tells people why a description gives no network with labels, where there is memory for it.
+fn explain<M: Messages>(alloc: Global, description: &[u8], fault: SetupFault, messages: &mut M) {
+    match fault {
+        SetupFault::Description(fault) => explain_description(alloc, description, fault, messages),
+        SetupFault::Labels(fault) => {
+            let Ok(message) = fault.to_string(alloc) else {
+                return;
+            };
+            messages.tell(About::Description, message.as_str());
+        }
+    }
+}
+
+/// Tells people of a faulty description, where there is memory for it.
+fn explain_description<M: Messages>(
+    alloc: Global,
+    description: &[u8],
+    fault: PlanFault,
+    messages: &mut M,
+) {
+    let Some(message) = description_message(alloc, description, fault) else {
+        return;
+    };
+    let about = match fault.line {
+        0 => About::Description,
+        line => About::DescriptionLine(line),
+    };
+    messages.tell(about, message.as_str());
+}
+
+impl SetupFault {
+    /// Whether this is want of memory, of which no line tells.
+    fn is_no_memory(self) -> bool
+        ensures told { result ≡ false → IsOutOfMemory self → ⊥ }
+        ensures untold { result ≡ true → IsOutOfMemory self }
+    {
+        match self {
+            SetupFault::Description(fault) => fault.kind == PlanFaultKind::NoMemory,
+            SetupFault::Labels(fault) => fault == LabelFault::NoMemory,
+        }
+    }
+}
+
+/// The line that tells why a description gives no network with labels.
+fn refused_text(alloc: Global, fault: SetupFault) -> Result<String, AllocError>
+    ensures { IfOk result (λ text. string_bytes text ≡ refused_text fault) }
+{
+    match fault {
+        SetupFault::Description(fault) => description_text(alloc, fault),
+        SetupFault::Labels(fault) => label_fault_text(alloc, fault),
+    }
+}
+
+/// The line that tells why a network can't be labelled: the fault's number and its name.
+pub fn label_fault_text(alloc: Global, fault: LabelFault) -> Result<String, AllocError>
+    ensures { IfOk result (λ text. string_bytes text ≡ label_fault_text fault) }
+{
+    let number = fault.number();
+    let name = fault.name();
+    format!(in alloc; "label {number} {name}\n")
+}

@@ -1,0 +1,129 @@
+-- A filled plan keeps what every plan does.
+use Rattle.std.proofs.Common.{◌≡◌, ℕ, ◌<◌, ◌≤◌, ◌+◌, ◌*◌, ◌^◌, true, false, List, [], ◌∷◌, length, All, Option, Some, None, refl, sym, subst, ap, ⊎_elim, arith, lit≤}
+use Rattle.std.specs.List.{AllByRecursion}
+use Rattle.std.proofs.lemmas.Bool.{cases_Bool}
+use Rattle.std.proofs.lemmas.Nat.{div_below, mod_below}
+use Rattle.std.proofs.lemmas.List.Elements.{All-head, All-nil, All-weaker}
+use Rattle.std.proofs.lemmas.List.FromFn.{length-map-range_with_len}
+use Rattle.c104_describe.specs.declared.ports.Port.TheVariants as port
+use Rattle.c104_describe.specs.declared.plans.Shape.TheVariants.{Mesh, Cube}
+use Rattle.c104_describe.specs.Ports.{Port, IsSwitchPort}
+use Rattle.c104_describe.specs.Layouts.{Layout, IsCube, IsMesh, cube, mesh, filled_name, filled_switches, filled_terminal, filled_terminals, filled_wires, wire_at, wire_to, wires_from}
+use Rattle.c104_describe.specs.PlanLines.{filled_plan}
+use Rattle.c104_describe.specs.Plans.{Plan, PlanBase, PlanRow, Shape, Terminal, AreBases, AreContinues, AreDeletes, AreRows, AreTerminals, IsLaterPort, IsOfShape, IsPlan, IsPlanWire, IsRange, IsUnset, host_port, rows_of}
+use Rattle.c104_describe.proofs.FilledLinks.{filled_links}
+use Rattle.c104_describe.proofs.FilledNames.{filled_names}
+use Rattle.c104_describe.proofs.LayoutJoins.{AreJoined, IsJoined, cube_is, mesh_is}
+use Rattle.c104_describe.proofs.RangeLists.{all_of_each, all_range, each_flat}
+
+-- Without switches there is nothing at a link
+
+no_switch : (p : Port) → IsSwitchPort 0 p → ⊥
+no_switch (port.Switch s l) is = omega (arith, is.0)
+no_switch (port.Terminal t) is = is
+
+none_at : {X : Type 0} (port_of : X → Port) (xs : List X) → All (λ x. IsSwitchPort 0 (port_of x)) xs → xs ≡ []
+none_at port_of [] all = refl
+none_at port_of (x ∷ xs) all = absurd (no_switch (port_of x) (All-head (λ y. IsSwitchPort 0 (port_of y)) x xs all))
+
+later_one : (p : Port) → IsLaterPort 0 p → IsSwitchPort 0 p
+later_one (port.Switch s l) is = (is.0, is.2)
+later_one (port.Terminal t) is = is
+
+none_below : (ns : List ℕ) → All (λ n. n < 0) ns → ns ≡ []
+none_below [] all = refl
+none_below (n ∷ ns) all = absurd (omega (arith, All-head (λ m. m < 0) n ns all))
+
+module _ (plan : Plan) (kept : IsPlan plan) (none : plan.switches ≡ []) where
+  no_count : length plan.switches ≡ 0
+  no_count = ap length none
+
+  no_terminals : plan.terminals ≡ []
+  no_terminals = none_at host_port plan.terminals (subst (λ n. All (λ (t : Terminal). IsSwitchPort n (host_port t)) plan.terminals) no_count kept.terminals.on_switches)
+
+  no_deletes : plan.deletes ≡ []
+  no_deletes = none_below plan.deletes (subst (λ n. All (λ t. t < n) plan.deletes) (ap length no_terminals) kept.deletes.known)
+
+  pub nothing_set : IsUnset plan
+  nothing_set = record {
+    continues = none_at (λ p. p) plan.continues (All-weaker (IsLaterPort 0) (IsSwitchPort 0) later_one plan.continues (subst (λ n. All (IsLaterPort n) plan.continues) no_count kept.continues.later));
+    bases = none_at (λ (b : PlanBase). b.port) plan.bases (subst (λ n. All (λ (b : PlanBase). IsSwitchPort n b.port) plan.bases) no_count kept.bases.of_inputs);
+    rows = none_at (λ (r : PlanRow). r.port) plan.rows (subst (λ n. All (λ (r : PlanRow). IsSwitchPort n r.port) plan.rows) no_count kept.rows.of_inputs);
+  }
+
+no_continues : (n : ℕ) → AreContinues n []
+no_continues n = record { later = All-nil _; once = tt }
+
+none_deleted : (n : ℕ) → AreDeletes n []
+none_deleted n = record { known = All-nil _; once = tt }
+
+no_bases : (n : ℕ) → AreBases n []
+no_bases n = record { of_inputs = All-nil _; ranges = All-nil _; once = tt }
+
+no_rows : (n : ℕ) → AreRows n []
+unfolding rows_of
+no_rows n = record { of_inputs = All-nil _; ranges = All-nil _; few = λ p. lit≤ tt }
+
+-- What a layout gives
+
+module _ (layout : Layout) (p : ℕ) (joined : AreJoined layout) (some : 0 < p) (few : layout.switches ≤ 64) (labels : layout.switches * p ≤ 256) (links : layout.links + p ≤ 32) where
+  switch_count : length (filled_switches layout) ≡ layout.switches
+  switch_count = length-map-range_with_len filled_name 0 layout.switches
+
+  terminals_are : AreTerminals layout.switches (filled_terminals layout p)
+  terminals_are =
+      let count : length (filled_terminals layout p) ≡ layout.switches * p = length-map-range_with_len (filled_terminal layout.links p) 0 (layout.switches * p) in
+      record {
+        few = omega (arith, count, labels);
+        on_switches = all_range (λ (t : Terminal). IsSwitchPort layout.switches (host_port t)) (filled_terminal layout.links p) 0 (layout.switches * p) (λ t lt.
+            (div_below t p layout.switches some (omega (arith, lt)), omega (arith, links, mod_below t p some)));
+        ranges = all_range (λ (t : Terminal). IsRange t.first t.count) (filled_terminal layout.links p) 0 (layout.switches * p) (λ t lt. (omega arith, omega (arith, lt, labels)));
+      }
+
+  wire_is : (s l : ℕ) (q : Option Port) → s < layout.switches → l < layout.links → IsJoined layout s l q → AllByRecursion (IsPlanWire layout.switches) (wire_to (port.Switch s l) q)
+  wire_is s l None a b j = tt
+  wire_is s l (Some (port.Switch t k)) a b j = (((a, omega (arith, b, links)), (j.inside, omega (arith, j.link, links)), j.other), tt)
+  wire_is s l (Some (port.Terminal t)) a b j = absurd j
+
+  wires_are : All (IsPlanWire layout.switches) (filled_wires layout)
+  wires_are = all_of_each (IsPlanWire layout.switches) (filled_wires layout) (each_flat (IsPlanWire layout.switches) (wires_from layout) 0 layout.switches (λ s a.
+      each_flat (IsPlanWire layout.switches) (wire_at layout s) 0 layout.links (λ l b. ⊎_elim
+      (λ (t : layout.begins s l ≡ true). rw t (wire_is s l (layout.beyond s l) (omega (arith, a)) (omega (arith, b)) (joined s l (omega (arith, a)) (omega (arith, b)))))
+      (λ (t : layout.begins s l ≡ false). rw t tt)
+      (cases_Bool (layout.begins s l)))))
+
+  filled_kept : (plan : Plan) → IsPlan plan → plan.switches ≡ [] → (shape : Shape) → IsOfShape shape (filled_plan shape layout p plan) → IsPlan (filled_plan shape layout p plan)
+  filled_kept plan kept none shape is_shape =
+      let n : ℕ = length (filled_switches layout) in
+      let count : layout.switches ≡ n = sym switch_count in
+      let unset = nothing_set plan kept none in
+      record {
+        header = kept.header;
+        cap = kept.cap;
+        shape = is_shape;
+        few_switches = omega (arith, few, switch_count);
+        names = filled_names layout p few labels;
+        terminals = subst (λ m. AreTerminals m (filled_terminals layout p)) count terminals_are;
+        wires = subst (λ m. All (IsPlanWire m) (filled_wires layout)) count wires_are;
+        links = filled_links layout p joined;
+        continues = subst (AreContinues n) (sym unset.continues) (no_continues n);
+        deletes = subst (AreDeletes (length (filled_terminals layout p))) (sym (no_deletes plan kept none)) (none_deleted (length (filled_terminals layout p)));
+        bases = subst (AreBases n) (sym unset.bases) (no_bases n);
+        rows = subst (AreRows n) (sym unset.rows) (no_rows n);
+        randoms = kept.randoms;
+      }
+
+module _ (plan : Plan) (kept : IsPlan plan) (none : plan.switches ≡ []) where
+  -- a record rebuilt for the filled plan, of which these lists are as they were
+  unset_in : (shape : Shape) (layout : Layout) (p : ℕ) → IsUnset (filled_plan shape layout p plan)
+  unset_in shape layout p = let unset = nothing_set plan kept none in record { continues = unset.continues; bases = unset.bases; rows = unset.rows }
+
+  pub mesh_kept : (w h p : ℕ) → IsMesh w h p → IsPlan (filled_plan (Mesh w h p) (mesh w h) p plan)
+  mesh_kept w h p is =
+      filled_kept (mesh w h) p (mesh_is w h is.wide.0) is.some is.switches is.labels (omega (arith, is.links)) plan kept none (Mesh w h p)
+      (is, record { switches = refl; terminals = refl; wires = refl; unset = unset_in (Mesh w h p) (mesh w h) p })
+
+  pub cube_kept : (d p : ℕ) → IsCube d p → 2 ^ d ≤ 64 → IsPlan (filled_plan (Cube d p) (cube d) p plan)
+  cube_kept d p is few =
+      filled_kept (cube d) p (cube_is d) is.some few is.labels (omega (arith, is.low, is.links)) plan kept none (Cube d p)
+      (is, record { switches = refl; terminals = refl; wires = refl; unset = unset_in (Cube d p) (cube d) p })

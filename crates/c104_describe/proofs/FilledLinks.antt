@@ -1,0 +1,158 @@
+-- No link has two terminals or wires in a filled plan.
+use Rattle.std.proofs.Common.{◌≡◌, ◌≢◌, ℕ, zero, suc, ◌<◌, ◌≤◌, ◌+◌, ◌*◌, ◌/◌, ◌%◌, true, false, not, List, [], ◌∷◌, ◌++◌, map, Option, Some, None, refl, sym, ap, subst, ◌∙◌, ⊎_elim, arith}
+use Rattle.std.specs.List.{AllByRecursion, flat_map, range_with_len}
+use Rattle.std.proofs.lemmas.Bool.{cases_Bool}
+use Rattle.c104_describe.specs.Distinctness.{AreDistinct}
+use Rattle.c104_describe.specs.declared.ports.Port.TheVariants as port
+use Rattle.c104_describe.specs.Ports.{Port, Wire, is_port, both_ends}
+use Rattle.c104_describe.specs.Layouts.{Layout, filled_terminal, filled_terminals, filled_wires, wire_at, wire_to, wires_from}
+use Rattle.c104_describe.specs.Plans.{host_port, linked_ports}
+use Rattle.c104_describe.proofs.LayoutJoins.{AreJoined, IsJoined}
+use Rattle.c104_describe.proofs.LayoutNumbers.{parts}
+use Rattle.c104_describe.proofs.PortLemmas.{is_port-ne}
+use Rattle.c104_describe.proofs.RangeLists.{each_flat}
+
+-- where a link for a switch leads
+leads : Layout → Port → Option Port
+leads layout (port.Switch s l) = layout.beyond s l
+leads layout (port.Terminal t) = None
+
+-- a link at which a wire begins, and one at which it ends
+abbrev IsBegin : Layout → Port → Type 0
+IsBegin layout (port.Switch s l) = (l < layout.links) × (layout.begins s l ≡ true)
+IsBegin layout (port.Terminal t) = ⊥
+
+abbrev IsEnd : Layout → Port → Type 0
+IsEnd layout (port.Switch s l) = (l < layout.links) × (layout.begins s l ≡ false)
+IsEnd layout (port.Terminal t) = ⊥
+
+record IsGood (layout : Layout) (w : Wire) : Type 0 where
+  begin : IsBegin layout w.here
+  end : IsEnd layout w.there
+  back : leads layout w.there ≡ Some w.here
+
+clash : (layout : Layout) (q : Port) → IsBegin layout q → IsEnd layout q → ⊥
+clash layout (port.Switch s l) a b = let x : layout.begins s l ≡ true = a.1 in let y : layout.begins s l ≡ false = b.1 in absurd cc
+clash layout (port.Terminal t) a b = a
+
+-- links in order
+rank : Layout → Port → ℕ
+rank layout (port.Switch s l) = s * layout.links + l
+rank layout (port.Terminal t) = 0
+
+-- wires whose beginnings ascend, from lo on and below hi
+abbrev IsRun : Layout → ℕ → ℕ → List Wire → Type 0
+IsRun layout lo hi [] = lo ≤ hi
+IsRun layout lo hi (w ∷ ws) = (lo ≤ rank layout w.here) × IsRun layout (suc (rank layout w.here)) hi ws
+
+run_from : (layout : Layout) (lo mid hi : ℕ) (ws : List Wire) → lo ≤ mid → IsRun layout mid hi ws → IsRun layout lo hi ws
+run_from layout lo mid hi [] le is = omega (arith, le, is)
+run_from layout lo mid hi (w ∷ ws) le is = (omega (arith, le, is.0), is.1)
+
+run_append : (layout : Layout) (lo mid hi : ℕ) (ws vs : List Wire) → IsRun layout lo mid ws → IsRun layout mid hi vs → IsRun layout lo hi (ws ++ vs)
+run_append layout lo mid hi [] vs a b = run_from layout lo mid hi vs a b
+run_append layout lo mid hi (w ∷ ws) vs a b = (a.0, run_append layout (suc (rank layout w.here)) mid hi ws vs a.1 b)
+
+run_range : (layout : Layout) (base step n count lo hi : ℕ) (f : ℕ → List Wire) → lo ≡ base + n * step → hi ≡ lo + count * step → ((i : ℕ) → i < n + count → IsRun layout (base + i * step) (base + i * step + step) (f i)) → IsRun layout lo hi (flat_map f (range_with_len n count))
+run_range layout base step n zero lo hi f a b each = omega (arith, b)
+run_range layout base step n (suc count) lo hi f a b each =
+    run_append layout lo (base + (n + 1) * step) hi (f n) (flat_map f (range_with_len (n + 1) count))
+    (let e : base + n * step ≡ lo = sym a in let u : base + n * step + step ≡ base + (n + 1) * step = omega arith in subst (λ x. IsRun layout x (base + (n + 1) * step) (f n)) e (subst (λ x. IsRun layout (base + n * step) x (f n)) u (each n (omega arith))))
+    (run_range layout base step (n + 1) count (base + (n + 1) * step) hi f refl (omega (arith, a, b)) (λ i lt. each i (omega (arith, lt))))
+
+wire_run : (layout : Layout) (s l : ℕ) (q : Option Port) → IsRun layout (s * layout.links + l) (s * layout.links + l + 1) (wire_to (port.Switch s l) q)
+unfolding rank
+wire_run layout s l None = omega arith
+wire_run layout s l (Some q) = (omega arith, omega arith)
+
+wire_at_run : (layout : Layout) (s l : ℕ) → IsRun layout (s * layout.links + l) (s * layout.links + l + 1) (wire_at layout s l)
+wire_at_run layout s l = ⊎_elim
+    (λ (t : layout.begins s l ≡ true). rw t (wire_run layout s l (layout.beyond s l)))
+    (λ (t : layout.begins s l ≡ false). rw t (let le : s * layout.links + l ≤ s * layout.links + l + 1 = omega arith in le))
+    (cases_Bool (layout.begins s l))
+
+wires_run : (layout : Layout) → IsRun layout 0 (layout.switches * layout.links) (filled_wires layout)
+wires_run layout = run_range layout 0 layout.links 0 layout.switches 0 (layout.switches * layout.links) (wires_from layout) (omega arith) (omega arith)
+    (λ s a. run_range layout (0 + s * layout.links) 1 0 layout.links (0 + s * layout.links) (0 + s * layout.links + layout.links) (wire_at layout s) (omega arith) (omega arith) (λ l b.
+    let lo : s * layout.links + l ≡ 0 + s * layout.links + l * 1 = omega arith in
+    let hi : s * layout.links + l + 1 ≡ 0 + s * layout.links + l * 1 + 1 = omega arith in
+    subst (λ x. IsRun layout x (0 + s * layout.links + l * 1 + 1) (wire_at layout s l)) lo (subst (λ x. IsRun layout (s * layout.links + l) x (wire_at layout s l)) hi (wire_at_run layout s l))))
+
+wire_good : (layout : Layout) (s l : ℕ) (q : Option Port) → s < layout.switches → l < layout.links → layout.begins s l ≡ true → IsJoined layout s l q → AllByRecursion (IsGood layout) (wire_to (port.Switch s l) q)
+unfolding leads
+wire_good layout s l None a b c j = tt
+wire_good layout s l (Some (port.Switch t k)) a b c j = (record { begin = (b, c); end = (j.link, j.one_end ∙ ap not c); back = j.back }, tt)
+wire_good layout s l (Some (port.Terminal t)) a b c j = absurd j
+
+wires_good : (layout : Layout) → AreJoined layout → AllByRecursion (IsGood layout) (filled_wires layout)
+wires_good layout joined = each_flat (IsGood layout) (wires_from layout) 0 layout.switches (λ s a. each_flat (IsGood layout) (wire_at layout s) 0 layout.links (λ l b. ⊎_elim
+    (λ (t : layout.begins s l ≡ true). rw t (wire_good layout s l (layout.beyond s l) (omega (arith, a)) (omega (arith, b)) t (joined s l (omega (arith, a)) (omega (arith, b)))))
+    (λ (t : layout.begins s l ≡ false). rw t tt)
+    (cases_Bool (layout.begins s l))))
+
+-- a port is none of these
+abbrev IsNone : Port → List Port → Type 0
+IsNone p ports = AllByRecursion (λ q. is_port p q ≡ false) ports
+
+same_end : (layout : Layout) (v w : Wire) → IsGood layout v → IsGood layout w → v.there ≡ w.there → rank layout v.here ≡ rank layout w.here
+same_end layout v w a b same = let e : Some v.here ≡ Some w.here = sym a.back ∙ ap (leads layout) same ∙ b.back in let f : v.here ≡ w.here = cc in ap (rank layout) f
+
+module _ (layout : Layout) where
+  none_later : (w : Wire) (n hi : ℕ) (ws : List Wire) → rank layout w.here < n → IsRun layout n hi ws → AllByRecursion (IsGood layout) ws → IsGood layout w → IsNone w.here (both_ends ws) × IsNone w.there (both_ends ws)
+  none_later w n hi [] lt run good is = (tt, tt)
+  none_later w n hi (v ∷ ws) lt run good is =
+      let rest = none_later w (suc (rank layout v.here)) hi ws (omega (arith, lt, run.0)) run.1 good.1 is in
+      let ranks : rank layout w.here ≡ rank layout v.here → ⊥ = λ e. omega (arith, lt, run.0, e) in (
+        (
+          is_port-ne w.here v.here (λ same. ranks (ap (rank layout) same)),
+          (is_port-ne w.here v.there (λ same. clash layout v.there (subst (IsBegin layout) same is.begin) good.0.end), rest.0),
+        ),
+        (
+          is_port-ne w.there v.here (λ same. clash layout v.here good.0.begin (subst (IsEnd layout) same is.end)),
+          (is_port-ne w.there v.there (λ same. ranks (same_end layout w v is good.0 same)), rest.1),
+        ),
+      )
+
+  wires_differ : (n hi : ℕ) (ws : List Wire) → IsRun layout n hi ws → AllByRecursion (IsGood layout) ws → AreDistinct is_port (both_ends ws)
+  wires_differ n hi [] run good = tt
+  wires_differ n hi (w ∷ ws) run good =
+      let rest = none_later w (suc (rank layout w.here)) hi ws (omega arith) run.1 good.1 good.0 in
+      ((is_port-ne w.here w.there (λ same. clash layout w.there (subst (IsBegin layout) same good.0.begin) good.0.end), rest.0), (rest.1, wires_differ (suc (rank layout w.here)) hi ws run.1 good.1))
+
+  -- terminals are on other links
+
+  no_begin : (s l : ℕ) (p : Port) → layout.links ≤ l → IsBegin layout p → port.Switch s l ≢ p
+  no_begin s l (port.Switch t k) le a same = let e : l ≡ k = cc in omega (arith, le, e, a.0)
+  no_begin s l (port.Terminal t) le a same = a
+
+  no_end : (s l : ℕ) (p : Port) → layout.links ≤ l → IsEnd layout p → port.Switch s l ≢ p
+  no_end s l (port.Switch t k) le a same = let e : l ≡ k = cc in omega (arith, le, e, a.0)
+  no_end s l (port.Terminal t) le a same = a
+
+  own_none : (s l : ℕ) (ws : List Wire) → layout.links ≤ l → AllByRecursion (IsGood layout) ws → IsNone (port.Switch s l) (both_ends ws)
+  own_none s l [] le good = tt
+  own_none s l (w ∷ ws) le good = (is_port-ne (port.Switch s l) w.here (no_begin s l w.here le good.0.begin), (is_port-ne (port.Switch s l) w.there (no_end s l w.there le good.0.end), own_none s l ws le good.1))
+
+  module _ (p : ℕ) where
+    own_port : ℕ → Port
+    own_port t = host_port (filled_terminal layout.links p t)
+
+    own_same : (t u : ℕ) → own_port t ≡ own_port u → t ≡ u
+    unfolding own_port
+    own_same t u is =
+        let a : t / p ≡ u / p = cc in
+        let b : layout.links + t % p ≡ layout.links + u % p = cc in
+        sym (parts t p) ∙ ap (λ n. n * p + t % p) a ∙ ap (λ n. u / p * p + n) (omega (arith, b)) ∙ parts u p
+
+    terminal_none : (t n count : ℕ) (ws : List Wire) → t < n → AllByRecursion (IsGood layout) ws → IsNone (own_port t) (linked_ports (map (filled_terminal layout.links p) (range_with_len n count)) ws)
+    unfolding own_port
+    terminal_none t n zero ws lt good = own_none (t / p) (layout.links + t % p) ws (omega arith) good
+    terminal_none t n (suc count) ws lt good = (is_port-ne (own_port t) (own_port n) (λ e. let same : t ≡ n = own_same t n e in omega (arith, lt, same)), terminal_none t (n + 1) count ws (omega (arith, lt)) good)
+
+    terminals_differ : (n count : ℕ) (ws : List Wire) → AllByRecursion (IsGood layout) ws → AreDistinct is_port (both_ends ws) → AreDistinct is_port (linked_ports (map (filled_terminal layout.links p) (range_with_len n count)) ws)
+    unfolding own_port
+    terminals_differ n zero ws good differ = differ
+    terminals_differ n (suc count) ws good differ = (terminal_none n (n + 1) count ws (omega arith) good, terminals_differ (n + 1) count ws good differ)
+
+    pub filled_links : AreJoined layout → AreDistinct is_port (linked_ports (filled_terminals layout p) (filled_wires layout))
+    filled_links joined = terminals_differ 0 (layout.switches * p) (filled_wires layout) (wires_good layout joined) (wires_differ 0 (layout.switches * layout.links) (filled_wires layout) (wires_run layout) (wires_good layout joined))

@@ -1,0 +1,62 @@
+-- A plan to be labelled as a tree keeps what every plan does.
+use Rattle.std.proofs.Common.{◌≡◌, ℕ, ◌<◌, ◌+◌, List, [], ◌∷◌, ◌++◌, map, length, All, sym, subst, ap, refl, arith}
+use Rattle.std.proofs.lemmas.List.{length-map}
+use Rattle.std.proofs.lemmas.List.Elements.{All-map, All-weaker}
+use Rattle.c104_describe.specs.declared.plans.Shape.TheVariants.{Tree}
+use Rattle.c104_describe.specs.Distinctness.{AreDistinct}
+use Rattle.c104_describe.specs.Ports.{is_port, both_ends, IsSwitchPort}
+use Rattle.c104_describe.specs.PlanDrafts.{without_first}
+use Rattle.c104_describe.specs.Plans.{Plan, Terminal, AreNames, AreTerminals, IsPlan, IsRange, IsUnset, host_port, next_first, total_count}
+use Rattle.c104_describe.proofs.PlanRanges.{next_first-le}
+use Rattle.std.proofs.lemmas.Simd.{map-map}
+
+total_same : (terminals : List Terminal) → total_count (map without_first terminals) ≡ total_count terminals
+total_same [] = refl
+total_same (t ∷ terminals) = ap (λ n. t.count + n) (total_same terminals)
+
+-- they have the same names
+pub same_names : (terminals : List Terminal) → map (λ (t : Terminal). t.name) (map without_first terminals) ≡ map (λ (t : Terminal). t.name) terminals
+same_names terminals = map-map (λ (t : Terminal). t.name) without_first terminals
+
+module _ (plan : Plan) (kept : IsPlan plan) where
+  counts : List Terminal
+  counts = map without_first plan.terminals
+
+  how_many : length counts ≡ length plan.terminals
+  unfolding counts
+  how_many = length-map plan.terminals without_first
+
+  counts_are : AreTerminals (length plan.switches) counts
+  unfolding counts
+  counts_are = record {
+    few = omega (arith, how_many, kept.terminals.few);
+    on_switches = All-map (λ (t : Terminal). IsSwitchPort (length plan.switches) (host_port t)) without_first plan.terminals kept.terminals.on_switches;
+    ranges = All-map (λ (t : Terminal). IsRange t.first t.count) without_first plan.terminals
+        (All-weaker (λ (t : Terminal). IsRange t.first t.count) (λ (t : Terminal). IsRange 0 t.count) (λ (t : Terminal) is. (is.0, omega (arith, is.1))) plan.terminals kept.terminals.ranges);
+  }
+
+  pub rooted_kept : (root : ℕ) → root < length plan.switches → next_first plan.terminals ≡ total_count plan.terminals → IsUnset plan → IsPlan (record plan { shape = Tree root; terminals = map without_first plan.terminals })
+  unfolding counts
+  rooted_kept root inside counted unset = record {
+    header = kept.header;
+    cap = kept.cap;
+    shape = record {
+      inside = inside;
+      firsts = All-map (λ (t : Terminal). t.first ≡ 0) without_first plan.terminals (λ k d within. refl);
+      counts = omega (arith, total_same plan.terminals, counted, next_first-le plan.terminals kept.terminals.ranges);
+      unset = record { continues = unset.continues; bases = unset.bases; rows = unset.rows };
+    };
+    few_switches = kept.few_switches;
+    names = subst AreNames (ap (λ names. plan.switches ++ names) (sym (same_names plan.terminals))) kept.names;
+    terminals = counts_are;
+    wires = kept.wires;
+    links = subst (AreDistinct is_port) (ap (λ ports. ports ++ both_ends plan.wires) (sym (map-map host_port without_first plan.terminals))) kept.links;
+    continues = kept.continues;
+    deletes = record {
+      known = subst (λ n. All (λ t. t < n) plan.deletes) (sym how_many) kept.deletes.known;
+      once = kept.deletes.once;
+    };
+    bases = kept.bases;
+    rows = kept.rows;
+    randoms = kept.randoms;
+  }

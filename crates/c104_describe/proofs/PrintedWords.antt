@@ -1,0 +1,123 @@
+-- Every printed line is one of words.
+use Rattle.std.proofs.Common.{◌≡◌, ℕ, ◌<◌, ◌≤◌, ◌&&◌, true, List, [], ◌∷◌, ◌++◌, length, map, get_or, nat_le, All, refl, ap, ◌∙◌, arith}
+use Rattle.std.proofs.lemmas.Bool.{and_parts, leb-true}
+use Rattle.std.specs.List.{list_all}
+use Rattle.std.specs.Option.{unwrap_or}
+use Rattle.std.proofs.lemmas.List.Elements.{All-head, All-tail}
+use Rattle.std.proofs.lemmas.List.Folds.{list_all-append}
+use Rattle.std.proofs.lemmas.Option.{slice_get-get_or}
+use Rattle.c104_describe.specs.declared.ports.Port.TheVariants as port
+use Rattle.c104_describe.specs.declared.plans.Shape.TheVariants.{Hand, Tree, Mesh, Cube}
+use Rattle.c104_describe.specs.TextWords.{is_name}
+use Rattle.c104_describe.specs.Ports.{Port, Wire, IsSwitchPort}
+use Rattle.c104_describe.specs.Plans.{Plan, PlanBase, PlanRow, Shape, Terminal, IsOfShape, IsPlan, IsPlanSelect, IsPlanWire, IsLaterPort, IsRange, host_port, label_count, is_buffer_size}
+use Rattle.c104_describe.specs.PlanPrint.{port_text, switch_name, switch_words, terminal_words, counted_words, wire_words, label_words, network_lines, continue_words, delete_words, base_words, row_words}
+use Rattle.c104_describe.proofs.PrintedText.{are_words, is_word}
+use Rattle.c104_describe.proofs.PrintedParts.{lines_by_kinds, lines_after_bases, lines_after_continues, lines_after_deletes, lines_after_network}
+use Rattle.c104_describe.proofs.PrintedNumbers.{word-decimal}
+use Rattle.c104_describe.proofs.PrintedPorts.{word-name, word-port, word-select}
+use Rattle.c104_describe.proofs.PrintedSteps.{name_of, switch_named, port_named, port_printed, terminal_named, delete_printed}
+
+words_both : (xs ys : List (List (List ℕ))) → are_words xs ≡ true → are_words ys ≡ true → are_words (xs ++ ys) ≡ true
+words_both xs ys a b = list_all-append (λ ws. list_all is_word ws) xs ys ∙ (λ i. a i && b i)
+
+-- lines of one kind
+words_kind : {X : Type 0} (line : X → List (List ℕ)) (P : X → Type 0) → ((x : X) → P x → list_all is_word (line x) ≡ true) → (xs : List X) → All P xs → are_words (map line xs) ≡ true
+words_kind line P each [] all = refl
+words_kind line P each (x ∷ xs) all = λ i. each x (All-head P x xs all) i && words_kind line P each xs (All-tail P x xs all) i
+
+pub small_buffer : (size : ℕ) → is_buffer_size size ≡ true → size ≤ 64
+small_buffer size is = leb-true _ _ (and_parts (nat_le 8 size) (nat_le size 64) (and_parts _ _ is).1).1
+
+module _ (plan : Plan) (kept : IsPlan plan) where
+  -- Every line is words
+
+  word_at : (p : Port) → IsSwitchPort (length plan.switches) p → is_word (port_text plan p) ≡ true
+  word_at (port.Terminal t) is = absurd is
+  word_at (port.Switch s l) is = ap is_word (port_printed plan kept s l is) ∙ word-port (name_of plan kept s) l (port_named plan kept s l is) is.1
+
+  words_switch : (name : List ℕ) → is_name name ≡ true → list_all is_word (switch_words name) ≡ true
+  words_switch name is = λ i. word-name name is i && true
+
+  abbrev IsPrinted : Terminal → Type 0
+  IsPrinted t = (is_name t.name ≡ true) × IsSwitchPort (length plan.switches) (host_port t) × IsRange t.first t.count
+
+  words_terminal : (t : Terminal) → IsPrinted t → list_all is_word (terminal_words plan t) ≡ true
+  words_terminal t is =
+      λ i. word-name t.name is.0 i && (word_at (host_port t) is.1 i && (word-decimal t.count (omega (arith, is.2.1)) i && (word-decimal t.first (omega (arith, is.2.1)) i && true)))
+
+  words_counted : (t : Terminal) → IsPrinted t → list_all is_word (counted_words plan t) ≡ true
+  words_counted t is = λ i. word-name t.name is.0 i && (word_at (host_port t) is.1 i && (word-decimal t.count (omega (arith, is.2.1)) i && true))
+
+  words_wire : (w : Wire) → IsPlanWire (length plan.switches) w → list_all is_word (wire_words plan w) ≡ true
+  words_wire w is = λ i. word_at w.here is.0 i && (word_at w.there is.1 i && true)
+
+  words_continue : (p : Port) → IsLaterPort (length plan.switches) p → list_all is_word (continue_words plan p) ≡ true
+  words_continue (port.Terminal t) is = absurd is
+  words_continue (port.Switch s l) is = λ i. word_at (port.Switch s l) (is.0, is.2) i && true
+
+  words_delete : (terminal : ℕ) → terminal < length plan.terminals → list_all is_word (delete_words plan terminal) ≡ true
+  words_delete terminal is =
+      let d : Terminal = record { name = []; switch = 0; link = 0; first = 0; count = 0 } in
+      let word = ap is_word (delete_printed plan kept terminal d is) ∙ word-name (get_or plan.terminals terminal d).name (terminal_named plan kept terminal d is) in
+      λ i. word i && true
+
+  words_base : (b : PlanBase) → IsSwitchPort (length plan.switches) b.port × (b.base < label_count) → list_all is_word (base_words plan b) ≡ true
+  words_base b is = λ i. word_at b.port is.0 i && (word-decimal b.base (omega (arith, is.1)) i && true)
+
+  words_row : (r : PlanRow) → IsSwitchPort (length plan.switches) r.port × ((r.limit ≤ label_count) × IsPlanSelect r.select) → list_all is_word (row_words plan r) ≡ true
+  words_row r is = λ i. word_at r.port is.0 i && (word-decimal r.limit (omega (arith, is.1.0)) i && (word-select r.select is.1.1 i && true))
+
+  -- a root's name
+  pub root_printed : (root : ℕ) → root < length plan.switches → switch_name plan root ≡ name_of plan kept root
+  root_printed root inside = ap (λ name. unwrap_or name []) (slice_get-get_or plan.switches root [] inside)
+
+  words_label : (root : ℕ) → root < length plan.switches → list_all is_word (label_words plan root) ≡ true
+  words_label root inside =
+      let word = ap is_word (root_printed root inside) ∙ word-name (name_of plan kept root) (switch_named plan kept root [] inside) in
+      λ i. word i && true
+
+  all_printed : All IsPrinted plan.terminals
+  all_printed = λ k d inside. (terminal_named plan kept k d inside, kept.terminals.on_switches k d inside, kept.terminals.ranges k d inside)
+
+  words_network : (shape : Shape) → IsOfShape shape plan → are_words (network_lines plan shape) ≡ true
+  words_network Hand is =
+      words_both (map switch_words plan.switches ++ map (terminal_words plan) plan.terminals) (map (wire_words plan) plan.wires)
+      (words_both (map switch_words plan.switches) (map (terminal_words plan) plan.terminals)
+      (words_kind switch_words (λ name. is_name name ≡ true) words_switch plan.switches (switch_named plan kept))
+      (words_kind (terminal_words plan) IsPrinted words_terminal plan.terminals all_printed))
+      (words_kind (wire_words plan) (IsPlanWire (length plan.switches)) words_wire plan.wires kept.wires)
+  words_network (Tree root) is =
+      words_both (map switch_words plan.switches ++ map (counted_words plan) plan.terminals ++ map (wire_words plan) plan.wires) (label_words plan root ∷ [])
+      (words_both (map switch_words plan.switches ++ map (counted_words plan) plan.terminals) (map (wire_words plan) plan.wires)
+      (words_both (map switch_words plan.switches) (map (counted_words plan) plan.terminals)
+      (words_kind switch_words (λ name. is_name name ≡ true) words_switch plan.switches (switch_named plan kept))
+      (words_kind (counted_words plan) IsPrinted words_counted plan.terminals all_printed))
+      (words_kind (wire_words plan) (IsPlanWire (length plan.switches)) words_wire plan.wires kept.wires))
+      (λ i. words_label root is.inside i && true)
+  words_network (Mesh w h p) is =
+      let sizes = is.0 in
+      let wide = word-decimal w (omega (arith, sizes.wide.1)) in
+      let high = word-decimal h (omega (arith, sizes.high.1)) in
+      let some = word-decimal p (omega (arith, sizes.links)) in
+      λ i. (wide i && (high i && (some i && true))) && true
+  words_network (Cube d p) is =
+      let sizes = is.0 in
+      let low = word-decimal d (omega (arith, sizes.low)) in
+      let some = word-decimal p (omega (arith, sizes.links)) in
+      λ i. (low i && (some i && true)) && true
+
+  pub words_plan : are_words (lines_by_kinds plan) ≡ true
+  words_plan =
+      let n : ℕ = length plan.switches in
+      let header = word-decimal plan.header (omega (arith, kept.header.1)) in
+      let cap = word-decimal plan.cap (omega (arith, small_buffer plan.cap kept.cap)) in
+      let rows = words_kind (row_words plan) (λ (r : PlanRow). IsSwitchPort n r.port × ((r.limit ≤ label_count) × IsPlanSelect r.select)) words_row plan.rows (λ k d inside. (kept.rows.of_inputs k d inside, kept.rows.ranges k d inside)) in
+      let bases = words_kind (base_words plan) (λ (b : PlanBase). IsSwitchPort n b.port × (b.base < label_count)) words_base plan.bases (λ k d inside. (kept.bases.of_inputs k d inside, kept.bases.ranges k d inside)) in
+      let deletes = words_kind (delete_words plan) (λ t. t < length plan.terminals) words_delete plan.deletes kept.deletes.known in
+      let continues = words_kind (continue_words plan) (IsLaterPort n) words_continue plan.continues kept.continues.later in
+      let rest = words_both (network_lines plan plan.shape) (lines_after_network plan) (words_network plan.shape kept.shape)
+      (words_both (map (continue_words plan) plan.continues) (lines_after_continues plan) continues
+      (words_both (map (delete_words plan) plan.deletes) (lines_after_deletes plan) deletes
+      (words_both (map (base_words plan) plan.bases) (lines_after_bases plan) bases rows))) in
+      λ i. (header i && true) && ((cap i && true) && rest i)

@@ -1,0 +1,74 @@
+-- Drafts: what the lines of a description have said so far, the plan that this gives, and which further
+-- lines go with it.
+use Rattle.std.specs.Prelude.{ℕ, ◌==◌, ◌&&◌, ◌||◌, Bool, true, false, not, List, [], ◌∷◌, length, map, is_some, Option, Some, None, Result, Ok, Err}
+use Rattle.c104_describe.specs.declared.plans.Shape.TheVariants.{Hand, Tree, Mesh, Cube}
+use Rattle.c104_describe.specs.declared.words.Keyword.TheVariants as keyword
+use Rattle.c104_describe.specs.PlanFaults.{PlanFaultKind}
+use Rattle.c104_describe.specs.PlanWords.{Keyword, range_words}
+use Rattle.c104_describe.specs.Plans.{Plan, Shape, Terminal}
+
+-- a plan, of which the shape is that of a mesh or a cube once a line gave one; whether lines have said its
+-- header length, its buffer size, and where the range of some terminal begins; and the root of a tree, if a
+-- line asks for its labels
+pub record Draft : Type 0 where
+  pub plan : Plan
+  pub header_said : Bool
+  pub buffer_said : Bool
+  pub from_said : Bool
+  pub root : Option ℕ
+
+-- a terminal of which only the count is said
+abbrev pub without_first : Terminal → Terminal
+without_first t = record t { first = 0 }
+
+-- a plan, to be labelled as a tree if it has a root: then its terminals carry counts alone
+abbrev pub rooted : Option ℕ → Plan → Plan
+rooted None plan = plan
+rooted (Some root) plan = record plan { shape = Tree root; terminals = map without_first plan.terminals }
+
+-- the plan of a draft
+abbrev pub finished : Draft → Plan
+finished draft = rooted draft.root draft.plan
+
+-- whether a plan is made line by line
+abbrev pub is_by_hand : Shape → Bool
+is_by_hand Hand = true
+is_by_hand (Tree root) = false
+is_by_hand (Mesh w h p) = false
+is_by_hand (Cube d p) = false
+
+-- whether a list has elements
+abbrev pub has_some : {X : Type 0} → List X → Bool
+has_some xs = not (length xs == 0)
+
+-- whether the words of a range say where it begins
+abbrev pub is_begun : Result (Option (List ℕ) × Option (List ℕ)) PlanFaultKind → Bool
+is_begun (Ok range) = is_some range.1
+is_begun (Err fault) = false
+
+-- whether the words behind `terminal` do
+abbrev pub says_from : List (List ℕ) → Bool
+says_from [] = false
+says_from (name ∷ []) = false
+says_from (name ∷ at ∷ rest) = is_begun (range_words rest)
+
+-- whether a plan has lines that set something at links
+abbrev pub has_settings : Plan → Bool
+has_settings plan = has_some plan.continues || (has_some plan.bases || has_some plan.rows)
+
+-- whether a line, by what its first word says and the words after it, doesn't go with the lines before it:
+-- `label` goes with neither `continue`, `base`, `row` nor a terminal's `from`, and `mesh` and `cube` give all
+-- of a network but its headers, buffers and deletes. Each line of another kind gives or names a switch.
+abbrev pub is_mixed : Draft → Keyword → List (List ℕ) → Bool
+is_mixed draft keyword.Switch rest = not (is_by_hand draft.plan.shape)
+is_mixed draft keyword.Terminal rest = not (is_by_hand draft.plan.shape) || (is_some draft.root && says_from rest)
+is_mixed draft keyword.Wire rest = not (is_by_hand draft.plan.shape)
+is_mixed draft keyword.Continue rest = not (is_by_hand draft.plan.shape) || is_some draft.root
+is_mixed draft keyword.Base rest = not (is_by_hand draft.plan.shape) || is_some draft.root
+is_mixed draft keyword.Row rest = not (is_by_hand draft.plan.shape) || is_some draft.root
+is_mixed draft keyword.Label rest = not (is_by_hand draft.plan.shape) || (draft.from_said || has_settings draft.plan)
+is_mixed draft keyword.Mesh rest = has_some draft.plan.switches
+is_mixed draft keyword.Cube rest = has_some draft.plan.switches
+is_mixed draft keyword.Header rest = false
+is_mixed draft keyword.Buffer rest = false
+is_mixed draft keyword.Delete rest = false

@@ -1,0 +1,235 @@
+//! Descriptions: whole networks, meshes and cubes.
+ghost use Rattle.std.specs.Prelude.{◌≡◌, ℕ, ◌*◌, ◌^◌, ◌<◌, ◌≤◌, ◌++◌, map, IfOk, OnOk};
+ghost use Rattle.std.specs.List.{range_with_len};
+ghost use Rattle.c104_describe.specs.Layouts.{cube, filled_name, filled_terminal, filled_wires, mesh, mesh_beyond, wire_at, wire_to, wires_from};
+ghost use Rattle.c104_describe.specs.declared.ports.Port.TheVariants as port;
+ghost use Rattle.c104_describe.specs.PlanLines.{cube_line, mesh_line};
+ghost use Rattle.c104_describe.specs.PlanParts.{plan_of};
+ghost use Rattle.c104_describe.specs.PlanText.{ReadsLine};
+ghost use Rattle.c104_describe.specs.Plans.{most_switches, most_terminals};
+
+use crate::faults::PlanFaultKind;
+use crate::limits::{MAX_SWITCHES, MAX_TERMINALS};
+use crate::names::Name;
+use crate::parts::Parts;
+use crate::plans::{Shape, Terminal};
+use crate::ports::{Port, Wire};
+use crate::switch_list::SwitchList;
+use crate::terminal_list::TerminalList;
+use crate::words::read_number_within;
+use std::alloc::{AllocError, Global};
+
+/// The links of a mesh's switch that are for its neighbours.
+const MESH_LINKS: usize = 4;
+
+/// Reads `mesh w h p`.
+pub(crate) fn set_mesh(
+    alloc: Global,
+    parts: &mut Parts,
+    width: &[u8],
+    height: &[u8],
+    terminals: &[u8],
+) -> Result<(), PlanFaultKind>
+    ensures { ReadsLine result (plan_of parts.new)
+        (mesh_line (plan_of parts.old) width.now height.now terminals.now) }
+{
+    let width = read_number_within(1, 64, width)? as usize;
+    let height = read_number_within(1, 64, height)? as usize;
+    let terminals = read_number_within(1, 28, terminals)? as usize;
+    let switches = width * height;
+    if switches > MAX_SWITCHES || switches * terminals > MAX_TERMINALS {
+        return Err(PlanFaultKind::TooMany);
+    }
+    parts.switches = filled_switches(alloc, switches)?;
+    parts.terminals = filled_terminals(alloc, MESH_LINKS, terminals, switches * terminals)?;
+    parts.wires = mesh_wires(alloc, width, height)?;
+    parts.shape = Shape::Mesh(width, height, terminals);
+    Ok(())
+}
+
+/// Reads `cube d p`.
+pub(crate) fn set_cube(
+    alloc: Global,
+    parts: &mut Parts,
+    dimensions: &[u8],
+    terminals: &[u8],
+) -> Result<(), PlanFaultKind>
+    ensures { ReadsLine result (plan_of parts.new)
+        (cube_line (plan_of parts.old) dimensions.now terminals.now) }
+{
+    let dimensions = read_number_within(0, 6, dimensions)? as usize;
+    let terminals = read_number_within(1, 26, terminals)? as usize;
+    let switches = power_of_two(dimensions);
+    if switches * terminals > MAX_TERMINALS {
+        return Err(PlanFaultKind::TooMany);
+    }
+    parts.switches = filled_switches(alloc, switches)?;
+    parts.terminals = filled_terminals(alloc, dimensions, terminals, switches * terminals)?;
+    parts.wires = cube_wires(alloc, dimensions)?;
+    parts.shape = Shape::Cube(dimensions, terminals);
+    Ok(())
+}
+
+/// So many switches.
+fn filled_switches(alloc: Global, count: usize) -> Result<SwitchList, AllocError>
+    requires { count ≤ most_switches }
+    ensures { IfOk result (λ list. list ≡ map filled_name (range_with_len 0 count)) }
+{
+    let mut switches = SwitchList::new(alloc);
+    for switch in 0..count {
+        let name = format!(in alloc; "s{switch}")?;
+        switches.push(alloc, name.as_bytes())?;
+    }
+    Ok(switches)
+}
+
+/// So many terminals, each switch having so many of them, on the links from the first one on.
+fn filled_terminals(
+    alloc: Global,
+    links: usize,
+    terminals: usize,
+    count: usize,
+) -> Result<TerminalList, AllocError>
+    requires links { links ≤ 6 }
+    requires some { 0 < terminals }
+    requires few { count ≤ most_terminals }
+    ensures { IfOk result (λ list.
+        list ≡ map (filled_terminal links terminals) (range_with_len 0 count)) }
+{
+    let mut list = TerminalList::new(alloc);
+    for number in 0..count {
+        let terminal = filled_terminal(alloc, links, terminals, number)?;
+        list.push(alloc, terminal)?;
+    }
+    Ok(list)
+}
+
+/// The terminal of this number.
+fn filled_terminal(
+    alloc: Global,
+    links: usize,
+    terminals: usize,
+    number: usize,
+) -> Result<Terminal, AllocError>
+    requires links { links ≤ 6 }
+    requires some { 0 < terminals }
+    requires few { number < most_terminals }
+    ensures { IfOk result (λ terminal. terminal ≡ filled_terminal links terminals number) }
+{
+    let name = format!(in alloc; "t{number}")?;
+    let name = Name::new(alloc, name.as_bytes())?;
+    Ok(Terminal {
+        name,
+        switch: number / terminals,
+        link: links + number % terminals,
+        first: number as u32,
+        count: 1,
+    })
+}
+
+/// The wires of a mesh of so many columns and rows.
+fn mesh_wires(alloc: Global, width: usize, height: usize) -> Result<Vec<Wire>, AllocError>
+    requires wide { 0 < width }
+    requires few { width * height ≤ most_switches }
+    ensures { IfOk result (λ wires. wires.items ≡ filled_wires (mesh width height)) }
+{
+    let mut wires = Vec::new(alloc);
+    for switch in 0..width * height {
+        add_wire(
+            &mut wires,
+            Port::Switch(switch, 2),
+            port_after(width, switch),
+        )?;
+        add_wire(
+            &mut wires,
+            Port::Switch(switch, 3),
+            port_below(width, height, switch),
+        )?;
+    }
+    Ok(wires)
+}
+
+/// Where the link of a mesh's switch to the column after it leads.
+fn port_after(width: usize, switch: usize) -> Option<Port>
+    requires wide { 0 < width }
+    requires few { switch < most_switches }
+    ensures { (h : ℕ) → result ≡ mesh_beyond width h switch 2 }
+{
+    if switch % width + 1 < width {
+        Some(Port::Switch(switch + 1, 1))
+    } else {
+        None
+    }
+}
+
+/// Where the link of a mesh's switch to the row below it leads.
+fn port_below(width: usize, height: usize, switch: usize) -> Option<Port>
+    requires few { width * height ≤ most_switches }
+    requires inside { switch < width * height }
+    ensures { result ≡ mesh_beyond width height switch 3 }
+{
+    if switch + width < width * height {
+        Some(Port::Switch(switch + width, 0))
+    } else {
+        None
+    }
+}
+
+/// The wires of a cube of so many dimensions.
+fn cube_wires(alloc: Global, dimensions: usize) -> Result<Vec<Wire>, AllocError>
+    requires { dimensions ≤ 6 }
+    ensures { IfOk result (λ wires. wires.items ≡ filled_wires (cube dimensions)) }
+{
+    let mut wires = Vec::new(alloc);
+    for switch in 0..power_of_two(dimensions) {
+        add_cube_wires(&mut wires, dimensions, switch)?;
+    }
+    Ok(wires)
+}
+
+/// The wires that begin at a switch of a cube join a list.
+fn add_cube_wires(wires: &mut Vec<Wire>, dimensions: usize, switch: usize) -> Result<(), AllocError>
+    requires low { dimensions ≤ 6 }
+    requires few { switch < most_switches }
+    ensures { OnOk result (wires.new.items ≡ wires.old.items ++ wires_from (cube dimensions) switch) }
+{
+    for link in 0..dimensions {
+        add_wire(wires, Port::Switch(switch, link), port_beyond(switch, link))?;
+    }
+    Ok(())
+}
+
+/// Where the link of a cube's switch leads, if a wire begins at it.
+#[tactic(auto, using(crate::proofs::FilledSteps::cube_begins, crate::proofs::FilledSteps::cube_ends))]
+fn port_beyond(switch: usize, link: usize) -> Option<Port>
+    requires low { link ≤ 6 }
+    requires few { switch < most_switches }
+    ensures { (d : ℕ) → wire_to (port.Switch switch link) result ≡ wire_at (cube d) switch link }
+{
+    let size = power_of_two(link);
+    if switch / size % 2 == 0 {
+        Some(Port::Switch(switch + size, link))
+    } else {
+        None
+    }
+}
+
+/// The wire from a port to another, where there is one, joins a list.
+fn add_wire(wires: &mut Vec<Wire>, here: Port, there: Option<Port>) -> Result<(), AllocError>
+    ensures { OnOk result (wires.new.items ≡ wires.old.items ++ wire_to here there) }
+{
+    if let Some(there) = there {
+        wires.push(Wire { here, there })?;
+    }
+    Ok(())
+}
+
+/// Two to a power.
+#[tactic(auto, using(crate::proofs::LayoutNumbers::power_is, crate::proofs::LayoutNumbers::power_small))]
+fn power_of_two(exponent: usize) -> usize
+    requires { exponent ≤ 6 }
+    ensures power { result ≡ 2 ^ exponent }
+    ensures few { result ≤ most_switches }
+{
+    1 << exponent
+}

@@ -1,0 +1,140 @@
+//! The sentences about descriptions.
+
+/// What is wrong with a description's line, or what was wanted there.
+#[derive(Clone, Copy, Debug)]
+pub enum DescriptionMistake {
+    TooLong,
+    ScriptsWord,
+    ScriptBegins,
+    ScriptLine,
+    NoWord,
+    WrongByte,
+    SwitchLine,
+    TerminalLine,
+    WireLine,
+    HeaderLine,
+    BufferLine,
+    ContinueLine,
+    DeleteLine,
+    BaseLine,
+    RowLine,
+    LabelLine,
+    MeshLine,
+    CubeLine,
+    NoPort,
+    NoLink,
+    NoContinuing,
+    NoCount,
+    NoFirst,
+    NoHeader,
+    NoBuffer,
+    NoBase,
+    NoLimit,
+    NoSelect,
+    MeshSize,
+    CubeSize,
+    NoName,
+    NameTaken,
+    NoSwitch,
+    NotASwitch,
+    NoTerminal,
+    NotATerminal,
+    SelfWire,
+    TerminalThere,
+    WireThere,
+    Switches,
+    Terminals,
+    Labels,
+    Rows,
+    Sizes,
+    Twice,
+    Mixed,
+}
+
+impl DescriptionMistake {
+    /// The sentence that tells it.
+    pub fn sentence(self) -> &'static str {
+        match self {
+            DescriptionMistake::TooLong => "a description has at most 1048576 bytes",
+            DescriptionMistake::ScriptsWord => {
+                "this is a word of scripts, and a description stands here; a line whose only word is \
+                 `script` has to stand before the script, or the script in a file of its own"
+            }
+            DescriptionMistake::ScriptBegins => {
+                "a description has no script here; leave out this line and what follows it, or give \
+                 the whole text to `c104 run` on standard input"
+            }
+            DescriptionMistake::ScriptLine => {
+                "the line before a script has one word, `script`, and nothing behind it"
+            }
+            DescriptionMistake::NoWord => {
+                "a line begins with `switch`, `terminal`, `wire`, `row`, `base`, `continue`, `delete`, \
+                 `header`, `buffer`, `label`, `mesh` or `cube`"
+            }
+            DescriptionMistake::WrongByte => {
+                "outside of a comment a byte is printable ASCII, a space, a tab or a carriage return"
+            }
+            DescriptionMistake::SwitchLine => "the line is `switch NAME`",
+            DescriptionMistake::TerminalLine => {
+                "the line is `terminal NAME SWITCH.LINK`, and behind it may stand `labels COUNT`, \
+                 `from FIRST`, or both in this order"
+            }
+            DescriptionMistake::WireLine => "the line is `wire SWITCH.LINK SWITCH.LINK`",
+            DescriptionMistake::HeaderLine => "the line is `header 1`",
+            DescriptionMistake::BufferLine => "the line is `buffer SIZE`",
+            DescriptionMistake::ContinueLine => "the line is `continue SWITCH.LINK`",
+            DescriptionMistake::DeleteLine => "the line is `delete TERMINAL`",
+            DescriptionMistake::BaseLine => "the line is `base SWITCH.LINK FIRST`",
+            DescriptionMistake::RowLine => "the line is `row SWITCH.LINK LIMIT SELECT`",
+            DescriptionMistake::LabelLine => "the line is `label tree SWITCH`",
+            DescriptionMistake::MeshLine => "the line is `mesh COLUMNS ROWS TERMINALS`",
+            DescriptionMistake::CubeLine => "the line is `cube DIMENSIONS TERMINALS`",
+            DescriptionMistake::NoPort => {
+                "a port is the name of a switch, a dot and a link, as A.0"
+            }
+            DescriptionMistake::NoLink => "a link is 0 to 31",
+            DescriptionMistake::NoContinuing => {
+                "a link that continues the group of the link before it is 1 to 31"
+            }
+            DescriptionMistake::NoCount => "a terminal has 1 to 65536 labels",
+            DescriptionMistake::NoFirst => "the first label is 0 to 65535",
+            DescriptionMistake::NoHeader => "a header has 1 byte",
+            DescriptionMistake::NoBuffer => {
+                "a buffer has room for 8, 16, 24, 32, 40, 48, 56 or 64 tokens"
+            }
+            DescriptionMistake::NoBase => "a base is 0 to 65535",
+            DescriptionMistake::NoLimit => "a limit is 0 to 65536",
+            DescriptionMistake::NoSelect => "a row selects a link, 0 to 31, or `sink`",
+            DescriptionMistake::MeshSize => {
+                "a mesh has 1 to 64 columns, 1 to 64 rows, and 1 to 28 terminals at each switch"
+            }
+            DescriptionMistake::CubeSize => {
+                "a cube has 0 to 6 dimensions, and 1 to 26 terminals at each switch"
+            }
+            DescriptionMistake::NoName => {
+                "a name is a letter and then letters, digits, `_` and `-`, at most 32 in all"
+            }
+            DescriptionMistake::NameTaken => "a switch or a terminal has this name already",
+            DescriptionMistake::NoSwitch => "no line before gives a switch this name",
+            DescriptionMistake::NotASwitch => "this is a terminal, and a switch is wanted",
+            DescriptionMistake::NoTerminal => "no line before gives a terminal this name",
+            DescriptionMistake::NotATerminal => "this is a switch, and a terminal is wanted",
+            DescriptionMistake::SelfWire => "a wire joins two switches, and both ends are one's",
+            DescriptionMistake::TerminalThere => "the link has a terminal already",
+            DescriptionMistake::WireThere => "the link has a wire already",
+            DescriptionMistake::Switches => "there are at most 64 switches",
+            DescriptionMistake::Terminals => "there are at most 256 terminals",
+            DescriptionMistake::Labels => {
+                "the labels of a terminal end at 65535 at most; without `from` they begin where those \
+                 of the terminal before end"
+            }
+            DescriptionMistake::Rows => "an input has at most 36 rows",
+            DescriptionMistake::Sizes => "there are at most 64 switches and 256 terminals",
+            DescriptionMistake::Twice => "this may be said once, and a line before says it",
+            DescriptionMistake::Mixed => {
+                "the line does not go with the lines before: beside `label` stands no `row`, `base`, \
+                 `continue` or `from`, and beside `mesh` or `cube` only `header`, `buffer` and `delete`"
+            }
+        }
+    }
+}

@@ -1,0 +1,317 @@
+//! What is told of a faulty description.
+
+use crate::description_mistakes::DescriptionMistake;
+use crate::nearest::{
+    is_script_word, nearest_description_word, nearest_switch, nearest_terminal,
+};
+use crate::words::{
+    Mistake, has_dot, has_link, is_within, link_of, name_of, names_switch, names_terminal,
+    unplain_word, word_at,
+};
+use c104_describe::{
+    Plan, PlanFault, PlanFaultKind, Port, cut_lines, cut_words, is_name, read_description,
+    uncommented,
+};
+use std::alloc::Global;
+
+/// The most terminals.
+const MAX_TERMINALS: usize = 256;
+
+/// What is told of a description with such a fault. None where the fault isn't this description's, and out
+/// of memory.
+pub fn description_message(alloc: Global, description: &[u8], fault: PlanFault) -> Option<String> {
+    if fault.line == 0 {
+        let mistake = Mistake::new(DescriptionMistake::TooLong.sentence(), None);
+        return mistake.text(alloc).ok();
+    }
+    let lines = cut_lines(alloc, description).ok()?;
+    let line = lines.as_slice().get(fault.line - 1)?;
+    let line = uncommented(line);
+    let words = cut_words(alloc, line).ok()?;
+    // The lines before have no fault.
+    let before = read_description(alloc, front_lines(description, fault.line - 1)).ok()?;
+    let mistake = find_mistake(fault.kind, words.as_slice(), &before);
+    mistake.text(alloc).ok()
+}
+
+/// So many lines of a text, with their line feeds.
+fn front_lines(text: &[u8], count: usize) -> &[u8] {
+    let mut left = count;
+    for (place, byte) in text.iter().enumerate() {
+        if left == 0 {
+            return &text[..place];
+        }
+        if *byte == b'\n' {
+            left -= 1;
+        }
+    }
+    text
+}
+
+/// The mistake of a line of these words.
+fn find_mistake<'a>(kind: PlanFaultKind, words: &[&'a [u8]], before: &'a Plan) -> Mistake<'a> {
+    match kind {
+        PlanFaultKind::TooLong | PlanFaultKind::NoMemory => told(DescriptionMistake::TooLong, None),
+        PlanFaultKind::UnknownWord => first_word_mistake(words),
+        PlanFaultKind::BadShape => shape_mistake(words),
+        PlanFaultKind::BadNumber => number_mistake(words),
+        PlanFaultKind::BadName => told(DescriptionMistake::NoName, unnamed(words)),
+        PlanFaultKind::NameTaken => told(DescriptionMistake::NameTaken, word_at(words, 1)),
+        PlanFaultKind::UnknownName => name_mistake(words, before),
+        PlanFaultKind::SelfWire => told(DescriptionMistake::SelfWire, word_at(words, 2)),
+        PlanFaultKind::LinkTaken => link_mistake(words, before),
+        PlanFaultKind::TooMany => count_mistake(words, before),
+        PlanFaultKind::Twice => told(DescriptionMistake::Twice, word_at(words, 0)),
+        PlanFaultKind::MixedStyle => told(DescriptionMistake::Mixed, word_at(words, 0)),
+    }
+}
+
+/// A mistake about a word.
+fn told(what: DescriptionMistake, word: Option<&[u8]>) -> Mistake<'_> {
+    Mistake::new(what.sentence(), word)
+}
+
+/// No line begins with the first word.
+fn first_word_mistake<'a>(words: &[&'a [u8]]) -> Mistake<'a> {
+    let word = word_at(words, 0);
+    let Some(first) = word else {
+        return told(DescriptionMistake::NoWord, word);
+    };
+    if is_script_word(first) {
+        return told(DescriptionMistake::ScriptsWord, word);
+    }
+    if first == b"script".as_slice() {
+        let what = if words.len() == 1 {
+            DescriptionMistake::ScriptBegins
+        } else {
+            DescriptionMistake::ScriptLine
+        };
+        return told(what, word_at(words, 1));
+    }
+    told(DescriptionMistake::NoWord, word).near(nearest_description_word(first))
+}
+
+/// What a line is that begins with the word, and how many words it has.
+fn form_of(first: &[u8]) -> (DescriptionMistake, usize) {
+    match first {
+        b"switch" => (DescriptionMistake::SwitchLine, 2),
+        b"terminal" => (DescriptionMistake::TerminalLine, 3),
+        b"wire" => (DescriptionMistake::WireLine, 3),
+        b"header" => (DescriptionMistake::HeaderLine, 2),
+        b"buffer" => (DescriptionMistake::BufferLine, 2),
+        b"continue" => (DescriptionMistake::ContinueLine, 2),
+        b"delete" => (DescriptionMistake::DeleteLine, 2),
+        b"base" => (DescriptionMistake::BaseLine, 3),
+        b"row" => (DescriptionMistake::RowLine, 4),
+        b"label" => (DescriptionMistake::LabelLine, 3),
+        b"mesh" => (DescriptionMistake::MeshLine, 4),
+        b"cube" => (DescriptionMistake::CubeLine, 3),
+        _ => (DescriptionMistake::NoWord, 0),
+    }
+}
+
+/// A wrong byte, a wrong count of words, or a port without a dot or with a second one.
+fn shape_mistake<'a>(words: &[&'a [u8]]) -> Mistake<'a> {
+    let wrong = unplain_word(words);
+    if wrong.is_some() {
+        return told(DescriptionMistake::WrongByte, wrong);
+    }
+    let Some(first) = word_at(words, 0) else {
+        return told(DescriptionMistake::NoWord, None);
+    };
+    let (form, count) = form_of(first);
+    let is_terminal = first == b"terminal".as_slice();
+    if words.len() == count || (is_terminal && words.len() > count) {
+        for port in ports_of(first, words) {
+            if let Some(port) = port
+                && !has_dot(port)
+            {
+                return told(DescriptionMistake::NoPort, Some(port));
+            }
+        }
+    }
+    told(form, Some(first))
+}
+
+/// The words of a line in which a port stands.
+fn ports_of<'a>(first: &[u8], words: &[&'a [u8]]) -> [Option<&'a [u8]>; 2] {
+    match first {
+        b"terminal" => [word_at(words, 2), None],
+        b"wire" => [word_at(words, 1), word_at(words, 2)],
+        b"continue" | b"base" | b"row" => [word_at(words, 1), None],
+        _ => [None, None],
+    }
+}
+
+/// A number that is none, or out of its range.
+fn number_mistake<'a>(words: &[&'a [u8]]) -> Mistake<'a> {
+    let Some(first) = word_at(words, 0) else {
+        return told(DescriptionMistake::NoWord, None);
+    };
+    for port in ports_of(first, words) {
+        if let Some(port) = port
+            && !has_link(port)
+        {
+            return told(DescriptionMistake::NoLink, Some(port));
+        }
+    }
+    match first {
+        b"terminal" => label_mistake(words),
+        b"continue" => told(DescriptionMistake::NoContinuing, word_at(words, 1)),
+        b"base" => told(DescriptionMistake::NoBase, word_at(words, 2)),
+        b"row" => row_mistake(words),
+        b"buffer" => told(DescriptionMistake::NoBuffer, word_at(words, 1)),
+        b"mesh" => told(DescriptionMistake::MeshSize, None),
+        b"cube" => told(DescriptionMistake::CubeSize, None),
+        _ => told(DescriptionMistake::NoHeader, word_at(words, 1)),
+    }
+}
+
+/// A count or a first label that is none.
+fn label_mistake<'a>(words: &[&'a [u8]]) -> Mistake<'a> {
+    let labels = b"labels".as_slice();
+    match words {
+        [_, _, _, word, count, ..] if *word == labels && !is_within(1, 65_536, count) => {
+            told(DescriptionMistake::NoCount, Some(*count))
+        }
+        [_, _, _, word, _, _, first, ..] if *word == labels => {
+            told(DescriptionMistake::NoFirst, Some(*first))
+        }
+        _ => told(DescriptionMistake::NoFirst, word_at(words, 4)),
+    }
+}
+
+/// A limit or a select that is none.
+fn row_mistake<'a>(words: &[&'a [u8]]) -> Mistake<'a> {
+    match word_at(words, 2) {
+        Some(limit) if !is_within(0, 65_536, limit) => {
+            told(DescriptionMistake::NoLimit, Some(limit))
+        }
+        _ => told(DescriptionMistake::NoSelect, word_at(words, 3)),
+    }
+}
+
+/// The word that is no name where one is wanted.
+fn unnamed<'a>(words: &[&'a [u8]]) -> Option<&'a [u8]> {
+    let first = word_at(words, 0)?;
+    if first == b"label".as_slice() {
+        return word_at(words, 2);
+    }
+    if matches!(first, b"switch" | b"terminal" | b"delete") {
+        let name = word_at(words, 1)?;
+        if !is_name(name) {
+            return Some(name);
+        }
+    }
+    for port in ports_of(first, words) {
+        if let Some(port) = port
+            && !is_name(name_of(port))
+        {
+            return Some(port);
+        }
+    }
+    None
+}
+
+/// A name that nothing has, or that something of another kind has.
+fn name_mistake<'a>(words: &[&'a [u8]], before: &'a Plan) -> Mistake<'a> {
+    let Some(first) = word_at(words, 0) else {
+        return told(DescriptionMistake::NoWord, None);
+    };
+    if first == b"delete".as_slice() {
+        return terminal_mistake(word_at(words, 1), before);
+    }
+    if first == b"label".as_slice() {
+        return root_mistake(word_at(words, 2), before);
+    }
+    for port in ports_of(first, words) {
+        if let Some(port) = port
+            && !names_switch(before, port)
+        {
+            return switch_mistake(port, before);
+        }
+    }
+    told(DescriptionMistake::NoSwitch, Some(first))
+}
+
+/// No switch has the name of the root of a tree.
+fn root_mistake<'a>(word: Option<&'a [u8]>, before: &'a Plan) -> Mistake<'a> {
+    let Some(name) = word else {
+        return told(DescriptionMistake::NoSwitch, None);
+    };
+    switch_mistake(name, before)
+}
+
+/// No terminal has the name.
+fn terminal_mistake<'a>(word: Option<&'a [u8]>, before: &'a Plan) -> Mistake<'a> {
+    let Some(name) = word else {
+        return told(DescriptionMistake::NoTerminal, None);
+    };
+    if names_switch(before, name) {
+        return told(DescriptionMistake::NotATerminal, word);
+    }
+    told(DescriptionMistake::NoTerminal, word).near(nearest_terminal(before, name))
+}
+
+/// No switch has the name before the dot.
+fn switch_mistake<'a>(port: &'a [u8], before: &'a Plan) -> Mistake<'a> {
+    if names_terminal(before, port) {
+        return told(DescriptionMistake::NotASwitch, Some(port));
+    }
+    told(DescriptionMistake::NoSwitch, Some(port)).near(nearest_switch(before, name_of(port)))
+}
+
+/// A link that is taken.
+fn link_mistake<'a>(words: &[&'a [u8]], before: &Plan) -> Mistake<'a> {
+    let Some(first) = word_at(words, 0) else {
+        return told(DescriptionMistake::NoWord, None);
+    };
+    for word in ports_of(first, words) {
+        let Some(port) = port_of(word, before) else {
+            continue;
+        };
+        if has_terminal(before, port) {
+            return told(DescriptionMistake::TerminalThere, word);
+        }
+        if has_wire(before, port) {
+            return told(DescriptionMistake::WireThere, word);
+        }
+    }
+    told(DescriptionMistake::WireThere, None)
+}
+
+/// The port that a word names.
+fn port_of(word: Option<&[u8]>, before: &Plan) -> Option<Port> {
+    let word = word?;
+    let switch = before.switch_number(name_of(word))?;
+    let link = link_of(word)?;
+    Some(Port::Switch(switch, link as usize))
+}
+
+/// Whether a terminal is on the port.
+fn has_terminal(before: &Plan, port: Port) -> bool {
+    before
+        .terminals()
+        .iter()
+        .any(|terminal| terminal.host_port().is_same(port))
+}
+
+/// Whether a wire is on the port.
+fn has_wire(before: &Plan, port: Port) -> bool {
+    before
+        .wires()
+        .iter()
+        .any(|wire| wire.here.is_same(port) || wire.there.is_same(port))
+}
+
+/// There are as many as there may be.
+fn count_mistake<'a>(words: &[&'a [u8]], before: &Plan) -> Mistake<'a> {
+    let word = word_at(words, 1);
+    match word_at(words, 0) {
+        Some(b"switch") => told(DescriptionMistake::Switches, word),
+        Some(b"row") => told(DescriptionMistake::Rows, word),
+        Some(b"mesh" | b"cube") => told(DescriptionMistake::Sizes, None),
+        _ if before.terminals().len() >= MAX_TERMINALS => told(DescriptionMistake::Terminals, word),
+        _ => told(DescriptionMistake::Labels, word),
+    }
+}

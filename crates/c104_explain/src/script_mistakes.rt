@@ -1,0 +1,100 @@
+//! The sentences about lines of a script.
+
+/// What is wrong with a script's line, or what was wanted there.
+#[derive(Clone, Copy, Debug)]
+pub enum ScriptMistake {
+    LineTooLong,
+    DescriptionsWord,
+    ScriptBegan,
+    NoWord,
+    WrongByte,
+    SendLine,
+    DrainLine,
+    CrossLine,
+    CreditLine,
+    InputLine,
+    ClaimLine,
+    ControlLine,
+    RoundsLine,
+    NoPort,
+    NoLink,
+    NoNumber,
+    NoRounds,
+    NoToken,
+    NoByte,
+    NoEnd,
+    AfterEnd,
+    PacketTooLong,
+    NoNode,
+    NotATerminal,
+    NotASwitch,
+    TerminalsLink,
+    SwitchsLink,
+    LinkMissing,
+    NoInput,
+    NotWired,
+    OutboxFull,
+    InboxFull,
+}
+
+impl ScriptMistake {
+    /// The sentence that tells it.
+    pub fn sentence(self) -> &'static str {
+        match self {
+            ScriptMistake::LineTooLong => "a line has at most 16384 bytes",
+            ScriptMistake::DescriptionsWord => {
+                "this is a word of descriptions, and the script stands here; a description ends before \
+                 the line `script`"
+            }
+            ScriptMistake::ScriptBegan => "the script has begun already",
+            ScriptMistake::NoWord => {
+                "a line begins with `send`, `drain`, `cross`, `credit`, `input`, `claim`, `control` or \
+                 `rounds`"
+            }
+            ScriptMistake::WrongByte => {
+                "outside of a comment a byte is printable ASCII, a space, a tab or a carriage return"
+            }
+            ScriptMistake::SendLine => "the line is `send TERMINAL PACKET`, as `send a 01 68 eop`",
+            ScriptMistake::DrainLine => "the line is `drain TERMINAL`",
+            ScriptMistake::CrossLine => "the line is `cross TERMINAL` or `cross SWITCH.LINK`",
+            ScriptMistake::CreditLine => "the line is `credit TERMINAL` or `credit SWITCH.LINK`",
+            ScriptMistake::InputLine => {
+                "the line is `input SWITCH.LINK`, and behind it a number may stand"
+            }
+            ScriptMistake::ClaimLine => "the line is `claim SWITCH INPUT OUTPUT`, as `claim A 0 1`",
+            ScriptMistake::ControlLine => {
+                "the line is `control SWITCH`, and behind it stand at most 8 bytes"
+            }
+            ScriptMistake::RoundsLine => "the line is `rounds COUNT`",
+            ScriptMistake::NoPort => "a port has one dot, as A.0",
+            ScriptMistake::NoLink => "a link is 0 to 31",
+            ScriptMistake::NoNumber => "a number is 1 to 7 decimal digits",
+            ScriptMistake::NoRounds => "the count of rounds is 1 to 10000",
+            ScriptMistake::NoToken => {
+                "a byte of a packet is two hexadecimal digits, 00 to ff, and its end is `eop` or `eom`"
+            }
+            ScriptMistake::NoByte => "a byte is two hexadecimal digits, 00 to ff",
+            ScriptMistake::NoEnd => "a packet ends with `eop` or `eom`",
+            ScriptMistake::AfterEnd => {
+                "a packet ends at its first `eop` or `eom`, and a line sends one packet"
+            }
+            ScriptMistake::PacketTooLong => "a packet has at most 4096 bytes",
+            ScriptMistake::NoNode => "no line of the description gives anything this name",
+            ScriptMistake::NotATerminal => "this is a switch, and a terminal is wanted",
+            ScriptMistake::NotASwitch => "this is a terminal, and a switch is wanted",
+            ScriptMistake::TerminalsLink => "a terminal is named without a link",
+            ScriptMistake::SwitchsLink => "the switch is named without a link here",
+            ScriptMistake::LinkMissing => {
+                "a switch has 32 links, and one of them is wanted, behind a dot, as A.0"
+            }
+            ScriptMistake::NoInput => "inputs and outputs are 0 to 31",
+            ScriptMistake::NotWired => "the link has neither a terminal nor a wire",
+            ScriptMistake::OutboxFull => {
+                "at most 65536 tokens wait at a terminal; give them rounds before more is sent"
+            }
+            ScriptMistake::InboxFull => {
+                "262144 tokens have arrived at a terminal, and it takes no more"
+            }
+        }
+    }
+}

@@ -1,0 +1,220 @@
+//! What is told of a script's line that is faulty or refused.
+
+use crate::nearest::{
+    is_description_word, nearest_script_word, nearest_switch, nearest_terminal,
+};
+use crate::script_mistakes::ScriptMistake;
+use crate::words::{
+    LAST_LINK, Mistake, has_dot, is_within, link_of, name_of, names_switch, names_terminal,
+    unplain_word, word_at,
+};
+use c104_describe::{Plan, cut_words, read_number, uncommented};
+use c104_event::EventFault;
+use c104_script::LineFault;
+use c104_token::read_byte;
+use std::alloc::Global;
+
+/// The most words of a control line.
+const MAX_CONTROL_WORDS: usize = 10;
+
+/// What is told of a faulty line. None out of memory.
+pub fn fault_message(alloc: Global, line: &[u8], fault: LineFault) -> Option<String> {
+    if fault == LineFault::LineTooLong {
+        return told(ScriptMistake::LineTooLong, None).text(alloc).ok();
+    }
+    let words = cut_words(alloc, uncommented(line)).ok()?;
+    find_fault(fault, words.as_slice()).text(alloc).ok()
+}
+
+/// What is told of a line that is refused. None out of memory.
+pub fn refusal_message(
+    alloc: Global,
+    plan: &Plan,
+    line: &[u8],
+    fault: EventFault,
+) -> Option<String> {
+    let words = cut_words(alloc, uncommented(line)).ok()?;
+    find_refusal(fault, words.as_slice(), plan).text(alloc).ok()
+}
+
+/// A mistake about a word.
+fn told(what: ScriptMistake, word: Option<&[u8]>) -> Mistake<'_> {
+    Mistake::new(what.sentence(), word)
+}
+
+/// The mistake of a faulty line of these words.
+fn find_fault<'a>(fault: LineFault, words: &[&'a [u8]]) -> Mistake<'a> {
+    match fault {
+        LineFault::LineTooLong | LineFault::NoMemory => told(ScriptMistake::LineTooLong, None),
+        LineFault::UnknownWord => first_word_mistake(word_at(words, 0)),
+        LineFault::BadShape => shape_mistake(words),
+        LineFault::BadNumber => number_mistake(words),
+        LineFault::BadHex => byte_mistake(words),
+        LineFault::NoEnd => told(ScriptMistake::NoEnd, words.last().copied()),
+        LineFault::AfterEnd => told(ScriptMistake::AfterEnd, word_after_end(words)),
+        LineFault::PacketTooLong => told(ScriptMistake::PacketTooLong, None),
+    }
+}
+
+/// No line begins with the word.
+fn first_word_mistake(word: Option<&[u8]>) -> Mistake<'_> {
+    let Some(first) = word else {
+        return told(ScriptMistake::NoWord, word);
+    };
+    if is_description_word(first) {
+        return told(ScriptMistake::DescriptionsWord, word);
+    }
+    if first == b"script".as_slice() {
+        return told(ScriptMistake::ScriptBegan, word);
+    }
+    told(ScriptMistake::NoWord, word).near(nearest_script_word(first))
+}
+
+/// What a line is that begins with the word.
+fn form_of(first: &[u8]) -> ScriptMistake {
+    match first {
+        b"send" => ScriptMistake::SendLine,
+        b"drain" => ScriptMistake::DrainLine,
+        b"cross" => ScriptMistake::CrossLine,
+        b"credit" => ScriptMistake::CreditLine,
+        b"input" => ScriptMistake::InputLine,
+        b"claim" => ScriptMistake::ClaimLine,
+        b"control" => ScriptMistake::ControlLine,
+        _ => ScriptMistake::RoundsLine,
+    }
+}
+
+/// Whether a line may have so many words.
+fn may_have(first: &[u8], count: usize) -> bool {
+    match first {
+        b"send" => count >= 2,
+        b"drain" | b"cross" | b"credit" | b"rounds" => count == 2,
+        b"input" => count == 2 || count == 3,
+        b"claim" => count == 4,
+        _ => 2 <= count && count <= MAX_CONTROL_WORDS,
+    }
+}
+
+/// A wrong byte, a wrong count of words, or a second dot.
+fn shape_mistake<'a>(words: &[&'a [u8]]) -> Mistake<'a> {
+    let wrong = unplain_word(words);
+    if wrong.is_some() {
+        return told(ScriptMistake::WrongByte, wrong);
+    }
+    let Some(first) = word_at(words, 0) else {
+        return told(ScriptMistake::NoWord, None);
+    };
+    if may_have(first, words.len()) {
+        return told(ScriptMistake::NoPort, word_at(words, 1));
+    }
+    told(form_of(first), Some(first))
+}
+
+/// A number that is none, or out of its range.
+fn number_mistake<'a>(words: &[&'a [u8]]) -> Mistake<'a> {
+    match words {
+        [b"rounds", count, ..] => told(ScriptMistake::NoRounds, Some(*count)),
+        [_, node, ..] if has_dot(node) && link_of(node).is_none() => {
+            told(ScriptMistake::NoLink, Some(*node))
+        }
+        [_, _, input, ..] if read_number(input).is_none() => {
+            told(ScriptMistake::NoNumber, Some(*input))
+        }
+        _ => told(ScriptMistake::NoNumber, word_at(words, 3)),
+    }
+}
+
+/// A word that is no byte.
+fn byte_mistake<'a>(words: &[&'a [u8]]) -> Mistake<'a> {
+    let is_packet = word_at(words, 0) == Some(b"send".as_slice());
+    let what = if is_packet {
+        ScriptMistake::NoToken
+    } else {
+        ScriptMistake::NoByte
+    };
+    let [_, _, bytes @ ..] = words else {
+        return told(what, None);
+    };
+    for word in bytes {
+        if read_byte(word).is_none() {
+            return told(what, Some(*word));
+        }
+    }
+    told(what, None)
+}
+
+/// The word behind the end of a packet.
+fn word_after_end<'a>(words: &[&'a [u8]]) -> Option<&'a [u8]> {
+    let mut is_over = false;
+    for word in words {
+        if is_over {
+            return Some(*word);
+        }
+        is_over = matches!(*word, b"eop" | b"eom");
+    }
+    None
+}
+
+/// The mistake of a refused line of these words.
+fn find_refusal<'a>(fault: EventFault, words: &[&'a [u8]], plan: &'a Plan) -> Mistake<'a> {
+    match fault {
+        EventFault::NoNode => node_mistake(words, plan),
+        EventFault::NoLink => link_mistake(words, plan),
+        EventFault::NotWired => told(ScriptMistake::NotWired, word_at(words, 1)),
+        EventFault::TooLong => told(ScriptMistake::PacketTooLong, None),
+        EventFault::OutboxFull => told(ScriptMistake::OutboxFull, word_at(words, 1)),
+        EventFault::InboxFull | EventFault::NoMemory => told(ScriptMistake::InboxFull, None),
+    }
+}
+
+/// A name that nothing has, or that something of another kind has.
+fn node_mistake<'a>(words: &[&'a [u8]], plan: &'a Plan) -> Mistake<'a> {
+    let [first, node, ..] = words else {
+        return told(ScriptMistake::NoNode, None);
+    };
+    let name = name_of(node);
+    match *first {
+        b"send" | b"drain" if names_switch(plan, node) => {
+            told(ScriptMistake::NotATerminal, Some(*node))
+        }
+        b"send" | b"drain" => {
+            told(ScriptMistake::NoNode, Some(*node)).near(nearest_terminal(plan, name))
+        }
+        b"cross" | b"credit" => {
+            let near = nearest_terminal(plan, name).or(nearest_switch(plan, name));
+            told(ScriptMistake::NoNode, Some(*node)).near(near)
+        }
+        _ if names_terminal(plan, node) => told(ScriptMistake::NotASwitch, Some(*node)),
+        _ => told(ScriptMistake::NoNode, Some(*node)).near(nearest_switch(plan, name)),
+    }
+}
+
+/// A link where none is wanted, none where one is, or a number past the last.
+fn link_mistake<'a>(words: &[&'a [u8]], plan: &Plan) -> Mistake<'a> {
+    let [first, node, rest @ ..] = words else {
+        return told(ScriptMistake::NoLink, None);
+    };
+    if names_terminal(plan, node) {
+        return told(ScriptMistake::TerminalsLink, Some(*node));
+    }
+    if matches!(*first, b"claim" | b"control") {
+        if has_dot(node) {
+            return told(ScriptMistake::SwitchsLink, Some(*node));
+        }
+        return told(ScriptMistake::NoInput, first_past(rest));
+    }
+    if has_dot(node) {
+        return told(ScriptMistake::NoLink, Some(*node));
+    }
+    told(ScriptMistake::LinkMissing, Some(*node))
+}
+
+/// The first number that is no link's.
+fn first_past<'a>(words: &[&'a [u8]]) -> Option<&'a [u8]> {
+    for word in words {
+        if !is_within(0, LAST_LINK, word) {
+            return Some(*word);
+        }
+    }
+    None
+}

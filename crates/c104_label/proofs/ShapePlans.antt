@@ -1,0 +1,16 @@
+-- How many switches a plan of a mesh or of a cube has.
+use Rattle.std.proofs.Common.{◌≡◌, ◌*◌, ◌^◌, ◌∙◌, ℕ, length, ap, subst}
+use Rattle.std.proofs.lemmas.List.FromFn.{length-map-range_with_len}
+use Rattle.c104_describe.specs.Layouts.{filled_name}
+use Rattle.c104_describe.specs.Plans.{IsOfShape, IsPlan, Plan}
+use Rattle.c104_describe.specs.declared.plans.Shape.TheVariants.{Mesh, Cube}
+
+pub mesh_switches : (plan : Plan) (w h p : ℕ) → IsPlan plan → plan.shape ≡ Mesh w h p → length plan.switches ≡ w * h
+mesh_switches plan w h p kept is =
+    let of : IsOfShape (Mesh w h p) plan = subst (λ s. IsOfShape s plan) is kept.shape in
+    ap length of.1.switches ∙ length-map-range_with_len filled_name 0 (w * h)
+
+pub cube_switches : (plan : Plan) (d p : ℕ) → IsPlan plan → plan.shape ≡ Cube d p → length plan.switches ≡ 2 ^ d
+cube_switches plan d p kept is =
+    let of : IsOfShape (Cube d p) plan = subst (λ s. IsOfShape s plan) is kept.shape in
+    ap length of.1.switches ∙ length-map-range_with_len filled_name 0 (2 ^ d)

@@ -1,0 +1,221 @@
+-- The rows of a tree's tables are in order, few and of links, and the tables are within the ranges of the registers.
+use Rattle.std.proofs.Common.{◌≡◌, ℕ, zero, suc, ◌<◌, ◌≤◌, ◌+◌, ◌-◌, inl, inr, ◌==◌, true, false, Bool, if◌then◌else◌, List, [], ◌∷◌, ◌++◌, length, map, get_or, slice_get, All, Option, Some, None, sym, ap, subst, ◌∙◌, arith}
+use Rattle.std.proofs.lemmas.List.{length-append}
+use Rattle.std.proofs.lemmas.List.Elements.{All-map}
+use Rattle.std.proofs.lemmas.List.FromFn.{get_or-range_with_len, length-range_with_len}
+use Rattle.std.proofs.lemmas.Option.{slice_get-get_or}
+use Rattle.std.specs.List.{range_with_len}
+use Rattle.c104_interval.specs.declared.intervals.Table.{Table}
+use Rattle.c104_regs.specs.Ranges.{IsTableInRange}
+use Rattle.c104_describe.specs.declared.ports.Port.{Port}
+use Rattle.c104_describe.specs.declared.ports.Port.TheVariants as port
+use Rattle.c104_describe.specs.declared.plans.Terminal.{Terminal}
+use Rattle.c104_describe.specs.Plans.{IsPlan, IsRange, Plan, host_port}
+use Rattle.c104_describe.specs.Wiring.{IsWiring}
+use Rattle.c104_label.specs.Forests.{Ends, Forest, Grown, IsSpanning, child, empty, ends_of, links, switches}
+use Rattle.c104_label.specs.LabelRows.{AreLabelRows}
+use Rattle.c104_label.specs.TreeLabels.{AreLinks, Net, Pieces, Place, all_pieces, child_pieces, first_at, forest_labels, labels_behind, labels_on, net_of, own_labels, own_pieces, piece, place_end, place_of, switch_table, tree_range, tree_rows}
+use Rattle.c104_label.specs.TreeImages.{AreTreeTables, plan_labels}
+use Rattle.c104_label.proofs.TreePlaces.{HasPlace, Stands, stands}
+use Rattle.c104_label.proofs.RowRanges.{rows_in_range}
+use Rattle.c104_label.proofs.TreeRows.{ArePieceLinks, label_rows, links-append, nonempty, nonempty-append, total-append, total_of}
+use Rattle.c104_label.proofs.TreeSelections.{own_small, selects_in_tree, table_is, terminal_at, total_children, total_own}
+
+-- all labels lie somewhere
+pieces_total : (net : Net) (total s : ℕ) (p : Place) → place_end (own_labels net) s p ≤ total → total_of (all_pieces net total s p) ≡ total
+unfolding own_labels
+pieces_total net total s p room =
+    let past = total - place_end (own_labels net) s p in
+    let a = total-append (own_pieces net s links) (child_pieces (own_labels net) p.below ++ (piece p.up past ∷ [])) in
+    let b = total-append (child_pieces (own_labels net) p.below) (piece p.up past ∷ []) in
+    let c = total_own net s links in
+    let d = total_children (own_labels net) p.below in
+    omega (arith, a, b, c, d, room)
+
+-- their links are links
+
+links_below : (n k : ℕ) (net : Net) (s : ℕ) → k + n ≤ 32 → ArePieceLinks (own_pieces net s (range_with_len k n))
+links_below zero k net s small = tt
+links_below (suc n) k net s small = (omega (arith, small), links_below n (k + 1) net s (omega (arith, small)))
+
+own_are_links : (net : Net) (s : ℕ) → ArePieceLinks (own_pieces net s links)
+unfolding links
+own_are_links net s = links_below 32 0 net s (omega arith)
+
+children_are_links : (own : ℕ → ℕ) (f : Forest) → AreLinks f → ArePieceLinks (child_pieces own f)
+children_are_links own empty are = tt
+children_are_links own (child l r b below rest) are = (are.0, children_are_links own rest are.3)
+
+pieces_links : (net : Net) (total s : ℕ) (p : Place) → p.up < 32 → AreLinks p.below → ArePieceLinks (all_pieces net total s p)
+pieces_links net total s p up are = (
+  up,
+  links-append (own_pieces net s links) (child_pieces (own_labels net) p.below ++ (piece p.up (total - place_end (own_labels net) s p) ∷ [])) (own_are_links net s)
+      (links-append (child_pieces (own_labels net) p.below) (piece p.up (total - place_end (own_labels net) s p) ∷ []) (children_are_links (own_labels net) p.below are) (up, tt)),
+)
+
+-- the links of a tree are links of switches
+pub grown_links : (plan : Plan) → IsWiring plan → (f : Forest) (seen ls : List ℕ) (s : ℕ) → Grown (ends_of plan) seen s ls f → AreLinks f
+grown_links plan wiring empty seen ls s grown = tt
+grown_links plan wiring (child l r b below rest) seen ls s (before, after, split, passed, at, new, down, on) =
+    let here = wiring.inside (port.Switch s l) (port.Switch r b) at in
+    let far = wiring.inside (port.Switch r b) (port.Switch s l) (wiring.back (port.Switch s l) (port.Switch r b) at) in (
+      here.1,
+      far.1,
+      grown_links plan wiring below (seen ++ (r ∷ [])) links r down,
+      grown_links plan wiring rest ((seen ++ (r ∷ [])) ++ switches below) after s on,
+    )
+
+-- at most 34 of them have labels: those of the parent, and each link has a terminal or leads to a subtree, or neither
+
+abbrev is_terminal : Option Port → ℕ
+is_terminal None = 0
+is_terminal (Some (port.Terminal t)) = 1
+is_terminal (Some (port.Switch r b)) = 0
+
+abbrev terminals_on : Ends → ℕ → List ℕ → ℕ
+terminals_on ends s [] = 0
+terminals_on ends s (l ∷ ls) = is_terminal (ends s l) + terminals_on ends s ls
+
+at_most_one : (b : Bool) → (if b then 0 else 1) ≤ 1
+at_most_one true = omega arith
+at_most_one false = omega arith
+
+own_end : (counts : ℕ → ℕ) (o : Option Port) → (if labels_behind counts o == 0 then 0 else 1) ≤ is_terminal o
+own_end counts None = omega arith
+own_end counts (Some (port.Terminal t)) = at_most_one (counts t == 0)
+own_end counts (Some (port.Switch r b)) = omega arith
+
+own_few : (net : Net) (s : ℕ) (ls : List ℕ) → nonempty (own_pieces net s ls) ≤ terminals_on net.ends s ls
+own_few net s [] = omega arith
+own_few net s (l ∷ ls) = let a = own_end net.counts (net.ends s l) in let b = own_few net s ls in omega (arith, a, b)
+
+abbrev subtrees : Forest → ℕ
+subtrees empty = 0
+subtrees (child l r b below rest) = suc (subtrees rest)
+
+children_few : (own : ℕ → ℕ) (f : Forest) → nonempty (child_pieces own f) ≤ subtrees f
+children_few own empty = omega arith
+children_few own (child l r b below rest) = let a = at_most_one (own r + forest_labels own below == 0) in let c = children_few own rest in omega (arith, a, c)
+
+end_few : (o : Option Port) → is_terminal o ≤ 1
+end_few None = omega arith
+end_few (Some (port.Terminal t)) = omega arith
+end_few (Some (port.Switch r b)) = omega arith
+
+terminals_few : (ends : Ends) (s : ℕ) (ls : List ℕ) → terminals_on ends s ls ≤ length ls
+terminals_few ends s [] = omega arith
+terminals_few ends s (l ∷ ls) = let a = end_few (ends s l) in let b = terminals_few ends s ls in omega (arith, a, b)
+
+terminals-append : (ends : Ends) (s : ℕ) (before after : List ℕ) → terminals_on ends s (before ++ after) ≡ terminals_on ends s before + terminals_on ends s after
+terminals-append ends s [] after = omega arith
+terminals-append ends s (l ∷ before) after = let e = terminals-append ends s before after in omega (arith, e)
+
+links_shared : (ends : Ends) (f : Forest) (seen ls : List ℕ) (s : ℕ) → Grown ends seen s ls f → terminals_on ends s ls + subtrees f ≤ length ls
+links_shared ends empty seen ls s grown = let e = terminals_few ends s ls in omega (arith, e)
+links_shared ends (child l r b below rest) seen ls s (before, after, is, passed, at, new, down, on) =
+    let more = links_shared ends rest ((seen ++ (r ∷ [])) ++ switches below) after s on in
+    let front = terminals_few ends s before in
+    let none : is_terminal (ends s l) ≡ 0 = ap is_terminal at in
+    let sum = terminals-append ends s before (l ∷ after) in
+    let long = length-append before (l ∷ after) in
+    let whole = ap length is in
+    let same = ap (terminals_on ends s) is in
+    omega (arith, more, front, none, sum, long, whole, same)
+
+links_long : length links ≡ 32
+unfolding links
+links_long = length-range_with_len 0 32
+
+rows_few : (net : Net) (total s : ℕ) (p : Place) (seen : List ℕ) → Grown net.ends seen s links p.below → nonempty (all_pieces net total s p) ≤ 36
+rows_few net total s p seen grown =
+    let past = total - place_end (own_labels net) s p in
+    let last : Pieces = piece p.up past ∷ [] in
+    let b = nonempty-append (own_pieces net s links) (child_pieces (own_labels net) p.below ++ last) in
+    let c = nonempty-append (child_pieces (own_labels net) p.below) last in
+    let d = own_few net s links in
+    let e = children_few (own_labels net) p.below in
+    let f = at_most_one (p.first == 0) in
+    let g = at_most_one (past == 0) in
+    let h = links_shared net.ends p.below seen links s grown in
+    let long = links_long in
+    omega (arith, b, c, d, e, f, g, h, long)
+
+-- a plan's tree, switch by switch
+
+module _ (plan : Plan) (wiring : IsWiring plan) (root : ℕ) (forest : Forest) (spans : IsSpanning plan root forest) where
+  abbrev own : ℕ → ℕ
+  own = own_labels (net_of plan)
+
+  abbrev total : ℕ
+  total = plan_labels plan root forest
+
+  pub standing : (s : ℕ) → s < length plan.switches → HasPlace (ends_of plan) own root forest s
+  standing s inside = stands (ends_of plan) own root forest s spans.depth_first (spans.all s inside)
+
+  -- the root's link upwards is 0, and any other is wired
+  up_small : (s : ℕ) (p : Place) → Stands (ends_of plan) own root forest s p → p.up < 32
+  up_small s p at = elim at.up [
+    | inl top ↦ omega (arith, top)
+    | inr wired ↦
+        let back = wiring.back (port.Switch wired.0 wired.1) (port.Switch s p.up) wired.2 in
+        (wiring.inside (port.Switch s p.up) (port.Switch wired.0 wired.1) back).1
+  ]
+
+  pub place_links : (s : ℕ) (p : Place) → Stands (ends_of plan) own root forest s p → (p.up < 32) × AreLinks p.below
+  place_links s p at = (up_small s p at, grown_links plan wiring p.below at.grown.0 links s at.grown.1)
+
+  pub rows_are : (s : ℕ) (p : Place) → Stands (ends_of plan) own root forest s p → AreLabelRows total (tree_rows (net_of plan) total s p)
+  unfolding tree_rows
+  rows_are s p at =
+      let are = place_links s p at in
+      label_rows total (all_pieces (net_of plan) total s p) (pieces_total (net_of plan) total s p at.room) (pieces_links (net_of plan) total s p are.0 are.1) (rows_few (net_of plan) total s p at.grown.0 at.grown.1)
+
+  pub tree_tables : AreTreeTables plan root forest
+  unfolding AreTreeTables
+  tree_tables s inside =
+      let known = standing s inside in (
+        known.0,
+        known.1.found,
+        table_is plan root forest s known.0 wiring known.1,
+        rows_are s known.0 known.1,
+        selects_in_tree plan root forest s known.0 wiring known.1,
+      )
+
+  -- each table is within the ranges of its registers
+  table_in_range : (s : ℕ) → s < length plan.switches → total ≤ 65536 → IsTableInRange (switch_table plan root forest s)
+  table_in_range s inside few =
+      let known = standing s inside in
+      rw (table_is plan root forest s known.0 wiring known.1) (rows_in_range total (tree_rows (net_of plan) total s known.0) (rows_are s known.0 known.1) few)
+
+  pub tables_in_range : (tables : List Table) → tables ≡ map (switch_table plan root forest) (range_with_len 0 (length plan.switches)) → total ≤ 65536 → All IsTableInRange tables
+  tables_in_range tables is few = rw is (All-map IsTableInRange (switch_table plan root forest) (range_with_len 0 (length plan.switches)) (λ k d inside.
+      let below : k < length plan.switches = omega (arith, inside, length-range_with_len 0 (length plan.switches)) in
+      let at : get_or (range_with_len 0 (length plan.switches)) k d ≡ k = get_or-range_with_len 0 (length plan.switches) k d below ∙ omega arith in
+      rw at (table_in_range k below few)))
+
+  -- and each range is one of labels
+  range_in : (k : ℕ) (t : Terminal) → slice_get plan.terminals k ≡ Some t → IsRange t.first t.count → total ≤ 65536 → IsRange (tree_range plan root forest t).0 (tree_range plan root forest t).1
+  unfolding tree_range
+  range_in k t is has few =
+      let end = terminal_at plan k t wiring is in
+      let host = wiring.host k t is in
+      let inside = wiring.inside (port.Switch t.switch t.link) (port.Terminal k) (wiring.back (port.Terminal k) (host_port t) host) in
+      let known = standing t.switch inside.0 in
+      let p : Place = known.0 in
+      let first_is : first_at (net_of plan) t.switch t.link (place_of own root forest t.switch) ≡ p.first + labels_on (net_of plan) t.switch (range_with_len 0 t.link) = ap (first_at (net_of plan) t.switch t.link) known.1.found in
+      let room = own_small plan root forest t.switch p wiring known.1 t.link end.0 in
+      let count_is = end.1 in
+      let whole = known.1.room in
+      (has.0, omega (arith, first_is, room, count_is, whole, few))
+
+  pub ranges_are : (ranges : List (ℕ × ℕ)) → IsPlan plan → ranges ≡ map (tree_range plan root forest) plan.terminals → total ≤ 65536 → All (λ (range : ℕ × ℕ). IsRange range.0 range.1) ranges
+  ranges_are ranges kept is few = rw is (All-map (λ (range : ℕ × ℕ). IsRange range.0 range.1) (tree_range plan root forest) plan.terminals (λ k d inside.
+      range_in k (get_or plan.terminals k d) (slice_get-get_or plan.terminals k d inside) (kept.terminals.ranges k d inside) few))
+
+  -- a place that was found is that of its switch
+  pub place_known : (s : ℕ) (p : Place) → s < length plan.switches → place_of own root forest s ≡ Some p → Stands (ends_of plan) own root forest s p
+  place_known s p inside is =
+      let known = standing s inside in
+      let one : Some known.0 ≡ Some p = sym known.1.found ∙ is in
+      let same : known.0 ≡ p = cc in
+      subst (Stands (ends_of plan) own root forest s) same known.1

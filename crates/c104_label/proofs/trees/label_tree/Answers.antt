@@ -1,0 +1,13 @@
+use Rattle.std.proofs.Common.{arith}
+use Rattle.c104_label.specs.Trees.{forest_of}
+use Rattle.c104_label.proofs.TreeSteps.{most_small}
+use Rattle.c104_label.proofs.trees.label_tree.Goals as goal
+
+pub tree_image-requires : goal.tree_image-requires
+tree_image-requires c = record {
+  tree = c.in_ok-forest.ensures.tree;
+  few = omega (arith, c.label_sum.ensures, c.most_labels.ensures.value, most_small c.args.plan.now);
+}
+
+pub returns-clause-image : goal.returns-clause-image
+returns-clause-image c = (forest_of c.in_ok-forest.forest, c.in_ok-image.ensures.image)

@@ -1,0 +1,53 @@
+-- The image of a plan: that of its own lines, or that of the labels of its shape.
+use Rattle.std.specs.Prelude.{ℕ, ◌≡◌, ◌*◌, ◌^◌, map}
+use Rattle.std.specs.List.{range_with_len}
+use Rattle.c104_describe.specs.Plans.{Plan}
+use Rattle.c104_describe.specs.declared.plans.Shape.{Shape}
+use Rattle.c104_describe.specs.declared.plans.Shape.TheVariants.{Hand, Tree, Mesh, Cube}
+use Rattle.c104_describe.specs.LabelledImages.{labelled_image}
+use Rattle.c104_describe.specs.PlanImage.{Image, hand_image, range_of}
+use Rattle.c104_label.specs.declared.faults.LabelFault.{LabelFault}
+use Rattle.c104_label.specs.declared.faults.LabelFault.TheVariants as fault
+use Rattle.c104_label.specs.Forests.{Forest}
+use Rattle.c104_label.specs.CubeLabels.{AreCubeTables, cube_table}
+use Rattle.c104_label.specs.MeshLabels.{AreMeshTables, mesh_table}
+use Rattle.c104_label.specs.TreeImages.{IsLabelCause, IsTreeImage}
+
+-- the image of a plan whose switches have the tables of a mesh, which are right
+pub record IsMeshImage (plan : Plan) (width height terminals : ℕ) (image : Image) : Type 0 where
+  pub is : image ≡ labelled_image plan (map range_of plan.terminals) (map (mesh_table width height terminals) (range_with_len 0 (width * height)))
+  pub tables : AreMeshTables width height terminals
+
+-- the image of a plan whose switches have the tables of a cube, which are right
+pub record IsCubeImage (plan : Plan) (dimensions terminals : ℕ) (image : Image) : Type 0 where
+  pub is : image ≡ labelled_image plan (map range_of plan.terminals) (map (cube_table dimensions terminals) (range_with_len 0 (2 ^ dimensions)))
+  pub tables : AreCubeTables dimensions terminals
+
+-- an image of a plan that is to be of this shape
+abbrev pub IsImageBy : Shape → Plan → Image → Type 0
+IsImageBy Hand plan image = image ≡ hand_image plan
+IsImageBy (Tree root) plan image = (forest : Forest) × IsTreeImage plan root forest image
+IsImageBy (Mesh width height terminals) plan image = IsMeshImage plan width height terminals image
+IsImageBy (Cube dimensions terminals) plan image = IsCubeImage plan dimensions terminals image
+
+-- the image of a plan
+abbrev pub IsImageOf : Plan → Image → Type 0
+IsImageOf plan image = IsImageBy plan.shape plan image
+
+-- want of memory, of which nothing is said, and nothing else
+abbrev pub IsNoMemory : LabelFault → Type 0
+IsNoMemory fault.NotConnected = ⊥
+IsNoMemory fault.TooManyLabels = ⊥
+IsNoMemory fault.WrongShape = ⊥
+IsNoMemory fault.NoMemory = Unit {0}
+
+-- why a plan that is to be of this shape has no image
+abbrev pub IsCauseBy : Shape → Plan → LabelFault → Type 0
+IsCauseBy Hand plan why = IsNoMemory why
+IsCauseBy (Tree root) plan why = IsLabelCause plan root why
+IsCauseBy (Mesh width height terminals) plan why = IsNoMemory why
+IsCauseBy (Cube dimensions terminals) plan why = IsNoMemory why
+
+-- why a plan has no image
+abbrev pub IsImageCause : Plan → LabelFault → Type 0
+IsImageCause plan why = IsCauseBy plan.shape plan why

@@ -1,0 +1,19 @@
+use Rattle.std.proofs.Common.{◌∙◌, ℕ, map, sym}
+use Rattle.c104_crossbar.specs.Groups.{has_bit}
+use Rattle.c104_net.specs.Network.{network_of}
+use Rattle.c104_net.proofs.PortWalks.{below_links, if_some, passed_link}
+use Rattle.c104_net.proofs.rounds.ports.next_link.Goals as goal
+
+pub returns-clause-passed : goal.returns-clause-passed
+returns-clause-passed g c = λ l after below.
+    let inside = below_links c.args.from l _ c.next_ready_at.result c.next_ready_at.ensures.1 below in
+    passed_link g.T.TokenKind.kind (network_of c.args.wires.now (map g.P.Place.state c.args.places.now)) c.args.part c.args.switch l c.linked-among.result (c.linked-among.ensures.linked l inside) (c.linked-among.ensures.wired l inside) (λ is. c.next_ready_at.ensures.0 l after below is)
+
+pub returns-clause-found : goal.returns-clause-found
+returns-clause-found g c = if_some _ _ c.next_ready_at.result (λ l is. (is.0, is.1)) c.next_ready_at.ensures.1
+
+pub returns-clause-wired : goal.returns-clause-wired
+returns-clause-wired g c = if_some _ _ c.next_ready_at.result (λ l is. c.linked-among.ensures.wired l is.1 is.2) c.next_ready_at.ensures.1
+
+pub returns-clause-linked : goal.returns-clause-linked
+returns-clause-linked g c = if_some _ _ c.next_ready_at.result (λ l is. sym (c.linked-among.ensures.linked l is.1) ∙ is.2) c.next_ready_at.ensures.1

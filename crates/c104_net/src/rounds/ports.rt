@@ -1,0 +1,166 @@
+//! The parts of a round that are about ports. Those of a switch are walked by the sets of its links, so
+//! that none is asked of which it is known that it isn't ready.
+//!
+//! All of it is inlined, since each part is a code of its own.
+ghost use Rattle.std.specs.Prelude.{◌≡◌, ◌<◌, ◌≤◌, ℕ, None, false, true, flat_map, length, map, unwrap_or, IfSome, Ok};
+ghost use Rattle.c104_describe.specs.declared.ports.Port.TheVariants as port;
+ghost use Rattle.c104_regs.specs.declared.registers.TheConstants.{LINKS};
+ghost use Rattle.c104_net.specs.Network.{network_of, wired_fault};
+ghost use Rattle.c104_net.specs.PortParts.{port_events, wired_events};
+ghost use Rattle.std.specs.List.{range_with_len};
+ghost use Rattle.c104_net.specs.Rounds.{is_wired, wired_links, wired_ports, wired_terminals};
+ghost use Rattle.c104_net.specs.RoundParts.{PartEnds};
+
+use super::attempts::{try_credit, try_cross, try_turn};
+use crate::place::Place;
+use crate::places::next_ready_at;
+use crate::port_part::PortPart;
+use crate::wires::Wires;
+use c104_event::{EventFault, Port};
+use c104_token::TokenKind;
+
+/// The events of a part at all wired ports.
+#[inline(always)]
+pub fn walk_ports<T: TokenKind, P: Place<T>>(
+    wires: &Wires,
+    places: &mut [P],
+    part: PortPart,
+) -> Result<bool, EventFault>
+    ensures { PartEnds T.kind
+        (network_of wires.now (map P.state places.old))
+        (flat_map (port_events part) (wired_ports wires.now))
+        result (network_of wires.now (map P.state places.new)) }
+{
+    let of_switches = walk_switches(wires, places, part)?;
+    let of_terminals = walk_terminals(wires, places, part)?;
+    Ok(of_switches | of_terminals)
+}
+
+/// The events of a part at the wired links of the switches.
+#[inline(always)]
+fn walk_switches<T: TokenKind, P: Place<T>>(
+    wires: &Wires,
+    places: &mut [P],
+    part: PortPart,
+) -> Result<bool, EventFault>
+    ensures { PartEnds T.kind
+        (network_of wires.now (map P.state places.old))
+        (flat_map (port_events part)
+        (flat_map (wired_links wires.now) (range_with_len 0 (length wires.now.switches))))
+        result (network_of wires.now (map P.state places.new)) }
+{
+    let mut changed = false;
+    let switches = wires.plan().switches().len();
+    for switch in 0..switches {
+        let done = walk_links(wires, places, part, switch)?;
+        changed |= done;
+    }
+    Ok(changed)
+}
+
+/// The events of a part at the wired links of a switch.
+#[inline(always)]
+fn walk_links<T: TokenKind, P: Place<T>>(
+    wires: &Wires,
+    places: &mut [P],
+    part: PortPart,
+    switch: usize,
+) -> Result<bool, EventFault>
+    requires { switch < length wires.now.switches }
+    ensures { PartEnds T.kind
+        (network_of wires.now (map P.state places.old))
+        (flat_map (port_events part) (wired_links wires.now switch))
+        result (network_of wires.now (map P.state places.new)) }
+{
+    let mut changed = false;
+    let mut from = 0;
+    while let Some(link) = next_link(wires, places, part, switch, from) {
+        let done = try_at(wires, places, part, Port::Switch(switch, link))?;
+        changed |= done;
+        from = link + 1;
+    }
+    Ok(changed)
+}
+
+/// The next wired link of a switch, from this one on, that may be ready for its event of a part.
+#[inline(always)]
+fn next_link<T: TokenKind, P: Place<T>>(
+    wires: &Wires,
+    places: &[P],
+    part: PortPart,
+    switch: usize,
+    from: usize,
+) -> Option<usize>
+    requires { switch < length wires.now.switches }
+    ensures passed { (l : ℕ) → from ≤ l → l < unwrap_or result LINKS → PartEnds T.kind
+        (network_of wires.now (map P.state places.now))
+        (wired_events wires.now part (port.Switch switch l))
+        (Ok false) (network_of wires.now (map P.state places.now)) }
+    ensures found { IfSome result (λ l. (from ≤ l) × (l < LINKS)) }
+    ensures wired { IfSome result (λ l. wired_fault wires.now (port.Switch switch l) ≡ None) }
+    ensures linked { IfSome result (λ l. is_wired wires.now (port.Switch switch l) ≡ true) }
+{
+    let among = wires.linked(switch);
+    next_ready_at(places, switch, part, from, among)
+}
+
+/// The events of a part at the wired terminals.
+#[inline(always)]
+fn walk_terminals<T: TokenKind, P: Place<T>>(
+    wires: &Wires,
+    places: &mut [P],
+    part: PortPart,
+) -> Result<bool, EventFault>
+    ensures { PartEnds T.kind
+        (network_of wires.now (map P.state places.old))
+        (flat_map (port_events part) (wired_terminals wires.now))
+        result (network_of wires.now (map P.state places.new)) }
+{
+    let mut changed = false;
+    let terminals = wires.plan().terminals().len();
+    for terminal in 0..terminals {
+        let done = try_terminal(wires, places, part, terminal)?;
+        changed |= done;
+    }
+    Ok(changed)
+}
+
+/// The event of a part at a terminal, if it is wired.
+#[inline(always)]
+fn try_terminal<T: TokenKind, P: Place<T>>(
+    wires: &Wires,
+    places: &mut [P],
+    part: PortPart,
+    terminal: usize,
+) -> Result<bool, EventFault>
+    requires { terminal < length wires.now.terminals }
+    ensures { PartEnds T.kind
+        (network_of wires.now (map P.state places.old))
+        (wired_events wires.now part (port.Terminal terminal))
+        result (network_of wires.now (map P.state places.new)) }
+{
+    if !wires.is_linked(terminal) {
+        return Ok(false);
+    }
+    try_at(wires, places, part, Port::Terminal(terminal))
+}
+
+/// The event of a part at a port.
+#[inline(always)]
+fn try_at<T: TokenKind, P: Place<T>>(
+    wires: &Wires,
+    places: &mut [P],
+    part: PortPart,
+    port: Port,
+) -> Result<bool, EventFault>
+    requires { wired_fault wires.now port ≡ None }
+    ensures { PartEnds T.kind
+        (network_of wires.now (map P.state places.old)) (port_events part port)
+        result (network_of wires.now (map P.state places.new)) }
+{
+    match part {
+        PortPart::Credit => try_credit(wires, places, port),
+        PortPart::Cross => try_cross(wires, places, port),
+        PortPart::Turn => try_turn(wires, places, port),
+    }
+}

@@ -1,0 +1,40 @@
+-- The links of a set as the bits of a word.
+use Rattle.std.proofs.Common.{◌≡◌, ◌<◌, ◌≤◌, ◌==◌, ◌-◌, ◌^◌, ◌*◌, ◌%◌, ℕ, ◌&&◌, Bool, true, false, min, inl, inr, refl, sym, ap, ◌∙◌, arith}
+use Rattle.std.specs.Prelude.{bit_and}
+use Rattle.std.specs.Int.{bit_at}
+use Rattle.std.proofs.lemmas.Bool.{cases_lt}
+use Rattle.std.proofs.lemmas.Nat.Bits.{bit_at_and, bit_at-lt, bit_at_mask_inside, bit_at_mask_below, ones_shl}
+use Rattle.c104_crossbar.specs.Groups.{has_bit}
+
+-- two bits are both one where the least of them and of a one is
+by_bits : (a b : ℕ) → a < 2 → b < 2 → min (min a b) 1 ≡ 0 → ((a == 1) && (b == 1)) ≡ false
+by_bits a b low high none = elim (cases_lt a 1) [
+  | inl zero ↦ let is : a ≡ 0 = omega arith in rw is refl
+  | inr one ↦ elim (cases_lt b 1) [
+    | inl zero ↦ let is : b ≡ 0 = omega arith in let both : a ≡ 1 = omega arith in rw (is, both) refl
+    | inr two ↦ absurd (omega arith)
+  ]
+]
+
+module _ (word other from : ℕ) (inside : from < 32) where
+  -- those bits that two words have, from one on
+  abbrev pub left : ℕ
+  left = bit_and (bit_and word other) ((2 ^ 32 - 1) * 2 ^ from % 2 ^ 32)
+
+  left_bit : (l : ℕ) → bit_at left l ≡ min (min (bit_at word l) (bit_at other l)) (bit_at (2 ^ 32 - 2 ^ from) l)
+  left_bit l = bit_at_and (bit_and word other) ((2 ^ 32 - 1) * 2 ^ from % 2 ^ 32) l ∙ ap (λ m. min m (bit_at ((2 ^ 32 - 1) * 2 ^ from % 2 ^ 32) l)) (bit_at_and word other l) ∙ ap (λ m. min (min (bit_at word l) (bit_at other l)) (bit_at m l)) (ones_shl 32 from (omega arith))
+
+  -- one of them that isn't there is in one of the words alone, or in none
+  pub not_both : (l : ℕ) → from ≤ l → l < 32 → bit_at left l ≡ 0 → (has_bit word l && has_bit other l) ≡ false
+  not_both l after below none = by_bits (bit_at word l) (bit_at other l) (bit_at-lt word l) (bit_at-lt other l) (ap (min (min (bit_at word l) (bit_at other l))) (sym (bit_at_mask_inside from 32 l after below)) ∙ sym (left_bit l) ∙ none)
+
+  -- one that is there is in both, and not before
+  pub in_both : (l : ℕ) → bit_at left l ≡ 1 → (from ≤ l) × ((has_bit word l && has_bit other l) ≡ true)
+  in_both l is = elim (cases_lt l from) [
+    | inl before ↦ absurd (let none = bit_at_mask_below from 32 l before in let same = left_bit l in omega arith)
+    | inr after ↦
+        let same = left_bit l in
+        let first : bit_at word l ≡ 1 = let low = bit_at-lt word l in omega arith in
+        let second : bit_at other l ≡ 1 = let low = bit_at-lt other l in omega arith in
+        (after, rw (first, second) refl)
+  ]

@@ -1,0 +1,195 @@
+-- A reason that is told holds: it says what is so of the switch.
+use Rattle.std.proofs.Common.{◌≡◌, ◌<◌, ◌≤◌, ◌+◌, ◌||◌, ℕ, suc, Bool, true, false, List, [], ◌∷◌, length, Option, Some, None, IfSome, IsSomeAnd, nat_lt, nat_le, if◌then◌else◌, slice_get, inl, inr, refl, subst, arith}
+use Rattle.std.proofs.lemmas.Bool.Decides.{nat_tests}
+use Rattle.std.proofs.lemmas.Option.{slice_get_cases}
+use Rattle.c104_link.specs.Buffers.{Incoming, Outgoing}
+use Rattle.c104_regs.specs.declared.settings.Settings.{Settings}
+use Rattle.c104_switch.specs.Group.{is_in_group}
+use Rattle.c104_switch.specs.Phases.{is_stream}
+use Rattle.c104_switch.specs.Switch.{Phase, Fresh, Head, Want, Stream, Sinking, Input, Switch}
+use Rattle.c104_switch.specs.Views.{owner_from}
+use Rattle.c104_switch.specs.declared.actions.ActionOf.{ActionOf}
+use Rattle.c104_switch.specs.declared.actions.ActionOf.TheVariants as action
+use Rattle.c104_switch.specs.declared.unready.Unready.{Unready}
+use Rattle.c104_switch.specs.declared.unready.Unready.TheVariants.{NoLink, NotStarted, NoToken, NoCredit, NotGranted, NoRoom, CreditFull, WantsOutput, OutputFull, WantsNothing, OutsideGroup, Owned, NoRoomForHeader}
+use Rattle.c104_switch.specs.Reasons.{unless, why_at, accept_why, take_why, grant_why, emit_why, credited_why, has_room, phase_why, turn_why, owned_why, header_why, wanted_why, switch_why}
+use Rattle.c104_switch.specs.ReasonMeanings.{IsClaimReason, IsTurnReason, IsReason}
+
+module _ (P : Unready → Type 0) where
+  -- the condition doesn't hold, or a later one doesn't
+  pub unless_says : (holds : Bool) (reason : Unready) (later : Option Unready) → (holds ≡ false → P reason) → (holds ≡ true → IfSome later P) → IfSome (unless holds reason later) P
+  unless_says true reason later fails goes = goes refl
+  unless_says false reason later fails goes = fails refl
+
+  pub at_says : {X : Type 0} (xs : List X) (l : ℕ) (why : X → Option Unready) → (length xs ≤ l → P NoLink) → ((x : X) → slice_get xs l ≡ Some x → IfSome (why x) P) → IfSome (why_at xs l why) P
+  at_says {X} xs l why past here = by_found (slice_get xs l) refl
+    where
+      by_found : (found : Option X) → slice_get xs l ≡ found → IfSome (why_at xs l why) P
+      by_found (Some x) is = rw is (here x is)
+      by_found None is = rw is (past (grind (arith, slice_get_cases)))
+
+  module _ {A : Type 0} where
+    pub accept_says : (b : Incoming A) → (b.granted ≡ 0 → P NotGranted) → IfSome (accept_why b) P
+    accept_says b fails = unless_says (nat_lt 0 b.granted) NotGranted None (λ is. fails (grind (arith, nat_tests))) (λ is. tt)
+
+    pub grant_says : (b : Incoming A) → (b.cap < length b.items + b.granted + 8 → P NoRoom) → IfSome (grant_why b) P
+    grant_says b fails = unless_says (nat_le (length b.items + b.granted + 8) b.cap) NoRoom None (λ is. fails (grind (arith, nat_tests))) (λ is. tt)
+
+    empty : (xs : List A) → nat_lt 0 (length xs) ≡ false → xs ≡ []
+    empty [] is = refl
+    empty (x ∷ xs) is = let fails : nat_lt 0 (length (x ∷ xs)) ≡ true = grind (arith, nat_tests) in absurd (cc)
+
+    pub take_says : (b : Incoming A) → (b.items ≡ [] → P NoToken) → IfSome (take_why b) P
+    take_says b fails = unless_says (nat_lt 0 (length b.items)) NoToken None (λ is. fails (empty b.items is)) (λ is. tt)
+
+    pub emit_says : (q : Outgoing A) → (q.items ≡ [] → P NoToken) → (0 < length q.items → q.credit ≡ 0 → P NoCredit) → IfSome (emit_why q) P
+    emit_says q no_token no_credit = unless_says (nat_lt 0 (length q.items)) NoToken (unless (nat_lt 0 q.credit) NoCredit None)
+        (λ is. no_token (empty q.items is))
+        (λ some. unless_says (nat_lt 0 q.credit) NoCredit None (λ is. no_credit (grind (arith, nat_tests)) (grind (arith, nat_tests))) (λ is. tt))
+
+    pub credited_says : (q : Outgoing A) → (64 < q.credit + 8 → P CreditFull) → IfSome (credited_why q) P
+    credited_says q fails = unless_says (nat_le (q.credit + 8) 64) CreditFull None (λ is. fails (grind (arith, nat_tests))) (λ is. tt)
+
+    full : (qs : List (Outgoing A)) (o : ℕ) → has_room qs o ≡ false → (q : Outgoing A) → slice_get qs o ≡ Some q → 8 ≤ length q.items
+    full qs o is q at = let test : has_room qs o ≡ nat_lt (length q.items) 8 = rw at refl in let fails : nat_lt (length q.items) 8 ≡ false = cc in grind (arith, nat_tests)
+
+    phase_says : (qs : List (Outgoing A)) (phase : Phase (List A)) → ((b : List A) (g : ℕ) → phase ≡ Want b g → P (WantsOutput g))
+        → ((o : ℕ) → phase ≡ Stream o → ((q : Outgoing A) → slice_get qs o ≡ Some q → 8 ≤ length q.items) → P (OutputFull o)) → IfSome (phase_why qs phase) P
+    phase_says qs Fresh wants streams = tt
+    phase_says qs (Head b) wants streams = tt
+    phase_says qs (Want b g) wants streams = wants b g refl
+    phase_says qs (Stream o) wants streams = unless_says (has_room qs o) (OutputFull o) None (λ is. streams o refl (full qs o is)) (λ is. tt)
+    phase_says qs Sinking wants streams = tt
+
+-- so it is at the place where the element is
+and_here : {X : Type 0} (xs : List X) (l : ℕ) (x : X) (P : X → Type 0) → slice_get xs l ≡ Some x → P x → IsSomeAnd (slice_get xs l) P
+and_here xs l x P is holds = rw is holds
+
+module _ {A : Type 0} where
+  -- the owner that is found streams to the output; it was looked for from n on
+  streams_to : (p : Input A) (o : ℕ) (phase : Phase (List A)) → p.phase ≡ phase → is_stream o p.phase ≡ true → p.phase ≡ Stream o
+  streams_to p o (Stream d) is test = let same : d ≡ o = grind (arith, nat_tests, is, test) in cc
+  streams_to p o Fresh is test = absurd (let fails : is_stream o p.phase ≡ false = rw is refl in cc)
+  streams_to p o (Head b) is test = absurd (let fails : is_stream o p.phase ≡ false = rw is refl in cc)
+  streams_to p o (Want b g) is test = absurd (let fails : is_stream o p.phase ≡ false = rw is refl in cc)
+  streams_to p o Sinking is test = absurd (let fails : is_stream o p.phase ≡ false = rw is refl in cc)
+
+  -- the place of the owner, behind those that were passed
+  record OwnerAt (n : ℕ) (ps : List (Input A)) (o k : ℕ) : Type 0 where
+    place : ℕ
+    is : k ≡ n + place
+    owns : IsSomeAnd (slice_get ps place) (λ (p : Input A). p.phase ≡ Stream o)
+
+  owner_next : (n : ℕ) (p : Input A) (ps : List (Input A)) (o k : ℕ) (streams : Bool) → is_stream o p.phase ≡ streams → (owner_from (suc n) ps o ≡ Some k → OwnerAt (suc n) ps o k) → (if streams then Some n else owner_from (suc n) ps o) ≡ Some k → OwnerAt n (p ∷ ps) o k
+  owner_next n p ps o k true streams rest found = record { place = 0; is = let same : n ≡ k = cc in omega (arith, same); owns = streams_to p o p.phase refl streams }
+  owner_next n p ps o k false streams rest found = let later : OwnerAt (suc n) ps o k = rest found in record { place = suc later.place; is = let at : k ≡ suc n + later.place = later.is in omega (arith, at); owns = later.owns }
+
+  owner_at : (n : ℕ) (ps : List (Input A)) (o k : ℕ) → owner_from n ps o ≡ Some k → OwnerAt n ps o k
+  owner_at n [] o k is = absurd (cc is)
+  owner_at n (p ∷ ps) o k is = owner_next n p ps o k (is_stream o p.phase) refl (owner_at (suc n) ps o k) is
+
+  owner_says : (ps : List (Input A)) (o k : ℕ) → owner_from 0 ps o ≡ Some k → IsSomeAnd (slice_get ps k) (λ (p : Input A). p.phase ≡ Stream o)
+  owner_says ps o k is = let found : OwnerAt 0 ps o k = owner_at 0 ps o k is in let at : k ≡ 0 + found.place = found.is in let same : found.place ≡ k = omega (arith, at) in subst (λ place. IsSomeAnd (slice_get ps place) (λ (p : Input A). p.phase ≡ Stream o)) same found.owns
+
+module _ {A : Type 0} (s : Switch A) where
+  abbrev Holds : ActionOf A → Type 0
+  Holds a = IfSome (switch_why s a) (IsReason s a)
+
+  enter_holds : (l : ℕ) (x : A) → Holds (action.Enter l x)
+  enter_holds l x = at_says (IsReason s (action.Enter l x)) s.inputs l (λ p. accept_why p.buffer)
+      (λ past. past)
+      (λ p is. accept_says (IsReason s (action.Enter l x)) p.buffer (and_here s.inputs l p (λ (p : Input A). p.buffer.granted ≡ 0) is))
+
+  leave_holds : (l : ℕ) → Holds (action.Leave l)
+  leave_holds l = at_says (IsReason s (action.Leave l)) s.outputs l emit_why
+      (λ past. past)
+      (λ q is. emit_says (IsReason s (action.Leave l)) q
+      (and_here s.outputs l q (λ (q : Outgoing A). q.items ≡ []) is)
+      (λ some none. and_here s.outputs l q (λ (q : Outgoing A). (0 < length q.items) × (q.credit ≡ 0)) is (some, none)))
+
+  credit_out_holds : (l : ℕ) → Holds (action.CreditOut l)
+  credit_out_holds l = at_says (IsReason s (action.CreditOut l)) s.inputs l (λ p. unless s.started NotStarted (grant_why p.buffer))
+      (λ past. past)
+      (λ p is. unless_says (IsReason s (action.CreditOut l)) s.started NotStarted (grant_why p.buffer) (λ fails. fails)
+      (λ goes. grant_says (IsReason s (action.CreditOut l)) p.buffer (and_here s.inputs l p (λ (p : Input A). p.buffer.cap < length p.buffer.items + p.buffer.granted + 8) is)))
+
+  credit_in_holds : (l : ℕ) → Holds (action.CreditIn l)
+  credit_in_holds l = at_says (IsReason s (action.CreditIn l)) s.outputs l credited_why
+      (λ past. past)
+      (λ q is. credited_says (IsReason s (action.CreditIn l)) q (and_here s.outputs l q (λ (q : Outgoing A). 64 < q.credit + 8) is))
+
+  input_holds : (l word : ℕ) → Holds (action.Input l word)
+  input_holds l word = at_says (IsReason s (action.Input l word)) s.settings l (λ t. why_at s.inputs l (λ p. unless s.started NotStarted (turn_why s.outputs p)))
+      (λ past. inl past)
+      (λ t set. at_says (IsReason s (action.Input l word)) s.inputs l (λ p. unless s.started NotStarted (turn_why s.outputs p))
+      (λ past. inr past)
+      (λ p is. unless_says (IsReason s (action.Input l word)) s.started NotStarted (turn_why s.outputs p) (λ fails. fails)
+      (λ goes. unless_says (IsReason s (action.Input l word)) (nat_lt 0 (length p.buffer.items)) NoToken (phase_why s.outputs p.phase)
+      (λ none. and_here s.inputs l p (λ (p : Input A). p.buffer.items ≡ []) is (empty (IsReason s (action.Input l word)) p.buffer.items none))
+      (λ some. phase_says (IsReason s (action.Input l word)) s.outputs p.phase
+      (λ b g wants. and_here s.inputs l p (λ p. IsTurnReason s.outputs p (WantsOutput g)) is (b, wants))
+      (λ o streams no_room. and_here s.inputs l p (λ p. IsTurnReason s.outputs p (OutputFull o)) is (streams, no_room))))))
+
+  module _ (i o : ℕ) (p : Input A) (t : Settings) (q : Outgoing A) (is : slice_get s.inputs i ≡ Some p) (set : slice_get s.settings o ≡ Some t) (at : slice_get s.outputs o ≡ Some q) where
+    abbrev Says : Unready → Type 0
+    Says = IsReason s (action.Claim i o)
+
+    claims : (reason : Unready) → IsClaimReason s o p reason → IsSomeAnd (slice_get s.inputs i) (λ p. IsClaimReason s o p reason)
+    claims reason holds = and_here s.inputs i p (λ p. IsClaimReason s o p reason) is holds
+
+    kept : (room : Bool) → (t.delete_header || room) ≡ false → t.delete_header ≡ false
+    kept room is = by_delete t.delete_header is
+      where
+        by_delete : (deletes : Bool) → (deletes || room) ≡ false → deletes ≡ false
+        by_delete true is = absurd (cc is)
+        by_delete false is = refl
+
+    short : (room : Bool) → (t.delete_header || room) ≡ false → room ≡ false
+    short room is = by_delete t.delete_header is
+      where
+        by_delete : (deletes : Bool) → (deletes || room) ≡ false → room ≡ false
+        by_delete true is = absurd (cc is)
+        by_delete false is = is
+
+    header_says : (b : List A) (g : ℕ) → p.phase ≡ Want b g → IfSome (header_why t b q) Says
+    header_says b g wants = unless_says Says (t.delete_header || nat_le (length q.items + length b) 8) NoRoomForHeader None
+        (λ fails. claims NoRoomForHeader (
+          b,
+          g,
+          wants,
+          and_here s.outputs o q (λ (q : Outgoing A). 8 < length q.items + length b) at (let test : nat_le (length q.items + length b) 8 ≡ false = short (nat_le (length q.items + length b) 8) fails in grind (arith, nat_tests)),
+          and_here s.settings o t (λ (t : Settings). t.delete_header ≡ false) set (kept (nat_le (length q.items + length b) 8) fails),
+        ))
+        (λ goes. tt)
+
+    owned_says : (b : List A) (g : ℕ) → p.phase ≡ Want b g → (owner : Option ℕ) → owner_from 0 s.inputs o ≡ owner → IfSome (owned_why owner (header_why t b q)) Says
+    owned_says b g wants None owner = header_says b g wants
+    owned_says b g wants (Some k) owner = claims (Owned k) (owner_says s.inputs o k owner)
+
+    wanted_says : (phase : Phase (List A)) → p.phase ≡ phase → IfSome (wanted_why s.settings o (owner_from 0 s.inputs o) t q phase) Says
+    wanted_says (Want b g) wants = unless_says Says (is_in_group s.settings g o) (OutsideGroup g) (owned_why (owner_from 0 s.inputs o) (header_why t b q))
+        (λ fails. claims (OutsideGroup g) (b, wants, fails))
+        (λ goes. owned_says b g wants (owner_from 0 s.inputs o) refl)
+    wanted_says Fresh has = claims WantsNothing (rw has refl)
+    wanted_says (Head b) has = claims WantsNothing (rw has refl)
+    wanted_says (Stream d) has = claims WantsNothing (rw has refl)
+    wanted_says Sinking has = claims WantsNothing (rw has refl)
+
+  claim_holds : (i o : ℕ) → Holds (action.Claim i o)
+  claim_holds i o = at_says (IsReason s (action.Claim i o)) s.inputs i (λ p. why_at s.settings o (λ t. why_at s.outputs o (λ q. unless s.started NotStarted (wanted_why s.settings o (owner_from 0 s.inputs o) t q p.phase))))
+      (λ past. inl past)
+      (λ p is. at_says (IsReason s (action.Claim i o)) s.settings o (λ t. why_at s.outputs o (λ q. unless s.started NotStarted (wanted_why s.settings o (owner_from 0 s.inputs o) t q p.phase)))
+      (λ past. inr (inl past))
+      (λ t set. at_says (IsReason s (action.Claim i o)) s.outputs o (λ q. unless s.started NotStarted (wanted_why s.settings o (owner_from 0 s.inputs o) t q p.phase))
+      (λ past. inr (inr past))
+      (λ q at. unless_says (IsReason s (action.Claim i o)) s.started NotStarted (wanted_why s.settings o (owner_from 0 s.inputs o) t q p.phase) (λ fails. fails)
+      (λ goes. wanted_says i o p t q is set at p.phase refl))))
+
+  pub reason_holds : (a : ActionOf A) → IfSome (switch_why s a) (IsReason s a)
+  reason_holds (action.Enter l x) = enter_holds l x
+  reason_holds (action.Leave l) = leave_holds l
+  reason_holds (action.CreditOut l) = credit_out_holds l
+  reason_holds (action.CreditIn l) = credit_in_holds l
+  reason_holds (action.Input l word) = input_holds l word
+  reason_holds (action.Claim i o) = claim_holds i o
+  reason_holds (action.Control bytes) = tt

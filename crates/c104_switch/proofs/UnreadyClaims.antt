@@ -1,0 +1,114 @@
+-- A claim has no reason exactly where it can be made.
+use Rattle.std.proofs.Common.{◌≡◌, ◌∙◌, ℕ, ◌+◌, not, Bool, true, false, List, length, Option, Some, None, nat_le, slice_get, is_some, is_none, refl, sym, ap}
+use Rattle.c104_link.specs.Steps.{◌>>=◌, ◌>>◌, require}
+use Rattle.c104_link.specs.Buffers.{Outgoing}
+use Rattle.c104_regs.specs.declared.settings.Settings.{Settings}
+use Rattle.c104_switch.specs.Group.{is_in_group}
+use Rattle.c104_switch.specs.Switch.{Phase, Fresh, Head, Want, Stream, Sinking, Input, Switch, is_owned}
+use Rattle.c104_switch.specs.Claims.{input_claim, switch_claim}
+use Rattle.c104_switch.specs.Views.{owner_from}
+use Rattle.c104_switch.specs.Reasons.{wanted_why, claim_why}
+use Rattle.c104_switch.proofs.Owners.{owner_found}
+
+module _ {A : Type 0} where
+  -- an input claims what no input owns, in its phase
+  module _ (settings : List Settings) (p : Input A) (qs : List (Outgoing A)) (o : ℕ) (t : Settings) (q : Outgoing A) (set : slice_get settings o ≡ Some t) (at : slice_get qs o ≡ Some q) where
+    abbrev tried : Option ℕ → Phase (List A) → Option (Input A × List (Outgoing A))
+    tried owner phase = require (not (is_some owner)) >> input_claim settings p qs o phase
+
+    abbrev IsTold : Option ℕ → Phase (List A) → Type 0
+    IsTold owner phase = is_none (wanted_why settings o owner t q phase) ≡ is_some (tried owner phase)
+
+    by_room : (b : List A) (g : ℕ) → is_in_group settings g o ≡ true → (deletes room : Bool) → t.delete_header ≡ deletes → nat_le (length q.items + length b) 8 ≡ room → IsTold None (Want b g)
+    by_room b g joined true room deletes is = rw (joined, set, at, deletes) refl
+    by_room b g joined false true keeps is = rw (joined, set, at, keeps, is) refl
+    by_room b g joined false false keeps is = rw (joined, set, at, keeps, is) refl
+
+    by_group : (b : List A) (g : ℕ) (owner : Option ℕ) (joined : Bool) → is_in_group settings g o ≡ joined → IsTold owner (Want b g)
+    by_group b g None true is = by_room b g is t.delete_header (nat_le (length q.items + length b) 8) refl refl
+    by_group b g None false is = rw is refl
+    by_group b g (Some k) true is = rw is refl
+    by_group b g (Some k) false is = rw is refl
+
+    wanted_ready : (owner : Option ℕ) (phase : Phase (List A)) → IsTold owner phase
+    wanted_ready owner (Want b g) = by_group b g owner (is_in_group settings g o) refl
+    wanted_ready None Fresh = refl
+    wanted_ready (Some k) Fresh = refl
+    wanted_ready None (Head b) = refl
+    wanted_ready (Some k) (Head b) = refl
+    wanted_ready None (Stream d) = refl
+    wanted_ready (Some k) (Stream d) = refl
+    wanted_ready None Sinking = refl
+    wanted_ready (Some k) Sinking = refl
+
+  -- no input claims an output that isn't there
+  module _ (settings : List Settings) (p : Input A) (qs : List (Outgoing A)) (o : ℕ) where
+    unset : slice_get settings o ≡ None → (phase : Phase (List A)) → input_claim settings p qs o phase ≡ None
+    unset none Fresh = refl
+    unset none (Head b) = refl
+    unset none (Want b g) = by_group (is_in_group settings g o) refl
+      where
+        by_group : (joined : Bool) → is_in_group settings g o ≡ joined → input_claim settings p qs o (Want b g) ≡ None
+        by_group true is = rw (is, none) refl
+        by_group false is = rw is refl
+    unset none (Stream d) = refl
+    unset none Sinking = refl
+
+    absent : (t : Settings) → slice_get settings o ≡ Some t → slice_get qs o ≡ None → (phase : Phase (List A)) → input_claim settings p qs o phase ≡ None
+    absent t set none Fresh = refl
+    absent t set none (Head b) = refl
+    absent t set none (Want b g) = by_group (is_in_group settings g o) refl
+      where
+        by_group : (joined : Bool) → is_in_group settings g o ≡ joined → input_claim settings p qs o (Want b g) ≡ None
+        by_group true is = rw (is, set, none) refl
+        by_group false is = rw is refl
+    absent t set none (Stream d) = refl
+    absent t set none Sinking = refl
+
+module _ {A : Type 0} (s : Switch A) (i o : ℕ) where
+  abbrev claims : Input A → Option (Input A × List (Outgoing A))
+  claims p = input_claim s.settings p s.outputs o p.phase
+
+  abbrev owner : Option ℕ
+  owner = owner_from 0 s.inputs o
+
+  -- a claim is made where the switch is started and the input, if there is one, claims what isn't owned
+  made_none : (started owned : Bool) (found : Option (Input A)) → s.started ≡ started → is_owned s.inputs o ≡ owned → slice_get s.inputs i ≡ found → found >>= claims ≡ None → is_some (switch_claim s i o) ≡ false
+  made_none true true found start own is none = rw (start, own) refl
+  made_none false owned found start own is none = rw start refl
+  made_none true false None start own is none = rw (start, own, is) refl
+  made_none true false (Some p) start own is none = rw (start, own, is, none) refl
+
+  made_not : (found : Option (Input A)) → slice_get s.inputs i ≡ found → found >>= claims ≡ None → is_some (switch_claim s i o) ≡ false
+  made_not found is none = made_none s.started (is_owned s.inputs o) found refl refl is none
+
+  made_some : (p : Input A) → s.started ≡ true → slice_get s.inputs i ≡ Some p → is_some (require (not (is_owned s.inputs o)) >> claims p) ≡ is_some (switch_claim s i o)
+  made_some p start is = by_made (is_owned s.inputs o) (claims p) refl refl
+    where
+      by_made : (owned : Bool) (made : Option (Input A × List (Outgoing A))) → is_owned s.inputs o ≡ owned → claims p ≡ made → is_some (require (not (is_owned s.inputs o)) >> claims p) ≡ is_some (switch_claim s i o)
+      by_made true made own claim = rw (start, own) refl
+      by_made false None own claim = rw (start, own, is, claim) refl
+      by_made false (Some r) own claim = rw (start, own, is, claim) refl
+
+  pub claim_ready : is_none (claim_why s i o) ≡ is_some (switch_claim s i o)
+  claim_ready = by_input (slice_get s.inputs i) refl
+    where
+      by_started : (p : Input A) (t : Settings) (q : Outgoing A) → slice_get s.inputs i ≡ Some p → slice_get s.settings o ≡ Some t → slice_get s.outputs o ≡ Some q → (started : Bool) → s.started ≡ started → is_none (claim_why s i o) ≡ is_some (switch_claim s i o)
+      by_started p t q is set at false start = rw (is, set, at, start) refl
+      by_started p t q is set at true start =
+          let told : is_none (wanted_why s.settings o owner t q p.phase) ≡ is_some (require (not (is_some owner)) >> claims p) = wanted_ready s.settings p s.outputs o t q set at owner p.phase in
+          let tried : is_some (require (not (is_some owner)) >> claims p) ≡ is_some (switch_claim s i o) = ap (λ owned. is_some (require (not owned) >> claims p)) (owner_found 0 s.inputs o) ∙ made_some p start is in
+          let why : is_none (claim_why s i o) ≡ is_none (wanted_why s.settings o owner t q p.phase) = rw (is, set, at, start) refl in
+          why ∙ told ∙ tried
+
+      by_output : (p : Input A) (t : Settings) → slice_get s.inputs i ≡ Some p → slice_get s.settings o ≡ Some t → (found : Option (Outgoing A)) → slice_get s.outputs o ≡ found → is_none (claim_why s i o) ≡ is_some (switch_claim s i o)
+      by_output p t is set (Some q) at = by_started p t q is set at s.started refl
+      by_output p t is set None at = let why : is_none (claim_why s i o) ≡ false = rw (is, set, at) refl in why ∙ sym (made_not (Some p) is (absent s.settings p s.outputs o t set at p.phase))
+
+      by_settings : (p : Input A) → slice_get s.inputs i ≡ Some p → (found : Option Settings) → slice_get s.settings o ≡ found → is_none (claim_why s i o) ≡ is_some (switch_claim s i o)
+      by_settings p is (Some t) set = by_output p t is set (slice_get s.outputs o) refl
+      by_settings p is None set = let why : is_none (claim_why s i o) ≡ false = rw (is, set) refl in why ∙ sym (made_not (Some p) is (unset s.settings p s.outputs o set p.phase))
+
+      by_input : (found : Option (Input A)) → slice_get s.inputs i ≡ found → is_none (claim_why s i o) ≡ is_some (switch_claim s i o)
+      by_input (Some p) is = by_settings p is (slice_get s.settings o) refl
+      by_input None is = let why : is_none (claim_why s i o) ≡ false = rw is refl in why ∙ sym (made_not None is refl)

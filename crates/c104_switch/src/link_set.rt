@@ -1,0 +1,66 @@
+//! Sets of links.
+ghost use Rattle.std.specs.Prelude.{◌≡◌, ◌≢◌, ◌<◌, ◌&&◌, ℕ, false};
+ghost use Rattle.c104_crossbar.specs.Groups.{has_bit};
+ghost use Rattle.c104_regs.specs.declared.registers.TheConstants.{LINKS};
+ghost use Rattle.c104_switch.specs.Claims.{IsNextLink};
+
+use crate::LINKS;
+use std::marker::Model;
+
+/// A set of a switch's links, whose numbers are 0 to 31.
+#[derive(Clone, Copy)]
+pub struct LinkSet {
+    // The bit of each link that is in the set.
+    word: u32,
+}
+
+impl Model for LinkSet {
+    ghost use Rattle.std.specs.Prelude.{ℕ};
+
+    ghost Value = { ℕ };
+
+    ghost view = { λ set. set.word };
+
+    ghost inverse = { λ word. record { word = word } };
+}
+
+impl LinkSet {
+    /// A set of no link.
+    pub fn new() -> Self
+        ensures { (l : ℕ) → has_bit result l ≡ false }
+    {
+        LinkSet { word: 0 }
+    }
+
+    /// Puts a link into the set or takes it out. A switch has no link of number 32 or more.
+    #[inline(always)]
+    pub fn set(&mut self, link: usize, is_in: bool)
+        ensures here { link < LINKS → has_bit self.new link ≡ is_in }
+        ensures others { (l : ℕ) → l < LINKS → l ≢ link → has_bit self.new l ≡ has_bit self.old l }
+    {
+        if link >= LINKS {
+            return;
+        }
+        let bit = 1u32 << link;
+        if is_in {
+            self.word |= bit;
+        } else {
+            self.word &= !bit;
+        }
+    }
+
+    /// The next link, from this one on, that is in this set and in another.
+    #[inline(always)]
+    pub fn next(&self, from: usize, other: LinkSet) -> Option<usize>
+        ensures { IsNextLink (λ l. has_bit self.now l && has_bit other l) from result }
+    {
+        if from >= LINKS {
+            return None;
+        }
+        let left = self.word & other.word & (u32::MAX << from);
+        if left == 0 {
+            return None;
+        }
+        Some(left.trailing_zeros() as usize)
+    }
+}
