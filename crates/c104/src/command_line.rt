@@ -154,7 +154,8 @@ const EXPLAIN: &str = "explain";
 /// The same, as a word of the command line.
 pub const EXPLAIN_WORD: &str = "--explain";
 
-const EXPLAIN_HELP: &str = "Tells on standard error what is wrong with a line, and what didn't arrive;
+const EXPLAIN_HELP: &str =
+    "Tells on standard error what is wrong with a line, and what didn't arrive;
 so it is without this where standard error is a terminal";
 
 /// The names of arguments, as help shows them.

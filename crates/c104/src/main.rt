@@ -10,8 +10,10 @@ mod command_line;
 mod sources;
 mod told;
 
-pub use c104_commands::{Status, check_command, label_command, run, run_text};
-pub use c104_commands::{check_explained, label_explained, run_explained, run_text_explained};
+pub use c104_commands::{
+    Status, check_command, check_explained, label_command, label_explained, run, run_explained,
+    run_text, run_text_explained,
+};
 use clap::error::ErrorKind;
 use command_line::{Order, Words};
 use sources::Source;
@@ -86,12 +88,7 @@ fn do_order(rt: &HostRuntime, order: Order<'_>, told: &mut Told<'_>) -> Status {
 }
 
 /// Runs two files. Both are opened, the description's first, before anything is read.
-fn run_files(
-    rt: &HostRuntime,
-    description: &str,
-    script: &str,
-    told: &mut Told<'_>,
-) -> Status {
+fn run_files(rt: &HostRuntime, description: &str, script: &str, told: &mut Told<'_>) -> Status {
     let opened: io::Result<HostSource> = Source::open(rt, description);
     let Ok(mut description) = opened else {
         return Status::CannotRead(0);
@@ -115,12 +112,7 @@ fn check_file(rt: &HostRuntime, description: &str, told: &mut Told<'_>) -> Statu
     let Ok(mut description) = opened else {
         return Status::CannotRead(0);
     };
-    check_explained(
-        rt.alloc(),
-        &mut description,
-        &mut io::writer(rt),
-        told,
-    )
+    check_explained(rt.alloc(), &mut description, &mut io::writer(rt), told)
 }
 
 /// Labels the network of a description's file.
@@ -129,12 +121,7 @@ fn label_file(rt: &HostRuntime, description: &str, told: &mut Told<'_>) -> Statu
     let Ok(mut description) = opened else {
         return Status::CannotRead(0);
     };
-    label_explained(
-        rt.alloc(),
-        &mut description,
-        &mut io::writer(rt),
-        told,
-    )
+    label_explained(rt.alloc(), &mut description, &mut io::writer(rt), told)
 }
 
 /// Says on standard error what failed, and gives the exit status.

@@ -157,7 +157,15 @@ fn run_setup<S: Read, W: Write, M: Messages>(
         (W.contents writer.old) (W.contents writer.new) result }
     ensures of_script { (n : ℕ) → result ≡ status.CannotRead n → n ≡ 1 }
 {
-    match run_plan_explained(alloc, &setup.plan, &setup.image, ahead, script, writer, messages) {
+    match run_plan_explained(
+        alloc,
+        &setup.plan,
+        &setup.image,
+        ahead,
+        script,
+        writer,
+        messages,
+    ) {
         Ok(false) => Status::Done,
         Ok(true) => Status::Refused,
         Err(halt) => Status::of_halt(halt, 1),

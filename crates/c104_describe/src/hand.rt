@@ -109,12 +109,7 @@ fn is_of_switch(port: Port, switch: usize) -> bool
 /// What is set at a port of a switch, by rows among which are those of the port, and by links that continue
 /// groups, among which the port is if it does.
 #[tactic(auto, unfolding(crate::specs::PlanImage::settings_of))]
-pub(crate) fn settings_of(
-    plan: &Plan,
-    rows: &[PlanRow],
-    continues: &[Port],
-    port: Port,
-) -> Settings
+pub(crate) fn settings_of(plan: &Plan, rows: &[PlanRow], continues: &[Port], port: Port) -> Settings
     requires rows { rows_of port rows.now ≡ rows_of port plan.now.rows }
     requires continues { is_any_at (λ q. q) continues.now port ≡ is_continued plan.now port }
     ensures { result ≡ settings_of plan.now port }

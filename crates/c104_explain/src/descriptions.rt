@@ -1,9 +1,7 @@
 //! What is told of a faulty description.
 
 use crate::description_mistakes::DescriptionMistake;
-use crate::nearest::{
-    is_script_word, nearest_description_word, nearest_switch, nearest_terminal,
-};
+use crate::nearest::{is_script_word, nearest_description_word, nearest_switch, nearest_terminal};
 use crate::words::{
     Mistake, has_dot, has_link, is_within, link_of, name_of, names_switch, names_terminal,
     unplain_word, word_at,

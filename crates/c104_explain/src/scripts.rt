@@ -1,8 +1,6 @@
 //! What is told of a script's line that is faulty or refused.
 
-use crate::nearest::{
-    is_description_word, nearest_script_word, nearest_switch, nearest_terminal,
-};
+use crate::nearest::{is_description_word, nearest_script_word, nearest_switch, nearest_terminal};
 use crate::script_mistakes::ScriptMistake;
 use crate::words::{
     LAST_LINK, Mistake, has_dot, is_within, link_of, name_of, names_switch, names_terminal,

@@ -173,9 +173,7 @@ fn answer_line<W: Write, M: Messages>(
     if let Some(answer) = &answer
         && messages.are_wanted()
     {
-        explain_answer(
-            alloc, session, number, line, answer, kept, writer, messages,
-        )?;
+        explain_answer(alloc, session, number, line, answer, kept, writer, messages)?;
     }
     Ok(())
 }

@@ -48,8 +48,7 @@ pub fn run_plan_explained<S: Read, W: Write, M: Messages>(
         (W.contents writer.old) (W.contents writer.new) result }
 {
     let mut session = Session::new(alloc, plan, image)?;
-    let answered =
-        answer_script_explained(alloc, &mut session, ahead, script, writer, messages);
+    let answered = answer_script_explained(alloc, &mut session, ahead, script, writer, messages);
     let leftovers = leftovers_of(alloc, &session, messages);
     let ended = session.finish();
     if answered? {

@@ -50,9 +50,15 @@ fn prints_labelled_plans(rt: HostRuntime) -> Result<(), Fail> {
         terminal a A.0 labels 2\nterminal b B.1 labels 1\nwire A.1 B.0\nlabel tree A\ndelete b\n";
     assert!(rt; printed_tree.as_str() == expected, "{printed_tree}");
     let mesh = printed(rt.alloc(), b"mesh 3 2 1\ndelete t5\nbuffer 64\n")?;
-    assert!(rt; mesh.as_str() == "header 1\nbuffer 64\nmesh 3 2 1\ndelete t5\n", "{mesh}");
+    assert!(rt;
+        mesh.as_str() == "header 1\nbuffer 64\nmesh 3 2 1\ndelete t5\n",
+        "{mesh}"
+    );
     let cube = printed(rt.alloc(), b"cube 3 1\n")?;
-    assert!(rt; cube.as_str() == "header 1\nbuffer 16\ncube 3 1\n", "{cube}");
+    assert!(rt;
+        cube.as_str() == "header 1\nbuffer 16\ncube 3 1\n",
+        "{cube}"
+    );
     Ok(())
 }
 

@@ -15,10 +15,15 @@ const THREE: &[u8] = b"buffer 8\nswitch A\nswitch B\nswitch C\n\
 
 /// The ports of the terminals, of their links at switch A, and of the wire from A to B.
 const SENDER: Port = Port::Terminal(0);
+
 const OTHER: Port = Port::Terminal(1);
+
 const INPUT: Port = Port::Switch(0, 0);
+
 const OTHER_INPUT: Port = Port::Switch(0, 2);
+
 const OUTPUT: Port = Port::Switch(0, 1);
+
 const NEXT_INPUT: Port = Port::Switch(1, 0);
 
 /// The text comes as an argument, since the prover would compute with a literal.
@@ -60,7 +65,10 @@ fn send(alloc: Global, terminal: usize, text: &str) -> Result<Event, Fail> {
 
 /// The event isn't ready, for this reason at this port.
 fn refuses(rt: &impl Abort, net: &mut Net, event: Event, port: Port, unready: Unready) {
-    assert!(rt; net.why(&event) == Some(Reason { port, unready }), "{unready:?}");
+    assert!(rt;
+        net.why(&event) == Some(Reason { port, unready }),
+        "{unready:?}"
+    );
     assert!(rt; net.apply(&event) == Ok(Reply::NotReady), "{unready:?}");
 }
 
@@ -143,7 +151,13 @@ fn wait(rt: &impl Abort, net: &mut Net, short: Event, next: Event) {
 /// A switch that isn't started, and events that are refused or always ready.
 fn at_last(rt: &impl Abort, net: &mut Net) {
     does(rt, net, command(ControlBytes::new(&[0x02])));
-    refuses(rt, net, Event::Credit(OTHER_INPUT), OTHER_INPUT, Unready::NotStarted);
+    refuses(
+        rt,
+        net,
+        Event::Credit(OTHER_INPUT),
+        OTHER_INPUT,
+        Unready::NotStarted,
+    );
     refuses(rt, net, turn(0), INPUT, Unready::NotStarted);
     refuses(rt, net, claim(0, 1), INPUT, Unready::NotStarted);
     assert!(rt; net.why(&Event::Cross(Port::Switch(1, 5))).is_none());
