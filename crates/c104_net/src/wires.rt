@@ -61,7 +61,7 @@ impl Wires {
     {
         let links = link_ends(alloc, &plan)?;
         let terminals = terminal_ends(alloc, &plan)?;
-        let linked = linked_sets(alloc, &plan)?;
+        let linked = linked_sets(alloc, &plan, &links)?;
         Ok(Wires {
             plan,
             links,
@@ -201,35 +201,33 @@ fn terminal_ends(alloc: Global, plan: &Plan) -> Result<Vec<Option<End>>, NoMemor
     Ok(ends)
 }
 
-/// The wired links of each switch, in order.
-fn linked_sets(alloc: Global, plan: &Plan) -> Result<Vec<LinkSet>, NoMemory>
+/// The wired links of each switch, in order, by the far ends of all links.
+fn linked_sets(alloc: Global, plan: &Plan, links: &[Option<End>]) -> Result<Vec<LinkSet>, NoMemory>
+    requires { links.now ≡ link_ends plan.now }
     ensures { IfOk result (λ sets. AreLinked plan.now (length plan.now.switches) sets.items) }
 {
     let count = plan.switches().len();
     let mut sets = Vec::with_capacity(alloc, count)?;
     for switch in 0..count {
-        sets.push(linked_set(plan, switch))?;
+        sets.push(linked_set(plan, links, switch))?;
     }
     Ok(sets)
 }
 
-/// The wired links of a switch.
-fn linked_set(plan: &Plan, switch: usize) -> LinkSet
+/// The wired links of a switch, by the far ends of all links.
+fn linked_set(plan: &Plan, links: &[Option<End>], switch: usize) -> LinkSet
+    requires links { links.now ≡ link_ends plan.now }
+    requires switch { switch < length plan.now.switches }
     ensures { (l : ℕ) → l < LINKS →
         has_bit result l ≡ is_wired plan.now (port.Switch switch l) }
 {
+    // The plan has at most 64 switches, so the sum fits.
+    let _switches = plan.switches();
     let mut set = LinkSet::new();
     for link in 0..LINKS {
-        set.set(link, is_wired(plan, Port::Switch(switch, link)));
+        set.set(link, links[switch * LINKS + link].is_some());
     }
     set
-}
-
-/// Whether a port of a plan has a wire.
-fn is_wired(plan: &Plan, port: Port) -> bool
-    ensures { result ≡ is_wired plan.now port }
-{
-    plan.peer(port).is_some()
 }
 
 /// The far end of the wire at a port, found among the plan's wires.
