@@ -106,9 +106,6 @@ module _ {A : Type 0} (kind : Kind A) where
       (◌≡◌ {A = Outcome A} (result, after) (run_until net events))
       ⊎ StopsShort net events result after
 
-  -- how so many rounds end: as the run of their events, or out of memory for the list of these and
-  -- nothing changed
+  -- how so many rounds end: as the run of their events
   abbrev pub RoundsEnd : Network A → ℕ → Result (Unit {0}) EventFault → Network A → Type 0
-  RoundsEnd net n result after =
-      EventsEnd net (rounds net.plan n) result after
-      ⊎ ((result ≡ Err fault.NoMemory) × (after ≡ net))
+  RoundsEnd net n result after = EventsEnd net (rounds net.plan n) result after

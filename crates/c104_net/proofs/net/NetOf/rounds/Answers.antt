@@ -1,4 +1,4 @@
-use Rattle.std.proofs.Common.{◌≡◌, ◌∙◌, List, inl, subst, sym}
+use Rattle.std.proofs.Common.{◌≡◌, ◌∙◌, List, subst, sym}
 use Rattle.std.specs.Vec.{with_items}
 use Rattle.std.proofs.lemmas.List.{with_items_is}
 use Rattle.c104_net.specs.Nodes.{Node}
@@ -24,4 +24,4 @@ returns g c =
     let new : List (Node g.row.T.Denot) = c.rounds_at.new.places in
     let ends : EventsEnd g.T.TokenKind.kind (network_of c.self.inside.wires old) (rounds c.self.inside.wires c.args.count) c.rounds_at.result (network_of c.self.inside.wires new) = ends_as_they_are g.T.TokenKind.kind c.self.inside.wires old c.as_mut_slice.result.now new (rounds c.self.inside.wires c.args.count) c.rounds_at.result c.as_mut_slice.ensures.value c.rounds_at.ensures.ends in
     let placed : (with_items c.self.inside.places new).items ≡ new = with_items_is c.self.inside.places new (c.rounds_at.auto.places ∙ c.as_mut_slice.ensures.len) in
-    rw (sym c.self.view_is) (inl (subst (λ ns. EventsEnd g.T.TokenKind.kind (network_of c.self.inside.wires old) (rounds c.self.inside.wires c.args.count) c.rounds_at.result (network_of c.self.inside.wires ns)) (sym placed) ends))
+    rw (sym c.self.view_is) (subst (λ ns. EventsEnd g.T.TokenKind.kind (network_of c.self.inside.wires old) (rounds c.self.inside.wires c.args.count) c.rounds_at.result (network_of c.self.inside.wires ns)) (sym placed) ends)
