@@ -4,7 +4,7 @@ ghost use Rattle.c104_regs.specs.declared.registers.TheConstants.{LINKS};
 ghost use Rattle.c104_link.specs.Steps.{step_at, yield_step_at};
 ghost use Rattle.c104_net.specs.Acts.{IsShort, nodes_act, reply_outcome, wants_memory};
 ghost use Rattle.c104_switch.specs.Claims.{IsNextLink};
-ghost use Rattle.c104_net.specs.Nodes.{node_enter, node_leave, node_credit_out, node_credit_in, node_input, node_claim, node_drain};
+ghost use Rattle.c104_net.specs.Nodes.{node_enter, node_leave, node_credit_out, node_credit_in, node_claim, node_drain};
 ghost use Rattle.c104_net.specs.Places.{HasRoomAt, StepEnds};
 ghost use Rattle.c104_net.specs.PortParts.{is_ready_at, PassesUnready};
 
@@ -136,18 +136,6 @@ pub fn can_credit_in_at<T: TokenKind, P: Place<T>>(places: &[P], end: End) -> bo
 {
     match places.get(end.node) {
         Some(found) => found.node().can_credit_in(end.link),
-        None => false,
-    }
-}
-
-/// Whether an input of the switch at a place can take a turn, which no word decides.
-#[inline(always)]
-pub fn can_input_at<T: TokenKind, P: Place<T>>(places: &[P], place: usize, link: usize) -> bool
-    ensures { (word : ℕ) → result ≡
-        is_some (step_at (map P.state places.now) place (node_input T.kind link word)) }
-{
-    match places.get(place) {
-        Some(found) => found.node().can_input(link),
         None => false,
     }
 }

@@ -3,7 +3,7 @@ ghost use Rattle.std.specs.Prelude.{◌≡◌, ◌<◌, ◌≤◌, ℕ, None, tr
 ghost use Rattle.c104_net.specs.Acts.{IsShort, node_act, reply_outcome, wants_memory};
 ghost use Rattle.c104_net.specs.Acts.{leave_act, enter_act, credit_out_act, credit_in_act};
 ghost use Rattle.c104_regs.specs.declared.registers.TheConstants.{LINKS};
-ghost use Rattle.c104_net.specs.Nodes.{node_enter, node_leave, node_credit_out, node_credit_in, node_input, node_claim, node_drain};
+ghost use Rattle.c104_net.specs.Nodes.{node_enter, node_leave, node_credit_out, node_credit_in, node_claim, node_drain};
 ghost use Rattle.c104_switch.specs.Actions.{done_reply, token_reply};
 ghost use Rattle.c104_switch.specs.Claims.{IsNextLink};
 ghost use Rattle.c104_net.specs.PortParts.{is_node_ready, PassesUnready};
@@ -138,17 +138,6 @@ impl<T: TokenKind> NodeOf<T> {
         match self {
             NodeOf::Switch(switch) => switch.can_enter(link),
             NodeOf::Terminal(terminal) => terminal.can_enter(),
-        }
-    }
-
-    /// Whether an input can take a turn, which no word decides.
-    #[inline(always)]
-    pub fn can_input(&self, link: usize) -> bool
-        ensures { (word : ℕ) → result ≡ is_some (node_input T.kind link word self.now) }
-    {
-        match self {
-            NodeOf::Switch(switch) => switch.can_input(link),
-            NodeOf::Terminal(_) => false,
         }
     }
 

@@ -1,7 +1,7 @@
-//! The parts of a round that are about ports. Those of a switch are walked by the sets of its links, so
-//! that none is asked of which it is known that it isn't ready.
+//! The parts of a round that are about ports. Those of a switch are walked by the sets of its links, and
+//! of terminals each is asked, so that no event is tried of which it is known that its near end isn't ready.
 //!
-//! All of it is inlined, since each part is a code of its own.
+//! The walks are inlined, since each part is a code of its own.
 ghost use Rattle.std.specs.Prelude.{◌≡◌, ◌<◌, ◌≤◌, ℕ, None, false, true, flat_map, length, map, unwrap_or, IfSome, Ok};
 ghost use Rattle.c104_describe.specs.declared.ports.Port.TheVariants as port;
 ghost use Rattle.c104_regs.specs.declared.registers.TheConstants.{LINKS};
@@ -13,7 +13,7 @@ ghost use Rattle.c104_net.specs.RoundParts.{PartEnds};
 
 use super::attempts::{try_credit, try_cross, try_turn};
 use crate::place::Place;
-use crate::places::next_ready_at;
+use crate::places::{can_credit_out_at, can_leave_at, next_ready_at};
 use crate::port_part::PortPart;
 use crate::wires::Wires;
 use c104_event::{EventFault, Port};
@@ -142,7 +142,31 @@ fn try_terminal<T: TokenKind, P: Place<T>>(
     if !wires.is_linked(terminal) {
         return Ok(false);
     }
+    if !may_be_ready(wires, places, part, terminal) {
+        return Ok(false);
+    }
     try_at(wires, places, part, Port::Terminal(terminal))
+}
+
+/// Whether a wired terminal may be ready for its event of a part. It has no input.
+#[inline(always)]
+fn may_be_ready<T: TokenKind, P: Place<T>>(
+    wires: &Wires,
+    places: &[P],
+    part: PortPart,
+    terminal: usize,
+) -> bool
+    requires { wired_fault wires.now (port.Terminal terminal) ≡ None }
+    ensures { result ≡ false → PartEnds T.kind
+        (network_of wires.now (map P.state places.now)) (port_events part (port.Terminal terminal))
+        (Ok false) (network_of wires.now (map P.state places.now)) }
+{
+    let end = wires.near_end(Port::Terminal(terminal));
+    match part {
+        PortPart::Credit => can_credit_out_at(places, end),
+        PortPart::Cross => can_leave_at(places, end),
+        PortPart::Turn => false,
+    }
 }
 
 /// The event of a part at a port.
@@ -153,7 +177,6 @@ fn try_at<T: TokenKind, P: Place<T>>(
     part: PortPart,
     port: Port,
 ) -> Result<bool, EventFault>
-    requires { wired_fault wires.now port ≡ None }
     ensures { PartEnds T.kind
         (network_of wires.now (map P.state places.old)) (port_events part port)
         result (network_of wires.now (map P.state places.new)) }

@@ -7,14 +7,7 @@ use Rattle.c104_net.specs.RoundParts.{PartEnds}
 use Rattle.c104_link.specs.Steps.{yield_step_at}
 use Rattle.c104_net.specs.Nodes.{node_leave}
 use Rattle.c104_net.proofs.PartRuns.{part_of_event}
-use Rattle.c104_net.proofs.IdleEvents.{idle_cross}
 use Rattle.c104_net.proofs.rounds.attempts.try_cross.Goals as goal
-
-pub returns-then-not-can_leave_at : goal.returns-then-not-can_leave_at
-returns-then-not-can_leave_at g c =
-    let before : Network g.row.T.Denot = network_of c.args.wires.now (map g.P.Place.state c.args.places.now) in
-    idle_cross g.T.TokenKind.kind before c.args.port c.requires
-    (ap (λ (e : End). is_some (yield_step_at (map g.P.Place.state c.args.places.now) e.node (node_leave e.link))) (sym c.near_end.ensures) ∙ sym c.if-not-can_leave_at.ensures)
 
 pub returns : goal.returns
 returns g c =

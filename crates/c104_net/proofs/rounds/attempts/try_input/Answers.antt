@@ -6,12 +6,7 @@ use Rattle.c104_net.specs.declared.ends.End.{End}
 use Rattle.c104_net.specs.Network.{Network, network_of}
 use Rattle.c104_net.specs.RoundParts.{PartEnds}
 use Rattle.c104_net.proofs.PartRuns.{part_of_event}
-use Rattle.c104_net.proofs.IdleEvents.{idle_turn}
 use Rattle.c104_net.proofs.rounds.attempts.try_input.Goals as goal
-
-pub returns-then-not-can_input_at : goal.returns-then-not-can_input_at
-returns-then-not-can_input_at g c =
-    idle_turn g.T.TokenKind.kind (network_of c.args.wires.now (map g.P.Place.state c.args.places.now)) c.args.switch c.args.link c.requires (sym (c.if-not-can_input_at.ensures 0))
 
 pub returns : goal.returns
 returns g c =
