@@ -75,6 +75,7 @@ impl<T: TokenKind> TerminalOf<T> {
     }
 
     /// A token comes in from the wire. False where none was granted.
+    #[inline(always)]
     pub fn enter(&mut self, token: T) -> bool
         ensures { (result, self.new) ≡ bool_outcome (terminal_enter token self.old) self.old }
     {
@@ -89,6 +90,7 @@ impl<T: TokenKind> TerminalOf<T> {
     }
 
     /// The first token that waits goes out. None where none waits, or there is no credit.
+    #[inline(always)]
     pub fn leave(&mut self) -> Option<T>
         ensures { (result, self.new) ≡ option_outcome (terminal_leave self.old) self.old }
     {

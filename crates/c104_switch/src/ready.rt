@@ -11,6 +11,7 @@ use c104_token::TokenKind;
 
 impl<T: TokenKind> SwitchOf<T> {
     /// Whether `step` would do this action: false exactly where it would answer NotReady.
+    #[inline(always)]
     pub fn ready(&self, action: &ActionOf<T>) -> bool
         ensures { result ≡ is_ready (switch_step T.kind self.now action.now).0 }
     {

@@ -150,6 +150,7 @@ impl<T: TokenKind> SwitchOf<T> {
     }
 
     /// A token comes in over a link's wire, where one is granted.
+    #[inline(always)]
     pub fn enter(&mut self, link: usize, token: T) -> bool
         ensures { (result, self.new) ≡ bool_outcome (switch_enter self.old link token) self.old }
     {
@@ -158,6 +159,7 @@ impl<T: TokenKind> SwitchOf<T> {
 
     /// The first token of a link's output goes out over its wire, where there are a token and a
     /// credit.
+    #[inline(always)]
     pub fn leave(&mut self, link: usize) -> Option<T>
         ensures { (result, self.new) ≡ option_outcome (switch_leave self.old link) self.old }
     {

@@ -1,5 +1,5 @@
 use c104_control::ControlBytes;
-use c104_switch::{Action, Phase, Reply, Switch, SwitchOf};
+use c104_switch::{Action, LINKS, LinkSet, Phase, Reply, Switch, SwitchOf};
 use c104_token::{Token, TokenKind};
 use std::test::Fail;
 
@@ -40,6 +40,42 @@ fn one_packet(rt: HostRuntime) -> Result<(), Fail> {
     assert!(rt; matches!(input.phase, Phase::Stream(1)) && input.granted == 6);
     assert!(rt; switch.started() && !switch.crossbar().free(1));
     assert!(rt; switch.claim_held(0).is_some());
+    switch.retire();
+    Ok(())
+}
+
+/// All links but one.
+fn links_without(link: usize) -> LinkSet {
+    let mut links = LinkSet::new();
+    for other in 0..LINKS {
+        links.set(other, other != link);
+    }
+    links
+}
+
+/// The links that are ready for an action are found in order, among those of a set.
+#[test]
+fn next_links(rt: HostRuntime) -> Result<(), Fail> {
+    let links = links_without(2);
+    assert!(rt; links.next(2, links) == Some(3) && links.next(LINKS, links).is_none());
+    let mut switch = Switch::new(rt.alloc(), 16)?;
+    assert!(rt; switch.next_granting(0, links).is_none());
+    for command in COMMANDS {
+        let _reply = switch.control(command);
+    }
+    assert!(rt;
+        switch.next_granting(1, links) == Some(1) && switch.next_granting(2, links) == Some(3)
+    );
+    assert!(rt; switch.next_turning(0, links).is_none());
+    assert!(rt; switch.credit_out(0) && switch.enter(0, Token::Byte(1)));
+    assert!(rt; switch.next_turning(0, links) == Some(0) && switch.next_wanting(0).is_none());
+    assert!(rt; switch.input(0, 0));
+    assert!(rt; switch.next_turning(0, links).is_none() && switch.next_wanting(0) == Some(0));
+    assert!(rt; switch.next_claim(0, 0) == Some(1) && switch.claim(0, 1));
+    assert!(rt; switch.next_leaving(0, links).is_none() && switch.credit_in(1));
+    assert!(rt;
+        switch.next_leaving(0, links) == Some(1) && switch.next_leaving(2, links).is_none()
+    );
     switch.retire();
     Ok(())
 }

@@ -37,6 +37,7 @@ impl<T: TokenKind> SwitchOf<T> {
     }
 
     /// Whether `input` would do something, which no word decides.
+    #[inline(always)]
     pub fn can_input(&self, link: usize) -> bool
         ensures { (word : ℕ) → result ≡ is_some (switch_input T.kind self.now link word) }
     {
