@@ -1,6 +1,5 @@
 -- A cube's rows as they are added.
-use Rattle.std.proofs.Common.{◌≡◌, ℕ, zero, suc, ◌<◌, ◌≤◌, ◌+◌, ◌*◌, ◌-◌, ◌/◌, ◌%◌, ◌^◌, List, [], ◌∷◌, ◌++◌, map, refl, sym, ap, ◌∙◌, append_assoc, arith}
-use Rattle.std.specs.List.{range_with_len}
+use Rattle.std.proofs.Common.{◌≡◌, ℕ, zero, suc, ◌<◌, ◌≤◌, ◌+◌, ◌*◌, ◌-◌, ◌/◌, ◌%◌, ◌^◌, List, [], ◌++◌, refl, sym, ap, ◌∙◌, append_assoc, arith}
 use Rattle.std.proofs.lemmas.Nat.{div_below, pow-add, pow_pos}
 use Rattle.c104_interval.specs.declared.intervals.Row.{Row}
 use Rattle.c104_label.specs.LabelRows.{kept_rows, label_row, own_rows, with_row}
@@ -51,26 +50,6 @@ unfolding cube_up rows_so_far cube_rows
 up_last d p x = ap kept_rows (append_assoc (rows_below p x d) (own_rows d p x) (rows_above p x d) ∙ sym (cube_flat d p x d))
 
 -- a shifted bit keeps its value
-pub size_is : (b : ℕ) → b ≤ 6 → (1 * 2 ^ b) % 18446744073709551616 ≡ 2 ^ b
-size_is zero le = refl
-size_is (suc zero) le = refl
-size_is (suc (suc zero)) le = refl
-size_is (suc (suc (suc zero))) le = refl
-size_is (suc (suc (suc (suc zero)))) le = refl
-size_is (suc (suc (suc (suc (suc zero))))) le = refl
-size_is (suc (suc (suc (suc (suc (suc zero)))))) le = refl
-size_is (suc (suc (suc (suc (suc (suc (suc b))))))) le = absurd (omega (arith, le))
-
-pub size_small : (b : ℕ) → b ≤ 6 → (1 * 2 ^ b) % 18446744073709551616 ≤ 64
-size_small zero le = omega arith
-size_small (suc zero) le = omega arith
-size_small (suc (suc zero)) le = omega arith
-size_small (suc (suc (suc zero))) le = omega arith
-size_small (suc (suc (suc (suc zero)))) le = omega arith
-size_small (suc (suc (suc (suc (suc zero))))) le = omega arith
-size_small (suc (suc (suc (suc (suc (suc zero)))))) le = omega arith
-size_small (suc (suc (suc (suc (suc (suc (suc b))))))) le = absurd (omega (arith, le))
-
 pub double_is : (b : ℕ) → b < 6 → (2 * 2 ^ b) % 18446744073709551616 ≡ 2 ^ suc b
 double_is zero le = refl
 double_is (suc zero) le = refl

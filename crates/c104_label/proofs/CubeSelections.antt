@@ -1,13 +1,12 @@
 -- What a cube's tables select is what labels are to select.
-use Rattle.std.proofs.Common.{◌≡◌, ◌≢◌, ℕ, zero, suc, ◌<◌, ◌≤◌, ◌+◌, ◌*◌, ◌-◌, ◌/◌, ◌%◌, ◌^◌, ◌==◌, true, false, nat_lt, if◌then◌else◌, [], ◌∷◌, map, refl, sym, ap, subst, ◌∙◌, ⊎_elim, arith}
-use Rattle.std.specs.List.{range_with_len}
+use Rattle.std.proofs.Common.{◌≡◌, ◌≢◌, ℕ, zero, suc, ◌<◌, ◌≤◌, ◌+◌, ◌*◌, ◌-◌, ◌/◌, ◌%◌, ◌^◌, ◌==◌, true, false, if◌then◌else◌, refl, sym, ap, subst, ◌∙◌, ⊎_elim, arith}
 use Rattle.std.proofs.lemmas.Bool.Decides.{nat_tests}
 use Rattle.std.proofs.lemmas.Bool.{cases_Bool, eq-eqb, ne_eqb}
 use Rattle.std.proofs.lemmas.Nat.{div_below, le-div, pow_pos}
 use Rattle.c104_interval.specs.declared.intervals.Select.{Select}
-use Rattle.c104_interval.specs.declared.intervals.Select.TheVariants.{Link, Sink}
+use Rattle.c104_interval.specs.declared.intervals.Select.TheVariants.{Link}
 use Rattle.c104_interval.specs.Selection.{select}
-use Rattle.c104_label.specs.LabelRows.{kept_rows, own_rows, owner}
+use Rattle.c104_label.specs.LabelRows.{own_rows, owner}
 use Rattle.c104_label.specs.CubeLabels.{IsHighestDifference, SelectsInCube, all_cube_rows, bit, cube_rows, cube_table}
 use Rattle.c104_label.proofs.Quotients.{cube_ends, cube_one, cube_whole, lower_end, place_at, upper_end}
 use Rattle.c104_label.proofs.Pieces.{IsPiece, none_of, one_of, own_piece, picked, piece_around, piece_same, table_selects}

@@ -1,7 +1,7 @@
 -- The rows of a cube's tables are in order, few and of links.
-use Rattle.std.proofs.Common.{◌≡◌, ℕ, zero, suc, ◌<◌, ◌≤◌, ◌+◌, ◌*◌, ◌/◌, ◌^◌, length, refl, sym, ap, subst, ◌∙◌, arith}
+use Rattle.std.proofs.Common.{◌≡◌, ℕ, zero, suc, ◌<◌, ◌≤◌, ◌+◌, ◌*◌, ◌/◌, ◌^◌, length, sym, subst, ◌∙◌, arith}
 use Rattle.std.specs.List.{AllByRecursion}
-use Rattle.c104_label.specs.LabelRows.{AreLabelRows, IsLinkRow, kept_rows, label_row, own_rows}
+use Rattle.c104_label.specs.LabelRows.{AreLabelRows, IsLinkRow, label_row, own_rows}
 use Rattle.c104_label.specs.CubeLabels.{AreCubeTables, IsCube, all_cube_rows, cube_rows}
 use Rattle.c104_label.proofs.Quotients.{cube_ends, cube_one, cube_whole}
 use Rattle.c104_label.proofs.CubeSelections.{selects_in_cube}

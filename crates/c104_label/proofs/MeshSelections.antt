@@ -1,13 +1,11 @@
 -- What a mesh's tables select is what labels are to select.
-use Rattle.std.proofs.Common.{◌≡◌, ◌≢◌, ℕ, zero, suc, ◌<◌, ◌≤◌, ◌+◌, ◌*◌, ◌-◌, ◌/◌, ◌%◌, ◌^◌, ◌==◌, true, false, nat_lt, if◌then◌else◌, [], ◌∷◌, map, refl, sym, ap, subst, ◌∙◌, ⊎_elim, arith}
-use Rattle.std.specs.List.{range_with_len}
+use Rattle.std.proofs.Common.{◌≡◌, ℕ, ◌<◌, ◌≤◌, ◌+◌, ◌*◌, ◌-◌, ◌/◌, ◌%◌, ◌==◌, true, false, nat_lt, if◌then◌else◌, refl, sym, ap, ◌∙◌, arith}
 use Rattle.std.proofs.lemmas.Bool.Decides.{nat_tests}
-use Rattle.std.proofs.lemmas.Bool.{cases_Bool, eq-eqb, ne_eqb}
-use Rattle.std.proofs.lemmas.Nat.{div_below, le-div, pow_pos}
+use Rattle.std.proofs.lemmas.Nat.{div_below, le-div}
 use Rattle.c104_interval.specs.declared.intervals.Select.{Select}
-use Rattle.c104_interval.specs.declared.intervals.Select.TheVariants.{Link, Sink}
+use Rattle.c104_interval.specs.declared.intervals.Select.TheVariants.{Link}
 use Rattle.c104_interval.specs.Selection.{select}
-use Rattle.c104_label.specs.LabelRows.{around, kept_rows, label_row, own_rows, owner}
+use Rattle.c104_label.specs.LabelRows.{around, label_row, own_rows, owner}
 use Rattle.c104_label.specs.MeshLabels.{SelectsInMesh, all_mesh_rows, mesh_rows, mesh_table}
 use Rattle.c104_label.proofs.Quotients.{mesh_ends, next_above, parts, place_at, times, whole_below}
 use Rattle.c104_label.proofs.Pieces.{IsPiece, none_of, one_of, own_is, piece_around, picked, table_selects}

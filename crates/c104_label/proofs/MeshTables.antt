@@ -1,7 +1,7 @@
 -- The rows of a mesh's tables are in order, few and of links.
-use Rattle.std.proofs.Common.{◌≡◌, ℕ, ◌<◌, ◌≤◌, ◌+◌, ◌*◌, ◌/◌, length, refl, ◌∙◌, arith}
+use Rattle.std.proofs.Common.{◌≡◌, ℕ, ◌<◌, ◌≤◌, ◌+◌, ◌*◌, ◌/◌, length, ◌∙◌, arith}
 use Rattle.std.specs.List.{AllByRecursion}
-use Rattle.c104_label.specs.LabelRows.{AreLabelRows, IsLinkRow, around, kept_rows, label_row, own_rows}
+use Rattle.c104_label.specs.LabelRows.{AreLabelRows, IsLinkRow, around, label_row, own_rows}
 use Rattle.c104_label.specs.MeshLabels.{AreMeshTables, IsMesh, all_mesh_rows, mesh_rows}
 use Rattle.c104_label.proofs.Quotients.{mesh_ends}
 use Rattle.c104_label.proofs.MeshSelections.{selects_in_mesh}

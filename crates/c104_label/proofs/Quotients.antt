@@ -1,23 +1,8 @@
 -- Quotients, and multiples.
-use Rattle.std.proofs.Common.{◌≡◌, ℕ, zero, suc, ◌<◌, ◌≤◌, ◌+◌, ◌*◌, ◌-◌, ◌/◌, ◌%◌, ◌^◌, sym, ap, ◌∙◌, arith}
+use Rattle.std.proofs.Common.{◌≡◌, ℕ, suc, ◌<◌, ◌≤◌, ◌+◌, ◌*◌, ◌-◌, ◌/◌, ◌%◌, ◌^◌, sym, ap, ◌∙◌, arith}
 use native.Mathlib.Nat.{pow-suc, div-div-eq-div-mul, div-one, div-eq_of_lt}
-use Rattle.std.proofs.lemmas.Nat.{div_below, div-add-mod', div-mul-add, mod-mul-add, mod_below, mul-le}
-
-pub times : (a b p : ℕ) → a ≤ b → a * p ≤ b * p
-times a b p le = mul-le a p b p le (omega arith)
-
-pub parts : (n w : ℕ) → n / w * w + n % w ≡ n
-parts n w = div-add-mod' n w
-
-pub whole_below : (n w : ℕ) → n / w * w ≤ n
-whole_below n w = omega (arith, parts n w)
-
-pub next_above : (n w : ℕ) → 0 < w → n < (n / w + 1) * w
-next_above n w pos = omega (arith, parts n w, mod_below n w pos)
-
--- all of a row are within the rows
-pub rows_fit : (s w h : ℕ) → 0 < w → s < w * h → (s / w + 1) * w ≤ w * h
-rows_fit s w h pos lt = let below : s / w < h = div_below s w h pos (omega (arith, lt)) in omega (arith, times (s / w + 1) h w (omega (arith, below)))
+use Rattle.std.proofs.lemmas.Nat.{div-mul-add, mod-mul-add}
+pub use Rattle.c104_describe.proofs.LayoutNumbers.{next_above, parts, rows_fit, times, whole_below}
 
 -- where a number stands among the multiples
 pub place_at : (h s p : ℕ) → s * p ≤ h → h < s * p + p → (h / p ≡ s) × (h % p ≡ h - s * p)

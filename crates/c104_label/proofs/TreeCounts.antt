@@ -12,7 +12,7 @@ use Rattle.c104_describe.specs.Plans.{Plan}
 use Rattle.c104_describe.specs.Wiring.{IsWiring}
 use Rattle.c104_label.specs.Forests.{ends_of, links}
 use Rattle.c104_label.specs.TreeLabels.{Net, count_at, labels_behind, labels_on, net_of, own_labels}
-use Rattle.c104_label.specs.TreeImages.{label_sum}
+use Rattle.c104_label.specs.TreeImages.{total_count}
 
 -- the links of a switch before one, and that one
 labels_more : (net : Net) (s a n l : ℕ) → a + n ≡ l → labels_on net s (range_with_len a (suc n)) ≡ labels_on net s (range_with_len a n) + labels_behind net.counts (net.ends s l)
@@ -30,13 +30,13 @@ labels_next net s l =
     ap (λ (k : ℕ). labels_on net s (range_with_len 0 k)) plus ∙ labels_more net s 0 l l (omega arith)
 
 -- terminals, one after another
-pub sum_next : (ts : List Terminal) (i : ℕ) (d : Terminal) → i < length ts → label_sum (drop i ts) ≡ (get_or ts i d).count + label_sum (drop (i + 1) ts)
-sum_next ts i d inside = ap label_sum (drop_more ts i d inside)
+pub sum_next : (ts : List Terminal) (i : ℕ) (d : Terminal) → i < length ts → total_count (drop i ts) ≡ (get_or ts i d).count + total_count (drop (i + 1) ts)
+sum_next ts i d inside = ap total_count (drop_more ts i d inside)
 
-pub sum_last : (ts : List Terminal) (i : ℕ) → length ts ≤ i → label_sum (drop i ts) ≡ 0
+pub sum_last : (ts : List Terminal) (i : ℕ) → length ts ≤ i → total_count (drop i ts) ≡ 0
 sum_last [] i past = of_none i
   where
-    of_none : (i : ℕ) → label_sum (drop i []) ≡ 0
+    of_none : (i : ℕ) → total_count (drop i []) ≡ 0
     of_none zero = refl
     of_none (suc i) = refl
 sum_last (t ∷ ts) zero past = absurd (omega (arith, past))

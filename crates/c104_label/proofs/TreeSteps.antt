@@ -15,7 +15,7 @@ use Rattle.c104_label.specs.Forests.{Forest, IsSpanning}
 use Rattle.c104_label.specs.LabelRows.{label_row, label_table, with_row, with_rows}
 use Rattle.c104_label.specs.Trees.{IsTreeCause}
 use Rattle.c104_label.specs.TreeLabels.{AreLinks, Net, Place, child_pieces, count_at, first_at, forest_labels, labels_on, net_of, own_labels, place, place_end, place_of, rows_from, switch_table, table_at, tree_labels, tree_range, tree_rows}
-use Rattle.c104_label.specs.TreeImages.{IsLabelCause, IsTreeImage, label_sum, most_labels, plan_labels, switch_place}
+use Rattle.c104_label.specs.TreeImages.{IsLabelCause, IsTreeImage, most_labels, plan_labels, switch_place, total_count}
 use Rattle.c104_label.proofs.TreeAdded.{own_all, rows_front, rows_last}
 use Rattle.c104_label.proofs.TreePlaces.{place_of_within}
 use Rattle.c104_label.proofs.TreeSums.{labels_sum}
@@ -98,12 +98,12 @@ table_done plan own root forest total s p rows table same is all is_rows is_tabl
     ∙ sym (ap (table_at (net_of plan) (plan_labels plan root forest) s) (subst (λ (f : ℕ → ℕ). place_of f root forest s ≡ Some p) same is))
 
 -- the tree has as few labels as the terminals together
-pub labels_few : (plan : Plan) (own : ℕ → ℕ) (root : ℕ) (forest : Forest) → IsPlan plan → IsSpanning plan root forest → own ≡ own_labels (net_of plan) → label_sum plan.terminals ≤ 65536 → tree_labels own root forest ≤ 65536
+pub labels_few : (plan : Plan) (own : ℕ → ℕ) (root : ℕ) (forest : Forest) → IsPlan plan → IsSpanning plan root forest → own ≡ own_labels (net_of plan) → total_count plan.terminals ≤ 65536 → tree_labels own root forest ≤ 65536
 labels_few plan own root forest kept spans same few =
     let sum = labels_sum plan (wiring plan kept) root forest spans in
     subst (λ (f : ℕ → ℕ). tree_labels f root forest ≤ 65536) (sym same) (omega (arith, sum, few))
 
-pub plan_few : (plan : Plan) (root : ℕ) (forest : Forest) → IsPlan plan → IsSpanning plan root forest → label_sum plan.terminals ≤ 65536 → plan_labels plan root forest ≤ 65536
+pub plan_few : (plan : Plan) (root : ℕ) (forest : Forest) → IsPlan plan → IsSpanning plan root forest → total_count plan.terminals ≤ 65536 → plan_labels plan root forest ≤ 65536
 plan_few plan root forest kept spans few = let sum = labels_sum plan (wiring plan kept) root forest spans in omega (arith, sum, few)
 
 -- the image that was made of the ranges and the tables

@@ -12,7 +12,7 @@ use Rattle.c104_describe.specs.Plans.{Plan, host_port}
 use Rattle.c104_describe.specs.Wiring.{IsWiring, peer}
 use Rattle.c104_label.specs.Forests.{Forest, Grown, IsSpanning, child, empty, ends_of, is_met, links, switches}
 use Rattle.c104_label.specs.TreeLabels.{count_or_zero, forest_labels, labels_behind, labels_on, net_of, own_labels}
-use Rattle.c104_label.specs.TreeImages.{label_sum, plan_labels}
+use Rattle.c104_label.specs.TreeImages.{plan_labels, total_count}
 use Rattle.c104_label.proofs.ForestLemmas.{met_first, met_right}
 use Rattle.c104_label.proofs.TreePlaces.{false_by, grown_new, unmet_left, unmet_one, unmet_right}
 use Rattle.c104_label.proofs.TreeSelections.{terminal_at}
@@ -54,7 +54,7 @@ total_one f (suc t) (suc n) inside none =
     let rest = total_one (λ k. f (suc k)) t n (omega (arith, inside)) (λ k differs. none (suc k) (λ same. differs (omega (arith, same)))) in
     omega (arith, first, rest)
 
-sum_total : (ts : List Terminal) → label_sum ts ≡ total (λ k. count_or_zero (slice_get ts k)) (length ts)
+sum_total : (ts : List Terminal) → total_count ts ≡ total (λ k. count_or_zero (slice_get ts k)) (length ts)
 sum_total [] = refl
 sum_total (t ∷ ts) = ap (λ n. t.count + n) (sum_total ts)
 
@@ -252,7 +252,7 @@ module _ (plan : Plan) (wiring : IsWiring plan) where
       let inside = wiring.inside (port.Switch t.switch t.link) (port.Terminal k) (wiring.back (port.Terminal k) (host_port t) host) in
       ap (λ (x : Bool). pick_if x t.count) (spans.all t.switch inside.0)
 
-  pub labels_sum : (root : ℕ) (forest : Forest) → IsSpanning plan root forest → plan_labels plan root forest ≡ label_sum plan.terminals
+  pub labels_sum : (root : ℕ) (forest : Forest) → IsSpanning plan root forest → plan_labels plan root forest ≡ total_count plan.terminals
   labels_sum root forest spans =
       tree_such root forest spans
       ∙ total_same (part plan (on_any (root ∷ switches forest))) (λ k. count_or_zero (slice_get plan.terminals k)) (length plan.terminals) (λ k. all_at root forest spans k (slice_get plan.terminals k) refl)

@@ -1,5 +1,5 @@
 -- The image of a plan: that of its own lines, or that of the labels of its shape.
-use Rattle.std.specs.Prelude.{ℕ, ◌≡◌, ◌*◌, ◌^◌, map}
+use Rattle.std.specs.Prelude.{ℕ, ◌≡◌, ◌*◌, ◌^◌, Bool, false, true, map}
 use Rattle.std.specs.List.{range_with_len}
 use Rattle.c104_describe.specs.Plans.{Plan}
 use Rattle.c104_describe.specs.declared.plans.Shape.{Shape}
@@ -34,6 +34,25 @@ IsImageBy (Cube dimensions terminals) plan image = IsCubeImage plan dimensions t
 abbrev pub IsImageOf : Plan → Image → Type 0
 IsImageOf plan image = IsImageBy plan.shape plan image
 
+-- whether a plan of this shape is to be labelled as a tree, as a mesh, as a cube
+abbrev pub is_tree_shape : Shape → Bool
+is_tree_shape Hand = false
+is_tree_shape (Tree root) = true
+is_tree_shape (Mesh width height terminals) = false
+is_tree_shape (Cube dimensions terminals) = false
+
+abbrev pub is_mesh_shape : Shape → Bool
+is_mesh_shape Hand = false
+is_mesh_shape (Tree root) = false
+is_mesh_shape (Mesh width height terminals) = true
+is_mesh_shape (Cube dimensions terminals) = false
+
+abbrev pub is_cube_shape : Shape → Bool
+is_cube_shape Hand = false
+is_cube_shape (Tree root) = false
+is_cube_shape (Mesh width height terminals) = false
+is_cube_shape (Cube dimensions terminals) = true
+
 -- want of memory, of which nothing is said, and nothing else
 abbrev pub IsNoMemory : LabelFault → Type 0
 IsNoMemory fault.NotConnected = ⊥
@@ -51,3 +70,9 @@ IsCauseBy (Cube dimensions terminals) plan why = IsNoMemory why
 -- why a plan has no image
 abbrev pub IsImageCause : Plan → LabelFault → Type 0
 IsImageCause plan why = IsCauseBy plan.shape plan why
+
+-- why a labeller of one shape has no image of a plan, by whether the plan's shape is its own: where it is another,
+-- for that alone, before all else; where it isn't, for what the plan has no image
+abbrev pub IsShapeCause : Bool → Plan → LabelFault → Type 0
+IsShapeCause false plan why = why ≡ fault.WrongShape
+IsShapeCause true plan why = IsImageCause plan why

@@ -1,5 +1,5 @@
 -- The image of a plan that is labelled as a tree, and what its tables select.
-use Rattle.std.specs.Prelude.{◌≡◌, ℕ, ◌⊎◌, ◌+◌, ◌<◌, ◌≤◌, ◌==◌, List, [], ◌∷◌, length, map, slice_get, if◌then◌else◌, Option, Some}
+use Rattle.std.specs.Prelude.{◌≡◌, ℕ, ◌⊎◌, ◌+◌, ◌<◌, ◌≤◌, ◌==◌, length, map, slice_get, if◌then◌else◌, Option, Some}
 use Rattle.std.specs.List.{range_with_len}
 use Rattle.c104_interval.specs.declared.intervals.Table.{Table}
 use Rattle.c104_interval.specs.declared.intervals.Select.TheVariants.{Link, Sink}
@@ -7,6 +7,7 @@ use Rattle.c104_interval.specs.Selection.{select}
 use Rattle.c104_describe.specs.declared.ports.Port.TheVariants as port
 use Rattle.c104_describe.specs.declared.plans.Terminal.{Terminal}
 use Rattle.c104_describe.specs.Plans.{Plan}
+pub use Rattle.c104_describe.specs.Plans.{total_count}
 use Rattle.c104_describe.specs.PlanImage.{Image}
 use Rattle.c104_describe.specs.LabelledImages.{labelled_image}
 use Rattle.c104_label.specs.declared.faults.LabelFault.{LabelFault}
@@ -14,11 +15,6 @@ use Rattle.c104_label.specs.declared.faults.LabelFault.TheVariants as fault
 use Rattle.c104_label.specs.Forests.{Forest, IsConnected, IsCutOff, IsSpanning, child, empty, ends_of}
 use Rattle.c104_label.specs.LabelRows.{AreLabelRows}
 use Rattle.c104_label.specs.TreeLabels.{Place, net_of, own_labels, place_end, place_of, switch_table, tree_labels, tree_range, tree_rows, tree_table}
-
--- how many labels terminals have in all
-abbrev pub label_sum : List Terminal → ℕ
-label_sum [] = 0
-label_sum (t ∷ terminals) = t.count + label_sum terminals
 
 -- how many labels a plan may have: as many as there are headers of one byte or of two
 abbrev pub most_labels : Plan → ℕ
@@ -68,13 +64,13 @@ AreTreeTables plan root forest =
 pub record IsTreeImage (plan : Plan) (root : ℕ) (forest : Forest) (image : Image) : Type 0 where
   pub tree : IsSpanning plan root forest
   pub is : image ≡ labelled_image plan (map (tree_range plan root forest) plan.terminals) (map (switch_table plan root forest) (range_with_len 0 (length plan.switches)))
-  pub labels : plan_labels plan root forest ≡ label_sum plan.terminals
+  pub labels : plan_labels plan root forest ≡ total_count plan.terminals
   pub tables : AreTreeTables plan root forest
 
 -- why a plan isn't labelled as a tree from a root: wires don't lead to each switch; or they do, but there are more
 -- labels than headers; or want of memory, of which nothing is said
 abbrev pub IsLabelCause : Plan → ℕ → LabelFault → Type 0
 IsLabelCause plan root fault.NotConnected = (s : ℕ) × (s < length plan.switches) × IsCutOff (ends_of plan) root s
-IsLabelCause plan root fault.TooManyLabels = IsConnected plan root × (most_labels plan < label_sum plan.terminals)
+IsLabelCause plan root fault.TooManyLabels = IsConnected plan root × (most_labels plan < total_count plan.terminals)
 IsLabelCause plan root fault.WrongShape = ⊥
 IsLabelCause plan root fault.NoMemory = Unit {0}

@@ -24,7 +24,7 @@ pub fn is_cube(dimensions: usize, terminals: usize) -> bool
 }
 
 /// How many switches a cube has.
-#[tactic(auto, using(crate::proofs::CubeRows::size_is, crate::proofs::CubeRows::size_small))]
+#[tactic(auto, using(c104_describe::proofs::LayoutNumbers::power_is, c104_describe::proofs::LayoutNumbers::power_small))]
 fn switch_count(dimensions: usize) -> usize
     requires { dimensions ≤ 6 }
     ensures count { result ≡ 2 ^ dimensions }
@@ -60,7 +60,7 @@ pub fn cube_tables(
 /// each port that has a wire the table of its switch, and all else as the plan's own lines say. The only error
 /// is out of memory.
 #[tactic(auto, using(crate::proofs::CubeTables::are_cube_tables))]
-pub fn label_cube(
+pub(crate) fn cube_image(
     alloc: Global,
     plan: &Plan,
     dimensions: usize,

@@ -16,7 +16,7 @@ pub enum LabelFault {
     /// There are more labels than headers: over 256, or 65536 where headers have two bytes.
     #[error("there are more labels than headers")]
     TooManyLabels,
-    /// The network's shape isn't the one that is labelled so. No call answers it yet.
+    /// The plan is not to be labelled so: its shape is another.
     #[error("the network does not have the shape that is labelled so")]
     WrongShape,
     /// Out of memory.

@@ -1,15 +1,16 @@
 //! The image of a plan: of its own lines, or with tables of labels.
-ghost use Rattle.std.specs.Prelude.{◌≡◌, All, length, map, IfErr, IfOk};
+ghost use Rattle.std.specs.Prelude.{◌≡◌, ◌↔◌, All, false, length, map, true, IfErr, IfOk, IsErrOf};
 ghost use Rattle.c104_regs.specs.Ranges.{IsTableInRange};
 ghost use Rattle.c104_describe.specs.LabelledImages.{labelled_image};
 ghost use Rattle.c104_describe.specs.PlanImage.{Fits, range_of};
 ghost use Rattle.c104_describe.specs.Plans.{IsPlan};
-ghost use Rattle.c104_label.specs.Images.{IsImageOf, IsImageCause};
+ghost use Rattle.c104_label.specs.Images.{IsImageCause, IsImageOf, IsShapeCause, is_cube_shape, is_mesh_shape, is_tree_shape};
+ghost use Rattle.c104_label.specs.declared.faults.LabelFault.TheVariants as fault;
 
-use crate::cubes::label_cube;
+use crate::cubes::cube_image;
 use crate::faults::LabelFault;
-use crate::meshes::label_mesh;
-use crate::trees::label_tree;
+use crate::meshes::mesh_image;
+use crate::trees::tree_image;
 use c104_describe::{Image, Plan, Shape, hand_image};
 use c104_interval::Table;
 use c104_token::NoMemory;
@@ -20,7 +21,6 @@ use std::alloc::Global;
 ///
 /// A tree alone may be refused: NotConnected where wires don't lead from its root to each switch, then TooManyLabels
 /// where its terminals have more labels than there are headers. All may be NoMemory.
-#[tactic(auto, using(crate::proofs::ShapePlans::mesh_switches, crate::proofs::ShapePlans::cube_switches))]
 pub fn image_of(alloc: Global, plan: &Plan) -> Result<Image, LabelFault>
     ensures image { IfOk result (λ image. IsImageOf plan.now image) }
     ensures fits { IfOk result (λ image. Fits image plan.now) }
@@ -31,15 +31,79 @@ pub fn image_of(alloc: Global, plan: &Plan) -> Result<Image, LabelFault>
             let image = hand_image(alloc, plan)?;
             Ok(image)
         }
-        Shape::Tree(root) => label_tree(alloc, plan, root),
+        Shape::Tree(_) => label_tree(alloc, plan),
+        Shape::Mesh(_, _, _) => label_mesh(alloc, plan),
+        Shape::Cube(_, _) => label_cube(alloc, plan),
+    }
+}
+
+/// The image of a plan that is to be labelled as a tree.
+///
+/// Depth first from the root, each switch's own terminals have the next labels in ascending order of links, each
+/// as many as its count, and then come those of the switches behind its links. A label leaves a switch by the
+/// link of its terminal, else by that to the subtree that has it, else by that to the parent, and what is no label
+/// by none. All ports of a switch that have a wire have the same rows, at most 36, in ascending order and without
+/// empty intervals. All else is as the plan's own lines say.
+///
+/// WrongShape exactly where the plan is to be labelled otherwise; then NotConnected where wires don't lead from
+/// the root to each switch; then TooManyLabels where the terminals have more labels than there are headers, 256, or
+/// 65536 of two bytes; and NoMemory.
+pub fn label_tree(alloc: Global, plan: &Plan) -> Result<Image, LabelFault>
+    ensures image { IfOk result (λ image. IsImageOf plan.now image) }
+    ensures fits { IfOk result (λ image. Fits image plan.now) }
+    ensures shape { IsErrOf result fault.WrongShape ↔ (is_tree_shape plan.now.shape ≡ false) }
+    ensures refused { IfErr result (IsShapeCause (is_tree_shape plan.now.shape) plan.now) }
+{
+    match plan.shape() {
+        Shape::Tree(root) => tree_image(alloc, plan, root),
+        Shape::Hand => Err(LabelFault::WrongShape),
+        Shape::Mesh(_, _, _) => Err(LabelFault::WrongShape),
+        Shape::Cube(_, _) => Err(LabelFault::WrongShape),
+    }
+}
+
+/// The image of a mesh's plan: labels go along the column first, and then along the row. All ports of a switch
+/// that have a wire have the table of `mesh_tables`, and all else is as the plan's own lines say.
+///
+/// WrongShape exactly where the plan is no mesh's; and NoMemory.
+#[tactic(auto, using(crate::proofs::ShapePlans::mesh_switches))]
+pub fn label_mesh(alloc: Global, plan: &Plan) -> Result<Image, LabelFault>
+    ensures image { IfOk result (λ image. IsImageOf plan.now image) }
+    ensures fits { IfOk result (λ image. Fits image plan.now) }
+    ensures shape { IsErrOf result fault.WrongShape ↔ (is_mesh_shape plan.now.shape ≡ false) }
+    ensures refused { IfErr result (IsShapeCause (is_mesh_shape plan.now.shape) plan.now) }
+{
+    match plan.shape() {
         Shape::Mesh(width, height, terminals) => {
-            let image = label_mesh(alloc, plan, width, height, terminals)?;
+            let image = mesh_image(alloc, plan, width, height, terminals)?;
             Ok(image)
         }
+        Shape::Hand => Err(LabelFault::WrongShape),
+        Shape::Tree(_) => Err(LabelFault::WrongShape),
+        Shape::Cube(_, _) => Err(LabelFault::WrongShape),
+    }
+}
+
+/// The image of a cube's plan: labels go by the highest bit at which the number of the switch that they are for
+/// differs. All ports of a switch that have a wire have the table of `cube_tables`, and all else is as the plan's
+/// own lines say.
+///
+/// WrongShape exactly where the plan is no cube's; and NoMemory.
+#[tactic(auto, using(crate::proofs::ShapePlans::cube_switches))]
+pub fn label_cube(alloc: Global, plan: &Plan) -> Result<Image, LabelFault>
+    ensures image { IfOk result (λ image. IsImageOf plan.now image) }
+    ensures fits { IfOk result (λ image. Fits image plan.now) }
+    ensures shape { IsErrOf result fault.WrongShape ↔ (is_cube_shape plan.now.shape ≡ false) }
+    ensures refused { IfErr result (IsShapeCause (is_cube_shape plan.now.shape) plan.now) }
+{
+    match plan.shape() {
         Shape::Cube(dimensions, terminals) => {
-            let image = label_cube(alloc, plan, dimensions, terminals)?;
+            let image = cube_image(alloc, plan, dimensions, terminals)?;
             Ok(image)
         }
+        Shape::Hand => Err(LabelFault::WrongShape),
+        Shape::Tree(_) => Err(LabelFault::WrongShape),
+        Shape::Mesh(_, _, _) => Err(LabelFault::WrongShape),
     }
 }
 

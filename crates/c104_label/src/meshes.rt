@@ -59,7 +59,7 @@ pub fn mesh_tables(
 /// each: at each port that has a wire the table of its switch, and all else as the plan's own lines say. The
 /// only error is out of memory.
 #[tactic(auto, using(crate::proofs::MeshTables::are_mesh_tables))]
-pub fn label_mesh(
+pub(crate) fn mesh_image(
     alloc: Global,
     plan: &Plan,
     width: usize,

@@ -5,7 +5,7 @@ ghost use Rattle.c104_regs.specs.declared.registers.TheConstants.{LINKS as LINK_
 ghost use Rattle.c104_describe.specs.Plans.{IsPlan};
 ghost use Rattle.c104_label.specs.Forests.{ends_of};
 ghost use Rattle.c104_label.specs.Trees.{forest_of};
-ghost use Rattle.c104_label.specs.TreeImages.{label_sum};
+ghost use Rattle.c104_label.specs.TreeImages.{total_count};
 ghost use Rattle.c104_label.specs.TreeLabels.{count_at, count_or_zero, forest_labels, labels_behind, labels_on, net_of, own_labels};
 
 use crate::forests::Forest;
@@ -15,7 +15,7 @@ use std::alloc::{AllocError, Global};
 
 /// How many labels a plan's terminals have in all.
 pub(crate) fn label_sum(plan: &Plan) -> u32
-    ensures { result ≡ label_sum plan.now.terminals }
+    ensures { result ≡ total_count plan.now.terminals }
 {
     let mut sum = 0;
     for terminal in plan.terminals() {

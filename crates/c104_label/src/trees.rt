@@ -6,7 +6,7 @@ ghost use Rattle.c104_describe.specs.Plans.{IsPlan};
 ghost use Rattle.c104_label.specs.Forests.{Forest as TheForest, IsConnected, IsSpanning};
 ghost use Rattle.c104_label.specs.LabelRows.{with_rows};
 ghost use Rattle.c104_label.specs.Trees.{forest_of};
-ghost use Rattle.c104_label.specs.TreeImages.{IsLabelCause, IsTreeImage, label_sum, most_labels, switch_place};
+ghost use Rattle.c104_label.specs.TreeImages.{IsLabelCause, IsTreeImage, most_labels, switch_place, total_count};
 ghost use Rattle.c104_label.specs.TreeLabels.{AreLinks, child_pieces, count_at, first_at, forest_labels, net_of, own_labels, place, place_end, rows_from, switch_table, tree_labels, tree_range, tree_rows};
 
 use crate::faults::LabelFault;
@@ -24,27 +24,21 @@ use std::alloc::{AllocError, Global};
 
 /// The image of a plan that is labelled as a tree from a root, a switch of the plan.
 ///
-/// Depth first, each switch's own terminals have the next labels in ascending order of links, each as many
-/// as its count, and then come those of the switches behind its links. A label leaves a switch by the link of
-/// its terminal, else by that to the subtree that has it, else by that to the parent, and what is no label by
-/// none. All ports of a switch that have a wire have the same rows, at most 36, in ascending order and without
-/// empty intervals. All else is as the plan's own lines say.
-///
 /// NotConnected where wires don't lead from the root to each switch; then TooManyLabels where the
 /// terminals have more labels than there are headers, 256, or 65536 of two bytes; and NoMemory.
-pub fn label_tree(alloc: Global, plan: &Plan, root: usize) -> Result<Image, LabelFault>
+pub(crate) fn tree_image(alloc: Global, plan: &Plan, root: usize) -> Result<Image, LabelFault>
     requires { root < length plan.now.switches }
     ensures image { IfOk result (λ image. (forest : TheForest) × IsTreeImage plan.now root forest image) }
     ensures fits { IfOk result (λ image. Fits image plan.now) }
     ensures connected { IfOk result (λ _. IsConnected plan.now root) }
-    ensures few { IfOk result (λ _. label_sum plan.now.terminals ≤ most_labels plan.now) }
+    ensures few { IfOk result (λ _. total_count plan.now.terminals ≤ most_labels plan.now) }
     ensures refused { IfErr result (IsLabelCause plan.now root) }
 {
     let forest = spanning_tree(alloc, plan, root)?;
     if label_sum(plan) > most_labels(plan) {
         return Err(LabelFault::TooManyLabels);
     }
-    let image = tree_image(alloc, plan, root, &forest)?;
+    let image = forest_image(alloc, plan, root, &forest)?;
     Ok(image)
 }
 
@@ -68,9 +62,9 @@ struct Tree<'a> {
 }
 
 /// The image of a plan that is labelled by its tree.
-fn tree_image(alloc: Global, plan: &Plan, root: usize, forest: &Forest) -> Result<Image, NoMemory>
+fn forest_image(alloc: Global, plan: &Plan, root: usize, forest: &Forest) -> Result<Image, NoMemory>
     requires tree { IsSpanning plan.now root (forest_of forest.now) }
-    requires few { label_sum plan.now.terminals ≤ 65536 }
+    requires few { total_count plan.now.terminals ≤ 65536 }
     ensures image { IfOk result (IsTreeImage plan.now root (forest_of forest.now)) }
     ensures fits { IfOk result (λ image. Fits image plan.now) }
 {

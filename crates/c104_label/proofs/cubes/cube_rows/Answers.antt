@@ -1,6 +1,7 @@
 use Rattle.std.proofs.Common.{◌≡◌, ◌∙◌, ap, sym, ℕ, suc, ◌<◌, ◌*◌, ◌+◌, ◌-◌, ◌/◌, ◌%◌, ◌^◌, refl, arith}
 use Rattle.c104_label.specs.LabelRows.{label_row, with_row}
-use Rattle.c104_label.proofs.CubeRows.{cube_down, cube_own, cube_up, double_is, down_first, down_next, own_first, own_next, size_is, up_first, up_last, up_next, up_small}
+use Rattle.c104_describe.proofs.LayoutNumbers.{power_is}
+use Rattle.c104_label.proofs.CubeRows.{cube_down, cube_own, cube_up, double_is, down_first, down_next, own_first, own_next, up_first, up_last, up_next, up_small}
 use Rattle.c104_label.proofs.cubes.cube_rows.Goals as goal
 
 pub loop-passed-init : goal.loop-passed-init
@@ -13,7 +14,7 @@ loop-passed-preserved c =
     let x = c.args.switch in
     let i = c.loop-passed.passed in
     let size : ℕ = (1 * 2 ^ (d - 1 - i)) % 18446744073709551616 in
-    let is : x / size * size * p ≡ x / 2 ^ (d - 1 - i) * 2 ^ (d - 1 - i) * p = ap (λ s. x / s * s * p) (size_is (d - 1 - i) (omega (arith, c.requires.low))) in
+    let is : x / size * size * p ≡ x / 2 ^ (d - 1 - i) * 2 ^ (d - 1 - i) * p = ap (λ s. x / s * s * p) (power_is (d - 1 - i) (omega (arith, c.requires.low))) in
     let added : c.add_row.new.rows.items ≡ with_row c.loop-passed.rows.items (label_row (x / size * size * p) (d - 1 - i)) = c.in_ok-add_row.ensures {u = tt} in
     added ∙ ap (λ rows. with_row rows (label_row (x / size * size * p) (d - 1 - i))) c.loop-passed.invariant ∙ down_next d p x i (x / size * size * p) (d - 1 - i) is refl
 

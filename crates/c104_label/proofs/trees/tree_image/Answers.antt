@@ -1,43 +1,13 @@
-use Rattle.std.proofs.Common.{◌∙◌, ap, length}
-use Rattle.std.proofs.lemmas.List.FromFn.{length-map-range_with_len}
-use Rattle.c104_describe.proofs.Wires.{wiring}
+use Rattle.std.proofs.Common.{arith}
 use Rattle.c104_label.specs.Trees.{forest_of}
-use Rattle.c104_label.specs.TreeLabels.{count_at, switch_table}
-use Rattle.c104_label.proofs.TreeSteps.{image_done, labels_few, plan_few}
-use Rattle.c104_label.proofs.TreeTables.{ranges_are, tables_in_range}
+use Rattle.c104_label.proofs.TreeSteps.{most_small}
 use Rattle.c104_label.proofs.trees.tree_image.Goals as goal
 
-pub tree_tables-requires : goal.tree_tables-requires
-tree_tables-requires c =
-    let counts = ap count_at c.as_slice.ensures.value ∙ c.in_ok-counts.ensures.counts in
-    record {
-      tree = c.requires.tree;
-      counts = counts;
-      few = labels_few c.args.plan.now _ c.args.root (forest_of c.args.forest.now) c.own_counts.ensures.kept c.requires.tree counts c.requires.few;
-    }
-
-pub tree_ranges-requires : goal.tree_ranges-requires
-tree_ranges-requires c =
-    let counts = ap count_at c.as_slice.ensures.value ∙ c.in_ok-counts.ensures.counts in
-    record {
-      counts = counts;
-      few = labels_few c.args.plan.now _ c.args.root (forest_of c.args.forest.now) c.own_counts.ensures.kept c.requires.tree counts c.requires.few;
-    }
-
-pub with_tables-requires-clause-ranges : goal.with_tables-requires-clause-ranges
-with_tables-requires-clause-ranges c =
-    ranges_are c.args.plan.now (wiring c.args.plan.now c.own_counts.ensures.kept) c.args.root (forest_of c.args.forest.now) c.requires.tree c.in_ok-ranges.ranges.items c.own_counts.ensures.kept c.in_ok-ranges.ensures
-    (plan_few c.args.plan.now c.args.root (forest_of c.args.forest.now) c.own_counts.ensures.kept c.requires.tree c.requires.few)
-
-pub with_tables-requires-clause-switches : goal.with_tables-requires-clause-switches
-with_tables-requires-clause-switches c =
-    ap length (c.as_slice-2.ensures.value ∙ c.in_ok-tables.ensures {u = tt}) ∙ length-map-range_with_len (switch_table c.args.plan.now c.args.root (forest_of c.args.forest.now)) 0 (length c.args.plan.now.switches)
-
-pub with_tables-requires-clause-tables : goal.with_tables-requires-clause-tables
-with_tables-requires-clause-tables c =
-    tables_in_range c.args.plan.now (wiring c.args.plan.now c.own_counts.ensures.kept) c.args.root (forest_of c.args.forest.now) c.requires.tree c.as_slice-2.result.now (c.as_slice-2.ensures.value ∙ c.in_ok-tables.ensures {u = tt})
-    (plan_few c.args.plan.now c.args.root (forest_of c.args.forest.now) c.own_counts.ensures.kept c.requires.tree c.requires.few)
+pub forest_image-requires : goal.forest_image-requires
+forest_image-requires c = record {
+  tree = c.in_ok-forest.ensures.tree;
+  few = omega (arith, c.label_sum.ensures, c.most_labels.ensures.value, most_small c.args.plan.now);
+}
 
 pub returns-clause-image : goal.returns-clause-image
-returns-clause-image c =
-    image_done _ c.args.plan.now c.args.root (forest_of c.args.forest.now) c.in_ok-ranges.ranges.items c.in_ok-tables.tables.items c.as_slice-2.result.now c.with_tables.result c.own_counts.ensures.kept c.requires.tree c.in_ok-ranges.ensures c.in_ok-tables.ensures c.as_slice-2.ensures.value c.with_tables.ensures.image
+returns-clause-image c = (forest_of c.in_ok-forest.forest, c.in_ok-image.ensures.image)
