@@ -1,5 +1,6 @@
 use c104_control::CommandFault;
 use c104_describe::{ImageFault, PlanFault, PlanFaultKind};
+use c104_label::LabelFault;
 use c104_net::{EventFault, PlaceFault};
 use c104_regs::RegFault;
 use c104_token::{NoMemory, TokenFault};
@@ -84,6 +85,36 @@ fn of_commands(rt: HostRuntime) -> Result<(), Fail> {
             "WrongLength",
             "the command has another length",
         ),
+    ] {
+        let found = message_of(rt.alloc(), &fault)?;
+        let told = (fault.number(), fault.name(), found.as_str());
+        assert!(rt; told == (number, name, message), "{found}");
+    }
+    Ok(())
+}
+
+#[test]
+fn of_labels(rt: HostRuntime) -> Result<(), Fail> {
+    for (fault, number, name, message) in [
+        (
+            LabelFault::NotConnected,
+            1,
+            "NotConnected",
+            "wires do not lead from the root to each switch",
+        ),
+        (
+            LabelFault::TooManyLabels,
+            2,
+            "TooManyLabels",
+            "there are more labels than headers",
+        ),
+        (
+            LabelFault::WrongShape,
+            3,
+            "WrongShape",
+            "the network does not have the shape that is labelled so",
+        ),
+        (LabelFault::NoMemory, 4, "NoMemory", "out of memory"),
     ] {
         let found = message_of(rt.alloc(), &fault)?;
         let told = (fault.number(), fault.name(), found.as_str());
