@@ -35,7 +35,7 @@ Examples:
   c104 label network.txt              which labels and registers it gives
 
 Where standard error is a terminal, or under --explain, it is told there what is wrong
-with a line, and what didn't arrive. Standard output is the same.
+with a line, why an event isn't ready, and what didn't arrive. Standard output is the same.
 
 Exit status:
   0  done, also where an event was refused

@@ -2,10 +2,13 @@
 //!
 //! An answer names a fault by its number and name. A message says what was wanted, and about which word:
 //! `description_message` of a faulty description, `fault_message` of a faulty line of a script and
-//! `refusal_message` of a refused one; `leftover_messages` says at the end of a run what didn't arrive. The sentences are tables, one for descriptions and one for scripts.
+//! `refusal_message` of a refused one. `reason_message` says why what a line asked isn't ready, and
+//! `leftover_messages` at the end of a run what didn't arrive. The sentences are tables: one for
+//! descriptions, one for scripts, and one for what isn't ready.
 //!
 //! `Messages` is what takes messages, with the line that each is `About`; `Silent` takes none. Nothing
-//! hangs on a message: it is left out where memory is short, and what it says isn't proved.
+//! hangs on a message: it is left out where memory is short. What a message says of a reason is proved, and what
+//! the others say isn't.
 #![tactic(auto)]
 
 mod description_mistakes;
@@ -13,6 +16,8 @@ mod descriptions;
 mod leftovers;
 mod messages;
 mod nearest;
+mod reason_sentences;
+mod reasons;
 mod script_mistakes;
 mod scripts;
 mod words;
@@ -21,5 +26,6 @@ pub use description_mistakes::DescriptionMistake;
 pub use descriptions::description_message;
 pub use leftovers::leftover_messages;
 pub use messages::{About, Behind, Messages, Silent};
+pub use reasons::reason_message;
 pub use script_mistakes::ScriptMistake;
 pub use scripts::{fault_message, refusal_message};

@@ -1,10 +1,12 @@
 //! Messages about a script, behind the answers.
-ghost use Rattle.std.specs.Prelude.{◌≡◌, [], OnOk, OnErr};
+ghost use Rattle.std.specs.Prelude.{◌≡◌, [], IfSome, OnOk, OnErr};
+ghost use Rattle.std.specs.String.{string_bytes};
 ghost use Rattle.c104_stream.specs.Writing.{AppendsAndKeeps, AppendsPrefix};
+ghost use Rattle.c104_session.specs.Told.{TellsReason};
 
 use crate::session::Session;
-use c104_explain::{About, Messages, fault_message, refusal_message};
-use c104_script::Answer;
+use c104_explain::{About, Messages, fault_message, reason_message, refusal_message};
+use c104_script::{Answer, Request, read_line};
 use c104_stream::{CannotWrite, Kept};
 use c104_switch::Reply;
 use std::alloc::Global;
@@ -43,6 +45,20 @@ fn answer_message(
     match answer {
         Answer::Faulty(fault) => fault_message(alloc, line, *fault),
         Answer::Refused(fault) => refusal_message(alloc, session.net.plan(), line, *fault),
-        Answer::Replied(_) => None,
+        Answer::Replied(Reply::NotReady) => unready_message(alloc, session, line),
+        Answer::Replied(Reply::Done | Reply::Token(_) | Reply::Control(_)) => None,
     }
+}
+
+/// Why what a line asks isn't ready. Where that was its answer, the network is as it was when the line came. None
+/// where the line asks nothing, or what it asks is ready or refused, and out of memory.
+fn unready_message(alloc: Global, session: &Session, line: &[u8]) -> Option<String>
+    ensures { IfSome result (λ text. TellsReason session.now line.now (string_bytes text)) }
+{
+    let plan = session.net.plan();
+    let Ok(Some(Request::Asked(event))) = read_line(alloc, plan, line) else {
+        return None;
+    };
+    let reason = session.net.why(&event)?;
+    reason_message(alloc, plan, reason)
 }

@@ -1,0 +1,47 @@
+//! The sentences about events that aren't ready.
+ghost use Rattle.std.specs.Prelude.{◌≡◌};
+ghost use Rattle.c104_explain.specs.Reasons.{reason_sentence};
+
+use c104_switch::Unready;
+
+/// The sentence that tells why an event isn't ready. Of a network three of them never come: a link that isn't there
+/// is refused, and at the two ends of a wire the credit of the one is what the other has granted.
+pub(crate) fn reason_sentence(unready: Unready) -> &'static str
+    ensures { result.now ≡ reason_sentence unready }
+{
+    match unready {
+        Unready::NoLink => "there is no such link",
+        Unready::NotStarted => "the switch is not started; `control` with the byte 01 starts it",
+        Unready::NoToken => {
+            "no token waits here; one comes by `send` from a terminal, by `cross` over a wire, by `input` or \
+             `claim` to an output"
+        }
+        Unready::NoCredit => {
+            "a token waits, and there is no credit for it; `credit` grants some at the other end of the wire"
+        }
+        Unready::NotGranted => "no token may come in, since none is granted; `credit` grants some",
+        Unready::NoRoom => {
+            "there is no room to grant eight more tokens; those that are here have to go on, and those that \
+             are granted to come in first"
+        }
+        Unready::CreditFull => {
+            "there is credit for 64 tokens, and no more may be granted; some have to go out first"
+        }
+        Unready::WantsOutput(_) => {
+            "the header waits for an output; `claim` gets it one that is free, of the group of this link"
+        }
+        Unready::OutputFull(_) => {
+            "the output that the packet goes to is full; `cross` takes a token out of it"
+        }
+        Unready::WantsNothing => {
+            "the input wants no output; `input` has to read a header first, which selects a link"
+        }
+        Unready::OutsideGroup(_) => "the header goes to another output, of the group of this link",
+        Unready::Owned(_) => {
+            "the output is taken until the end of a packet has gone to it, which comes from this input"
+        }
+        Unready::NoRoomForHeader => {
+            "the output has no room for the header; `cross` takes a token out of it"
+        }
+    }
+}

@@ -1,0 +1,16 @@
+-- What people are told of a line that asks for what isn't ready.
+use Rattle.std.specs.Prelude.{ℕ, ◌≡◌, List, Some, Ok}
+use Rattle.c104_event.specs.declared.events.Event.{Event}
+use Rattle.c104_explain.specs.Reasons.{reason_text}
+use Rattle.c104_net.specs.declared.reason.Reason.{Reason}
+use Rattle.c104_net.specs.Reasons.{network_why}
+use Rattle.c104_script.specs.Script.{read_script_line}
+use Rattle.c104_script.specs.declared.places.Request.TheVariants.{Asked}
+use Rattle.c104_session.specs.declared.session.Session.{Session}
+
+-- a text tells the reason of the event that a line asks for: why it isn't ready in the network as it is, and where
+abbrev pub TellsReason : Session → List ℕ → List ℕ → Type 0
+TellsReason session line text = (event : Event) × (reason : Reason)
+    × (read_script_line session.net.plan line ≡ Ok (Some (Asked event)))
+    × (network_why session.net event ≡ Some reason)
+    × (text ≡ reason_text session.net.plan reason)
