@@ -57,18 +57,28 @@ impl Messages for Told<'_> {
     }
 }
 
-/// Tells of a file that stands in the place of a command, where messages are wanted.
+/// Tells of a file that stands in the place of a command, and of one that stands alone where two are wanted, where
+/// messages are wanted.
 pub fn tell_of_words(rt: &HostRuntime, words: &[String], error: &Error) {
     let explain = words.iter().any(|word| word.as_str() == EXPLAIN_WORD);
-    if error.kind() != ErrorKind::InvalidSubcommand || !(explain || rt.stderr().is_terminal()) {
+    if !(explain || rt.stderr().is_terminal()) {
         return;
     }
-    let Some(path) = first_path(words) else {
+    let [_, words @ ..] = words else {
         return;
     };
-    if fs::open(rt, path).is_err() {
-        return;
+    match error.kind() {
+        ErrorKind::InvalidSubcommand => tell_of_command(rt, words),
+        ErrorKind::MissingRequiredArgument => tell_of_script(rt, words),
+        _ => {}
     }
+}
+
+/// Tells of a file in the place of a command.
+fn tell_of_command(rt: &HostRuntime, words: &[String]) {
+    let Some(path) = file_at(rt, words, 0) else {
+        return;
+    };
     let _ = eprintln!(rt;
         "c104: {path}: a file stands in the place of a command; `c104 < {path}` runs a description and a script \
          that are one text, `c104 run {path} SCRIPT` a description and its script, and `c104 check {path}` checks a \
@@ -76,15 +86,29 @@ pub fn tell_of_words(rt: &HostRuntime, words: &[String], error: &Error) {
     );
 }
 
-/// The first word behind the program's name that is no option.
-fn first_path(words: &[String]) -> Option<&str> {
-    let [_, words @ ..] = words else {
-        return None;
+/// Tells of a file behind a command that wants a second one.
+fn tell_of_script(rt: &HostRuntime, words: &[String]) {
+    let Some(path) = file_at(rt, words, 1) else {
+        return;
     };
+    let _ = eprintln!(rt;
+        "c104: {path}: the script is wanted behind it; `c104 run {path} SCRIPT` takes a description and its script \
+         from two files, `c104 run {path} -` the script from standard input, and `c104 < {path}` runs both where \
+         they are one text"
+    );
+}
+
+/// The word of this number, from 0, of those that are no option, if it is a file's path.
+fn file_at<'a>(rt: &HostRuntime, words: &'a [String], number: usize) -> Option<&'a str> {
+    let mut left = number;
     for word in words {
-        if !word.as_str().starts_with('-') {
-            return Some(word.as_str());
+        if word.as_str().starts_with('-') {
+            continue;
         }
+        if left == 0 {
+            return fs::open(rt, word.as_str()).ok().map(|_| word.as_str());
+        }
+        left -= 1;
     }
     None
 }

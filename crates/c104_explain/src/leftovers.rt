@@ -15,11 +15,23 @@ const COUNTS: [(u16, &str); 4] = [
         "packets that this input has dropped, since no row covers their header or a row sinks it",
     ),
     (0x04, "packets that ended in their header at this input"),
-    (0x05, "tokens that wait at this input"),
-    (0x06, "tokens that wait at this output"),
+    (
+        0x05,
+        "tokens that wait at this input; `input` and `claim` move them on, or more `rounds`",
+    ),
+    (
+        0x06,
+        "tokens that wait at this output; `cross` moves them on, or more `rounds`",
+    ),
 ];
 
-/// The sentence about a packet whose end hasn't arrived.
+/// The sentences about a terminal: of what it is to send, of what came over its wire, and of what arrived.
+const UNSENT: &str =
+    "tokens that wait to go out of this terminal; `cross` moves them on, or more `rounds`";
+
+const UNDRAINED: &str =
+    "tokens that came over the wire of this terminal; they arrive by `drain`, or by more `rounds`";
+
 const UNFINISHED: &str = "tokens that arrived of a packet whose end has not";
 
 /// What is told of a network in which not everything arrived: a message for each port and kind. None out of
@@ -82,10 +94,16 @@ fn add_terminal(
     name: &str,
     messages: &mut Vec<String>,
 ) -> Result<(), AllocError> {
-    let unfinished = unfinished_tokens(alloc, net, number)?;
-    if unfinished > 0 {
-        let message = format!(in alloc; "{name}: {UNFINISHED}: {unfinished}")?;
-        messages.push(message)?;
+    let counts = [
+        (net.unsent(number).unwrap_or(0), UNSENT),
+        (net.undrained(number).unwrap_or(0), UNDRAINED),
+        (unfinished_tokens(alloc, net, number)?, UNFINISHED),
+    ];
+    for (count, sentence) in counts {
+        if count > 0 {
+            let message = format!(in alloc; "{name}: {sentence}: {count}")?;
+            messages.push(message)?;
+        }
     }
     Ok(())
 }

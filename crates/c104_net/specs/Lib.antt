@@ -6,6 +6,7 @@ pub mod FarEnds
 pub mod Acts
 pub mod Places
 pub mod Network
+pub mod Waiting
 pub mod Reasons
 pub mod ReasonMeanings
 pub mod Balance

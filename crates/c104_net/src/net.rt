@@ -7,6 +7,7 @@ ghost use Rattle.c104_net.specs.Finished.{network_finish, run_arrived};
 ghost use Rattle.c104_net.specs.Network.{AnswersEvent, AnswersEvents};
 ghost use Rattle.c104_net.specs.Network.{new_network, placed_network, network_arrived, network_peek};
 ghost use Rattle.c104_net.specs.Rounds.{RoundsEnd};
+ghost use Rattle.c104_net.specs.Waiting.{network_undrained, network_unsent};
 
 mod reasons;
 
@@ -152,6 +153,32 @@ impl<T: TokenKind> NetOf<T> {
             return None;
         }
         self.places.get(plan.switches().len() + terminal)?.arrived()
+    }
+
+    /// How many tokens of its packets wait at a terminal to go out. None where the plan has no such
+    /// terminal.
+    pub fn unsent(&self, terminal: usize) -> Option<usize>
+        ensures { result ≡ network_unsent self.now terminal }
+    {
+        let plan = self.wires.plan();
+        if terminal >= plan.terminals().len() {
+            return None;
+        }
+        self.places.get(plan.switches().len() + terminal)?.waiting()
+    }
+
+    /// How many tokens came in at a terminal and have yet to arrive. None where the plan has no such
+    /// terminal.
+    pub fn undrained(&self, terminal: usize) -> Option<usize>
+        ensures { result ≡ network_undrained self.now terminal }
+    {
+        let plan = self.wires.plan();
+        if terminal >= plan.terminals().len() {
+            return None;
+        }
+        self.places
+            .get(plan.switches().len() + terminal)?
+            .undrained()
     }
 
     /// The value of the register at this address of a switch. None where the plan has no such

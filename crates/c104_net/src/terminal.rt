@@ -67,6 +67,13 @@ impl<T: TokenKind> TerminalOf<T> {
         self.outbox.len()
     }
 
+    /// How many tokens came in and have yet to arrive.
+    pub fn undrained(&self) -> usize
+        ensures { result ≡ length self.now.input.items }
+    {
+        self.input.len()
+    }
+
     /// The tokens that arrived.
     pub fn arrived(&self) -> &[T]
         ensures { result.now ≡ self.now.arrived }
