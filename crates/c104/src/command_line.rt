@@ -35,7 +35,8 @@ Examples:
   c104 label network.txt              which labels and registers it gives
 
 Where standard error is a terminal, or under --explain, it is told there what is wrong
-with a line, why an event isn't ready, and what didn't arrive. Standard output is the same.
+with a line or with labels, why an event isn't ready, and what didn't arrive. Standard
+output is the same.
 
 Exit status:
   0  done, also where an event was refused
@@ -52,7 +53,10 @@ const TEACHING_CHECK: &str =
     "The labels of a terminal are the headers that are to come to it, from every
 terminal and by any choice of a link in a group; a header that is no label is to
 be dropped where it comes in. Prints `accepted`, or the first fault, with the
-header, the terminal that it comes from, and the inputs on its way.";
+header, the terminal that it comes from, and the inputs on its way.
+
+On a terminal, or under --explain, standard error says where the header goes wrong
+and, where some rows or labels do, which lines of the description mend it.";
 
 const TEACHING_LABEL: &str =
     "For each terminal a line with its first label and how many it has, in decimal;

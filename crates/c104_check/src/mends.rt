@@ -1,9 +1,9 @@
 //! What would mend a refused walk.
-ghost use Rattle.std.specs.Prelude.{◌≡◌, true, IfOk, IfSome};
+ghost use Rattle.std.specs.Prelude.{◌≡◌, true, false, IfOk, MatchOption};
 ghost use Rattle.c104_interval.specs.declared.intervals.Select.TheVariants.{Sink};
 ghost use Rattle.c104_describe.specs.PlanImage.{Fits};
-ghost use Rattle.c104_check.specs.Mends.{IsMend};
-ghost use Rattle.c104_check.specs.Routes.{routes_of};
+ghost use Rattle.c104_check.specs.Mends.{IsMend, NoMend};
+ghost use Rattle.c104_check.specs.Routes.{SwitchPort as ThePort, routes_of};
 ghost use Rattle.c104_check.specs.Walks.{is_met};
 
 use crate::faults::Shown;
@@ -38,7 +38,8 @@ pub fn find_mend(
     shown: &Shown,
 ) -> Result<Option<Mend>, NoMemory>
     requires { Fits image.now plan.now }
-    ensures { IfOk result (λ found. IfSome found (IsMend (routes_of plan.now image.now) shown.now)) }
+    ensures { IfOk result (λ found. MatchOption found (NoMend (routes_of plan.now image.now) shown.now)
+        (IsMend (routes_of plan.now image.now) shown.now)) }
 {
     let routes = Routes::new(alloc, plan, image)?;
     match routes.owner(shown.header) {
@@ -48,10 +49,10 @@ pub fn find_mend(
 }
 
 impl<'a> Routes<'a> {
-    ghost use Rattle.std.specs.Prelude.{◌≡◌, ◌<◌, ◌≤◌, ℕ, true, length, Some, IfOk, IfSome};
+    ghost use Rattle.std.specs.Prelude.{◌≡◌, ◌<◌, ◌≤◌, ◌↔◌, ℕ, length, Some, IfOk, IsTrue, MatchOption};
     ghost use Rattle.c104_regs.specs.declared.registers.TheConstants.{LINKS as THE_LINKS};
-    ghost use Rattle.c104_check.specs.Mends.{IsMend, LeadsBy};
-    ghost use Rattle.c104_check.specs.Routes.{Leads, is_in_group, owner as owner_of};
+    ghost use Rattle.c104_check.specs.Mends.{GroupLeads, IsMend, LeadsBy, NoGroupLeads, NoMend};
+    ghost use Rattle.c104_check.specs.Routes.{Leads, owner as owner_of};
     ghost use Rattle.c104_check.specs.Trails.{IsInput, IsNetwork, routes_in};
 
     /// The same for a header with an owner.
@@ -62,7 +63,8 @@ impl<'a> Routes<'a> {
         owner: usize,
     ) -> Result<Option<Mend>, NoMemory>
         requires { owner_of (routes_in self.now) shown.now.header ≡ Some owner }
-        ensures { IfOk result (λ found. IfSome found (IsMend (routes_in self.now) shown.now)) }
+        ensures { IfOk result (λ found. MatchOption found (NoMend (routes_in self.now) shown.now)
+            (IsMend (routes_in self.now) shown.now)) }
     {
         let walk = shown.walk.as_slice();
         for followers in 0..walk.len() {
@@ -83,9 +85,9 @@ impl<'a> Routes<'a> {
         owner: usize,
         switch: usize,
     ) -> Result<Option<usize>, NoMemory>
-        ensures { IfOk result (λ found. IfSome found (λ link. (link < THE_LINKS)
-            × ((o : ℕ) → is_in_group (routes_in self.now) switch link o ≡ true
-            → LeadsBy (routes_in self.now) header owner switch o))) }
+        ensures { IfOk result (λ found. MatchOption found
+            (NoGroupLeads (routes_in self.now) header owner switch)
+            (GroupLeads (routes_in self.now) header owner switch)) }
     {
         if switch >= self.switch_count() {
             return Ok(None);
@@ -111,8 +113,8 @@ impl<'a> Routes<'a> {
         requires network { IsNetwork (routes_in self.now) }
         requires switch { switch < length (routes_in self.now).settings }
         requires below { group.last < THE_LINKS }
-        ensures { IfOk result (λ all. all ≡ true → (o : ℕ) → group.first ≤ o → o ≤ group.last
-            → LeadsBy (routes_in self.now) header owner switch o) }
+        ensures { IfOk result (λ all. IsTrue all ↔ ((o : ℕ) → group.first ≤ o → o ≤ group.last
+            → LeadsBy (routes_in self.now) header owner switch o)) }
     {
         for link in group.first..group.last + 1 {
             if !self.leads_by(alloc, header, owner, SwitchPort { switch, link })? {
@@ -132,8 +134,8 @@ impl<'a> Routes<'a> {
     ) -> Result<bool, NoMemory>
         requires network { IsNetwork (routes_in self.now) }
         requires input { IsInput (length (routes_in self.now).settings) link }
-        ensures { IfOk result (λ leads. leads ≡ true
-            → LeadsBy (routes_in self.now) header owner link.switch link.link) }
+        ensures { IfOk result (λ leads. IsTrue leads
+            ↔ LeadsBy (routes_in self.now) header owner link.switch link.link) }
     {
         match way_of(self.peer(link), owner) {
             Way::Astray(_) => Ok(false),
@@ -152,8 +154,8 @@ impl<'a> Routes<'a> {
     ) -> Result<bool, NoMemory>
         requires network { IsNetwork (routes_in self.now) }
         requires input { IsInput (length (routes_in self.now).settings) at }
-        ensures { IfOk result (λ leads. leads ≡ true
-            → (k : ℕ) × Leads (routes_in self.now) header owner k at.switch at.link) }
+        ensures { IfOk result (λ leads. IsTrue leads
+            ↔ ((k : ℕ) × Leads (routes_in self.now) header owner k at.switch at.link)) }
     {
         let mut marks = vec![in alloc; Mark::New; self.switch_count() * LINKS]?;
         let mut walk = Vec::new(alloc);
@@ -167,7 +169,8 @@ impl<'a> Routes<'a> {
 
 /// What would mend the walk of a header without an owner.
 fn mend_stray(shown: &Shown) -> Option<Mend>
-    ensures { IfSome result (λ mend. (is_met mend.at shown.now.walk ≡ true) × (mend.select ≡ Sink)) }
+    ensures { MatchOption result ((p : ThePort) → is_met p shown.now.walk ≡ false)
+        (λ mend. (is_met mend.at shown.now.walk ≡ true) × (mend.select ≡ Sink)) }
 {
     let walk = shown.walk.as_slice();
     if walk.is_empty() {

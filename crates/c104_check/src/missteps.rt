@@ -1,7 +1,7 @@
 //! Where a refused walk goes wrong.
-ghost use Rattle.std.specs.Prelude.{◌≡◌, IfOk, IfSome};
+ghost use Rattle.std.specs.Prelude.{◌≡◌, IfOk, MatchOption};
 ghost use Rattle.c104_describe.specs.PlanImage.{Fits};
-ghost use Rattle.c104_check.specs.Mends.{IsMisstepOf, is_wrong};
+ghost use Rattle.c104_check.specs.Mends.{IsMisstepOf, NoMisstepOf, is_wrong};
 ghost use Rattle.c104_check.specs.Routes.{routes_of};
 
 use crate::faults::{CheckFault, Shown};
@@ -31,7 +31,7 @@ pub struct Misstep {
 /// Where the walk of a fault goes wrong: at its last input, or where that was met before, at the one before
 /// it. The link is the first that leads wrong there.
 ///
-/// None for a fault without a walk. It fails only when out of memory.
+/// None for a fault without a walk, and where no link leads wrong there. It fails only when out of memory.
 pub fn find_misstep(
     alloc: Global,
     plan: &Plan,
@@ -39,7 +39,9 @@ pub fn find_misstep(
     fault: &CheckFault,
 ) -> Result<Option<Misstep>, NoMemory>
     requires { Fits image.now plan.now }
-    ensures { IfOk result (λ found. IfSome found (IsMisstepOf (routes_of plan.now image.now) fault.now)) }
+    ensures { IfOk result (λ found. MatchOption found
+        (NoMisstepOf (routes_of plan.now image.now) fault.now)
+        (IsMisstepOf (routes_of plan.now image.now) fault.now)) }
 {
     let routes = Routes::new(alloc, plan, image)?;
     match fault {
@@ -52,17 +54,18 @@ pub fn find_misstep(
 }
 
 impl<'a> Routes<'a> {
-    ghost use Rattle.std.specs.Prelude.{◌≡◌, ◌≢◌, ◌<◌, ◌≤◌, ℕ, true, length, Some, IfSome, MatchOption};
+    ghost use Rattle.std.specs.Prelude.{◌≡◌, ◌≢◌, ◌<◌, ◌≤◌, ◌↔◌, ℕ, true, false, length, Some, IsTrue, MatchOption};
     ghost use Rattle.c104_interval.specs.declared.intervals.Select.TheVariants.{Link};
     ghost use Rattle.c104_regs.specs.declared.registers.TheConstants.{LINKS as THE_LINKS};
     ghost use Rattle.c104_describe.specs.declared.ports.Port.TheVariants as port;
-    ghost use Rattle.c104_check.specs.Mends.{IsMisstep, is_wrong};
+    ghost use Rattle.c104_check.specs.Mends.{IsMisstep, NoMisstep, is_wrong};
     ghost use Rattle.c104_check.specs.Routes.{select};
     ghost use Rattle.c104_check.specs.Trails.{IsInput, routes_in};
 
     /// Where a walk goes wrong, at the input that so many follow.
     fn misstep(&self, shown: &Shown, followers: usize) -> Option<Misstep>
-        ensures { IfSome result (IsMisstep (routes_in self.now) shown.now) }
+        ensures { MatchOption result (NoMisstep (routes_in self.now) shown.now followers)
+            (IsMisstep (routes_in self.now) shown.now followers) }
     {
         let walk = shown.walk.as_slice();
         if walk.len() <= followers {
@@ -114,7 +117,7 @@ impl<'a> Routes<'a> {
 
     /// Whether this is an input of the network.
     pub(crate) fn has(&self, at: SwitchPort) -> bool
-        ensures { result ≡ true → IsInput (length (routes_in self.now).settings) at }
+        ensures { IsTrue result ↔ IsInput (length (routes_in self.now).settings) at }
     {
         at.switch < self.switch_count() && at.link < LINKS
     }
@@ -129,7 +132,10 @@ impl<'a> Routes<'a> {
     ) -> Option<usize>
         requires switch { switch < length (routes_in self.now).settings }
         requires links { group.last < THE_LINKS }
-        ensures { IfSome result (λ link. (group.first ≤ link) × (link ≤ group.last)
+        ensures { MatchOption result
+            ((o : ℕ) → group.first ≤ o → o ≤ group.last
+            → is_wrong last owner ((routes_in self.now).peer (port.Switch switch o)) ≡ false)
+            (λ link. (group.first ≤ link) × (link ≤ group.last)
             × (is_wrong last owner ((routes_in self.now).peer (port.Switch switch link)) ≡ true)) }
     {
         for link in group.first..group.last + 1 {

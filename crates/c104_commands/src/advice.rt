@@ -1,6 +1,7 @@
 //! What people are told of labels that are refused: what is wrong, and what mends it.
-ghost use Rattle.std.specs.Prelude.{◌≡◌, ◌≤◌, IfOk};
+ghost use Rattle.std.specs.Prelude.{◌≡◌, ◌≤◌, [], IfOk};
 ghost use Rattle.std.specs.String.{string_bytes};
+ghost use Rattle.c104_check.specs.Mends.{NoMend};
 ghost use Rattle.c104_check.specs.Routes.{routes_of};
 ghost use Rattle.c104_check.specs.Walks.{is_met};
 ghost use Rattle.c104_commands.specs.Advice.{IsAdvice, TellsStep, end_text, misstep_text, owner_text, way_text};
@@ -117,6 +118,8 @@ fn walk_advice(
 /// The lines that mend a walk, if some do.
 fn walk_change(alloc: Global, plan: &Plan, image: &Image, shown: &Shown) -> Result<String, NoMemory>
     requires { Fits image.now plan.now }
+    ensures { IfOk result (λ text.
+        NoMend (routes_of plan.now image.now) shown.now → string_bytes text ≡ []) }
 {
     match find_mend(alloc, plan, image, shown)? {
         Some(mend) => {

@@ -10,12 +10,13 @@ ghost use Rattle.c104_describe.specs.declared.faults.PlanFault.{PlanFault as The
 ghost use Rattle.c104_commands.specs.Checks.{CheckEnds, ChecksText};
 ghost use Rattle.c104_commands.specs.Setups.{ComesTo};
 
+use crate::advice::check_advice;
 use crate::setups::{Setup, refuse, set_up};
 use crate::status::Status;
 use crate::texts::check_fault_text;
 use c104_check::{CheckFault, check};
 use c104_describe::MAX_DESCRIPTION;
-use c104_explain::{Messages, Silent};
+use c104_explain::{About, Messages, Silent};
 use c104_stream::{Halt, read_up_to, write_whole};
 use std::alloc::Global;
 use std::io::{Read, Write};
@@ -65,13 +66,18 @@ fn check_description<W: Write, M: Messages>(
         (W.contents writer.old) (W.contents writer.new) result }
 {
     match set_up(alloc, description) {
-        Ok(setup) => check_setup(alloc, &setup, writer),
+        Ok(setup) => check_setup(alloc, &setup, writer, messages),
         Err(fault) => refuse(alloc, description, fault, writer, messages),
     }
 }
 
 /// Checks the labels of a network.
-fn check_setup<W: Write>(alloc: Global, setup: &Setup, writer: &mut W) -> Status
+fn check_setup<W: Write, M: Messages>(
+    alloc: Global,
+    setup: &Setup,
+    writer: &mut W,
+    messages: &mut M,
+) -> Status
     requires { Fits setup.now.image setup.now.plan }
     ensures { (due : Result ThePlan ThePlanFault) → ComesTo due (Ok (setup.now.plan, setup.now.image))
         → CheckEnds due (W.contents writer.old) (W.contents writer.new) result }
@@ -82,17 +88,19 @@ fn check_setup<W: Write>(alloc: Global, setup: &Setup, writer: &mut W) -> Status
             Err(_) => Status::CannotWrite,
         },
         Err(CheckFault::NoMemory) => Status::NoMemory,
-        Err(fault) => refuse_labels(alloc, setup, &fault, writer),
+        Err(fault) => refuse_labels(alloc, setup, &fault, writer, messages),
     }
 }
 
 /// Tells why the labels of a network are refused.
-fn refuse_labels<W: Write>(
+fn refuse_labels<W: Write, M: Messages>(
     alloc: Global,
     setup: &Setup,
     fault: &CheckFault,
     writer: &mut W,
+    messages: &mut M,
 ) -> Status
+    requires fits { Fits setup.now.image setup.now.plan }
     requires cause { IsCause (routes_of setup.now.plan setup.now.image) fault.now }
     requires told { fault.now ≢ check_fault.NoMemory }
     ensures { (due : Result ThePlan ThePlanFault) → ComesTo due (Ok (setup.now.plan, setup.now.image))
@@ -101,8 +109,24 @@ fn refuse_labels<W: Write>(
     let Ok(text) = check_fault_text(alloc, &setup.plan, fault) else {
         return Status::NoMemory;
     };
-    match write_whole(writer, text.as_bytes()) {
-        Ok(()) => Status::Refused,
-        Err(_) => Status::CannotWrite,
+    let Ok(()) = write_whole(writer, text.as_bytes()) else {
+        return Status::CannotWrite;
+    };
+    if messages.are_wanted() {
+        advise(alloc, setup, fault, messages);
+    }
+    Status::Refused
+}
+
+/// Tells people why the labels of a network are refused and what mends them, line by line, where there is
+/// memory for it.
+fn advise<M: Messages>(alloc: Global, setup: &Setup, fault: &CheckFault, messages: &mut M)
+    requires { Fits setup.now.image setup.now.plan }
+{
+    let Ok(advice) = check_advice(alloc, &setup.plan, &setup.image, fault) else {
+        return;
+    };
+    for line in advice.as_str().lines() {
+        messages.tell(About::Description, line);
     }
 }

@@ -1,8 +1,10 @@
-use Rattle.std.proofs.Common.{inr, subst}
-use Rattle.std.specs.Option.{IfSome}
-use Rattle.c104_check.specs.Mends.{IsMisstepOf}
+use Rattle.std.proofs.Common.{MatchOption, inl, inr, subst, ◌∙◌}
+use Rattle.c104_check.specs.Mends.{IsMisstepOf, NoMisstepOf}
 use Rattle.c104_check.specs.Routes.{routes_of}
 use Rattle.c104_commands.proofs.advice.walk_advice.Goals as goal
 
+pub returns-in_default : goal.returns-in_default
+returns-in_default c = inl (search, subst (λ found. MatchOption found (NoMisstepOf (routes_of c.args.plan.now c.args.image.now) c.args.fault.now) (IsMisstepOf (routes_of c.args.plan.now c.args.image.now) c.args.fault.now)) c.in_default.is c.in_ok-step.ensures)
+
 pub returns : goal.returns
-returns c = inr (c.in-Some.step, subst (λ found. IfSome found (IsMisstepOf (routes_of c.args.plan.now c.args.image.now) c.args.fault.now)) c.in-Some.is c.in_ok-step.ensures, (_, c.in_ok-text.ensures))
+returns c = inr (c.in-Some.step, subst (λ found. MatchOption found (NoMisstepOf (routes_of c.args.plan.now c.args.image.now) c.args.fault.now) (IsMisstepOf (routes_of c.args.plan.now c.args.image.now) c.args.fault.now)) c.in-Some.is c.in_ok-step.ensures, (_, (λ none. c.as_str.ensures.value ∙ c.in_ok-change.ensures none), c.in_ok-text.ensures))
