@@ -1,4 +1,4 @@
-//! Interval labels for networks of known shapes: the table of each switch.
+//! Interval labels for trees, meshes and cubes: the image of a plan, and the tables of its switches.
 //!
 //! `label_tree`, `label_mesh` and `label_cube` give the image of a plan of their own shape, and `image_of` that of a
 //! plan of any. `mesh_tables` and `cube_tables` are the tables of a mesh's and a cube's switches, `spanning_tree` the
