@@ -12,3 +12,4 @@ pub mod RefusalLemmas
 pub mod CheckLemmas
 pub mod PeerLemmas
 pub mod MendLemmas
+pub mod MisstepLemmas

@@ -12,7 +12,7 @@ use Rattle.c104_describe.specs.declared.ports.Port.TheVariants as port
 use Rattle.c104_check.specs.declared.faults.Shown.{Shown}
 use Rattle.c104_check.specs.declared.walks.Halt.{Halt}
 use Rattle.c104_check.specs.declared.walks.Halt.TheVariants.{Fault}
-use Rattle.c104_check.specs.Mends.{GroupLeads, IsFollowedBy, IsMend, IsMisstep, LandsBy, LeavesBy, Mend, Misstep, NoGroupLeads, NoMend, is_wrong}
+use Rattle.c104_check.specs.Mends.{GroupLeads, IsFollowedBy, IsMend, IsMisstep, LandsBy, LeavesBy, NoGroupLeads, NoMend, is_wrong}
 use Rattle.c104_check.specs.Routes.{Leads, Routes, SwitchPort, is_in_group, owner, select}
 use Rattle.c104_check.specs.Trails.{IsInput, IsNetwork}
 use Rattle.c104_check.specs.Walking.{IsHalt, fault_on}

@@ -15,8 +15,9 @@ use Rattle.c104_check.specs.declared.faults.Shown.{Shown}
 pub use Rattle.c104_check.specs.declared.missteps.Misstep.{Misstep}
 pub use Rattle.c104_check.specs.declared.mends.Mend.{Mend}
 use Rattle.c104_check.specs.Routes.{Arrives, Leads, Routes, SwitchPort, is_in_group, owner, select}
+use Rattle.c104_check.specs.Checks.{IsFirstRefused, fault_of}
 use Rattle.c104_check.specs.Trails.{IsInput}
-use Rattle.c104_check.specs.Walks.{is_met, is_port, port_of}
+use Rattle.c104_check.specs.Walks.{WalkFault, is_met, is_port, port_of}
 
 -- header h may leave from input p by this link, which is one of the group that it selects, and wired so; or
 -- it selects no link there
@@ -74,6 +75,11 @@ NoMisstepOf routes (fault.LabelTooLarge t) = ⊤
 NoMisstepOf routes (fault.MixedHeaders p) = ⊤
 NoMisstepOf routes (fault.DeleteInside p) = ⊤
 NoMisstepOf routes fault.NoMemory = ⊤
+
+-- a fault doesn't tell the first header that is refused
+abbrev pub TellsNoRefusal : Routes → CheckFault → Type 0
+TellsNoRefusal routes fault =
+    (why : WalkFault) (shown : Shown) → fault ≡ fault_of why shown → IsFirstRefused routes why shown → ⊥
 
 -- header h comes to terminal t over what a link is wired to, by any choice in the groups behind it
 abbrev pub LeadsBy : Routes → ℕ → ℕ → ℕ → ℕ → Type 0

@@ -1,7 +1,7 @@
 //! Where a refused walk goes wrong.
-ghost use Rattle.std.specs.Prelude.{◌≡◌, IfOk, MatchOption};
+ghost use Rattle.std.specs.Prelude.{◌≡◌, None, IfOk, MatchOption};
 ghost use Rattle.c104_describe.specs.PlanImage.{Fits};
-ghost use Rattle.c104_check.specs.Mends.{IsMisstepOf, NoMisstepOf, is_wrong};
+ghost use Rattle.c104_check.specs.Mends.{IsMisstepOf, NoMisstepOf, TellsNoRefusal, is_wrong};
 ghost use Rattle.c104_check.specs.Routes.{routes_of};
 
 use crate::faults::{CheckFault, Shown};
@@ -31,7 +31,8 @@ pub struct Misstep {
 /// Where the walk of a fault goes wrong: at its last input, or where that was met before, at the one before
 /// it. The link is the first that leads wrong there.
 ///
-/// None for a fault without a walk, and where no link leads wrong there. It fails only when out of memory.
+/// None for a fault without a walk, and where no link leads wrong there, which no fault that `check` tells shows.
+/// It fails only when out of memory.
 pub fn find_misstep(
     alloc: Global,
     plan: &Plan,
@@ -39,18 +40,15 @@ pub fn find_misstep(
     fault: &CheckFault,
 ) -> Result<Option<Misstep>, NoMemory>
     requires { Fits image.now plan.now }
-    ensures { IfOk result (λ found. MatchOption found
+    ensures step { IfOk result (λ found. MatchOption found
         (NoMisstepOf (routes_of plan.now image.now) fault.now)
         (IsMisstepOf (routes_of plan.now image.now) fault.now)) }
+    ensures told { IfOk result (λ found. found ≡ None
+        → TellsNoRefusal (routes_of plan.now image.now) fault.now) }
 {
     let routes = Routes::new(alloc, plan, image)?;
-    match fault {
-        CheckFault::WrongEnd(shown) => Ok(routes.misstep(shown, 0)),
-        CheckFault::DeadEnd(shown) => Ok(routes.misstep(shown, 0)),
-        CheckFault::Loop(shown) => Ok(routes.misstep(shown, 1)),
-        CheckFault::Stray(shown) => Ok(routes.misstep(shown, 0)),
-        _ => Ok(None),
-    }
+    let step = routes.misstep_of(fault);
+    Ok(step)
 }
 
 impl<'a> Routes<'a> {
@@ -58,9 +56,23 @@ impl<'a> Routes<'a> {
     ghost use Rattle.c104_interval.specs.declared.intervals.Select.TheVariants.{Link};
     ghost use Rattle.c104_regs.specs.declared.registers.TheConstants.{LINKS as THE_LINKS};
     ghost use Rattle.c104_describe.specs.declared.ports.Port.TheVariants as port;
-    ghost use Rattle.c104_check.specs.Mends.{IsMisstep, NoMisstep, is_wrong};
+    ghost use Rattle.c104_check.specs.Mends.{IsMisstep, IsMisstepOf, NoMisstep, NoMisstepOf, is_wrong};
     ghost use Rattle.c104_check.specs.Routes.{select};
     ghost use Rattle.c104_check.specs.Trails.{IsInput, routes_in};
+
+    /// Where the walk of a fault goes wrong.
+    fn misstep_of(&self, fault: &CheckFault) -> Option<Misstep>
+        ensures { MatchOption result (NoMisstepOf (routes_in self.now) fault.now)
+            (IsMisstepOf (routes_in self.now) fault.now) }
+    {
+        match fault {
+            CheckFault::WrongEnd(shown) => self.misstep(shown, 0),
+            CheckFault::DeadEnd(shown) => self.misstep(shown, 0),
+            CheckFault::Loop(shown) => self.misstep(shown, 1),
+            CheckFault::Stray(shown) => self.misstep(shown, 0),
+            _ => None,
+        }
+    }
 
     /// Where a walk goes wrong, at the input that so many follow.
     fn misstep(&self, shown: &Shown, followers: usize) -> Option<Misstep>

@@ -7,7 +7,7 @@ use Rattle.c104_describe.specs.declared.ports.Port.{Port}
 use Rattle.c104_describe.specs.declared.ports.Port.TheVariants as port
 use Rattle.c104_describe.specs.Plans.{Plan}
 use Rattle.c104_describe.specs.PlanPrint.{port_text, select_text, terminal_name}
-use Rattle.c104_check.specs.Mends.{IsMisstepOf, NoMend, NoMisstepOf}
+use Rattle.c104_check.specs.Mends.{IsMisstepOf, NoMend, NoMisstepOf, TellsNoRefusal}
 use Rattle.c104_check.specs.Routes.{Routes, to_port}
 use Rattle.c104_check.specs.Walks.{is_met, port_of}
 use Rattle.c104_check.specs.declared.faults.CheckFault.{CheckFault}
@@ -45,10 +45,10 @@ row_text word plan p limit select =
     word ++ (codes ": row " ++ (port_text plan (to_port p) ++ (codes " " ++ (decimal limit ++ (codes " " ++ (select_text select ++ codes "\n"))))))
 
 -- a text begins with the sentence on a step of a walk that leads wrong, and ends with it where nothing mends the
--- walk; or it is empty, and no step leads wrong
+-- walk; or it is empty, and no step leads wrong, which isn't so of the first header that is refused
 abbrev pub TellsStep : Plan → Routes → CheckFault → Shown → List ℕ → Type 0
 TellsStep plan routes why shown text =
-    ((text ≡ []) × NoMisstepOf routes why) ⊎ ((step : Misstep) × IsMisstepOf routes why step × ((more : List ℕ) × (NoMend routes shown → more ≡ []) × (text ≡ misstep_text plan shown step more)))
+    ((text ≡ []) × NoMisstepOf routes why × TellsNoRefusal routes why) ⊎ ((step : Misstep) × IsMisstepOf routes why step × ((more : List ℕ) × (NoMend routes shown → more ≡ []) × (text ≡ misstep_text plan shown step more)))
 
 -- what is told of a fault: of one with a walk, a step that leads wrong
 abbrev pub IsAdvice : Plan → Routes → CheckFault → List ℕ → Type 0
