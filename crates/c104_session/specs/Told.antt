@@ -1,10 +1,13 @@
--- What people are told of a line that asks for what isn't ready.
-use Rattle.std.specs.Prelude.{ℕ, ◌≡◌, List, Some, Ok}
+-- What people are told of a line that was answered.
+use Rattle.std.specs.Prelude.{ℕ, ◌≡◌, ⊤, List, Some, Ok}
 use Rattle.c104_event.specs.declared.events.Event.{Event}
 use Rattle.c104_explain.specs.Reasons.{reason_text}
 use Rattle.c104_net.specs.declared.reason.Reason.{Reason}
 use Rattle.c104_net.specs.Reasons.{network_why}
+use Rattle.c104_switch.specs.declared.actions.ReplyOf.TheVariants as reply
 use Rattle.c104_script.specs.Script.{read_script_line}
+use Rattle.c104_script.specs.declared.answers.Answer.{Answer}
+use Rattle.c104_script.specs.declared.answers.Answer.TheVariants.{Replied, Refused, Faulty}
 use Rattle.c104_script.specs.declared.places.Request.TheVariants.{Asked}
 use Rattle.c104_session.specs.declared.session.Session.{Session}
 
@@ -14,3 +17,12 @@ TellsReason session line text = (event : Event) × (reason : Reason)
     × (read_script_line session.net.plan line ≡ Ok (Some (Asked event)))
     × (network_why session.net event ≡ Some reason)
     × (text ≡ reason_text session.net.plan reason)
+
+-- what may be told of a line that was answered so: of one that isn't ready its reason, and of one that was done nothing
+abbrev pub MayTell : Session → List ℕ → Answer → List ℕ → Type 0
+MayTell session line (Replied reply.NotReady) text = TellsReason session line text
+MayTell session line (Replied reply.Done) text = ⊥
+MayTell session line (Replied (reply.Token x)) text = ⊥
+MayTell session line (Replied (reply.Control bytes)) text = ⊥
+MayTell session line (Refused kind) text = ⊤
+MayTell session line (Faulty kind) text = ⊤

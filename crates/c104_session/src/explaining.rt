@@ -2,7 +2,7 @@
 ghost use Rattle.std.specs.Prelude.{◌≡◌, [], IfSome, OnOk, OnErr};
 ghost use Rattle.std.specs.String.{string_bytes};
 ghost use Rattle.c104_stream.specs.Writing.{AppendsAndKeeps, AppendsPrefix};
-ghost use Rattle.c104_session.specs.Told.{TellsReason};
+ghost use Rattle.c104_session.specs.Told.{MayTell, TellsReason};
 
 use crate::session::Session;
 use c104_explain::{About, Messages, fault_message, reason_message, refusal_message};
@@ -36,12 +36,9 @@ pub(crate) fn explain_answer<W: Write, M: Messages>(
 }
 
 /// What is told of a line that was answered so. None where there is nothing to tell, and out of memory.
-fn answer_message(
-    alloc: Global,
-    session: &Session,
-    line: &[u8],
-    answer: &Answer,
-) -> Option<String> {
+fn answer_message(alloc: Global, session: &Session, line: &[u8], answer: &Answer) -> Option<String>
+    ensures { IfSome result (λ text. MayTell session.now line.now answer.now (string_bytes text)) }
+{
     match answer {
         Answer::Faulty(fault) => fault_message(alloc, line, *fault),
         Answer::Refused(fault) => refusal_message(alloc, session.net.plan(), line, *fault),
