@@ -7,6 +7,18 @@ use clap::error::ErrorKind;
 use std::alloc::AllocError;
 use std::fs;
 use std::io::{IsTerminal, Write};
+use std::time::Instant;
+
+/// Seconds that a line's rounds go on before it is told how far they are, and between two times.
+const SECONDS_BETWEEN: u64 = 1;
+
+/// The rounds of a line of the script that go on.
+#[derive(Drop)]
+struct Going {
+    line: usize,
+    // When they were told of last, or began.
+    told: Instant,
+}
 
 /// Standard error, as what takes messages. Each is a line: the program's name, the file and the line that it is
 /// about, and what is told.
@@ -15,16 +27,22 @@ pub struct Told<'a> {
     rt: &'a HostRuntime,
     order: Order<'a>,
     is_wanted: bool,
+    // Whether it is told how far rounds are: standard error is a terminal.
+    is_watched: bool,
+    going: Option<Going>,
 }
 
 impl<'a> Told<'a> {
     /// What takes the messages of an order. They are wanted under `--explain`, and where standard error is a
     /// terminal.
     pub fn new(rt: &'a HostRuntime, order: Order<'a>, explain: bool) -> Self {
+        let is_watched = rt.stderr().is_terminal();
         Told {
             rt,
             order,
-            is_wanted: explain || rt.stderr().is_terminal(),
+            is_wanted: explain || is_watched,
+            is_watched,
+            going: None,
         }
     }
 
@@ -42,6 +60,27 @@ impl<'a> Told<'a> {
             About::ScriptLine(line) => format!(in alloc; "c104: {script}:{line}: {message}\n"),
         }
     }
+
+    /// Whether the rounds of a line have gone on for long since they were told of. Where that line is another than
+    /// before, they begin now; where there is no clock, it is never long.
+    fn is_long(&mut self, line: usize) -> bool {
+        if let Some(going) = &self.going
+            && going.line == line
+        {
+            return match going.told.elapsed(self.rt) {
+                Ok(passed) => passed.as_secs() >= SECONDS_BETWEEN,
+                Err(_) => false,
+            };
+        }
+        self.going = begun(self.rt, line);
+        false
+    }
+}
+
+/// The rounds of a line, from now on.
+fn begun(rt: &HostRuntime, line: usize) -> Option<Going> {
+    let told = Instant::now(rt).ok()?;
+    Some(Going { line, told })
 }
 
 impl Messages for Told<'_> {
@@ -53,6 +92,16 @@ impl Messages for Told<'_> {
         if let Ok(line) = self.line_of(about, message) {
             // The whole line at once. Where that fails, the message is lost.
             let _ = self.rt.stderr().write_all(line.as_bytes());
+        }
+    }
+
+    fn progress(&mut self, line: usize, done: u32, count: u32) {
+        if !self.is_watched || !self.is_long(line) {
+            return;
+        }
+        self.going = begun(self.rt, line);
+        if let Ok(message) = format!(in self.rt.alloc(); "{done} of {count} rounds are done") {
+            self.tell(About::ScriptLine(line), message.as_str());
         }
     }
 }

@@ -21,6 +21,10 @@ pub trait Messages {
 
     /// Takes a message, without a line feed at its end.
     fn tell(&mut self, about: About, message: &str);
+
+    /// So many rounds are done, of the count that a line of the script asks for. It comes again and again while they
+    /// go on.
+    fn progress(&mut self, line: usize, done: u32, count: u32);
 }
 
 /// Nobody reads the messages.
@@ -35,6 +39,9 @@ impl Messages for Silent {
 
     #[inline]
     fn tell(&mut self, _about: About, _message: &str) {}
+
+    #[inline]
+    fn progress(&mut self, _line: usize, _done: u32, _count: u32) {}
 }
 
 /// The messages of a script that stands behind so many lines of one text: its lines are told by their
@@ -69,5 +76,10 @@ impl<M: Messages> Messages for Behind<'_, M> {
             _ => about,
         };
         self.messages.tell(about, message);
+    }
+
+    fn progress(&mut self, line: usize, done: u32, count: u32) {
+        self.messages
+            .progress(line.saturating_add(self.lines), done, count);
     }
 }

@@ -8,7 +8,7 @@
 //! A network can't be dropped, since its switches hold claims: `finish` ends it, and gives a `RunOf`
 //! (a `Run`), which keeps the plan and what had arrived at each of its terminals. A `PlaceFault` is
 //! why a network was not made, and a `Reason` why an event isn't ready, and where. `rounds` does the
-//! events of all parts in turn, again and again.
+//! events of all parts in turn, again and again; a `Watch` is told how far they are.
 #![tactic(auto)]
 
 mod acts;
@@ -25,6 +25,7 @@ mod reason;
 mod rounds;
 mod run;
 mod terminal;
+mod watch;
 mod wire_acts;
 mod wires;
 
@@ -33,3 +34,4 @@ pub use faults::PlaceFault;
 pub use net::{Net, NetOf};
 pub use reason::Reason;
 pub use run::{Run, RunOf};
+pub use watch::{Unwatched, Watch};

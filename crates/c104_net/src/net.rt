@@ -18,6 +18,7 @@ use crate::placing::{place, place_new, retire_all};
 use crate::rounds::rounds_at;
 use crate::run::{RunOf, terminals_of};
 use crate::terminal::TerminalOf;
+use crate::watch::{Unwatched, Watch};
 use crate::wires::Wires;
 use c104_describe::{Image, Plan};
 use c104_event::{Event, EventFault};
@@ -212,7 +213,14 @@ impl<T: TokenKind> NetOf<T> {
     pub fn rounds(&mut self, count: u32) -> Result<(), EventFault>
         ensures { RoundsEnd T.kind self.old count result self.new }
     {
-        rounds_at(&self.wires, self.places.as_mut_slice(), count)
+        self.rounds_watched(count, &mut Unwatched)
+    }
+
+    /// The same, and tells of each round that changed something.
+    pub fn rounds_watched<W: Watch>(&mut self, count: u32, watch: &mut W) -> Result<(), EventFault>
+        ensures { RoundsEnd T.kind self.old count result self.new }
+    {
+        rounds_at(&self.wires, self.places.as_mut_slice(), count, watch)
     }
 
     /// Applies events in turn, and gives their answers. The only error is out of memory for the

@@ -13,16 +13,18 @@ mod parts;
 mod ports;
 
 use crate::place::Place;
+use crate::watch::Watch;
 use crate::wires::Wires;
 use c104_event::EventFault;
 use c104_token::TokenKind;
 use parts::{claim_outputs, credit_ports, cross_ports, drain_terminals, turn_inputs};
 
-/// Does so many rounds at these places, which stand for the nodes of a network of this plan.
-pub fn rounds_at<T: TokenKind, P: Place<T>>(
+/// Does so many rounds at these places, which stand for the nodes of a network of this plan, and tells of each.
+pub fn rounds_at<T: TokenKind, P: Place<T>, W: Watch>(
     wires: &Wires,
     places: &mut [P],
     count: u32,
+    watch: &mut W,
 ) -> Result<(), EventFault>
     ensures ends { EventsEnd T.kind
         (network_of wires.now (map P.state places.old)) (rounds wires.now count)
@@ -30,12 +32,13 @@ pub fn rounds_at<T: TokenKind, P: Place<T>>(
     ensures kept { IsPlan wires.now }
 {
     let _plan = wires.plan();
-    for _round in 0..count {
+    for round in 0..count {
         let changed = round_at(wires, places)?;
         if !changed {
             // Nor would any further round change anything.
             return Ok(());
         }
+        watch.rounds_done(round + 1, count);
     }
     Ok(())
 }

@@ -7,6 +7,7 @@ ghost use Rattle.c104_session.specs.Lines.{script_lines, AreOnlyLines, JoinsLine
 ghost use Rattle.c104_session.specs.Runs.{AnswersLine, AnswersLines, AnswersScript, LineStops, ReadStops};
 
 use crate::explaining::explain_answer;
+use crate::progress::Progress;
 use crate::session::Session;
 use c104_explain::{Messages, Silent};
 use c104_script::{Answer, add_answer};
@@ -169,7 +170,7 @@ fn answer_line<W: Write, M: Messages>(
         (λ halt. LineStops session.old number line.now
         (W.contents writer.old) (W.contents writer.new) kept.old kept.new halt) }
 {
-    let answer = give_answer(alloc, session, number, line, text, kept, writer)?;
+    let answer = give_answer(alloc, session, number, line, text, kept, writer, messages)?;
     if let Some(answer) = &answer
         && messages.are_wanted()
     {
@@ -180,7 +181,7 @@ fn answer_line<W: Write, M: Messages>(
 
 /// Does what a line asks. The line that answers it joins what is kept; the text is where it is printed.
 #[tactic(auto, unfolding(crate::specs::Shown::line_outcome))]
-fn give_answer<W: Write>(
+fn give_answer<W: Write, M: Messages>(
     alloc: Global,
     session: &mut Session,
     number: usize,
@@ -188,6 +189,7 @@ fn give_answer<W: Write>(
     text: &mut Vec<u8>,
     kept: &mut Kept,
     writer: &mut W,
+    messages: &mut M,
 ) -> Result<Option<Answer>, Halt>
     ensures { MatchResult result
         (λ _. AnswersLine session.old number line.now
@@ -196,7 +198,8 @@ fn give_answer<W: Write>(
         (W.contents writer.old) (W.contents writer.new) kept.old kept.new halt) }
 {
     text.clear();
-    let answer = session.answer(alloc, line)?;
+    let mut progress = Progress::of_line(number, messages);
+    let answer = session.answer_watched(alloc, line, &mut progress)?;
     if let Some(answer) = &answer {
         add_answer(number, answer, text)?;
     }

@@ -12,6 +12,7 @@
 
 mod answering;
 mod explaining;
+mod progress;
 mod runs;
 mod session;
 mod summary;

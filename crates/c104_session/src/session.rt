@@ -13,7 +13,7 @@ ghost use Rattle.c104_session.specs.declared.session.Session.{Session as TheSess
 
 use c104_describe::{Image, Plan};
 use c104_event::EventFault;
-use c104_net::{Net, PlaceFault, Run};
+use c104_net::{Net, PlaceFault, Run, Unwatched, Watch};
 use c104_script::{Answer, LineFault, Request, read_line};
 use c104_switch::Reply;
 use c104_token::NoMemory;
@@ -64,15 +64,28 @@ impl Session {
 
     /// Does what a line asks. None where it asks nothing. The only error is out of memory; an event may
     /// be done by then.
-    #[tactic(auto, unfolding(crate::specs::Shown::line_answer))]
     pub fn answer(&mut self, alloc: Global, line: &[u8]) -> Result<Option<Answer>, NoMemory>
+        ensures { IfOk result (λ answer. ◌≡◌ {A = Option TheAnswer × TheSession}
+            (answer, self.new) (line_answer self.old line.now)) }
+    {
+        self.answer_watched(alloc, line, &mut Unwatched)
+    }
+
+    /// The same, and tells of each round that changed something.
+    #[tactic(auto, unfolding(crate::specs::Shown::line_answer))]
+    pub(crate) fn answer_watched<W: Watch>(
+        &mut self,
+        alloc: Global,
+        line: &[u8],
+        watch: &mut W,
+    ) -> Result<Option<Answer>, NoMemory>
         ensures { IfOk result (λ answer. ◌≡◌ {A = Option TheAnswer × TheSession}
             (answer, self.new) (line_answer self.old line.now)) }
     {
         match read_line(alloc, self.net.plan(), line) {
             Ok(None) => Ok(None),
             Ok(Some(request)) => {
-                let answer = self.answer_request(alloc, &request)?;
+                let answer = self.answer_request(&request, watch)?;
                 Ok(Some(answer))
             }
             Err(LineFault::NoMemory) => Err(NoMemory),
@@ -84,13 +97,17 @@ impl Session {
     }
 
     /// Does what a request says.
-    fn answer_request(&mut self, alloc: Global, request: &Request) -> Result<Answer, NoMemory>
+    fn answer_request<W: Watch>(
+        &mut self,
+        request: &Request,
+        watch: &mut W,
+    ) -> Result<Answer, NoMemory>
         ensures { IfOk result (λ answer. ◌≡◌ {A = TheAnswer × TheSession}
             (answer, self.new) (request_answer self.old request.now)) }
     {
         let done = match request {
             Request::Asked(event) => self.net.apply(event),
-            Request::Rounds(count) => do_rounds(&mut self.net, *count),
+            Request::Rounds(count) => do_rounds(&mut self.net, *count, watch),
             Request::Refused(fault) => Err(*fault),
         };
         match done {
@@ -102,10 +119,10 @@ impl Session {
 }
 
 /// Does so many rounds, up to the first event that is refused.
-fn do_rounds(net: &mut Net, count: u32) -> Result<Reply, EventFault>
+fn do_rounds<W: Watch>(net: &mut Net, count: u32, watch: &mut W) -> Result<Reply, EventFault>
     ensures { (◌≡◌ {A = Result TheReply TheFault × Network Token}
         (result, net.new) (rounds_outcome net.old count)) ⊎ (result ≡ Err fault.NoMemory) }
 {
-    net.rounds(count)?;
+    net.rounds_watched(count, watch)?;
     Ok(Reply::Done)
 }

@@ -38,6 +38,8 @@ impl Messages for Heard {
     fn tell(&mut self, about: About, message: &str) {
         let _ = self.add(about, message);
     }
+
+    fn progress(&mut self, _line: usize, _done: u32, _count: u32) {}
 }
 
 /// `run_explained`, with nothing promised: the prover would compute what is written of literal texts.

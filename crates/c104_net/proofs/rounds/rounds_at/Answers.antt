@@ -7,18 +7,18 @@ use Rattle.c104_net.proofs.rounds.rounds_at.Goals as goal
 
 pub loop-round-preserved : goal.loop-round-preserved
 loop-round-preserved g c =
-    round_taken g.T.TokenKind.kind (network_of c.args.wires.now (map g.P.Place.state c.args.places.now)) (network_of c.args.wires.now (map g.P.Place.state c.loop-round.places)) (network_of c.args.wires.now (map g.P.Place.state c.round_at.new.places)) c.args.wires.now (round c.args.wires.now) c.loop-round._round refl c.loop-round.invariant (inl (sym c.in_ok-changed.ensures.0))
+    round_taken g.T.TokenKind.kind (network_of c.args.wires.now (map g.P.Place.state c.args.places.now)) (network_of c.args.wires.now (map g.P.Place.state c.loop-round.places)) (network_of c.args.wires.now (map g.P.Place.state c.round_at.new.places)) c.args.wires.now (round c.args.wires.now) c.loop-round.round refl c.loop-round.invariant (inl (sym c.in_ok-changed.ensures.0))
 
 pub returns-clause-ends : goal.returns-clause-ends
 returns-clause-ends g c =
-    let all : c.loop-round._round ≡ c.args.count = omega arith in
+    let all : c.loop-round.round ≡ c.args.count = omega arith in
     inl (sym (ap (λ n. run_until g.T.TokenKind.kind (network_of c.args.wires.now (map g.P.Place.state c.args.places.now)) (rounds c.args.wires.now n)) (sym all) ∙ c.loop-round.invariant))
 
 pub returns-in_err-changed-clause-ends : goal.returns-in_err-changed-clause-ends
 returns-in_err-changed-clause-ends g c =
     rw (err_is _ _ c.from_residual.ensures)
-    (round_refused g.T.TokenKind.kind (network_of c.args.wires.now (map g.P.Place.state c.args.places.now)) (network_of c.args.wires.now (map g.P.Place.state c.loop-round.places)) (network_of c.args.wires.now (map g.P.Place.state c.round_at.new.places)) c.args.wires.now (round c.args.wires.now) c.loop-round._round c.args.count c.in_err-changed.field-0.0 refl c.loop-round-test.true c.loop-round.invariant c.in_err-changed.ensures)
+    (round_refused g.T.TokenKind.kind (network_of c.args.wires.now (map g.P.Place.state c.args.places.now)) (network_of c.args.wires.now (map g.P.Place.state c.loop-round.places)) (network_of c.args.wires.now (map g.P.Place.state c.round_at.new.places)) c.args.wires.now (round c.args.wires.now) c.loop-round.round c.args.count c.in_err-changed.field-0.0 refl c.loop-round-test.true c.loop-round.invariant c.in_err-changed.ensures)
 
 pub returns-then-not-changed-clause-ends : goal.returns-then-not-changed-clause-ends
 returns-then-not-changed-clause-ends g c =
-    round_idle g.T.TokenKind.kind (network_of c.args.wires.now (map g.P.Place.state c.args.places.now)) (network_of c.args.wires.now (map g.P.Place.state c.loop-round.places)) (network_of c.args.wires.now (map g.P.Place.state c.round_at.new.places)) c.args.wires.now (round c.args.wires.now) c.loop-round._round c.args.count refl c.loop-round-test.true c.loop-round.invariant (inl (sym c.in_ok-changed.ensures.0)) (c.in_ok-changed.ensures.1 c.if-not-changed.true)
+    round_idle g.T.TokenKind.kind (network_of c.args.wires.now (map g.P.Place.state c.args.places.now)) (network_of c.args.wires.now (map g.P.Place.state c.loop-round.places)) (network_of c.args.wires.now (map g.P.Place.state c.round_at.new.places)) c.args.wires.now (round c.args.wires.now) c.loop-round.round c.args.count refl c.loop-round-test.true c.loop-round.invariant (inl (sym c.in_ok-changed.ensures.0)) (c.in_ok-changed.ensures.1 c.if-not-changed.true)

@@ -6,7 +6,7 @@ use Rattle.c104_net.specs.Network.{network_of}
 use Rattle.c104_net.specs.Rounds.{rounds, EventsEnd}
 use Rattle.c104_net.specs.Balance.{IsSteady}
 use Rattle.c104_net.proofs.RoundJoins.{ends_as_they_are, events_steady}
-use Rattle.c104_net.proofs.net.NetOf.rounds.Goals as goal
+use Rattle.c104_net.proofs.net.NetOf.rounds_watched.Goals as goal
 
 -- the nodes that rounds leave are those of the list
 pub invariant_of-self : goal.invariant_of-self
