@@ -3,8 +3,7 @@ use Rattle.std.specs.Prelude.{ℕ, List, codes}
 use Rattle.c104_event.specs.declared.faults.EventFault.{EventFault}
 use Rattle.c104_event.specs.declared.faults.EventFault.TheVariants as fault
 
--- the number that is printed: 1 to 6, and 8; 7 is kept free for the limit of a list of entries, which
--- isn't there yet
+-- the number that is printed: 1 to 8
 abbrev pub event_fault_number : EventFault → ℕ
 event_fault_number fault.NoNode = 1
 event_fault_number fault.NoLink = 2
@@ -12,6 +11,7 @@ event_fault_number fault.NotWired = 3
 event_fault_number fault.TooLong = 4
 event_fault_number fault.OutboxFull = 5
 event_fault_number fault.InboxFull = 6
+event_fault_number fault.TraceFull = 7
 event_fault_number fault.NoMemory = 8
 
 -- the name that is printed
@@ -22,4 +22,5 @@ event_fault_name fault.NotWired = codes "NotWired"
 event_fault_name fault.TooLong = codes "TooLong"
 event_fault_name fault.OutboxFull = codes "OutboxFull"
 event_fault_name fault.InboxFull = codes "InboxFull"
+event_fault_name fault.TraceFull = codes "TraceFull"
 event_fault_name fault.NoMemory = codes "NoMemory"

@@ -28,6 +28,9 @@ pub enum EventFault {
     /// 262,144 tokens have arrived at the terminal.
     #[error("the terminal has no room for one more token that arrives")]
     InboxFull = 6,
+    /// The trace of a node that would act has 1,048,576 entries.
+    #[error("the trace of a node has no room for one more entry")]
+    TraceFull = 7,
     /// Out of memory.
     #[error("out of memory")]
     NoMemory = 8,
@@ -52,6 +55,7 @@ impl EventFault {
             EventFault::TooLong => "TooLong",
             EventFault::OutboxFull => "OutboxFull",
             EventFault::InboxFull => "InboxFull",
+            EventFault::TraceFull => "TraceFull",
             EventFault::NoMemory => "NoMemory",
         }
     }

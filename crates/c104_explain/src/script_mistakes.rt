@@ -35,6 +35,7 @@ pub enum ScriptMistake {
     NotWired,
     OutboxFull,
     InboxFull,
+    TraceFull,
 }
 
 impl ScriptMistake {
@@ -94,6 +95,9 @@ impl ScriptMistake {
             }
             ScriptMistake::InboxFull => {
                 "262144 tokens have arrived at a terminal, and it takes no more"
+            }
+            ScriptMistake::TraceFull => {
+                "1048576 entries are kept of a node, and there is room for no more"
             }
         }
     }

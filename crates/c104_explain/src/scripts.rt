@@ -161,7 +161,8 @@ fn find_refusal<'a>(fault: EventFault, words: &[&'a [u8]], plan: &'a Plan) -> Mi
         EventFault::NotWired => told(ScriptMistake::NotWired, word_at(words, 1)),
         EventFault::TooLong => told(ScriptMistake::PacketTooLong, None),
         EventFault::OutboxFull => told(ScriptMistake::OutboxFull, word_at(words, 1)),
-        EventFault::InboxFull | EventFault::NoMemory => told(ScriptMistake::InboxFull, None),
+        EventFault::InboxFull => told(ScriptMistake::InboxFull, None),
+        EventFault::TraceFull | EventFault::NoMemory => told(ScriptMistake::TraceFull, None),
     }
 }
 

@@ -1,10 +1,15 @@
 pub mod Sending
 pub mod ActionSteps
 pub mod PlaceSteps
+pub mod KeptEntries
 pub mod Crossing
 pub mod CrossingActs
+pub mod WireEntries
+pub mod WireRefusals
 pub mod FarEndLists
 pub mod Running
+pub mod Recording
+pub mod RunRecords
 pub mod RoundLists
 pub mod RoundRuns
 pub mod RoundsTaken

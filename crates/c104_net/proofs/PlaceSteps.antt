@@ -1,19 +1,13 @@
 -- From an act of one place to the nodes of all places.
 use Rattle.std.proofs.Common.{◌≡◌, ◌≢◌, ◌<◌, ◌∙◌, ℕ, true, false, List, Option, Some, None, Result, Ok, Err, OnOk, MatchResult, get_or, map, length, slice_get, slice_set, is_some, refl, sym, ap, subst}
 use Rattle.std.proofs.lemmas.Option.{slice_get-get_or, slice_get-map}
-use Rattle.std.proofs.lemmas.List.{map-id, map-set}
+use Rattle.std.proofs.lemmas.List.{map-set}
 use Rattle.std.proofs.Math.Seq.{map-set_same}
 use Rattle.std.specs.Option.{option_map}
 use Rattle.c104_link.specs.Steps.{yield_step_at}
 use Rattle.c104_switch.specs.declared.actions.ReplyOf.{ReplyOf}
-use Rattle.c104_token.specs.Kinds.{Kind}
-use Rattle.c104_switch.specs.Actions.{Reply}
-use Rattle.c104_describe.specs.Plans.{Plan}
-use Rattle.c104_event.specs.declared.events.Event.{Event}
-use Rattle.c104_event.specs.declared.faults.EventFault.{EventFault}
 use Rattle.c104_net.specs.Acts.{reply_outcome}
 use Rattle.c104_net.specs.Nodes.{Node}
-use Rattle.c104_net.specs.Network.{network_of, AnswersEvent}
 use Rattle.c104_net.specs.Places.{HasRoomAt}
 use Rattle.c104_net.proofs.Crossing.{get_set_same, get_set_other}
 
@@ -59,9 +53,3 @@ room_others has_room xs k new j differs room = λ p at. room p (sym (get_set_oth
 pub room_made : {P E : Type 0} (has_room : P → Type 0) (xs : List P) (k : ℕ) (d new : P) → k < length xs → (r : Result (Unit {0}) E) → OnOk r (has_room new) → OnOk r (HasRoomAt has_room (slice_set xs k new) k)
 room_made has_room xs k d new inside (Ok u) room = room_here xs k d new inside has_room room
 room_made has_room xs k d new inside (Err e) room = tt
-
--- bare nodes, which were lent as a list, show as they are
-pub as_they_are : {A : Type 0} (kind : Kind A) (plan : Plan) (nodes lent after : List (Node A)) (e : Event) (answer : Result Reply EventFault) → lent ≡ nodes →
-    AnswersEvent kind (network_of plan (map (λ n. n) lent)) e answer (network_of plan (map (λ n. n) after)) → AnswersEvent kind (network_of plan nodes) e answer (network_of plan after)
-as_they_are kind plan nodes lent after e answer same is =
-    subst (λ ns. AnswersEvent kind (network_of plan ns) e answer (network_of plan after)) (map-id lent ∙ same) (subst (λ ns. AnswersEvent kind (network_of plan (map (λ n. n) lent)) e answer (network_of plan ns)) (map-id after) is)

@@ -10,6 +10,10 @@ pub mod Waiting
 pub mod Reasons
 pub mod ReasonMeanings
 pub mod Balance
+pub mod Traces
+pub mod Starts
+pub mod Records
+pub mod Runs
 pub mod Finished
 pub mod Rounds
 pub mod LinkedSets

@@ -1,5 +1,5 @@
 -- A network: a plan, and its nodes; what each event does and answers, and a run of events.
-use Rattle.std.specs.Prelude.{ℕ, ◌+◌, ◌≡◌, ◌⊎◌, true, List, [], ◌∷◌, ◌++◌, length, map, nat_lt, nat_le, Option, Some, None, is_some, Result, Ok, Err, if◌then◌else◌, slice_get}
+use Rattle.std.specs.Prelude.{ℕ, ◌+◌, ◌≡◌, ◌⊎◌, Bool, true, false, List, [], ◌∷◌, ◌++◌, length, map, nat_lt, nat_le, Option, Some, None, is_some, Result, Ok, Err, if◌then◌else◌, slice_get}
 use Rattle.c104_token.specs.declared.text.TheConstants.{MAX_PACKET_BYTES}
 use Rattle.c104_token.specs.Kinds.{Kind}
 use Rattle.c104_link.specs.Steps.{◌>>=◌, step_at, yield_step_at}
@@ -88,6 +88,12 @@ placed_network plan image = record {
   plan = plan;
   nodes = switch_nodes plan.cap image.settings ++ terminal_nodes plan.cap plan.terminals;
 }
+
+-- what refuses an event that would be done, of which nothing can be kept: a trace that would grow is
+-- full, or else memory has run out
+abbrev pub room_fault : Bool → EventFault
+room_fault true = fault.TraceFull
+room_fault false = fault.NoMemory
 
 -- no such node, where n isn't below count; and else the other fault, if there is one
 abbrev pub node_fault : ℕ → ℕ → Option EventFault → Option EventFault
@@ -207,12 +213,17 @@ module _ {A : Type 0} (kind : Kind A) where
       × (is_some (network_step net e) ≡ true)
       × (limit_fault (limited_node net e) e ≡ None)
 
-  -- an answer and the network after it: what is due, or out of memory for an event that would be
-  -- done, and nothing changed
-  abbrev pub AnswersEvent : Network A → Event → Result Reply EventFault → Network A → Type 0
-  AnswersEvent net e answer after =
+  -- an answer and the network after it: what is due; or, of an event that would be done, that a trace
+  -- is full or memory has run out, and nothing changed
+  abbrev pub AnswersWith : Bool → Network A → Event → Result Reply EventFault → Network A → Type 0
+  AnswersWith full net e answer after =
       (◌≡◌ {A = Result Reply EventFault × Network A} (answer, after) (network_apply net e))
-      ⊎ ((answer ≡ Err fault.NoMemory) × WouldBeDone net e × (after ≡ net))
+      ⊎ ((answer ≡ Err (room_fault full)) × WouldBeDone net e × (after ≡ net))
+
+  -- the same where no trace is kept: what is due, or out of memory for an event that would be done, and
+  -- nothing changed
+  abbrev pub AnswersEvent : Network A → Event → Result Reply EventFault → Network A → Type 0
+  AnswersEvent net e answer after = AnswersWith false net e answer after
 
   -- the answers to a list of events, and the network after them
   abbrev pub AnswersEvents : Network A → List Event → List (Result Reply EventFault) → Network A → Type 0

@@ -1,14 +1,21 @@
 //! The events of a network, over any places of its nodes: one act, or one at each end of a wire.
-ghost use Rattle.std.specs.Prelude.{◌≡◌, ◌⊎◌, None, Some, length, map, option_map};
+ghost use Rattle.std.specs.Prelude.{◌≡◌, ◌⊎◌, ◌+◌, ◌++◌, ◌∷◌, [], List, None, Some, true, false, length, map, option_map, IfOk};
 ghost use Rattle.c104_describe.specs.Plans.{IsPlan};
 ghost use Rattle.c104_event.specs.declared.events.Event.TheVariants as event;
-ghost use Rattle.c104_net.specs.Network.{AnswersEvent, network_of};
+ghost use Rattle.c104_net.specs.Network.{AnswersWith, network_of};
 ghost use Rattle.c104_net.specs.Nodes.{nodes_arrived, nodes_waiting};
 ghost use Rattle.c104_net.specs.Acts.{plain_reply};
+ghost use Rattle.c104_net.specs.Traces.{event_deeds, event_full, is_switch_at, kept_of, noted_all};
+ghost use Rattle.c104_net.specs.Balance.{AreInPlace};
+ghost use Rattle.c104_net.specs.Nodes.{Node};
+ghost use Rattle.c104_net.specs.Runs.{IsRunRecord};
+ghost use Rattle.c104_event.specs.declared.events.Event.{Event as TheEvent};
+ghost use Rattle.c104_switch.specs.Actions.{is_ready, Reply as TheReply};
 
 use crate::acts::ActOf;
 use crate::place::Place;
-use crate::places::{act_alone, can_drain_at};
+use crate::places::{act_alone, can_drain_at, is_full_at};
+use crate::sent_packet::SentPacket;
 use crate::wire_acts::{credit_at, cross_at};
 use crate::wires::Wires;
 use c104_control::ControlBytes;
@@ -23,30 +30,65 @@ const OUTBOX_LIMIT: usize = 65_536;
 /// The most tokens that may arrive at a terminal.
 const INBOX_LIMIT: usize = 262_144;
 
-/// Does an event at these places, which stand for the nodes of a network of this plan.
+/// Does an event at these places, which stand for the nodes of a network of this plan. The ticket is the
+/// event's number among those that were done.
 pub fn happen<T: TokenKind, P: Place<T>>(
     wires: &Wires,
     places: &mut [P],
+    ticket: u64,
     event: &Event,
 ) -> Result<Reply, EventFault>
-    ensures answers { AnswersEvent T.kind
+    ensures answers { AnswersWith T.kind (event_full wires.now (map P.full places.old) event.now)
         (network_of wires.now (map P.state places.old)) event.now
         result (network_of wires.now (map P.state places.new)) }
+    ensures free { IfOk result (λ reply. is_ready reply ≡ true →
+        event_full wires.now (map P.full places.old) event.now ≡ false) }
+    ensures trace { map P.trace places.new ≡ noted_all P.keeps (map P.trace places.old)
+        (kept_of (event_deeds (is_switch_at (map P.state places.old)) wires.now ticket event.now)
+        result) }
+    ensures kept { IsPlan wires.now }
+    ensures recorded { (start : List (Node T)) (events : List (TheEvent × TheReply)) →
+        P.keeps ≡ true → AreInPlace wires.now (map P.state places.old) →
+        IsRunRecord T.kind wires.now start
+        (map P.state places.old) (map P.trace places.old) ticket events →
+        IfOk result (λ reply. is_ready reply ≡ true → IsRunRecord T.kind wires.now start
+        (map P.state places.new) (map P.trace places.new) (ticket + 1)
+        (events ++ (event.now, reply) ∷ [])) }
+{
+    do_event(wires, places, ticket, event)
+}
+
+/// Does an event at these places, by its kind.
+#[inline(always)]
+fn do_event<T: TokenKind, P: Place<T>>(
+    wires: &Wires,
+    places: &mut [P],
+    ticket: u64,
+    event: &Event,
+) -> Result<Reply, EventFault>
+    ensures answers { AnswersWith T.kind (event_full wires.now (map P.full places.old) event.now)
+        (network_of wires.now (map P.state places.old)) event.now
+        result (network_of wires.now (map P.state places.new)) }
+    ensures free { IfOk result (λ reply. is_ready reply ≡ true →
+        event_full wires.now (map P.full places.old) event.now ≡ false) }
+    ensures trace { map P.trace places.new ≡ noted_all P.keeps (map P.trace places.old)
+        (kept_of (event_deeds (is_switch_at (map P.state places.old)) wires.now ticket event.now)
+        result) }
     ensures kept { IsPlan wires.now }
 {
     let plan = wires.plan();
     match event {
-        Event::Cross(port) => cross(wires, places, *port),
-        Event::Credit(port) => credit(wires, places, *port),
-        Event::Input { switch, link, word } => input(plan, places, *switch, *link, *word),
+        Event::Cross(port) => cross(wires, places, ticket, *port),
+        Event::Credit(port) => credit(wires, places, ticket, *port),
+        Event::Input { switch, link, word } => input(plan, places, ticket, *switch, *link, *word),
         Event::Claim {
             switch,
             input,
             output,
-        } => claim(plan, places, *switch, *input, *output),
-        Event::Control { switch, bytes } => control(plan, places, *switch, bytes),
-        Event::Send { terminal, packet } => send(plan, places, *terminal, packet),
-        Event::Drain { terminal } => drain(plan, places, *terminal),
+        } => claim(plan, places, ticket, *switch, *input, *output),
+        Event::Control { switch, bytes } => control(plan, places, ticket, *switch, bytes),
+        Event::Send { terminal, packet } => send(plan, places, ticket, *terminal, packet),
+        Event::Drain { terminal } => drain(plan, places, ticket, *terminal),
     }
 }
 
@@ -55,14 +97,20 @@ pub fn happen<T: TokenKind, P: Place<T>>(
 pub fn cross<T: TokenKind, P: Place<T>>(
     wires: &Wires,
     places: &mut [P],
+    ticket: u64,
     port: Port,
 ) -> Result<Reply, EventFault>
-    ensures { AnswersEvent T.kind
+    ensures answers { AnswersWith T.kind (event_full wires.now (map P.full places.old) (event.Cross port))
         (network_of wires.now (map P.state places.old)) (event.Cross port)
         result (network_of wires.now (map P.state places.new)) }
+    ensures free { IfOk result (λ reply. is_ready reply ≡ true →
+        event_full wires.now (map P.full places.old) (event.Cross port) ≡ false) }
+    ensures trace { map P.trace places.new ≡ noted_all P.keeps (map P.trace places.old)
+        (kept_of (event_deeds (is_switch_at (map P.state places.old)) wires.now ticket (event.Cross port))
+        result) }
 {
     let ends = wires.ends(port)?;
-    match cross_at(places, ends.near, ends.far)? {
+    match cross_at(places, ends.near, ends.far, ticket)? {
         Some(token) => Ok(Reply::Token(token.plain())),
         None => Ok(Reply::NotReady),
     }
@@ -73,14 +121,20 @@ pub fn cross<T: TokenKind, P: Place<T>>(
 pub fn credit<T: TokenKind, P: Place<T>>(
     wires: &Wires,
     places: &mut [P],
+    ticket: u64,
     port: Port,
 ) -> Result<Reply, EventFault>
-    ensures { AnswersEvent T.kind
+    ensures answers { AnswersWith T.kind (event_full wires.now (map P.full places.old) (event.Credit port))
         (network_of wires.now (map P.state places.old)) (event.Credit port)
         result (network_of wires.now (map P.state places.new)) }
+    ensures free { IfOk result (λ reply. is_ready reply ≡ true →
+        event_full wires.now (map P.full places.old) (event.Credit port) ≡ false) }
+    ensures trace { map P.trace places.new ≡ noted_all P.keeps (map P.trace places.old)
+        (kept_of (event_deeds (is_switch_at (map P.state places.old)) wires.now ticket (event.Credit port))
+        result) }
 {
     let ends = wires.ends(port)?;
-    if credit_at(places, ends.near, ends.far)? {
+    if credit_at(places, ends.near, ends.far, ticket)? {
         Ok(Reply::Done)
     } else {
         Ok(Reply::NotReady)
@@ -92,13 +146,19 @@ pub fn credit<T: TokenKind, P: Place<T>>(
 pub fn input<T: TokenKind, P: Place<T>>(
     plan: &Plan,
     places: &mut [P],
+    ticket: u64,
     switch: usize,
     link: usize,
     word: u32,
 ) -> Result<Reply, EventFault>
-    ensures { AnswersEvent T.kind
+    ensures answers { AnswersWith T.kind (event_full plan.now (map P.full places.old) (event.Input switch link word))
         (network_of plan.now (map P.state places.old)) (event.Input switch link word)
         result (network_of plan.now (map P.state places.new)) }
+    ensures free { IfOk result (λ reply. is_ready reply ≡ true →
+        event_full plan.now (map P.full places.old) (event.Input switch link word) ≡ false) }
+    ensures trace { map P.trace places.new ≡ noted_all P.keeps (map P.trace places.old)
+        (kept_of (event_deeds (is_switch_at (map P.state places.old)) plan.now ticket (event.Input switch link word))
+        result) }
 {
     if switch >= plan.switches().len() {
         return Err(EventFault::NoNode);
@@ -107,20 +167,26 @@ pub fn input<T: TokenKind, P: Place<T>>(
         return Err(EventFault::NoLink);
     }
     let act = ActOf::Step(ActionOf::Input(link, word));
-    Ok(told(act_alone(places, switch, 0, act)?))
+    Ok(told(act_alone(places, switch, 0, ticket, act)?))
 }
 
 /// An input of a switch claims an output.
 pub fn claim<T: TokenKind, P: Place<T>>(
     plan: &Plan,
     places: &mut [P],
+    ticket: u64,
     switch: usize,
     input: usize,
     output: usize,
 ) -> Result<Reply, EventFault>
-    ensures { AnswersEvent T.kind
+    ensures answers { AnswersWith T.kind (event_full plan.now (map P.full places.old) (event.Claim switch input output))
         (network_of plan.now (map P.state places.old)) (event.Claim switch input output)
         result (network_of plan.now (map P.state places.new)) }
+    ensures free { IfOk result (λ reply. is_ready reply ≡ true →
+        event_full plan.now (map P.full places.old) (event.Claim switch input output) ≡ false) }
+    ensures trace { map P.trace places.new ≡ noted_all P.keeps (map P.trace places.old)
+        (kept_of (event_deeds (is_switch_at (map P.state places.old)) plan.now ticket (event.Claim switch input output))
+        result) }
 {
     if switch >= plan.switches().len() {
         return Err(EventFault::NoNode);
@@ -129,37 +195,49 @@ pub fn claim<T: TokenKind, P: Place<T>>(
         return Err(EventFault::NoLink);
     }
     let act = ActOf::Step(ActionOf::Claim(input, output));
-    Ok(told(act_alone(places, switch, 0, act)?))
+    Ok(told(act_alone(places, switch, 0, ticket, act)?))
 }
 
 /// A control command comes to a switch.
 fn control<T: TokenKind, P: Place<T>>(
     plan: &Plan,
     places: &mut [P],
+    ticket: u64,
     switch: usize,
     bytes: &ControlBytes,
 ) -> Result<Reply, EventFault>
-    ensures { AnswersEvent T.kind
+    ensures answers { AnswersWith T.kind (event_full plan.now (map P.full places.old) (event.Control switch bytes.now))
         (network_of plan.now (map P.state places.old)) (event.Control switch bytes.now)
         result (network_of plan.now (map P.state places.new)) }
+    ensures free { IfOk result (λ reply. is_ready reply ≡ true →
+        event_full plan.now (map P.full places.old) (event.Control switch bytes.now) ≡ false) }
+    ensures trace { map P.trace places.new ≡ noted_all P.keeps (map P.trace places.old)
+        (kept_of (event_deeds (is_switch_at (map P.state places.old)) plan.now ticket (event.Control switch bytes.now))
+        result) }
 {
     if switch >= plan.switches().len() {
         return Err(EventFault::NoNode);
     }
     let act = ActOf::Step(ActionOf::Control(ControlBytes::new(bytes.as_slice())));
-    Ok(told(act_alone(places, switch, 0, act)?))
+    Ok(told(act_alone(places, switch, 0, ticket, act)?))
 }
 
 /// A terminal sends a packet.
 fn send<T: TokenKind, P: Place<T>>(
     plan: &Plan,
     places: &mut [P],
+    ticket: u64,
     terminal: usize,
     packet: &Packet,
 ) -> Result<Reply, EventFault>
-    ensures { AnswersEvent T.kind
+    ensures answers { AnswersWith T.kind (event_full plan.now (map P.full places.old) (event.Send terminal packet.now))
         (network_of plan.now (map P.state places.old)) (event.Send terminal packet.now)
         result (network_of plan.now (map P.state places.new)) }
+    ensures free { IfOk result (λ reply. is_ready reply ≡ true →
+        event_full plan.now (map P.full places.old) (event.Send terminal packet.now) ≡ false) }
+    ensures trace { map P.trace places.new ≡ noted_all P.keeps (map P.trace places.old)
+        (kept_of (event_deeds (is_switch_at (map P.state places.old)) plan.now ticket (event.Send terminal packet.now))
+        result) }
 {
     if terminal >= plan.terminals().len() {
         return Err(EventFault::NoNode);
@@ -175,10 +253,14 @@ fn send<T: TokenKind, P: Place<T>>(
     if waiting > OUTBOX_LIMIT - (length + 1) {
         return Err(EventFault::OutboxFull);
     }
-    let Ok(copy) = packet.clone() else {
+    if is_full_at(places, place) {
+        return Err(EventFault::TraceFull);
+    }
+    let Ok(copy) = SentPacket::copy_of(packet) else {
         return Err(EventFault::NoMemory);
     };
-    Ok(told(act_alone(places, place, terminal, ActOf::Send(copy))?))
+    let act = ActOf::Send(copy);
+    Ok(told(act_alone(places, place, terminal, ticket, act)?))
 }
 
 /// The first token that came in at a terminal arrives.
@@ -186,11 +268,17 @@ fn send<T: TokenKind, P: Place<T>>(
 pub fn drain<T: TokenKind, P: Place<T>>(
     plan: &Plan,
     places: &mut [P],
+    ticket: u64,
     terminal: usize,
 ) -> Result<Reply, EventFault>
-    ensures { AnswersEvent T.kind
+    ensures answers { AnswersWith T.kind (event_full plan.now (map P.full places.old) (event.Drain terminal))
         (network_of plan.now (map P.state places.old)) (event.Drain terminal)
         result (network_of plan.now (map P.state places.new)) }
+    ensures free { IfOk result (λ reply. is_ready reply ≡ true →
+        event_full plan.now (map P.full places.old) (event.Drain terminal) ≡ false) }
+    ensures trace { map P.trace places.new ≡ noted_all P.keeps (map P.trace places.old)
+        (kept_of (event_deeds (is_switch_at (map P.state places.old)) plan.now ticket (event.Drain terminal))
+        result) }
 {
     if terminal >= plan.terminals().len() {
         return Err(EventFault::NoNode);
@@ -202,7 +290,7 @@ pub fn drain<T: TokenKind, P: Place<T>>(
     if arrived_count(places, place) >= INBOX_LIMIT {
         return Err(EventFault::InboxFull);
     }
-    Ok(told(act_alone(places, place, terminal, ActOf::Drain)?))
+    Ok(told(act_alone(places, place, terminal, ticket, ActOf::Drain)?))
 }
 
 /// A reply as it is told, with a plain token.

@@ -200,7 +200,7 @@ impl<T: TokenKind> NetOf<T> {
     pub fn apply(&mut self, event: &Event) -> Result<Reply, EventFault>
         ensures { AnswersEvent T.kind self.old event.now result self.new }
     {
-        happen(&self.wires, self.places.as_mut_slice(), event)
+        happen(&self.wires, self.places.as_mut_slice(), 0, event)
     }
 
     /// Does so many rounds, up to the first fault of an event. A round is Credit of each wired port,

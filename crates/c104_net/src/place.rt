@@ -1,7 +1,9 @@
 //! What stands for each node of a network: the node, and whatever is kept beside it.
-ghost use Rattle.std.specs.Prelude.{◌≡◌, true, is_some, MatchResult, OnOk};
+ghost use Rattle.std.specs.Prelude.{◌≡◌, true, false, Bool, List, is_some, MatchResult, OnOk};
 ghost use Rattle.c104_net.specs.Acts.{IsShort, node_act, reply_outcome, wants_memory};
 ghost use Rattle.c104_net.specs.Nodes.{Node};
+ghost use Rattle.c104_net.specs.Traces.{kept_entry, noted};
+ghost use Rattle.c104_net.specs.declared.acts.Entry.{Entry as TheEntry};
 
 use crate::acts::ActOf;
 use crate::node::NodeOf;
@@ -14,6 +16,15 @@ pub trait Place<T: TokenKind> {
     /// The state of the node.
     ghost state: { Self → Node T };
 
+    /// Whether entries are kept.
+    ghost keeps: { Bool };
+
+    /// The entries that are kept.
+    ghost trace: { Self → List TheEntry };
+
+    /// No further entry may be kept.
+    ghost full: { Self → Bool };
+
     /// There is room for whatever is kept of one act.
     ghost has_room: { Self → Type 0 };
 
@@ -21,14 +32,22 @@ pub trait Place<T: TokenKind> {
     fn node(&self) -> &NodeOf<T>
         ensures { result.now ≡ state self.now };
 
-    /// Makes room for whatever is kept of one act. The only error is out of memory.
+    /// Whether no further entry may be kept.
+    fn is_full(&self) -> bool
+        ensures { result ≡ full self.now };
+
+    /// Makes room for whatever is kept of one act, where it isn't full. The only error is out of
+    /// memory.
     fn room(&mut self) -> Result<(), NoMemory>
+        requires { full self.old ≡ false }
         ensures state { state self.new ≡ state self.old }
+        ensures trace { trace self.new ≡ trace self.old }
         ensures room { OnOk result (has_room self.new) };
 
-    /// The node does an act that it is ready for. The number is the terminal's, if the node is one.
-    /// Only Send and Drain may want memory, and then nothing has changed.
-    fn act(&mut self, number: usize, act: ActOf<T>) -> Result<ReplyOf<T>, NoMemory>
+    /// The node does an act that it is ready for, in the event of this ticket. The number is the
+    /// terminal's, if the node is one. Only Send and Drain may want memory, and then nothing has
+    /// changed.
+    fn act(&mut self, number: usize, ticket: u64, act: ActOf<T>) -> Result<ReplyOf<T>, NoMemory>
         requires short { IsShort act }
         requires room { has_room self.old }
         requires ready { is_some (node_act T.kind number act (state self.old)) ≡ true }
@@ -36,15 +55,25 @@ pub trait Place<T: TokenKind> {
             (λ reply. (reply, state self.new) ≡
             reply_outcome (node_act T.kind number act (state self.old)) (state self.old))
             (λ _. state self.new ≡ state self.old) }
+        ensures trace { MatchResult result
+            (λ reply. trace self.new ≡
+            noted keeps (trace self.old) (kept_entry T.kind ticket act reply))
+            (λ _. trace self.new ≡ trace self.old) }
         ensures memory { MatchResult result (λ _. Unit {0}) (λ _. wants_memory act ≡ true) };
 }
 
 /// The node alone, of whose acts nothing is kept.
 impl<T: TokenKind> Place<T> for NodeOf<T> {
-    ghost use Rattle.std.specs.Prelude.{◌≡◌, true, MatchResult, OnOk};
+    ghost use Rattle.std.specs.Prelude.{◌≡◌, [], true, false, MatchResult, OnOk};
     ghost use Rattle.c104_net.specs.Acts.{IsShort, node_act, reply_outcome, wants_memory};
 
     ghost state = { λ n. n };
+
+    ghost keeps = { false };
+
+    ghost trace = { λ n. [] };
+
+    ghost full = { λ n. false };
 
     ghost has_room = { λ n. Unit {0} };
 
@@ -52,6 +81,13 @@ impl<T: TokenKind> Place<T> for NodeOf<T> {
         ensures { result.now ≡ self.now }
     {
         self
+    }
+
+    #[inline(always)]
+    fn is_full(&self) -> bool
+        ensures { result ≡ false }
+    {
+        false
     }
 
     fn room(&mut self) -> Result<(), NoMemory>
@@ -62,7 +98,7 @@ impl<T: TokenKind> Place<T> for NodeOf<T> {
     }
 
     #[inline(always)]
-    fn act(&mut self, number: usize, act: ActOf<T>) -> Result<ReplyOf<T>, NoMemory>
+    fn act(&mut self, number: usize, _ticket: u64, act: ActOf<T>) -> Result<ReplyOf<T>, NoMemory>
         requires { IsShort act }
         ensures acted { MatchResult result
             (λ reply. (reply, self.new) ≡

@@ -1,10 +1,14 @@
 //! One act of one place among all places.
-ghost use Rattle.std.specs.Prelude.{◌≡◌, ◌≢◌, ◌<◌, ◌≤◌, ℕ, None, Some, true, length, is_some, map, unwrap_or, IfSome, MatchResult, OnOk};
+ghost use Rattle.std.specs.Prelude.{◌≡◌, ◌≢◌, ◌<◌, ◌≤◌, ℕ, None, Some, true, false, length, is_some, map, unwrap_or, IfOk, IfSome, MatchResult, OnOk};
 ghost use Rattle.c104_regs.specs.declared.registers.TheConstants.{LINKS};
 ghost use Rattle.c104_link.specs.Steps.{step_at, yield_step_at};
 ghost use Rattle.c104_net.specs.Acts.{IsShort, nodes_act, reply_outcome, wants_memory};
+ghost use Rattle.c104_net.specs.Traces.{end_credit_in, end_credit_out, end_enter, end_leave, entry_of, full_at, is_switch_at, kept_entry, kept_of, lone_deed, noted_all, noted_at, plain_act};
+ghost use Rattle.c104_switch.specs.Actions.{is_ready};
 ghost use Rattle.c104_switch.specs.Claims.{IsNextLink};
 ghost use Rattle.c104_net.specs.Nodes.{node_enter, node_leave, node_credit_out, node_credit_in, node_claim, node_drain};
+ghost use Rattle.c104_switch.specs.declared.actions.ReplyOf.TheVariants as reply;
+ghost use Rattle.c104_net.specs.Acts.{plain_reply};
 ghost use Rattle.c104_net.specs.Places.{HasRoomAt, StepEnds};
 ghost use Rattle.c104_net.specs.PortParts.{is_ready_at, PassesUnready};
 
@@ -12,6 +16,7 @@ use crate::acts::ActOf;
 use crate::ends::End;
 use crate::place::Place;
 use crate::port_part::PortPart;
+use c104_event::EventFault;
 use c104_switch::{LinkSet, ReplyOf};
 use c104_token::{NoMemory, TokenKind};
 
@@ -31,11 +36,26 @@ fn ready_at<T: TokenKind, P: Place<T>>(
     }
 }
 
-/// Makes room at a place for whatever is kept of one act.
+/// Whether no further entry may be kept at a place.
+#[inline(always)]
+pub fn is_full_at<T: TokenKind, P: Place<T>>(places: &[P], place: usize) -> bool
+    ensures { result ≡ full_at (map P.full places.now) place }
+{
+    match places.get(place) {
+        Some(found) => found.is_full(),
+        None => false,
+    }
+}
+
+/// Makes room at a place for whatever is kept of one act, where it isn't full.
 #[inline(always)]
 pub fn room_at<T: TokenKind, P: Place<T>>(places: &mut [P], place: usize) -> Result<(), NoMemory>
-    requires { place < length places.old }
+    requires inside { place < length places.old }
+    requires free { full_at (map P.full places.old) place ≡ false }
     ensures state { map P.state places.new ≡ map P.state places.old }
+    ensures trace { map P.trace places.new ≡ map P.trace places.old }
+    ensures full { (j : ℕ) → j ≢ place →
+        full_at (map P.full places.new) j ≡ full_at (map P.full places.old) j }
     ensures room { OnOk result (HasRoomAt P.has_room places.new place) }
     ensures others { (j : ℕ) → j ≢ place →
         HasRoomAt P.has_room places.old j → HasRoomAt P.has_room places.new j }
@@ -51,6 +71,7 @@ fn act_at<T: TokenKind, P: Place<T>>(
     places: &mut [P],
     place: usize,
     number: usize,
+    ticket: u64,
     act: ActOf<T>,
 ) -> Result<ReplyOf<T>, NoMemory>
     requires inside { place < length places.old }
@@ -61,12 +82,16 @@ fn act_at<T: TokenKind, P: Place<T>>(
         (λ reply. nodes_act T.kind (map P.state places.old) place number act
         ≡ Some (reply, map P.state places.new))
         (λ _. map P.state places.new ≡ map P.state places.old) }
+    ensures trace { MatchResult result
+        (λ reply. map P.trace places.new ≡ noted_at P.keeps (map P.trace places.old) place
+        (kept_entry T.kind ticket act reply))
+        (λ _. map P.trace places.new ≡ map P.trace places.old) }
     ensures memory { MatchResult result (λ _. Unit {0}) (λ _. wants_memory act ≡ true) }
     ensures others { (j : ℕ) → j ≢ place →
         HasRoomAt P.has_room places.old j → HasRoomAt P.has_room places.new j }
 {
     let found = &mut places[place];
-    found.act(number, act)
+    found.act(number, ticket, act)
 }
 
 /// The node at a place does an act, if it is ready.
@@ -75,21 +100,31 @@ pub fn act_alone<T: TokenKind, P: Place<T>>(
     places: &mut [P],
     place: usize,
     number: usize,
+    ticket: u64,
     act: ActOf<T>,
-) -> Result<ReplyOf<T>, NoMemory>
+) -> Result<ReplyOf<T>, EventFault>
     requires { IsShort act }
-    ensures { StepEnds
+    ensures ends { StepEnds
         (reply_outcome
         (nodes_act T.kind (map P.state places.old) place number act)
         (map P.state places.old))
         (is_some (nodes_act T.kind (map P.state places.old) place number act))
+        (full_at (map P.full places.old) place)
         (map P.state places.old) result (map P.state places.new) }
+    ensures free { IfOk result (λ reply.
+        is_ready reply ≡ true → full_at (map P.full places.old) place ≡ false) }
+    ensures trace { map P.trace places.new ≡ noted_all P.keeps (map P.trace places.old)
+        (kept_of (λ reply. lone_deed ticket place (plain_act T.kind act) (plain_reply T.kind reply))
+        result) }
 {
     if place >= places.len() || !ready_at(places, place, number, &act) {
         return Ok(ReplyOf::NotReady);
     }
+    if is_full_at(places, place) {
+        return Err(EventFault::TraceFull);
+    }
     room_at(places, place)?;
-    act_at(places, place, number, act)
+    Ok(act_at(places, place, number, ticket, act)?)
 }
 
 /// Whether a token can go out at an end of a wire.
@@ -206,18 +241,21 @@ pub fn next_claim_at<T: TokenKind, P: Place<T>>(
 
 /// A token goes out at an end of a wire, where one can.
 #[inline(always)]
-pub fn leave_at<T: TokenKind, P: Place<T>>(places: &mut [P], end: End) -> T
+pub fn leave_at<T: TokenKind, P: Place<T>>(places: &mut [P], end: End, ticket: u64) -> T
     requires inside { end.node < length places.old }
     requires room { HasRoomAt P.has_room places.old end.node }
     requires ready { is_some
         (yield_step_at (map P.state places.old) end.node (node_leave end.link)) ≡ true }
     ensures left { yield_step_at (map P.state places.old) end.node (node_leave end.link)
         ≡ Some (result, map P.state places.new) }
+    ensures trace { map P.trace places.new ≡ noted_at P.keeps (map P.trace places.old) end.node
+        (entry_of ticket (end_leave (is_switch_at (map P.state places.old) end.node) end.link)
+        (reply.Token (T.kind.plain result))) }
     ensures others { (j : ℕ) → j ≢ end.node →
         HasRoomAt P.has_room places.old j → HasRoomAt P.has_room places.new j }
 {
     let act = places[end.node].node().leave_act(end.link);
-    match act_at(places, end.node, 0, act) {
+    match act_at(places, end.node, 0, ticket, act) {
         Ok(ReplyOf::Token(token)) => token,
         _ => unreachable!(),
     }
@@ -225,16 +263,20 @@ pub fn leave_at<T: TokenKind, P: Place<T>>(places: &mut [P], end: End) -> T
 
 /// A token comes in at an end of a wire, where one can.
 #[inline(always)]
-pub fn enter_at<T: TokenKind, P: Place<T>>(places: &mut [P], end: End, token: T)
+pub fn enter_at<T: TokenKind, P: Place<T>>(places: &mut [P], end: End, ticket: u64, token: T)
     requires inside { end.node < length places.old }
     requires room { HasRoomAt P.has_room places.old end.node }
     requires ready { is_some
         (step_at (map P.state places.old) end.node (node_enter token end.link)) ≡ true }
-    ensures { step_at (map P.state places.old) end.node (node_enter token end.link)
+    ensures entered { step_at (map P.state places.old) end.node (node_enter token end.link)
         ≡ Some (map P.state places.new) }
+    ensures trace { map P.trace places.new ≡ noted_at P.keeps (map P.trace places.old) end.node
+        (entry_of ticket
+        (end_enter (T.kind.plain token) (is_switch_at (map P.state places.old) end.node) end.link)
+        reply.Done) }
 {
     let act = places[end.node].node().enter_act(end.link, token);
-    match act_at(places, end.node, 0, act) {
+    match act_at(places, end.node, 0, ticket, act) {
         Ok(_) => (),
         Err(_) => unreachable!(),
     }
@@ -242,18 +284,21 @@ pub fn enter_at<T: TokenKind, P: Place<T>>(places: &mut [P], end: End, token: T)
 
 /// An end of a wire grants eight more tokens, where it can.
 #[inline(always)]
-pub fn credit_out_at<T: TokenKind, P: Place<T>>(places: &mut [P], end: End)
+pub fn credit_out_at<T: TokenKind, P: Place<T>>(places: &mut [P], end: End, ticket: u64)
     requires inside { end.node < length places.old }
     requires room { HasRoomAt P.has_room places.old end.node }
     requires ready { is_some
         (step_at (map P.state places.old) end.node (node_credit_out end.link)) ≡ true }
     ensures granted { step_at (map P.state places.old) end.node (node_credit_out end.link)
         ≡ Some (map P.state places.new) }
+    ensures trace { map P.trace places.new ≡ noted_at P.keeps (map P.trace places.old) end.node
+        (entry_of ticket
+        (end_credit_out (is_switch_at (map P.state places.old) end.node) end.link) reply.Done) }
     ensures others { (j : ℕ) → j ≢ end.node →
         HasRoomAt P.has_room places.old j → HasRoomAt P.has_room places.new j }
 {
     let act = places[end.node].node().credit_out_act(end.link);
-    match act_at(places, end.node, 0, act) {
+    match act_at(places, end.node, 0, ticket, act) {
         Ok(_) => (),
         Err(_) => unreachable!(),
     }
@@ -261,16 +306,19 @@ pub fn credit_out_at<T: TokenKind, P: Place<T>>(places: &mut [P], end: End)
 
 /// An end of a wire is granted eight more tokens, where it may be.
 #[inline(always)]
-pub fn credit_in_at<T: TokenKind, P: Place<T>>(places: &mut [P], end: End)
+pub fn credit_in_at<T: TokenKind, P: Place<T>>(places: &mut [P], end: End, ticket: u64)
     requires inside { end.node < length places.old }
     requires room { HasRoomAt P.has_room places.old end.node }
     requires ready { is_some
         (step_at (map P.state places.old) end.node (node_credit_in end.link)) ≡ true }
-    ensures { step_at (map P.state places.old) end.node (node_credit_in end.link)
+    ensures credited { step_at (map P.state places.old) end.node (node_credit_in end.link)
         ≡ Some (map P.state places.new) }
+    ensures trace { map P.trace places.new ≡ noted_at P.keeps (map P.trace places.old) end.node
+        (entry_of ticket
+        (end_credit_in (is_switch_at (map P.state places.old) end.node) end.link) reply.Done) }
 {
     let act = places[end.node].node().credit_in_act(end.link);
-    match act_at(places, end.node, 0, act) {
+    match act_at(places, end.node, 0, ticket, act) {
         Ok(_) => (),
         Err(_) => unreachable!(),
     }

@@ -2,7 +2,7 @@
 //!
 //! No list of a round's events is made. Each part walks what its events are about, and leaves out an
 //! event of which the near end says that it isn't ready: it would change nothing.
-ghost use Rattle.std.specs.Prelude.{◌≡◌, map};
+ghost use Rattle.std.specs.Prelude.{◌≡◌, false, map};
 ghost use Rattle.c104_describe.specs.Plans.{IsPlan};
 ghost use Rattle.c104_net.specs.Network.{network_of};
 ghost use Rattle.c104_net.specs.Rounds.{round, rounds, EventsEnd};
@@ -20,12 +20,14 @@ use c104_token::TokenKind;
 use parts::{claim_outputs, credit_ports, cross_ports, drain_terminals, turn_inputs};
 
 /// Does so many rounds at these places, which stand for the nodes of a network of this plan, and tells of each.
+/// Nothing may be kept of acts there.
 pub fn rounds_at<T: TokenKind, P: Place<T>, W: Watch>(
     wires: &Wires,
     places: &mut [P],
     count: u32,
     watch: &mut W,
 ) -> Result<(), EventFault>
+    requires never_full { (p : P) → P.full p ≡ false }
     ensures ends { EventsEnd T.kind
         (network_of wires.now (map P.state places.old)) (rounds wires.now count)
         result (network_of wires.now (map P.state places.new)) }
@@ -45,6 +47,7 @@ pub fn rounds_at<T: TokenKind, P: Place<T>, W: Watch>(
 
 /// Does a round, and tells whether any event of it was done.
 fn round_at<T: TokenKind, P: Place<T>>(wires: &Wires, places: &mut [P]) -> Result<bool, EventFault>
+    requires never_full { (p : P) → P.full p ≡ false }
     ensures { PartEnds T.kind
         (network_of wires.now (map P.state places.old)) (round wires.now)
         result (network_of wires.now (map P.state places.new)) }

@@ -261,6 +261,12 @@ fn of_events(rt: HostRuntime) -> Result<(), Fail> {
             "InboxFull",
             "the terminal has no room for one more token that arrives",
         ),
+        (
+            EventFault::TraceFull,
+            7,
+            "TraceFull",
+            "the trace of a node has no room for one more entry",
+        ),
         (EventFault::NoMemory, 8, "NoMemory", "out of memory"),
     ] {
         let found = message_of(rt.alloc(), &fault)?;

@@ -37,7 +37,7 @@ impl<T: TokenKind> NodeOf<T> {
             NodeOf::Terminal(terminal) => match act {
                 ActOf::Step(_) => Ok(ReplyOf::NotReady),
                 ActOf::Send(packet) => {
-                    terminal.send(number, packet)?;
+                    terminal.send(number, packet.packet())?;
                     Ok(ReplyOf::Done)
                 }
                 ActOf::Drain => {

@@ -1,5 +1,5 @@
 //! One event of a round. Each tells whether the event was done.
-ghost use Rattle.std.specs.Prelude.{◌≡◌, ◌∷◌, [], map};
+ghost use Rattle.std.specs.Prelude.{◌≡◌, ◌∷◌, [], false, map};
 ghost use Rattle.c104_event.specs.declared.events.Event.TheVariants as event;
 ghost use Rattle.c104_net.specs.Network.{network_of};
 ghost use Rattle.c104_net.specs.Rounds.{turn_at};
@@ -12,17 +12,21 @@ use c104_event::{EventFault, Port};
 use c104_switch::Reply;
 use c104_token::TokenKind;
 
+/// Rounds are done where nothing is kept of acts, so that no ticket is asked for.
+const NO_TICKET: u64 = 0;
+
 /// A port grants eight more tokens to the other end of its wire.
 pub fn try_credit<T: TokenKind, P: Place<T>>(
     wires: &Wires,
     places: &mut [P],
     port: Port,
 ) -> Result<bool, EventFault>
+    requires never_full { (p : P) → P.full p ≡ false }
     ensures { PartEnds T.kind
         (network_of wires.now (map P.state places.old)) (event.Credit port ∷ [])
         result (network_of wires.now (map P.state places.new)) }
 {
-    was_done(credit(wires, places, port))
+    was_done(credit(wires, places, NO_TICKET, port))
 }
 
 /// A token crosses the wire at a port.
@@ -31,11 +35,12 @@ pub fn try_cross<T: TokenKind, P: Place<T>>(
     places: &mut [P],
     port: Port,
 ) -> Result<bool, EventFault>
+    requires never_full { (p : P) → P.full p ≡ false }
     ensures { PartEnds T.kind
         (network_of wires.now (map P.state places.old)) (event.Cross port ∷ [])
         result (network_of wires.now (map P.state places.new)) }
 {
-    was_done(cross(wires, places, port))
+    was_done(cross(wires, places, NO_TICKET, port))
 }
 
 /// The input at a port takes a turn, if it is a switch's.
@@ -44,6 +49,7 @@ pub fn try_turn<T: TokenKind, P: Place<T>>(
     places: &mut [P],
     port: Port,
 ) -> Result<bool, EventFault>
+    requires never_full { (p : P) → P.full p ≡ false }
     ensures { PartEnds T.kind
         (network_of wires.now (map P.state places.old)) (turn_at port)
         result (network_of wires.now (map P.state places.new)) }
@@ -61,11 +67,12 @@ fn try_input<T: TokenKind, P: Place<T>>(
     switch: usize,
     link: usize,
 ) -> Result<bool, EventFault>
+    requires never_full { (p : P) → P.full p ≡ false }
     ensures { PartEnds T.kind
         (network_of wires.now (map P.state places.old)) (event.Input switch link 0 ∷ [])
         result (network_of wires.now (map P.state places.new)) }
 {
-    was_done(input(wires.plan(), places, switch, link, 0))
+    was_done(input(wires.plan(), places, NO_TICKET, switch, link, 0))
 }
 
 /// An input claims an output.
@@ -76,11 +83,12 @@ pub fn try_claim<T: TokenKind, P: Place<T>>(
     input: usize,
     output: usize,
 ) -> Result<bool, EventFault>
+    requires never_full { (p : P) → P.full p ≡ false }
     ensures { PartEnds T.kind
         (network_of wires.now (map P.state places.old)) (event.Claim switch input output ∷ [])
         result (network_of wires.now (map P.state places.new)) }
 {
-    was_done(claim(wires.plan(), places, switch, input, output))
+    was_done(claim(wires.plan(), places, NO_TICKET, switch, input, output))
 }
 
 /// The first token that came in at a terminal arrives.
@@ -90,11 +98,12 @@ pub fn try_drain<T: TokenKind, P: Place<T>>(
     places: &mut [P],
     terminal: usize,
 ) -> Result<bool, EventFault>
+    requires never_full { (p : P) → P.full p ≡ false }
     ensures { PartEnds T.kind
         (network_of wires.now (map P.state places.old)) (event.Drain terminal ∷ [])
         result (network_of wires.now (map P.state places.new)) }
 {
-    was_done(drain(wires.plan(), places, terminal))
+    was_done(drain(wires.plan(), places, NO_TICKET, terminal))
 }
 
 /// Whether an event that was answered so was done.

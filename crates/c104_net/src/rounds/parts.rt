@@ -1,5 +1,5 @@
 //! The parts of a round: all its events of one kind. Each tells whether any of them was done.
-ghost use Rattle.std.specs.Prelude.{◌<◌, flat_map, length, map};
+ghost use Rattle.std.specs.Prelude.{◌≡◌, ◌<◌, false, flat_map, length, map};
 ghost use Rattle.c104_event.specs.declared.events.Event.TheVariants as event;
 ghost use Rattle.c104_regs.specs.declared.registers.TheConstants.{LINKS};
 ghost use Rattle.c104_net.specs.Network.{network_of};
@@ -21,6 +21,7 @@ pub fn credit_ports<T: TokenKind, P: Place<T>>(
     wires: &Wires,
     places: &mut [P],
 ) -> Result<bool, EventFault>
+    requires never_full { (p : P) → P.full p ≡ false }
     ensures { PartEnds T.kind
         (network_of wires.now (map P.state places.old)) (map event.Credit (wired_ports wires.now))
         result (network_of wires.now (map P.state places.new)) }
@@ -33,6 +34,7 @@ pub fn cross_ports<T: TokenKind, P: Place<T>>(
     wires: &Wires,
     places: &mut [P],
 ) -> Result<bool, EventFault>
+    requires never_full { (p : P) → P.full p ≡ false }
     ensures { PartEnds T.kind
         (network_of wires.now (map P.state places.old)) (map event.Cross (wired_ports wires.now))
         result (network_of wires.now (map P.state places.new)) }
@@ -45,6 +47,7 @@ pub fn turn_inputs<T: TokenKind, P: Place<T>>(
     wires: &Wires,
     places: &mut [P],
 ) -> Result<bool, EventFault>
+    requires never_full { (p : P) → P.full p ≡ false }
     ensures { PartEnds T.kind
         (network_of wires.now (map P.state places.old)) (flat_map turn_at (wired_ports wires.now))
         result (network_of wires.now (map P.state places.new)) }
@@ -57,6 +60,7 @@ pub fn claim_outputs<T: TokenKind, P: Place<T>>(
     wires: &Wires,
     places: &mut [P],
 ) -> Result<bool, EventFault>
+    requires never_full { (p : P) → P.full p ≡ false }
     ensures { PartEnds T.kind
         (network_of wires.now (map P.state places.old)) (all_claims (length wires.now.switches))
         result (network_of wires.now (map P.state places.new)) }
@@ -76,7 +80,8 @@ fn claim_in_switch<T: TokenKind, P: Place<T>>(
     places: &mut [P],
     switch: usize,
 ) -> Result<bool, EventFault>
-    requires { switch < length wires.now.switches }
+    requires never_full { (p : P) → P.full p ≡ false }
+    requires switch { switch < length wires.now.switches }
     ensures { PartEnds T.kind
         (network_of wires.now (map P.state places.old)) (switch_claims switch)
         result (network_of wires.now (map P.state places.new)) }
@@ -99,6 +104,7 @@ fn claim_for_input<T: TokenKind, P: Place<T>>(
     switch: usize,
     input: usize,
 ) -> Result<bool, EventFault>
+    requires never_full { (p : P) → P.full p ≡ false }
     requires switch { switch < length wires.now.switches }
     requires input { input < LINKS }
     ensures { PartEnds T.kind
@@ -120,6 +126,7 @@ pub fn drain_terminals<T: TokenKind, P: Place<T>>(
     wires: &Wires,
     places: &mut [P],
 ) -> Result<bool, EventFault>
+    requires never_full { (p : P) → P.full p ≡ false }
     ensures { PartEnds T.kind
         (network_of wires.now (map P.state places.old)) (all_drains (length wires.now.terminals))
         result (network_of wires.now (map P.state places.new)) }

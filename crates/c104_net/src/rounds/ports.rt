@@ -26,6 +26,7 @@ pub fn walk_ports<T: TokenKind, P: Place<T>>(
     places: &mut [P],
     part: PortPart,
 ) -> Result<bool, EventFault>
+    requires never_full { (p : P) → P.full p ≡ false }
     ensures { PartEnds T.kind
         (network_of wires.now (map P.state places.old))
         (flat_map (port_events part) (wired_ports wires.now))
@@ -43,6 +44,7 @@ fn walk_switches<T: TokenKind, P: Place<T>>(
     places: &mut [P],
     part: PortPart,
 ) -> Result<bool, EventFault>
+    requires never_full { (p : P) → P.full p ≡ false }
     ensures { PartEnds T.kind
         (network_of wires.now (map P.state places.old))
         (flat_map (port_events part)
@@ -66,7 +68,8 @@ fn walk_links<T: TokenKind, P: Place<T>>(
     part: PortPart,
     switch: usize,
 ) -> Result<bool, EventFault>
-    requires { switch < length wires.now.switches }
+    requires never_full { (p : P) → P.full p ≡ false }
+    requires switch { switch < length wires.now.switches }
     ensures { PartEnds T.kind
         (network_of wires.now (map P.state places.old))
         (flat_map (port_events part) (wired_links wires.now switch))
@@ -111,6 +114,7 @@ fn walk_terminals<T: TokenKind, P: Place<T>>(
     places: &mut [P],
     part: PortPart,
 ) -> Result<bool, EventFault>
+    requires never_full { (p : P) → P.full p ≡ false }
     ensures { PartEnds T.kind
         (network_of wires.now (map P.state places.old))
         (flat_map (port_events part) (wired_terminals wires.now))
@@ -133,7 +137,8 @@ fn try_terminal<T: TokenKind, P: Place<T>>(
     part: PortPart,
     terminal: usize,
 ) -> Result<bool, EventFault>
-    requires { terminal < length wires.now.terminals }
+    requires never_full { (p : P) → P.full p ≡ false }
+    requires terminal { terminal < length wires.now.terminals }
     ensures { PartEnds T.kind
         (network_of wires.now (map P.state places.old))
         (wired_events wires.now part (port.Terminal terminal))
@@ -177,6 +182,7 @@ fn try_at<T: TokenKind, P: Place<T>>(
     part: PortPart,
     port: Port,
 ) -> Result<bool, EventFault>
+    requires never_full { (p : P) → P.full p ≡ false }
     ensures { PartEnds T.kind
         (network_of wires.now (map P.state places.old)) (port_events part port)
         result (network_of wires.now (map P.state places.new)) }

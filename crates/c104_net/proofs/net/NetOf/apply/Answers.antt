@@ -5,7 +5,7 @@ use Rattle.c104_net.specs.Nodes.{Node}
 use Rattle.c104_net.specs.Network.{AnswersEvent, network_of}
 use Rattle.c104_net.specs.Balance.{IsSteady}
 use Rattle.c104_net.proofs.BalanceEvents.{applied_steady}
-use Rattle.c104_net.proofs.PlaceSteps.{as_they_are}
+use Rattle.c104_net.proofs.KeptEntries.{as_they_are}
 use Rattle.c104_net.proofs.net.NetOf.apply.Goals as goal
 
 -- the nodes that an event leaves are those of the list

@@ -6,6 +6,7 @@ use Rattle.c104_net.specs.Network.{Network, network_of}
 use Rattle.c104_net.specs.RoundParts.{PartEnds}
 use Rattle.c104_link.specs.Steps.{yield_step_at}
 use Rattle.c104_net.specs.Nodes.{node_leave}
+use Rattle.c104_net.proofs.KeptEntries.{never_refused}
 use Rattle.c104_net.proofs.PartRuns.{part_of_event}
 use Rattle.c104_net.proofs.rounds.attempts.try_cross.Goals as goal
 
@@ -14,4 +15,4 @@ returns g c =
     let before : Network g.row.T.Denot = network_of c.args.wires.now (map g.P.Place.state c.args.places.now) in
     let after : Network g.row.T.Denot = network_of c.args.wires.now (map g.P.Place.state c.cross.new.places) in
     subst (λ (r : Result Bool EventFault). PartEnds g.T.TokenKind.kind before (event.Cross c.args.port ∷ []) r after) (sym c.was_done.ensures)
-    (part_of_event g.T.TokenKind.kind before after (event.Cross c.args.port) c.cross.result c.cross.ensures)
+    (part_of_event g.T.TokenKind.kind before after (event.Cross c.args.port) c.cross.result (never_refused g.P.Place.full c.requires.never_full g.T.TokenKind.kind c.args.wires.now c.args.places.now before after (event.Cross c.args.port) c.cross.result c.cross.ensures.answers))

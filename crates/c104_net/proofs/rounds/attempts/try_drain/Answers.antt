@@ -5,6 +5,7 @@ use Rattle.c104_event.specs.declared.faults.EventFault.{EventFault}
 use Rattle.c104_net.specs.declared.ends.End.{End}
 use Rattle.c104_net.specs.Network.{Network, network_of}
 use Rattle.c104_net.specs.RoundParts.{PartEnds}
+use Rattle.c104_net.proofs.KeptEntries.{never_refused}
 use Rattle.c104_net.proofs.PartRuns.{part_of_event}
 use Rattle.c104_net.proofs.rounds.attempts.try_drain.Goals as goal
 
@@ -14,4 +15,4 @@ returns g c =
     let before : Network g.row.T.Denot = network_of c.plan.result.now (map g.P.Place.state c.args.places.now) in
     let after : Network g.row.T.Denot = network_of c.plan.result.now (map g.P.Place.state c.drain.new.places) in
     subst (λ (plan : Plan). Ends plan c.was_done.result) c.plan.ensures.plan
-    (subst (λ (r : Result Bool EventFault). Ends c.plan.result.now r) (sym c.was_done.ensures) (part_of_event g.T.TokenKind.kind before after (event.Drain c.args.terminal) c.drain.result c.drain.ensures))
+    (subst (λ (r : Result Bool EventFault). Ends c.plan.result.now r) (sym c.was_done.ensures) (part_of_event g.T.TokenKind.kind before after (event.Drain c.args.terminal) c.drain.result (never_refused g.P.Place.full c.requires.never_full g.T.TokenKind.kind c.plan.result.now c.args.places.now before after (event.Drain c.args.terminal) c.drain.result c.drain.ensures.answers)))

@@ -1,0 +1,33 @@
+-- What is kept of a node: where it started, and the entries of what it did since; and that these lead
+-- from the one to its state.
+use Rattle.std.specs.Prelude.{ℕ, ◌≡◌, ◌≤◌, List, [], ◌∷◌, Some, length}
+use Rattle.c104_token.specs.declared.tokens.Token.{Token}
+use Rattle.c104_token.specs.Kinds.{plain_kind}
+use Rattle.c104_net.specs.declared.acts.Entry.{Entry}
+use Rattle.c104_net.specs.declared.starts.NodeStart.{NodeStart}
+use Rattle.c104_net.specs.Acts.{IsShort, node_act}
+use Rattle.c104_net.specs.Nodes.{Node}
+use Rattle.c104_net.specs.Starts.{start_node}
+use Rattle.c104_net.specs.Traces.{trace_limit}
+
+-- a run of one node, from a state to a state: each act was ready, within the limit of a packet, and was
+-- answered as it was due. The number is a terminal's, which plain tokens don't tell.
+abbrev pub IsNodeRun : Node Token → List Entry → Node Token → Type 0
+IsNodeRun from [] to = to ≡ from
+IsNodeRun from (e ∷ entries) to =
+    (number : ℕ) × (mid : Node Token)
+    × IsShort e.act
+    × (node_act plain_kind number e.act from ≡ Some (e.reply, mid))
+    × IsNodeRun mid entries to
+
+-- a node as it is seen: its state, where it started, and what it did since
+pub record NodeRecord : Type 0 where
+  pub state : Node Token
+  pub start : NodeStart
+  pub trace : List Entry
+
+-- what the type of a node with its record keeps: the trace is a run from the start to the state, and
+-- within the limit
+pub record IsRecorded (n : NodeRecord) : Type 0 where
+  pub run : IsNodeRun (start_node n.start) n.trace n.state
+  pub within : length n.trace ≤ trace_limit

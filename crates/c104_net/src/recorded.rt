@@ -1,0 +1,119 @@
+//! A node with its record: where it started, and what it did since.
+ghost use Rattle.std.specs.Prelude.{◌≡◌};
+ghost use Rattle.c104_net.specs.Records.{IsRecorded};
+
+use crate::acts::{Act, Entry, same_reply};
+use crate::node::NodeOf;
+use crate::place::Place;
+use crate::starts::NodeStart;
+use c104_switch::Reply;
+use c104_token::{NoMemory, Token};
+use std::marker::Model;
+
+/// The most entries of a trace.
+pub const TRACE_LIMIT: usize = 1_048_576;
+
+/// A node of plain tokens, where it started, and what it did since. It is one value, which holds
+/// nothing of its network.
+pub struct Node {
+    core: NodeOf<Token>,
+    start: NodeStart,
+    trace: Vec<Entry>,
+}
+
+impl Model for Node {
+    ghost use Rattle.std.specs.Prelude.{◌-◌, ℕ, vec_len};
+    ghost use Rattle.std.specs.Vec.{vec_capacity};
+    ghost use Rattle.c104_net.specs.Records.{IsRecorded, NodeRecord};
+
+    // What is seen, and for how many further entries there is room.
+    ghost Value = { NodeRecord × ℕ };
+
+    ghost view = { λ n. (
+      record { state = n.core; start = n.start; trace = n.trace.items },
+      vec_capacity n.trace - vec_len n.trace,
+    ) };
+
+    ghost invariant = { λ n.
+        IsRecorded (record { state = n.core; start = n.start; trace = n.trace.items }) };
+}
+
+impl Node {
+    /// What the node did since its start, in order.
+    pub fn trace(&self) -> &[Entry]
+        ensures trace { result.now ≡ self.now.0.trace }
+        ensures recorded { IsRecorded self.now.0 }
+    {
+        // The proof reads the node and its start by these names.
+        let _core = &self.core;
+        let _start = &self.start;
+        self.trace.as_slice()
+    }
+}
+
+impl Place<Token> for Node {
+    ghost use Rattle.std.specs.Prelude.{◌≡◌, ◌<◌, ◌++◌, ◌∷◌, [], length, true, false, nat_le, is_some, OnOk, MatchResult};
+    ghost use Rattle.c104_token.specs.Kinds.{plain_kind};
+    ghost use Rattle.c104_net.specs.Acts.{IsShort, node_act, reply_outcome, wants_memory};
+    ghost use Rattle.c104_net.specs.Traces.{kept_entry, trace_limit};
+
+    ghost state = { λ n. n.0.state };
+
+    ghost keeps = { true };
+
+    ghost trace = { λ n. n.0.trace };
+
+    ghost full = { λ n. nat_le trace_limit (length n.0.trace) };
+
+    ghost has_room = { λ n. (0 < n.1) × (length n.0.trace < trace_limit) };
+
+    fn node(&self) -> &NodeOf<Token>
+        ensures { result.now ≡ self.now.0.state }
+    {
+        &self.core
+    }
+
+    #[inline(always)]
+    fn is_full(&self) -> bool
+        ensures { result ≡ nat_le trace_limit (length self.now.0.trace) }
+    {
+        self.trace.len() >= TRACE_LIMIT
+    }
+
+    #[inline(always)]
+    fn room(&mut self) -> Result<(), NoMemory>
+        requires { nat_le trace_limit (length self.old.0.trace) ≡ false }
+        ensures same { self.new.0 ≡ self.old.0 }
+        ensures room { OnOk result ((0 < self.new.1) × (length self.new.0.trace < trace_limit)) }
+    {
+        self.trace.reserve(1)?;
+        Ok(())
+    }
+
+    #[inline(always)]
+    fn act(&mut self, number: usize, ticket: u64, act: Act) -> Result<Reply, NoMemory>
+        requires short { IsShort act }
+        requires room { (0 < self.old.1) × (length self.old.0.trace < trace_limit) }
+        requires ready { is_some (node_act plain_kind number act self.old.0.state) ≡ true }
+        ensures acted { MatchResult result
+            (λ reply. (reply, self.new.0.state) ≡
+            reply_outcome (node_act plain_kind number act self.old.0.state) self.old.0.state)
+            (λ _. self.new.0.state ≡ self.old.0.state) }
+        ensures trace { MatchResult result
+            (λ reply. self.new.0.trace ≡
+            self.old.0.trace ++ kept_entry plain_kind ticket act reply ∷ [])
+            (λ _. self.new.0.trace ≡ self.old.0.trace) }
+        ensures start { self.new.0.start ≡ self.old.0.start }
+        ensures memory { MatchResult result (λ _. Unit {0}) (λ _. wants_memory act ≡ true) }
+    {
+        let reply = self.core.act(number, &act)?;
+        let told = same_reply(&reply);
+        self.trace.push_reserved(Entry {
+            ticket,
+            act,
+            reply: told,
+            seat: None,
+        });
+        Ok(reply)
+    }
+}
