@@ -1,9 +1,8 @@
 -- Events of a round whose near end isn't ready: they do nothing.
-use Rattle.std.proofs.Common.{◌≡◌, ◌<◌, ◌∙◌, ℕ, nat_lt, Bool, true, false, List, [], ◌∷◌, Option, Some, None, Result, Ok, is_some, if◌then◌else◌, length, refl, sym, ap, arith}
+use Rattle.std.proofs.Common.{◌≡◌, ◌<◌, ◌∙◌, ℕ, nat_lt, Bool, true, false, [], ◌∷◌, Option, Some, None, Ok, is_some, if◌then◌else◌, length, refl, sym, ap, arith}
 use Rattle.std.proofs.lemmas.Bool.Decides.{nat_tests}
 use Rattle.c104_token.specs.Kinds.{Kind}
 use Rattle.c104_link.specs.Steps.{◌>>=◌, step_at, yield_step_at}
-use Rattle.c104_switch.specs.Actions.{Reply}
 use Rattle.c104_switch.specs.declared.actions.ReplyOf.TheVariants as reply
 use Rattle.c104_describe.specs.declared.ports.Port.{Port}
 use Rattle.c104_describe.specs.declared.ports.Port.TheVariants as port
@@ -13,7 +12,7 @@ use Rattle.c104_event.specs.declared.events.Event.{Event}
 use Rattle.c104_event.specs.declared.events.Event.TheVariants as event
 use Rattle.c104_event.specs.declared.faults.EventFault.{EventFault}
 use Rattle.c104_event.specs.declared.faults.EventFault.TheVariants as fault
-use Rattle.c104_net.specs.Nodes.{Node, node_leave, node_credit_out, node_input, node_claim}
+use Rattle.c104_net.specs.Nodes.{node_leave, node_credit_out, node_input, node_claim}
 use Rattle.c104_net.specs.Wires.{nodes_cross, nodes_credit}
 use Rattle.c104_net.specs.Ends.{end_of}
 use Rattle.c104_net.specs.Network.{Network, network_apply, network_step, event_fault, outcome_if_possible, outcome_if_ready, done_step, token_step, node_fault, link_fault, wire_fault, wired_fault}

@@ -29,6 +29,7 @@ pub mod BalanceSteps
 pub mod BalanceEvents
 pub mod BalancePlaced
 pub mod Finishing
+pub mod QuietNodes
 mod UnreadyNodes
 mod UnreadyEvents
 mod EventReasons

@@ -9,7 +9,7 @@ use Rattle.c104_switch.specs.Actions.{Reply}
 use Rattle.c104_event.specs.declared.events.Event.{Event}
 use Rattle.c104_event.specs.declared.faults.EventFault.{EventFault}
 use Rattle.c104_net.specs.Network.{AnswersEvent, Network}
-use Rattle.c104_net.specs.Rounds.{Outcome, EventsEnd, run_until, unless_fault}
+use Rattle.c104_net.specs.Rounds.{Outcome, run_until, unless_fault}
 use Rattle.c104_net.specs.RoundParts.{PartEnds, done_answer}
 use Rattle.c104_net.proofs.RoundRuns.{fault_ends, run_append, run_from, run_reply, undone_leaves}
 

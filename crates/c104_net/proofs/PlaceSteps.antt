@@ -7,7 +7,6 @@ use Rattle.std.specs.Option.{option_map}
 use Rattle.c104_link.specs.Steps.{yield_step_at}
 use Rattle.c104_switch.specs.declared.actions.ReplyOf.{ReplyOf}
 use Rattle.c104_net.specs.Acts.{reply_outcome}
-use Rattle.c104_net.specs.Nodes.{Node}
 use Rattle.c104_net.specs.Places.{HasRoomAt}
 use Rattle.c104_net.proofs.Crossing.{get_set_same, get_set_other}
 

@@ -1,5 +1,5 @@
 -- The next link that may be ready, of a switch and of a terminal, as that of a node.
-use Rattle.std.proofs.Common.{◌≡◌, ◌<◌, ◌≤◌, ◌∙◌, ◌&&◌, ℕ, Bool, true, false, Option, Some, None, IfSome, unwrap_or, is_some, refl, sym, ap, arith}
+use Rattle.std.proofs.Common.{◌≡◌, ◌<◌, ◌≤◌, ◌∙◌, ◌&&◌, ℕ, Bool, true, false, Option, Some, None, unwrap_or, is_some, refl}
 use Rattle.c104_crossbar.specs.Groups.{has_bit}
 use Rattle.c104_regs.specs.declared.registers.TheConstants.{LINKS}
 use Rattle.c104_token.specs.Kinds.{Kind}
@@ -8,9 +8,7 @@ use Rattle.c104_switch.specs.Switch.{Switch, switch_credit_out, switch_leave}
 use Rattle.c104_switch.specs.Turns.{switch_input}
 use Rattle.c104_switch.specs.Claims.{IsNextLink}
 use Rattle.c104_net.specs.declared.node.NodeOf.TheVariants as node
-use Rattle.c104_net.specs.declared.port_part.PortPart.{PortPart}
 use Rattle.c104_net.specs.declared.port_part.PortPart.TheVariants.{Credit, Cross, Turn}
-use Rattle.c104_net.specs.Nodes.{Node}
 use Rattle.c104_net.specs.PortParts.{is_node_ready, PassesUnready}
 
 -- of two that aren't both so the second is, so the first isn't; and of two that are both so the second is

@@ -1,5 +1,5 @@
 -- What traces tell of a run goes on by an event that was done.
-use Rattle.std.proofs.Common.{◌≡◌, ◌∙◌, ◌+◌, ◌++◌, ℕ, zero, suc, Bool, true, false, List, [], ◌∷◌, Option, Some, None, Result, Ok, Err, IfOk, append_assoc, append-nil, if◌then◌else◌, length, length-append, map, nat_eq, nat_lt, replicate, slice_get, slice_set, inl, inr, refl, sym, ap, subst, arith}
+use Rattle.std.proofs.Common.{◌≡◌, ◌∙◌, ◌+◌, ◌++◌, ℕ, zero, suc, Bool, true, false, List, [], ◌∷◌, Option, Some, None, Result, Ok, Err, IfOk, append_assoc, append-nil, if◌then◌else◌, length, length-append, map, nat_eq, nat_lt, replicate, slice_get, inl, inr, refl, sym, ap, subst, arith}
 use Rattle.std.proofs.lemmas.Bool.Decides.{nat_tests}
 use Rattle.std.specs.Option.{option_map}
 use Rattle.c104_token.specs.Kinds.{Kind}
@@ -16,7 +16,7 @@ use Rattle.c104_net.specs.declared.node.NodeOf.TheVariants.{Switch, Terminal}
 use Rattle.c104_net.specs.Balance.{is_switch, AreInPlace}
 use Rattle.c104_net.specs.Ends.{end_of}
 use Rattle.c104_net.specs.Nodes.{Node}
-use Rattle.c104_net.specs.Network.{Network, network_apply, network_of, room_fault, AnswersWith}
+use Rattle.c104_net.specs.Network.{Network, network_apply, network_of, AnswersWith}
 use Rattle.c104_net.specs.Traces.{Deed, event_deeds, crossing_deeds, crediting_deeds, is_switch_at, is_switch_place, kept_of, noted_all, noted_at, part}
 use Rattle.c104_net.specs.Runs.{IsDoneRun, IsRunRecord, at_node, run_deeds}
 use Rattle.c104_net.proofs.Crossing.{get_set_same, get_set_other}

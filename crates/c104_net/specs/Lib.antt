@@ -20,3 +20,4 @@ pub mod LinkedSets
 pub mod PortParts
 pub mod RoundParts
 pub mod PlaceFaults
+pub mod Quiet

@@ -1,5 +1,5 @@
 -- Runs: events that were done, and what the traces of the nodes tell of them.
-use Rattle.std.specs.Prelude.{ℕ, suc, ◌≡◌, ◌++◌, Bool, true, List, [], ◌∷◌, Result, Ok, if◌then◌else◌, length, nat_eq, slice_get}
+use Rattle.std.specs.Prelude.{ℕ, suc, ◌≡◌, ◌++◌, true, List, [], ◌∷◌, Result, Ok, if◌then◌else◌, length, nat_eq, slice_get}
 use Rattle.std.specs.Option.{option_map}
 use Rattle.c104_token.specs.Kinds.{Kind}
 use Rattle.c104_switch.specs.Actions.{Reply, is_ready}

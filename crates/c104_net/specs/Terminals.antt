@@ -60,6 +60,10 @@ terminal_drain t = do
   x ← slice_get t.input.items 0
   Some (x, record t { input = without_first t.input; arrived = t.arrived ++ x ∷ [] })
 
+-- the terminal forgets what it sent and what arrived
+abbrev pub terminal_begin : {A : Type 0} → Terminal A → Terminal A
+terminal_begin t = record t { sent = []; arrived = [] }
+
 module _ {A : Type 0} (kind : Kind A) where
   -- these tokens of a packet from a place on, as a terminal sends them
   abbrev pub sent_from : ℕ → ℕ → ℕ → List Token → List A

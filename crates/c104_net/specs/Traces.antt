@@ -1,5 +1,5 @@
 -- What is kept of acts: entries, which lie in the traces of nodes by the order of events.
-use Rattle.std.specs.Prelude.{ℕ, ◌+◌, ◌≡◌, ◌≤◌, ◌||◌, ◌++◌, List, [], ◌∷◌, Bool, true, false, Option, Some, None, Result, Ok, Err, if◌then◌else◌, length, nat_eq, nat_lt, slice_get, slice_set, unwrap_or}
+use Rattle.std.specs.Prelude.{ℕ, ◌||◌, ◌++◌, List, [], ◌∷◌, Bool, true, false, Option, Some, None, Result, Ok, Err, if◌then◌else◌, length, nat_lt, slice_get, slice_set, unwrap_or}
 use Rattle.c104_token.specs.declared.tokens.Token.{Token}
 use Rattle.c104_token.specs.Kinds.{Kind}
 use Rattle.c104_switch.specs.Actions.{Action, Reply, is_ready}
@@ -7,12 +7,10 @@ use Rattle.c104_switch.specs.declared.actions.ActionOf.{ActionOf}
 use Rattle.c104_switch.specs.declared.actions.ReplyOf.{ReplyOf}
 use Rattle.c104_switch.specs.declared.actions.ActionOf.TheVariants as action
 use Rattle.c104_switch.specs.declared.actions.ReplyOf.TheVariants as reply
-use Rattle.c104_describe.specs.declared.ports.Port.{Port}
 use Rattle.c104_describe.specs.Plans.{Plan}
 use Rattle.c104_describe.specs.Wiring.{peer}
 use Rattle.c104_event.specs.declared.events.Event.{Event}
 use Rattle.c104_event.specs.declared.events.Event.TheVariants as event
-use Rattle.c104_event.specs.declared.faults.EventFault.{EventFault}
 use Rattle.c104_net.specs.declared.acts.ActOf.{ActOf}
 use Rattle.c104_net.specs.declared.acts.ActOf.TheVariants as act
 use Rattle.c104_net.specs.declared.acts.Entry.{Entry}

@@ -1,11 +1,12 @@
 //! A network of switches and terminals.
-ghost use Rattle.std.specs.Prelude.{◌≡◌, ℕ, MatchResult, IfOk, OnOk, OnErr, IsErrOf};
+ghost use Rattle.std.specs.Prelude.{◌≡◌, ◌↔◌, ℕ, IsTrue, MatchResult, IfOk, OnOk, OnErr, IsErrOf};
 ghost use Rattle.std.specs.Option.{option_copied};
 ghost use Rattle.c104_describe.specs.PlanImage.{Fits};
 ghost use Rattle.c104_net.specs.Balance.{IsBalanced};
 ghost use Rattle.c104_net.specs.Finished.{network_finish, run_arrived};
 ghost use Rattle.c104_net.specs.Network.{AnswersEvent, AnswersEvents};
 ghost use Rattle.c104_net.specs.Network.{new_network, placed_network, network_arrived, network_peek};
+ghost use Rattle.c104_net.specs.Quiet.{begun_if, IsQuiet};
 ghost use Rattle.c104_net.specs.Rounds.{RoundsEnd};
 ghost use Rattle.c104_net.specs.Waiting.{network_undrained, network_unsent};
 
@@ -14,6 +15,7 @@ mod reasons;
 use crate::events::happen;
 use crate::faults::PlaceFault;
 use crate::node::NodeOf;
+use crate::node::quiet::{are_quiet, begin_all};
 use crate::placing::{place, place_new, retire_all};
 use crate::rounds::rounds_at;
 use crate::run::{RunOf, terminals_of};
@@ -180,6 +182,27 @@ impl<T: TokenKind> NetOf<T> {
         self.places
             .get(plan.switches().len() + terminal)?
             .undrained()
+    }
+
+    /// Whether no token stands anywhere, and no packet is under way.
+    pub fn quiet(&self) -> bool
+        ensures { IsTrue result ↔ IsQuiet self.now }
+    {
+        are_quiet(self.places.as_slice())
+    }
+
+    /// Begins a run where the network is quiet: it stands as it does, and what was sent and what arrived
+    /// is forgotten. Where it isn't quiet, the answer is false and nothing has changed. It takes no
+    /// memory.
+    pub fn begin(&mut self) -> bool
+        ensures quiet { IsTrue result ↔ IsQuiet self.old }
+        ensures begun { self.new ≡ begun_if result self.old }
+    {
+        if !self.quiet() {
+            return false;
+        }
+        begin_all(self.places.as_mut_slice());
+        true
     }
 
     /// The value of the register at this address of a switch. None where the plan has no such

@@ -6,6 +6,7 @@ ghost use Rattle.c104_net.specs.Finished.{terminals_of};
 ghost use Rattle.c104_net.specs.Waiting.{node_undrained};
 
 mod acting;
+pub mod quiet;
 mod reasons;
 
 use crate::terminal::TerminalOf;

@@ -1,12 +1,12 @@
 //! A terminal: where packets are sent and received.
-ghost use Rattle.std.specs.Prelude.{◌≡◌, ◌<◌, ◌≤◌, ◌+◌, ◌++◌, length, map, is_some, IfOk, OnOk, OnErr};
+ghost use Rattle.std.specs.Prelude.{◌≡◌, ◌↔◌, ◌<◌, ◌≤◌, ◌+◌, ◌++◌, [], length, map, is_some, IfOk, IsTrue, OnOk, OnErr};
 ghost use Rattle.std.specs.VecDeque.{deque_len, deque_capacity};
 ghost use Rattle.c104_token.specs.declared.text.TheConstants.{MAX_PACKET_BYTES};
 ghost use Rattle.c104_token.specs.declared.tokens.Token.TheVariants.{Byte};
 ghost use Rattle.c104_link.specs.Buffers.{IsValidCap};
 ghost use Rattle.c104_link.specs.Steps.{bool_outcome, option_outcome};
 ghost use Rattle.c104_net.specs.Terminals.{new_terminal, terminal_enter, terminal_leave, terminal_credit_out, terminal_credit_in, terminal_drain};
-ghost use Rattle.c104_net.specs.Terminals.{terminal_send, sent_from, sent_tokens};
+ghost use Rattle.c104_net.specs.Terminals.{terminal_begin, terminal_send, sent_from, sent_tokens};
 
 mod reasons;
 
@@ -72,6 +72,21 @@ impl<T: TokenKind> TerminalOf<T> {
         ensures { result ≡ length self.now.input.items }
     {
         self.input.len()
+    }
+
+    /// Whether no token came in that hasn't arrived, and none waits to go out.
+    pub fn is_quiet(&self) -> bool
+        ensures { IsTrue result ↔ ((self.now.input.items ≡ []) × (self.now.output.items ≡ [])) }
+    {
+        self.input.is_empty() && self.outbox.is_empty()
+    }
+
+    /// Forgets what was sent and what arrived.
+    pub fn begin(&mut self)
+        ensures { self.new ≡ terminal_begin self.old }
+    {
+        self.sent.clear();
+        self.arrived.clear();
     }
 
     /// The tokens that arrived.

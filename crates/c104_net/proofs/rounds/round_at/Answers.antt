@@ -1,10 +1,8 @@
 use Rattle.std.proofs.Common.{length, map, true}
 use Rattle.std.specs.List.{flat_map}
-use Rattle.c104_describe.specs.Plans.{Plan}
 use Rattle.c104_event.specs.declared.events.Event.TheVariants as event
-use Rattle.c104_net.specs.Network.{Network, network_of}
-use Rattle.c104_net.specs.Rounds.{all_claims, all_drains, round, turn_at, wired_ports}
-use Rattle.c104_net.specs.RoundParts.{PartEnds}
+use Rattle.c104_net.specs.Network.{network_of}
+use Rattle.c104_net.specs.Rounds.{all_claims, all_drains, turn_at, wired_ports}
 use Rattle.c104_net.proofs.RoundJoins.{round_done, round_stops_first, round_stops_second, round_stops_third, round_stops_fourth, round_stops_fifth}
 use Rattle.c104_net.proofs.RoundRuns.{err_is}
 use Rattle.c104_net.proofs.rounds.round_at.Goals as goal

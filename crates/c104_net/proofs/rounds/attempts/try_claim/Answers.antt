@@ -1,8 +1,7 @@
-use Rattle.std.proofs.Common.{◌≡◌, ◌∙◌, ◌∷◌, [], Bool, Result, ap, is_some, map, subst, sym}
+use Rattle.std.proofs.Common.{◌∷◌, [], Bool, Result, map, subst, sym}
 use Rattle.c104_describe.specs.Plans.{Plan}
 use Rattle.c104_event.specs.declared.events.Event.TheVariants as event
 use Rattle.c104_event.specs.declared.faults.EventFault.{EventFault}
-use Rattle.c104_net.specs.declared.ends.End.{End}
 use Rattle.c104_net.specs.Network.{Network, network_of}
 use Rattle.c104_net.specs.RoundParts.{PartEnds}
 use Rattle.c104_net.proofs.KeptEntries.{never_refused}

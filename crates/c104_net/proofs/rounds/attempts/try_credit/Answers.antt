@@ -1,4 +1,4 @@
-use Rattle.std.proofs.Common.{◌≡◌, ◌∙◌, ◌∷◌, [], Bool, Result, ap, is_some, map, subst, sym}
+use Rattle.std.proofs.Common.{◌∙◌, ◌∷◌, [], Bool, Result, ap, is_some, map, subst, sym}
 use Rattle.c104_event.specs.declared.events.Event.TheVariants as event
 use Rattle.c104_event.specs.declared.faults.EventFault.{EventFault}
 use Rattle.c104_net.specs.declared.ends.End.{End}

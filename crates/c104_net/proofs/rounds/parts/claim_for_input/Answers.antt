@@ -1,4 +1,4 @@
-use Rattle.std.proofs.Common.{◌<◌, Err, Ok, arith, map}
+use Rattle.std.proofs.Common.{Err, Ok, arith, map}
 use Rattle.c104_event.specs.declared.events.Event.TheVariants as event
 use Rattle.c104_net.proofs.IdleEvents.{idle_claim, none_of}
 use Rattle.c104_net.proofs.PartRuns.{single}

@@ -1,4 +1,4 @@
-use Rattle.std.proofs.Common.{◌<◌, Err, Ok, arith, map}
+use Rattle.std.proofs.Common.{Err, Ok, arith, map}
 use Rattle.c104_net.specs.Rounds.{claims_of}
 use Rattle.c104_net.proofs.IdleEvents.{idle_claim}
 use Rattle.c104_net.proofs.RoundJoins.{idle_claims, of_inputs}

@@ -1,5 +1,4 @@
-use Rattle.std.proofs.Common.{◌≡◌, ◌∙◌, ◌<◌, ◌≤◌, Err, Ok, ap, arith, length, map}
-use Rattle.std.specs.List.{range_with_len}
+use Rattle.std.proofs.Common.{ap, arith, length, map}
 use Rattle.c104_net.specs.Rounds.{switch_claims}
 use Rattle.c104_describe.specs.Plans.{Plan}
 use Rattle.c104_net.specs.Network.{network_of}

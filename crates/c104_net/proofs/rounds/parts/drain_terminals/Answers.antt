@@ -1,4 +1,4 @@
-use Rattle.std.proofs.Common.{◌≡◌, ◌∙◌, ◌<◌, ◌≤◌, Err, Ok, ap, arith, length, map}
+use Rattle.std.proofs.Common.{Err, Ok, ap, arith, length, map}
 use Rattle.std.specs.List.{range_with_len}
 use Rattle.c104_event.specs.declared.events.Event.TheVariants as event
 use Rattle.c104_net.proofs.PartRuns.{single}

@@ -1,5 +1,4 @@
-use Rattle.std.proofs.Common.{◌∙◌, ℕ, map, sym}
-use Rattle.c104_crossbar.specs.Groups.{has_bit}
+use Rattle.std.proofs.Common.{◌∙◌, map, sym}
 use Rattle.c104_net.specs.Network.{network_of}
 use Rattle.c104_net.proofs.PortWalks.{below_links, if_some, passed_link}
 use Rattle.c104_net.proofs.rounds.ports.next_link.Goals as goal

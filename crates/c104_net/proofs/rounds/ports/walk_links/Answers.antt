@@ -1,4 +1,4 @@
-use Rattle.std.proofs.Common.{◌<◌, Err, Ok, arith, map}
+use Rattle.std.proofs.Common.{Err, Ok, arith, map}
 use Rattle.c104_describe.specs.declared.ports.Port.TheVariants as port
 use Rattle.c104_net.specs.Network.{network_of}
 use Rattle.c104_net.proofs.PartRuns.{number_next, number_stops, numbers_done, numbers_passed}

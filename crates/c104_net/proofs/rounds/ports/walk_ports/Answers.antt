@@ -1,10 +1,10 @@
-use Rattle.std.proofs.Common.{◌≡◌, ◌++◌, ◌||◌, List, Err, Ok, length, map, subst, sym}
+use Rattle.std.proofs.Common.{◌||◌, List, Err, Ok, length, map, subst, sym}
 use Rattle.std.specs.List.{flat_map, range_with_len}
 use Rattle.std.proofs.lemmas.Grind.{flat_map-append}
 use Rattle.c104_event.specs.declared.events.Event.{Event}
 use Rattle.c104_net.specs.Network.{network_of}
 use Rattle.c104_net.specs.PortParts.{port_events}
-use Rattle.c104_net.specs.Rounds.{wired_links, wired_ports, wired_terminals}
+use Rattle.c104_net.specs.Rounds.{wired_links, wired_terminals}
 use Rattle.c104_net.specs.RoundParts.{PartEnds}
 use Rattle.c104_net.proofs.PartRuns.{part_after, stops_after, stops_before}
 use Rattle.c104_net.proofs.RoundRuns.{err_is}

@@ -1,4 +1,4 @@
-use Rattle.std.proofs.Common.{◌≡◌, ◌∙◌, ◌<◌, ◌≤◌, Err, Ok, ap, arith, length, map}
+use Rattle.std.proofs.Common.{Err, Ok, ap, arith, length, map}
 use Rattle.c104_describe.specs.Plans.{Plan}
 use Rattle.c104_net.specs.Network.{network_of}
 use Rattle.c104_net.proofs.PartRuns.{number_next, number_stops, numbers_done}
