@@ -1,5 +1,5 @@
 -- Each event keeps every network in balance.
-use Rattle.std.proofs.Common.{◌≡◌, inl, inr, List, Option, Some, None, Result, refl, sym, ap, subst}
+use Rattle.std.proofs.Common.{◌≡◌, inl, inr, Bool, false, List, Option, Some, None, Result, refl, sym, ap, subst}
 use Rattle.c104_token.specs.Kinds.{Kind}
 use Rattle.c104_link.specs.Steps.{step_at, yield_step_at}
 use Rattle.c104_link.proofs.MadeSteps.{given}
@@ -13,7 +13,7 @@ use Rattle.c104_event.specs.declared.faults.EventFault.{EventFault}
 use Rattle.c104_net.specs.Nodes.{Node, node_input, node_claim, node_control, node_send, node_drain}
 use Rattle.c104_net.specs.Wires.{nodes_cross, nodes_credit}
 use Rattle.c104_net.specs.Ends.{end_of}
-use Rattle.c104_net.specs.Network.{Network, network_of, network_step, terminal_place, event_fault, limit_fault, limited_node, outcome_within_limit, outcome_if_ready, outcome_if_possible, AnswersEvent}
+use Rattle.c104_net.specs.Network.{Network, network_of, network_step, terminal_place, event_fault, limit_fault, limited_node, outcome_within_limit, outcome_if_ready, outcome_if_possible, AnswersEvent, AnswersWith}
 use Rattle.c104_net.specs.Balance.{IsSteady}
 use Rattle.c104_net.proofs.BalanceNodes.{input_rests, claim_rests, control_rests, send_rests, drain_rests}
 use Rattle.c104_net.proofs.BalanceSteps.{steady_at, steady_from, steady_crossed, steady_credited}
@@ -58,6 +58,9 @@ module _ {A : Type 0} (kind : Kind A) (plan : Plan) (is_plan : IsPlan plan) (nod
   by_fault e (Some f) = steady
 
   -- what an event leaves, whatever it answers
+  pub applied_with : (full : Bool) (e : Event) (answer : Result Reply EventFault) (after : Network A) → AnswersWith kind full net e answer after → IsSteady after
+  applied_with full e answer after (inl is) = subst IsSteady (sym (ap (λ (r : Result Reply EventFault × Network A). r.1) is)) (by_fault e (event_fault plan e))
+  applied_with full e answer after (inr same) = subst IsSteady (sym same.2) steady
+
   pub applied_steady : (e : Event) (answer : Result Reply EventFault) (after : Network A) → AnswersEvent kind net e answer after → IsSteady after
-  applied_steady e answer after (inl is) = subst IsSteady (sym (ap (λ (r : Result Reply EventFault × Network A). r.1) is)) (by_fault e (event_fault plan e))
-  applied_steady e answer after (inr same) = subst IsSteady (sym same.2) steady
+  applied_steady e answer after is = applied_with false e answer after is

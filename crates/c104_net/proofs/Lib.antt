@@ -8,8 +8,10 @@ pub mod WireEntries
 pub mod WireRefusals
 pub mod FarEndLists
 pub mod Running
-pub mod Recording
+pub mod NodeRuns
 pub mod RunRecords
+pub mod NetRecording
+pub mod FirstRecords
 pub mod RoundLists
 pub mod RoundRuns
 pub mod RoundsTaken

@@ -34,7 +34,7 @@ by_counts (suc a) b (Switch s ∷ nodes) are zero = grind (arith, nat_tests)
 by_counts (suc a) b (Switch s ∷ nodes) are (suc k) = by_counts a b nodes (let rest : map is_switch nodes ≡ replicate a true ++ replicate b false = cc in rest) k ∙ (let same : nat_lt k a ≡ nat_lt (suc k) (suc a) = grind (arith, nat_tests) in same)
 by_counts (suc a) b (Terminal t ∷ nodes) are k = cc
 
-in_place : {A : Type 0} (plan : Plan) (nodes : List (Node A)) → AreInPlace plan nodes → (k : ℕ) → is_switch_at nodes k ≡ is_switch_place plan k
+pub in_place : {A : Type 0} (plan : Plan) (nodes : List (Node A)) → AreInPlace plan nodes → (k : ℕ) → is_switch_at nodes k ≡ is_switch_place plan k
 in_place plan nodes are k = by_counts (length plan.switches) (length plan.terminals) nodes are k
 
 -- the entries of an event, by which nodes are switches
@@ -50,7 +50,7 @@ module _ (f g : ℕ → Bool) (same : (k : ℕ) → f k ≡ g k) (plan : Plan) (
   crediting_same p r None = refl
   crediting_same p r (Some q) = rw (same (end_of plan p).node, same (end_of plan q).node) refl
 
-  deeds_same : (e : Event) (r : Reply) → event_deeds f plan ticket e r ≡ event_deeds g plan ticket e r
+  pub deeds_same : (e : Event) (r : Reply) → event_deeds f plan ticket e r ≡ event_deeds g plan ticket e r
   deeds_same (event.Cross p) r = crossing_same p r (peer plan p)
   deeds_same (event.Credit p) r = crediting_same p r (peer plan p)
   deeds_same (event.Input s l word) r = refl

@@ -14,6 +14,7 @@ pub mod Traces
 pub mod Starts
 pub mod Records
 pub mod Runs
+pub mod NetRecords
 pub mod Finished
 pub mod Rounds
 pub mod LinkedSets

@@ -1,5 +1,5 @@
 -- The nodes at the start of a run, over any kind of token: no token stands anywhere.
-use Rattle.std.specs.Prelude.{[], map}
+use Rattle.std.specs.Prelude.{ℕ, [], map}
 use Rattle.c104_link.specs.Buffers.{Outgoing}
 use Rattle.c104_switch.specs.Switch.{Input, Switch}
 use Rattle.c104_switch.specs.declared.phase.Phase.TheVariants.{Fresh}
@@ -11,6 +11,10 @@ use Rattle.c104_net.specs.declared.starts.SwitchStart.{SwitchStart}
 use Rattle.c104_net.specs.declared.starts.TerminalStart.{TerminalStart}
 use Rattle.c104_net.specs.declared.starts.NodeStart.{NodeStart}
 use Rattle.c104_net.specs.declared.starts.NodeStart.TheVariants as start
+
+-- a link at first: nothing is granted, and there is no credit
+abbrev pub new_link : ℕ → LinkStart
+new_link cap = record { cap = cap; granted = 0; credit = 0; sunk = 0; short = 0 }
 
 -- the input of a link at a start: nothing came since its last packet
 abbrev pub start_input : {A : Type 0} → LinkStart → Input A

@@ -43,6 +43,7 @@ pub fn happen<T: TokenKind, P: Place<T>>(
         result (network_of wires.now (map P.state places.new)) }
     ensures free { IfOk result (λ reply. is_ready reply ≡ true →
         event_full wires.now (map P.full places.old) event.now ≡ false) }
+    ensures start { map P.start places.new ≡ map P.start places.old }
     ensures trace { map P.trace places.new ≡ noted_all P.keeps (map P.trace places.old)
         (kept_of (event_deeds (is_switch_at (map P.state places.old)) wires.now ticket event.now)
         result) }
@@ -71,6 +72,7 @@ fn do_event<T: TokenKind, P: Place<T>>(
         result (network_of wires.now (map P.state places.new)) }
     ensures free { IfOk result (λ reply. is_ready reply ≡ true →
         event_full wires.now (map P.full places.old) event.now ≡ false) }
+    ensures start { map P.start places.new ≡ map P.start places.old }
     ensures trace { map P.trace places.new ≡ noted_all P.keeps (map P.trace places.old)
         (kept_of (event_deeds (is_switch_at (map P.state places.old)) wires.now ticket event.now)
         result) }
@@ -105,6 +107,7 @@ pub fn cross<T: TokenKind, P: Place<T>>(
         result (network_of wires.now (map P.state places.new)) }
     ensures free { IfOk result (λ reply. is_ready reply ≡ true →
         event_full wires.now (map P.full places.old) (event.Cross port) ≡ false) }
+    ensures start { map P.start places.new ≡ map P.start places.old }
     ensures trace { map P.trace places.new ≡ noted_all P.keeps (map P.trace places.old)
         (kept_of (event_deeds (is_switch_at (map P.state places.old)) wires.now ticket (event.Cross port))
         result) }
@@ -129,6 +132,7 @@ pub fn credit<T: TokenKind, P: Place<T>>(
         result (network_of wires.now (map P.state places.new)) }
     ensures free { IfOk result (λ reply. is_ready reply ≡ true →
         event_full wires.now (map P.full places.old) (event.Credit port) ≡ false) }
+    ensures start { map P.start places.new ≡ map P.start places.old }
     ensures trace { map P.trace places.new ≡ noted_all P.keeps (map P.trace places.old)
         (kept_of (event_deeds (is_switch_at (map P.state places.old)) wires.now ticket (event.Credit port))
         result) }
@@ -156,6 +160,7 @@ pub fn input<T: TokenKind, P: Place<T>>(
         result (network_of plan.now (map P.state places.new)) }
     ensures free { IfOk result (λ reply. is_ready reply ≡ true →
         event_full plan.now (map P.full places.old) (event.Input switch link word) ≡ false) }
+    ensures start { map P.start places.new ≡ map P.start places.old }
     ensures trace { map P.trace places.new ≡ noted_all P.keeps (map P.trace places.old)
         (kept_of (event_deeds (is_switch_at (map P.state places.old)) plan.now ticket (event.Input switch link word))
         result) }
@@ -184,6 +189,7 @@ pub fn claim<T: TokenKind, P: Place<T>>(
         result (network_of plan.now (map P.state places.new)) }
     ensures free { IfOk result (λ reply. is_ready reply ≡ true →
         event_full plan.now (map P.full places.old) (event.Claim switch input output) ≡ false) }
+    ensures start { map P.start places.new ≡ map P.start places.old }
     ensures trace { map P.trace places.new ≡ noted_all P.keeps (map P.trace places.old)
         (kept_of (event_deeds (is_switch_at (map P.state places.old)) plan.now ticket (event.Claim switch input output))
         result) }
@@ -211,6 +217,7 @@ fn control<T: TokenKind, P: Place<T>>(
         result (network_of plan.now (map P.state places.new)) }
     ensures free { IfOk result (λ reply. is_ready reply ≡ true →
         event_full plan.now (map P.full places.old) (event.Control switch bytes.now) ≡ false) }
+    ensures start { map P.start places.new ≡ map P.start places.old }
     ensures trace { map P.trace places.new ≡ noted_all P.keeps (map P.trace places.old)
         (kept_of (event_deeds (is_switch_at (map P.state places.old)) plan.now ticket (event.Control switch bytes.now))
         result) }
@@ -235,6 +242,7 @@ fn send<T: TokenKind, P: Place<T>>(
         result (network_of plan.now (map P.state places.new)) }
     ensures free { IfOk result (λ reply. is_ready reply ≡ true →
         event_full plan.now (map P.full places.old) (event.Send terminal packet.now) ≡ false) }
+    ensures start { map P.start places.new ≡ map P.start places.old }
     ensures trace { map P.trace places.new ≡ noted_all P.keeps (map P.trace places.old)
         (kept_of (event_deeds (is_switch_at (map P.state places.old)) plan.now ticket (event.Send terminal packet.now))
         result) }
@@ -276,6 +284,7 @@ pub fn drain<T: TokenKind, P: Place<T>>(
         result (network_of plan.now (map P.state places.new)) }
     ensures free { IfOk result (λ reply. is_ready reply ≡ true →
         event_full plan.now (map P.full places.old) (event.Drain terminal) ≡ false) }
+    ensures start { map P.start places.new ≡ map P.start places.old }
     ensures trace { map P.trace places.new ≡ noted_all P.keeps (map P.trace places.old)
         (kept_of (event_deeds (is_switch_at (map P.state places.old)) plan.now ticket (event.Drain terminal))
         result) }

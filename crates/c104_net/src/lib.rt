@@ -8,7 +8,8 @@
 //! A network can't be dropped, since its switches hold claims: `finish` ends it, and gives a `RunOf`
 //! (a `Run`), which keeps the plan and what had arrived at each of its terminals. A `PlaceFault` is
 //! why a network was not made, and a `Reason` why an event isn't ready, and where. `rounds` does the
-//! events of all parts in turn, again and again; a `Watch` is told how far they are.
+//! events of all parts in turn, again and again; a `Watch` is told how far they are. In a `RecordedNet` each node
+//! keeps an `Entry` of each act that it did, and the type keeps that the entries of all are those of one run.
 #![tactic(auto)]
 
 mod acts;
@@ -23,6 +24,8 @@ mod placing;
 mod port_part;
 mod reason;
 mod recorded;
+mod recorded_net;
+mod recording;
 mod rounds;
 mod run;
 mod sent_packet;
@@ -32,9 +35,12 @@ mod watch;
 mod wire_acts;
 mod wires;
 
+pub use acts::{Act, ActOf, Entry};
 pub use c104_event::{Event, EventFault, Port};
 pub use faults::PlaceFault;
 pub use net::{Net, NetOf};
 pub use reason::Reason;
+pub use recorded_net::RecordedNet;
 pub use run::{Run, RunOf};
+pub use sent_packet::SentPacket;
 pub use watch::{Unwatched, Watch};

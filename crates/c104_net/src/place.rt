@@ -1,9 +1,10 @@
 //! What stands for each node of a network: the node, and whatever is kept beside it.
-ghost use Rattle.std.specs.Prelude.{◌≡◌, true, false, Bool, List, is_some, MatchResult, OnOk};
+ghost use Rattle.std.specs.Prelude.{◌≡◌, true, false, Bool, List, Option, is_some, MatchResult, OnOk};
 ghost use Rattle.c104_net.specs.Acts.{IsShort, node_act, reply_outcome, wants_memory};
 ghost use Rattle.c104_net.specs.Nodes.{Node};
 ghost use Rattle.c104_net.specs.Traces.{kept_entry, noted};
 ghost use Rattle.c104_net.specs.declared.acts.Entry.{Entry as TheEntry};
+ghost use Rattle.c104_net.specs.declared.starts.NodeStart.{NodeStart as TheStart};
 
 use crate::acts::ActOf;
 use crate::node::NodeOf;
@@ -21,6 +22,9 @@ pub trait Place<T: TokenKind> {
 
     /// The entries that are kept.
     ghost trace: { Self → List TheEntry };
+
+    /// Where the node started, if that is kept.
+    ghost start: { Self → Option TheStart };
 
     /// No further entry may be kept.
     ghost full: { Self → Bool };
@@ -42,6 +46,7 @@ pub trait Place<T: TokenKind> {
         requires { full self.old ≡ false }
         ensures state { state self.new ≡ state self.old }
         ensures trace { trace self.new ≡ trace self.old }
+        ensures start { start self.new ≡ start self.old }
         ensures room { OnOk result (has_room self.new) };
 
     /// The node does an act that it is ready for, in the event of this ticket. The number is the
@@ -59,12 +64,13 @@ pub trait Place<T: TokenKind> {
             (λ reply. trace self.new ≡
             noted keeps (trace self.old) (kept_entry T.kind ticket act reply))
             (λ _. trace self.new ≡ trace self.old) }
+        ensures start { start self.new ≡ start self.old }
         ensures memory { MatchResult result (λ _. Unit {0}) (λ _. wants_memory act ≡ true) };
 }
 
 /// The node alone, of whose acts nothing is kept.
 impl<T: TokenKind> Place<T> for NodeOf<T> {
-    ghost use Rattle.std.specs.Prelude.{◌≡◌, [], true, false, MatchResult, OnOk};
+    ghost use Rattle.std.specs.Prelude.{◌≡◌, [], None, true, false, MatchResult, OnOk};
     ghost use Rattle.c104_net.specs.Acts.{IsShort, node_act, reply_outcome, wants_memory};
 
     ghost state = { λ n. n };
@@ -72,6 +78,8 @@ impl<T: TokenKind> Place<T> for NodeOf<T> {
     ghost keeps = { false };
 
     ghost trace = { λ n. [] };
+
+    ghost start = { λ n. None };
 
     ghost full = { λ n. false };
 

@@ -53,6 +53,7 @@ pub fn room_at<T: TokenKind, P: Place<T>>(places: &mut [P], place: usize) -> Res
     requires inside { place < length places.old }
     requires free { full_at (map P.full places.old) place ≡ false }
     ensures state { map P.state places.new ≡ map P.state places.old }
+    ensures start { map P.start places.new ≡ map P.start places.old }
     ensures trace { map P.trace places.new ≡ map P.trace places.old }
     ensures full { (j : ℕ) → j ≢ place →
         full_at (map P.full places.new) j ≡ full_at (map P.full places.old) j }
@@ -82,6 +83,7 @@ fn act_at<T: TokenKind, P: Place<T>>(
         (λ reply. nodes_act T.kind (map P.state places.old) place number act
         ≡ Some (reply, map P.state places.new))
         (λ _. map P.state places.new ≡ map P.state places.old) }
+    ensures start { map P.start places.new ≡ map P.start places.old }
     ensures trace { MatchResult result
         (λ reply. map P.trace places.new ≡ noted_at P.keeps (map P.trace places.old) place
         (kept_entry T.kind ticket act reply))
@@ -113,6 +115,7 @@ pub fn act_alone<T: TokenKind, P: Place<T>>(
         (map P.state places.old) result (map P.state places.new) }
     ensures free { IfOk result (λ reply.
         is_ready reply ≡ true → full_at (map P.full places.old) place ≡ false) }
+    ensures start { map P.start places.new ≡ map P.start places.old }
     ensures trace { map P.trace places.new ≡ noted_all P.keeps (map P.trace places.old)
         (kept_of (λ reply. lone_deed ticket place (plain_act T.kind act) (plain_reply T.kind reply))
         result) }
@@ -248,6 +251,7 @@ pub fn leave_at<T: TokenKind, P: Place<T>>(places: &mut [P], end: End, ticket: u
         (yield_step_at (map P.state places.old) end.node (node_leave end.link)) ≡ true }
     ensures left { yield_step_at (map P.state places.old) end.node (node_leave end.link)
         ≡ Some (result, map P.state places.new) }
+    ensures start { map P.start places.new ≡ map P.start places.old }
     ensures trace { map P.trace places.new ≡ noted_at P.keeps (map P.trace places.old) end.node
         (entry_of ticket (end_leave (is_switch_at (map P.state places.old) end.node) end.link)
         (reply.Token (T.kind.plain result))) }
@@ -270,6 +274,7 @@ pub fn enter_at<T: TokenKind, P: Place<T>>(places: &mut [P], end: End, ticket: u
         (step_at (map P.state places.old) end.node (node_enter token end.link)) ≡ true }
     ensures entered { step_at (map P.state places.old) end.node (node_enter token end.link)
         ≡ Some (map P.state places.new) }
+    ensures start { map P.start places.new ≡ map P.start places.old }
     ensures trace { map P.trace places.new ≡ noted_at P.keeps (map P.trace places.old) end.node
         (entry_of ticket
         (end_enter (T.kind.plain token) (is_switch_at (map P.state places.old) end.node) end.link)
@@ -291,6 +296,7 @@ pub fn credit_out_at<T: TokenKind, P: Place<T>>(places: &mut [P], end: End, tick
         (step_at (map P.state places.old) end.node (node_credit_out end.link)) ≡ true }
     ensures granted { step_at (map P.state places.old) end.node (node_credit_out end.link)
         ≡ Some (map P.state places.new) }
+    ensures start { map P.start places.new ≡ map P.start places.old }
     ensures trace { map P.trace places.new ≡ noted_at P.keeps (map P.trace places.old) end.node
         (entry_of ticket
         (end_credit_out (is_switch_at (map P.state places.old) end.node) end.link) reply.Done) }
@@ -313,6 +319,7 @@ pub fn credit_in_at<T: TokenKind, P: Place<T>>(places: &mut [P], end: End, ticke
         (step_at (map P.state places.old) end.node (node_credit_in end.link)) ≡ true }
     ensures credited { step_at (map P.state places.old) end.node (node_credit_in end.link)
         ≡ Some (map P.state places.new) }
+    ensures start { map P.start places.new ≡ map P.start places.old }
     ensures trace { map P.trace places.new ≡ noted_at P.keeps (map P.trace places.old) end.node
         (entry_of ticket
         (end_credit_in (is_switch_at (map P.state places.old) end.node) end.link) reply.Done) }

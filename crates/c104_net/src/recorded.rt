@@ -1,13 +1,18 @@
 //! A node with its record: where it started, and what it did since.
-ghost use Rattle.std.specs.Prelude.{◌≡◌};
+ghost use Rattle.std.specs.Prelude.{◌≡◌, ◌∷◌, []};
+ghost use Rattle.std.specs.Option.{option_to_list};
+ghost use Rattle.c104_net.specs.Finished.{terminals_of};
+ghost use Rattle.c104_net.specs.Starts.{start_node};
 ghost use Rattle.c104_net.specs.Records.{IsRecorded};
 
 use crate::acts::{Act, Entry, same_reply};
 use crate::node::NodeOf;
 use crate::place::Place;
 use crate::starts::NodeStart;
+use crate::terminal::TerminalOf;
 use c104_switch::Reply;
 use c104_token::{NoMemory, Token};
+use std::alloc::Global;
 use std::marker::Model;
 
 /// The most entries of a trace.
@@ -39,6 +44,30 @@ impl Model for Node {
 }
 
 impl Node {
+    /// A node at its start, of which nothing is kept yet.
+    pub fn new(alloc: Global, core: NodeOf<Token>, start: NodeStart) -> Self
+        requires { core ≡ start_node start }
+        ensures { result.0 ≡ record { state = core; start = start; trace = [] } }
+    {
+        Node {
+            core,
+            start,
+            trace: Vec::new(alloc),
+        }
+    }
+
+    /// Retires a switch, or gives the terminal. What was kept is let go of.
+    pub fn retire(self) -> Option<TerminalOf<Token>>
+        ensures { option_to_list result ≡ terminals_of (self.0.state ∷ []) }
+    {
+        let Node {
+            core,
+            start: _,
+            trace: _,
+        } = self;
+        core.retire()
+    }
+
     /// What the node did since its start, in order.
     pub fn trace(&self) -> &[Entry]
         ensures trace { result.now ≡ self.now.0.trace }
@@ -52,7 +81,7 @@ impl Node {
 }
 
 impl Place<Token> for Node {
-    ghost use Rattle.std.specs.Prelude.{◌≡◌, ◌<◌, ◌++◌, ◌∷◌, [], length, true, false, nat_le, is_some, OnOk, MatchResult};
+    ghost use Rattle.std.specs.Prelude.{◌≡◌, ◌<◌, ◌++◌, ◌∷◌, [], Some, length, true, false, nat_le, is_some, OnOk, MatchResult};
     ghost use Rattle.c104_token.specs.Kinds.{plain_kind};
     ghost use Rattle.c104_net.specs.Acts.{IsShort, node_act, reply_outcome, wants_memory};
     ghost use Rattle.c104_net.specs.Traces.{kept_entry, trace_limit};
@@ -62,6 +91,8 @@ impl Place<Token> for Node {
     ghost keeps = { true };
 
     ghost trace = { λ n. n.0.trace };
+
+    ghost start = { λ n. Some n.0.start };
 
     ghost full = { λ n. nat_le trace_limit (length n.0.trace) };
 

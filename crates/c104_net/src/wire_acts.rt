@@ -30,6 +30,7 @@ pub fn cross_at<T: TokenKind, P: Place<T>>(
         (map P.state places.old) result (map P.state places.new) }
     ensures free { IfOk result (λ token.
         is_some token ≡ true → full_ends (map P.full places.old) from to ≡ false) }
+    ensures start { map P.start places.new ≡ map P.start places.old }
     ensures trace { map P.trace places.new ≡ noted_all P.keeps (map P.trace places.old)
         (kept_of (some_kept (λ token.
         cross_deeds (is_switch_at (map P.state places.old)) ticket from to (T.kind.plain token)))
@@ -74,6 +75,7 @@ pub fn credit_at<T: TokenKind, P: Place<T>>(
         (map P.state places.old) result (map P.state places.new) }
     ensures free { IfOk result (λ made.
         made ≡ true → full_ends (map P.full places.old) from to ≡ false) }
+    ensures start { map P.start places.new ≡ map P.start places.old }
     ensures trace { map P.trace places.new ≡ noted_all P.keeps (map P.trace places.old)
         (kept_of
         (made_kept (credit_deeds (is_switch_at (map P.state places.old)) ticket from to)) result) }

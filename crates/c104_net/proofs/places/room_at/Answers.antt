@@ -8,6 +8,9 @@ returns-clause-state g c = shown_same c.args.places.now c.args.place c.index-pla
 pub returns-clause-trace : goal.returns-clause-trace
 returns-clause-trace g c = shown_same c.args.places.now c.args.place c.index-places-place.result c.room.new.self c.requires.inside g.P.Place.trace c.room.ensures.trace
 
+pub returns-clause-start : goal.returns-clause-start
+returns-clause-start g c = shown_same c.args.places.now c.args.place c.index-places-place.result c.room.new.self c.requires.inside g.P.Place.start c.room.ensures.start
+
 pub returns-clause-full : goal.returns-clause-full
 returns-clause-full g c = λ j differs. full_others g.P.Place.full c.args.places.now c.args.place c.room.new.self j differs
 

@@ -1,7 +1,7 @@
 use Rattle.std.proofs.Common.{◌≡◌, Some, length, arith, ap}
 use Rattle.c104_token.specs.Kinds.{plain_kind}
 use Rattle.c104_net.specs.Acts.{node_act}
-use Rattle.c104_net.proofs.Recording.{run_on, made_ready}
+use Rattle.c104_net.proofs.NodeRuns.{run_on, made_ready}
 use Rattle.c104_net.proofs.recorded.NodePlaceToken.act.Goals as goal
 
 -- the run goes on by this act

@@ -1,0 +1,95 @@
+-- A network with its record, where nothing was done yet.
+use Rattle.std.proofs.Common.{◌≡◌, ◌∙◌, ◌++◌, ℕ, true, Result, Ok, Err, OnOk, List, [], ◌∷◌, map, refl, slice_get, sym, ap}
+use Rattle.std.proofs.lemmas.List.{map-append}
+use Rattle.std.proofs.lemmas.Option.{slice_get-map}
+use Rattle.std.specs.Option.{option_map}
+use Rattle.c104_token.specs.declared.tokens.Token.{Token}
+use Rattle.c104_regs.specs.declared.settings.Settings.{Settings}
+use Rattle.c104_switch.specs.Switch.{new_switch_with}
+use Rattle.c104_describe.specs.declared.plans.Terminal.{Terminal}
+use Rattle.c104_net.specs.declared.node.NodeOf.TheVariants as node
+use Rattle.c104_net.specs.Terminals.{new_terminal}
+use Rattle.c104_describe.specs.Plans.{Plan, IsPlan}
+use Rattle.c104_describe.specs.PlanImage.{Image, Fits}
+use Rattle.c104_net.specs.declared.acts.Entry.{Entry}
+use Rattle.c104_net.specs.Nodes.{Node}
+use Rattle.c104_net.specs.Network.{network_of, placed_network}
+use Rattle.c104_net.specs.Records.{NodeRecord}
+use Rattle.c104_net.specs.Starts.{start_node}
+use Rattle.c104_net.specs.NetRecords.{first_record, net_record, node_start, node_state, node_trace, shown_record, IsFirstRecord, IsNetRecord}
+use Rattle.c104_net.proofs.BalancePlaced.{steady_copy, steady_made}
+
+abbrev Shown : Type 0
+Shown = Node Token × Node Token × List Entry
+
+abbrev no_entries : Node Token → List Entry
+no_entries n = []
+
+map_twice : {X Y Z : Type 0} (g : Y → Z) (f : X → Y) (xs : List X) → map g (map f xs) ≡ map (λ x. g (f x)) xs
+map_twice g f [] = refl
+map_twice g f (x ∷ xs) = ap (λ zs. g (f x) ∷ zs) (map_twice g f xs)
+
+abbrev made_switch : ℕ → List Settings → Node Token
+made_switch cap settings = node.Switch (new_switch_with cap settings true)
+
+abbrev made_terminal : ℕ → Terminal → Node Token
+made_terminal cap t = node.Terminal (new_terminal cap)
+
+-- switches and then terminals, as they are placed
+pub placed_all : {E : Type 0} (r : Result (Unit {0}) E) (plan : Plan) (image : Image) (mid new : List Shown) → mid ≡ map (λ settings. first_record (made_switch plan.cap settings)) image.settings →
+    OnOk r (new ≡ mid ++ map (λ t. first_record (made_terminal plan.cap t)) plan.terminals) → OnOk r (new ≡ map first_record (placed_network plan image).nodes)
+placed_all (Ok u) plan image mid new made grown =
+    grown ∙ ap (λ xs. xs ++ map (λ t. first_record (made_terminal plan.cap t)) plan.terminals) (made ∙ sym (map_twice first_record (made_switch plan.cap) image.settings))
+    ∙ ap (λ ys. map first_record (map (made_switch plan.cap) image.settings) ++ ys) (sym (map_twice first_record (made_terminal plan.cap) plan.terminals))
+    ∙ sym (map-append first_record (map (made_switch plan.cap) image.settings) (map (made_terminal plan.cap) plan.terminals))
+placed_all (Err e) plan image mid new made grown = tt
+
+-- what a switch with its start shows
+pub shown_switch : (v : NodeRecord × ℕ) (r : NodeRecord) (n : Node Token) → v.0 ≡ r → r.state ≡ n → start_node r.start ≡ n → r.trace ≡ [] → shown_record v ≡ first_record n
+shown_switch v r n is state begun trace =
+    ap (λ (r : NodeRecord). (r.state, start_node r.start, r.trace)) is ∙ ap (λ (m : Node Token). (m, start_node r.start, r.trace)) state ∙ ap (λ (m : Node Token). (n, m, r.trace)) begun ∙ ap (λ (t : List Entry). (n, n, t)) trace
+
+-- what nodes show at their start
+shown_first : (list : List (NodeRecord × ℕ)) (nodes : List (Node Token)) → map shown_record list ≡ map first_record nodes → (map node_state list ≡ nodes) × (map start_node (map node_start list) ≡ nodes) × (map node_trace list ≡ map no_entries nodes)
+shown_first [] [] is = (refl, refl, refl)
+shown_first [] (m ∷ nodes) is = cc
+shown_first (n ∷ list) [] is = cc
+shown_first (n ∷ list) (m ∷ nodes) is =
+    let first : shown_record n ≡ first_record m = cc in
+    let rest : map shown_record list ≡ map first_record nodes = cc in
+    let others = shown_first list nodes rest in (
+      ap (λ x. x ∷ map node_state list) (ap (λ (v : Shown). v.0) first) ∙ ap (λ xs. m ∷ xs) others.0,
+      ap (λ x. x ∷ map start_node (map node_start list)) (ap (λ (v : Shown). v.1) first) ∙ ap (λ xs. m ∷ xs) others.1,
+      ap (λ x. x ∷ map node_trace list) (ap (λ (v : Shown). v.2) first) ∙ ap (λ xs. [] ∷ xs) others.2,
+    )
+
+module _ (plan wires : Plan) (image : Image) (list : List (NodeRecord × ℕ)) (same : wires ≡ plan) (shown : map shown_record list ≡ map first_record (placed_network plan image).nodes) where
+  abbrev nodes : List (Node Token)
+  nodes = (placed_network plan image).nodes
+
+  -- it keeps what such a network keeps
+  pub record_first : Fits image plan → IsPlan plan → IsNetRecord (net_record wires list 0)
+  record_first fits is_plan =
+      let are = shown_first list nodes shown in
+      record {
+        steady = steady_copy plan wires (map node_state list) same (steady_made plan plan image (map node_state list) refl are.0 fits is_plan);
+        told = λ below. (
+          [],
+          record {
+            run = ap (network_of wires) (are.0 ∙ sym are.1);
+            told = λ k. ap (λ ts. slice_get ts k) are.2 ∙ slice_get-map no_entries nodes k ∙ ap (λ ns. option_map no_entries (slice_get ns k)) (sym are.1);
+            counted = refl;
+          },
+        );
+      }
+
+  -- and it is the one that was placed
+  pub first_is : IsFirstRecord (placed_network plan image) (net_record wires list 0)
+  first_is =
+      let are = shown_first list nodes shown in
+      record {
+        network = ap (λ p. network_of p (map node_state list)) same ∙ ap (network_of plan) are.0;
+        starts = are.1;
+        traces = are.2;
+        count = refl;
+      }

@@ -1,0 +1,98 @@
+-- A network with its record: its nodes with their starts and their traces, and how many events were done.
+use Rattle.std.specs.Prelude.{ℕ, ◌+◌, ◌≡◌, ◌<◌, Bool, true, false, List, [], Result, Ok, Err, IfOk, length, map, min, nat_le}
+use Rattle.c104_token.specs.declared.tokens.Token.{Token}
+use Rattle.c104_token.specs.Kinds.{plain_kind}
+use Rattle.c104_switch.specs.Actions.{Reply, is_ready}
+use Rattle.c104_describe.specs.Plans.{Plan}
+use Rattle.c104_event.specs.declared.events.Event.{Event}
+use Rattle.c104_event.specs.declared.faults.EventFault.{EventFault}
+use Rattle.c104_net.specs.declared.acts.Entry.{Entry}
+use Rattle.c104_net.specs.declared.starts.NodeStart.{NodeStart}
+use Rattle.c104_net.specs.Balance.{IsSteady}
+use Rattle.c104_net.specs.Nodes.{Node}
+use Rattle.c104_net.specs.Network.{Network, network_of, AnswersWith}
+use Rattle.c104_net.specs.Records.{NodeRecord}
+use Rattle.c104_net.specs.Runs.{IsRunRecord}
+use Rattle.c104_net.specs.Starts.{start_node}
+use Rattle.c104_net.specs.Traces.{event_deeds, event_full, is_switch_place, kept_of, noted_all, trace_limit}
+
+-- what is seen of a node with its record, beside the room for further entries
+abbrev pub node_state : NodeRecord × ℕ → Node Token
+node_state n = n.0.state
+
+abbrev pub node_start : NodeRecord × ℕ → NodeStart
+node_start n = n.0.start
+
+abbrev pub node_trace : NodeRecord × ℕ → List Entry
+node_trace n = n.0.trace
+
+-- a network, where its nodes started, what they did since, and how many events were done
+pub record NetRecord : Type 0 where
+  pub network : Network Token
+  pub starts : List NodeStart
+  pub traces : List (List Entry)
+  pub count : ℕ
+
+-- what nodes with their records and such a count show
+abbrev pub net_record : Plan → List (NodeRecord × ℕ) → ℕ → NetRecord
+net_record plan nodes count = record {
+  network = network_of plan (map node_state nodes);
+  starts = map node_start nodes;
+  traces = map node_trace nodes;
+  count = count;
+}
+
+-- what is shown of a node with its record: its state, its state at its start, and its trace
+abbrev pub shown_record : NodeRecord × ℕ → Node Token × Node Token × List Entry
+shown_record n = (n.0.state, start_node n.0.start, n.0.trace)
+
+-- the same of a node at its start
+abbrev pub first_record : Node Token → Node Token × Node Token × List Entry
+first_record n = (n, n, [])
+
+-- a network where nothing was done yet: the start is what it is, and no trace has an entry
+pub record IsFirstRecord (net : Network Token) (r : NetRecord) : Type 0 where
+  pub network : r.network ≡ net
+  pub starts : map start_node r.starts ≡ net.nodes
+  pub traces : r.traces ≡ map (λ n. []) net.nodes
+  pub count : r.count ≡ 0
+
+-- the largest count of events that were done
+abbrev pub largest_ticket : ℕ
+largest_ticket = 18446744073709551615
+
+-- one event more, where it was done
+abbrev pub ticket_after : ℕ → Bool → ℕ
+ticket_after n false = n
+ticket_after n true = min (n + 1) largest_ticket
+
+-- whether an event was done, by its answer
+abbrev pub is_done : Result Reply EventFault → Bool
+is_done (Ok r) = is_ready r
+is_done (Err f) = false
+
+-- whether a trace has as many entries as it may have
+abbrev pub is_trace_full : List Entry → Bool
+is_trace_full trace = nat_le trace_limit (length trace)
+
+-- there is one list of events, each answered and done, which leads from the start to the present nodes,
+-- and of which the trace of each node is its part in the order of the tickets
+abbrev pub IsRunOf : NetRecord → Type 0
+IsRunOf r =
+    (events : List (Event × Reply))
+    × IsRunRecord plain_kind r.network.plan (map start_node r.starts) r.network.nodes r.traces r.count events
+
+-- what the type of a network with its record keeps: the balance, and that it is such a run. Were there
+-- more events than tickets, no run would be told; traces are full long before.
+pub record IsNetRecord (r : NetRecord) : Type 0 where
+  pub steady : IsSteady r.network
+  pub told : r.count < largest_ticket → IsRunOf r
+
+-- what an event answers and leaves: what is due to it, or, where it would be done, that a trace is full or
+-- memory has run out; and its entries, where it was done
+pub record RecordsEvent (old : NetRecord) (e : Event) (answer : Result Reply EventFault) (new : NetRecord) : Type 0 where
+  pub answers : AnswersWith plain_kind (event_full old.network.plan (map is_trace_full old.traces) e) old.network e answer new.network
+  pub free : IfOk answer (λ r. is_ready r ≡ true → event_full old.network.plan (map is_trace_full old.traces) e ≡ false)
+  pub traces : new.traces ≡ noted_all true old.traces (kept_of (event_deeds (is_switch_place old.network.plan) old.network.plan old.count e) answer)
+  pub starts : new.starts ≡ old.starts
+  pub count : new.count ≡ ticket_after old.count (is_done answer)

@@ -1,0 +1,153 @@
+//! A network whose nodes keep what they do.
+ghost use Rattle.std.specs.Prelude.{◌≡◌};
+ghost use Rattle.std.specs.Option.{option_copied};
+ghost use Rattle.std.specs.Prelude.{map, slice_get, IfOk, IsErrOf, OnOk};
+ghost use Rattle.c104_describe.specs.PlanImage.{Fits};
+ghost use Rattle.c104_net.specs.Network.{network_arrived, placed_network};
+ghost use Rattle.c104_net.specs.NetRecords.{is_done, ticket_after, IsFirstRecord, IsNetRecord, RecordsEvent};
+
+use crate::acts::Entry;
+use crate::events::happen;
+use crate::faults::PlaceFault;
+use crate::place::Place;
+use crate::recorded::Node;
+use crate::recording::{place_recorded, retire_recorded};
+use crate::wires::Wires;
+use c104_describe::{Image, Plan};
+use c104_event::{Event, EventFault};
+use c104_switch::Reply;
+use c104_token::{NoMemory, Token};
+use std::alloc::Global;
+use std::marker::Model;
+
+/// A network of plain tokens whose nodes keep where they started and what they did since.
+pub struct RecordedNet {
+    wires: Wires,
+    // The switches in order, and then the terminals.
+    places: Vec<Node>,
+    // How many events were done.
+    count: u64,
+}
+
+impl Model for RecordedNet {
+    ghost use Rattle.c104_net.specs.NetRecords.{net_record, IsNetRecord, NetRecord};
+
+    ghost Value = { NetRecord };
+
+    ghost view = { λ net. net_record net.wires net.places.items net.count };
+
+    ghost invariant = { λ net. IsNetRecord (net_record net.wires net.places.items net.count) };
+}
+
+impl RecordedNet {
+    /// A network of this plan, each switch of which is started with the image's settings, no token
+    /// anywhere, and nothing done yet. NotFitting exactly where the image has other counts of switches
+    /// or terminals than the plan; else the only error is out of memory.
+    pub fn placed(alloc: Global, plan: &Plan, image: &Image) -> Result<Self, PlaceFault>
+        ensures placed { IfOk result (IsFirstRecord (placed_network plan.now image.now)) }
+        ensures fits { OnOk result (Fits image.now plan.now) }
+        ensures not_fitting { IsErrOf result PlaceFault.NotFitting → Fits image.now plan.now → ⊥ }
+        ensures no_memory { IsErrOf result PlaceFault.NoMemory → Fits image.now plan.now }
+    {
+        if !image.fits(plan) {
+            return Err(PlaceFault::NotFitting);
+        }
+        let net = RecordedNet::started(alloc, plan, image)?;
+        Ok(net)
+    }
+
+    /// A network of this plan, with an image that fits it.
+    fn started(alloc: Global, plan: &Plan, image: &Image) -> Result<Self, NoMemory>
+        requires { Fits image.now plan.now }
+        ensures { IfOk result (IsFirstRecord (placed_network plan.now image.now)) }
+    {
+        let _terminals = plan.terminals();
+        let copy = plan.clone()?;
+        let wires = Wires::new(alloc, copy)?;
+        let mut places = Vec::new(alloc);
+        match place_recorded(alloc, plan, image, &mut places) {
+            Ok(()) => Ok(RecordedNet {
+                wires,
+                places,
+                count: 0,
+            }),
+            Err(error) => {
+                retire_recorded(places);
+                Err(error)
+            }
+        }
+    }
+
+    /// Lets go of the network.
+    pub fn retire(self) {
+        let RecordedNet {
+            wires: _,
+            places,
+            count: _,
+        } = self;
+        retire_recorded(places);
+    }
+
+    /// The plan of the network.
+    pub fn plan(&self) -> &Plan
+        ensures { result.now ≡ self.now.network.plan }
+    {
+        self.wires.plan()
+    }
+
+    /// The tokens that arrived at a terminal since the start, in order. None where the plan has no
+    /// such terminal.
+    pub fn arrived(&self, terminal: usize) -> Option<&[Token]>
+        ensures { option_copied result ≡ network_arrived self.now.network terminal }
+    {
+        let plan = self.wires.plan();
+        if terminal >= plan.terminals().len() {
+            return None;
+        }
+        let place = plan.switches().len() + terminal;
+        self.places.get(place)?.node().arrived()
+    }
+
+    /// What the node at a place did since its start, in order. None where there is no such node.
+    pub fn trace(&self, node: usize) -> Option<&[Entry]>
+        ensures trace { option_copied result ≡ slice_get self.now.traces node }
+        ensures told { IsNetRecord self.now }
+    {
+        let _wires = &self.wires;
+        let _count = self.count;
+        match self.places.get(node) {
+            Some(found) => Some(found.trace()),
+            None => None,
+        }
+    }
+
+    /// Does an event, as a network does that keeps no traces; and where it was done, each node that acted
+    /// has one entry more, with the event's number among those that were done. TraceFull comes after
+    /// InboxFull and before NoMemory.
+    pub fn apply(&mut self, event: &Event) -> Result<Reply, EventFault>
+        ensures { RecordsEvent self.old event.now result self.new }
+    {
+        let answer = happen(&self.wires, self.places.as_mut_slice(), self.count, event);
+        self.count = ticket_after(self.count, was_done(&answer));
+        answer
+    }
+}
+
+/// How many events were done, after one that may have been.
+// Saturating: no network comes near the end, since its traces are full long before.
+fn ticket_after(count: u64, done: bool) -> u64
+    ensures { result ≡ ticket_after count done }
+{
+    if done { count.saturating_add(1) } else { count }
+}
+
+/// Whether an event that was answered so was done.
+fn was_done(answer: &Result<Reply, EventFault>) -> bool
+    ensures { result ≡ is_done answer.now }
+{
+    match answer {
+        Ok(Reply::NotReady) => false,
+        Ok(_) => true,
+        Err(_) => false,
+    }
+}
