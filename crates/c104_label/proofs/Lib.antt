@@ -22,4 +22,14 @@ pub mod TreeCounts
 pub mod TreeAdded
 pub mod TreeSteps
 pub mod ShapeTables
-mod ShapePlans
+pub mod ShapePlans
+pub mod MappedRanges
+pub mod FilledPeers
+pub mod LabelledRoutes
+pub mod CrossedWires
+pub mod MeshWalks
+pub mod OwnLabels
+pub mod AcceptedLayouts
+pub mod AcceptedMeshes
+pub mod CubeWalks
+pub mod AcceptedCubes

@@ -20,7 +20,7 @@ mesh_ends w h p s wide inside = (
 )
 
 -- the switches that agree with x from a bit on are half of those that agree with it from the next on
-half : (x k : ℕ) → x / 2 ^ suc k ≡ x / 2 ^ k / 2
+pub half : (x k : ℕ) → x / 2 ^ suc k ≡ x / 2 ^ k / 2
 half x k = ap (λ n. x / n) (pow-suc 2 k) ∙ sym (div-div-eq-div-mul x (2 ^ k) 2)
 
 double : (a k : ℕ) → a * 2 ^ suc k ≡ a * 2 * 2 ^ k

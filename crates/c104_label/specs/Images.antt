@@ -53,6 +53,13 @@ is_cube_shape (Tree root) = false
 is_cube_shape (Mesh width height terminals) = false
 is_cube_shape (Cube dimensions terminals) = true
 
+-- whether a plan of this shape is a mesh or a cube
+abbrev pub is_layout_shape : Shape → Bool
+is_layout_shape Hand = false
+is_layout_shape (Tree root) = false
+is_layout_shape (Mesh width height terminals) = true
+is_layout_shape (Cube dimensions terminals) = true
+
 -- want of memory, of which nothing is said, and nothing else
 abbrev pub IsNoMemory : LabelFault → Type 0
 IsNoMemory fault.NotConnected = ⊥

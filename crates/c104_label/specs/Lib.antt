@@ -7,3 +7,4 @@ pub mod Trees
 pub mod TreeLabels
 pub mod TreeImages
 pub mod Images
+pub mod Crossings

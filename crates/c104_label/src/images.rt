@@ -4,7 +4,9 @@ ghost use Rattle.c104_regs.specs.Ranges.{IsTableInRange};
 ghost use Rattle.c104_describe.specs.LabelledImages.{labelled_image};
 ghost use Rattle.c104_describe.specs.PlanImage.{Fits, range_of};
 ghost use Rattle.c104_describe.specs.Plans.{IsPlan};
-ghost use Rattle.c104_label.specs.Images.{IsImageCause, IsImageOf, IsShapeCause, is_cube_shape, is_mesh_shape, is_tree_shape};
+ghost use Rattle.c104_check.specs.Routes.{IsAccepted, routes_of};
+ghost use Rattle.c104_label.specs.Crossings.{AreCrossings};
+ghost use Rattle.c104_label.specs.Images.{IsImageCause, IsImageOf, IsShapeCause, is_cube_shape, is_layout_shape, is_mesh_shape, is_tree_shape};
 ghost use Rattle.c104_label.specs.declared.faults.LabelFault.TheVariants as fault;
 
 use crate::cubes::cube_image;
@@ -20,10 +22,13 @@ use std::alloc::Global;
 /// shape, a tree, a mesh or a cube.
 ///
 /// A tree alone may be refused: NotConnected where wires don't lead from its root to each switch, then TooManyLabels
-/// where its terminals have more labels than there are headers. All may be NoMemory.
+/// where its terminals have more labels than there are headers. All may be NoMemory. The labels of a mesh and of a
+/// cube need no check.
 pub fn image_of(alloc: Global, plan: &Plan) -> Result<Image, LabelFault>
     ensures image { IfOk result (λ image. IsImageOf plan.now image) }
     ensures fits { IfOk result (λ image. Fits image plan.now) }
+    ensures accepted { is_layout_shape plan.now.shape ≡ true → IfOk result (λ image. IsAccepted (routes_of plan.now image)) }
+    ensures crossings { IfOk result (λ image. AreCrossings plan.now.shape (routes_of plan.now image)) }
     ensures refused { IfErr result (IsImageCause plan.now) }
 {
     match plan.shape() {
@@ -65,11 +70,16 @@ pub fn label_tree(alloc: Global, plan: &Plan) -> Result<Image, LabelFault>
 /// The image of a mesh's plan: labels go along the column first, and then along the row. All ports of a switch
 /// that have a wire have the table of `mesh_tables`, and all else is as the plan's own lines say.
 ///
+/// The labels need no check: they are accepted, whatever else the plan says. From each terminal each label comes to
+/// its own over as many wires between switches as the two are rows and columns apart.
+///
 /// WrongShape exactly where the plan is no mesh's; and NoMemory.
 #[tactic(auto, using(crate::proofs::ShapePlans::mesh_switches))]
 pub fn label_mesh(alloc: Global, plan: &Plan) -> Result<Image, LabelFault>
     ensures image { IfOk result (λ image. IsImageOf plan.now image) }
     ensures fits { IfOk result (λ image. Fits image plan.now) }
+    ensures accepted { IfOk result (λ image. IsAccepted (routes_of plan.now image)) }
+    ensures crossings { IfOk result (λ image. AreCrossings plan.now.shape (routes_of plan.now image)) }
     ensures shape { IsErrOf result fault.WrongShape ↔ (is_mesh_shape plan.now.shape ≡ false) }
     ensures refused { IfErr result (IsShapeCause (is_mesh_shape plan.now.shape) plan.now) }
 {
@@ -88,11 +98,16 @@ pub fn label_mesh(alloc: Global, plan: &Plan) -> Result<Image, LabelFault>
 /// differs. All ports of a switch that have a wire have the table of `cube_tables`, and all else is as the plan's
 /// own lines say.
 ///
+/// The labels need no check: they are accepted, whatever else the plan says. From each terminal each label comes to
+/// its own over as many wires between switches as bits of the two numbers differ.
+///
 /// WrongShape exactly where the plan is no cube's; and NoMemory.
 #[tactic(auto, using(crate::proofs::ShapePlans::cube_switches))]
 pub fn label_cube(alloc: Global, plan: &Plan) -> Result<Image, LabelFault>
     ensures image { IfOk result (λ image. IsImageOf plan.now image) }
     ensures fits { IfOk result (λ image. Fits image plan.now) }
+    ensures accepted { IfOk result (λ image. IsAccepted (routes_of plan.now image)) }
+    ensures crossings { IfOk result (λ image. AreCrossings plan.now.shape (routes_of plan.now image)) }
     ensures shape { IsErrOf result fault.WrongShape ↔ (is_cube_shape plan.now.shape ≡ false) }
     ensures refused { IfErr result (IsShapeCause (is_cube_shape plan.now.shape) plan.now) }
 {

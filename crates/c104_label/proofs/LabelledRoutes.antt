@@ -1,0 +1,168 @@
+-- What decides where packets go in a network whose switches have tables that are given, as those of labels.
+use Rattle.std.proofs.Common.{◌≡◌, ℕ, zero, suc, ◌<◌, ◌≤◌, ◌+◌, ◌-◌, ◌==◌, inl, inr, Bool, true, false, if◌then◌else◌, is_some, nat_le, List, [], ◌∷◌, length, map, slice_get, option_map, All, Option, Some, None, refl, sym, ap, ◌∙◌, arith}
+use Rattle.std.specs.List.{list_any, range_with_len}
+use Rattle.std.proofs.lemmas.Bool.{cases_Bool, cases_lt}
+use Rattle.std.proofs.lemmas.Bool.Decides.{nat_tests}
+use Rattle.std.proofs.lemmas.Option.{slice_get_past}
+use Rattle.std.proofs.lemmas.List.{length-map}
+use Rattle.std.proofs.lemmas.List.FromFn.{length-map-range_with_len}
+use Rattle.c104_interval.specs.Selection as table
+use Rattle.c104_interval.specs.Selection.{reset_table}
+use Rattle.c104_interval.specs.declared.intervals.Table.{Table}
+use Rattle.c104_crossbar.specs.Groups.{group_contains, is_joined_run}
+use Rattle.c104_regs.specs.Groups.{continues, continues_at}
+use Rattle.c104_regs.specs.Ranges.{IsTableInRange}
+use Rattle.c104_regs.specs.Settings.{header_length}
+use Rattle.c104_regs.specs.declared.settings.Settings.{Settings}
+use Rattle.c104_regs.proofs.RangeNumbers.{plain_headers}
+use Rattle.c104_describe.specs.declared.plans.Terminal.{Terminal}
+use Rattle.c104_describe.specs.declared.ports.Port.{Port}
+use Rattle.c104_describe.specs.declared.ports.Port.TheVariants as port
+use Rattle.c104_describe.specs.LabelledImages.{labelled_image, labelled_settings, labelled_switch, table_in}
+use Rattle.c104_describe.specs.PlanImage.{AreSettings, range_of, settings_of}
+use Rattle.c104_describe.specs.Plans.{IsPlan, Plan, deletes_at, host_port, is_continued, is_on}
+use Rattle.c104_describe.specs.Ports.{is_any_at}
+use Rattle.c104_describe.specs.Wiring.{peer}
+use Rattle.c104_describe.proofs.LabelledSettings.{are_labelled, labelled_at, labelled_fits}
+use Rattle.c104_describe.proofs.PlanSettings.{no_random}
+use Rattle.c104_describe.proofs.PortLemmas.{is_port-true}
+use Rattle.c104_describe.proofs.RangeLists.{all_range}
+use Rattle.c104_describe.proofs.Wires.{wiring}
+use Rattle.c104_check.specs.declared.ports.SwitchPort.{SwitchPort}
+use Rattle.c104_check.specs.Routes.{Routes, is_in_group, length_at, length_or_one, link_settings, or_no_settings, port_at, routes_of, select, settings_at, to_port}
+use Rattle.c104_check.specs.Trails.{IsNetwork}
+use Rattle.c104_check.proofs.NetworkLemmas.{network_of}
+use Rattle.c104_check.proofs.RouteLemmas.{are_there, in_range}
+use Rattle.c104_label.proofs.MappedRanges.{map_at, map_was}
+
+-- Where no link continues a group, each link is a group by itself
+
+joined_none : (continue : ℕ → Bool) (low n : ℕ) → ((l : ℕ) → continue l ≡ false) → is_joined_run continue low n ≡ (n == 0)
+joined_none continue low zero none = refl
+joined_none continue low (suc n) none = let t : (suc n == 0) ≡ false = grind (arith, nat_tests) in rw (none (low + suc n), t) refl
+
+pub group_alone : (continue : ℕ → Bool) (g o : ℕ) → ((l : ℕ) → continue l ≡ false) → group_contains continue g o ≡ (o == g)
+group_alone continue g o none = elim (cases_Bool (nat_le g o)) [
+  | inl t ↦ rw t (joined_none continue g (o - g) none ∙ (let e : (o - g == 0) ≡ (o == g) = grind (arith, nat_tests) in e))
+  | inr t ↦ rw t (joined_none continue o (g - o) none ∙ (let e : (g - o == 0) ≡ (o == g) = grind (arith, nat_tests) in e))
+]
+
+-- Headers of all networks have one byte, for now
+
+pub one_byte : (routes : Routes) (q : SwitchPort) (x : Settings) → IsNetwork routes → link_settings routes.settings q ≡ Some x → header_length x ≡ 1
+one_byte routes q x net is =
+    let plain = plain_headers x (in_range (settings_at routes q.switch) q.link x (are_there routes q.switch q.link x net is).1 is) in
+    rw (plain.0) refl
+
+pub header_is : (routes : Routes) (o : Option ℕ) → IsNetwork routes → length_at routes.settings o ≡ 1
+header_is routes None net = refl
+header_is routes (Some k) net = by (link_settings routes.settings (port_at k)) refl
+  where
+    by : (o : Option Settings) → link_settings routes.settings (port_at k) ≡ o → length_or_one o ≡ 1
+    by None is = refl
+    by (Some x) is = one_byte routes (port_at k) x net is
+
+-- Settings that a plan's own lines say
+
+with_table_deletes : (b : Bool) (s : Settings) (t : Table) → (if b then record s { table = t } else s).delete_header ≡ s.delete_header
+with_table_deletes true s t = refl
+with_table_deletes false s t = refl
+
+with_table_continues : (b : Bool) (s : Settings) (t : Table) → (if b then record s { table = t } else s).continue_group ≡ s.continue_group
+with_table_continues true s t = refl
+with_table_continues false s t = refl
+
+deletes_own : (plan : Plan) (t : Table) (p : Port) → IsPlan plan → (labelled_settings plan t p).delete_header ≡ deletes_at plan p
+unfolding labelled_settings settings_of
+deletes_own plan t p kept = with_table_deletes (is_some (peer plan p)) _ t ∙ rw (no_random plan p kept) refl
+
+continues_own : (plan : Plan) (t : Table) (p : Port) → IsPlan plan → (labelled_settings plan t p).continue_group ≡ is_continued plan p
+unfolding labelled_settings settings_of
+continues_own plan t p kept = with_table_continues (is_some (peer plan p)) _ t ∙ rw (no_random plan p kept) refl
+
+none_continued : (plan : Plan) (p : Port) → plan.continues ≡ [] → is_continued plan p ≡ false
+unfolding is_any_at
+none_continued plan p none = ap (λ ports. is_any_at (λ q. q) ports p) none
+
+-- a terminal of the deletes is on a port where headers are deleted
+any_on : (plan : Plan) (p : Port) (ds : List ℕ) → list_any (λ terminal. is_on p (slice_get plan.terminals terminal)) ds ≡ true → (k : ℕ) × (is_on p (slice_get plan.terminals k) ≡ true)
+any_on plan p [] is = absurd cc
+any_on plan p (d ∷ ds) is = elim (cases_Bool (is_on p (slice_get plan.terminals d))) [
+  | inl here ↦ (d, here)
+  | inr not ↦ any_on plan p ds (rw not at is)
+]
+
+on_terminal : (p : Port) (o : Option Terminal) → is_on p o ≡ true → (t : Terminal) × (o ≡ Some t) × (host_port t ≡ p)
+on_terminal p None is = absurd cc
+on_terminal p (Some t) is = (t, refl, is_port-true (host_port t) p is)
+
+-- so none are deleted where a wire leads to a switch
+pub none_deleted : (plan : Plan) (p : Port) (s l : ℕ) → IsPlan plan → peer plan p ≡ Some (port.Switch s l) → deletes_at plan p ≡ false
+unfolding deletes_at
+none_deleted plan p s l kept wired = elim (cases_Bool (deletes_at plan p)) [
+  | inr not ↦ not
+  | inl is ↦
+      let found = any_on plan p plan.deletes is in
+      let terminal = on_terminal p (slice_get plan.terminals found.0) found.1 in
+      let w = wiring plan kept in
+      let here : peer plan (port.Terminal found.0) ≡ Some p = w.host found.0 terminal.0 terminal.1 ∙ ap Some terminal.2 in
+      let there : peer plan p ≡ Some (port.Terminal found.0) = w.back (port.Terminal found.0) p here in
+      let clash : Some (port.Switch s l) ≡ Some (port.Terminal found.0) = sym wired ∙ there in absurd cc
+]
+
+-- A plan and its image with tables make a network
+
+pub labelled_network : (plan : Plan) (tables : List Table) → IsPlan plan → length tables ≡ length plan.switches → All IsTableInRange tables → IsNetwork (routes_of plan (labelled_image plan (map range_of plan.terminals) tables))
+labelled_network plan tables kept many within =
+    network_of plan (labelled_image plan (map range_of plan.terminals) tables) kept
+    (all_range AreSettings (λ switch. labelled_switch plan (table_in tables switch) switch) 0 (length plan.switches) (λ s lt. are_labelled plan (table_in tables s) s kept (within s reset_table (omega (arith, lt, many)))))
+    (labelled_fits plan tables (labelled_image plan (map range_of plan.terminals) tables) (length-map plan.terminals range_of) refl)
+
+-- The routes of an image with tables
+
+module _ (plan : Plan) (ranges : List (ℕ × ℕ)) (tables : List Table) where
+  abbrev pub routes : Routes
+  routes = routes_of plan (labelled_image plan ranges tables)
+
+  abbrev at : ℕ → ℕ → Settings
+  at s l = labelled_at plan (table_in tables s) s l
+
+  pub settings_are : (s : ℕ) → s < length plan.switches → settings_at routes s ≡ labelled_switch plan (table_in tables s) s
+  settings_are s lt = ap or_no_settings (map_at (λ switch. labelled_switch plan (table_in tables switch) switch) (length plan.switches) s lt)
+
+  none_set : (s : ℕ) → length plan.switches ≤ s → settings_at routes s ≡ []
+  none_set s le = ap or_no_settings (slice_get_past routes.settings s (let e : length routes.settings ≡ length plan.switches = length-map-range_with_len (λ switch. labelled_switch plan (table_in tables switch) switch) 0 (length plan.switches) in omega (arith, e, le)))
+
+  -- what is set at a link
+  pub link_was : (q : SwitchPort) (x : Settings) → link_settings routes.settings q ≡ Some x → x ≡ at q.switch q.link
+  unfolding labelled_switch
+  link_was q x is = elim (cases_lt q.switch (length plan.switches)) [
+    | inl lt ↦ (map_was (at q.switch) 32 q.link x (ap (λ xs. slice_get xs q.link) (sym (settings_are q.switch lt)) ∙ is)).1
+    | inr ge ↦
+        let past : slice_get [] q.link ≡ None = slice_get_past {X = Settings} [] q.link (omega arith) in
+        let here : slice_get [] q.link ≡ Some x = ap (λ xs. slice_get xs q.link) (sym (none_set q.switch (omega (arith, ge)))) ∙ is in
+        let clash : None ≡ Some x = sym past ∙ here in absurd cc
+  ]
+
+  -- what a header selects at a port that has a wire
+  pub selected : (s i h : ℕ) → s < length plan.switches → i < 32 → is_some (peer plan (port.Switch s i)) ≡ true → select routes s i h ≡ Some (table.select (table_in tables s) h)
+  unfolding labelled_switch labelled_settings
+  selected s i h lt few wired =
+      let found : slice_get (settings_at routes s) i ≡ Some (at s i) = ap (λ xs. slice_get xs i) (settings_are s lt) ∙ map_at (at s) 32 i few in
+      ap (option_map (λ (settings : Settings). table.select settings.table h)) found ∙ (rw wired refl)
+
+  -- a link is a group by itself where no line says that one continues another
+  pub alone : (s g o : ℕ) → IsPlan plan → plan.continues ≡ [] → s < length plan.switches → is_in_group routes s g o ≡ (o == g)
+  unfolding labelled_switch
+  alone s g o kept unset lt = group_alone (continues_at (settings_at routes s)) g o none
+    where
+      none : (l : ℕ) → continues_at (settings_at routes s) l ≡ false
+      none l = ap (λ xs. continues_at xs l) (settings_are s lt) ∙ elim (cases_lt l 32) [
+        | inl below ↦ ap continues (map_at (at s) 32 l below) ∙ continues_own plan (table_in tables s) (port.Switch s l) kept ∙ none_continued plan (port.Switch s l) unset
+        | inr past ↦ ap continues (slice_get_past (map (at s) (range_with_len 0 32)) l (let e : length (map (at s) (range_with_len 0 32)) ≡ 32 = length-map-range_with_len (at s) 0 32 in omega (arith, e, past)))
+      ]
+
+  -- headers aren't deleted at a port that is wired to a switch
+  pub keeps : (q other : SwitchPort) (x : Settings) → IsPlan plan → routes.peer (to_port q) ≡ Some (to_port other) → link_settings routes.settings q ≡ Some x → x.delete_header ≡ false
+  keeps q other x kept wired is =
+      ap (λ (y : Settings). y.delete_header) (link_was q x is) ∙ deletes_own plan (table_in tables q.switch) (to_port q) kept ∙ none_deleted plan (to_port q) other.switch other.link kept wired
