@@ -1,12 +1,13 @@
 //! The check of a description's labels.
-ghost use Rattle.std.specs.Prelude.{◌≢◌, Ok, Result};
+ghost use Rattle.std.specs.Prelude.{◌≡◌, ◌≢◌, false, true, Ok, Result};
 ghost use Rattle.c104_check.specs.Checks.{IsCause};
-ghost use Rattle.c104_check.specs.Routes.{routes_of};
+ghost use Rattle.c104_check.specs.Routes.{IsAccepted, routes_of};
 ghost use Rattle.c104_check.specs.declared.faults.CheckFault.TheVariants as check_fault;
 ghost use Rattle.c104_describe.specs.PlanImage.{Fits};
 ghost use Rattle.c104_describe.specs.PlanText.{read_description};
 ghost use Rattle.c104_describe.specs.Plans.{Plan as ThePlan};
 ghost use Rattle.c104_describe.specs.declared.faults.PlanFault.{PlanFault as ThePlanFault};
+ghost use Rattle.c104_label.specs.Images.{is_layout_shape};
 ghost use Rattle.c104_commands.specs.Checks.{CheckEnds, ChecksText};
 ghost use Rattle.c104_commands.specs.Setups.{ComesTo};
 
@@ -78,7 +79,9 @@ fn check_setup<W: Write, M: Messages>(
     writer: &mut W,
     messages: &mut M,
 ) -> Status
-    requires { Fits setup.now.image setup.now.plan }
+    requires fits { Fits setup.now.image setup.now.plan }
+    requires accepted { is_layout_shape setup.now.plan.shape ≡ true
+        → IsAccepted (routes_of setup.now.plan setup.now.image) }
     ensures { (due : Result ThePlan ThePlanFault) → ComesTo due (Ok (setup.now.plan, setup.now.image))
         → CheckEnds due (W.contents writer.old) (W.contents writer.new) result }
 {
@@ -103,6 +106,7 @@ fn refuse_labels<W: Write, M: Messages>(
     requires fits { Fits setup.now.image setup.now.plan }
     requires cause { IsCause (routes_of setup.now.plan setup.now.image) fault.now }
     requires told { fault.now ≢ check_fault.NoMemory }
+    requires shape { is_layout_shape setup.now.plan.shape ≡ false }
     ensures { (due : Result ThePlan ThePlanFault) → ComesTo due (Ok (setup.now.plan, setup.now.image))
         → CheckEnds due (W.contents writer.old) (W.contents writer.new) result }
 {
