@@ -11,20 +11,20 @@ use Rattle.c104_check.specs.Checks.{IsCause}
 use Rattle.c104_check.specs.Routes.{IsAccepted, routes_of}
 use Rattle.c104_check.specs.declared.faults.CheckFault.{CheckFault}
 use Rattle.c104_check.specs.declared.faults.CheckFault.TheVariants as fault
-use Rattle.c104_label.specs.Images.{is_layout_shape}
+use Rattle.c104_label.specs.Images.{is_labelled_shape}
 use Rattle.c104_commands.specs.CheckTexts.{accepted_text, check_fault_text}
 use Rattle.c104_commands.specs.Setups.{ComesTo, SetupResult, refused_text}
 use Rattle.c104_commands.specs.declared.status.Status.{Status}
 use Rattle.c104_commands.specs.declared.status.Status.TheVariants as status
 
 -- the labels of a plan with an image are refused: they aren't accepted, and this line tells the first fault.
--- Those of a mesh and of a cube never are
+-- Those that are made by the plan's shape never are
 pub record IsRefusedBy (plan : Plan) (image : Image) (text : List ℕ) : Type 0 where
   pub why : CheckFault
   pub cause : IsCause (routes_of plan image) why
   pub told : why ≢ fault.NoMemory
   pub line : text ≡ check_fault_text plan why
-  pub shape : is_layout_shape plan.shape ≡ false
+  pub shape : is_labelled_shape plan.shape ≡ false
 
 -- what a check prints, by what its description comes to, and whether that is refused, itself or its labels
 abbrev pub Prints : SetupResult → List ℕ → Bool → Type 0

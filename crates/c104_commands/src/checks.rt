@@ -7,7 +7,7 @@ ghost use Rattle.c104_describe.specs.PlanImage.{Fits};
 ghost use Rattle.c104_describe.specs.PlanText.{read_description};
 ghost use Rattle.c104_describe.specs.Plans.{Plan as ThePlan};
 ghost use Rattle.c104_describe.specs.declared.faults.PlanFault.{PlanFault as ThePlanFault};
-ghost use Rattle.c104_label.specs.Images.{is_layout_shape};
+ghost use Rattle.c104_label.specs.Images.{is_labelled_shape};
 ghost use Rattle.c104_commands.specs.Checks.{CheckEnds, ChecksText};
 ghost use Rattle.c104_commands.specs.Setups.{ComesTo};
 
@@ -80,7 +80,7 @@ fn check_setup<W: Write, M: Messages>(
     messages: &mut M,
 ) -> Status
     requires fits { Fits setup.now.image setup.now.plan }
-    requires accepted { is_layout_shape setup.now.plan.shape ≡ true
+    requires accepted { is_labelled_shape setup.now.plan.shape ≡ true
         → IsAccepted (routes_of setup.now.plan setup.now.image) }
     ensures { (due : Result ThePlan ThePlanFault) → ComesTo due (Ok (setup.now.plan, setup.now.image))
         → CheckEnds due (W.contents writer.old) (W.contents writer.new) result }
@@ -106,7 +106,7 @@ fn refuse_labels<W: Write, M: Messages>(
     requires fits { Fits setup.now.image setup.now.plan }
     requires cause { IsCause (routes_of setup.now.plan setup.now.image) fault.now }
     requires told { fault.now ≢ check_fault.NoMemory }
-    requires shape { is_layout_shape setup.now.plan.shape ≡ false }
+    requires shape { is_labelled_shape setup.now.plan.shape ≡ false }
     ensures { (due : Result ThePlan ThePlanFault) → ComesTo due (Ok (setup.now.plan, setup.now.image))
         → CheckEnds due (W.contents writer.old) (W.contents writer.new) result }
 {

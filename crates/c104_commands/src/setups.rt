@@ -4,7 +4,7 @@ ghost use Rattle.std.specs.String.{string_bytes};
 ghost use Rattle.c104_check.specs.Routes.{IsAccepted, routes_of};
 ghost use Rattle.c104_describe.specs.PlanImage.{Fits};
 ghost use Rattle.c104_describe.specs.PlanText.{most_bytes, read_description};
-ghost use Rattle.c104_label.specs.Images.{is_layout_shape};
+ghost use Rattle.c104_label.specs.Images.{is_labelled_shape};
 ghost use Rattle.c104_commands.specs.Setups.{ComesTo, IsOutOfMemory, RefusalEnds, label_fault_text, refused_text};
 ghost use Rattle.c104_commands.specs.declared.status.Status.TheVariants as status;
 
@@ -38,7 +38,7 @@ pub(crate) fn set_up(alloc: Global, description: &[u8]) -> Result<Setup, SetupFa
     ensures network { IfOk result (λ setup.
         ComesTo (read_description description.now) (Ok (setup.plan, setup.image))) }
     ensures fits { IfOk result (λ setup. Fits setup.image setup.plan) }
-    ensures accepted { IfOk result (λ setup. is_layout_shape setup.plan.shape ≡ true
+    ensures accepted { IfOk result (λ setup. is_labelled_shape setup.plan.shape ≡ true
         → IsAccepted (routes_of setup.plan setup.image)) }
     ensures within { IfOk result (λ _. length description.now ≤ most_bytes) }
     ensures refused { IfErr result (λ why.

@@ -2,9 +2,10 @@
 use Rattle.std.proofs.Common.{◌≡◌, ℕ, ◌/◌, ◌^◌, map, refl, sym, subst, ◌∙◌}
 use Rattle.std.specs.List.{range_with_len}
 use Rattle.std.proofs.lemmas.Nat.{div_below}
+use Rattle.std.proofs.lemmas.List.{length-map}
 use Rattle.std.proofs.lemmas.List.FromFn.{length-map-range_with_len}
 use Rattle.c104_describe.specs.Layouts.{cube}
-use Rattle.c104_describe.specs.PlanImage.{Image}
+use Rattle.c104_describe.specs.PlanImage.{Image, range_of}
 use Rattle.c104_describe.specs.Plans.{IsOfShape, IsPlan, Plan}
 use Rattle.c104_describe.specs.declared.plans.Shape.TheVariants.{Cube}
 use Rattle.c104_describe.proofs.LayoutJoins.{cube_is}
@@ -33,7 +34,7 @@ module _ (plan : Plan) (d p : ℕ) (image : Image) (kept : IsPlan plan) (shape :
   is_of = subst (λ s. IsOfShape s plan) shape kept.shape
 
   net : IsNetwork (layout_routes plan (cube d) (cube_table d p))
-  net = labelled_network plan (map (cube_table d p) (range_with_len 0 (2 ^ d))) kept
+  net = labelled_network plan (map range_of plan.terminals) (map (cube_table d p) (range_with_len 0 (2 ^ d))) kept (length-map plan.terminals range_of)
       (length-map-range_with_len (cube_table d p) 0 (2 ^ d) ∙ sym (cube_switches plan d p kept shape))
       (cube_in_range d p (map (cube_table d p) (range_with_len 0 (2 ^ d))) is_of.0 refl)
 

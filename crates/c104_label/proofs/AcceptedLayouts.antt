@@ -1,7 +1,7 @@
 -- A plan of a layout whose switches have tables of labels is accepted, where labels come home by the links that the
 -- tables select.
-use Rattle.std.proofs.Common.{◌≡◌, ℕ, suc, ◌<◌, ◌≤◌, ◌+◌, ◌*◌, ◌/◌, ◌%◌, inl, inr, Bool, true, false, if◌then◌else◌, is_some, nat_lt, List, length, map, Option, Some, None, refl, sym, ap, subst, ◌∙◌, arith}
-use Rattle.std.specs.List.{position, range_with_len}
+use Rattle.std.proofs.Common.{◌≡◌, ℕ, suc, ◌<◌, ◌≤◌, ◌+◌, ◌*◌, ◌/◌, ◌%◌, inl, inr, true, is_some, List, length, map, Option, Some, None, refl, sym, ap, subst, ◌∙◌, arith}
+use Rattle.std.specs.List.{range_with_len}
 use Rattle.std.proofs.lemmas.Bool.{cases_lt}
 use Rattle.std.proofs.lemmas.List.FromFn.{get_or-map-range_with_len, length-map-range_with_len}
 use Rattle.c104_interval.specs.Selection as table
@@ -9,7 +9,7 @@ use Rattle.c104_interval.specs.Selection.{reset_table}
 use Rattle.c104_interval.specs.declared.intervals.Table.{Table}
 use Rattle.c104_describe.specs.declared.ports.Port.{Port}
 use Rattle.c104_describe.specs.declared.ports.Port.TheVariants as port
-use Rattle.c104_describe.specs.LabelledImages.{table_in}
+use Rattle.c104_describe.specs.LabelledImages.{labelled_image, table_in}
 use Rattle.c104_describe.specs.Layouts.{Layout, filled_name}
 use Rattle.c104_describe.specs.PlanImage.{range_of}
 use Rattle.c104_describe.specs.Plans.{IsFilled, IsPlan, Plan}
@@ -17,21 +17,16 @@ use Rattle.c104_describe.specs.Wiring.{peer}
 use Rattle.c104_describe.proofs.LayoutJoins.{AreJoined}
 use Rattle.c104_describe.proofs.Wires.{wiring}
 use Rattle.c104_check.specs.declared.ports.SwitchPort.{SwitchPort}
-use Rattle.c104_check.specs.Routes.{IsAccepted, IsEntryOf, Lands, Routes, link_peers, owner, select, to_port}
+use Rattle.c104_check.specs.Routes.{IsAccepted, IsEntryOf, Lands, Routes, owner, select, to_port}
 use Rattle.c104_check.specs.Trails.{IsNetwork}
 use Rattle.c104_check.proofs.RouteLemmas.{never_random}
 use Rattle.c104_check.proofs.WalkLemmas.{bound_enough}
 use Rattle.c104_label.specs.Crossings.{AllCross, Crosses}
 use Rattle.c104_label.proofs.CrossedWires.{IsWired, LeavesByPick, crosses_leads}
 use Rattle.c104_label.proofs.FilledPeers.{beyond_peer, own_peer, terminal_peer}
-use Rattle.c104_label.proofs.LabelledRoutes.{alone, header_is, keeps, one_byte, routes, selected}
+use Rattle.c104_label.proofs.LabelledRoutes.{alone, headers_many, keeps, routes, same_length, selected}
 use Rattle.c104_label.proofs.OwnLabels.{no_owner, one_label, owner_is, owns_is, ranges_are}
 use Rattle.c104_label.proofs.Pieces.{none_of, one_of, picked}
-
--- there are at least so many headers
-enough : (b : Bool) → 256 ≤ 256 * (if b then 256 else 1)
-enough true = omega arith
-enough false = omega arith
 
 -- tables of the switches of a layout that select links by a rule, by which labels come home over so many wires
 pub record IsLabelling (layout : Layout) (p : ℕ) (tables : ℕ → Table) (pick : ℕ → ℕ → ℕ → ℕ) (distance : ℕ → ℕ → ℕ) : Type 0 where
@@ -116,8 +111,8 @@ module _ (plan : Plan) (layout : Layout) (p : ℕ) (tables : ℕ → Table) (pic
   pub layout_accepted : IsAccepted net
   layout_accepted = record {
     apart = λ t u h a b. let x = owns_is net (layout.switches * p) ranges t h a in let y = owns_is net (layout.switches * p) ranges u h b in omega (arith, x.0, y.0);
-    small = λ t h a. let x = owns_is net (layout.switches * p) ranges t h a in omega (arith, x.0, x.1, labelling.labels, enough (nat_lt 1 net.header));
-    one_length = λ q other x wired is. one_byte net q x is_network is ∙ sym (header_is net (position (λ o. is_some o) (link_peers (peer plan) (length net.settings))) is_network);
+    small = λ t h a. let x = owns_is net (layout.switches * p) ranges t h a in omega (arith, x.0, x.1, labelling.labels, headers_many net);
+    one_length = λ q other x wired is. same_length plan (labelled_image plan (map range_of plan.terminals) all_tables) q x is_network is;
     none_deleted = λ q other x wired is. keeps plan (map range_of plan.terminals) all_tables q other x kept wired is;
     none_random = λ q x is. never_random net q x is_network is;
     entries = λ t h q entry below. entry_lands t h q entry;

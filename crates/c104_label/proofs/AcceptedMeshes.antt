@@ -2,9 +2,10 @@
 use Rattle.std.proofs.Common.{◌≡◌, ℕ, ◌*◌, ◌/◌, map, refl, sym, subst, ◌∙◌}
 use Rattle.std.specs.List.{range_with_len}
 use Rattle.std.proofs.lemmas.Nat.{div_below}
+use Rattle.std.proofs.lemmas.List.{length-map}
 use Rattle.std.proofs.lemmas.List.FromFn.{length-map-range_with_len}
 use Rattle.c104_describe.specs.Layouts.{mesh}
-use Rattle.c104_describe.specs.PlanImage.{Image}
+use Rattle.c104_describe.specs.PlanImage.{Image, range_of}
 use Rattle.c104_describe.specs.Plans.{IsOfShape, IsPlan, Plan}
 use Rattle.c104_describe.specs.declared.plans.Shape.TheVariants.{Mesh}
 use Rattle.c104_describe.proofs.LayoutJoins.{mesh_is}
@@ -33,7 +34,7 @@ module _ (plan : Plan) (w h p : ℕ) (image : Image) (kept : IsPlan plan) (shape
   is_of = subst (λ s. IsOfShape s plan) shape kept.shape
 
   net : IsNetwork (layout_routes plan (mesh w h) (mesh_table w h p))
-  net = labelled_network plan (map (mesh_table w h p) (range_with_len 0 (w * h))) kept
+  net = labelled_network plan (map range_of plan.terminals) (map (mesh_table w h p) (range_with_len 0 (w * h))) kept (length-map plan.terminals range_of)
       (length-map-range_with_len (mesh_table w h p) 0 (w * h) ∙ sym (mesh_switches plan w h p kept shape))
       (mesh_in_range w h p (map (mesh_table w h p) (range_with_len 0 (w * h))) is_of.0 refl)
 

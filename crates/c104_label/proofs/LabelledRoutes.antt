@@ -1,10 +1,9 @@
 -- What decides where packets go in a network whose switches have tables that are given, as those of labels.
-use Rattle.std.proofs.Common.{◌≡◌, ℕ, zero, suc, ◌<◌, ◌≤◌, ◌+◌, ◌-◌, ◌==◌, inl, inr, Bool, true, false, if◌then◌else◌, is_some, nat_le, List, [], ◌∷◌, length, map, slice_get, option_map, All, Option, Some, None, refl, sym, ap, ◌∙◌, arith}
+use Rattle.std.proofs.Common.{◌≡◌, ℕ, zero, suc, ◌<◌, ◌≤◌, ◌+◌, ◌-◌, ◌*◌, ◌==◌, inl, inr, Bool, true, false, if◌then◌else◌, is_some, nat_le, nat_lt, List, [], ◌∷◌, length, map, position, slice_get, option_map, All, Option, Some, None, refl, sym, ap, ◌∙◌, arith}
 use Rattle.std.specs.List.{list_any, range_with_len}
 use Rattle.std.proofs.lemmas.Bool.{cases_Bool, cases_lt}
 use Rattle.std.proofs.lemmas.Bool.Decides.{nat_tests}
 use Rattle.std.proofs.lemmas.Option.{slice_get_past}
-use Rattle.std.proofs.lemmas.List.{length-map}
 use Rattle.std.proofs.lemmas.List.FromFn.{length-map-range_with_len}
 use Rattle.c104_interval.specs.Selection as table
 use Rattle.c104_interval.specs.Selection.{reset_table}
@@ -19,7 +18,7 @@ use Rattle.c104_describe.specs.declared.plans.Terminal.{Terminal}
 use Rattle.c104_describe.specs.declared.ports.Port.{Port}
 use Rattle.c104_describe.specs.declared.ports.Port.TheVariants as port
 use Rattle.c104_describe.specs.LabelledImages.{labelled_image, labelled_settings, labelled_switch, table_in}
-use Rattle.c104_describe.specs.PlanImage.{AreSettings, range_of, settings_of}
+use Rattle.c104_describe.specs.PlanImage.{AreSettings, Image, settings_of}
 use Rattle.c104_describe.specs.Plans.{IsPlan, Plan, deletes_at, host_port, is_continued, is_on}
 use Rattle.c104_describe.specs.Ports.{is_any_at}
 use Rattle.c104_describe.specs.Wiring.{peer}
@@ -29,7 +28,7 @@ use Rattle.c104_describe.proofs.PortLemmas.{is_port-true}
 use Rattle.c104_describe.proofs.RangeLists.{all_range}
 use Rattle.c104_describe.proofs.Wires.{wiring}
 use Rattle.c104_check.specs.declared.ports.SwitchPort.{SwitchPort}
-use Rattle.c104_check.specs.Routes.{Routes, is_in_group, length_at, length_or_one, link_settings, or_no_settings, port_at, routes_of, select, settings_at, to_port}
+use Rattle.c104_check.specs.Routes.{Routes, header_count, is_in_group, length_at, length_or_one, link_peers, link_settings, or_no_settings, port_at, routes_of, select, settings_at, to_port}
 use Rattle.c104_check.specs.Trails.{IsNetwork}
 use Rattle.c104_check.proofs.NetworkLemmas.{network_of}
 use Rattle.c104_check.proofs.RouteLemmas.{are_there, in_range}
@@ -49,18 +48,31 @@ group_alone continue g o none = elim (cases_Bool (nat_le g o)) [
 
 -- Headers of all networks have one byte, for now
 
-pub one_byte : (routes : Routes) (q : SwitchPort) (x : Settings) → IsNetwork routes → link_settings routes.settings q ≡ Some x → header_length x ≡ 1
+one_byte : (routes : Routes) (q : SwitchPort) (x : Settings) → IsNetwork routes → link_settings routes.settings q ≡ Some x → header_length x ≡ 1
 one_byte routes q x net is =
     let plain = plain_headers x (in_range (settings_at routes q.switch) q.link x (are_there routes q.switch q.link x net is).1 is) in
     rw (plain.0) refl
 
-pub header_is : (routes : Routes) (o : Option ℕ) → IsNetwork routes → length_at routes.settings o ≡ 1
+header_is : (routes : Routes) (o : Option ℕ) → IsNetwork routes → length_at routes.settings o ≡ 1
 header_is routes None net = refl
 header_is routes (Some k) net = by (link_settings routes.settings (port_at k)) refl
   where
     by : (o : Option Settings) → link_settings routes.settings (port_at k) ≡ o → length_or_one o ≡ 1
     by None is = refl
     by (Some x) is = one_byte routes (port_at k) x net is
+
+-- so they are equally long at all links
+pub same_length : (plan : Plan) (image : Image) (q : SwitchPort) (x : Settings) → IsNetwork (routes_of plan image) → link_settings image.settings q ≡ Some x → header_length x ≡ (routes_of plan image).header
+same_length plan image q x net is =
+    one_byte (routes_of plan image) q x net is ∙ sym (header_is (routes_of plan image) (position (λ o. is_some o) (link_peers (peer plan) (length image.settings))) net)
+
+-- there are at least so many
+pub headers_many : (routes : Routes) → 256 ≤ header_count routes
+headers_many routes = many (nat_lt 1 routes.header)
+  where
+    many : (b : Bool) → 256 ≤ 256 * (if b then 256 else 1)
+    many true = omega arith
+    many false = omega arith
 
 -- Settings that a plan's own lines say
 
@@ -112,11 +124,11 @@ none_deleted plan p s l kept wired = elim (cases_Bool (deletes_at plan p)) [
 
 -- A plan and its image with tables make a network
 
-pub labelled_network : (plan : Plan) (tables : List Table) → IsPlan plan → length tables ≡ length plan.switches → All IsTableInRange tables → IsNetwork (routes_of plan (labelled_image plan (map range_of plan.terminals) tables))
-labelled_network plan tables kept many within =
-    network_of plan (labelled_image plan (map range_of plan.terminals) tables) kept
+pub labelled_network : (plan : Plan) (ranges : List (ℕ × ℕ)) (tables : List Table) → IsPlan plan → length ranges ≡ length plan.terminals → length tables ≡ length plan.switches → All IsTableInRange tables → IsNetwork (routes_of plan (labelled_image plan ranges tables))
+labelled_network plan ranges tables kept all many within =
+    network_of plan (labelled_image plan ranges tables) kept
     (all_range AreSettings (λ switch. labelled_switch plan (table_in tables switch) switch) 0 (length plan.switches) (λ s lt. are_labelled plan (table_in tables s) s kept (within s reset_table (omega (arith, lt, many)))))
-    (labelled_fits plan tables (labelled_image plan (map range_of plan.terminals) tables) (length-map plan.terminals range_of) refl)
+    (labelled_fits plan tables (labelled_image plan ranges tables) all refl)
 
 -- The routes of an image with tables
 

@@ -33,3 +33,6 @@ pub mod AcceptedLayouts
 pub mod AcceptedMeshes
 pub mod CubeWalks
 pub mod AcceptedCubes
+pub mod LeadingLemmas
+pub mod TreeWalks
+pub mod TreeAccepted

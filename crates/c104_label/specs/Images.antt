@@ -53,12 +53,12 @@ is_cube_shape (Tree root) = false
 is_cube_shape (Mesh width height terminals) = false
 is_cube_shape (Cube dimensions terminals) = true
 
--- whether a plan of this shape is a mesh or a cube
-abbrev pub is_layout_shape : Shape → Bool
-is_layout_shape Hand = false
-is_layout_shape (Tree root) = false
-is_layout_shape (Mesh width height terminals) = true
-is_layout_shape (Cube dimensions terminals) = true
+-- whether the labels of a plan are made by its shape, and not by its own lines
+abbrev pub is_labelled_shape : Shape → Bool
+is_labelled_shape Hand = false
+is_labelled_shape (Tree root) = true
+is_labelled_shape (Mesh width height terminals) = true
+is_labelled_shape (Cube dimensions terminals) = true
 
 -- want of memory, of which nothing is said, and nothing else
 abbrev pub IsNoMemory : LabelFault → Type 0

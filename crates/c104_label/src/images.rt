@@ -6,7 +6,7 @@ ghost use Rattle.c104_describe.specs.PlanImage.{Fits, range_of};
 ghost use Rattle.c104_describe.specs.Plans.{IsPlan};
 ghost use Rattle.c104_check.specs.Routes.{IsAccepted, routes_of};
 ghost use Rattle.c104_label.specs.Crossings.{AreCrossings};
-ghost use Rattle.c104_label.specs.Images.{IsImageCause, IsImageOf, IsShapeCause, is_cube_shape, is_layout_shape, is_mesh_shape, is_tree_shape};
+ghost use Rattle.c104_label.specs.Images.{IsImageCause, IsImageOf, IsShapeCause, is_cube_shape, is_labelled_shape, is_mesh_shape, is_tree_shape};
 ghost use Rattle.c104_label.specs.declared.faults.LabelFault.TheVariants as fault;
 
 use crate::cubes::cube_image;
@@ -22,12 +22,12 @@ use std::alloc::Global;
 /// shape, a tree, a mesh or a cube.
 ///
 /// A tree alone may be refused: NotConnected where wires don't lead from its root to each switch, then TooManyLabels
-/// where its terminals have more labels than there are headers. All may be NoMemory. The labels of a mesh and of a
-/// cube need no check.
+/// where its terminals have more labels than there are headers. All may be NoMemory. The labels of a tree, a mesh
+/// and a cube need no check.
 pub fn image_of(alloc: Global, plan: &Plan) -> Result<Image, LabelFault>
     ensures image { IfOk result (λ image. IsImageOf plan.now image) }
     ensures fits { IfOk result (λ image. Fits image plan.now) }
-    ensures accepted { is_layout_shape plan.now.shape ≡ true → IfOk result (λ image. IsAccepted (routes_of plan.now image)) }
+    ensures accepted { is_labelled_shape plan.now.shape ≡ true → IfOk result (λ image. IsAccepted (routes_of plan.now image)) }
     ensures crossings { IfOk result (λ image. AreCrossings plan.now.shape (routes_of plan.now image)) }
     ensures refused { IfErr result (IsImageCause plan.now) }
 {
@@ -48,7 +48,8 @@ pub fn image_of(alloc: Global, plan: &Plan) -> Result<Image, LabelFault>
 /// as many as its count, and then come those of the switches behind its links. A label leaves a switch by the
 /// link of its terminal, else by that to the subtree that has it, else by that to the parent, and what is no label
 /// by none. All ports of a switch that have a wire have the same rows, at most 36, in ascending order and without
-/// empty intervals. All else is as the plan's own lines say.
+/// empty intervals. All else is as the plan's own lines say. The labels need no check: they are accepted, whatever
+/// else the plan says.
 ///
 /// WrongShape exactly where the plan is to be labelled otherwise; then NotConnected where wires don't lead from
 /// the root to each switch; then TooManyLabels where the terminals have more labels than there are headers, 256, or
@@ -56,6 +57,7 @@ pub fn image_of(alloc: Global, plan: &Plan) -> Result<Image, LabelFault>
 pub fn label_tree(alloc: Global, plan: &Plan) -> Result<Image, LabelFault>
     ensures image { IfOk result (λ image. IsImageOf plan.now image) }
     ensures fits { IfOk result (λ image. Fits image plan.now) }
+    ensures accepted { IfOk result (λ image. IsAccepted (routes_of plan.now image)) }
     ensures shape { IsErrOf result fault.WrongShape ↔ (is_tree_shape plan.now.shape ≡ false) }
     ensures refused { IfErr result (IsShapeCause (is_tree_shape plan.now.shape) plan.now) }
 {
