@@ -20,6 +20,8 @@ mod explain;
 #[cfg(test)]
 mod faults;
 #[cfg(test)]
+mod hops;
+#[cfg(test)]
 mod image;
 #[cfg(test)]
 mod interval;
