@@ -1,5 +1,5 @@
 -- Events of a round whose near end isn't ready: they do nothing.
-use Rattle.std.proofs.Common.{◌≡◌, ◌<◌, ◌∙◌, ℕ, nat_lt, Bool, true, false, [], ◌∷◌, Option, Some, None, Ok, is_some, if◌then◌else◌, length, refl, sym, ap, arith}
+use Rattle.std.proofs.Common.{◌≡◌, ◌<◌, ◌∙◌, ℕ, nat_lt, Bool, true, false, [], ◌∷◌, Option, Some, None, Ok, is_some, if◌then◌else◌, length, refl, ap, arith}
 use Rattle.std.proofs.lemmas.Bool.Decides.{nat_tests}
 use Rattle.c104_token.specs.Kinds.{Kind}
 use Rattle.c104_link.specs.Steps.{◌>>=◌, step_at, yield_step_at}
@@ -15,9 +15,10 @@ use Rattle.c104_event.specs.declared.faults.EventFault.TheVariants as fault
 use Rattle.c104_net.specs.Nodes.{node_leave, node_credit_out, node_input, node_claim}
 use Rattle.c104_net.specs.Wires.{nodes_cross, nodes_credit}
 use Rattle.c104_net.specs.Ends.{end_of}
-use Rattle.c104_net.specs.Network.{Network, network_apply, network_step, event_fault, outcome_if_possible, outcome_if_ready, done_step, token_step, node_fault, link_fault, wire_fault, wired_fault}
+use Rattle.c104_net.specs.Network.{network_apply, network_step, event_fault, outcome_if_possible, outcome_if_ready, done_step, token_step, node_fault, link_fault, wire_fault, wired_fault}
 use Rattle.c104_net.specs.RoundParts.{PartEnds}
-use Rattle.c104_net.proofs.RoundRuns.{run_reply}
+use Rattle.c104_net.specs.Stages.{stage_apply, Stage}
+use Rattle.c104_net.proofs.StageSteps.{unready_part}
 
 pub none_of : {X : Type 0} (o : Option X) → is_some o ≡ false → o ≡ None
 none_of None is = refl
@@ -61,43 +62,43 @@ module _ (plan : Plan) where
       let is_terminal : nat_lt t (length plan.terminals) ≡ true = grind (arith, nat_tests) in
       rw (is_terminal, is) refl
 
-module _ {A : Type 0} (kind : Kind A) (net : Network A) where
+module _ {A : Type 0} (kind : Kind A) (keeps : Bool) (s : Stage A) where
   -- an event that could happen and isn't ready
-  idle_event : (e : Event) → event_fault net.plan e ≡ None → network_step kind net e ≡ None → PartEnds kind net (e ∷ []) (Ok false) net
+  idle_event : (e : Event) → event_fault s.network.plan e ≡ None → network_step kind s.network e ≡ None → PartEnds (stage_apply kind keeps) s (e ∷ []) (Ok false) s
   idle_event e possible unready =
-      let unchanged : network_apply kind net e ≡ (Ok reply.NotReady, net) = ap (outcome_if_possible kind net e) possible ∙ ap (outcome_if_ready kind net e) unready in
-      (run_reply kind net net net [] e reply.NotReady refl (sym unchanged), λ none. refl)
+      let unchanged : network_apply kind s.network e ≡ (Ok reply.NotReady, s.network) = ap (outcome_if_possible kind s.network e) possible ∙ ap (outcome_if_ready kind s.network e) unready in
+      unready_part kind keeps s e unchanged
 
-  pub idle_credit : (p : Port) → wired_fault net.plan p ≡ None → is_some (step_at net.nodes (end_of net.plan p).node (node_credit_out (end_of net.plan p).link)) ≡ false → PartEnds kind net (event.Credit p ∷ []) (Ok false) net
-  idle_credit p wired unready = idle_event (event.Credit p) wired (by_peer (peer net.plan p))
+  pub idle_credit : (p : Port) → wired_fault s.network.plan p ≡ None → is_some (step_at s.network.nodes (end_of s.network.plan p).node (node_credit_out (end_of s.network.plan p).link)) ≡ false → PartEnds (stage_apply kind keeps) s (event.Credit p ∷ []) (Ok false) s
+  idle_credit p wired unready = idle_event (event.Credit p) wired (by_peer (peer s.network.plan p))
     where
-      none : step_at net.nodes (end_of net.plan p).node (node_credit_out (end_of net.plan p).link) ≡ None
-      none = none_of (step_at net.nodes (end_of net.plan p).node (node_credit_out (end_of net.plan p).link)) unready
+      none : step_at s.network.nodes (end_of s.network.plan p).node (node_credit_out (end_of s.network.plan p).link) ≡ None
+      none = none_of (step_at s.network.nodes (end_of s.network.plan p).node (node_credit_out (end_of s.network.plan p).link)) unready
 
-      by_peer : (other : Option Port) → (other >>= (λ q. done_step kind net (nodes_credit net.nodes (end_of net.plan p) (end_of net.plan q)))) ≡ None
+      by_peer : (other : Option Port) → (other >>= (λ q. done_step kind s.network (nodes_credit s.network.nodes (end_of s.network.plan p) (end_of s.network.plan q)))) ≡ None
       by_peer None = refl
       by_peer (Some q) = rw none refl
 
-  pub idle_cross : (p : Port) → wired_fault net.plan p ≡ None → is_some (yield_step_at net.nodes (end_of net.plan p).node (node_leave (end_of net.plan p).link)) ≡ false → PartEnds kind net (event.Cross p ∷ []) (Ok false) net
-  idle_cross p wired unready = idle_event (event.Cross p) wired (by_peer (peer net.plan p))
+  pub idle_cross : (p : Port) → wired_fault s.network.plan p ≡ None → is_some (yield_step_at s.network.nodes (end_of s.network.plan p).node (node_leave (end_of s.network.plan p).link)) ≡ false → PartEnds (stage_apply kind keeps) s (event.Cross p ∷ []) (Ok false) s
+  idle_cross p wired unready = idle_event (event.Cross p) wired (by_peer (peer s.network.plan p))
     where
-      none : yield_step_at net.nodes (end_of net.plan p).node (node_leave (end_of net.plan p).link) ≡ None
-      none = none_of (yield_step_at net.nodes (end_of net.plan p).node (node_leave (end_of net.plan p).link)) unready
+      none : yield_step_at s.network.nodes (end_of s.network.plan p).node (node_leave (end_of s.network.plan p).link) ≡ None
+      none = none_of (yield_step_at s.network.nodes (end_of s.network.plan p).node (node_leave (end_of s.network.plan p).link)) unready
 
-      by_peer : (other : Option Port) → (other >>= (λ q. token_step kind net (nodes_cross net.nodes (end_of net.plan p) (end_of net.plan q)))) ≡ None
+      by_peer : (other : Option Port) → (other >>= (λ q. token_step kind s.network (nodes_cross s.network.nodes (end_of s.network.plan p) (end_of s.network.plan q)))) ≡ None
       by_peer None = refl
       by_peer (Some q) = rw none refl
 
-  pub idle_turn : (s l : ℕ) → wired_fault net.plan (port.Switch s l) ≡ None → is_some (step_at net.nodes s (node_input kind l 0)) ≡ false → PartEnds kind net (event.Input s l 0 ∷ []) (Ok false) net
-  idle_turn s l wired unready =
-      let inside = port_inside net.plan (port.Switch s l) wired in
-      let is_switch : nat_lt s (length net.plan.switches) ≡ true = let below : s < length net.plan.switches = inside.0 in grind (arith, nat_tests) in
+  pub idle_turn : (k l : ℕ) → wired_fault s.network.plan (port.Switch k l) ≡ None → is_some (step_at s.network.nodes k (node_input kind l 0)) ≡ false → PartEnds (stage_apply kind keeps) s (event.Input k l 0 ∷ []) (Ok false) s
+  idle_turn k l wired unready =
+      let inside = port_inside s.network.plan (port.Switch k l) wired in
+      let is_switch : nat_lt k (length s.network.plan.switches) ≡ true = let below : k < length s.network.plan.switches = inside.0 in grind (arith, nat_tests) in
       let is_link : nat_lt l 32 ≡ true = let below : l < 32 = inside.1 in grind (arith, nat_tests) in
-      idle_event (event.Input s l 0) (rw (is_switch, is_link) refl) (ap (done_step kind net) (none_of (step_at net.nodes s (node_input kind l 0)) unready))
+      idle_event (event.Input k l 0) (rw (is_switch, is_link) refl) (ap (done_step kind s.network) (none_of (step_at s.network.nodes k (node_input kind l 0)) unready))
 
-  pub idle_claim : (s i o : ℕ) → s < length net.plan.switches → i < 32 → o < 32 → step_at net.nodes s (node_claim i o) ≡ None → PartEnds kind net (event.Claim s i o ∷ []) (Ok false) net
-  idle_claim s i o switch input output none =
-      let is_switch : nat_lt s (length net.plan.switches) ≡ true = grind (arith, nat_tests) in
+  pub idle_claim : (k i o : ℕ) → k < length s.network.plan.switches → i < 32 → o < 32 → step_at s.network.nodes k (node_claim i o) ≡ None → PartEnds (stage_apply kind keeps) s (event.Claim k i o ∷ []) (Ok false) s
+  idle_claim k i o switch input output none =
+      let is_switch : nat_lt k (length s.network.plan.switches) ≡ true = grind (arith, nat_tests) in
       let is_input : nat_lt i 32 ≡ true = grind (arith, nat_tests) in
       let is_output : nat_lt o 32 ≡ true = grind (arith, nat_tests) in
-      idle_event (event.Claim s i o) (rw (is_switch, is_input, is_output) refl) (ap (done_step kind net) none)
+      idle_event (event.Claim k i o) (rw (is_switch, is_input, is_output) refl) (ap (done_step kind s.network) none)

@@ -16,6 +16,7 @@ pub mod RoundLists
 pub mod RoundRuns
 pub mod RoundsTaken
 pub mod PartRuns
+pub mod StageSteps
 pub mod IdleEvents
 pub mod RoundJoins
 pub mod WiredPorts

@@ -78,7 +78,7 @@ unready_deeds f plan ticket (event.Control s bytes) = refl
 unready_deeds f plan ticket (event.Send t packet) = refl
 unready_deeds f plan ticket (event.Drain t) = refl
 
-undone_deeds : (f : ℕ → Bool) (plan : Plan) (ticket : ℕ) (e : Event) (answer : Result Reply EventFault) → is_done answer ≡ false → kept_of (event_deeds f plan ticket e) answer ≡ []
+pub undone_deeds : (f : ℕ → Bool) (plan : Plan) (ticket : ℕ) (e : Event) (answer : Result Reply EventFault) → is_done answer ≡ false → kept_of (event_deeds f plan ticket e) answer ≡ []
 undone_deeds f plan ticket e (Ok reply.Done) undone = cc
 undone_deeds f plan ticket e (Ok reply.NotReady) undone = unready_deeds f plan ticket e
 undone_deeds f plan ticket e (Ok (reply.Token x)) undone = cc

@@ -13,13 +13,15 @@ use Rattle.c104_event.specs.declared.events.Event.{Event}
 use Rattle.c104_event.specs.declared.faults.EventFault.{EventFault}
 use Rattle.c104_net.specs.declared.port_part.PortPart.{PortPart}
 use Rattle.c104_net.specs.declared.port_part.PortPart.TheVariants.{Credit, Cross, Turn}
-use Rattle.c104_net.specs.Network.{Network, wired_fault}
+use Rattle.c104_net.specs.Network.{wired_fault}
 use Rattle.c104_net.specs.PortParts.{is_ready_at, port_events, wired_events}
 use Rattle.c104_net.specs.Rounds.{is_wired, link_numbers, wired_links, wired_terminals}
 use Rattle.c104_net.specs.RoundParts.{PartEnds}
 use Rattle.c104_net.proofs.IdleEvents.{idle_credit, idle_cross, idle_turn}
 use Rattle.c104_net.proofs.PartRuns.{part_empty}
+use Rattle.c104_net.specs.Stages.{stage_apply, Stage}
 use Rattle.c104_net.proofs.RoundLists.{links_passed}
+use Rattle.c104_net.proofs.RoundRuns.{Applied}
 
 -- what is so of an element is so by what follows from it
 pub if_some : {X : Type 0} (P Q : X → Type 0) (o : Option X) → ((x : X) → P x → Q x) → IfSome o P → IfSome o Q
@@ -53,36 +55,36 @@ module _ (plan : Plan) (part : PortPart) where
   switches_each [] = refl
   switches_each (s ∷ ss) = ap (λ es. of_switch s ++ es) (switches_each ss) ∙ sym (flat_map-append (port_events part) (wired_links plan s) (flat_map (wired_links plan) ss))
 
-  module _ {A : Type 0} (kind : Kind A) (net after : Network A) (result : Result Bool EventFault) where
-    pub of_links : (s : ℕ) → PartEnds kind net (flat_map (wired_by (port.Switch s)) (range_with_len 0 32)) result after → PartEnds kind net (of_switch s) result after
-    of_links s ends = subst (λ es. PartEnds kind net es result after) (ap (flat_map (wired_by (port.Switch s))) (links_passed 32 refl) ∙ wired_each (port.Switch s) link_numbers) ends
+  module _ {S : Type 0} (apply : S → Event → Applied S) (net after : S) (result : Result Bool EventFault) where
+    pub of_links : (s : ℕ) → PartEnds apply net (flat_map (wired_by (port.Switch s)) (range_with_len 0 32)) result after → PartEnds apply net (of_switch s) result after
+    of_links s ends = subst (λ es. PartEnds apply net es result after) (ap (flat_map (wired_by (port.Switch s))) (links_passed 32 refl) ∙ wired_each (port.Switch s) link_numbers) ends
 
-    pub of_switches : (n : ℕ) → PartEnds kind net (flat_map of_switch (range_with_len 0 n)) result after → PartEnds kind net (flat_map (port_events part) (flat_map (wired_links plan) (range_with_len 0 n))) result after
-    of_switches n ends = subst (λ es. PartEnds kind net es result after) (switches_each (range_with_len 0 n)) ends
+    pub of_switches : (n : ℕ) → PartEnds apply net (flat_map of_switch (range_with_len 0 n)) result after → PartEnds apply net (flat_map (port_events part) (flat_map (wired_links plan) (range_with_len 0 n))) result after
+    of_switches n ends = subst (λ es. PartEnds apply net es result after) (switches_each (range_with_len 0 n)) ends
 
-    pub of_terminals : PartEnds kind net (flat_map (wired_by port.Terminal) (range_with_len 0 (length plan.terminals))) result after → PartEnds kind net (flat_map (port_events part) (wired_terminals plan)) result after
-    of_terminals ends = subst (λ es. PartEnds kind net es result after) (wired_each port.Terminal (range_with_len 0 (length plan.terminals))) ends
+    pub of_terminals : PartEnds apply net (flat_map (wired_by port.Terminal) (range_with_len 0 (length plan.terminals))) result after → PartEnds apply net (flat_map (port_events part) (wired_terminals plan)) result after
+    of_terminals ends = subst (λ es. PartEnds apply net es result after) (wired_each port.Terminal (range_with_len 0 (length plan.terminals))) ends
 
-    pub at_wired : (p : Port) → is_wired plan p ≡ true → PartEnds kind net (port_events part p) result after → PartEnds kind net (wired_events plan part p) result after
-    at_wired p is ends = subst (λ es. PartEnds kind net es result after) (sym (wired_one p is)) ends
+    pub at_wired : (p : Port) → is_wired plan p ≡ true → PartEnds apply net (port_events part p) result after → PartEnds apply net (wired_events plan part p) result after
+    at_wired p is ends = subst (λ es. PartEnds apply net es result after) (sym (wired_one p is)) ends
 
-  module _ {A : Type 0} (kind : Kind A) (net : Network A) where
-    pub at_unwired : (p : Port) → is_wired plan p ≡ false → PartEnds kind net (wired_events plan part p) (Ok false) net
-    at_unwired p is = subst (λ es. PartEnds kind net es (Ok false) net) (sym (wired_none p is)) (part_empty kind net)
+  module _ {S : Type 0} (apply : S → Event → Applied S) (net : S) where
+    pub at_unwired : (p : Port) → is_wired plan p ≡ false → PartEnds apply net (wired_events plan part p) (Ok false) net
+    at_unwired p is = subst (λ es. PartEnds apply net es (Ok false) net) (sym (wired_none p is)) (part_empty apply net)
 
 -- a link that isn't ready for its own act
-pub idle_link : {A : Type 0} (kind : Kind A) (net : Network A) (part : PortPart) (s l : ℕ) → wired_fault net.plan (port.Switch s l) ≡ None → is_ready_at kind part net.nodes s l ≡ false → PartEnds kind net (port_events part (port.Switch s l)) (Ok false) net
-idle_link kind net Credit s l wired unready = idle_credit kind net (port.Switch s l) wired unready
-idle_link kind net Cross s l wired unready = idle_cross kind net (port.Switch s l) wired unready
-idle_link kind net Turn s l wired unready = idle_turn kind net s l wired unready
+pub idle_link : {A : Type 0} (kind : Kind A) (keeps : Bool) (s : Stage A) (part : PortPart) (k l : ℕ) → wired_fault s.network.plan (port.Switch k l) ≡ None → is_ready_at kind part s.network.nodes k l ≡ false → PartEnds (stage_apply kind keeps) s (port_events part (port.Switch k l)) (Ok false) s
+idle_link kind keeps s Credit k l wired unready = idle_credit kind keeps s (port.Switch k l) wired unready
+idle_link kind keeps s Cross k l wired unready = idle_cross kind keeps s (port.Switch k l) wired unready
+idle_link kind keeps s Turn k l wired unready = idle_turn kind keeps s k l wired unready
 
 -- a link that is passed over: it has no wire, or isn't ready
-pub passed_link : {A : Type 0} (kind : Kind A) (net : Network A) (part : PortPart) (s l among : ℕ) → has_bit among l ≡ is_wired net.plan (port.Switch s l) → (has_bit among l ≡ true → wired_fault net.plan (port.Switch s l) ≡ None) → (has_bit among l ≡ true → is_ready_at kind part net.nodes s l ≡ false) → PartEnds kind net (wired_events net.plan part (port.Switch s l)) (Ok false) net
-passed_link kind net part s l among linked wired unready = by_wire (is_wired net.plan (port.Switch s l)) refl
+pub passed_link : {A : Type 0} (kind : Kind A) (keeps : Bool) (s : Stage A) (part : PortPart) (k l among : ℕ) → has_bit among l ≡ is_wired s.network.plan (port.Switch k l) → (has_bit among l ≡ true → wired_fault s.network.plan (port.Switch k l) ≡ None) → (has_bit among l ≡ true → is_ready_at kind part s.network.nodes k l ≡ false) → PartEnds (stage_apply kind keeps) s (wired_events s.network.plan part (port.Switch k l)) (Ok false) s
+passed_link kind keeps s part k l among linked wired unready = by_wire (is_wired s.network.plan (port.Switch k l)) refl
   where
-    by_wire : (b : Bool) → is_wired net.plan (port.Switch s l) ≡ b → PartEnds kind net (wired_events net.plan part (port.Switch s l)) (Ok false) net
-    by_wire true is = at_wired net.plan part kind net net (Ok false) (port.Switch s l) is (idle_link kind net part s l (wired (linked ∙ is)) (unready (linked ∙ is)))
-    by_wire false is = at_unwired net.plan part kind net (port.Switch s l) is
+    by_wire : (b : Bool) → is_wired s.network.plan (port.Switch k l) ≡ b → PartEnds (stage_apply kind keeps) s (wired_events s.network.plan part (port.Switch k l)) (Ok false) s
+    by_wire true is = at_wired s.network.plan part (stage_apply kind keeps) s s (Ok false) (port.Switch k l) is (idle_link kind keeps s part k l (wired (linked ∙ is)) (unready (linked ∙ is)))
+    by_wire false is = at_unwired s.network.plan part (stage_apply kind keeps) s (port.Switch k l) is
 
 -- what is before a link that was found, or before the end, is a link
 pub below_links : (from l : ℕ) (P : ℕ → Type 0) (found : Option ℕ) → IfSome found (λ i. (from ≤ i) × (i < 32) × P i) → l < unwrap_or found 32 → l < 32

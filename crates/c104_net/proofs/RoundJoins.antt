@@ -1,13 +1,12 @@
 -- The parts of a round make a round, and what rounds leave is in balance.
-use Rattle.std.proofs.Common.{◌≡◌, ◌∙◌, ◌<◌, ◌||◌, ℕ, Bool, false, List, [], ◌∷◌, ◌++◌, Option, Some, None, Result, Ok, Err, map, inl, inr, refl, sym, ap, subst, arith}
+use Rattle.std.proofs.Common.{◌≡◌, ◌∙◌, ◌<◌, ◌||◌, ℕ, Bool, false, List, [], ◌∷◌, ◌++◌, Option, Some, None, Result, Ok, Err, map, inl, refl, sym, ap, subst, arith}
 use Rattle.std.specs.List.{flat_map, range_with_len}
-use Rattle.std.proofs.lemmas.List.{map-id}
 use Rattle.c104_token.specs.Kinds.{Kind}
 use Rattle.c104_link.specs.Steps.{step_at, yield_step_at}
 use Rattle.c104_link.proofs.MadeSteps.{given}
 use Rattle.c104_switch.specs.Actions.{Reply}
 use Rattle.c104_switch.specs.declared.actions.ReplyOf.TheVariants as reply
-use Rattle.c104_describe.specs.Plans.{Plan, IsPlan}
+use Rattle.c104_describe.specs.Plans.{IsPlan}
 use Rattle.c104_describe.specs.Wiring.{peer}
 use Rattle.c104_event.specs.declared.events.Event.{Event}
 use Rattle.c104_event.specs.declared.events.Event.TheVariants as event
@@ -15,52 +14,55 @@ use Rattle.c104_event.specs.declared.faults.EventFault.{EventFault}
 use Rattle.c104_net.specs.Nodes.{Node, node_input, node_claim, node_control, node_send, node_drain}
 use Rattle.c104_net.specs.Wires.{nodes_cross, nodes_credit}
 use Rattle.c104_net.specs.Ends.{end_of}
-use Rattle.c104_net.specs.Network.{Network, network_of, network_apply, network_step, terminal_place, event_fault, limit_fault, limited_node, outcome_within_limit, outcome_if_ready, outcome_if_possible, with_nodes}
+use Rattle.c104_net.specs.Network.{Network, network_apply, network_step, terminal_place, event_fault, limit_fault, limited_node, outcome_within_limit, outcome_if_ready, outcome_if_possible, with_nodes}
 use Rattle.c104_net.specs.Balance.{IsSteady}
-use Rattle.c104_net.specs.Rounds.{claims_of, link_numbers, run_until, switch_claims, unless_fault, EventsEnd}
+use Rattle.c104_net.specs.EventRuns.{EventsEnd}
+use Rattle.c104_net.specs.Rounds.{claims_of, link_numbers, switch_claims}
 use Rattle.c104_net.specs.RoundParts.{PartEnds}
 use Rattle.c104_net.proofs.BalanceEvents.{applied_steady}
 use Rattle.c104_net.proofs.PartRuns.{numbers_done, numbers_passed, part_after, part_empty, single, singles, stops_after, stops_before}
 use Rattle.c104_net.proofs.RoundLists.{links_passed}
+use Rattle.c104_net.proofs.RoundRuns.{ends_keep, Applied}
 
-module _ {A : Type 0} (kind : Kind A) where
+module _ {S : Type 0} (apply : S → Event → Applied S) where
   -- the claims of an input, one by one, and those of a switch, input by input
-  pub of_claims : (net after : Network A) (s i : ℕ) (result : Result Bool EventFault) → PartEnds kind net (flat_map (single (event.Claim s i)) (range_with_len 0 32)) result after → PartEnds kind net (claims_of s i) result after
-  of_claims net after s i result ends = subst (λ es. PartEnds kind net es result after) (ap (flat_map (single (event.Claim s i))) (links_passed 32 refl) ∙ singles (event.Claim s i) link_numbers) ends
+  pub of_claims : (net after : S) (s i : ℕ) (result : Result Bool EventFault) → PartEnds apply net (flat_map (single (event.Claim s i)) (range_with_len 0 32)) result after → PartEnds apply net (claims_of s i) result after
+  of_claims net after s i result ends = subst (λ es. PartEnds apply net es result after) (ap (flat_map (single (event.Claim s i))) (links_passed 32 refl) ∙ singles (event.Claim s i) link_numbers) ends
 
-  pub of_inputs : (net after : Network A) (s : ℕ) (result : Result Bool EventFault) → PartEnds kind net (flat_map (claims_of s) (range_with_len 0 32)) result after → PartEnds kind net (switch_claims s) result after
-  of_inputs net after s result ends = subst (λ es. PartEnds kind net es result after) (ap (flat_map (claims_of s)) (links_passed 32 refl)) ends
+  pub of_inputs : (net after : S) (s : ℕ) (result : Result Bool EventFault) → PartEnds apply net (flat_map (claims_of s) (range_with_len 0 32)) result after → PartEnds apply net (switch_claims s) result after
+  of_inputs net after s result ends = subst (λ es. PartEnds apply net es result after) (ap (flat_map (claims_of s)) (links_passed 32 refl)) ends
 
   -- events of one kind, one by one
-  pub of_events : {X : Type 0} (f : X → Event) (xs : List X) (net after : Network A) (result : Result Bool EventFault) → PartEnds kind net (flat_map (single f) xs) result after → PartEnds kind net (map f xs) result after
-  of_events f xs net after result ends = subst (λ es. PartEnds kind net es result after) (singles f xs) ends
+  pub of_events : {X : Type 0} (f : X → Event) (xs : List X) (net after : S) (result : Result Bool EventFault) → PartEnds apply net (flat_map (single f) xs) result after → PartEnds apply net (map f xs) result after
+  of_events f xs net after result ends = subst (λ es. PartEnds apply net es result after) (singles f xs) ends
 
   -- all claims of an input, where none of them can be made
-  pub idle_claims : (net : Network A) (s i : ℕ) → ((o : ℕ) → o < 32 → PartEnds kind net (event.Claim s i o ∷ []) (Ok false) net) → PartEnds kind net (claims_of s i) (Ok false) net
+  pub idle_claims : (net : S) (s i : ℕ) → ((o : ℕ) → o < 32 → PartEnds apply net (event.Claim s i o ∷ []) (Ok false) net) → PartEnds apply net (claims_of s i) (Ok false) net
   idle_claims net s i idle =
-      of_claims net net s i (Ok false) (numbers_done kind (single (event.Claim s i)) 32 32 net net false (omega arith)
-      (numbers_passed kind (single (event.Claim s i)) 32 0 32 net net false (omega arith) (omega arith) (λ k above below. idle k below) (part_empty kind net)))
+      of_claims net net s i (Ok false) (numbers_done apply (single (event.Claim s i)) 32 32 net net false (omega arith)
+      (numbers_passed apply (single (event.Claim s i)) 32 0 32 net net false (omega arith) (omega arith) (λ k above below. idle k below) (part_empty apply net)))
 
   -- the five parts of a round
-  module _ (p1 p2 p3 p4 p5 : List Event) (net n1 n2 n3 n4 n5 : Network A) (b1 b2 b3 b4 b5 : Bool) where
-    pub round_done : PartEnds kind net p1 (Ok b1) n1 → PartEnds kind n1 p2 (Ok b2) n2 → PartEnds kind n2 p3 (Ok b3) n3 → PartEnds kind n3 p4 (Ok b4) n4 → PartEnds kind n4 p5 (Ok b5) n5 → PartEnds kind net (p1 ++ p2 ++ p3 ++ p4 ++ p5) (Ok (b1 || b2 || b3 || b4 || b5)) n5
-    round_done e1 e2 e3 e4 e5 = part_after kind net n4 n5 (p1 ++ p2 ++ p3 ++ p4) p5 (b1 || b2 || b3 || b4) b5 (part_after kind net n3 n4 (p1 ++ p2 ++ p3) p4 (b1 || b2 || b3) b4 (part_after kind net n2 n3 (p1 ++ p2) p3 (b1 || b2) b3 (part_after kind net n1 n2 p1 p2 b1 b2 e1 e2) e3) e4) e5
+  module _ (p1 p2 p3 p4 p5 : List Event) (net n1 n2 n3 n4 n5 : S) (b1 b2 b3 b4 b5 : Bool) where
+    pub round_done : PartEnds apply net p1 (Ok b1) n1 → PartEnds apply n1 p2 (Ok b2) n2 → PartEnds apply n2 p3 (Ok b3) n3 → PartEnds apply n3 p4 (Ok b4) n4 → PartEnds apply n4 p5 (Ok b5) n5 → PartEnds apply net (p1 ++ p2 ++ p3 ++ p4 ++ p5) (Ok (b1 || b2 || b3 || b4 || b5)) n5
+    round_done e1 e2 e3 e4 e5 = part_after apply net n4 n5 (p1 ++ p2 ++ p3 ++ p4) p5 (b1 || b2 || b3 || b4) b5 (part_after apply net n3 n4 (p1 ++ p2 ++ p3) p4 (b1 || b2 || b3) b4 (part_after apply net n2 n3 (p1 ++ p2) p3 (b1 || b2) b3 (part_after apply net n1 n2 p1 p2 b1 b2 e1 e2) e3) e4) e5
 
-    pub round_stops_first : (f : EventFault) (after : Network A) → PartEnds kind net p1 (Err f) after → PartEnds kind net (p1 ++ p2 ++ p3 ++ p4 ++ p5) (Err f) after
-    round_stops_first f after ends = stops_before kind net after (p1 ++ p2 ++ p3 ++ p4) p5 f (stops_before kind net after (p1 ++ p2 ++ p3) p4 f (stops_before kind net after (p1 ++ p2) p3 f (stops_before kind net after p1 p2 f ends)))
+    pub round_stops_first : (f : EventFault) (after : S) → PartEnds apply net p1 (Err f) after → PartEnds apply net (p1 ++ p2 ++ p3 ++ p4 ++ p5) (Err f) after
+    round_stops_first f after ends = stops_before apply net after (p1 ++ p2 ++ p3 ++ p4) p5 f (stops_before apply net after (p1 ++ p2 ++ p3) p4 f (stops_before apply net after (p1 ++ p2) p3 f (stops_before apply net after p1 p2 f ends)))
 
-    pub round_stops_second : (f : EventFault) (after : Network A) → PartEnds kind net p1 (Ok b1) n1 → PartEnds kind n1 p2 (Err f) after → PartEnds kind net (p1 ++ p2 ++ p3 ++ p4 ++ p5) (Err f) after
-    round_stops_second f after e1 ends = stops_before kind net after (p1 ++ p2 ++ p3 ++ p4) p5 f (stops_before kind net after (p1 ++ p2 ++ p3) p4 f (stops_before kind net after (p1 ++ p2) p3 f (stops_after kind net n1 after p1 p2 b1 f e1 ends)))
+    pub round_stops_second : (f : EventFault) (after : S) → PartEnds apply net p1 (Ok b1) n1 → PartEnds apply n1 p2 (Err f) after → PartEnds apply net (p1 ++ p2 ++ p3 ++ p4 ++ p5) (Err f) after
+    round_stops_second f after e1 ends = stops_before apply net after (p1 ++ p2 ++ p3 ++ p4) p5 f (stops_before apply net after (p1 ++ p2 ++ p3) p4 f (stops_before apply net after (p1 ++ p2) p3 f (stops_after apply net n1 after p1 p2 b1 f e1 ends)))
 
-    pub round_stops_third : (f : EventFault) (after : Network A) → PartEnds kind net p1 (Ok b1) n1 → PartEnds kind n1 p2 (Ok b2) n2 → PartEnds kind n2 p3 (Err f) after → PartEnds kind net (p1 ++ p2 ++ p3 ++ p4 ++ p5) (Err f) after
-    round_stops_third f after e1 e2 ends = stops_before kind net after (p1 ++ p2 ++ p3 ++ p4) p5 f (stops_before kind net after (p1 ++ p2 ++ p3) p4 f (stops_after kind net n2 after (p1 ++ p2) p3 (b1 || b2) f (part_after kind net n1 n2 p1 p2 b1 b2 e1 e2) ends))
+    pub round_stops_third : (f : EventFault) (after : S) → PartEnds apply net p1 (Ok b1) n1 → PartEnds apply n1 p2 (Ok b2) n2 → PartEnds apply n2 p3 (Err f) after → PartEnds apply net (p1 ++ p2 ++ p3 ++ p4 ++ p5) (Err f) after
+    round_stops_third f after e1 e2 ends = stops_before apply net after (p1 ++ p2 ++ p3 ++ p4) p5 f (stops_before apply net after (p1 ++ p2 ++ p3) p4 f (stops_after apply net n2 after (p1 ++ p2) p3 (b1 || b2) f (part_after apply net n1 n2 p1 p2 b1 b2 e1 e2) ends))
 
-    pub round_stops_fourth : (f : EventFault) (after : Network A) → PartEnds kind net p1 (Ok b1) n1 → PartEnds kind n1 p2 (Ok b2) n2 → PartEnds kind n2 p3 (Ok b3) n3 → PartEnds kind n3 p4 (Err f) after → PartEnds kind net (p1 ++ p2 ++ p3 ++ p4 ++ p5) (Err f) after
-    round_stops_fourth f after e1 e2 e3 ends = stops_before kind net after (p1 ++ p2 ++ p3 ++ p4) p5 f (stops_after kind net n3 after (p1 ++ p2 ++ p3) p4 (b1 || b2 || b3) f (part_after kind net n2 n3 (p1 ++ p2) p3 (b1 || b2) b3 (part_after kind net n1 n2 p1 p2 b1 b2 e1 e2) e3) ends)
+    pub round_stops_fourth : (f : EventFault) (after : S) → PartEnds apply net p1 (Ok b1) n1 → PartEnds apply n1 p2 (Ok b2) n2 → PartEnds apply n2 p3 (Ok b3) n3 → PartEnds apply n3 p4 (Err f) after → PartEnds apply net (p1 ++ p2 ++ p3 ++ p4 ++ p5) (Err f) after
+    round_stops_fourth f after e1 e2 e3 ends = stops_before apply net after (p1 ++ p2 ++ p3 ++ p4) p5 f (stops_after apply net n3 after (p1 ++ p2 ++ p3) p4 (b1 || b2 || b3) f (part_after apply net n2 n3 (p1 ++ p2) p3 (b1 || b2) b3 (part_after apply net n1 n2 p1 p2 b1 b2 e1 e2) e3) ends)
 
-    pub round_stops_fifth : (f : EventFault) (after : Network A) → PartEnds kind net p1 (Ok b1) n1 → PartEnds kind n1 p2 (Ok b2) n2 → PartEnds kind n2 p3 (Ok b3) n3 → PartEnds kind n3 p4 (Ok b4) n4 → PartEnds kind n4 p5 (Err f) after → PartEnds kind net (p1 ++ p2 ++ p3 ++ p4 ++ p5) (Err f) after
-    round_stops_fifth f after e1 e2 e3 e4 ends = stops_after kind net n4 after (p1 ++ p2 ++ p3 ++ p4) p5 (b1 || b2 || b3 || b4) f (part_after kind net n3 n4 (p1 ++ p2 ++ p3) p4 (b1 || b2 || b3) b4 (part_after kind net n2 n3 (p1 ++ p2) p3 (b1 || b2) b3 (part_after kind net n1 n2 p1 p2 b1 b2 e1 e2) e3) e4) ends
+    pub round_stops_fifth : (f : EventFault) (after : S) → PartEnds apply net p1 (Ok b1) n1 → PartEnds apply n1 p2 (Ok b2) n2 → PartEnds apply n2 p3 (Ok b3) n3 → PartEnds apply n3 p4 (Ok b4) n4 → PartEnds apply n4 p5 (Err f) after → PartEnds apply net (p1 ++ p2 ++ p3 ++ p4 ++ p5) (Err f) after
+    round_stops_fifth f after e1 e2 e3 e4 ends = stops_after apply net n4 after (p1 ++ p2 ++ p3 ++ p4) p5 (b1 || b2 || b3 || b4) f (part_after apply net n3 n4 (p1 ++ p2 ++ p3) p4 (b1 || b2 || b3) b4 (part_after apply net n2 n3 (p1 ++ p2) p3 (b1 || b2) b3 (part_after apply net n1 n2 p1 p2 b1 b2 e1 e2) e3) e4) ends
 
+module _ {A : Type 0} (kind : Kind A) where
   -- an event keeps the plan
   module _ (net : Network A) where
     by_last : (told : Reply) (nodes : List (Node A)) (r : Reply × Network A) → ◌≡◌ {A = Option (Reply × Network A)} (Some (told, with_nodes net nodes)) (Some r) → r.1.plan ≡ net.plan
@@ -89,30 +91,13 @@ module _ {A : Type 0} (kind : Kind A) where
     by_fault e None = by_step e (network_step kind net e) refl
     by_fault e (Some f) = refl
 
-    apply_plan : (e : Event) → (network_apply kind net e).1.plan ≡ net.plan
+    pub apply_plan : (e : Event) → (network_apply kind net e).1.plan ≡ net.plan
     apply_plan e = by_fault e (event_fault net.plan e)
 
   -- a run of events keeps the balance
-  run_steady : (events : List Event) (net : Network A) → IsPlan net.plan → IsSteady net → IsSteady (run_until kind net events).1
-  run_steady [] net is_plan steady = steady
-  run_steady (e ∷ events) net is_plan steady =
-      by_answer (λ n kept holds. run_steady events n kept holds) (network_apply kind net e).0 (network_apply kind net e).1
-      (subst IsPlan (sym (apply_plan net e)) is_plan)
-      (applied_steady kind net.plan is_plan net.nodes steady e (network_apply kind net e).0 (network_apply kind net e).1 (inl refl))
-    where
-      by_answer : ((n : Network A) → IsPlan n.plan → IsSteady n → IsSteady (run_until kind n events).1) → (answer : Result Reply EventFault) (next : Network A) → IsPlan next.plan → IsSteady next → IsSteady (unless_fault answer next (λ n. run_until kind n events)).1
-      by_answer more (Ok r) next is_plan steady = more next is_plan steady
-      by_answer more (Err f) next is_plan steady = steady
-
-  pub events_steady : (net after : Network A) (events : List Event) (result : Result (Unit {0}) EventFault) → IsPlan net.plan → IsSteady net → EventsEnd kind net events result after → IsSteady after
+  pub events_steady : (net after : Network A) (events : List Event) (result : Result (Unit {0}) EventFault) → IsPlan net.plan → IsSteady net → EventsEnd (network_apply kind) net events result after → IsSteady after
   events_steady net after events result is_plan steady ends =
-      elim ends [
-        | inl due ↦ subst IsSteady (sym (ap (λ (r : Result (Unit {0}) EventFault × Network A). r.1) due)) (run_steady events net is_plan steady)
-        | inr short ↦ subst IsSteady (ap (λ (r : Result (Unit {0}) EventFault × Network A). r.1) short.stands) (run_steady short.front net is_plan steady)
-      ]
-
-  -- bare nodes, which were lent as a list, show as they are
-  pub ends_as_they_are : (plan : Plan) (nodes lent after : List (Node A)) (events : List Event) (result : Result (Unit {0}) EventFault) → lent ≡ nodes →
-      EventsEnd kind (network_of plan (map (λ n. n) lent)) events result (network_of plan (map (λ n. n) after)) → EventsEnd kind (network_of plan nodes) events result (network_of plan after)
-  ends_as_they_are plan nodes lent after events result same is =
-      subst (λ ns. EventsEnd kind (network_of plan ns) events result (network_of plan after)) (map-id lent ∙ same) (subst (λ ns. EventsEnd kind (network_of plan (map (λ n. n) lent)) events result (network_of plan ns)) (map-id after) is)
+      (ends_keep (network_apply kind) (λ n. IsPlan n.plan × IsSteady n) (λ n e holds. (
+        subst IsPlan (sym (apply_plan n e)) holds.0,
+        applied_steady kind n.plan holds.0 n.nodes holds.1 e (network_apply kind n e).0 (network_apply kind n e).1 (inl refl),
+      )) net after events result (is_plan, steady) ends).1

@@ -1,6 +1,6 @@
--- A run that stops at the first fault, by a prefix of its events; and what leaves a network as it was.
-use Rattle.std.proofs.Common.{false, ℕ, ◌≡◌, ◌+◌, ◌<◌, List, [], ◌∷◌, ◌++◌, Result, Ok, Err, IsErr, IsErrAnd, Option, Some, None, refl, sym, ap, ◌∙◌, subst, inl, inr, length, get_or, take, drop}
-use Rattle.std.proofs.lemmas.List.{drop_more, take-append-drop, take_more}
+-- A run that stops at the first fault, by a prefix of its events, and what it keeps; and what leaves a
+-- network as it was.
+use Rattle.std.proofs.Common.{true, false, ℕ, ◌≡◌, List, [], ◌∷◌, ◌++◌, Result, Ok, Err, IsErr, IsErrAnd, Option, Some, None, refl, sym, ap, ◌∙◌, subst, inl, inr}
 use Rattle.c104_token.specs.Kinds.{Kind}
 use Rattle.c104_switch.specs.Actions.{Reply}
 use Rattle.c104_switch.specs.declared.actions.ReplyOf.TheVariants as reply
@@ -14,46 +14,109 @@ use Rattle.c104_net.specs.Nodes.{Node, node_input, node_claim, node_control, nod
 use Rattle.c104_net.specs.Wires.{nodes_cross, nodes_credit}
 use Rattle.c104_describe.specs.Wiring.{peer}
 use Rattle.c104_net.specs.Ends.{end_of}
-use Rattle.c104_net.specs.Network.{AnswersEvent, Network, WouldBeDone, network_apply, done_step, event_fault, outcome_if_ready, outcome_if_possible, limit_fault, limited_node, token_step, control_step, network_step, terminal_place, outcome_within_limit}
-use Rattle.c104_net.specs.Rounds.{Outcome, EventsEnd, run_until, unless_fault}
+use Rattle.c104_net.specs.Network.{AnswersEvent, Network, network_apply, done_step, event_fault, outcome_if_ready, outcome_if_possible, limit_fault, limited_node, token_step, control_step, network_step, terminal_place, outcome_within_limit}
+use Rattle.c104_net.specs.NetRecords.{is_done}
+use Rattle.c104_net.specs.EventRuns.{run_events, unless_fault, Answers, EventsEnd, Outcome}
 use Rattle.c104_switch.specs.Actions.{is_ready}
 
 pub err_is : {X E : Type 0} (result : Result X E) (e : E) → IsErr result × IsErrAnd result (λ d. d ≡ e) → result ≡ Err e
 err_is (Ok x) e is = absurd (cc is.0)
 err_is (Err d) e is = ap Err is.1
 
-module _ {A : Type 0} (kind : Kind A) where
-  -- the rest of a run goes on from where its prefix came to
-  unless_later : (events more : List Event) → ((net : Network A) → run_until kind net (events ++ more) ≡ unless_fault (run_until kind net events).0 (run_until kind net events).1 (λ next. run_until kind next more)) →
-      (answer : Result Reply EventFault) (net : Network A) →
-      unless_fault answer net (λ next. run_until kind next (events ++ more)) ≡ unless_fault (unless_fault answer net (λ next. run_until kind next events)).0 (unless_fault answer net (λ next. run_until kind next events)).1 (λ next. run_until kind next more)
-  unless_later events more later (Ok r) net = later net
-  unless_later events more later (Err f) net = refl
+-- what one event comes to
+abbrev pub Applied : Type 0 → Type 0
+Applied S = Result Reply EventFault × S
 
-  pub run_append : (events more : List Event) (net : Network A) → run_until kind net (events ++ more) ≡ unless_fault (run_until kind net events).0 (run_until kind net events).1 (λ next. run_until kind next more)
-  run_append [] more net = refl
-  run_append (e ∷ events) more net = unless_later events more (run_append events more) (network_apply kind net e).0 (network_apply kind net e).1
+module _ {S : Type 0} (apply : S → Event → Applied S) where
+  -- the rest of a run goes on from where its prefix came to
+  unless_later : (events more : List Event) → ((s : S) → run_events apply s (events ++ more) ≡ unless_fault (run_events apply s events).0 (run_events apply s events).1 (λ next. run_events apply next more)) →
+      (answer : Result Reply EventFault) (s : S) →
+      unless_fault answer s (λ next. run_events apply next (events ++ more)) ≡ unless_fault (unless_fault answer s (λ next. run_events apply next events)).0 (unless_fault answer s (λ next. run_events apply next events)).1 (λ next. run_events apply next more)
+  unless_later events more later (Ok r) s = later s
+  unless_later events more later (Err f) s = refl
+
+  pub run_append : (events more : List Event) (s : S) → run_events apply s (events ++ more) ≡ unless_fault (run_events apply s events).0 (run_events apply s events).1 (λ next. run_events apply next more)
+  run_append [] more s = refl
+  run_append (e ∷ events) more s = unless_later events more (run_append events more) (apply s e).0 (apply s e).1
 
   -- after a prefix without a fault
-  pub run_from : (net mid : Network A) (events more : List Event) → run_until kind net events ≡ (Ok tt, mid) → run_until kind net (events ++ more) ≡ run_until kind mid more
-  run_from net mid events more front = run_append events more net ∙ ap (λ (r : Outcome A). unless_fault r.0 r.1 (λ next. run_until kind next more)) front
+  pub run_from : (s mid : S) (events more : List Event) → run_events apply s events ≡ (Ok tt, mid) → run_events apply s (events ++ more) ≡ run_events apply mid more
+  run_from s mid events more front = run_append events more s ∙ ap (λ (r : Outcome S). unless_fault r.0 r.1 (λ next. run_events apply next more)) front
 
-  -- an event after such a prefix
-  pub run_next : (net mid after : Network A) (events more : List Event) (e : Event) (answer : Result Reply EventFault) →
-      run_until kind net events ≡ (Ok tt, mid) → ◌≡◌ {A = Result Reply EventFault × Network A} (answer, after) (network_apply kind mid e) →
-      run_until kind net (events ++ e ∷ more) ≡ unless_fault answer after (λ next. run_until kind next more)
-  run_next net mid after events more e answer front last = run_from net mid events (e ∷ more) front ∙ ap (λ (r : Result Reply EventFault × Network A). unless_fault r.0 r.1 (λ next. run_until kind next more)) (sym last)
+  -- one event
+  run_one : (s after : S) (e : Event) (answer : Result Reply EventFault) → ◌≡◌ {A = Applied S} (answer, after) (apply s e) →
+      run_events apply s (e ∷ []) ≡ unless_fault answer after (λ next. (Ok tt, next))
+  run_one s after e answer due = ap (λ (r : Applied S). unless_fault r.0 r.1 (λ next. (Ok tt, next))) (sym due)
 
-  pub run_fault : (net mid after : Network A) (events more : List Event) (e : Event) (f : EventFault) →
-      run_until kind net events ≡ (Ok tt, mid) → ◌≡◌ {A = Result Reply EventFault × Network A} (Err f, after) (network_apply kind mid e) →
-      run_until kind net (events ++ e ∷ more) ≡ (Err f, after)
-  run_fault net mid after events more e f front last = run_next net mid after events more e (Err f) front last
+  pub run_reply : (s after : S) (e : Event) (r : Reply) → ◌≡◌ {A = Applied S} (Ok r, after) (apply s e) → run_events apply s (e ∷ []) ≡ (Ok tt, after)
+  run_reply s after e r due = run_one s after e (Ok r) due
 
-  pub run_reply : (net mid after : Network A) (events : List Event) (e : Event) (r : Reply) →
-      run_until kind net events ≡ (Ok tt, mid) → ◌≡◌ {A = Result Reply EventFault × Network A} (Ok r, after) (network_apply kind mid e) →
-      run_until kind net (events ++ e ∷ []) ≡ (Ok tt, after)
-  run_reply net mid after events e r front last = run_next net mid after events [] e (Ok r) front last
+  same_fault : (f g : EventFault) → ◌≡◌ {A = Result Reply EventFault} (Err f) (Err g) → ◌≡◌ {A = Result (Unit {0}) EventFault} (Err f) (Err g)
+  same_fault f g same = let faults : f ≡ g = cc in ap Err faults
 
+  -- a run ends with the fault of an event, or out of memory
+  pub fault_ends : (s after : S) (e : Event) (f : EventFault) → Answers apply s e (Err f) after → EventsEnd apply s (e ∷ []) (Err f) after
+  fault_ends s after e f answer =
+      elim answer [
+        | inl due ↦ inl (sym (run_one s after e (Err f) due))
+        | inr refused ↦ inr (record {
+          refused = same_fault f fault.NoMemory refused.0;
+          front = [];
+          event = e;
+          rest = [];
+          parts = refl;
+          stands = ap (λ n. (Ok tt, n)) (sym refused.2);
+          wanted = subst (λ n. is_done (apply n e).0 ≡ true) (sym refused.2) refused.1;
+        })
+      ]
+
+  -- what every event keeps a run keeps
+  module _ (Kept : S → Type 0) (keeps : (s : S) (e : Event) → Kept s → Kept (apply s e).1) where
+    run_keeps : (events : List Event) (s : S) → Kept s → Kept (run_events apply s events).1
+    run_keeps [] s holds = holds
+    run_keeps (e ∷ events) s holds = by_answer (λ next kept. run_keeps events next kept) (apply s e).0 (apply s e).1 (keeps s e holds)
+      where
+        by_answer : ((next : S) → Kept next → Kept (run_events apply next events).1) → (answer : Result Reply EventFault) (next : S) → Kept next → Kept (unless_fault answer next (λ n. run_events apply n events)).1
+        by_answer more (Ok r) next holds = more next holds
+        by_answer more (Err f) next holds = holds
+
+    pub ends_keep : (s after : S) (events : List Event) (result : Result (Unit {0}) EventFault) → Kept s → EventsEnd apply s events result after → Kept after
+    ends_keep s after events result holds ends =
+        elim ends [
+          | inl due ↦ subst Kept (sym (ap (λ (r : Outcome S). r.1) due)) (run_keeps events s holds)
+          | inr short ↦ subst Kept (ap (λ (r : Outcome S). r.1) short.stands) (run_keeps short.front s holds)
+        ]
+
+-- a run as it is seen, where each event is seen so
+module _ {S R : Type 0} (apply : S → Event → Applied S) (apply_seen : R → Event → Applied R) (seen : S → R)
+    (follows : (s : S) (e : Event) → ◌≡◌ {A = Applied R} ((apply s e).0, seen (apply s e).1) (apply_seen (seen s) e)) where
+  run_seen : (events : List Event) (s : S) → ◌≡◌ {A = Outcome R} ((run_events apply s events).0, seen (run_events apply s events).1) (run_events apply_seen (seen s) events)
+  run_seen [] s = refl
+  run_seen (e ∷ events) s =
+      by_answer (λ next. run_seen events next) (apply s e).0 (apply s e).1
+      ∙ ap (λ (r : Applied R). unless_fault r.0 r.1 (λ next. run_events apply_seen next events)) (follows s e)
+    where
+      by_answer : ((next : S) → ◌≡◌ {A = Outcome R} ((run_events apply next events).0, seen (run_events apply next events).1) (run_events apply_seen (seen next) events)) → (answer : Result Reply EventFault) (next : S) →
+          ◌≡◌ {A = Outcome R} ((unless_fault answer next (λ n. run_events apply n events)).0, seen (unless_fault answer next (λ n. run_events apply n events)).1) (unless_fault answer (seen next) (λ n. run_events apply_seen n events))
+      by_answer more (Ok r) next = more next
+      by_answer more (Err f) next = refl
+
+  pub ends_seen : (s after : S) (events : List Event) (result : Result (Unit {0}) EventFault) → EventsEnd apply s events result after → EventsEnd apply_seen (seen s) events result (seen after)
+  ends_seen s after events result ends =
+      elim ends [
+        | inl due ↦ inl (ap (λ (r : Outcome S). (r.0, seen r.1)) due ∙ run_seen events s)
+        | inr short ↦ inr (record {
+          refused = short.refused;
+          front = short.front;
+          event = short.event;
+          rest = short.rest;
+          parts = short.parts;
+          stands = sym (run_seen short.front s) ∙ ap (λ (r : Outcome S). (r.0, seen r.1)) short.stands;
+          wanted = ap (λ (r : Applied R). is_done r.0) (sym (follows after short.event)) ∙ short.wanted;
+        })
+      ]
+
+module _ {A : Type 0} (kind : Kind A) where
   -- a step that is ready replies something else than that it isn't
   abbrev Replies : Option (Reply × Network A) → Type 0
   Replies made = (r : Reply × Network A) → made ≡ Some r → r.0 ≡ reply.NotReady → ⊥
@@ -74,7 +137,7 @@ module _ {A : Type 0} (kind : Kind A) where
   wired_replies None made each r was unready = cc
   wired_replies (Some q) made each r was unready = each q r was unready
 
-  step_replies : (net : Network A) (e : Event) → Replies (network_step kind net e)
+  pub step_replies : (net : Network A) (e : Event) → Replies (network_step kind net e)
   step_replies net (event.Cross p) = wired_replies (peer net.plan p) (λ q. token_step kind net (nodes_cross net.nodes (end_of net.plan p) (end_of net.plan q))) (λ q. moved_replies net (nodes_cross net.nodes (end_of net.plan p) (end_of net.plan q)))
   step_replies net (event.Credit p) = wired_replies (peer net.plan p) (λ q. done_step kind net (nodes_credit net.nodes (end_of net.plan p) (end_of net.plan q))) (λ q. done_replies net (nodes_credit net.nodes (end_of net.plan p) (end_of net.plan q)))
   step_replies net (event.Input s l word) = done_replies net (step_at net.nodes s (node_input kind l word))
@@ -108,32 +171,8 @@ module _ {A : Type 0} (kind : Kind A) where
   pub unready_stays : (net after : Network A) (e : Event) → ◌≡◌ {A = Result Reply EventFault × Network A} (Ok reply.NotReady, after) (network_apply kind net e) → after ≡ net
   unready_stays net after e was = there_stays net after e (event_fault net.plan e) was
 
-  -- the run goes on by one event that wasn't refused
-  pub goes_on : (net mid after : Network A) (events : List Event) (i : ℕ) (e : Event) (r : Reply) → i < length events → e ≡ get_or events i e →
-      run_until kind net (take i events) ≡ (Ok tt, mid) → AnswersEvent kind mid e (Ok r) after → run_until kind net (take (i + 1) events) ≡ (Ok tt, after)
-  goes_on net mid after events i e r within is front answer =
-      let one_more : take (i + 1) events ≡ take i events ++ e ∷ [] = take_more events i e within ∙ ap (λ (d : Event). take i events ++ d ∷ []) (sym is) in
-      elim answer [
-        | inl due ↦ ap (run_until kind net) one_more ∙ run_reply net mid after (take i events) e r front due
-        | inr refused ↦ absurd (cc refused.0)
-      ]
-
   pub undone_leaves : (mid after : Network A) (e : Event) (r : Reply) → is_ready r ≡ false → AnswersEvent kind mid e (Ok r) after → after ≡ mid
   undone_leaves mid after e reply.NotReady undone answer = elim answer [ inl due ↦ unready_stays mid after e due | inr refused ↦ refused.2 ]
   undone_leaves mid after e reply.Done undone answer = cc
   undone_leaves mid after e (reply.Token x) undone answer = cc
   undone_leaves mid after e (reply.Control bytes) undone answer = cc
-
-  same_fault : (f g : EventFault) → ◌≡◌ {A = Result Reply EventFault} (Err f) (Err g) → ◌≡◌ {A = Result (Unit {0}) EventFault} (Err f) (Err g)
-  same_fault f g same = let faults : f ≡ g = cc in ap Err faults
-
-  -- the run ends with the fault of an event, or out of memory
-  pub fault_ends : (net mid after : Network A) (events : List Event) (i : ℕ) (e : Event) (f : EventFault) → i < length events → e ≡ get_or events i e →
-      run_until kind net (take i events) ≡ (Ok tt, mid) → AnswersEvent kind mid e (Err f) after → EventsEnd kind net events (Err f) after
-  fault_ends net mid after events i e f within is front answer =
-      let rest : drop i events ≡ e ∷ drop (i + 1) events = drop_more events i e within ∙ ap (λ (d : Event). d ∷ drop (i + 1) events) (sym is) in
-      let parts : events ≡ take i events ++ e ∷ drop (i + 1) events = sym (take-append-drop i events) ∙ ap (λ es. take i events ++ es) rest in
-      elim answer [
-        | inl due ↦ inl (sym (ap (run_until kind net) parts ∙ run_fault net mid after (take i events) (drop (i + 1) events) e f front due))
-        | inr refused ↦ inr (record { refused = same_fault f fault.NoMemory refused.0; front = take i events; event = e; rest = drop (i + 1) events; parts = parts; stands = front ∙ ap (λ n. (Ok tt, n)) (sym refused.2); wanted = subst (λ n. WouldBeDone kind n e) (sym refused.2) refused.1 })
-      ]

@@ -16,6 +16,8 @@ pub mod Records
 pub mod Runs
 pub mod NetRecords
 pub mod Finished
+pub mod EventRuns
+pub mod Stages
 pub mod Rounds
 pub mod LinkedSets
 pub mod PortParts

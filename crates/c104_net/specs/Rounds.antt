@@ -1,6 +1,5 @@
--- Rounds: the events in which every part of a network takes its turn, and a run that stops at the
--- first fault.
-use Rattle.std.specs.Prelude.{ℕ, suc, zero, ◌≡◌, ◌⊎◌, Bool, List, [], ◌∷◌, ◌++◌, length, map, filter, is_some, Result, Ok, Err}
+-- Rounds: the events in which every part of a network takes its turn.
+use Rattle.std.specs.Prelude.{ℕ, suc, zero, Bool, List, [], ◌∷◌, ◌++◌, length, map, filter, is_some, Result}
 use Rattle.std.specs.List.{range_with_len, flat_map}
 use Rattle.c104_regs.specs.declared.registers.TheConstants.{LINKS}
 use Rattle.c104_token.specs.Kinds.{Kind}
@@ -10,9 +9,9 @@ use Rattle.c104_describe.specs.declared.ports.Port.TheVariants as port
 use Rattle.c104_event.specs.declared.events.Event.{Event}
 use Rattle.c104_event.specs.declared.events.Event.TheVariants as event
 use Rattle.c104_event.specs.declared.faults.EventFault.{EventFault}
-use Rattle.c104_event.specs.declared.faults.EventFault.TheVariants as fault
 use Rattle.c104_describe.specs.Wiring.{peer}
-use Rattle.c104_net.specs.Network.{Network, WouldBeDone, network_apply}
+use Rattle.c104_net.specs.Network.{Network, network_apply}
+use Rattle.c104_net.specs.EventRuns.{run_events, EventsEnd, Outcome}
 
 -- the numbers of a switch's links
 unfoldable pub link_numbers : List ℕ
@@ -72,40 +71,11 @@ abbrev pub rounds : Plan → ℕ → List Event
 rounds plan zero = []
 rounds plan (suc n) = round plan ++ rounds plan n
 
--- what a run comes to: whether a fault stopped it, and the network after it
-abbrev pub Outcome : (A : Type 0) → Type 0
-Outcome A = Result (Unit {0}) EventFault × Network A
-
--- after a fault nothing more happens
-abbrev pub unless_fault : {A X : Type 0} → Result X EventFault → Network A → (Network A → Outcome A)
-    → Outcome A
-unless_fault (Ok x) net more = more net
-unless_fault (Err f) net more = (Err f, net)
-
 module _ {A : Type 0} (kind : Kind A) where
-  -- a run of events in turn, up to the first that a fault refuses
-  abbrev pub run_until : Network A → List Event → Outcome A
-  run_until net [] = (Ok tt, net)
-  run_until net (e ∷ events) =
-      unless_fault (network_apply kind net e).0 (network_apply kind net e).1 (λ next. run_until next events)
-
-  -- out of memory for an event that would be done, and each event before it stands
-  pub record StopsShort (net : Network A) (events : List Event)
-      (result : Result (Unit {0}) EventFault) (after : Network A) : Type 0 where
-    pub refused : result ≡ Err fault.NoMemory
-    pub front : List Event
-    pub event : Event
-    pub rest : List Event
-    pub parts : events ≡ front ++ event ∷ rest
-    pub stands : run_until net front ≡ (Ok tt, after)
-    pub wanted : WouldBeDone kind after event
-
-  -- how a run ends: with what is due, or short of it when out of memory
-  abbrev pub EventsEnd : Network A → List Event → Result (Unit {0}) EventFault → Network A → Type 0
-  EventsEnd net events result after =
-      (◌≡◌ {A = Outcome A} (result, after) (run_until net events))
-      ⊎ StopsShort net events result after
+  -- a run of events of a network in turn, up to the first that a fault refuses
+  abbrev pub run_until : Network A → List Event → Outcome (Network A)
+  run_until net events = run_events (network_apply kind) net events
 
   -- how so many rounds end: as the run of their events
   abbrev pub RoundsEnd : Network A → ℕ → Result (Unit {0}) EventFault → Network A → Type 0
-  RoundsEnd net n result after = EventsEnd net (rounds net.plan n) result after
+  RoundsEnd net n result after = EventsEnd (network_apply kind) net (rounds net.plan n) result after

@@ -61,7 +61,7 @@ pub fn happen<T: TokenKind, P: Place<T>>(
 
 /// Does an event at these places, by its kind.
 #[inline(always)]
-fn do_event<T: TokenKind, P: Place<T>>(
+pub fn do_event<T: TokenKind, P: Place<T>>(
     wires: &Wires,
     places: &mut [P],
     ticket: u64,
@@ -96,7 +96,7 @@ fn do_event<T: TokenKind, P: Place<T>>(
 
 /// A token crosses the wire at a port.
 #[inline(always)]
-pub fn cross<T: TokenKind, P: Place<T>>(
+fn cross<T: TokenKind, P: Place<T>>(
     wires: &Wires,
     places: &mut [P],
     ticket: u64,
@@ -121,7 +121,7 @@ pub fn cross<T: TokenKind, P: Place<T>>(
 
 /// A port grants eight more tokens to the other end of its wire.
 #[inline(always)]
-pub fn credit<T: TokenKind, P: Place<T>>(
+fn credit<T: TokenKind, P: Place<T>>(
     wires: &Wires,
     places: &mut [P],
     ticket: u64,
@@ -147,7 +147,7 @@ pub fn credit<T: TokenKind, P: Place<T>>(
 
 /// An input of a switch takes a turn.
 #[inline(always)]
-pub fn input<T: TokenKind, P: Place<T>>(
+fn input<T: TokenKind, P: Place<T>>(
     plan: &Plan,
     places: &mut [P],
     ticket: u64,
@@ -176,7 +176,7 @@ pub fn input<T: TokenKind, P: Place<T>>(
 }
 
 /// An input of a switch claims an output.
-pub fn claim<T: TokenKind, P: Place<T>>(
+fn claim<T: TokenKind, P: Place<T>>(
     plan: &Plan,
     places: &mut [P],
     ticket: u64,
@@ -273,7 +273,7 @@ fn send<T: TokenKind, P: Place<T>>(
 
 /// The first token that came in at a terminal arrives.
 #[inline(always)]
-pub fn drain<T: TokenKind, P: Place<T>>(
+fn drain<T: TokenKind, P: Place<T>>(
     plan: &Plan,
     places: &mut [P],
     ticket: u64,

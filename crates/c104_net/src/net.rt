@@ -243,7 +243,15 @@ impl<T: TokenKind> NetOf<T> {
     pub fn rounds_watched<W: Watch>(&mut self, count: u32, watch: &mut W) -> Result<(), EventFault>
         ensures { RoundsEnd T.kind self.old count result self.new }
     {
-        rounds_at(&self.wires, self.places.as_mut_slice(), count, watch)
+        // Nothing is kept of acts, so that no one asks for the tickets.
+        let mut done = 0;
+        rounds_at(
+            &self.wires,
+            self.places.as_mut_slice(),
+            &mut done,
+            count,
+            watch,
+        )
     }
 
     /// Applies events in turn, and gives their answers. The only error is out of memory for the

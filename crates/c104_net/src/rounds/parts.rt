@@ -1,74 +1,78 @@
 //! The parts of a round: all its events of one kind. Each tells whether any of them was done.
-ghost use Rattle.std.specs.Prelude.{◌≡◌, ◌<◌, false, flat_map, length, map};
+ghost use Rattle.std.specs.Prelude.{◌≡◌, ◌<◌, flat_map, length, map};
 ghost use Rattle.c104_event.specs.declared.events.Event.TheVariants as event;
 ghost use Rattle.c104_regs.specs.declared.registers.TheConstants.{LINKS};
-ghost use Rattle.c104_net.specs.Network.{network_of};
 ghost use Rattle.c104_net.specs.Rounds.{all_claims, all_drains, claims_of, switch_claims};
 ghost use Rattle.c104_net.specs.Rounds.{turn_at, wired_ports};
 ghost use Rattle.c104_net.specs.RoundParts.{PartEnds};
+ghost use Rattle.c104_net.specs.Stages.{is_kept_full, stage_apply, stage_of};
 
-use super::attempts::{try_claim, try_drain};
+use super::attempts::attempt;
 use super::ports::walk_ports;
 use crate::place::Place;
 use crate::places::{next_claim_at, next_wanting_at};
 use crate::port_part::PortPart;
 use crate::wires::Wires;
-use c104_event::EventFault;
+use c104_event::{Event, EventFault};
 use c104_token::TokenKind;
 
 /// Credit of each wired port.
 pub fn credit_ports<T: TokenKind, P: Place<T>>(
     wires: &Wires,
     places: &mut [P],
+    count: &mut u64,
 ) -> Result<bool, EventFault>
-    requires never_full { (p : P) → P.full p ≡ false }
-    ensures { PartEnds T.kind
-        (network_of wires.now (map P.state places.old)) (map event.Credit (wired_ports wires.now))
-        result (network_of wires.now (map P.state places.new)) }
+    requires full { (p : P) → P.full p ≡ is_kept_full P.keeps (P.trace p) }
+    ensures { PartEnds (stage_apply T.kind P.keeps)
+        (stage_of P.state P.start P.trace wires.now places.old count.old) (map event.Credit (wired_ports wires.now))
+        result (stage_of P.state P.start P.trace wires.now places.new count.new) }
 {
-    walk_ports(wires, places, PortPart::Credit)
+    walk_ports(wires, places, count, PortPart::Credit)
 }
 
 /// A crossing from each wired port.
 pub fn cross_ports<T: TokenKind, P: Place<T>>(
     wires: &Wires,
     places: &mut [P],
+    count: &mut u64,
 ) -> Result<bool, EventFault>
-    requires never_full { (p : P) → P.full p ≡ false }
-    ensures { PartEnds T.kind
-        (network_of wires.now (map P.state places.old)) (map event.Cross (wired_ports wires.now))
-        result (network_of wires.now (map P.state places.new)) }
+    requires full { (p : P) → P.full p ≡ is_kept_full P.keeps (P.trace p) }
+    ensures { PartEnds (stage_apply T.kind P.keeps)
+        (stage_of P.state P.start P.trace wires.now places.old count.old) (map event.Cross (wired_ports wires.now))
+        result (stage_of P.state P.start P.trace wires.now places.new count.new) }
 {
-    walk_ports(wires, places, PortPart::Cross)
+    walk_ports(wires, places, count, PortPart::Cross)
 }
 
 /// A turn of each wired input.
 pub fn turn_inputs<T: TokenKind, P: Place<T>>(
     wires: &Wires,
     places: &mut [P],
+    count: &mut u64,
 ) -> Result<bool, EventFault>
-    requires never_full { (p : P) → P.full p ≡ false }
-    ensures { PartEnds T.kind
-        (network_of wires.now (map P.state places.old)) (flat_map turn_at (wired_ports wires.now))
-        result (network_of wires.now (map P.state places.new)) }
+    requires full { (p : P) → P.full p ≡ is_kept_full P.keeps (P.trace p) }
+    ensures { PartEnds (stage_apply T.kind P.keeps)
+        (stage_of P.state P.start P.trace wires.now places.old count.old) (flat_map turn_at (wired_ports wires.now))
+        result (stage_of P.state P.start P.trace wires.now places.new count.new) }
 {
-    walk_ports(wires, places, PortPart::Turn)
+    walk_ports(wires, places, count, PortPart::Turn)
 }
 
 /// The claims of all switches.
 pub fn claim_outputs<T: TokenKind, P: Place<T>>(
     wires: &Wires,
     places: &mut [P],
+    count: &mut u64,
 ) -> Result<bool, EventFault>
-    requires never_full { (p : P) → P.full p ≡ false }
-    ensures { PartEnds T.kind
-        (network_of wires.now (map P.state places.old)) (all_claims (length wires.now.switches))
-        result (network_of wires.now (map P.state places.new)) }
+    requires full { (p : P) → P.full p ≡ is_kept_full P.keeps (P.trace p) }
+    ensures { PartEnds (stage_apply T.kind P.keeps)
+        (stage_of P.state P.start P.trace wires.now places.old count.old) (all_claims (length wires.now.switches))
+        result (stage_of P.state P.start P.trace wires.now places.new count.new) }
 {
     let mut changed = false;
     let switches = wires.plan().switches().len();
     for switch in 0..switches {
-        let done = claim_in_switch(wires, places, switch)?;
+        let done = claim_in_switch(wires, places, count, switch)?;
         changed |= done;
     }
     Ok(changed)
@@ -78,18 +82,19 @@ pub fn claim_outputs<T: TokenKind, P: Place<T>>(
 fn claim_in_switch<T: TokenKind, P: Place<T>>(
     wires: &Wires,
     places: &mut [P],
+    count: &mut u64,
     switch: usize,
 ) -> Result<bool, EventFault>
-    requires never_full { (p : P) → P.full p ≡ false }
+    requires full { (p : P) → P.full p ≡ is_kept_full P.keeps (P.trace p) }
     requires switch { switch < length wires.now.switches }
-    ensures { PartEnds T.kind
-        (network_of wires.now (map P.state places.old)) (switch_claims switch)
-        result (network_of wires.now (map P.state places.new)) }
+    ensures { PartEnds (stage_apply T.kind P.keeps)
+        (stage_of P.state P.start P.trace wires.now places.old count.old) (switch_claims switch)
+        result (stage_of P.state P.start P.trace wires.now places.new count.new) }
 {
     let mut changed = false;
     let mut from = 0;
     while let Some(input) = next_wanting_at(places, switch, from) {
-        let done = claim_for_input(wires, places, switch, input)?;
+        let done = claim_for_input(wires, places, count, switch, input)?;
         changed |= done;
         from = input + 1;
     }
@@ -101,20 +106,30 @@ fn claim_in_switch<T: TokenKind, P: Place<T>>(
 fn claim_for_input<T: TokenKind, P: Place<T>>(
     wires: &Wires,
     places: &mut [P],
+    count: &mut u64,
     switch: usize,
     input: usize,
 ) -> Result<bool, EventFault>
-    requires never_full { (p : P) → P.full p ≡ false }
+    requires full { (p : P) → P.full p ≡ is_kept_full P.keeps (P.trace p) }
     requires switch { switch < length wires.now.switches }
     requires input { input < LINKS }
-    ensures { PartEnds T.kind
-        (network_of wires.now (map P.state places.old)) (claims_of switch input)
-        result (network_of wires.now (map P.state places.new)) }
+    ensures { PartEnds (stage_apply T.kind P.keeps)
+        (stage_of P.state P.start P.trace wires.now places.old count.old) (claims_of switch input)
+        result (stage_of P.state P.start P.trace wires.now places.new count.new) }
 {
     let mut changed = false;
     let mut from = 0;
     while let Some(output) = next_claim_at(places, switch, input, from) {
-        let done = try_claim(wires, places, switch, input, output)?;
+        let done = attempt(
+            wires,
+            places,
+            count,
+            &Event::Claim {
+                switch,
+                input,
+                output,
+            },
+        )?;
         changed |= done;
         from = output + 1;
     }
@@ -125,16 +140,17 @@ fn claim_for_input<T: TokenKind, P: Place<T>>(
 pub fn drain_terminals<T: TokenKind, P: Place<T>>(
     wires: &Wires,
     places: &mut [P],
+    count: &mut u64,
 ) -> Result<bool, EventFault>
-    requires never_full { (p : P) → P.full p ≡ false }
-    ensures { PartEnds T.kind
-        (network_of wires.now (map P.state places.old)) (all_drains (length wires.now.terminals))
-        result (network_of wires.now (map P.state places.new)) }
+    requires full { (p : P) → P.full p ≡ is_kept_full P.keeps (P.trace p) }
+    ensures { PartEnds (stage_apply T.kind P.keeps)
+        (stage_of P.state P.start P.trace wires.now places.old count.old) (all_drains (length wires.now.terminals))
+        result (stage_of P.state P.start P.trace wires.now places.new count.new) }
 {
     let mut changed = false;
     let terminals = wires.plan().terminals().len();
     for terminal in 0..terminals {
-        let done = try_drain(wires, places, terminal)?;
+        let done = attempt(wires, places, count, &Event::Drain { terminal })?;
         changed |= done;
     }
     Ok(changed)

@@ -5,18 +5,19 @@
 ghost use Rattle.std.specs.Prelude.{◌≡◌, ◌<◌, ◌≤◌, ℕ, None, false, true, flat_map, length, map, unwrap_or, IfSome, Ok};
 ghost use Rattle.c104_describe.specs.declared.ports.Port.TheVariants as port;
 ghost use Rattle.c104_regs.specs.declared.registers.TheConstants.{LINKS};
-ghost use Rattle.c104_net.specs.Network.{network_of, wired_fault};
+ghost use Rattle.c104_net.specs.Network.{wired_fault};
 ghost use Rattle.c104_net.specs.PortParts.{port_events, wired_events};
 ghost use Rattle.std.specs.List.{range_with_len};
-ghost use Rattle.c104_net.specs.Rounds.{is_wired, wired_links, wired_ports, wired_terminals};
+ghost use Rattle.c104_net.specs.Rounds.{is_wired, turn_at, wired_links, wired_ports, wired_terminals};
 ghost use Rattle.c104_net.specs.RoundParts.{PartEnds};
+ghost use Rattle.c104_net.specs.Stages.{is_kept_full, stage_apply, stage_of};
 
-use super::attempts::{try_credit, try_cross, try_turn};
+use super::attempts::attempt;
 use crate::place::Place;
 use crate::places::{can_credit_out_at, can_leave_at, next_ready_at};
 use crate::port_part::PortPart;
 use crate::wires::Wires;
-use c104_event::{EventFault, Port};
+use c104_event::{Event, EventFault, Port};
 use c104_token::TokenKind;
 
 /// The events of a part at all wired ports.
@@ -24,16 +25,17 @@ use c104_token::TokenKind;
 pub fn walk_ports<T: TokenKind, P: Place<T>>(
     wires: &Wires,
     places: &mut [P],
+    count: &mut u64,
     part: PortPart,
 ) -> Result<bool, EventFault>
-    requires never_full { (p : P) → P.full p ≡ false }
-    ensures { PartEnds T.kind
-        (network_of wires.now (map P.state places.old))
+    requires full { (p : P) → P.full p ≡ is_kept_full P.keeps (P.trace p) }
+    ensures { PartEnds (stage_apply T.kind P.keeps)
+        (stage_of P.state P.start P.trace wires.now places.old count.old)
         (flat_map (port_events part) (wired_ports wires.now))
-        result (network_of wires.now (map P.state places.new)) }
+        result (stage_of P.state P.start P.trace wires.now places.new count.new) }
 {
-    let of_switches = walk_switches(wires, places, part)?;
-    let of_terminals = walk_terminals(wires, places, part)?;
+    let of_switches = walk_switches(wires, places, count, part)?;
+    let of_terminals = walk_terminals(wires, places, count, part)?;
     Ok(of_switches | of_terminals)
 }
 
@@ -42,19 +44,20 @@ pub fn walk_ports<T: TokenKind, P: Place<T>>(
 fn walk_switches<T: TokenKind, P: Place<T>>(
     wires: &Wires,
     places: &mut [P],
+    count: &mut u64,
     part: PortPart,
 ) -> Result<bool, EventFault>
-    requires never_full { (p : P) → P.full p ≡ false }
-    ensures { PartEnds T.kind
-        (network_of wires.now (map P.state places.old))
+    requires full { (p : P) → P.full p ≡ is_kept_full P.keeps (P.trace p) }
+    ensures { PartEnds (stage_apply T.kind P.keeps)
+        (stage_of P.state P.start P.trace wires.now places.old count.old)
         (flat_map (port_events part)
         (flat_map (wired_links wires.now) (range_with_len 0 (length wires.now.switches))))
-        result (network_of wires.now (map P.state places.new)) }
+        result (stage_of P.state P.start P.trace wires.now places.new count.new) }
 {
     let mut changed = false;
     let switches = wires.plan().switches().len();
     for switch in 0..switches {
-        let done = walk_links(wires, places, part, switch)?;
+        let done = walk_links(wires, places, count, part, switch)?;
         changed |= done;
     }
     Ok(changed)
@@ -65,20 +68,21 @@ fn walk_switches<T: TokenKind, P: Place<T>>(
 fn walk_links<T: TokenKind, P: Place<T>>(
     wires: &Wires,
     places: &mut [P],
+    count: &mut u64,
     part: PortPart,
     switch: usize,
 ) -> Result<bool, EventFault>
-    requires never_full { (p : P) → P.full p ≡ false }
+    requires full { (p : P) → P.full p ≡ is_kept_full P.keeps (P.trace p) }
     requires switch { switch < length wires.now.switches }
-    ensures { PartEnds T.kind
-        (network_of wires.now (map P.state places.old))
+    ensures { PartEnds (stage_apply T.kind P.keeps)
+        (stage_of P.state P.start P.trace wires.now places.old count.old)
         (flat_map (port_events part) (wired_links wires.now switch))
-        result (network_of wires.now (map P.state places.new)) }
+        result (stage_of P.state P.start P.trace wires.now places.new count.new) }
 {
     let mut changed = false;
     let mut from = 0;
     while let Some(link) = next_link(wires, places, part, switch, from) {
-        let done = try_at(wires, places, part, Port::Switch(switch, link))?;
+        let done = try_at(wires, places, count, part, Port::Switch(switch, link))?;
         changed |= done;
         from = link + 1;
     }
@@ -95,10 +99,10 @@ fn next_link<T: TokenKind, P: Place<T>>(
     from: usize,
 ) -> Option<usize>
     requires { switch < length wires.now.switches }
-    ensures passed { (l : ℕ) → from ≤ l → l < unwrap_or result LINKS → PartEnds T.kind
-        (network_of wires.now (map P.state places.now))
+    ensures passed { (l count : ℕ) → from ≤ l → l < unwrap_or result LINKS → PartEnds (stage_apply T.kind P.keeps)
+        (stage_of P.state P.start P.trace wires.now places.now count)
         (wired_events wires.now part (port.Switch switch l))
-        (Ok false) (network_of wires.now (map P.state places.now)) }
+        (Ok false) (stage_of P.state P.start P.trace wires.now places.now count) }
     ensures found { IfSome result (λ l. (from ≤ l) × (l < LINKS)) }
     ensures wired { IfSome result (λ l. wired_fault wires.now (port.Switch switch l) ≡ None) }
     ensures linked { IfSome result (λ l. is_wired wires.now (port.Switch switch l) ≡ true) }
@@ -112,18 +116,19 @@ fn next_link<T: TokenKind, P: Place<T>>(
 fn walk_terminals<T: TokenKind, P: Place<T>>(
     wires: &Wires,
     places: &mut [P],
+    count: &mut u64,
     part: PortPart,
 ) -> Result<bool, EventFault>
-    requires never_full { (p : P) → P.full p ≡ false }
-    ensures { PartEnds T.kind
-        (network_of wires.now (map P.state places.old))
+    requires full { (p : P) → P.full p ≡ is_kept_full P.keeps (P.trace p) }
+    ensures { PartEnds (stage_apply T.kind P.keeps)
+        (stage_of P.state P.start P.trace wires.now places.old count.old)
         (flat_map (port_events part) (wired_terminals wires.now))
-        result (network_of wires.now (map P.state places.new)) }
+        result (stage_of P.state P.start P.trace wires.now places.new count.new) }
 {
     let mut changed = false;
     let terminals = wires.plan().terminals().len();
     for terminal in 0..terminals {
-        let done = try_terminal(wires, places, part, terminal)?;
+        let done = try_terminal(wires, places, count, part, terminal)?;
         changed |= done;
     }
     Ok(changed)
@@ -134,15 +139,16 @@ fn walk_terminals<T: TokenKind, P: Place<T>>(
 fn try_terminal<T: TokenKind, P: Place<T>>(
     wires: &Wires,
     places: &mut [P],
+    count: &mut u64,
     part: PortPart,
     terminal: usize,
 ) -> Result<bool, EventFault>
-    requires never_full { (p : P) → P.full p ≡ false }
+    requires full { (p : P) → P.full p ≡ is_kept_full P.keeps (P.trace p) }
     requires terminal { terminal < length wires.now.terminals }
-    ensures { PartEnds T.kind
-        (network_of wires.now (map P.state places.old))
+    ensures { PartEnds (stage_apply T.kind P.keeps)
+        (stage_of P.state P.start P.trace wires.now places.old count.old)
         (wired_events wires.now part (port.Terminal terminal))
-        result (network_of wires.now (map P.state places.new)) }
+        result (stage_of P.state P.start P.trace wires.now places.new count.new) }
 {
     if !wires.is_linked(terminal) {
         return Ok(false);
@@ -150,7 +156,7 @@ fn try_terminal<T: TokenKind, P: Place<T>>(
     if !may_be_ready(wires, places, part, terminal) {
         return Ok(false);
     }
-    try_at(wires, places, part, Port::Terminal(terminal))
+    try_at(wires, places, count, part, Port::Terminal(terminal))
 }
 
 /// Whether a wired terminal may be ready for its event of a part. It has no input.
@@ -162,9 +168,9 @@ fn may_be_ready<T: TokenKind, P: Place<T>>(
     terminal: usize,
 ) -> bool
     requires { wired_fault wires.now (port.Terminal terminal) ≡ None }
-    ensures { result ≡ false → PartEnds T.kind
-        (network_of wires.now (map P.state places.now)) (port_events part (port.Terminal terminal))
-        (Ok false) (network_of wires.now (map P.state places.now)) }
+    ensures { (count : ℕ) → result ≡ false → PartEnds (stage_apply T.kind P.keeps)
+        (stage_of P.state P.start P.trace wires.now places.now count) (port_events part (port.Terminal terminal))
+        (Ok false) (stage_of P.state P.start P.trace wires.now places.now count) }
 {
     let end = wires.near_end(Port::Terminal(terminal));
     match part {
@@ -179,17 +185,46 @@ fn may_be_ready<T: TokenKind, P: Place<T>>(
 fn try_at<T: TokenKind, P: Place<T>>(
     wires: &Wires,
     places: &mut [P],
+    count: &mut u64,
     part: PortPart,
     port: Port,
 ) -> Result<bool, EventFault>
-    requires never_full { (p : P) → P.full p ≡ false }
-    ensures { PartEnds T.kind
-        (network_of wires.now (map P.state places.old)) (port_events part port)
-        result (network_of wires.now (map P.state places.new)) }
+    requires full { (p : P) → P.full p ≡ is_kept_full P.keeps (P.trace p) }
+    ensures { PartEnds (stage_apply T.kind P.keeps)
+        (stage_of P.state P.start P.trace wires.now places.old count.old) (port_events part port)
+        result (stage_of P.state P.start P.trace wires.now places.new count.new) }
 {
     match part {
-        PortPart::Credit => try_credit(wires, places, port),
-        PortPart::Cross => try_cross(wires, places, port),
-        PortPart::Turn => try_turn(wires, places, port),
+        PortPart::Credit => attempt(wires, places, count, &Event::Credit(port)),
+        PortPart::Cross => attempt(wires, places, count, &Event::Cross(port)),
+        PortPart::Turn => try_turn(wires, places, count, port),
+    }
+}
+
+/// The input at a port takes a turn, with word 0, if it is a switch's.
+#[inline(always)]
+fn try_turn<T: TokenKind, P: Place<T>>(
+    wires: &Wires,
+    places: &mut [P],
+    count: &mut u64,
+    port: Port,
+) -> Result<bool, EventFault>
+    requires full { (p : P) → P.full p ≡ is_kept_full P.keeps (P.trace p) }
+    ensures { PartEnds (stage_apply T.kind P.keeps)
+        (stage_of P.state P.start P.trace wires.now places.old count.old) (turn_at port)
+        result (stage_of P.state P.start P.trace wires.now places.new count.new) }
+{
+    match port {
+        Port::Switch(switch, link) => attempt(
+            wires,
+            places,
+            count,
+            &Event::Input {
+                switch,
+                link,
+                word: 0,
+            },
+        ),
+        Port::Terminal(_) => Ok(false),
     }
 }
