@@ -19,6 +19,7 @@ pub mod PartRuns
 pub mod StageSteps
 pub mod IdleEvents
 pub mod RoundJoins
+pub mod RecordedRuns
 pub mod WiredPorts
 pub mod PortWalks
 pub mod ReadyNodes

@@ -27,7 +27,7 @@ fulls_same : (nodes : List (NodeRecord × ℕ)) → map (λ (n : NodeRecord × �
 fulls_same [] = refl
 fulls_same (n ∷ nodes) = ap (λ bs. is_trace_full n.0.trace ∷ bs) (fulls_same nodes)
 
-starts_same : (new old : List (NodeRecord × ℕ)) → map (λ (n : NodeRecord × ℕ). Some n.0.start) new ≡ map (λ (n : NodeRecord × ℕ). Some n.0.start) old → map node_start new ≡ map node_start old
+pub starts_same : (new old : List (NodeRecord × ℕ)) → map (λ (n : NodeRecord × ℕ). Some n.0.start) new ≡ map (λ (n : NodeRecord × ℕ). Some n.0.start) old → map node_start new ≡ map node_start old
 starts_same [] [] is = refl
 starts_same [] (m ∷ old) is = cc
 starts_same (n ∷ new) [] is = cc
@@ -54,7 +54,7 @@ module _ (net after : Network Token) (f : EventFault) where
   there_stays e (Some g) was = ap (λ (t : Answered). t.1) was
 
 -- so does one that isn't done
-undone_stays : (net after : Network Token) (full : Bool) (e : Event) (answer : Result Reply EventFault) → is_done answer ≡ false → AnswersWith plain_kind full net e answer after → after ≡ net
+pub undone_stays : (net after : Network Token) (full : Bool) (e : Event) (answer : Result Reply EventFault) → is_done answer ≡ false → AnswersWith plain_kind full net e answer after → after ≡ net
 undone_stays net after full e (Ok r) undone (inl due) = undone_leaves plain_kind net after e r undone (inl due)
 undone_stays net after full e (Ok r) undone (inr refused) = refused.2
 undone_stays net after full e (Err f) undone (inl due) = there_stays net after f e (event_fault net.plan e) due
@@ -85,7 +85,7 @@ undone_deeds f plan ticket e (Ok (reply.Token x)) undone = cc
 undone_deeds f plan ticket e (Ok (reply.Control bytes)) undone = cc
 undone_deeds f plan ticket e (Err g) undone = refl
 
-kept_same : (f g : ℕ → Bool) → ((k : ℕ) → f k ≡ g k) → (plan : Plan) (ticket : ℕ) (e : Event) (answer : Result Reply EventFault) → kept_of (event_deeds f plan ticket e) answer ≡ kept_of (event_deeds g plan ticket e) answer
+pub kept_same : (f g : ℕ → Bool) → ((k : ℕ) → f k ≡ g k) → (plan : Plan) (ticket : ℕ) (e : Event) (answer : Result Reply EventFault) → kept_of (event_deeds f plan ticket e) answer ≡ kept_of (event_deeds g plan ticket e) answer
 kept_same f g same plan ticket e (Ok r) = deeds_same f g same plan ticket e r
 kept_same f g same plan ticket e (Err x) = refl
 

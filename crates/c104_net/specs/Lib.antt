@@ -19,6 +19,7 @@ pub mod Finished
 pub mod EventRuns
 pub mod Stages
 pub mod Rounds
+pub mod RecordedRuns
 pub mod LinkedSets
 pub mod PortParts
 pub mod RoundParts

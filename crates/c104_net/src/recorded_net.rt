@@ -6,6 +6,8 @@ ghost use Rattle.c104_describe.specs.PlanImage.{Fits};
 ghost use Rattle.c104_net.specs.Network.{network_arrived, placed_network};
 ghost use Rattle.c104_net.specs.NetRecords.{is_done, ticket_after, IsFirstRecord, IsNetRecord, RecordsEvent};
 
+mod rounds;
+
 use crate::acts::Entry;
 use crate::events::happen;
 use crate::faults::PlaceFault;
