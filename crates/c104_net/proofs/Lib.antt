@@ -37,3 +37,27 @@ pub mod QuietNodes
 mod UnreadyNodes
 mod UnreadyEvents
 mod EventReasons
+pub mod Channels
+pub mod PacketInvariant
+pub mod PortChanges
+pub mod TokenMoves
+pub mod PacketSends
+pub mod HeaderReads
+pub mod InputMoves
+pub mod ReceivedPieces
+pub mod NodeViews
+pub mod LinkActs
+pub mod PlanWires
+pub mod LinkEvents
+pub mod CommandEvents
+pub mod InputEvents
+pub mod QuietPorts
+pub mod RunSteps
+pub mod Promises
+pub mod TokenMaps
+pub mod SwitchMaps
+pub mod StepMaps
+pub mod StartMaps
+pub mod TracedRuns
+pub mod SureOrigins
+pub mod OriginPieces

@@ -25,3 +25,8 @@ pub mod PortParts
 pub mod RoundParts
 pub mod PlaceFaults
 pub mod Quiet
+pub mod Traced
+pub mod TracedRuns
+pub mod Deliveries
+pub mod Unchanged
+pub mod Origins

@@ -1,0 +1,76 @@
+-- The origins of what arrived are those of its whole pieces in turn, and a received packet's piece has that packet's.
+use Rattle.c104_check.specs.Routes.{Routes}
+use Rattle.c104_describe.specs.declared.ports.Port.{Port}
+use Rattle.c104_net.proofs.HeaderReads.{bytes_push}
+use Rattle.c104_net.proofs.PacketInvariant.{bytes_only}
+use Rattle.c104_net.specs.Deliveries.{IsDelivered, cut_at, deletes}
+use Rattle.c104_net.specs.Network.{Network}
+use Rattle.c104_net.specs.Origins.{origin_of, origins_in}
+use Rattle.c104_net.specs.Terminals.{sent_from, sent_tokens}
+use Rattle.c104_net.specs.Traced.{traced_kind}
+use Rattle.c104_net.specs.declared.origins.Origin.{Origin}
+use Rattle.c104_net.specs.declared.traced.Traced.{Traced}
+use Rattle.c104_token.specs.Cut.{unfinished_piece, whole_pieces}
+use Rattle.c104_token.specs.Tokens.{end_token, is_end}
+use Rattle.c104_token.specs.declared.tokens.Mark.{Mark}
+use Rattle.c104_token.specs.declared.tokens.Token.{Token}
+use Rattle.c104_token.specs.declared.tokens.Token.TheVariants.{Byte}
+use Rattle.std.proofs.Common.{Bool, List, None, Option, Some, [], ap, append-nil, append_assoc, arith, drop, false, flat_map, if◌then◌else◌, length, map, refl, suc, sym, true, zero, ℕ, ⊎_elim, ◌++◌, ◌∙◌, ◌∷◌, ◌≡◌, ◌≤◌}
+use Rattle.std.proofs.lemmas.Bool.{cases_Bool, leb-true}
+use Rattle.std.specs.Prelude.{option_to_list}
+use Rattle.c104_token.specs.declared.tokens.Mark.TheVariants as mark
+use Rattle.c104_describe.specs.declared.ports.Port.TheVariants as port
+
+abbrev plain : Traced → Token
+plain x = x.token
+
+origins_append : (xs ys : List Traced) → origins_in (xs ++ ys) ≡ origins_in xs ++ origins_in ys
+origins_append [] ys = refl
+origins_append (x ∷ xs) ys = ap (λ z. option_to_list (origin_of x) ++ z) (origins_append xs ys) ∙ sym (append_assoc (option_to_list (origin_of x)) (origins_in xs) (origins_in ys))
+
+-- the origins of the pieces, and then of what is unfinished
+pieces_origins : (front xs : List Traced) → flat_map origins_in (whole_pieces plain front xs) ++ origins_in (unfinished_piece plain front xs) ≡ origins_in (front ++ xs)
+pieces_origins front [] = ap origins_in (sym (append-nil front))
+pieces_origins front (x ∷ xs) = ⊎_elim
+    (λ (e : is_end x.token ≡ true). rw e (
+    append_assoc (origins_in (front ++ x ∷ [])) (flat_map origins_in (whole_pieces plain [] xs)) (origins_in (unfinished_piece plain [] xs))
+    ∙ ap (λ z. origins_in (front ++ x ∷ []) ++ z) (pieces_origins [] xs) ∙ sym (origins_append (front ++ x ∷ []) xs) ∙ ap origins_in (append_assoc front (x ∷ []) xs)))
+    (λ (e : is_end x.token ≡ false). rw e (pieces_origins (front ++ x ∷ []) xs ∙ ap origins_in (append_assoc front (x ∷ []) xs)))
+    (cases_Bool (is_end x.token))
+
+bytes_none : (xs : List Traced) → bytes_only xs → origins_in xs ≡ []
+bytes_none [] h = refl
+bytes_none (x ∷ xs) h = rw h.0 (bytes_none xs h.1)
+
+unfinished_none : (front xs : List Traced) → bytes_only front → origins_in (unfinished_piece plain front xs) ≡ []
+unfinished_none front [] h = bytes_none front h
+unfinished_none front (x ∷ xs) h = ⊎_elim
+    (λ (e : is_end x.token ≡ true). rw e (unfinished_none [] xs tt))
+    (λ (e : is_end x.token ≡ false). rw e (unfinished_none (front ++ x ∷ []) xs (bytes_push front x h e)))
+    (cases_Bool (is_end x.token))
+
+-- the origins of what arrived, piece by piece
+pub received_origins : (xs : List Traced) → origins_in xs ≡ flat_map origins_in (whole_pieces plain [] xs)
+received_origins xs = sym (pieces_origins [] xs) ∙ ap (λ z. flat_map origins_in (whole_pieces plain [] xs) ++ z) (unfinished_none [] xs tt) ∙ append-nil (flat_map origins_in (whole_pieces plain [] xs))
+
+abbrev pub packet_origin : ℕ → ℕ → Origin
+packet_origin a n = record { terminal = a; number = n }
+
+sent_origin : (a n j k : ℕ) (bytes : List ℕ) (m : Mark) → k ≤ length bytes → origins_in (drop k (sent_from traced_kind a n j (map Byte bytes ++ end_token m ∷ []))) ≡ packet_origin a n ∷ []
+sent_origin a n j zero [] mark.Eop h = refl
+sent_origin a n j zero [] mark.Eom h = refl
+sent_origin a n j (suc k) [] m h = absurd (omega (arith, h))
+sent_origin a n j zero (b ∷ bytes) m h = sent_origin a n (suc j) zero bytes m (omega arith)
+sent_origin a n j (suc k) (b ∷ bytes) m h = sent_origin a n (suc j) k bytes m (omega (arith, h))
+
+-- a received packet is named by its one origin
+pub delivered_origin : (routes : Routes) (net : Network Traced) (t : ℕ) (piece : List Traced) (d : IsDelivered routes net t piece) → origins_in piece ≡ packet_origin d.terminal d.number ∷ []
+delivered_origin routes net t piece d = ap origins_in d.whole ∙ by_cut (routes.peer (port.Terminal t))
+  where
+    short : (b : Bool) → (if b then routes.header else 0) ≤ length d.packet.bytes
+    short true = leb-true routes.header (length d.packet.bytes) d.complete
+    short false = omega arith
+
+    by_cut : (q : Option Port) → origins_in (drop (cut_at routes q) (sent_tokens traced_kind d.terminal d.number d.packet)) ≡ packet_origin d.terminal d.number ∷ []
+    by_cut None = sent_origin d.terminal d.number 0 0 d.packet.bytes d.packet.mark (omega arith)
+    by_cut (Some p) = sent_origin d.terminal d.number 0 (if deletes routes p then routes.header else 0) d.packet.bytes d.packet.mark (short (deletes routes p))

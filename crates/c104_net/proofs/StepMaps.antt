@@ -1,0 +1,210 @@
+-- Events over one kind of token and over another: what is told of tokens beside themselves can be taken away.
+use Rattle.c104_switch.specs.Group.{is_in_group}
+use Rattle.c104_describe.specs.Wiring.{peer}
+use Rattle.c104_event.specs.declared.events.Event.{Event}
+use Rattle.c104_event.specs.declared.faults.EventFault.{EventFault}
+use Rattle.c104_link.specs.Buffers.{Outgoing, outgoing_put}
+use Rattle.c104_link.specs.Steps.{joint_step_at, step_at}
+use Rattle.c104_net.proofs.SwitchMaps.{control_node_map, decided_map, owned_map}
+use Rattle.c104_net.proofs.TokenMaps.{bind_both, bind_same, credited_nodes_map, crossed_map, drain_node_map, drop_map, first_map, from_map, if_map, map_phase, place_map, put_all_map, put_map, require_map, with_map}
+use Rattle.c104_net.specs.Ends.{end_of}
+use Rattle.c104_net.specs.Network.{Network, control_step, done_step, event_fault, limit_fault, limited_node, network_apply, network_step, outcome_if_possible, outcome_if_ready, outcome_within_limit, terminal_place, token_step}
+use Rattle.c104_net.specs.Nodes.{Node, arrived_tokens, node_claim, node_control, node_drain, node_input, node_send, waiting_tokens}
+use Rattle.c104_net.specs.Runs.{IsDoneRun}
+use Rattle.c104_net.specs.Terminals.{sent_from, sent_tokens}
+use Rattle.c104_net.specs.TracedRuns.{map_input, map_network, map_node, map_outgoing, map_switch}
+use Rattle.c104_regs.specs.Settings.{header_length}
+use Rattle.c104_regs.specs.declared.settings.Settings.{Settings}
+use Rattle.c104_switch.specs.Actions.{Reply}
+use Rattle.c104_switch.specs.Claims.{input_claim, inputs_claim, put_header, switch_claim}
+use Rattle.c104_switch.specs.Headers.{header_value, phase_after_header, random_bytes, random_from, random_header}
+use Rattle.c104_switch.specs.Switch.{Input, Switch, is_owned}
+use Rattle.c104_switch.specs.Turns.{header_turn, input_after_token, input_in_phase, input_turn, phase_after_token, switch_input, turn_by_phase}
+use Rattle.c104_switch.specs.declared.phase.Phase.{Phase}
+use Rattle.c104_switch.specs.declared.phase.Phase.TheVariants.{Fresh, Head, Sinking, Stream, Want}
+use Rattle.c104_token.specs.Kinds.{Kind}
+use Rattle.c104_token.specs.Packets.{packet_tokens}
+use Rattle.c104_token.specs.Tokens.{byte_of, is_end}
+use Rattle.c104_token.specs.declared.packets.Packet.{Packet}
+use Rattle.c104_token.specs.declared.tokens.Token.{Token}
+use Rattle.c104_token.specs.declared.tokens.Token.TheVariants.{Byte}
+use Rattle.std.proofs.Common.{Bool, List, None, Ok, Option, Result, Some, [], ap, false, length, map, nat_le, not, option_map, refl, slice_get, subst, suc, sym, true, ℕ, ⊎_elim, ◌&&◌, ◌++◌, ◌∙◌, ◌∷◌, ◌≡◌}
+use Rattle.std.proofs.lemmas.Bool.{cases_Bool}
+use Rattle.std.proofs.lemmas.List.{length-map, map-append}
+use Rattle.std.proofs.lemmas.Option.{slice_get-map}
+use Rattle.c104_event.specs.declared.events.Event.TheVariants as event
+use Rattle.c104_net.specs.declared.node.NodeOf.TheVariants as node
+use Rattle.c104_switch.specs.declared.actions.ReplyOf.TheVariants as reply
+use Rattle.c104_interval.specs.Selection as table
+
+module _ {A B : Type 0} (f : A → B) (from : Kind A) (to : Kind B) (plain_is : (x : A) → to.plain (f x) ≡ from.plain x) (random_is : (j b : ℕ) → to.random j (Byte b) ≡ f (from.random j (Byte b))) (sent_is : (t n j : ℕ) (x : Token) → to.sent t n j x ≡ f (from.sent t n j x)) where
+  bytes_map : (b : List A) → map (λ x. byte_of (to.plain x)) (map f b) ≡ map (λ x. byte_of (from.plain x)) b
+  bytes_map [] = refl
+  bytes_map (x ∷ b) = rw (plain_is x, bytes_map b) refl
+
+  goes_map : (p : Input A) (ph : Phase (List A)) (a b : Bool) → input_in_phase (map_input f p) (map_phase f ph) a b ≡ map_input f (input_in_phase p ph a b)
+  goes_map p ph a b = refl
+
+  used_map : (p : Input A) (ph : Phase (List A)) (a b : Bool) → input_after_token (map_input f p) (map_phase f ph) a b ≡ map_input f (input_after_token p ph a b)
+  used_map p ph a b = rw (drop_map f p.buffer.items) refl
+
+  read_map : (s : Settings) (b : List A) → ◌≡◌ {A = Phase (List B) × Bool} (phase_after_header to s (map f b)) (map_phase f (phase_after_header from s b).0, (phase_after_header from s b).1)
+  read_map s b = rw (length-map b f, bytes_map b) (⊎_elim
+      (λ (h : nat_le (header_length s) (length b) ≡ true). rw (h, decided_map f b (table.select s.table (header_value from b))) refl)
+      (λ (h : nat_le (header_length s) (length b) ≡ false). rw h refl)
+      (cases_Bool (nat_le (header_length s) (length b))))
+
+  header_map : (s : Settings) (p : Input A) (b : List A) (x : A) → header_turn to s (map_input f p) (map f b) (f x) ≡ map_input f (header_turn from s p b x)
+  header_map s p b x = rw (plain_is x) (⊎_elim
+      (λ (h : is_end (from.plain x) ≡ true). rw h (used_map p Fresh false true))
+      (λ (h : is_end (from.plain x) ≡ false). rw (h, ← map-append f b (x ∷ []), read_map s (b ++ x ∷ [])) (used_map p (phase_after_header from s (b ++ x ∷ [])).0 (phase_after_header from s (b ++ x ∷ [])).1 false))
+      (cases_Bool (is_end (from.plain x))))
+
+  random_from_map : (j : ℕ) (bs : List ℕ) → random_from to j bs ≡ map f (random_from from j bs)
+  random_from_map j [] = refl
+  random_from_map j (b ∷ bs) = rw (random_is j b, random_from_map (suc j) bs) refl
+
+  random_map : (s : Settings) (w : ℕ) → random_header to s w ≡ map f (random_header from s w)
+  random_map s w = random_from_map 0 (random_bytes s w)
+
+  after_map : (x : A) (ph : Phase (List A)) → phase_after_token to (f x) (map_phase f ph) ≡ map_phase f (phase_after_token from x ph)
+  after_map x ph = rw (plain_is x) (⊎_elim
+      (λ (h : is_end (from.plain x) ≡ true). rw h refl)
+      (λ (h : is_end (from.plain x) ≡ false). rw h refl)
+      (cases_Bool (is_end (from.plain x))))
+
+  abbrev map_sides : Input A × List (Outgoing A) → Input B × List (Outgoing B)
+  map_sides r = (map_input f r.0, map (map_outgoing f) r.1)
+
+  by_phase_map : (s : Settings) (word : ℕ) (p : Input A) (qs : List (Outgoing A)) (ph : Phase (List A)) (x : A) → turn_by_phase to s word (map_input f p) (map (map_outgoing f) qs) (map_phase f ph) (f x) ≡ option_map map_sides (turn_by_phase from s word p qs ph x)
+  by_phase_map s word p qs Fresh x = if_map (option_map map_sides) (s.randomize && not (is_end (from.plain x))) _ _ _ _ _ (ap (λ m. s.randomize && not (is_end m)) (plain_is x))
+      (rw (random_map s word, read_map s (random_header from s word)) refl)
+      (ap (λ z. Some (z, map (map_outgoing f) qs)) (header_map s p [] x))
+  by_phase_map s word p qs (Head b) x = ap (λ z. Some (z, map (map_outgoing f) qs)) (header_map s p b x)
+  by_phase_map s word p qs (Want b g) x = refl
+  by_phase_map s word p qs (Stream o) x = bind_both (map (map_outgoing f)) map_sides (step_at qs o (outgoing_put x)) _ _ _ (place_map (map_outgoing f) qs o (outgoing_put x) (outgoing_put (f x)) (put_map f x)) (λ rs.
+      ap (λ z. Some (z, map (map_outgoing f) rs)) (rw (after_map x (Stream o)) (used_map p (phase_after_token from x (Stream o)) false false)))
+  by_phase_map s word p qs Sinking x = ap (λ z. Some (z, map (map_outgoing f) qs)) (rw (after_map x Sinking) (used_map p (phase_after_token from x Sinking) false false))
+
+  turn_map : (s : Settings) (word : ℕ) (qs : List (Outgoing A)) (p : Input A) → input_turn to s word (map_input f p) (map (map_outgoing f) qs) ≡ option_map map_sides (input_turn from s word p qs)
+  turn_map s word qs p = bind_both f map_sides (slice_get p.buffer.items 0) _ _ _ (first_map f p.buffer.items) (λ x. by_phase_map s word p qs p.phase x)
+
+  input_map : (i word : ℕ) (S : Switch A) → switch_input to (map_switch f S) i word ≡ option_map (map_switch f) (switch_input from S i word)
+  input_map i word S = require_map (map_switch f) S.started _ _ (bind_same (map_switch f) (slice_get S.settings i) _ _ (λ s.
+      bind_both _ (map_switch f) (joint_step_at S.inputs i (λ p. input_turn from s word p S.outputs)) _ _ _ (with_map (map_input f) (map (map_outgoing f)) S.inputs i (λ p. input_turn from s word p S.outputs) (λ p. input_turn to s word p (map (map_outgoing f) S.outputs)) (turn_map s word S.outputs)) (λ r. refl)))
+
+  put_header_map : (s : Settings) (b : List A) (q : Outgoing A) → put_header s (map f b) (map_outgoing f q) ≡ option_map (map_outgoing f) (put_header s b q)
+  put_header_map s b q = if_map (option_map (map_outgoing f)) s.delete_header s.delete_header _ _ _ _ refl refl (put_all_map f b q)
+
+  claimed_map : (settings : List Settings) (p : Input A) (qs : List (Outgoing A)) (o : ℕ) (ph : Phase (List A)) → input_claim settings (map_input f p) (map (map_outgoing f) qs) o (map_phase f ph) ≡ option_map map_sides (input_claim settings p qs o ph)
+  claimed_map settings p qs o Fresh = refl
+  claimed_map settings p qs o (Head b) = refl
+  claimed_map settings p qs o (Want b g) = require_map map_sides (is_in_group settings g o) _ _ (bind_same map_sides (slice_get settings o) _ _ (λ t.
+      bind_both (map (map_outgoing f)) map_sides (step_at qs o (put_header t b)) _ _ _ (place_map (map_outgoing f) qs o (put_header t b) (put_header t (map f b)) (put_header_map t b)) (λ rs. refl)))
+  claimed_map settings p qs o (Stream q) = refl
+  claimed_map settings p qs o Sinking = refl
+
+  claim_map : (i o : ℕ) (S : Switch A) → switch_claim (map_switch f S) i o ≡ option_map (map_switch f) (switch_claim S i o)
+  claim_map i o S = require_map (map_switch f) S.started _ _ (bind_both (λ (z : List (Input A) × List (Outgoing A)). (map (map_input f) z.0, map (map_outgoing f) z.1)) (map_switch f) (inputs_claim S.settings S.inputs S.outputs i o) _ _ _ (claimed_at_map S.settings S.inputs S.outputs i o) (λ r. refl))
+    where
+      claimed_at_map : (settings : List Settings) (ps : List (Input A)) (qs : List (Outgoing A)) (i o : ℕ) → inputs_claim settings (map (map_input f) ps) (map (map_outgoing f) qs) i o ≡ option_map (λ (z : List (Input A) × List (Outgoing A)). (map (map_input f) z.0, map (map_outgoing f) z.1)) (inputs_claim settings ps qs i o)
+      claimed_at_map settings ps qs i o = rw (owned_map f ps o) (require_map _ (not (is_owned ps o)) _ _ (with_map (map_input f) (map (map_outgoing f)) ps i (λ p. input_claim settings p qs o p.phase) (λ p. input_claim settings p (map (map_outgoing f) qs) o p.phase) (λ p. claimed_map settings p qs o p.phase)))
+
+  sent_map : (t n j : ℕ) (xs : List Token) → sent_from to t n j xs ≡ map f (sent_from from t n j xs)
+  sent_map t n j [] = refl
+  sent_map t n j (x ∷ xs) = rw (sent_is t n j x, sent_map t n (suc j) xs) refl
+
+  send_map : (t : ℕ) (p : Packet) (n : Node A) → node_send to t p (map_node f n) ≡ option_map (map_node f) (node_send from t p n)
+  send_map t p (node.Switch S) = refl
+  send_map t p (node.Terminal T) = ap (λ z. Some (node.Terminal z)) (rw (sent_map t (length T.sent) 0 (packet_tokens p), ← map-append f T.output.items (sent_tokens from t (length T.sent) p)) refl)
+
+  input_node_map : (i word : ℕ) (n : Node A) → node_input to i word (map_node f n) ≡ option_map (map_node f) (node_input from i word n)
+  input_node_map i word (node.Switch S) = bind_both (map_switch f) (map_node f) (switch_input from S i word) _ _ _ (input_map i word S) (λ s. refl)
+  input_node_map i word (node.Terminal T) = refl
+
+  claim_node_map : (i o : ℕ) (n : Node A) → node_claim i o (map_node f n) ≡ option_map (map_node f) (node_claim i o n)
+  claim_node_map i o (node.Switch S) = bind_both (map_switch f) (map_node f) (switch_claim S i o) _ _ _ (claim_map i o S) (λ s. refl)
+  claim_node_map i o (node.Terminal T) = refl
+
+  abbrev pub map_done : Reply × Network A → Reply × Network B
+  map_done r = (r.0, map_network f r.1)
+
+  done_map : (net : Network A) (made : Option (List (Node A))) (made' : Option (List (Node B))) → made' ≡ option_map (map (map_node f)) made → done_step to (map_network f net) made' ≡ option_map map_done (done_step from net made)
+  done_map net made made' e = bind_both (map (map_node f)) map_done made made' _ _ e (λ ns. refl)
+
+  moved_map : (net : Network A) (made : Option (A × List (Node A))) (made' : Option (B × List (Node B))) → made' ≡ option_map (λ (z : A × List (Node A)). (f z.0, map (map_node f) z.1)) made → token_step to (map_network f net) made' ≡ option_map map_done (token_step from net made)
+  moved_map net made made' e = bind_both _ map_done made made' _ _ e (λ r. ap (λ z. Some (reply.Token z, record { plan = net.plan; nodes = map (map_node f) r.1 })) (plain_is r.0))
+
+  replied_map : (net : Network A) (made : Option (List ℕ × List (Node A))) (made' : Option (List ℕ × List (Node B))) → made' ≡ option_map (λ (z : List ℕ × List (Node A)). (z.0, map (map_node f) z.1)) made → control_step to (map_network f net) made' ≡ option_map map_done (control_step from net made)
+  replied_map net made made' e = bind_both _ map_done made made' _ _ e (λ r. refl)
+
+  -- a step of the one is a step of the other, with the same reply
+  pub step_map : (net : Network A) (e : Event) → network_step to (map_network f net) e ≡ option_map map_done (network_step from net e)
+  step_map net (event.Cross p) = bind_same map_done (peer net.plan p) _ _ (λ q. moved_map net _ _ (crossed_map f net.nodes (end_of net.plan p) (end_of net.plan q)))
+  step_map net (event.Credit p) = bind_same map_done (peer net.plan p) _ _ (λ q. done_map net _ _ (credited_nodes_map f net.nodes (end_of net.plan p) (end_of net.plan q)))
+  step_map net (event.Input s l word) = done_map net _ _ (place_map (map_node f) net.nodes s (node_input from l word) (node_input to l word) (input_node_map l word))
+  step_map net (event.Claim s i o) = done_map net _ _ (place_map (map_node f) net.nodes s (node_claim i o) (node_claim i o) (claim_node_map i o))
+  step_map net (event.Control s bytes) = replied_map net _ _ (from_map (map_node f) (λ b. b) net.nodes s (node_control bytes) (node_control bytes) (control_node_map f bytes))
+  step_map net (event.Send t p) = done_map net _ _ (place_map (map_node f) net.nodes (terminal_place net.plan t) (node_send from t p) (node_send to t p) (send_map t p))
+  step_map net (event.Drain t) = moved_map net _ _ (from_map (map_node f) f net.nodes (terminal_place net.plan t) node_drain node_drain (drain_node_map f))
+
+  waiting_map : (n : Node A) → length (waiting_tokens (map_node f n)) ≡ length (waiting_tokens n)
+  waiting_map (node.Switch S) = refl
+  waiting_map (node.Terminal T) = length-map T.output.items f
+
+  arrived_map : (n : Node A) → arrived_tokens (map_node f n) ≡ map f (arrived_tokens n)
+  arrived_map (node.Switch S) = refl
+  arrived_map (node.Terminal T) = refl
+
+  limit_map : (o : Option (Node A)) (e : Event) → limit_fault (option_map (map_node f) o) e ≡ limit_fault o e
+  limit_map None e = refl
+  limit_map (Some n) (event.Cross p) = refl
+  limit_map (Some n) (event.Credit p) = refl
+  limit_map (Some n) (event.Input s l word) = refl
+  limit_map (Some n) (event.Claim s i o) = refl
+  limit_map (Some n) (event.Control s bytes) = refl
+  limit_map (Some n) (event.Send t p) = rw (waiting_map n) refl
+  limit_map (Some n) (event.Drain t) = rw (arrived_map n, length-map (arrived_tokens n) f) refl
+
+  limited_map : (net : Network A) (e : Event) → limited_node (map_network f net) e ≡ option_map (map_node f) (limited_node net e)
+  limited_map net (event.Cross p) = refl
+  limited_map net (event.Credit p) = refl
+  limited_map net (event.Input s l word) = refl
+  limited_map net (event.Claim s i o) = refl
+  limited_map net (event.Control s bytes) = refl
+  limited_map net (event.Send t p) = slice_get-map (map_node f) net.nodes (terminal_place net.plan t)
+  limited_map net (event.Drain t) = slice_get-map (map_node f) net.nodes (terminal_place net.plan t)
+
+  abbrev pub map_answer : Result Reply EventFault × Network A → Result Reply EventFault × Network B
+  map_answer r = (r.0, map_network f r.1)
+
+  within_map : (net : Network A) (o : Option EventFault) (r : Reply × Network A) → ◌≡◌ {A = Result Reply EventFault × Network B} (outcome_within_limit to (map_network f net) o (map_done r)) (map_answer (outcome_within_limit from net o r))
+  within_map net None r = refl
+  within_map net (Some k) r = refl
+
+  ready_map : (net : Network A) (e : Event) (o : Option (Reply × Network A)) → ◌≡◌ {A = Result Reply EventFault × Network B} (outcome_if_ready to (map_network f net) e (option_map map_done o)) (map_answer (outcome_if_ready from net e o))
+  ready_map net e None = refl
+  ready_map net e (Some r) = ap (λ o. outcome_within_limit to (map_network f net) o (map_done r)) (ap (λ n. limit_fault n e) (limited_map net e) ∙ limit_map (limited_node net e) e) ∙ within_map net (limit_fault (limited_node net e) e) r
+
+  there_map : (net : Network A) (e : Event) (o : Option EventFault) → ◌≡◌ {A = Result Reply EventFault × Network B} (outcome_if_possible to (map_network f net) e o) (map_answer (outcome_if_possible from net e o))
+  there_map net e None = ap (outcome_if_ready to (map_network f net) e) (step_map net e) ∙ ready_map net e (network_step from net e)
+  there_map net e (Some k) = refl
+
+  -- an event is answered alike, and leaves what it leaves, mapped
+  pub apply_map : (net : Network A) (e : Event) → ◌≡◌ {A = Result Reply EventFault × Network B} (network_apply to (map_network f net) e) (map_answer (network_apply from net e))
+  apply_map net e = there_map net e (event_fault net.plan e)
+
+  -- a run over the one kind of token is a run over the other, with the same replies
+  pub run_map : (net ended : Network A) (events : List (Event × Reply)) → IsDoneRun from net events ended → IsDoneRun to (map_network f net) events (map_network f ended)
+  run_map net ended [] is = ap (map_network f) is
+  run_map net ended (e ∷ events) is = (map_network f is.0, ap map_answer is.1 ∙ sym (apply_map net e.0), is.2, run_map is.0 ended events is.3)
+
+  -- and a run over the other kind, from where a network is mapped to, is that of a run over the one
+  pub run_lift : (net : Network A) (ended : Network B) (events : List (Event × Reply)) → IsDoneRun to (map_network f net) events ended → (last : Network A) × IsDoneRun from net events last × (map_network f last ≡ ended)
+  run_lift net ended [] is = (net, refl, sym is)
+  run_lift net ended (e ∷ events) is =
+      let same : ◌≡◌ {A = Result Reply EventFault × Network B} (Ok e.1, is.0) (map_answer (network_apply from net e.0)) = is.1 ∙ apply_map net e.0 in
+      let done : ◌≡◌ {A = Result Reply EventFault × Network A} (Ok e.1, (network_apply from net e.0).1) (network_apply from net e.0) = ap (λ (z : Result Reply EventFault × Network B). (z.0, (network_apply from net e.0).1)) same in
+      let next : is.0 ≡ map_network f (network_apply from net e.0).1 = ap (λ (z : Result Reply EventFault × Network B). z.1) same in
+      let rest = run_lift (network_apply from net e.0).1 ended events (subst (λ n. IsDoneRun to n events ended) next is.3) in
+      (rest.0, ((network_apply from net e.0).1, done, is.2, rest.1), rest.2)

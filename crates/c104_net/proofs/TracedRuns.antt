@@ -1,0 +1,56 @@
+-- Runs over tokens that tell where they came from, and what is promised of them.
+use Rattle.c104_check.specs.Routes.{IsAccepted, routes_of}
+use Rattle.c104_describe.specs.PlanImage.{Image}
+use Rattle.c104_describe.specs.Plans.{IsPlan, Plan}
+use Rattle.c104_event.specs.declared.events.Event.{Event}
+use Rattle.c104_net.proofs.Promises.{headline}
+use Rattle.c104_net.proofs.StartMaps.{starts_are, starts_same}
+use Rattle.c104_net.proofs.StepMaps.{run_lift, run_map}
+use Rattle.c104_net.specs.Deliveries.{Promise}
+use Rattle.c104_net.specs.Network.{Network, network_of}
+use Rattle.c104_net.specs.Nodes.{Node}
+use Rattle.c104_net.specs.Runs.{IsDoneRun, IsRunRecord}
+use Rattle.c104_net.specs.Starts.{start_node}
+use Rattle.c104_net.specs.Traced.{traced_kind}
+use Rattle.c104_net.specs.TracedRuns.{IsTracedRun, map_network}
+use Rattle.c104_net.specs.Unchanged.{AreStartsOf, IsUnchanged}
+use Rattle.c104_net.specs.declared.acts.Entry.{Entry}
+use Rattle.c104_net.specs.declared.starts.NodeStart.{NodeStart}
+use Rattle.c104_net.specs.declared.traced.Traced.{Traced}
+use Rattle.c104_switch.specs.Actions.{Reply}
+use Rattle.c104_token.specs.Kinds.{plain_kind}
+use Rattle.c104_token.specs.declared.tokens.Token.{Token}
+use Rattle.std.proofs.Common.{List, ap, map, refl, subst, sym, ℕ, ◌≡◌}
+
+-- the token alone
+abbrev pub token_of : Traced → Token
+token_of x = x.token
+
+-- the network without where its tokens came from
+abbrev pub plain_network : Network Traced → Network Token
+plain_network net = map_network token_of net
+
+-- a traced run is the plain one, with more told of each token
+pub plain_run : (net ended : Network Traced) (events : List (Event × Reply)) → IsDoneRun traced_kind net events ended → IsDoneRun plain_kind (plain_network net) events (plain_network ended)
+plain_run net ended events is = run_map token_of traced_kind plain_kind (λ x. refl) (λ j b. refl) (λ t n j x. refl) net ended events is
+
+-- each plain run is that of a traced run
+pub traced_run : (net : Network Traced) (ended : Network Token) (events : List (Event × Reply)) → IsDoneRun plain_kind (plain_network net) events ended → (last : Network Traced) × IsDoneRun traced_kind net events last × (plain_network last ≡ ended)
+traced_run net ended events is = run_lift token_of traced_kind plain_kind (λ x. refl) (λ j b. refl) (λ t n j x. refl) net ended events is
+
+module _ (plan : Plan) (starts : List NodeStart) where
+  -- a run from a start is that of one traced run from the same start
+  pub traced_from : (nodes : List (Node Token)) (events : List (Event × Reply)) → IsDoneRun plain_kind (network_of plan (map start_node starts)) events (network_of plan nodes) → (traced : List (Node Traced)) × IsTracedRun plan starts events nodes traced
+  traced_from nodes events is =
+      let from : network_of plan (map start_node starts) ≡ plain_network (network_of plan (map start_node starts)) = ap (network_of plan) (sym (starts_same token_of starts)) in
+      let found = traced_run (network_of plan (map start_node starts)) (network_of plan nodes) events (subst (λ n. IsDoneRun plain_kind n events (network_of plan nodes)) from is) in
+      let same_plan : found.0.plan ≡ plan = ap (λ (n : Network Token). n.plan) found.2 in
+      let whole : found.0 ≡ network_of plan found.0.nodes = ap (λ p. network_of p found.0.nodes) same_plan in
+      (found.0.nodes, record { run = subst (λ n. IsDoneRun traced_kind (network_of plan (map start_node starts)) events n) whole found.1; plain = ap (λ (n : Network Token). n.nodes) found.2 })
+
+  -- what is promised of any run from a start, with premises on the plain run alone: over tokens that tell where they
+  -- came from it goes as it went, and the promise holds of where it ends
+  pub run_promise : (image : Image) (nodes : List (Node Token)) (traces : List (List Entry)) (count : ℕ) (events : List (Event × Reply)) → IsPlan plan → IsAccepted (routes_of plan image) → AreStartsOf plan image starts → IsRunRecord plain_kind plan (map start_node starts) nodes traces count events → IsUnchanged events → (traced : List (Node Traced)) × IsTracedRun plan starts events nodes traced × Promise (routes_of plan image) (network_of plan traced)
+  run_promise image nodes traces count events is_plan accepted are record_is unchanged =
+      let found = traced_from nodes events record_is.run in
+      (found.0, found.1, headline image (network_of plan (map start_node starts)) (network_of plan found.0) events is_plan accepted (starts_are plan image starts are) found.1.run unchanged)
