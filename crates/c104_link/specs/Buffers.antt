@@ -41,6 +41,14 @@ empty_incoming n = record { cap = n; items = []; granted = 0 }
 abbrev pub empty_outgoing : {A : Type 0} → Outgoing A
 empty_outgoing = record { items = []; credit = 0 }
 
+-- an input buffer without a token, which has granted so many
+abbrev pub start_incoming : {A : Type 0} → ℕ → ℕ → Incoming A
+start_incoming n granted = record { cap = n; items = []; granted = granted }
+
+-- an output buffer without a token, which may send so many
+abbrev pub start_outgoing : {A : Type 0} → ℕ → Outgoing A
+start_outgoing credit = record { items = []; credit = credit }
+
 -- eight more tokens are granted, where there is room for all that would then be granted
 abbrev pub incoming_grant : {A : Type 0} → Incoming A → Option (Incoming A)
 incoming_grant b = do

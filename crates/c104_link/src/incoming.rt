@@ -1,7 +1,7 @@
 //! The input buffer of a link.
-ghost use Rattle.std.specs.Prelude.{◌≡◌, ◌↔◌, [], length, slice_get, is_some, IsTrue, IfOk};
+ghost use Rattle.std.specs.Prelude.{◌≡◌, ◌≤◌, ◌↔◌, [], length, slice_get, is_some, IsTrue, IfOk};
 ghost use Rattle.c104_link.specs.Steps.{bool_outcome, option_outcome, result_outcome};
-ghost use Rattle.c104_link.specs.Buffers.{IsValidCap, IsWithinCap, empty_incoming, incoming_grant, incoming_accept, without_first, incoming_take, incoming_clear};
+ghost use Rattle.c104_link.specs.Buffers.{IsValidCap, IsWithinCap, empty_incoming, start_incoming, incoming_grant, incoming_accept, without_first, incoming_take, incoming_clear};
 
 use crate::TOKENS_OF_A_GRANT;
 use crate::outgoing::CREDIT_LIMIT;
@@ -49,6 +49,17 @@ impl<T: TokenKind> InBufferOf<T> {
     {
         let ring = HeapCircularBuffer::with_capacity(alloc, cap)?;
         Ok(InBufferOf { ring, granted: 0 })
+    }
+
+    /// An empty buffer with room for `cap` tokens, which has granted so many of them. It fails only
+    /// out of memory.
+    pub fn granting(alloc: Global, cap: usize, granted: usize) -> Result<Self, NoMemory>
+        requires cap { IsValidCap cap }
+        requires room { granted ≤ cap }
+        ensures { IfOk result (λ b. b ≡ start_incoming cap granted) }
+    {
+        let ring = HeapCircularBuffer::with_capacity(alloc, cap)?;
+        Ok(InBufferOf { ring, granted })
     }
 
     /// How many tokens the buffer has room for: 8, 16, .. 64.

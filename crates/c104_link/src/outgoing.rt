@@ -1,7 +1,8 @@
 //! The output buffer of a link.
-ghost use Rattle.std.specs.Prelude.{◌≡◌, ◌↔◌, [], length, is_some, IsTrue, IfOk};
+ghost use Rattle.std.specs.Prelude.{◌≡◌, ◌≤◌, ◌↔◌, [], length, is_some, IsTrue, IfOk};
 ghost use Rattle.c104_link.specs.Steps.{bool_outcome, option_outcome, result_outcome};
-ghost use Rattle.c104_link.specs.Buffers.{IsWithinLimits, empty_outgoing, outgoing_put, outgoing_put_all, outgoing_emit, outgoing_credited, outgoing_clear};
+ghost use Rattle.c104_link.specs.Buffers.{IsWithinLimits, empty_outgoing, start_outgoing, outgoing_put, outgoing_put_all, outgoing_emit, outgoing_credited, outgoing_clear};
+ghost use Rattle.c104_link.specs.declared.outgoing.TheConstants.{CREDIT_LIMIT};
 
 use crate::TOKENS_OF_A_GRANT;
 use c104_token::{NoMemory, Token, TokenKind};
@@ -49,6 +50,15 @@ impl<T: TokenKind> OutBufferOf<T> {
     {
         let ring = HeapCircularBuffer::with_capacity(alloc, OUTPUT_CAP)?;
         Ok(OutBufferOf { ring, credit: 0 })
+    }
+
+    /// An empty buffer, with so much credit. It fails only out of memory.
+    pub fn with_credit(alloc: Global, credit: usize) -> Result<Self, NoMemory>
+        requires { credit ≤ CREDIT_LIMIT }
+        ensures { IfOk result (λ q. q ≡ start_outgoing credit) }
+    {
+        let ring = HeapCircularBuffer::with_capacity(alloc, OUTPUT_CAP)?;
+        Ok(OutBufferOf { ring, credit })
     }
 
     /// How many tokens the buffer holds: at most 8.

@@ -15,6 +15,7 @@ mod SoundnessTurns
 mod Soundness
 mod SoundnessMethods
 mod SoundnessCommands
+pub mod StartLinks
 mod PokeSteps
 mod Peeks
 pub mod UnreadySteps

@@ -14,4 +14,5 @@ pub mod Actions
 pub mod Reasons
 pub mod ReasonMeanings
 pub mod Soundness
+pub mod Starts
 pub mod Readiness

@@ -10,12 +10,14 @@ ghost use Rattle.c104_switch.specs.Peeks.{is_busy};
 ghost use Rattle.c104_switch.specs.Readiness.{may_turn};
 ghost use Rattle.c104_switch.specs.Views.{phase_view};
 ghost use Rattle.c104_switch.specs.Commands.{input_reset};
+ghost use Rattle.c104_switch.specs.Starts.{start_input, IsLinkStart};
 
 mod claims;
 mod reasons;
 mod turns;
 
 use crate::header::{HeaderBytes, HeaderOf};
+use crate::link_start::LinkStart;
 use crate::phase::Phase;
 use c104_crossbar::Claim;
 use c104_link::InBufferOf;
@@ -74,6 +76,23 @@ impl<T: TokenKind> InputOf<T> {
         })
     }
 
+    /// The input of a link at a start. It fails only when out of memory.
+    pub fn from_start(alloc: Global, start: &LinkStart) -> Result<Self, NoMemory>
+        requires { IsLinkStart start.now }
+        ensures { IfOk result (λ p. p ≡ start_input start.now) }
+    {
+        let buffer = InBufferOf::granting(alloc, start.cap, start.granted)?;
+        let header = HeaderOf::new(alloc)?;
+        Ok(InputOf {
+            buffer,
+            phase: Phase::Fresh,
+            header,
+            claim: None,
+            sunk: start.sunk,
+            short: start.short,
+        })
+    }
+
     /// Lets go of all but the claim, if the input holds one.
     pub fn retire(self) -> Option<Claim>
         ensures { option_to_list result ≡ phase_claims self.phase }
@@ -115,6 +134,13 @@ impl<T: TokenKind> InputOf<T> {
         ensures { (result, self.new) ≡ bool_outcome (input_grant self.old) self.old }
     {
         self.buffer.grant()
+    }
+
+    /// For how many tokens the buffer has room.
+    pub fn cap(&self) -> usize
+        ensures { result ≡ self.now.buffer.cap }
+    {
+        self.buffer.cap()
     }
 
     /// How many tokens the buffer holds, 0 to 64.

@@ -1,5 +1,5 @@
 //! The input sides of all links, and the crossbar whose outputs they claim.
-ghost use Rattle.std.specs.Prelude.{◌≡◌, ◌<◌, ◌≤◌, ◌&&◌, ℕ, [], length, map, replicate, slice_get, IfOk, IfSome, is_some};
+ghost use Rattle.std.specs.Prelude.{◌≡◌, ◌<◌, ◌≤◌, ◌&&◌, ℕ, [], All, length, map, replicate, slice_get, IfOk, IfSome, is_some};
 ghost use Rattle.std.specs.Option.{option_copied};
 ghost use Rattle.c104_crossbar.specs.Marks.{ArePartition};
 ghost use Rattle.c104_link.specs.Buffers.{IsValidCap};
@@ -13,12 +13,14 @@ ghost use Rattle.c104_switch.specs.Holding.{held_claims};
 ghost use Rattle.c104_switch.specs.Views.{owner_from};
 ghost use Rattle.c104_switch.specs.Commands.{input_reset};
 ghost use Rattle.c104_switch.specs.Readiness.{may_turn_at};
+ghost use Rattle.c104_switch.specs.Starts.{start_input, IsLinkStart};
 ghost use Rattle.c104_crossbar.specs.Groups.{has_bit};
 
 use crate::LINKS;
 use crate::input::{InputOf, Turn};
 use crate::input_sets::{InputSets, sets_of};
 use crate::link_set::LinkSet;
+use crate::link_start::LinkStart;
 use crate::outputs::OutputsOf;
 use c104_crossbar::Crossbar;
 use c104_regs::{Registers, Settings};
@@ -60,6 +62,29 @@ impl<T: TokenKind> InputsOf<T> {
         let mut list = Vec::with_capacity(alloc, LINKS)?;
         for _ in 0..LINKS {
             match InputOf::new(alloc, cap) {
+                Ok(input) => list.push_reserved(input),
+                Err(error) => {
+                    retire(list, &mut Crossbar::new());
+                    return Err(error);
+                }
+            }
+        }
+        let sets = sets_of(list.as_slice());
+        Ok(InputsOf {
+            list,
+            crossbar: Crossbar::new(),
+            sets,
+        })
+    }
+
+    /// The inputs of links at their starts. It fails only when out of memory.
+    pub fn from_start(alloc: Global, links: &[LinkStart]) -> Result<Self, NoMemory>
+        requires { All IsLinkStart links.now }
+        ensures { IfOk result (λ ps. ps ≡ map start_input links.now) }
+    {
+        let mut list = Vec::with_capacity(alloc, links.len())?;
+        for link in links {
+            match InputOf::from_start(alloc, link) {
                 Ok(input) => list.push_reserved(input),
                 Err(error) => {
                     retire(list, &mut Crossbar::new());

@@ -13,6 +13,8 @@
 //!   in, with the [`HeaderBytes`], at most two, of a header that is read or that waits.
 //! - [`LinkSet`] is a set of links. Beside its inputs and outputs a switch keeps which of them may be
 //!   ready, so that the next of these is found without asking the others.
+//! - [`SwitchStart`] is where a switch without a token starts, as plain data with a [`LinkStart`] for each
+//!   link. A switch over any kind of token is made from it.
 #![tactic(auto)]
 
 mod actions;
@@ -22,10 +24,12 @@ mod input;
 mod input_sets;
 mod inputs;
 mod link_set;
+mod link_start;
 mod outputs;
 mod phase;
 mod ready;
 mod step;
+mod switch_start;
 mod switches;
 mod unready;
 
@@ -33,7 +37,9 @@ pub use actions::{Action, ActionOf, LinkView, Reply, ReplyOf};
 pub use c104_regs::LINKS;
 pub use header::HeaderBytes;
 pub use link_set::LinkSet;
+pub use link_start::LinkStart;
 pub use phase::Phase;
+pub use switch_start::SwitchStart;
 pub use switches::{Switch, SwitchOf};
 pub use unready::Unready;
 

@@ -1,5 +1,5 @@
 //! The output sides of all links.
-ghost use Rattle.std.specs.Prelude.{◌≡◌, ◌<◌, ◌≢◌, ◌&&◌, ℕ, map, replicate, slice_get, IfOk, is_some};
+ghost use Rattle.std.specs.Prelude.{◌≡◌, ◌<◌, ◌≢◌, ◌&&◌, ℕ, All, map, replicate, slice_get, IfOk, is_some};
 ghost use Rattle.std.specs.Option.{option_copied};
 ghost use Rattle.c104_link.specs.Buffers as buffer;
 ghost use Rattle.c104_link.specs.Buffers.{Outgoing, empty_outgoing, outgoing_clear};
@@ -8,9 +8,11 @@ ghost use Rattle.c104_regs.specs.declared.registers.TheConstants.{LINKS};
 ghost use Rattle.c104_crossbar.specs.Groups.{has_bit};
 ghost use Rattle.c104_switch.specs.Claims.{put_header, IsNextLink};
 ghost use Rattle.c104_switch.specs.Readiness.{AreSending};
+ghost use Rattle.c104_switch.specs.Starts.{start_output, IsLinkStart};
 
 use crate::LINKS;
 use crate::link_set::LinkSet;
+use crate::link_start::LinkStart;
 use c104_link::OutBufferOf;
 use c104_regs::Settings;
 use c104_token::{NoMemory, TokenKind};
@@ -50,6 +52,19 @@ impl<T: TokenKind> OutputsOf<T> {
             list,
             sending: LinkSet::new(),
         })
+    }
+
+    /// The outputs of links at their starts. It fails only when out of memory.
+    pub fn from_start(alloc: Global, links: &[LinkStart]) -> Result<Self, NoMemory>
+        requires { All IsLinkStart links.now }
+        ensures { IfOk result (λ qs. qs ≡ map start_output links.now) }
+    {
+        let mut list = Vec::with_capacity(alloc, links.len())?;
+        for link in links {
+            list.push(OutBufferOf::with_credit(alloc, link.credit)?)?;
+        }
+        let sending = sending_of(list.as_slice());
+        Ok(OutputsOf { list, sending })
     }
 
     /// Discards the tokens of all outputs. What they may send stays.
