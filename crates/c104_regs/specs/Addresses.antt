@@ -62,6 +62,12 @@ address_number DeviceId = 0x0000
 address_number Started = 0x0001
 address_number (AtLink l r) = 0x100 * (l + 1) + (register_properties r).offset
 
+-- whether a poke can set what stands at an address
+abbrev pub is_writable_address : Address → Bool
+is_writable_address DeviceId = false
+is_writable_address Started = false
+is_writable_address (AtLink l r) = (register_properties r).is_writable
+
 -- whether register r may be set to v. Of the numbers that are no links a row can select the sink's
 -- alone. For now the one to discard is refused there, and so is a mode with two-byte headers (bit 0) or
 -- random headers (bit 2).

@@ -1,9 +1,13 @@
 //! What stands at an address, and what may be written there.
 ghost use Rattle.std.specs.Prelude.{◌≡◌, ◌↔◌, ◌<◌, Some, IfSome, IsTrue};
 ghost use Rattle.c104_regs.specs.Registers.{waits};
-ghost use Rattle.c104_regs.specs.Addresses.{IsAddress, IsRegister, address_number, address_of, register_takes, register_properties, register_at};
+ghost use Rattle.c104_regs.specs.Addresses.{IsAddress, IsRegister, address_number, address_of, is_writable_address, register_takes, register_properties, register_at};
 
+use crate::LINKS;
 use crate::values::{DISCARD_CODE, SINK_CODE};
+
+/// The first address past those of the last link.
+pub const ADDRESS_END: u16 = 0x100 * (LINKS as u16 + 1);
 
 /// A register of a link. Which there are, and where, is this emulator's.
 #[derive(Clone, Copy, Debug, PartialEq, Eq)]
@@ -61,6 +65,28 @@ impl Register {
             0x40..=0x63 => Some(Register::Limit(offset as usize - 0x40)),
             0x80..=0xa3 => Some(Register::Select(offset as usize - 0x80)),
             _ => None,
+        }
+    }
+
+    /// How far the register stands from the first address of its link.
+    fn offset(self) -> u16
+        requires { IsRegister self }
+        ensures { result ≡ (register_properties self).offset }
+    {
+        match self {
+            Register::Mode => 0x00,
+            Register::RandomBase => 0x01,
+            Register::RandomRange => 0x02,
+            Register::Sunk => 0x03,
+            Register::Short => 0x04,
+            Register::InputLevel => 0x05,
+            Register::OutputLevel => 0x06,
+            Register::Credit => 0x07,
+            Register::Granted => 0x08,
+            Register::Owner => 0x09,
+            Register::Base => 0x3f,
+            Register::Limit(k) => 0x40 + k as u16,
+            Register::Select(k) => 0x80 + k as u16,
         }
     }
 
@@ -141,6 +167,29 @@ impl Address {
                 Some(Address::AtLink((addr / 0x100 - 1) as usize, register))
             }
             _ => None,
+        }
+    }
+
+    /// The address of what stands there: a link is 0 to 31, and the row of a limit or a select 0 to
+    /// 35.
+    pub fn number(self) -> u16
+        requires { IsAddress self }
+        ensures { result ≡ address_number self }
+    {
+        match self {
+            Address::DeviceId => 0x0000,
+            Address::Started => 0x0001,
+            Address::AtLink(link, register) => 0x100 * (link as u16 + 1) + register.offset(),
+        }
+    }
+
+    /// Whether a poke can set what stands there.
+    pub fn is_writable(self) -> bool
+        ensures { result ≡ is_writable_address self }
+    {
+        match self {
+            Address::AtLink(_, register) => register.is_writable(),
+            _ => false,
         }
     }
 }

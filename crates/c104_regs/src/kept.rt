@@ -4,15 +4,12 @@ ghost use Rattle.c104_regs.specs.Addresses.{register_properties};
 ghost use Rattle.c104_regs.specs.Registers.{IsRegisterBank};
 ghost use Rattle.c104_regs.specs.KeptValues.{IsKept, IsMapOf, address_end, kept_value, kept_values, unless_reset};
 
-use crate::addresses::{Address, Register};
+use crate::addresses::{ADDRESS_END, Address, Register};
 use crate::registers::{LINKS, Registers};
 use crate::settings::Settings;
 use crate::status::Status;
 use crate::values::SINK_CODE;
 use std::alloc::{AllocError, Global};
-
-/// The first address past those of the last link.
-const ADDRESS_END: u16 = 0x100 * (LINKS as u16 + 1);
 
 impl Register {
     /// The register's value after a reset.

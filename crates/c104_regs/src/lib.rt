@@ -7,6 +7,7 @@
 //! - [`Registers`] keeps settings and a status for each of [`LINKS`] links, the settings within the
 //!   ranges of their registers, and whether the switch is started. An address reads what was poked
 //!   there or told last. Its kept values are what was set to something else than after a reset.
+//! - [`Address`] is what stands at an address, and [`Register`] one of the registers of a link.
 //! - [`Settings`] is what is set at one link, with any numbers in it.
 //! - [`continues_of`] tells, by the settings of all links, which of them continue a group.
 //! - [`Status`] is what a switch tells of one link.
@@ -22,6 +23,7 @@ mod settings;
 mod status;
 mod values;
 
+pub use addresses::{ADDRESS_END, Address, Register};
 pub use faults::RegFault;
 pub use groups::continues_of;
 pub use registers::{DEVICE_ID, LINKS, Registers};

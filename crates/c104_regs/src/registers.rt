@@ -1,11 +1,11 @@
 //! The registers of a switch, by address.
-ghost use Rattle.std.specs.Prelude.{◌≡◌, ◌≢◌, ℕ, ◌<◌, All, Err, IfOk, OnErr, OnOk, Ok, length};
+ghost use Rattle.std.specs.Prelude.{◌≡◌, ◌≢◌, ℕ, ◌-◌, ◌/◌, ◌<◌, All, Err, IfOk, OnErr, OnOk, Ok, length};
 ghost use Rattle.std.specs.Int.{bit_at};
 ghost use Rattle.c104_regs.specs.Addresses.{IsRegister, Register, register_properties};
 ghost use Rattle.c104_regs.specs.declared.faults.RegFault.TheVariants.{OutOfRange};
 ghost use Rattle.c104_regs.specs.Groups.{continue_bits, continues_at};
 ghost use Rattle.c104_regs.specs.Ranges.{IsInRange, IsTableInRange};
-ghost use Rattle.c104_regs.specs.Registers.{IsRegisterBank, IsTarget, bank_peek, placed_bank, bank_poke, reset_bank, settable, settings_at, settings_with, status_at, target, with_status};
+ghost use Rattle.c104_regs.specs.Registers.{IsRegisterBank, IsTarget, RegisterBank as Bank, bank_peek, placed_bank, bank_poke, reset_bank, settable, settings_at, settings_with, status_at, target, with_status};
 ghost use Rattle.c104_regs.specs.Values.{mode_of, bit_value, register_read};
 
 use crate::addresses::{Address, Register};
@@ -100,6 +100,31 @@ impl Registers {
         }
     }
 
+    /// The same of a switch that tells this status of the link of the address, `link_of`, whatever
+    /// it told last.
+    pub fn peek_told(&self, addr: u16, status: &Status) -> Result<u32, RegFault>
+        ensures { (b : Bank) →
+            b.started ≡ self.now.started → b.settings ≡ self.now.settings →
+            status_at b (addr / 0x100 - 1) ≡ status.now → result ≡ bank_peek b addr }
+    {
+        match Address::at(addr) {
+            None => Err(RegFault::NoRegister),
+            Some(Address::DeviceId) => Ok(DEVICE_ID),
+            Some(Address::Started) => Ok(number(self.started, 1)),
+            Some(Address::AtLink(link, register)) => {
+                Ok(register.read(&self.settings[link], status))
+            }
+        }
+    }
+
+    /// The link on whose status alone it hangs what this address reads, and whether it may be set.
+    /// It is 32 or more past the last link's addresses.
+    pub fn link_of(addr: u16) -> usize
+        ensures { result ≡ addr / 0x100 - 1 }
+    {
+        (addr / 0x100).saturating_sub(1) as usize
+    }
+
     /// Sets the register at this address. NoRegister where there is none, ReadOnly where it can't be
     /// written, OutOfRange where it doesn't take the value, and Busy for the mode of a link through
     /// which a packet is on its way. What is refused changes nothing.
@@ -114,6 +139,22 @@ impl Registers {
     {
         let (link, register) = target(addr, value)?;
         if register.waits() && self.statuses[link].busy {
+            return Err(RegFault::Busy);
+        }
+        set(&mut self.settings, link, register, value);
+        Ok(())
+    }
+
+    /// The same of a switch that tells this status of the link of the address, `link_of`, whatever
+    /// it told last.
+    pub fn poke_told(&mut self, addr: u16, value: u32, status: &Status) -> Result<(), RegFault>
+        ensures poked { (b : Bank) →
+            b.settings ≡ self.old.settings → status_at b (addr / 0x100 - 1) ≡ status.now →
+            (result ≡ (bank_poke b addr value).0) × (self.new.settings ≡ (bank_poke b addr value).1.settings) }
+        ensures told { self.new ≡ record self.old { settings = self.new.settings } }
+    {
+        let (link, register) = target(addr, value)?;
+        if register.waits() && status.busy {
             return Err(RegFault::Busy);
         }
         set(&mut self.settings, link, register, value);

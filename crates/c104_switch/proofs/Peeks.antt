@@ -1,35 +1,37 @@
--- A switch tells the status of its links one by one.
-use Rattle.std.proofs.Common.{◌≡◌, ℕ, zero, suc, ◌+◌, ◌<◌, ◌≤◌, List, [], ◌∷◌, ◌++◌, length, drop, set, ap, ◌∙◌, refl, arith}
-use mathlib.Core.List.{append-nil}
+-- What a switch tells of each of its links, among what it tells of all.
+use Rattle.std.proofs.Common.{◌≡◌, ℕ, zero, suc, ◌+◌, ◌<◌, ◌≤◌, inl, inr, slice_get, length, get_or, ap, ◌∙◌, refl, sym, arith}
+use Rattle.std.proofs.lemmas.Bool.{cases_lt}
+use Rattle.std.proofs.lemmas.List.{get_or_past}
+use Rattle.std.proofs.lemmas.Option.{slice_get_past}
 use Rattle.c104_regs.specs.declared.status.Status.{Status}
-use Rattle.c104_switch.specs.Peeks.{link_status, statuses_from}
+use Rattle.c104_regs.specs.Values.{reset_status}
+use Rattle.c104_switch.specs.Peeks.{link_status, registers, sides_status, statuses_from}
 use Rattle.c104_switch.specs.Switch.{Switch}
-
--- nothing follows the end
-drop_none : {X : Type 0} (xs : List X) (n : ℕ) → length xs ≤ n → drop n xs ≡ []
-drop_none [] zero past = refl
-drop_none [] (suc n) past = refl
-drop_none (x ∷ xs) zero past = absurd (omega arith)
-drop_none (x ∷ xs) (suc n) past = drop_none xs n (omega arith)
+use Rattle.c104_switch.specs.Soundness.{IsSound}
 
 module _ {A : Type 0} (s : Switch A) where
-  -- the status of one more link is told, from link l on
-  told_step : (l : ℕ) (rest : List Status) (i : ℕ) → i < length rest → set (statuses_from s l i ++ drop i rest) i (link_status s (l + i)) ≡ statuses_from s l (suc i) ++ drop (suc i) rest
-  told_step l [] i inside = absurd (omega arith)
-  told_step l (t ∷ rest) zero inside = ap (λ n. link_status s n ∷ rest) (omega arith)
-  told_step l (t ∷ rest) (suc i) inside =
-      let next : l + suc i ≡ suc l + i = omega arith in
-      ap (λ n. link_status s l ∷ set (statuses_from s (suc l) i ++ drop i rest) i (link_status s n)) next ∙ ap (λ xs. link_status s l ∷ xs) (told_step (suc l) rest i (omega arith))
+  told_length : (l n : ℕ) → length (statuses_from s l n) ≡ n
+  told_length l zero = refl
+  told_length l (suc n) = ap suc (told_length (suc l) n)
 
-  -- the same of what a step has at hand
-  pub told_next : (rest statuses : List Status) (i : ℕ) (x : Status) → i < length rest → statuses ≡ statuses_from s 0 i ++ drop i rest → x ≡ link_status s i → set statuses i x ≡ statuses_from s 0 (i + 1) ++ drop (i + 1) rest
-  told_next rest statuses i x inside are is =
-      let next : suc i ≡ i + 1 = omega arith in
-      let first : i ≡ 0 + i = omega arith in
-      ap (λ y. set statuses i y) (is ∙ ap (link_status s) first) ∙ ap (λ xs. set xs i (link_status s (0 + i))) are ∙ told_step 0 rest i inside ∙ ap (λ n. statuses_from s 0 n ++ drop n rest) next
+  told_of : (l n i : ℕ) → i < n → get_or (statuses_from s l n) i reset_status ≡ link_status s (l + i)
+  told_of l zero i inside = absurd (omega arith)
+  told_of l (suc n) zero inside = ap (link_status s) (omega arith)
+  told_of l (suc n) (suc i) inside = told_of (suc l) n i (omega arith) ∙ ap (link_status s) (omega arith)
 
-  -- all links have told it
-  pub told_all : (rest statuses : List Status) (i : ℕ) → length rest ≡ 32 → 32 ≤ i → i ≤ 32 → statuses ≡ statuses_from s 0 i ++ drop i rest → statuses ≡ statuses_from s 0 32
-  told_all rest statuses i size low high are =
-      let end : i ≡ 32 = omega arith in
-      are ∙ ap (λ xs. statuses_from s 0 i ++ xs) (drop_none rest i (omega arith)) ∙ append-nil (statuses_from s 0 i) ∙ ap (λ n. statuses_from s 0 n) end
+  -- what a switch tells of a link past the last is as after a reset
+  no_status : IsSound s → (l : ℕ) → 32 ≤ l → link_status s l ≡ reset_status
+  unfolding link_status
+  no_status sound l past =
+      ap (λ o. sides_status s.inputs l o (slice_get s.outputs l)) (slice_get_past s.inputs l (omega (arith, sound.inputs)))
+
+  -- so among the statuses of all links stands what the switch tells of each number
+  pub status_told : IsSound s → (l : ℕ) → get_or (registers s).statuses l reset_status ≡ link_status s l
+  status_told sound l = elim (cases_lt l 32) [
+    | inl inside ↦ told_of 0 32 l inside ∙ ap (link_status s) (omega arith)
+    | inr past ↦ get_or_past (statuses_from s 0 32) l reset_status (omega (arith, told_length 0 32)) ∙ sym (no_status sound l past)
+  ]
+
+  -- the same of what was told of the link of an address
+  pub status_told_at : IsSound s → (link l : ℕ) (t : Status) → link ≡ l → t ≡ link_status s link → get_or (registers s).statuses l reset_status ≡ t
+  status_told_at sound link l t same is = status_told sound l ∙ sym (is ∙ ap (link_status s) same)

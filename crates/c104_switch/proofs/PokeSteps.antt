@@ -1,9 +1,10 @@
 -- What a poke of the registers leaves, and so what it leaves of a switch.
-use Rattle.std.proofs.Common.{◌≡◌, ◌&&◌, ℕ, Bool, true, false, length, Result, Ok, Err, if◌then◌else◌, length-set, refl, sym, ◌∙◌, ap, subst}
+use Rattle.std.proofs.Common.{◌≡◌, ◌&&◌, ℕ, Bool, true, false, List, length, Result, Ok, Err, if◌then◌else◌, length-set, refl, ◌∙◌, ap}
 use Rattle.c104_regs.specs.declared.faults.RegFault.{RegFault}
 use Rattle.c104_regs.specs.declared.faults.RegFault.TheVariants.{Busy}
 use Rattle.c104_regs.specs.Registers as regs
 use Rattle.c104_regs.specs.Registers.{RegisterBank, target, waits, status_at, with_register}
+use Rattle.c104_regs.specs.declared.settings.Settings.{Settings}
 use Rattle.c104_switch.specs.Switch.{Switch}
 use Rattle.c104_switch.specs.Peeks.{registers}
 use Rattle.c104_switch.specs.Commands.{switch_poke}
@@ -25,16 +26,15 @@ keeps_poke b a v = by_target (target a v) refl
         by_busy true = record { started = refl; links = refl }
         by_busy false = record { started = refl; links = length-set b.settings l _ }
 
-module _ {A : Type 0} (s : Switch A) (a v : ℕ) (told new : RegisterBank) (r : Result (Unit {0}) RegFault) (are : told ≡ registers s) (is : ◌≡◌ {A = Result (Unit {0}) RegFault × RegisterBank} (r, new) (regs.bank_poke told a v)) where
-  made : ◌≡◌ {A = Result (Unit {0}) RegFault × RegisterBank} (r, new) (regs.bank_poke (registers s) a v)
-  made = is ∙ ap (λ b. regs.bank_poke b a v) are
+-- a poke whose answer and settings are those of a poke of the registers of a switch
+module _ {A : Type 0} (s : Switch A) (a v : ℕ) (r : Result (Unit {0}) RegFault) (settings : List Settings) (answer : r ≡ (regs.bank_poke (registers s) a v).0) (left : settings ≡ (regs.bank_poke (registers s) a v).1.settings) where
+  -- keeps how many links are set
+  pub poke_links : length settings ≡ length s.settings
+  poke_links = ap length left ∙ (keeps_poke (registers s) a v).links
 
-  -- what a poke keeps of the registers of a switch
-  pub keeps_told : KeepsBank (registers s) new
-  keeps_told = subst (λ (u : Result (Unit {0}) RegFault × RegisterBank). KeepsBank (registers s) u.1) (sym made) (keeps_poke (registers s) a v)
-
-  -- a poke of what a switch tells is one of the switch
-  pub poke_told : ◌≡◌ {A = Result (Unit {0}) RegFault × Switch A} (r, record { started = new.started; settings = new.settings; inputs = s.inputs; outputs = s.outputs }) (switch_poke s a v)
-  poke_told =
-      ap (λ b. (r, record { started = b; settings = new.settings; inputs = s.inputs; outputs = s.outputs })) keeps_told.started
-      ∙ ap (λ (u : Result (Unit {0}) RegFault × RegisterBank). (u.0, record s { settings = u.1.settings })) made
+  -- and is a poke of the switch
+  pub poke_made : (t : Switch A) → t ≡ record s { settings = settings } → ◌≡◌ {A = Result (Unit {0}) RegFault × Switch A} (r, t) (switch_poke s a v)
+  poke_made t is =
+      ap (λ x. (r, x)) is
+      ∙ ap (λ x. (r, record s { settings = x })) left
+      ∙ ap (λ (x : Result (Unit {0}) RegFault). (x, record s { settings = (regs.bank_poke (registers s) a v).1.settings })) answer

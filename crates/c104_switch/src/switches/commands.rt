@@ -31,10 +31,7 @@ impl<T: TokenKind> SwitchOf<T> {
     pub(crate) fn poke(&mut self, addr: u16, value: u32) -> Result<(), RegFault>
         ensures { (result, self.new) ≡ switch_poke self.old addr value }
     {
-        let mut registers = self.told_registers();
-        let answer = registers.poke(addr, value);
-        // The statuses in them are told anew whenever they matter.
-        *self.registers = registers;
-        answer
+        let status = self.status(Registers::link_of(addr));
+        self.registers.poke_told(addr, value, &status)
     }
 }

@@ -1,9 +1,8 @@
 //! The registers of a switch.
-ghost use Rattle.std.specs.Prelude.{◌≡◌, ◌<◌};
-ghost use Rattle.c104_switch.specs.Peeks.{link_status, switch_peek, registers};
+ghost use Rattle.std.specs.Prelude.{◌≡◌};
+ghost use Rattle.c104_switch.specs.Peeks.{link_status, switch_peek};
 
 use super::SwitchOf;
-use crate::LINKS;
 use c104_regs::{RegFault, Registers, Status};
 use c104_token::TokenKind;
 
@@ -12,23 +11,13 @@ impl<T: TokenKind> SwitchOf<T> {
     pub fn peek(&self, addr: u16) -> Result<u32, RegFault>
         ensures { result ≡ switch_peek self.now addr }
     {
-        self.told_registers().peek(addr)
-    }
-
-    /// The registers, with what the switch tells of each link.
-    pub(super) fn told_registers(&self) -> Registers
-        ensures { result ≡ registers self.now }
-    {
-        let mut statuses = [Status::reset(); LINKS];
-        for link in 0..LINKS {
-            statuses[link] = self.status(link);
-        }
-        self.registers.told(&statuses)
+        let status = self.status(Registers::link_of(addr));
+        self.registers.peek_told(addr, &status)
     }
 
     /// What the switch tells of a link.
     #[tactic(auto, unfolding(crate::specs::Peeks::link_status))]
-    fn status(&self, link: usize) -> Status
+    pub(super) fn status(&self, link: usize) -> Status
         ensures { result ≡ link_status self.now link }
     {
         let (Some(input), Some(output)) = (self.inputs.get(link), self.outputs.get(link)) else {
