@@ -13,3 +13,4 @@ pub mod CheckLemmas
 pub mod PeerLemmas
 pub mod MendLemmas
 pub mod MisstepLemmas
+pub mod ReachLemmas

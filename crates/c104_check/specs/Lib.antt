@@ -8,3 +8,4 @@ pub mod Walking
 pub mod Refusals
 pub mod Tables
 pub mod Mends
+pub mod Reach

@@ -65,7 +65,7 @@ impl<'a> Routes<'a> {
     }
 
     /// The first of so many terminals at whose input a header is refused.
-    fn refused_before(
+    pub(crate) fn refused_before(
         &self,
         alloc: Global,
         header: u32,

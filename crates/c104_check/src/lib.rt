@@ -16,6 +16,7 @@ mod missteps;
 mod peers;
 mod ports;
 mod ranges;
+mod reaches;
 mod routes;
 mod walks;
 
@@ -24,3 +25,4 @@ pub use faults::{CheckFault, Shown};
 pub use mends::{Mend, find_mend};
 pub use missteps::{Misstep, find_misstep};
 pub use ports::SwitchPort;
+pub use reaches::Reach;

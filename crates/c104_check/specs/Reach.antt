@@ -1,0 +1,94 @@
+-- Where a header may come from all terminals, and by which links it may go on.
+--     IsReached routes h p      header h may come to input p from some terminal
+--     IsTaken routes h q      and by link q it may leave such an input
+use Rattle.std.specs.Prelude.{◌≡◌, ◌↔◌, ℕ, ◌<◌, ◌≤◌, ◌&&◌, true, List, [], ◌∷◌, ◌++◌, length, nat_le, slice_get, Option, Some, None, if◌then◌else◌}
+use Rattle.std.specs.List.{AllByRecursion, IsDistinct}
+use Rattle.c104_crossbar.specs.declared.group.Group.{Group}
+use Rattle.c104_interval.specs.declared.intervals.Select.TheVariants.{Link}
+use Rattle.c104_regs.specs.declared.registers.TheConstants.{LINKS}
+use Rattle.c104_describe.specs.declared.ports.Port.{Port}
+use Rattle.c104_describe.specs.declared.ports.Port.TheVariants as port
+use Rattle.c104_check.specs.declared.faults.CheckFault.{CheckFault}
+use Rattle.c104_check.specs.Checks.{fault_of}
+use Rattle.c104_check.specs.Refusals.{IsFirstOf, LandsBefore, Refusal}
+use Rattle.c104_check.specs.Routes.{IsEntryOf, Routes, SwitchPort, is_in_group, select}
+use Rattle.c104_check.specs.Shown.{Follows}
+use Rattle.c104_check.specs.Trails.{Checked, IsInput, Reaches, routes_in}
+use Rattle.c104_check.specs.Walks.{is_met, is_port, port_of}
+
+-- a header in the network of an image for a plan
+pub record NetworkHeader : Type 0 where
+  pub checked : Checked
+  pub header : ℕ
+
+-- what of the network decides where the header goes
+abbrev pub routes_for : NetworkHeader → Routes
+routes_for header = routes_in header.checked
+
+-- header h may come to input p over some wires, from the input of some terminal
+abbrev pub IsReached : Routes → ℕ → SwitchPort → Type 0
+IsReached routes h p =
+    (t : ℕ) × (entry : SwitchPort) × (m : ℕ) × IsEntryOf routes t entry × Reaches routes h m entry p
+
+-- it may leave input p by link q of the same switch: one of the group that it selects
+abbrev pub MayTake : Routes → ℕ → SwitchPort → SwitchPort → Type 0
+MayTake routes h p q =
+    (g : ℕ) × (p.switch ≡ q.switch) × (select routes p.switch p.link h ≡ Some (Link g)) × (is_in_group routes p.switch g q.link ≡ true)
+
+-- it may leave by link q some input to which it may come
+abbrev pub IsTaken : Routes → ℕ → SwitchPort → Type 0
+IsTaken routes h q = (p : SwitchPort) × IsReached routes h p × MayTake routes h p q
+
+-- the header is refused at the input of no terminal
+abbrev pub IsNeverRefused : Routes → ℕ → Type 0
+IsNeverRefused routes h = LandsBefore routes h (length routes.ranges)
+
+-- a fault tells how the header is refused at the first terminal where it is
+abbrev pub TellsFirst : Routes → ℕ → CheckFault → Type 0
+TellsFirst routes h fault =
+    (refusal : Refusal) × (fault ≡ fault_of refusal.why refusal.shown) × IsFirstOf routes h (length routes.ranges) refusal
+
+-- these are the inputs to which the header may come
+abbrev pub AreReached : Routes → ℕ → List SwitchPort → Type 0
+AreReached routes h inputs = (p : SwitchPort) → (is_met p inputs ≡ true) ↔ IsReached routes h p
+
+-- some of them, none of them twice
+pub record AreFound (routes : Routes) (h : ℕ) (inputs : List SwitchPort) : Type 0 where
+  pub inside : AllByRecursion (IsInput (length routes.settings)) inputs
+  pub once : IsDistinct is_port inputs
+  pub reached : AllByRecursion (IsReached routes h) inputs
+
+-- the inputs of all terminals are among these
+abbrev pub HaveEntries : Routes → List SwitchPort → Type 0
+HaveEntries routes inputs = (t : ℕ) (p : SwitchPort) → IsEntryOf routes t p → is_met p inputs ≡ true
+
+-- the inputs to which the header may go from p are
+abbrev pub HaveFollowers : Routes → ℕ → List SwitchPort → SwitchPort → Type 0
+HaveFollowers routes h inputs p = (q : SwitchPort) → Follows routes h p q → is_met q inputs ≡ true
+
+-- and those from each of the first so many
+abbrev pub HaveAllFollowers : Routes → ℕ → List SwitchPort → ℕ → Type 0
+HaveAllFollowers routes h inputs done =
+    (k : ℕ) (p : SwitchPort) → k < done → slice_get inputs k ≡ Some p → HaveFollowers routes h inputs p
+
+-- inputs to which others were added behind
+abbrev pub IsLonger : List SwitchPort → List SwitchPort → Type 0
+IsLonger old new = (more : List SwitchPort) × (new ≡ old ++ more)
+
+-- an input joins others, unless it is among them
+abbrev pub with_input : List SwitchPort → SwitchPort → List SwitchPort
+with_input inputs p = if is_met p inputs then inputs else inputs ++ p ∷ []
+
+-- and so does what a link is wired to, where that is an input
+abbrev pub with_peer : List SwitchPort → Option Port → List SwitchPort
+with_peer inputs None = inputs
+with_peer inputs (Some (port.Terminal t)) = inputs
+with_peer inputs (Some (port.Switch s i)) = with_input inputs (port_of s i)
+
+-- a group of links is the one that a header selects at an input
+pub record IsSelected (routes : Routes) (h : ℕ) (p : SwitchPort) (group : Group) : Type 0 where
+  pub link : ℕ
+  pub selects : select routes p.switch p.link h ≡ Some (Link link)
+  pub members : (o : ℕ) → is_in_group routes p.switch link o ≡ (nat_le group.first o && nat_le o group.last)
+  pub in_order : group.first ≤ group.last
+  pub below : group.last < LINKS
