@@ -5,6 +5,7 @@ ghost use Rattle.std.specs.Prelude.{map, slice_get, IfOk, IsErrOf, OnOk};
 ghost use Rattle.c104_describe.specs.PlanImage.{Fits};
 ghost use Rattle.c104_net.specs.Network.{network_arrived, placed_network};
 ghost use Rattle.c104_net.specs.NetRecords.{is_done, ticket_after, IsFirstRecord, IsNetRecord, RecordsEvent};
+ghost use Rattle.c104_net.specs.RecordedRuns.{AnswersRecord};
 
 mod rounds;
 
@@ -127,7 +128,8 @@ impl RecordedNet {
     /// has one entry more, with the event's number among those that were done. TraceFull comes after
     /// InboxFull and before NoMemory.
     pub fn apply(&mut self, event: &Event) -> Result<Reply, EventFault>
-        ensures { RecordsEvent self.old event.now result self.new }
+        ensures recorded { RecordsEvent self.old event.now result self.new }
+        ensures due { AnswersRecord self.old event.now result self.new }
     {
         let answer = happen(&self.wires, self.places.as_mut_slice(), self.count, event);
         self.count = ticket_after(self.count, was_done(&answer));

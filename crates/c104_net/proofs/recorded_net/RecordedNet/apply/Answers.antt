@@ -4,6 +4,7 @@ use Rattle.std.proofs.lemmas.List.{with_items_is}
 use Rattle.c104_net.specs.Records.{NodeRecord}
 use Rattle.c104_net.specs.NetRecords.{is_done, net_record, ticket_after, IsNetRecord, RecordsEvent}
 use Rattle.c104_net.proofs.NetRecording.{record_after, event_recorded}
+use Rattle.c104_net.proofs.RecordedRuns.{record_answers}
 use Rattle.c104_net.proofs.recorded_net.RecordedNet.apply.Goals as goal
 
 -- the run goes on by this event, where it was done
@@ -18,8 +19,8 @@ invariant_of-self c =
     (record_after c.self.inside.wires c.happen-answer.ensures.kept lent new c.self.inside.count c.args.event.now c.happen-answer.result c.happen-answer.ensures.answers c.happen-answer.ensures.start c.happen-answer.ensures.trace c.happen-answer.ensures.recorded before))
 
 -- what the event answers and leaves
-pub returns : goal.returns
-returns c =
+pub returns-clause-recorded : goal.returns-clause-recorded
+returns-clause-recorded c =
     let lent : List (NodeRecord × ℕ) = c.as_mut_slice.result.now in
     let new : List (NodeRecord × ℕ) = c.happen-answer.new.places in
     let before : IsNetRecord (net_record c.self.inside.wires lent c.self.inside.count) = subst (λ ns. IsNetRecord (net_record c.self.inside.wires ns c.self.inside.count)) (sym c.as_mut_slice.ensures.value) c.self.invariant in
@@ -31,3 +32,7 @@ returns c =
     (subst (λ ns. RecordsEvent (net_record c.self.inside.wires ns c.self.inside.count) c.args.event.now c.happen-answer.result (net_record c.self.inside.wires new (ticket_after c.self.inside.count (is_done c.happen-answer.result)))) c.as_mut_slice.ensures.value
     (event_recorded c.self.inside.wires c.happen-answer.ensures.kept lent new c.self.inside.count c.args.event.now c.happen-answer.result c.happen-answer.ensures.answers c.happen-answer.ensures.start c.happen-answer.ensures.trace c.happen-answer.ensures.recorded before c.happen-answer.ensures.free)))
     )
+
+-- what is said of it is what is due, or out of memory
+pub returns-clause-due : goal.returns-clause-due
+returns-clause-due c = record_answers c.args.self.now _ c.args.event.now c.happen-answer.result (subst IsNetRecord c.self.view_is c.self.invariant) (returns-clause-recorded c)
