@@ -1,0 +1,68 @@
+-- Each wire is drawn with a first one, which may be itself.
+use Rattle.std.proofs.Common.{◌≡◌, ℕ, zero, suc, ◌<◌, ◌+◌, ◌==◌, ◌&&◌, ◌||◌, Bool, true, false, List, [], ◌∷◌, ◌++◌, length, map, take, slice_index_or, if◌then◌else◌, Option, Some, None, refl, sym, ap, ◌∙◌, arith}
+use Rattle.std.proofs.lemmas.Bool.Decides.{nat_tests}
+use Rattle.std.proofs.lemmas.Iterator.Adapters.{position_from-zero}
+use Rattle.std.specs.List.{position_from}
+use Rattle.c104_describe.specs.declared.ports.Port.{Port}
+use Rattle.c104_describe.specs.declared.ports.Port.TheVariants as port
+use Rattle.c104_describe.specs.PlanImage.{Image}
+use Rattle.c104_describe.specs.Plans.{Plan}
+use Rattle.c104_check.specs.Reach.{NetworkHeader, routes_for}
+use Rattle.c104_check.specs.Routes.{routes_of}
+use Rattle.c104_check.specs.declared.faults.CheckFault.{CheckFault}
+use Rattle.c104_check.specs.declared.ports.SwitchPort.{SwitchPort}
+use Rattle.c104_draw.specs.Drawings.{DrawnWire, Stroke}
+use Rattle.c104_draw.specs.Edges.{are_alike, are_mates, fault_walk, first_beside, is_beside, is_same, marking_of}
+use Rattle.c104_draw.specs.Marks.{marking_by}
+use Rattle.c104_draw.proofs.ListLemmas.{map_more, mapped_next}
+
+clash_at : (n : ℕ) (b : Bool) (rest : Option ℕ) → b ≡ true → (if b then Some n else rest) ≡ None → ⊥
+clash_at n true rest is none = cc
+clash_at n false rest is none = absurd cc
+
+later : (n : ℕ) (b : Bool) (rest : Option ℕ) → (if b then Some n else rest) ≡ None → rest ≡ None
+later n true rest none = absurd cc
+later n false rest none = none
+
+none_from : {X : Type 0} (p : X → Bool) (xs : List X) (n k : ℕ) (d : X) → k < length xs → p (slice_index_or xs k d) ≡ true → position_from p n xs ≡ None → ⊥
+none_from p [] n k d below is none = absurd (omega (arith, below))
+none_from p (x ∷ xs) n zero d below is none = clash_at n (p x) (position_from p (n + 1) xs) is none
+none_from p (x ∷ xs) n (suc k) d below is none = none_from p xs (n + 1) k d (omega (arith, below)) is (later n (p x) (position_from p (n + 1) xs) none)
+
+both_true : (a b : Bool) → a ≡ true → b ≡ true → (a && b) ≡ true
+both_true a b x y = rw (x, y) refl
+
+first_true : (a b : Bool) → a ≡ true → (a || b) ≡ true
+first_true a b x = rw x refl
+
+same_number : (n : ℕ) → (n == n) ≡ true
+same_number n = grind (arith, nat_tests)
+
+mates_self : (image : Image) (p : Port) → are_mates image p p ≡ true
+mates_self image (port.Switch s l) = both_true (s == s) _ (same_number s) (first_true (l == l) _ (same_number l))
+mates_self image (port.Terminal t) = same_number t
+
+same_self : (b : Bool) → is_same b b ≡ true
+same_self true = refl
+same_self false = refl
+
+alike_self : (x : Stroke) → are_alike x x ≡ true
+alike_self x = both_true (is_same x.bold x.bold) (is_same x.red x.red) (same_self x.bold) (same_self x.red)
+
+beside_self : (image : Image) (w : DrawnWire) → is_beside image w w ≡ true
+beside_self image w =
+    both_true _ _ (both_true _ _ (mates_self image w.wire.here) (mates_self image w.wire.there)) (both_true _ _ (alike_self w.onward) (alike_self w.back))
+
+-- each wire is beside some wire
+pub is_some_beside : (image : Image) (ws : List DrawnWire) (k : ℕ) (d : DrawnWire) → k < length ws → None ≡ first_beside image ws (slice_index_or ws k d) → ⊥
+is_some_beside image ws k d below none =
+    let w = slice_index_or ws k d in
+    none_from (λ x. is_beside image x w) ws 0 k d below (beside_self image w) (sym (position_from-zero (λ x. is_beside image x w) ws) ∙ sym none)
+
+pub edges_next : (image : Image) (ws : List DrawnWire) (k edge : ℕ) (d : DrawnWire) (made new : List ℕ) → k < length ws → map Some made ≡ map (first_beside image ws) (take k ws) → Some edge ≡ first_beside image ws (slice_index_or ws k d) → new ≡ made ++ edge ∷ [] → map Some new ≡ map (first_beside image ws) (take (k + 1) ws)
+edges_next image ws k edge d made new below are one is =
+    mapped_next (first_beside image ws) ws k d (map Some made) (map Some new) (Some edge) below are one (ap (map Some) is ∙ map_more Some made edge)
+
+-- what is marked by where a header may come is what is marked in the network
+pub marking_same : (x : NetworkHeader) (plan : Plan) (image : Image) (header : ℕ) (why : Option CheckFault) (walk : List SwitchPort) → routes_for x ≡ routes_of plan image → x.header ≡ header → walk ≡ fault_walk why → marking_by x walk ≡ marking_of plan image header why
+marking_same x plan image header why walk a b c = λ i. record { routes = a i; header = b i; walk = c i }

@@ -1,0 +1,83 @@
+-- A network as it is drawn: its nodes, its wires, and how each way over a wire is drawn.
+--     drawn_nodes plan owner      each switch and each terminal, once
+--     drawn_wires plan      each wire, once
+--     IsDrawn marking drawn      how a wire is drawn, by what is marked
+use Rattle.std.specs.Prelude.{◌≡◌, ◌↔◌, ℕ, ◌==◌, Bool, false, IsTrue, List, ◌++◌, length, map, nat_lt, Option, Some, None, if◌then◌else◌}
+use Rattle.std.specs.List.{range_with_len}
+use Rattle.c104_describe.specs.declared.ports.Port.TheVariants as port
+use Rattle.c104_describe.specs.Plans.{Plan}
+use Rattle.c104_describe.specs.declared.ports.Port.{Port}
+use Rattle.c104_describe.specs.declared.ports.Wire.{Wire}
+use Rattle.c104_describe.specs.Wiring.{wires}
+use Rattle.c104_check.specs.Reach.{IsTaken}
+use Rattle.c104_check.specs.Routes.{Routes, owner}
+use Rattle.c104_check.specs.declared.ports.SwitchPort.{SwitchPort}
+use Rattle.c104_check.specs.Walks.{is_met, port_of}
+pub use Rattle.c104_draw.specs.declared.drawings.DrawnNode.{DrawnNode}
+pub use Rattle.c104_draw.specs.declared.drawings.DrawnWire.{DrawnWire}
+pub use Rattle.c104_draw.specs.declared.drawings.Stroke.{Stroke}
+use Rattle.c104_draw.specs.declared.drawings.Node.TheVariants as node
+
+-- a switch and a terminal as they are drawn; the terminal that owns the header is filled
+abbrev pub switch_node : ℕ → DrawnNode
+switch_node s = record { node = node.Switch s; filled = false }
+
+abbrev pub is_owner : Option ℕ → ℕ → Bool
+is_owner None t = false
+is_owner (Some owner) t = owner == t
+
+abbrev pub terminal_node : Option ℕ → ℕ → DrawnNode
+terminal_node owner t = record { node = node.Terminal t; filled = is_owner owner t }
+
+-- the nodes of a network: its switches, and then its terminals
+abbrev pub drawn_nodes : Plan → Option ℕ → List DrawnNode
+drawn_nodes plan owner =
+    map switch_node (range_with_len 0 (length plan.switches)) ++ map (terminal_node owner) (range_with_len 0 (length plan.terminals))
+
+-- a wire is drawn from its terminal, or else from the switch that has the lower number
+abbrev pub is_backward : Port → Port → Bool
+is_backward (port.Switch s l) (port.Switch s' l') = nat_lt s' s
+is_backward (port.Switch s l) (port.Terminal t) = false
+is_backward (port.Terminal t) (port.Switch s l) = false
+is_backward (port.Terminal t) (port.Terminal t') = false
+
+abbrev pub ordered : Wire → Wire
+ordered w = if is_backward w.here w.there then record { here = w.there; there = w.here } else w
+
+-- the wires of a network: those of its terminals, and then those between switches
+abbrev pub drawn_wires : Plan → List Wire
+drawn_wires plan = map ordered (wires plan)
+
+-- a header whose ways through a network are marked, and the inputs of the walk that shows why it is refused:
+-- none where it isn't
+pub record Marking : Type 0 where
+  pub routes : Routes
+  pub header : ℕ
+  pub walk : List SwitchPort
+
+-- the owner of the header
+abbrev pub marked_owner : Option Marking → Option ℕ
+marked_owner None = None
+marked_owner (Some m) = owner m.routes m.header
+
+-- the way from a port is bold: it is a link by which the header may leave an input to which it may come
+abbrev pub IsBold : Option Marking → Port → Type 0
+IsBold None p = ⊥
+IsBold (Some m) (port.Switch s o) = IsTaken m.routes m.header (port_of s o)
+IsBold (Some m) (port.Terminal t) = ⊥
+
+-- the way to a port is red: it is an input of the walk
+abbrev pub is_red : Option Marking → Port → Bool
+is_red None p = false
+is_red (Some m) (port.Switch s i) = is_met (port_of s i) m.walk
+is_red (Some m) (port.Terminal t) = false
+
+-- how the way from a port to another is drawn
+pub record IsStroke (marking : Option Marking) (from to : Port) (stroke : Stroke) : Type 0 where
+  pub bold : IsTrue stroke.bold ↔ IsBold marking from
+  pub red : stroke.red ≡ is_red marking to
+
+-- how a wire is drawn, by its two ways
+pub record IsDrawn (marking : Option Marking) (drawn : DrawnWire) : Type 0 where
+  pub onward : IsStroke marking drawn.wire.here drawn.wire.there drawn.onward
+  pub back : IsStroke marking drawn.wire.there drawn.wire.here drawn.back

@@ -1,0 +1,16 @@
+//! Pictures of networks.
+//!
+//! [`draw`] gives the [`Drawing`] of a network: its nodes, which are its switches and terminals, its wires, and
+//! which wires are drawn as one edge. [`draw_header`] marks in it the ways of a header: the links that it may
+//! take, its owner, and the walk by which it is refused, if it is.
+#![tactic(auto)]
+
+mod drawings;
+mod edges;
+mod marks;
+mod nodes;
+mod pictures;
+mod wires;
+
+pub use drawings::{DrawnNode, DrawnWire, Node, Stroke};
+pub use pictures::{Drawing, HeaderDrawing, draw, draw_header};

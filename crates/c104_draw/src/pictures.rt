@@ -1,0 +1,134 @@
+//! Pictures.
+ghost use Rattle.std.specs.Prelude.{◌≡◌, Some, None, IfOk, MatchOption};
+ghost use Rattle.c104_check.specs.Reach.{IsNeverRefused, TellsFirst};
+ghost use Rattle.c104_check.specs.Routes.{routes_of};
+ghost use Rattle.c104_describe.specs.PlanImage.{Fits};
+ghost use Rattle.c104_draw.specs.Edges.{IsDrawing, fault_walk, marking_of};
+
+use crate::drawings::{DrawnNode, DrawnWire};
+use crate::edges::edges_of;
+use crate::marks::{marked_wires, plain_wires};
+use crate::nodes::drawn_nodes;
+use crate::wires::drawn_wires;
+use c104_check::{CheckFault, Reach, SwitchPort};
+use c104_describe::{Image, Plan};
+use c104_token::NoMemory;
+use std::alloc::Global;
+use std::marker::Model;
+
+/// A picture of a network.
+#[derive(Drop)]
+pub struct Drawing {
+    nodes: Vec<DrawnNode>,
+    wires: Vec<DrawnWire>,
+    edges: Vec<usize>,
+}
+
+impl Model for Drawing {
+    ghost use Rattle.c104_draw.specs.Edges.{Drawing as TheDrawing};
+
+    ghost Value = { TheDrawing };
+
+    ghost view = { λ drawing. record {
+      nodes = drawing.nodes.items;
+      wires = drawing.wires.items;
+      edges = drawing.edges.items;
+    } };
+}
+
+impl Drawing {
+    /// The nodes: the switches, and then the terminals, each in the order of the plan.
+    pub fn nodes(&self) -> &[DrawnNode]
+        ensures { result.now ≡ self.now.nodes }
+    {
+        self.nodes.as_slice()
+    }
+
+    /// The wires: those of the terminals, and then those between switches, each in the order of the plan.
+    pub fn wires(&self) -> &[DrawnWire]
+        ensures { result.now ≡ self.now.wires }
+    {
+        self.wires.as_slice()
+    }
+
+    /// By wire the number of the first wire that is drawn with it as one edge, which may be its own.
+    pub fn edges(&self) -> &[usize]
+        ensures { result.now ≡ self.now.edges }
+    {
+        self.edges.as_slice()
+    }
+}
+
+/// A picture in which the ways of a header are marked.
+#[derive(Drop)]
+pub struct HeaderDrawing {
+    /// The picture.
+    pub drawing: Drawing,
+    /// Why the header is refused at the first terminal where it is, if it is at any. The picture shows the walk.
+    pub fault: Option<CheckFault>,
+}
+
+/// The picture of a network, of an image that fits its plan.
+///
+/// It has each switch, each terminal and each wire once. Wires are drawn as one edge that join the same two
+/// switches, at both by links of one group. It fails only when out of memory.
+pub fn draw(alloc: Global, plan: &Plan, image: &Image) -> Result<Drawing, NoMemory>
+    ensures { IfOk result (IsDrawing plan.now image.now None) }
+{
+    let nodes = drawn_nodes(alloc, plan, None)?;
+    let wires = drawn_wires(alloc, plan)?;
+    let wires = plain_wires(alloc, wires.as_slice())?;
+    let edges = edges_of(alloc, image, wires.as_slice())?;
+    Ok(Drawing {
+        nodes,
+        wires,
+        edges,
+    })
+}
+
+/// The same with the ways of a header: bold are the links by which it may leave an input to which it may come
+/// from some terminal, filled is the terminal that owns it, and where it is refused the walk that shows why is red.
+pub fn draw_header(
+    alloc: Global,
+    plan: &Plan,
+    image: &Image,
+    header: u32,
+) -> Result<HeaderDrawing, NoMemory>
+    requires { Fits image.now plan.now }
+    ensures drawing { IfOk result (λ drawn. IsDrawing plan.now image.now
+        (Some (marking_of plan.now image.now header drawn.fault)) drawn.drawing) }
+    ensures fault { IfOk result (λ drawn. MatchOption drawn.fault
+        (IsNeverRefused (routes_of plan.now image.now) header)
+        (TellsFirst (routes_of plan.now image.now) header)) }
+{
+    let reach = Reach::new(alloc, plan, image, header)?;
+    let fault = reach.refusal(alloc)?;
+    let nodes = drawn_nodes(alloc, plan, reach.owner())?;
+    let wires = drawn_wires(alloc, plan)?;
+    let wires = marked_wires(alloc, wires.as_slice(), &reach, fault_walk(&fault))?;
+    let edges = edges_of(alloc, image, wires.as_slice())?;
+    let drawing = Drawing {
+        nodes,
+        wires,
+        edges,
+    };
+    Ok(HeaderDrawing { drawing, fault })
+}
+
+/// The walk that a fault tells, if it tells one.
+fn fault_walk(fault: &Option<CheckFault>) -> &[SwitchPort]
+    ensures { result.now ≡ fault_walk fault.now }
+{
+    match fault {
+        Some(CheckFault::WrongEnd(shown)) => shown.walk.as_slice(),
+        Some(CheckFault::DeadEnd(shown)) => shown.walk.as_slice(),
+        Some(CheckFault::Loop(shown)) => shown.walk.as_slice(),
+        Some(CheckFault::Stray(shown)) => shown.walk.as_slice(),
+        Some(CheckFault::RangesOverlap(_, _)) => &[],
+        Some(CheckFault::LabelTooLarge(_)) => &[],
+        Some(CheckFault::MixedHeaders(_)) => &[],
+        Some(CheckFault::DeleteInside(_)) => &[],
+        Some(CheckFault::NoMemory) => &[],
+        None => &[],
+    }
+}
