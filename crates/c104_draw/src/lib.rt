@@ -5,12 +5,15 @@
 //! take, its owner, and the walk by which it is refused, if it is.
 #![tactic(auto)]
 
+mod dot;
 mod drawings;
 mod edges;
+mod frames;
 mod marks;
 mod nodes;
 mod pictures;
 mod wires;
 
+pub use dot::drawing_text;
 pub use drawings::{DrawnNode, DrawnWire, Node, Stroke};
 pub use pictures::{Drawing, HeaderDrawing, draw, draw_header};

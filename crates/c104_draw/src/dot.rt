@@ -1,0 +1,244 @@
+//! A picture as a text for Graphviz. Of the text nothing is proved but that it is made safely.
+
+use crate::drawings::{DrawnNode, DrawnWire, Node, Stroke};
+use crate::frames::{Frame, Place};
+use crate::pictures::Drawing;
+use c104_describe::{Image, Plan, Port, Wire};
+use std::alloc::{AllocError, Global};
+
+/// What stands before the nodes of all pictures.
+const HEAD: &str = "digraph \"c104\" {
+  graph [outputorder=edgesfirst, fontname=\"Helvetica\", fontsize=14, labelloc=t, ranksep=0.6, nodesep=0.3]
+  node [fontname=\"Helvetica\", fontsize=11, height=0.25, width=0.35, margin=\"0.06,0.03\", style=filled, fillcolor=white]
+  edge [fontname=\"Helvetica\", fontsize=8, dir=none, arrowsize=0.7]
+";
+
+/// What stands besides before nodes whose places are given.
+const PLACED: &str = "  graph [layout=neato, inputscale=72, splines=line]\n";
+
+/// The text of a picture of the network of an image for a plan, in the language of Graphviz, with a title.
+///
+/// Each node and each edge has a line, and each name is quoted. A mesh stands on its grid, a cube on its drawn
+/// cube, and all else hangs from the root of its tree, or else from the first switch. Link numbers stand at both
+/// ends of an edge; wires that are drawn as one have theirs in the same order at both.
+pub fn drawing_text(
+    alloc: Global,
+    plan: &Plan,
+    image: &Image,
+    drawing: &Drawing,
+    title: &str,
+) -> Result<String, AllocError> {
+    let frame = Frame::of(alloc, plan)?;
+    let mut text = String::new(alloc);
+    text.push_str(HEAD)?;
+    if !frame.hangs() {
+        text.push_str(PLACED)?;
+    }
+    if !title.is_empty() {
+        let line = format!(in alloc; "  label=\"{title}\"\n")?;
+        text.push_str(line.as_str())?;
+    }
+    add_nodes(alloc, &mut text, plan, image, drawing, &frame)?;
+    add_edges(alloc, &mut text, plan, drawing, &frame, !title.is_empty())?;
+    text.push_str("}\n")?;
+    Ok(text)
+}
+
+/// The lines of the nodes join the text.
+fn add_nodes(
+    alloc: Global,
+    text: &mut String,
+    plan: &Plan,
+    image: &Image,
+    drawing: &Drawing,
+    frame: &Frame,
+) -> Result<(), AllocError> {
+    for node in drawing.nodes() {
+        let line = node_line(alloc, plan, image, *node, frame)?;
+        text.push_str(line.as_str())?;
+    }
+    Ok(())
+}
+
+/// The line of a node.
+fn node_line(
+    alloc: Global,
+    plan: &Plan,
+    image: &Image,
+    node: DrawnNode,
+    frame: &Frame,
+) -> Result<String, AllocError> {
+    match node.node {
+        Node::Switch(switch) => {
+            let name = switch_name(plan, switch);
+            let place = place_text(alloc, frame.switch_place(switch))?;
+            let place = place.as_str();
+            format!(in alloc; "  \"{name}\" [shape=box, fillcolor=gray90{place}]\n")
+        }
+        Node::Terminal(terminal) => {
+            let name = terminal_name(plan, terminal);
+            let labels = labels_text(alloc, image.range(terminal))?;
+            let labels = labels.as_str();
+            let place = place_text(alloc, frame.terminal_place(terminal))?;
+            let place = place.as_str();
+            let fill = if node.filled { ", fillcolor=gold" } else { "" };
+            format!(in alloc; "  \"{name}\" [label=\"{name}\\n{labels}\"{fill}{place}]\n")
+        }
+    }
+}
+
+/// The labels of a terminal: the first and the last.
+fn labels_text(alloc: Global, range: Option<(u32, u32)>) -> Result<String, AllocError> {
+    match range {
+        None => Ok(String::new(alloc)),
+        Some((first, 1)) => format!(in alloc; "{first}"),
+        Some((first, count)) => {
+            let last = first.saturating_add(count).saturating_sub(1);
+            format!(in alloc; "{first}-{last}")
+        }
+    }
+}
+
+/// Where a node stands, if that is given.
+fn place_text(alloc: Global, place: Option<Place>) -> Result<String, AllocError> {
+    let Some(place) = place else {
+        return Ok(String::new(alloc));
+    };
+    let right = place.right;
+    let up = place.up;
+    format!(in alloc; ", pos=\"{right},{up}!\"")
+}
+
+/// The lines of the edges join the text.
+fn add_edges(
+    alloc: Global,
+    text: &mut String,
+    plan: &Plan,
+    drawing: &Drawing,
+    frame: &Frame,
+    marked: bool,
+) -> Result<(), AllocError> {
+    for (number, wire) in drawing.wires().iter().enumerate() {
+        if drawing.edges().get(number) == Some(&number) {
+            let line = edge_line(alloc, plan, drawing, number, wire, frame, marked)?;
+            text.push_str(line.as_str())?;
+        }
+    }
+    Ok(())
+}
+
+/// The line of the edge of this number, whose first wire is given: from the end that hangs higher to the other.
+fn edge_line(
+    alloc: Global,
+    plan: &Plan,
+    drawing: &Drawing,
+    number: usize,
+    wire: &DrawnWire,
+    frame: &Frame,
+    marked: bool,
+) -> Result<String, AllocError> {
+    let turned = frame.is_lower(wire.wire.here, wire.wire.there);
+    let wire = if turned { wire.turned() } else { *wire };
+    let tail = port_name(plan, wire.wire.here);
+    let head = port_name(plan, wire.wire.there);
+    let tail_links = links_text(alloc, drawing, number, turned)?;
+    let tail_links = tail_links.as_str();
+    let head_links = links_text(alloc, drawing, number, !turned)?;
+    let head_links = head_links.as_str();
+    let style = style_text(wire.onward, wire.back, marked);
+    let level = if frame.is_level(wire.wire.here, wire.wire.there) {
+        ", constraint=false"
+    } else {
+        ""
+    };
+    format!(in alloc;
+        "  \"{tail}\" -> \"{head}\" [taillabel=\"{tail_links}\", headlabel=\"{head_links}\"{style}{level}]\n"
+    )
+}
+
+/// How an edge is drawn, by its two ways: bold ones with an arrow, and red those of a refused walk.
+fn style_text(onward: Stroke, back: Stroke, marked: bool) -> &'static str {
+    let forward = onward.bold || onward.red;
+    let backward = back.bold || back.red;
+    let red = onward.red || back.red;
+    match (forward, backward, red) {
+        (true, true, true) => ", dir=both, penwidth=3, color=red",
+        (true, false, true) => ", dir=forward, penwidth=3, color=red",
+        (false, true, true) => ", dir=back, penwidth=3, color=red",
+        (true, true, false) => ", dir=both, penwidth=3",
+        (true, false, false) => ", dir=forward, penwidth=3",
+        (false, true, false) => ", dir=back, penwidth=3",
+        (false, false, _) => { if marked { ", color=gray60" } else { "" } }
+    }
+}
+
+/// The links of an edge at one end, in the order of its wires.
+fn links_text(
+    alloc: Global,
+    drawing: &Drawing,
+    edge: usize,
+    there: bool,
+) -> Result<String, AllocError> {
+    let mut text = String::new(alloc);
+    for (wire, of) in drawing.wires().iter().zip(drawing.edges()) {
+        if *of == edge {
+            let end = if there {
+                wire.wire.there
+            } else {
+                wire.wire.here
+            };
+            add_link(alloc, &mut text, end)?;
+        }
+    }
+    Ok(text)
+}
+
+/// The link of an end joins others. That of a terminal has no number.
+fn add_link(alloc: Global, text: &mut String, end: Port) -> Result<(), AllocError> {
+    let Port::Switch(_, link) = end else {
+        return Ok(());
+    };
+    if !text.is_empty() {
+        text.push(',')?;
+    }
+    let link = format!(in alloc; "{link}")?;
+    text.push_str(link.as_str())
+}
+
+impl DrawnWire {
+    /// The wire drawn the other way round.
+    fn turned(&self) -> DrawnWire {
+        DrawnWire {
+            wire: Wire {
+                here: self.wire.there,
+                there: self.wire.here,
+            },
+            onward: self.back,
+            back: self.onward,
+        }
+    }
+}
+
+/// The name of what a port belongs to.
+fn port_name(plan: &Plan, port: Port) -> &str {
+    match port {
+        Port::Switch(switch, _) => switch_name(plan, switch),
+        Port::Terminal(terminal) => terminal_name(plan, terminal),
+    }
+}
+
+/// The name of a switch; where there is none, nothing.
+fn switch_name(plan: &Plan, number: usize) -> &str {
+    match plan.switches().get(number) {
+        Some(name) => name.as_str(),
+        None => "",
+    }
+}
+
+/// The name of a terminal; where there is none, nothing.
+fn terminal_name(plan: &Plan, number: usize) -> &str {
+    match plan.terminals().get(number) {
+        Some(terminal) => terminal.name.as_str(),
+        None => "",
+    }
+}

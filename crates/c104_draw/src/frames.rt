@@ -1,0 +1,276 @@
+//! Where the nodes of a picture stand. Nothing is proved of it but that it is safe and ends.
+ghost use Rattle.std.specs.Prelude.{◌≤◌};
+
+use c104_describe::{Plan, Port, Shape};
+use std::alloc::{AllocError, Global};
+
+/// How the nodes of a picture are placed.
+#[derive(Drop)]
+pub(crate) enum Frame {
+    /// The switches stand on a grid of so many columns and rows, each with so many terminals round it.
+    Grid(usize, usize, usize),
+    /// The switches are the corners of a cube, each with so many terminals round it.
+    Cube(usize),
+    /// The switches hang from one, each by so many wires, and the terminals hang from their switches.
+    Hanging(Vec<usize>),
+}
+
+/// A place of a picture, in points to the right and upwards.
+#[derive(Clone, Copy)]
+pub(crate) struct Place {
+    pub(crate) right: usize,
+    pub(crate) up: usize,
+}
+
+/// How far each direction goes to the right and upwards, from 0 to 200, where 100 is no way at all. They begin
+/// at the right and go round against the clock.
+const DIRECTIONS: [(usize, usize); 32] = [
+    (200, 100),
+    (198, 120),
+    (192, 138),
+    (183, 156),
+    (171, 171),
+    (156, 183),
+    (138, 192),
+    (120, 198),
+    (100, 200),
+    (80, 198),
+    (62, 192),
+    (44, 183),
+    (29, 171),
+    (17, 156),
+    (8, 138),
+    (2, 120),
+    (0, 100),
+    (2, 80),
+    (8, 62),
+    (17, 44),
+    (29, 29),
+    (44, 17),
+    (62, 8),
+    (80, 2),
+    (100, 0),
+    (120, 2),
+    (138, 8),
+    (156, 17),
+    (171, 29),
+    (183, 44),
+    (192, 62),
+    (198, 80),
+];
+
+/// How far a bit of a corner's number moves it to the right and upwards, in hundredths of an edge.
+const CORNERS: [(usize, usize); 6] = [
+    (100, 0),
+    (0, 100),
+    (45, 35),
+    (230, 20),
+    (20, 230),
+    (480, 60),
+];
+
+impl Frame {
+    /// The frame of a plan: its mesh's grid, its cube, or else its tree, which hangs from the root; a network of
+    /// no tree hangs from its first switch.
+    pub(crate) fn of(alloc: Global, plan: &Plan) -> Result<Frame, AllocError> {
+        match plan.shape() {
+            Shape::Mesh(columns, rows, terminals) => Ok(Frame::Grid(columns, rows, terminals)),
+            Shape::Cube(_, terminals) => Ok(Frame::Cube(terminals)),
+            Shape::Tree(root) => Ok(Frame::Hanging(depths(alloc, plan, root)?)),
+            Shape::Hand => Ok(Frame::Hanging(depths(alloc, plan, 0)?)),
+        }
+    }
+
+    /// Where a switch stands. None where Graphviz is to place it.
+    pub(crate) fn switch_place(&self, switch: usize) -> Option<Place> {
+        match self {
+            Frame::Grid(columns, rows, terminals) => {
+                Some(grid_corner(*columns, *rows, switch, edge(*terminals)).moved(
+                    *terminals,
+                    (100, 100),
+                ))
+            }
+            Frame::Cube(terminals) => {
+                Some(cube_corner(switch, edge(*terminals)).moved(*terminals, (100, 100)))
+            }
+            Frame::Hanging(_) => None,
+        }
+    }
+
+    /// Where a terminal stands. None where Graphviz is to place it.
+    pub(crate) fn terminal_place(&self, terminal: usize) -> Option<Place> {
+        match self {
+            Frame::Grid(columns, rows, terminals) => {
+                let switch = terminal / (*terminals).max(1);
+                let way = direction(terminal % (*terminals).max(1), *terminals, &[28, 20, 4, 12]);
+                Some(grid_corner(*columns, *rows, switch, edge(*terminals)).moved(*terminals, way))
+            }
+            Frame::Cube(terminals) => {
+                let switch = terminal / (*terminals).max(1);
+                let way = direction(
+                    terminal % (*terminals).max(1),
+                    *terminals,
+                    &[28, 12, 30, 10],
+                );
+                Some(cube_corner(switch, edge(*terminals)).moved(*terminals, way))
+            }
+            Frame::Hanging(_) => None,
+        }
+    }
+
+    /// Whether a port hangs lower than another. A terminal hangs lower than its switch.
+    pub(crate) fn is_lower(&self, port: Port, other: Port) -> bool {
+        match (port, other) {
+            (Port::Terminal(_), _) => self.hangs(),
+            (_, Port::Terminal(_)) => false,
+            (Port::Switch(switch, _), Port::Switch(its, _)) => self.depth(its) < self.depth(switch),
+        }
+    }
+
+    /// Whether two ports hang equally low.
+    pub(crate) fn is_level(&self, port: Port, other: Port) -> bool {
+        self.hangs() && !self.is_lower(port, other) && !self.is_lower(other, port)
+    }
+
+    /// Whether the nodes hang from one another.
+    pub(crate) fn hangs(&self) -> bool {
+        match self {
+            Frame::Hanging(_) => true,
+            _ => false,
+        }
+    }
+
+    /// By how many wires a switch hangs.
+    fn depth(&self, switch: usize) -> usize {
+        let Frame::Hanging(depths) = self else {
+            return 0;
+        };
+        match depths.as_slice().get(switch) {
+            Some(depth) => *depth,
+            None => 0,
+        }
+    }
+}
+
+impl Place {
+    /// The place to which a direction leads, by how many terminals are round a switch.
+    fn moved(self, terminals: usize, way: (usize, usize)) -> Place {
+        let (right, up) = way;
+        Place {
+            right: self
+                .right
+                .saturating_add(radius(terminals).saturating_mul(right) / 100),
+            up: self
+                .up
+                .saturating_add(radius(terminals).saturating_mul(up) / 100),
+        }
+    }
+}
+
+/// How far so many terminals stand from their switch.
+fn radius(terminals: usize) -> usize
+    ensures { result ≤ 170 }
+{
+    match terminals {
+        0..=4 => 50,
+        5..=8 => 65,
+        9..=16 => 100,
+        _ => 170,
+    }
+}
+
+/// How far switches with so many terminals stand from one another.
+fn edge(terminals: usize) -> usize {
+    2 * radius(terminals) + 60
+}
+
+/// The direction of a terminal of a switch that has so many. The first four are given.
+fn direction(terminal: usize, terminals: usize, first: &[usize]) -> (usize, usize) {
+    let slots: usize = match terminals {
+        0..=4 => 4,
+        5..=8 => 8,
+        9..=16 => 16,
+        _ => 28,
+    };
+    let number = match first.get(terminal) {
+        Some(number) if slots == 4 => *number,
+        _ => slot(terminal.min(27), slots),
+    };
+    DIRECTIONS[number % 32]
+}
+
+/// The direction of a slot, of which none lies on the way to a neighbour.
+fn slot(terminal: usize, slots: usize) -> usize {
+    let number = (2 * terminal.min(27) + 1) * 14 / slots.max(1);
+    number + number / 7 + 1
+}
+
+/// The lower left corner of what is drawn of a switch on a grid.
+fn grid_corner(columns: usize, rows: usize, switch: usize, edge: usize) -> Place {
+    let row = switch / columns.max(1);
+    Place {
+        right: (switch % columns.max(1)).saturating_mul(edge),
+        up: rows
+            .saturating_sub(1)
+            .saturating_sub(row)
+            .saturating_mul(edge),
+    }
+}
+
+/// The lower left corner of what is drawn of a switch of a cube.
+fn cube_corner(switch: usize, edge: usize) -> Place {
+    let mut place = Place { right: 0, up: 0 };
+    let mut rest = switch;
+    for (right, up) in CORNERS {
+        if rest % 2 == 1 {
+            place.right = place.right.saturating_add(edge.saturating_mul(right) / 100);
+            place.up = place.up.saturating_add(edge.saturating_mul(up) / 100);
+        }
+        rest /= 2;
+    }
+    place
+}
+
+/// By how many wires each switch hangs from a root, or from the first switch of its own part of the network.
+fn depths(alloc: Global, plan: &Plan, root: usize) -> Result<Vec<usize>, AllocError> {
+    let switches = plan.switches().len();
+    let mut depths = vec![in alloc; switches; switches]?;
+    hang(plan, root, &mut depths);
+    for switch in 0..switches {
+        hang(plan, switch, &mut depths);
+    }
+    Ok(depths)
+}
+
+/// A switch that doesn't hang yet is a root, and what is wired to it hangs from it.
+fn hang(plan: &Plan, root: usize, depths: &mut [usize]) {
+    let switches = depths.len();
+    if root >= switches || depths[root] < switches {
+        return;
+    }
+    depths[root] = 0;
+    for _round in 0..switches {
+        lower(plan, depths);
+    }
+}
+
+/// Each switch hangs from the highest that is wired to it.
+fn lower(plan: &Plan, depths: &mut [usize]) {
+    for wire in plan.wires() {
+        if let (Port::Switch(switch, _), Port::Switch(other, _)) = (wire.here, wire.there) {
+            lower_one(depths, switch, other);
+            lower_one(depths, other, switch);
+        }
+    }
+}
+
+/// A switch hangs from another, if it hung lower than that.
+fn lower_one(depths: &mut [usize], switch: usize, other: usize) {
+    if switch >= depths.len() || other >= depths.len() {
+        return;
+    }
+    let depth = depths[other].saturating_add(1);
+    if depth < depths[switch] {
+        depths[switch] = depth;
+    }
+}
