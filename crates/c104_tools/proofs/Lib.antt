@@ -1,0 +1,4 @@
+pub mod Replies
+pub mod Progress
+pub mod Rests
+pub mod LoadParts

@@ -1,0 +1,31 @@
+use Rattle.std.proofs.Common.{◌∙◌}
+use Rattle.c104_tools.proofs.LoadParts.{load_first, load_last, load_second}
+use Rattle.c104_tools.proofs.Progress.{performed_stops, went_on}
+use Rattle.c104_tools.specs.Steps.{IsUnanswered, command_fails}
+use Rattle.c104_tools.proofs.loading.load.Goals as goal
+
+pub returns-in_err-ask_each-clause-performed : goal.returns-in_err-ask_each-clause-performed
+returns-in_err-ask_each-clause-performed g c same =
+    let asked = g.P.ControlPort.commands in
+    let fails = command_fails (IsUnanswered asked g.P.ControlPort.unanswered (asked c.ask_each.new.port)) in
+    performed_stops fails _ _ _ c.in_err-ask_each.field-0.0 c.from_residual.result c.from_residual.ensures
+    (load_first fails c.switches-count.result c.switches-kept.result.now _ (c.switches-count.ensures.count ∙ same) c.switches-kept.ensures.settings _ _ _ c.in_err-ask_each.ensures.performed)
+
+pub returns-in_err-poke_all-clause-performed : goal.returns-in_err-poke_all-clause-performed
+returns-in_err-poke_all-clause-performed g c same =
+    let asked = g.P.ControlPort.commands in
+    let fails = command_fails (IsUnanswered asked g.P.ControlPort.unanswered (asked c.poke_all.new.port)) in
+    performed_stops fails _ _ _ c.in_err-poke_all.field-0.0 c.from_residual-in_err-poke_all.result c.from_residual-in_err-poke_all.ensures
+    (load_second fails c.switches-count.result c.switches-kept.result.now _ (c.switches-count.ensures.count ∙ same) c.switches-kept.ensures.settings _ _ _ _ c.in_ok-ask_each.ensures.performed c.in_err-poke_all.ensures.performed)
+
+pub returns-in_err-poke_all-clause-went : goal.returns-in_err-poke_all-clause-went
+returns-in_err-poke_all-clause-went g c = went_on _ _ _ _ _ _ c.in_ok-ask_each.ensures.went c.in_err-poke_all.ensures.went
+
+pub returns-clause-performed : goal.returns-clause-performed
+returns-clause-performed g c same =
+    let asked = g.P.ControlPort.commands in
+    let fails = command_fails (IsUnanswered asked g.P.ControlPort.unanswered (asked c.ask_each-2.new.port)) in
+    load_last fails c.switches-count.result c.switches-kept.result.now _ (c.switches-count.ensures.count ∙ same) c.switches-kept.ensures.settings _ _ _ _ _ c.in_ok-ask_each.ensures.performed c.in_ok-poke_all.ensures.performed c.ask_each-2.ensures.performed
+
+pub returns-clause-went : goal.returns-clause-went
+returns-clause-went g c = went_on _ _ _ _ _ _ (went_on _ _ _ _ _ _ c.in_ok-ask_each.ensures.went c.in_ok-poke_all.ensures.went) c.ask_each-2.ensures.went

@@ -1,0 +1,4 @@
+pub mod Ports
+pub mod LoadFaults
+pub mod Steps
+pub mod Loads

@@ -1,0 +1,64 @@
+//! One command through a port, and what its reply tells.
+ghost use Rattle.std.specs.Prelude.{◌≡◌, [], ◌∷◌, ◌++◌, MatchResult};
+ghost use Rattle.c104_tools.specs.Ports.{CameBy};
+ghost use Rattle.c104_tools.specs.Steps.{IsFaultOf, IsUnanswered, done, judged, may_refuse, named_address};
+
+use crate::faults::LoadFault;
+use crate::ports::ControlPort;
+use c104_control::{ALREADY_STARTED, Answer, Command, DEVICE_ID, read_reply, write_command};
+
+/// Asks a command of a switch. It gives the value that a peek reads, and 0 of any other command.
+pub(crate) fn ask<P: ControlPort>(
+    port: &mut P,
+    switch: usize,
+    command: Command,
+) -> Result<u32, LoadFault>
+    ensures answer { MatchResult result
+        (λ v. P.commands port.new ≡ P.commands port.old ++ done switch command v ∷ [])
+        (λ f. IsFaultOf (IsUnanswered P.commands P.unanswered (P.commands port.new)) (P.commands port.old) (P.commands port.new) switch command f) }
+    ensures went { CameBy P.commands P.shown port.old port.new }
+    ensures count { P.switch_count port.new ≡ P.switch_count port.old }
+{
+    let reply = port.command(switch, &write_command(&command))?;
+    judge(switch, command, read_reply(reply.as_slice()))
+}
+
+/// What comes of what a switch answered to a command, if it was an answer.
+fn judge(switch: usize, command: Command, answer: Option<Answer>) -> Result<u32, LoadFault>
+    ensures { result ≡ judged switch command answer }
+{
+    match (command, answer) {
+        (Command::Start, Some(Answer::Started))
+        | (Command::Reset, Some(Answer::WasReset))
+        | (Command::Identify, Some(Answer::Identity(DEVICE_ID)))
+        | (Command::CPoke(_, _), Some(Answer::Poked)) => Ok(0),
+        (Command::CPeek(_), Some(Answer::Value(value))) => Ok(value),
+        (_, Some(Answer::Refused(number))) if may_refuse(command, number) => {
+            Err(LoadFault::Refused(switch, named_address(command), number))
+        }
+        _ => Err(LoadFault::BadReply(switch)),
+    }
+}
+
+/// Whether a refusal of this number is an answer to a command.
+fn may_refuse(command: Command, number: u8) -> bool
+    ensures { result ≡ may_refuse command number }
+{
+    match command {
+        Command::Start => number == ALREADY_STARTED,
+        Command::Reset | Command::Identify => false,
+        Command::CPeek(_) => number == 3,
+        Command::CPoke(_, _) => number == 3 || number == 4 || number == 5 || number == 6,
+    }
+}
+
+/// The register that a refusal names.
+fn named_address(command: Command) -> u16
+    ensures { result ≡ named_address command }
+{
+    match command {
+        Command::Start => 0x0001,
+        Command::CPeek(addr) | Command::CPoke(addr, _) => addr,
+        Command::Reset | Command::Identify => 0x0000,
+    }
+}

@@ -1,0 +1,77 @@
+//! The loader.
+ghost use Rattle.std.specs.Prelude.{◌≡◌, ◌≢◌, ◌↔◌, true, Bool, Err, length};
+ghost use Rattle.c104_describe.specs.PlanImage.{AreSettings};
+ghost use Rattle.c104_tools.specs.declared.faults.LoadFault.TheVariants as fault;
+ghost use Rattle.c104_tools.specs.Loads.{for_each, load_list, pokes, steps_from, switch_pokes};
+ghost use Rattle.c104_tools.specs.Ports.{CameBy};
+ghost use Rattle.c104_tools.specs.Steps.{CarriedOut, reads_nothing};
+
+use crate::commands::ask;
+use crate::faults::LoadFault;
+use crate::ports::ControlPort;
+use c104_control::Command;
+use c104_describe::{Image, SwitchImage};
+
+/// Asks a command that reads nothing of each of so many switches, in order.
+fn ask_each<P: ControlPort>(port: &mut P, count: usize, command: Command) -> Result<(), LoadFault>
+    requires { reads_nothing command ≡ true }
+    ensures performed { CarriedOut P.commands P.unanswered port.old port.new (for_each count command) result }
+    ensures went { CameBy P.commands P.shown port.old port.new }
+    ensures count { P.switch_count port.new ≡ P.switch_count port.old }
+{
+    for switch in 0..count {
+        ask(port, switch, command)?;
+    }
+    Ok(())
+}
+
+/// Pokes values into a switch, each at its address.
+fn poke_values<P: ControlPort>(
+    port: &mut P,
+    switch: usize,
+    values: &[(u16, u32)],
+) -> Result<(), LoadFault>
+    ensures performed { CarriedOut P.commands P.unanswered port.old port.new (pokes switch values.now) result }
+    ensures went { CameBy P.commands P.shown port.old port.new }
+    ensures count { P.switch_count port.new ≡ P.switch_count port.old }
+{
+    for entry in values {
+        ask(port, switch, Command::CPoke(entry.0, entry.1))?;
+    }
+    Ok(())
+}
+
+/// Pokes what an image keeps into each of its switches.
+fn poke_all<P: ControlPort>(port: &mut P, image: &[SwitchImage]) -> Result<(), LoadFault>
+    ensures performed { CarriedOut P.commands P.unanswered port.old port.new (steps_from switch_pokes 0 image.now) result }
+    ensures went { CameBy P.commands P.shown port.old port.new }
+    ensures count { P.switch_count port.new ≡ P.switch_count port.old }
+{
+    for (switch, kept) in image.iter().enumerate() {
+        poke_values(port, switch, kept.values())?;
+    }
+    Ok(())
+}
+
+/// Loads an image into the switches of a port: each is reset, then all that the image keeps is
+/// poked, by switch and by address, and then each is started.
+///
+/// NoSwitch where the image is of another number of switches; Refused and BadReply where a switch
+/// answers so, and Port where the port doesn't answer. Then nothing more is asked, and what was
+/// done stays.
+pub fn load<P: ControlPort>(port: &mut P, image: &Image) -> Result<(), LoadFault>
+    ensures unfitting { (result ≡ Err fault.NoSwitch) ↔ (P.switch_count port.old ≢ length image.now.settings) }
+    ensures not_asked { P.switch_count port.old ≢ length image.now.settings → P.commands port.new ≡ P.commands port.old }
+    ensures performed { P.switch_count port.old ≡ length image.now.settings →
+        CarriedOut P.commands P.unanswered port.old port.new (load_list image.now.settings) result }
+    ensures went { CameBy P.commands P.shown port.old port.new }
+{
+    let count = port.switches();
+    let kept = image.switches();
+    if count != kept.len() {
+        return Err(LoadFault::NoSwitch);
+    }
+    ask_each(port, count, Command::Reset)?;
+    poke_all(port, kept)?;
+    ask_each(port, count, Command::Start)
+}

@@ -1,0 +1,92 @@
+//! The comparison of switches with an image.
+ghost use Rattle.std.specs.Prelude.{◌≡◌, ◌≢◌, ◌↔◌, Err, length};
+ghost use Rattle.c104_tools.specs.declared.faults.LoadFault.TheVariants as fault;
+ghost use Rattle.c104_tools.specs.Loads.{due_entry, due_value, peeks, steps_from, switch_peeks, verify_list};
+ghost use Rattle.c104_tools.specs.Ports.{CameBy};
+ghost use Rattle.c104_tools.specs.Steps.{Compared};
+
+use crate::commands::ask;
+use crate::faults::LoadFault;
+use crate::ports::ControlPort;
+use c104_control::Command;
+use c104_describe::{Image, SwitchImage};
+use c104_regs::{ADDRESS_END, Address};
+
+/// What an address is to read, where it can be written, at a switch with this image.
+fn due_value(kept: &SwitchImage, addr: u16) -> Option<u32>
+    ensures { result ≡ due_value kept.now addr }
+{
+    let address = Address::at(addr)?;
+    if !address.is_writable() {
+        return None;
+    }
+    kept.registers().peek(addr).ok()
+}
+
+/// Reads every register of a switch that can be written, and compares it with the image.
+fn verify_switch<P: ControlPort>(
+    port: &mut P,
+    switch: usize,
+    kept: &SwitchImage,
+) -> Result<(), LoadFault>
+    ensures performed { Compared P.commands P.unanswered port.old port.new (switch_peeks switch kept.now) result }
+    ensures went { CameBy P.commands P.shown port.old port.new }
+    ensures count { P.switch_count port.new ≡ P.switch_count port.old }
+{
+    for addr in 0..ADDRESS_END {
+        compare(port, switch, addr, due_value(kept, addr))?;
+    }
+    Ok(())
+}
+
+/// Reads a register and compares it with what is due there, if anything is.
+fn compare<P: ControlPort>(
+    port: &mut P,
+    switch: usize,
+    addr: u16,
+    due: Option<u32>,
+) -> Result<(), LoadFault>
+    ensures performed { Compared P.commands P.unanswered port.old port.new (peeks switch (due_entry addr due)) result }
+    ensures went { CameBy P.commands P.shown port.old port.new }
+    ensures count { P.switch_count port.new ≡ P.switch_count port.old }
+{
+    let Some(due) = due else {
+        return Ok(());
+    };
+    let found = ask(port, switch, Command::CPeek(addr))?;
+    if found != due {
+        return Err(LoadFault::Differs(switch, addr, found));
+    }
+    Ok(())
+}
+
+/// Sees whether an image is loaded: reads every register that can be written, by switch and address,
+/// and compares it with the image, or where that keeps nothing with its value after a reset.
+///
+/// NoSwitch where the image is of another number of switches; Differs of the first register that
+/// reads another value; Refused and BadReply where a switch answers so, and Port where the port
+/// doesn't answer. Nothing is read after that.
+pub fn verify<P: ControlPort>(port: &mut P, image: &Image) -> Result<(), LoadFault>
+    ensures unfitting { (result ≡ Err fault.NoSwitch) ↔ (P.switch_count port.old ≢ length image.now.settings) }
+    ensures not_asked { P.switch_count port.old ≢ length image.now.settings → P.commands port.new ≡ P.commands port.old }
+    ensures performed { P.switch_count port.old ≡ length image.now.settings →
+        Compared P.commands P.unanswered port.old port.new (verify_list image.now.settings) result }
+    ensures went { CameBy P.commands P.shown port.old port.new }
+{
+    let kept = image.switches();
+    if port.switches() != kept.len() {
+        return Err(LoadFault::NoSwitch);
+    }
+    verify_all(port, kept)
+}
+
+/// The same of these switches of an image.
+fn verify_all<P: ControlPort>(port: &mut P, image: &[SwitchImage]) -> Result<(), LoadFault>
+    ensures performed { Compared P.commands P.unanswered port.old port.new (steps_from switch_peeks 0 image.now) result }
+    ensures went { CameBy P.commands P.shown port.old port.new }
+{
+    for (switch, kept) in image.iter().enumerate() {
+        verify_switch(port, switch, kept)?;
+    }
+    Ok(())
+}

@@ -1,0 +1,35 @@
+//! Setting a register.
+ghost use Rattle.std.specs.Prelude.{◌≡◌, ◌↔◌, ◌≤◌, ◌<◌, Err};
+ghost use Rattle.c104_tools.specs.declared.faults.LoadFault.TheVariants as fault;
+ghost use Rattle.c104_tools.specs.Loads.{pokes};
+ghost use Rattle.c104_tools.specs.Ports.{CameBy};
+ghost use Rattle.c104_tools.specs.Steps.{CarriedOut};
+ghost use Rattle.std.specs.Prelude.{[], ◌∷◌};
+
+use crate::commands::ask;
+use crate::faults::LoadFault;
+use crate::ports::ControlPort;
+use c104_control::Command;
+
+/// Sets the register of a switch at this address, by one poke.
+///
+/// NoSwitch where the port has no such switch; Refused where it refuses the poke, BadReply where its
+/// reply answers no poke, and Port where the port doesn't answer.
+pub fn write_register<P: ControlPort>(
+    port: &mut P,
+    switch: usize,
+    addr: u16,
+    value: u32,
+) -> Result<(), LoadFault>
+    ensures unknown { (result ≡ Err fault.NoSwitch) ↔ (P.switch_count port.old ≤ switch) }
+    ensures not_asked { P.switch_count port.old ≤ switch → P.commands port.new ≡ P.commands port.old }
+    ensures performed { switch < P.switch_count port.old →
+        CarriedOut P.commands P.unanswered port.old port.new (pokes switch ((addr, value) ∷ [])) result }
+    ensures went { CameBy P.commands P.shown port.old port.new }
+{
+    if switch >= port.switches() {
+        return Err(LoadFault::NoSwitch);
+    }
+    ask(port, switch, Command::CPoke(addr, value))?;
+    Ok(())
+}
