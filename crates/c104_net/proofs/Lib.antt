@@ -61,3 +61,7 @@ pub mod StartMaps
 pub mod TracedRuns
 pub mod SureOrigins
 pub mod OriginPieces
+pub mod LedEvents
+pub mod LeadingSteps
+pub mod LeadingPlaces
+pub mod LeadingRuns

@@ -47,6 +47,14 @@ module _ {A : Type 0} (kind : Kind A) (net next : Network A) (e : Event) (r : Re
       by_fault None is = by_step (network_step kind net e) is
       by_fault (Some f) is = refused f is
 
+  -- and no fault refuses it
+  pub done_possible : ◌≡◌ {A = Result Reply EventFault × Network A} (Ok r, next) (network_apply kind net e) → event_fault net.plan e ≡ None
+  done_possible is = by_fault (event_fault net.plan e) is
+    where
+      by_fault : (o : Option EventFault) → ◌≡◌ {A = Result Reply EventFault × Network A} (Ok r, next) (outcome_if_possible kind net e o) → o ≡ None
+      by_fault None is = refl
+      by_fault (Some f) is = let told : ◌≡◌ {A = Result Reply EventFault} (Ok r) (Err f) = ap (λ (z : Result Reply EventFault × Network A). z.0) is in absurd (cc)
+
 -- a header has one byte or two
 length_cases : (s : Settings) → (header_length s ≡ 1) ⊎ (header_length s ≡ 2)
 length_cases s = ⊎_elim (λ (h : s.two_byte ≡ true). inr (rw h refl)) (λ (h : s.two_byte ≡ false). inl (rw h refl)) (cases_Bool s.two_byte)

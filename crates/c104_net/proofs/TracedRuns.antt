@@ -3,11 +3,12 @@ use Rattle.c104_check.specs.Routes.{IsAccepted, routes_of}
 use Rattle.c104_describe.specs.PlanImage.{Image}
 use Rattle.c104_describe.specs.Plans.{IsPlan, Plan}
 use Rattle.c104_event.specs.declared.events.Event.{Event}
+use Rattle.c104_event.specs.declared.faults.EventFault.{EventFault}
 use Rattle.c104_net.proofs.Promises.{headline}
 use Rattle.c104_net.proofs.StartMaps.{starts_are, starts_same}
 use Rattle.c104_net.proofs.StepMaps.{run_lift, run_map}
 use Rattle.c104_net.specs.Deliveries.{Promise}
-use Rattle.c104_net.specs.Network.{Network, network_of}
+use Rattle.c104_net.specs.Network.{AnswersEvent, Network, network_of}
 use Rattle.c104_net.specs.Nodes.{Node}
 use Rattle.c104_net.specs.Runs.{IsDoneRun, IsRunRecord}
 use Rattle.c104_net.specs.Starts.{start_node}
@@ -20,7 +21,8 @@ use Rattle.c104_net.specs.declared.traced.Traced.{Traced}
 use Rattle.c104_switch.specs.Actions.{Reply}
 use Rattle.c104_token.specs.Kinds.{plain_kind}
 use Rattle.c104_token.specs.declared.tokens.Token.{Token}
-use Rattle.std.proofs.Common.{List, ap, map, refl, subst, sym, ℕ, ◌≡◌}
+use Rattle.std.proofs.Common.{Err, List, Ok, Result, ap, inl, inr, map, refl, subst, sym, ℕ, ◌∙◌, ◌∷◌, ◌≡◌, ◌⊎◌}
+use Rattle.c104_event.specs.declared.faults.EventFault.TheVariants as fault
 
 -- the token alone
 abbrev pub token_of : Traced → Token
@@ -54,3 +56,10 @@ module _ (plan : Plan) (starts : List NodeStart) where
   run_promise image nodes traces count events is_plan accepted are record_is unchanged =
       let found = traced_from nodes events record_is.run in
       (found.0, found.1, headline image (network_of plan (map start_node starts)) (network_of plan found.0) events is_plan accepted (starts_are plan image starts are) found.1.run unchanged)
+
+-- an event of a run is answered as it was, unless memory runs out, and then the run goes on
+pub replay_next : (net next ended : Network Traced) (e : Event × Reply) (events : List (Event × Reply)) (told : Result Reply EventFault) → IsDoneRun traced_kind net (e ∷ events) ended → AnswersEvent traced_kind net e.0 told next → ((told ≡ Err fault.NoMemory) × (next ≡ net)) ⊎ ((told ≡ Ok e.1) × IsDoneRun traced_kind next events ended)
+replay_next net next ended e events told is (inl due) =
+    let same : ◌≡◌ {A = Result Reply EventFault × Network Traced} (told, next) (Ok e.1, is.0) = due ∙ sym is.1 in
+    inr (ap (λ (z : Result Reply EventFault × Network Traced). z.0) same, subst (λ n. IsDoneRun traced_kind n events ended) (sym (ap (λ (z : Result Reply EventFault × Network Traced). z.1) same)) is.3)
+replay_next net next ended e events told is (inr refused) = inl (refused.0, refused.2)

@@ -30,3 +30,4 @@ pub mod TracedRuns
 pub mod Deliveries
 pub mod Unchanged
 pub mod Origins
+pub mod Leading

@@ -16,6 +16,7 @@ mod acts;
 mod ends;
 mod events;
 mod faults;
+mod leading;
 mod net;
 mod node;
 mod origins;
