@@ -63,7 +63,7 @@ module _ (plan : Plan) (is_plan : IsPlan plan) where
       inl (λ same. let e : length plan.switches + t ≡ length plan.switches + t' = same in let number : t ≡ t' = omega arith in differ (ap port.Terminal number))
 
   -- the two ends of a wire are at two nodes
-  nodes_apart : (p q : Port) → peer plan p ≡ Some q → (end_of plan p).node ≢ (end_of plan q).node
+  pub nodes_apart : (p q : Port) → peer plan p ≡ Some q → (end_of plan p).node ≢ (end_of plan q).node
   nodes_apart p q is = by_ports p q ((wiring plan is_plan).apart p q is) ((wiring plan is_plan).inside p q is) ((wiring plan is_plan).inside q p (peer_back p q is))
     where
       by_ports : (p q : Port) → ports.AreApart p q → IsPlanPort plan p → IsPlanPort plan q → (end_of plan p).node ≢ (end_of plan q).node

@@ -1,6 +1,7 @@
 -- A network with its record, where nothing was done yet.
-use Rattle.std.proofs.Common.{◌≡◌, ◌∙◌, ◌++◌, ℕ, true, Result, Ok, Err, OnOk, List, [], ◌∷◌, map, refl, slice_get, sym, ap}
+use Rattle.std.proofs.Common.{◌≡◌, ◌∙◌, ◌++◌, ℕ, true, All, Result, Ok, Err, OnOk, List, [], ◌∷◌, map, refl, slice_get, sym, ap, subst, arith}
 use Rattle.std.proofs.lemmas.List.{map-append}
+use Rattle.std.proofs.lemmas.List.Elements.{All-map}
 use Rattle.std.proofs.lemmas.Option.{slice_get-map}
 use Rattle.std.specs.Option.{option_map}
 use Rattle.c104_token.specs.declared.tokens.Token.{Token}
@@ -16,7 +17,7 @@ use Rattle.c104_net.specs.Nodes.{Node}
 use Rattle.c104_net.specs.Network.{network_of, placed_network}
 use Rattle.c104_net.specs.Records.{NodeRecord}
 use Rattle.c104_net.specs.Starts.{start_node}
-use Rattle.c104_net.specs.NetRecords.{first_record, net_record, node_start, node_state, node_trace, shown_record, IsFirstRecord, IsNetRecord}
+use Rattle.c104_net.specs.NetRecords.{first_record, net_record, node_start, node_state, node_trace, shown_record, IsFirstRecord, IsNetRecord, IsWithinLimit}
 use Rattle.c104_net.proofs.BalancePlaced.{steady_copy, steady_made}
 
 abbrev Shown : Type 0
@@ -73,7 +74,8 @@ module _ (plan wires : Plan) (image : Image) (list : List (NodeRecord × ℕ)) (
       let are = shown_first list nodes shown in
       record {
         steady = steady_copy plan wires (map node_state list) same (steady_made plan plan image (map node_state list) refl are.0 fits is_plan);
-        told = λ below. (
+        started = steady_copy plan wires (map start_node (map node_start list)) same (steady_made plan plan image (map start_node (map node_start list)) refl are.1 fits is_plan);
+        told = (
           [],
           record {
             run = ap (network_of wires) (are.0 ∙ sym are.1);
@@ -81,6 +83,8 @@ module _ (plan wires : Plan) (image : Image) (list : List (NodeRecord × ℕ)) (
             counted = refl;
           },
         );
+        within = subst (All IsWithinLimit) (sym are.2) (All-map IsWithinLimit no_entries nodes (λ i d inside. omega arith));
+        counted = omega arith;
       }
 
   -- and it is the one that was placed

@@ -10,6 +10,9 @@ pub mod FarEndLists
 pub mod Running
 pub mod NodeRuns
 pub mod RunRecords
+pub mod EntryCounts
+pub mod UndoneEvents
+pub mod RecordSteps
 pub mod NetRecording
 pub mod FirstRecords
 pub mod RoundLists

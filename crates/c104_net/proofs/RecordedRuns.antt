@@ -1,8 +1,8 @@
 -- A network with its record goes on by events, one or in turn.
-use Rattle.std.proofs.Common.{◌≡◌, ◌∙◌, ◌+◌, ◌<◌, ◌++◌, ◌&&◌, ℕ, Bool, true, false, List, [], ◌∷◌, Some, Result, Ok, Err, if◌then◌else◌, map, inl, inr, refl, sym, ap, subst, arith}
+use Rattle.std.proofs.Common.{◌≡◌, ◌∙◌, ◌+◌, ◌<◌, ◌++◌, ◌&&◌, ℕ, Bool, true, false, List, [], ◌∷◌, Some, Result, Ok, Err, IfOk, if◌then◌else◌, map, inl, inr, refl, sym, ap, subst, arith}
 use Rattle.c104_token.specs.declared.tokens.Token.{Token}
 use Rattle.c104_token.specs.Kinds.{plain_kind}
-use Rattle.c104_switch.specs.Actions.{Reply}
+use Rattle.c104_switch.specs.Actions.{Reply, is_ready}
 use Rattle.c104_describe.specs.Plans.{Plan, IsPlan}
 use Rattle.c104_event.specs.declared.events.Event.{Event}
 use Rattle.c104_event.specs.declared.faults.EventFault.{EventFault}
@@ -12,18 +12,16 @@ use Rattle.c104_net.specs.declared.starts.NodeStart.{NodeStart}
 use Rattle.c104_net.specs.Nodes.{Node}
 use Rattle.c104_net.specs.Records.{NodeRecord}
 use Rattle.c104_net.specs.Network.{Network, network_apply, network_of}
-use Rattle.c104_net.specs.NetRecords.{is_done, is_trace_full, largest_ticket, net_record, node_start, node_state, node_trace, ticket_after, IsNetRecord, IsRunOf, NetRecord, RecordsEvent}
+use Rattle.c104_net.specs.NetRecords.{is_done, is_trace_full, net_record, node_start, node_state, node_trace, IsNetRecord, NetRecord, RecordsEvent}
 use Rattle.c104_net.specs.EventRuns.{EventsEnd}
 use Rattle.c104_net.specs.RecordedRuns.{record_apply, record_at, record_stage, AnswersRecord}
-use Rattle.c104_net.specs.Runs.{IsRunRecord}
 use Rattle.c104_net.specs.Stages.{stage_after, stage_apply, stage_full, stage_of, Stage}
-use Rattle.c104_net.specs.Starts.{start_node}
 use Rattle.c104_net.specs.Traces.{event_deeds, event_full, is_switch_at, is_switch_place, kept_of, noted_all}
-use Rattle.c104_net.proofs.BalanceEvents.{applied_steady}
-use Rattle.c104_net.proofs.NetRecording.{kept_same, starts_same, undone_deeds, undone_stays}
+use Rattle.c104_net.proofs.NetRecording.{kept_same, starts_same}
+use Rattle.c104_net.proofs.RecordSteps.{event_kept}
 use Rattle.c104_net.proofs.RoundJoins.{apply_plan}
 use Rattle.c104_net.proofs.RoundRuns.{ends_keep, ends_seen, Applied}
-use Rattle.c104_net.proofs.RunRecords.{in_place, record_on}
+use Rattle.c104_net.proofs.RunRecords.{in_place}
 use Rattle.c104_net.proofs.StageSteps.{stage_answers}
 
 module _ (r : NetRecord) (e : Event) where
@@ -34,44 +32,34 @@ module _ (r : NetRecord) (e : Event) where
   abbrev after : Applied (Network Token) → NetRecord
   after due = record_at r.starts (stage_after true (record_stage r) e due).1
 
-  -- the run goes on by an event that is done, and stays as it was by any other
-  run_after : (before : IsNetRecord r) (answer : Result Reply EventFault) (nodes : List (Node Token)) → ◌≡◌ {A = Applied (Network Token)} (answer, network_of plan nodes) (network_apply plain_kind r.network e) →
-      (done : Bool) → is_done answer ≡ done → ticket_after r.count done < largest_ticket → IsRunOf (record { network = network_of plan nodes; starts = r.starts; traces = noted_all true r.traces (kept_of (event_deeds (is_switch_at r.network.nodes) plan r.count e) answer); count = ticket_after r.count done })
-  run_after before (Ok reply) nodes due true done below =
-      let within : r.count < largest_ticket = omega (arith, below) in
-      let next : r.count + 1 ≡ ticket_after r.count true = omega (arith, below) in
-      let run : IsRunOf r = before.told within in
-      let traces : List (List Entry) = noted_all true r.traces (event_deeds (is_switch_at r.network.nodes) plan r.count e reply) in
-      let on : IsRunRecord plain_kind plan (map start_node r.starts) nodes traces (r.count + 1) (run.0 ++ (e, reply) ∷ []) =
-      record_on plain_kind plan (map start_node r.starts) r.network.nodes nodes r.traces traces r.count run.0 false e reply before.steady.in_place run.1 (inl due) done refl in
-      (run.0 ++ (e, reply) ∷ [], subst (λ n. IsRunRecord plain_kind plan (map start_node r.starts) nodes traces n (run.0 ++ (e, reply) ∷ [])) next on)
-  run_after before (Err f) nodes due true done below = absurd (cc done)
-  run_after before answer nodes due false done below =
-      let run : IsRunOf r = before.told below in
-      let net : network_of plan nodes ≡ r.network = undone_stays r.network (network_of plan nodes) false e answer done (inl due) in
-      let same : nodes ≡ r.network.nodes = ap (λ (n : Network Token). n.nodes) net in
-      let kept : noted_all true r.traces (kept_of (event_deeds (is_switch_at r.network.nodes) plan r.count e) answer) ≡ r.traces = ap (noted_all true r.traces) (undone_deeds (is_switch_at r.network.nodes) plan r.count e answer done) in (
-        run.0,
-        subst (λ ns. IsRunRecord plain_kind plan (map start_node r.starts) ns (noted_all true r.traces (kept_of (event_deeds (is_switch_at r.network.nodes) plan r.count e) answer)) r.count run.0) (sym same)
-            (subst (λ ts. IsRunRecord plain_kind plan (map start_node r.starts) r.network.nodes ts r.count run.0) (sym kept) run.1),
-      )
+  -- where no full trace refuses it, that is what is recorded of the event
+  due_recorded : IsNetRecord r → (due : Applied (Network Token)) → due ≡ network_apply plain_kind r.network e → (stage_full true (record_stage r) e && is_done due.0) ≡ false → RecordsEvent r e due.0 (after due)
+  due_recorded before due is free = record {
+    answers = inl is;
+    free = free_of due.0 free;
+    traces = ap (noted_all true r.traces) (kept_same (is_switch_at r.network.nodes) (is_switch_place plan) (in_place plan r.network.nodes before.steady.in_place) plan r.count e due.0);
+    starts = refl;
+    count = refl;
+  }
+    where
+      by_test : (full done : Bool) → (full && done) ≡ false → done ≡ true → full ≡ false
+      by_test false done none ready = refl
+      by_test true true none ready = cc
+      by_test true false none ready = cc
 
-  -- what the type keeps, after an event that no full trace refuses
-  due_keeps : IsPlan plan → IsNetRecord r → (due : Applied (Network Token)) → due ≡ network_apply plain_kind r.network e → due.1.plan ≡ plan → IsNetRecord (after due)
-  due_keeps is_plan before due is same =
-      let there : network_of plan due.1.nodes ≡ due.1 = ap (λ p. network_of p due.1.nodes) (sym same) in
-      record {
-        steady = applied_steady plain_kind plan is_plan r.network.nodes before.steady e due.0 due.1 (inl is);
-        told = λ below. subst (λ n. IsRunOf (after (due.0, n))) there (run_after before due.0 due.1.nodes (ap (λ n. (due.0, n)) there ∙ is) (is_done due.0) refl below);
-      }
+      free_of : (answer : Result Reply EventFault) → (stage_full true (record_stage r) e && is_done answer) ≡ false → IfOk answer (λ reply. is_ready reply ≡ true → event_full plan (map is_trace_full r.traces) e ≡ false)
+      free_of (Ok reply) none = λ ready. by_test (stage_full true (record_stage r) e) (is_ready reply) none ready
+      free_of (Err f) none = tt
 
   -- an event keeps what the type of a network with its record keeps
   pub record_kept : IsPlan plan → IsNetRecord r → IsNetRecord (record_apply r e).1
-  record_kept is_plan before = by_full (stage_full true (record_stage r) e && is_done (network_apply plain_kind r.network e).0)
+  record_kept is_plan before = by_full (stage_full true (record_stage r) e && is_done (network_apply plain_kind r.network e).0) refl
     where
-      by_full : (full : Bool) → IsNetRecord (after (if full then (Err fault.TraceFull, r.network) else network_apply plain_kind r.network e))
-      by_full true = before
-      by_full false = due_keeps is_plan before (network_apply plain_kind r.network e) refl (apply_plan plain_kind r.network e)
+      by_full : (full : Bool) → (stage_full true (record_stage r) e && is_done (network_apply plain_kind r.network e).0) ≡ full → IsNetRecord (after (if full then (Err fault.TraceFull, r.network) else network_apply plain_kind r.network e))
+      by_full true is = before
+      by_full false is =
+          let due : Applied (Network Token) = network_apply plain_kind r.network e in
+          event_kept r (after due) is_plan (apply_plan plain_kind r.network e) before e due.0 (due_recorded before due refl is)
 
   pub record_plan : (record_apply r e).1.network.plan ≡ plan
   record_plan = by_full (stage_full true (record_stage r) e && is_done (network_apply plain_kind r.network e).0)

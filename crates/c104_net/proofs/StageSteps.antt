@@ -18,7 +18,7 @@ use Rattle.c104_net.specs.EventRuns.{Answers, EventsEnd}
 use Rattle.c104_net.specs.Stages.{is_kept_full, stage_after, stage_apply, stage_full, stage_of, unless_full, Stage}
 use Rattle.c104_net.specs.RoundParts.{done_answer, PartEnds}
 use Rattle.c104_net.proofs.KeptEntries.{event_not_full}
-use Rattle.c104_net.proofs.NetRecording.{undone_deeds}
+use Rattle.c104_net.proofs.UndoneEvents.{undone_deeds}
 use Rattle.c104_net.proofs.PartRuns.{part_of_reply}
 use Rattle.c104_net.proofs.RoundRuns.{ends_seen, fault_ends, step_replies, undone_leaves, Applied}
 

@@ -1,5 +1,5 @@
 -- A network with its record: its nodes with their starts and their traces, and how many events were done.
-use Rattle.std.specs.Prelude.{ℕ, ◌+◌, ◌≡◌, ◌<◌, Bool, true, false, List, [], Result, Ok, Err, IfOk, length, map, min, nat_le}
+use Rattle.std.specs.Prelude.{ℕ, ◌+◌, ◌≡◌, ◌≤◌, All, Bool, true, false, List, [], ◌∷◌, Result, Ok, Err, IfOk, length, map, min, nat_le}
 use Rattle.c104_token.specs.declared.tokens.Token.{Token}
 use Rattle.c104_token.specs.Kinds.{plain_kind}
 use Rattle.c104_switch.specs.Actions.{Reply, is_ready}
@@ -82,11 +82,28 @@ IsRunOf r =
     (events : List (Event × Reply))
     × IsRunRecord plain_kind r.network.plan (map start_node r.starts) r.network.nodes r.traces r.count events
 
--- what the type of a network with its record keeps: the balance, and that it is such a run. Were there
--- more events than tickets, no run would be told; traces are full long before.
+-- the network at the start of its run
+abbrev pub start_network : NetRecord → Network Token
+start_network r = network_of r.network.plan (map start_node r.starts)
+
+-- how many entries traces have in all
+abbrev pub total_entries : List (List Entry) → ℕ
+total_entries [] = 0
+total_entries (trace ∷ traces) = length trace + total_entries traces
+
+-- a trace has no more entries than it may have
+abbrev pub IsWithinLimit : List Entry → Type 0
+IsWithinLimit trace = length trace ≤ trace_limit
+
+-- what the type of a network with its record keeps: the balance, at the start and now, and that its traces
+-- tell such a run, each within its limit. Each event that was counted left an entry at least, so there are
+-- always tickets left.
 pub record IsNetRecord (r : NetRecord) : Type 0 where
   pub steady : IsSteady r.network
-  pub told : r.count < largest_ticket → IsRunOf r
+  pub started : IsSteady (start_network r)
+  pub told : IsRunOf r
+  pub within : All IsWithinLimit r.traces
+  pub counted : r.count ≤ total_entries r.traces
 
 -- what an event answers and leaves: what is due to it, or, where it would be done, that a trace is full or
 -- memory has run out; and its entries, where it was done

@@ -16,7 +16,7 @@ invariant_of-self c =
     let placed : (with_items c.self.inside.places new).items ≡ new = with_items_is c.self.inside.places new (c.happen-answer.auto.places ∙ c.as_mut_slice.ensures.len) in
     let count : c.ticket_after-self-inside.result ≡ ticket_after c.self.inside.count (is_done c.happen-answer.result) = c.ticket_after-self-inside.ensures ∙ ap (ticket_after c.self.inside.count) c.was_done.ensures in
     subst (λ ns. IsNetRecord (net_record c.self.inside.wires ns c.ticket_after-self-inside.result)) (sym placed) (subst (λ n. IsNetRecord (net_record c.self.inside.wires new n)) (sym count)
-    (record_after c.self.inside.wires c.happen-answer.ensures.kept lent new c.self.inside.count c.args.event.now c.happen-answer.result c.happen-answer.ensures.answers c.happen-answer.ensures.start c.happen-answer.ensures.trace c.happen-answer.ensures.recorded before))
+    (record_after c.self.inside.wires c.happen-answer.ensures.kept lent new c.self.inside.count c.args.event.now c.happen-answer.result c.happen-answer.ensures.answers c.happen-answer.ensures.free c.happen-answer.ensures.start c.happen-answer.ensures.trace before))
 
 -- what the event answers and leaves
 pub returns-clause-recorded : goal.returns-clause-recorded
@@ -30,7 +30,7 @@ returns-clause-recorded c =
     subst (λ ns. RecordsEvent (net_record c.self.inside.wires c.self.inside.places.items c.self.inside.count) c.args.event.now c.happen-answer.result (net_record c.self.inside.wires ns c.ticket_after-self-inside.result)) (sym placed)
     (subst (λ n. RecordsEvent (net_record c.self.inside.wires c.self.inside.places.items c.self.inside.count) c.args.event.now c.happen-answer.result (net_record c.self.inside.wires new n)) (sym count)
     (subst (λ ns. RecordsEvent (net_record c.self.inside.wires ns c.self.inside.count) c.args.event.now c.happen-answer.result (net_record c.self.inside.wires new (ticket_after c.self.inside.count (is_done c.happen-answer.result)))) c.as_mut_slice.ensures.value
-    (event_recorded c.self.inside.wires c.happen-answer.ensures.kept lent new c.self.inside.count c.args.event.now c.happen-answer.result c.happen-answer.ensures.answers c.happen-answer.ensures.start c.happen-answer.ensures.trace c.happen-answer.ensures.recorded before c.happen-answer.ensures.free)))
+    (event_recorded c.self.inside.wires c.happen-answer.ensures.kept lent new c.self.inside.count c.args.event.now c.happen-answer.result c.happen-answer.ensures.answers c.happen-answer.ensures.free c.happen-answer.ensures.start c.happen-answer.ensures.trace before)))
     )
 
 -- what is said of it is what is due, or out of memory
