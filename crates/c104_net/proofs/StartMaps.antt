@@ -7,12 +7,14 @@ use Rattle.c104_net.specs.Balance.{AreInPlace, is_switch}
 use Rattle.c104_net.specs.Network.{network_of}
 use Rattle.c104_net.specs.Nodes.{Node}
 use Rattle.c104_net.specs.Quiet.{IsQuietInput, IsQuietNode, IsQuietOutput}
-use Rattle.c104_net.specs.Starts.{start_input, start_node, start_output, start_switch, start_terminal}
+use Rattle.c104_net.specs.Starts.{start_node}
+use Rattle.c104_net.specs.TerminalStarts.{start_terminal}
 use Rattle.c104_net.specs.Terminals.{Terminal}
 use Rattle.c104_net.specs.TracedRuns.{map_input, map_node, map_outgoing}
 use Rattle.c104_net.specs.Unchanged.{AreStartsOf}
-use Rattle.c104_net.specs.declared.starts.LinkStart.{LinkStart}
 use Rattle.c104_net.specs.declared.starts.NodeStart.{NodeStart}
+use Rattle.c104_switch.specs.Starts.{start_input, start_output, start_switch}
+use Rattle.c104_switch.specs.declared.link_start.LinkStart.{LinkStart}
 use Rattle.c104_switch.specs.Switch.{Switch}
 use Rattle.c104_token.specs.declared.tokens.Token.{Token}
 use Rattle.std.proofs.Common.{All, Bool, List, Some, [], ap, false, get_or, map, refl, slice_get, suc, sym, true, zero, ℕ, ◌∙◌, ◌∷◌, ◌≡◌}

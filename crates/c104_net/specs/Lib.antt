@@ -12,6 +12,7 @@ pub mod ReasonMeanings
 pub mod Balance
 pub mod Traces
 pub mod Starts
+pub mod TerminalStarts
 pub mod Records
 pub mod Runs
 pub mod NetRecords

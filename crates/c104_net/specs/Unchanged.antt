@@ -14,7 +14,7 @@ use Rattle.c104_event.specs.declared.events.Event.{Event}
 use Rattle.c104_event.specs.declared.events.Event.TheVariants as event
 use Rattle.c104_net.specs.declared.starts.NodeStart.{NodeStart}
 use Rattle.c104_net.specs.declared.starts.NodeStart.TheVariants as start
-use Rattle.c104_net.specs.declared.starts.SwitchStart.{SwitchStart}
+use Rattle.c104_switch.specs.Starts.{SwitchStart}
 use Rattle.c104_net.specs.Balance.{AreInPlace}
 use Rattle.c104_net.specs.Starts.{start_node}
 

@@ -11,6 +11,7 @@ ghost use Rattle.c104_net.specs.Rounds.{RoundsEnd};
 ghost use Rattle.c104_net.specs.Waiting.{network_undrained, network_unsent};
 
 mod reasons;
+mod starts;
 
 use crate::events::happen;
 use crate::faults::PlaceFault;

@@ -8,6 +8,7 @@ ghost use Rattle.c104_net.specs.Waiting.{node_undrained};
 mod acting;
 pub mod quiet;
 mod reasons;
+pub mod starts;
 
 use crate::terminal::TerminalOf;
 use c104_switch::SwitchOf;

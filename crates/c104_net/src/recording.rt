@@ -8,10 +8,10 @@ ghost use Rattle.c104_net.specs.NetRecords.{first_record, shown_record};
 
 use crate::node::NodeOf;
 use crate::recorded::Node;
-use crate::starts::{NodeStart, SwitchStart, TerminalStart};
-use crate::terminal::TerminalOf;
+use crate::starts::NodeStart;
+use crate::terminal::{TerminalOf, TerminalStart};
 use c104_describe::{Image, Plan};
-use c104_switch::SwitchOf;
+use c104_switch::{SwitchOf, SwitchStart};
 use c104_token::NoMemory;
 use std::alloc::Global;
 
@@ -67,11 +67,7 @@ fn add_terminals(alloc: Global, plan: &Plan, list: &mut Vec<Node>) -> Result<(),
     for _terminal in plan.terminals() {
         list.reserve(1)?;
         let core = TerminalOf::new(alloc, cap)?;
-        let start = TerminalStart {
-            cap,
-            granted: 0,
-            credit: 0,
-        };
+        let start = TerminalStart::new(cap);
         let node = Node::new(alloc, NodeOf::Terminal(core), NodeStart::Terminal(start));
         list.push_reserved(node);
     }

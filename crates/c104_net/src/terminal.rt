@@ -9,9 +9,11 @@ ghost use Rattle.c104_net.specs.Terminals.{new_terminal, terminal_enter, termina
 ghost use Rattle.c104_net.specs.Terminals.{terminal_begin, terminal_send, sent_from, sent_tokens};
 
 mod reasons;
+mod starts;
 
 use c104_link::{CREDIT_LIMIT, InBufferOf, TOKENS_OF_A_GRANT};
 use c104_token::{NoMemory, Packet, Token, TokenKind};
+pub use starts::TerminalStart;
 use std::alloc::Global;
 use std::collections::VecDeque;
 use std::marker::Model;
