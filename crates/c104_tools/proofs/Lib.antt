@@ -2,3 +2,4 @@ pub mod Replies
 pub mod Progress
 pub mod Rests
 pub mod LoadParts
+pub mod Runs

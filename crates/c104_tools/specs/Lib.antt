@@ -2,3 +2,4 @@ pub mod Ports
 pub mod LoadFaults
 pub mod Steps
 pub mod Loads
+pub mod Reads

@@ -2,9 +2,9 @@
 //!
 //! - [`ControlPort`] is what takes commands for switches by number. It tells which were asked and
 //!   what was answered, and it may show its switches. All that follows is proved once, of every port.
+//! - [`load`] resets each switch, pokes what an image keeps, and starts each switch. [`verify`] reads
 //!   every register that can be written and compares it with the image.
-//!   [`write_register`] sets a register.
-//! - [`write_register`] sets a register.
+//! - [`read_link`] reads what a link tells of itself, and [`write_register`] sets a register.
 //! - [`LoadFault`] is why one of these stopped. What was asked before it stays done.
 //!
 //! None of them takes memory. What is asked between two of their commands is for the port to say.
@@ -14,11 +14,13 @@ mod commands;
 mod faults;
 mod loading;
 mod ports;
+mod reading;
 mod verifying;
 mod writes;
 
 pub use faults::LoadFault;
 pub use loading::load;
 pub use ports::{Asked, ControlPort};
+pub use reading::{LinkNumbers, read_link};
 pub use verifying::verify;
 pub use writes::write_register;

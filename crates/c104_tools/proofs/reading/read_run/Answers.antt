@@ -1,0 +1,25 @@
+use Rattle.std.proofs.Common.{◌<◌, length, arith}
+use Rattle.c104_tools.proofs.Progress.{err_is, went_on}
+use Rattle.c104_tools.proofs.Runs.{read_next, read_start, read_stops}
+use Rattle.c104_tools.specs.Steps.{IsUnanswered}
+use Rattle.c104_tools.proofs.reading.read_run.Goals as goal
+
+pub loop-i-init : goal.loop-i-init
+loop-i-init g c = read_start _ _ _ c.args.switch c.args.first
+
+pub returns-in_err-value-clause-read : goal.returns-in_err-value-clause-read
+returns-in_err-value-clause-read g c =
+    let asked = g.P.ControlPort.commands in
+    let f = c.in_err-value.field-0.0 in
+    let inside : c.loop-i.i < length c.loop-i.values = omega arith in
+    rw (err_is c.from_residual.result f c.from_residual.ensures)
+    (read_stops _ _ _ _ _ _ c.args.switch c.args.first c.loop-i.values c.loop-i.i inside c.loop-i.invariant (IsUnanswered asked g.P.ControlPort.unanswered (asked c.ask.new.port)) (asked c.ask.new.port) f c.in_err-value.ensures.answer)
+
+pub returns-in_err-value-clause-came : goal.returns-in_err-value-clause-came
+returns-in_err-value-clause-came g c = went_on _ _ _ _ _ _ c.loop-i.invariant.went c.in_err-value.ensures.went
+
+pub loop-i-preserved : goal.loop-i-preserved
+loop-i-preserved g c =
+    let inside : c.loop-i.i < length c.loop-i.values = omega arith in
+    read_next _ _ _ _ _ _ c.args.switch c.args.first c.loop-i.values c.loop-i.i inside c.loop-i.invariant _ _ _ c.in_ok-value.value
+    c.in_ok-value.ensures.answer c.in_ok-value.ensures.went c.in_ok-value.ensures.count

@@ -1,0 +1,41 @@
+-- What the debugger reads, by the commands that it asks.
+use Rattle.std.specs.Prelude.{◌≡◌, ℕ, ◌+◌, List, [], ◌∷◌, ◌++◌, length, map, Result, MatchResult}
+use Rattle.std.specs.List.{range_with_len}
+use Rattle.c104_control.specs.declared.commands.Command.TheVariants.{CPeek}
+use Rattle.c104_event.specs.declared.faults.EventFault.{EventFault}
+use Rattle.c104_tools.specs.declared.faults.LoadFault.{LoadFault}
+use Rattle.c104_tools.specs.declared.ports.Asked.{Asked}
+use Rattle.c104_tools.specs.declared.reading.LinkNumbers.{LinkNumbers}
+use Rattle.c104_tools.specs.Loads.{peeks}
+use Rattle.c104_tools.specs.Steps.{IsFaultOf, IsUnanswered, step_done}
+
+-- values at addresses that follow one another, each with its address
+abbrev pub numbered : ℕ → List ℕ → List (ℕ × ℕ)
+numbered a [] = []
+numbered a (v ∷ values) = (a, v) ∷ numbered (a + 1) values
+
+-- of registers at these addresses the first were read, with these values, and then a peek failed
+pub record StopsReading (unanswered : ℕ → List ℕ → EventFault → Type 0) (before after : List Asked) (switch : ℕ) (addresses : List ℕ) (f : LoadFault) : Type 0 where
+  pub read : List (ℕ × ℕ)
+  pub address : ℕ
+  pub left : List ℕ
+  pub cut : addresses ≡ map (λ x. x.0) read ++ address ∷ left
+  pub fault : IsFaultOf unanswered (before ++ map step_done (peeks switch read)) after switch (CPeek address) f
+
+-- so many registers of a switch were read through a port, from an address on, and have the values that
+-- are made of what is answered; or the first peek that failed is told
+abbrev pub AreRead : {P X : Type 0} → (P → List Asked) → (P → ℕ → List ℕ → EventFault → Type 0) → P → P → ℕ → ℕ → ℕ → (X → List ℕ) → Result X LoadFault → Type 0
+AreRead commands unanswered old new switch first count values result =
+    MatchResult result
+    (λ x. commands new ≡ commands old ++ map step_done (peeks switch (numbered first (values x))))
+    (λ f. StopsReading (IsUnanswered commands unanswered (commands new)) (commands old) (commands new) switch (range_with_len first count) f)
+
+-- the same, with these values
+abbrev pub HaveRead : {P X : Type 0} → (P → List Asked) → (P → ℕ → List ℕ → EventFault → Type 0) → P → P → ℕ → ℕ → List ℕ → Result X LoadFault → Type 0
+HaveRead commands unanswered old new switch first values result =
+    AreRead commands unanswered old new switch first (length values) (λ x. values) result
+
+-- the numbers of a link, in the order of their addresses
+abbrev pub link_values : LinkNumbers → List ℕ
+link_values n =
+    n.sunk ∷ n.short ∷ n.input_level ∷ n.output_level ∷ n.credit ∷ n.granted ∷ n.owner ∷ []

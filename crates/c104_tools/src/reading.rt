@@ -1,0 +1,95 @@
+//! What the debugger reads.
+ghost use Rattle.std.specs.Prelude.{◌≡◌, ◌↔◌, ◌+◌, ◌<◌, ◌≤◌, Err, MatchResult, length};
+ghost use Rattle.c104_regs.specs.declared.addresses.Address.TheVariants.{AtLink};
+ghost use Rattle.c104_regs.specs.declared.addresses.Register.TheVariants.{Sunk};
+ghost use Rattle.c104_regs.specs.Addresses.{address_number};
+ghost use Rattle.c104_tools.specs.declared.faults.LoadFault.TheVariants as fault;
+ghost use Rattle.c104_tools.specs.Ports.{CameBy};
+ghost use Rattle.c104_tools.specs.Reads.{AreRead, HaveRead, link_values};
+
+use crate::commands::ask;
+use crate::faults::LoadFault;
+use crate::ports::ControlPort;
+use c104_control::Command;
+use c104_regs::{Address, LINKS, Register};
+
+/// What a link tells of itself.
+#[derive(Clone, Copy, Debug, PartialEq, Eq)]
+pub struct LinkNumbers {
+    /// How many packets the input dropped.
+    pub sunk: u32,
+    /// How many packets the input found too short.
+    pub short: u32,
+    /// How many tokens the input buffer holds.
+    pub input_level: u32,
+    /// How many tokens the output buffer holds.
+    pub output_level: u32,
+    /// How many tokens the output may send.
+    pub credit: u32,
+    /// How many more tokens the input let the other end of its wire send.
+    pub granted: u32,
+    /// 0, or 1 and the input that streams to the output.
+    pub owner: u32,
+}
+
+/// Reads registers at addresses that follow one another, from the first on. Of those that were read
+/// before one failed the values are written.
+fn read_run<P: ControlPort>(
+    port: &mut P,
+    switch: usize,
+    first: u16,
+    values: &mut [u32],
+) -> Result<(), LoadFault>
+    requires { first + length values.old ≤ 0x10000 }
+    ensures read { HaveRead P.commands P.unanswered port.old port.new switch first values.new result }
+    ensures came { CameBy P.commands P.shown port.old port.new }
+    ensures count { P.switch_count port.new ≡ P.switch_count port.old }
+{
+    for i in 0..values.len() {
+        let value = ask(port, switch, Command::CPeek(first + i as u16))?;
+        values[i] = value;
+    }
+    Ok(())
+}
+
+/// Reads what a link, 0 to 31, of a switch tells of itself, by address.
+///
+/// NoSwitch where the port has no such switch; Refused where it refuses a peek, BadReply where a
+/// reply answers no peek, and Port where the port doesn't answer.
+pub fn read_link<P: ControlPort>(
+    port: &mut P,
+    switch: usize,
+    link: usize,
+) -> Result<LinkNumbers, LoadFault>
+    requires { link < LINKS }
+    ensures unknown { (result ≡ Err fault.NoSwitch) ↔ (P.switch_count port.old ≤ switch) }
+    ensures not_asked { P.switch_count port.old ≤ switch → P.commands port.new ≡ P.commands port.old }
+    ensures read { switch < P.switch_count port.old →
+        AreRead P.commands P.unanswered port.old port.new switch (address_number (AtLink link Sunk)) 7 link_values result }
+    ensures came { CameBy P.commands P.shown port.old port.new }
+{
+    if switch >= port.switches() {
+        return Err(LoadFault::NoSwitch);
+    }
+    let first = Address::AtLink(link, Register::Sunk).number();
+    let mut values = [0; 7];
+    read_run(port, switch, first, &mut values)?;
+    let [
+        sunk,
+        short,
+        input_level,
+        output_level,
+        credit,
+        granted,
+        owner,
+    ] = values;
+    Ok(LinkNumbers {
+        sunk,
+        short,
+        input_level,
+        output_level,
+        credit,
+        granted,
+        owner,
+    })
+}
