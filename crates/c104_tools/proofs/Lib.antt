@@ -3,3 +3,7 @@ pub mod Progress
 pub mod Rests
 pub mod LoadParts
 pub mod Runs
+pub mod ResetSwitches
+pub mod DoneSteps
+pub mod LoadedSwitches
+pub mod ShownLoads

@@ -3,3 +3,4 @@ pub mod LoadFaults
 pub mod Steps
 pub mod Loads
 pub mod Reads
+pub mod Loaded

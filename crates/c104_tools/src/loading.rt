@@ -1,9 +1,10 @@
 //! The loader.
-ghost use Rattle.std.specs.Prelude.{◌≡◌, ◌≢◌, ◌↔◌, true, Bool, Err, length};
+ghost use Rattle.std.specs.Prelude.{◌≡◌, ◌≢◌, ◌↔◌, true, Bool, Err, MatchResult, Some, length};
 ghost use Rattle.c104_describe.specs.PlanImage.{AreSettings};
 ghost use Rattle.c104_tools.specs.declared.faults.LoadFault.TheVariants as fault;
 ghost use Rattle.c104_tools.specs.Loads.{for_each, load_list, pokes, steps_from, switch_pokes};
-ghost use Rattle.c104_tools.specs.Ports.{CameBy};
+ghost use Rattle.c104_tools.specs.Loaded.{IsUnansweredFault, each_with, loaded};
+ghost use Rattle.c104_tools.specs.Ports.{CameBy, Switches};
 ghost use Rattle.c104_tools.specs.Steps.{CarriedOut, reads_nothing};
 
 use crate::commands::ask;
@@ -65,6 +66,13 @@ pub fn load<P: ControlPort>(port: &mut P, image: &Image) -> Result<(), LoadFault
     ensures performed { P.switch_count port.old ≡ length image.now.settings →
         CarriedOut P.commands P.unanswered port.old port.new (load_list image.now.settings) result }
     ensures went { CameBy P.commands P.shown port.old port.new }
+
+    // Switches that are shown are loaded, and they refuse nothing.
+    ensures loaded { (before : Switches) → P.shown port.old ≡ Some before →
+        P.switch_count port.old ≡ length image.now.settings →
+        MatchResult result
+        (λ _. P.shown port.new ≡ Some (each_with loaded before image.now.settings))
+        IsUnansweredFault }
 {
     let count = port.switches();
     let kept = image.switches();

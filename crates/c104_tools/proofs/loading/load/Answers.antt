@@ -1,6 +1,7 @@
 use Rattle.std.proofs.Common.{◌∙◌}
 use Rattle.c104_tools.proofs.LoadParts.{load_first, load_last, load_second}
 use Rattle.c104_tools.proofs.Progress.{performed_stops, went_on}
+use Rattle.c104_tools.proofs.ShownLoads.{shown_by}
 use Rattle.c104_tools.specs.Steps.{IsUnanswered, command_fails}
 use Rattle.c104_tools.proofs.loading.load.Goals as goal
 
@@ -29,3 +30,18 @@ returns-clause-performed g c same =
 
 pub returns-clause-went : goal.returns-clause-went
 returns-clause-went g c = went_on _ _ _ _ _ _ (went_on _ _ _ _ _ _ c.in_ok-ask_each.ensures.went c.in_ok-poke_all.ensures.went) c.ask_each-2.ensures.went
+
+pub returns-in_err-ask_each-clause-loaded : goal.returns-in_err-ask_each-clause-loaded
+returns-in_err-ask_each-clause-loaded g c before is fits =
+    let asked = g.P.ControlPort.commands in
+    shown_by (IsUnanswered asked g.P.ControlPort.unanswered (asked c.ask_each.new.port)) before c.args.image.now.settings _ _ _ _ _ is c.switches-count.ensures.shown fits c.switches-kept.ensures.all c.in_err-ask_each.ensures.went _ (returns-in_err-ask_each-clause-performed g c fits)
+
+pub returns-in_err-poke_all-clause-loaded : goal.returns-in_err-poke_all-clause-loaded
+returns-in_err-poke_all-clause-loaded g c before is fits =
+    let asked = g.P.ControlPort.commands in
+    shown_by (IsUnanswered asked g.P.ControlPort.unanswered (asked c.poke_all.new.port)) before c.args.image.now.settings _ _ _ _ _ is c.switches-count.ensures.shown fits c.switches-kept.ensures.all (returns-in_err-poke_all-clause-went g c) _ (returns-in_err-poke_all-clause-performed g c fits)
+
+pub returns-clause-loaded : goal.returns-clause-loaded
+returns-clause-loaded g c before is fits =
+    let asked = g.P.ControlPort.commands in
+    shown_by (IsUnanswered asked g.P.ControlPort.unanswered (asked c.ask_each-2.new.port)) before c.args.image.now.settings _ _ _ _ _ is c.switches-count.ensures.shown fits c.switches-kept.ensures.all (returns-clause-went g c) _ (returns-clause-performed g c fits)
