@@ -1,7 +1,7 @@
 //! The command line: its words, what they ask for, and the text of its help.
 
 use crate::sources::STANDARD_INPUT;
-use clap::{Arg, ArgAction, ArgMatches, Command, Error};
+use clap::{Arg, ArgAction, ArgMatches, Command, Error, value_parser};
 use std::alloc::{AllocError, Global};
 
 const VERSION: &str = "0.5.0";
@@ -14,6 +14,8 @@ const ABOUT_CHECK: &str =
     "Checks the labels of a description: whether each header comes to its owner";
 
 const ABOUT_LABEL: &str = "Shows the labels of a description, and the registers that lead to them";
+
+const ABOUT_DRAW: &str = "Draws the network of a description, as a text for Graphviz";
 
 const TEACHING: &str = "A run has two inputs, which are text:
 
@@ -33,6 +35,7 @@ Examples:
   c104 < examples/first-network.txt   both in one text
   c104 check network.txt              whether its packets can go astray
   c104 label network.txt              which labels and registers it gives
+  c104 draw network.txt | dot -Tsvg   its picture
 
 Where standard error is a terminal, or under --explain, it is told there what is wrong
 with a line or with labels, why an event isn't ready, and what didn't arrive. Standard
@@ -62,6 +65,15 @@ const TEACHING_LABEL: &str =
     "For each terminal a line with its first label and how many it has, in decimal;
 then for each switch a line for each register that doesn't read as after a reset,
 with its address and its value in hexadecimal digits.";
+
+const TEACHING_DRAW: &str =
+    "Each switch is a box, each terminal an ellipse with its labels, and link numbers
+stand at both ends of a wire. Wires between links of one group are one edge, whose
+links stand in the same order at both ends. A mesh stands on its grid and a cube on
+its drawn cube; all else hangs from its tree's root, or from its first switch.
+
+With a header, the links that it may take are bold, its owner is filled, and where
+check refuses it the walk is red and the title tells the fault.";
 
 /// What the command line asks for, and whether people are to be told of what goes wrong wherever standard error
 /// goes.
@@ -107,6 +119,13 @@ pub enum Order<'a> {
         /// The description's path.
         description: &'a str,
     },
+    /// The picture of a description's network.
+    Draw {
+        /// The description's path.
+        description: &'a str,
+        /// The header whose ways are marked, if one is.
+        header: Option<u16>,
+    },
 }
 
 impl<'a> Order<'a> {
@@ -124,6 +143,13 @@ impl<'a> Order<'a> {
         if command == LABEL {
             return Order::Label { description };
         }
+        if command == DRAW {
+            let header = given.get_one(HEADER);
+            return Order::Draw {
+                description,
+                header,
+            };
+        }
         match given.get_str(SCRIPT) {
             Some(script) => Order::RunFiles {
                 description,
@@ -139,6 +165,7 @@ impl<'a> Order<'a> {
         match self {
             Order::RunText => STANDARD_INPUT,
             Order::Check { description } | Order::Label { description } => description,
+            Order::Draw { description, .. } => description,
             Order::RunFiles { description, .. } if number == 0 => description,
             Order::RunFiles { script, .. } => script,
         }
@@ -151,6 +178,8 @@ const RUN: &str = "run";
 const CHECK: &str = "check";
 
 const LABEL: &str = "label";
+
+const DRAW: &str = "draw";
 
 /// The option that asks for messages.
 const EXPLAIN: &str = "explain";
@@ -167,6 +196,11 @@ const DESCRIPTION: &str = "DESC";
 
 const SCRIPT: &str = "SCRIPT";
 
+/// The option of a header.
+const HEADER: &str = "header";
+
+const HEADER_HELP: &str = "Marks the ways of a header, 0 to 65535";
+
 const DESCRIPTION_HELP: &str = "The description: a file, or - for standard input";
 
 /// All that the program takes. The only error is out of memory.
@@ -179,7 +213,8 @@ fn command_line<'a>(alloc: Global) -> Result<Command<'a>, AllocError> {
         .arg(explain_option(alloc))?
         .subcommand(run_command(alloc)?)?
         .subcommand(check_command(alloc)?)?
-        .subcommand(label_command(alloc)?)?;
+        .subcommand(label_command(alloc)?)?
+        .subcommand(draw_command(alloc)?)?;
     Ok(command)
 }
 
@@ -225,4 +260,21 @@ fn label_command<'a>(alloc: Global) -> Result<Command<'a>, AllocError> {
         .about(ABOUT_LABEL)
         .after_help(TEACHING_LABEL)
         .arg(description)
+}
+
+/// `draw DESC [--header N]`.
+fn draw_command<'a>(alloc: Global) -> Result<Command<'a>, AllocError> {
+    let description = Arg::new(alloc, DESCRIPTION)
+        .help(DESCRIPTION_HELP)
+        .required(true);
+    let header = Arg::new(alloc, HEADER)
+        .long(HEADER)
+        .value_name("N")
+        .value_parser(value_parser!(u16))
+        .help(HEADER_HELP);
+    Command::new(alloc, DRAW)
+        .about(ABOUT_DRAW)
+        .after_help(TEACHING_DRAW)
+        .arg(description)?
+        .arg(header)
 }

@@ -11,8 +11,8 @@ mod sources;
 mod told;
 
 pub use c104_commands::{
-    Status, check_command, check_explained, label_command, label_explained, run, run_explained,
-    run_text, run_text_explained,
+    Status, check_command, check_explained, draw_command, draw_explained, draw_header_command,
+    label_command, label_explained, run, run_explained, run_text, run_text_explained,
 };
 use clap::error::ErrorKind;
 use command_line::{Order, Words};
@@ -84,6 +84,10 @@ fn do_order(rt: &HostRuntime, order: Order<'_>, told: &mut Told<'_>) -> Status {
         } => run_files(rt, description, script, told),
         Order::Check { description } => check_file(rt, description, told),
         Order::Label { description } => label_file(rt, description, told),
+        Order::Draw {
+            description,
+            header,
+        } => draw_file(rt, description, header, told),
     }
 }
 
@@ -122,6 +126,30 @@ fn label_file(rt: &HostRuntime, description: &str, told: &mut Told<'_>) -> Statu
         return Status::CannotRead(0);
     };
     label_explained(rt.alloc(), &mut description, &mut io::writer(rt), told)
+}
+
+/// Draws the network of a description's file.
+fn draw_file(
+    rt: &HostRuntime,
+    description: &str,
+    header: Option<u16>,
+    told: &mut Told<'_>,
+) -> Status {
+    let opened: io::Result<HostSource> = Source::open(rt, description);
+    let Ok(mut description) = opened else {
+        return Status::CannotRead(0);
+    };
+    let header = match header {
+        Some(header) => Some(u32::from(header)),
+        None => None,
+    };
+    draw_explained(
+        rt.alloc(),
+        &mut description,
+        header,
+        &mut io::writer(rt),
+        told,
+    )
 }
 
 /// Says on standard error what failed, and gives the exit status.

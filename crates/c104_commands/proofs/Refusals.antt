@@ -7,6 +7,7 @@ use Rattle.c104_commands.specs.declared.status.Status.{Status}
 use Rattle.c104_commands.specs.declared.status.Status.TheVariants as status
 use Rattle.c104_commands.specs.Setups.{ComesTo, IsOutOfMemory, RefusalEnds, refused_text}
 use Rattle.c104_commands.specs.Checks.{CheckEnds}
+use Rattle.c104_commands.specs.Draws.{DrawEnds}
 use Rattle.c104_commands.specs.Labels.{LabelEnds}
 use Rattle.c104_commands.specs.Runs.{DescriptionEnds, RunsDescription}
 
@@ -23,6 +24,13 @@ label_refused due why held holds status.Refused comes ends = (Err why, comes end
 label_refused due why held holds (status.CannotRead n) comes ends = absurd ends
 label_refused due why held holds status.CannotWrite comes ends = (Err why, comes ends.0, ends.1)
 label_refused due why held holds status.NoMemory comes ends = ends
+
+pub draw_refused : (due : Result Plan PlanFault) (why : SetupFault) (held holds : Option (List ℕ)) (ended : Status) → ((IsOutOfMemory why → ⊥) → ComesTo due (Err why)) → RefusalEnds why held holds ended → DrawEnds due held holds ended
+draw_refused due why held holds status.Done comes ends = absurd ends
+draw_refused due why held holds status.Refused comes ends = (Err why, comes ends.0, refused_text why, (refl, refl), ends.1)
+draw_refused due why held holds (status.CannotRead n) comes ends = absurd ends
+draw_refused due why held holds status.CannotWrite comes ends = (Err why, comes ends.0, refused_text why, true, (refl, refl), ends.1)
+draw_refused due why held holds status.NoMemory comes ends = ends
 
 description_refused : (due : Result Plan PlanFault) (why : SetupFault) (script : List ℕ) (left held holds : Option (List ℕ)) (ended : Status) → ((IsOutOfMemory why → ⊥) → ComesTo due (Err why)) → RefusalEnds why held holds ended → DescriptionEnds due script left held holds ended
 description_refused due why script left held holds status.Done comes ends = absurd ends

@@ -6,3 +6,4 @@ pub mod Checks
 pub mod ImageTexts
 pub mod Labels
 pub mod Advice
+pub mod Draws

@@ -1,12 +1,13 @@
 //! The commands of the program's command line, as functions over readers and a writer.
 //!
 //! `run` takes a description and a script from two readers, `run_text` both from one text;
-//! `check_command` takes a description alone, and checks its labels; `label_command` shows these. Each reads no
-//! further than the limits of a description, 1 MiB, and of a script, 16 MiB.
+//! `check_command` takes a description alone, and checks its labels; `label_command` shows these, and
+//! `draw_command` and `draw_header_command` draw its network. Each reads no further than the limits of a
+//! description, 1 MiB, and of a script, 16 MiB.
 //!
 //! Each of them has a second form that tells people of what is faulty, refused, not ready or didn't arrive, by
-//! what takes `Messages`: `run_explained`, `run_text_explained`, `check_explained` and `label_explained`. What these write and answer is
-//! the same.
+//! what takes `Messages`: `run_explained`, `run_text_explained`, `check_explained`, `label_explained` and
+//! `draw_explained`. What these write and answer is the same.
 //!
 //! A `Status` is how a command ended; it keeps which of two readers failed, and stands for the program's
 //! exit status. The texts of the program's messages are in `c104`, which has `main`.
@@ -14,6 +15,7 @@
 
 mod advice;
 mod checks;
+mod draws;
 mod images;
 mod labels;
 mod mending;
@@ -24,6 +26,7 @@ mod texts;
 
 pub use advice::check_advice;
 pub use checks::{check_command, check_explained};
+pub use draws::{draw_command, draw_explained, draw_header_command};
 pub use images::image_text;
 pub use labels::{label_command, label_explained};
 pub use runs::{run, run_explained, run_text, run_text_explained};

@@ -9,12 +9,15 @@ use std::alloc::{AllocError, Global};
 /// What stands before the nodes of all pictures.
 const HEAD: &str = "digraph \"c104\" {
   graph [outputorder=edgesfirst, fontname=\"Helvetica\", fontsize=14, labelloc=t, ranksep=0.6, nodesep=0.3]
-  node [fontname=\"Helvetica\", fontsize=11, height=0.25, width=0.35, margin=\"0.06,0.03\", style=filled, fillcolor=white]
-  edge [fontname=\"Helvetica\", fontsize=8, dir=none, arrowsize=0.7]
+  node [fontname=\"Helvetica\", fontsize=11, height=0.25, width=0.35, margin=\"0.02,0.02\", style=filled, fillcolor=white]
+  edge [fontname=\"Helvetica\", fontsize=9, dir=none, arrowsize=0.7, labeldistance=1.5]
 ";
 
 /// What stands besides before nodes whose places are given.
 const PLACED: &str = "  graph [layout=neato, inputscale=72, splines=line]\n";
+
+/// What stands besides where many terminals stand round a switch.
+const CROWDED: &str = "  edge [labeldistance=6, labelangle=-8]\n";
 
 /// The text of a picture of the network of an image for a plan, in the language of Graphviz, with a title.
 ///
@@ -33,6 +36,9 @@ pub fn drawing_text(
     text.push_str(HEAD)?;
     if !frame.hangs() {
         text.push_str(PLACED)?;
+    }
+    if frame.is_crowded() {
+        text.push_str(CROWDED)?;
     }
     if !title.is_empty() {
         let line = format!(in alloc; "  label=\"{title}\"\n")?;

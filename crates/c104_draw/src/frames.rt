@@ -85,13 +85,13 @@ impl Frame {
     pub(crate) fn switch_place(&self, switch: usize) -> Option<Place> {
         match self {
             Frame::Grid(columns, rows, terminals) => {
-                Some(grid_corner(*columns, *rows, switch, edge(*terminals)).moved(
+                Some(grid_corner(*columns, *rows, switch, grid_edge(*terminals)).moved(
                     *terminals,
                     (100, 100),
                 ))
             }
             Frame::Cube(terminals) => {
-                Some(cube_corner(switch, edge(*terminals)).moved(*terminals, (100, 100)))
+                Some(cube_corner(switch, cube_edge(*terminals)).moved(*terminals, (100, 100)))
             }
             Frame::Hanging(_) => None,
         }
@@ -102,8 +102,10 @@ impl Frame {
         match self {
             Frame::Grid(columns, rows, terminals) => {
                 let switch = terminal / (*terminals).max(1);
-                let way = direction(terminal % (*terminals).max(1), *terminals, &[28, 20, 4, 12]);
-                Some(grid_corner(*columns, *rows, switch, edge(*terminals)).moved(*terminals, way))
+                let way = direction(terminal % (*terminals).max(1), *terminals, &[20, 28, 12, 4]);
+                Some(grid_corner(*columns, *rows, switch, grid_edge(*terminals)).moved(
+                    *terminals, way,
+                ))
             }
             Frame::Cube(terminals) => {
                 let switch = terminal / (*terminals).max(1);
@@ -112,7 +114,7 @@ impl Frame {
                     *terminals,
                     &[28, 12, 30, 10],
                 );
-                Some(cube_corner(switch, edge(*terminals)).moved(*terminals, way))
+                Some(cube_corner(switch, cube_edge(*terminals)).moved(*terminals, way))
             }
             Frame::Hanging(_) => None,
         }
@@ -130,6 +132,15 @@ impl Frame {
     /// Whether two ports hang equally low.
     pub(crate) fn is_level(&self, port: Port, other: Port) -> bool {
         self.hangs() && !self.is_lower(port, other) && !self.is_lower(other, port)
+    }
+
+    /// Whether so many terminals stand round each switch that link numbers must stand further from it.
+    pub(crate) fn is_crowded(&self) -> bool {
+        match self {
+            Frame::Grid(_, _, terminals) => *terminals > 8,
+            Frame::Cube(terminals) => *terminals > 8,
+            Frame::Hanging(_) => false,
+        }
     }
 
     /// Whether the nodes hang from one another.
@@ -169,19 +180,24 @@ impl Place {
 
 /// How far so many terminals stand from their switch.
 fn radius(terminals: usize) -> usize
-    ensures { result ≤ 170 }
+    ensures { result ≤ 240 }
 {
     match terminals {
         0..=4 => 50,
         5..=8 => 65,
-        9..=16 => 100,
-        _ => 170,
+        9..=16 => 120,
+        _ => 240,
     }
 }
 
-/// How far switches with so many terminals stand from one another.
-fn edge(terminals: usize) -> usize {
-    2 * radius(terminals) + 60
+/// How far switches of a grid stand from one another, where each has so many terminals.
+fn grid_edge(terminals: usize) -> usize {
+    2 * radius(terminals) + 70
+}
+
+/// The same of the corners of a cube, between which more wires go.
+fn cube_edge(terminals: usize) -> usize {
+    3 * radius(terminals) + 70
 }
 
 /// The direction of a terminal of a switch that has so many. The first four are given.
