@@ -36,6 +36,7 @@ pub mod BalanceSteps
 pub mod BalanceEvents
 pub mod BalancePlaced
 pub mod Finishing
+pub mod RunPartLists
 pub mod QuietNodes
 mod UnreadyNodes
 mod UnreadyEvents

@@ -21,6 +21,7 @@ pub mod EventRuns
 pub mod Stages
 pub mod Rounds
 pub mod RecordedRuns
+pub mod FinishedRecords
 pub mod LinkedSets
 pub mod PortParts
 pub mod RoundParts

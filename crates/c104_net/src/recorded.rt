@@ -11,7 +11,7 @@ use crate::place::Place;
 use crate::starts::NodeStart;
 use crate::terminal::TerminalOf;
 use c104_switch::Reply;
-use c104_token::{NoMemory, Token};
+use c104_token::{Items, NoMemory, Token};
 use std::alloc::Global;
 use std::marker::Model;
 
@@ -66,6 +66,16 @@ impl Node {
             trace: _,
         } = self;
         core.retire()
+    }
+
+    /// Retires a switch, or gives the terminal; and where the node started, and what it did since.
+    pub fn finish(self) -> (Option<TerminalOf<Token>>, NodeStart, Items<Entry>)
+        ensures terminal { option_to_list result.0 ≡ terminals_of (self.0.state ∷ []) }
+        ensures start { result.1 ≡ self.0.start }
+        ensures trace { result.2 ≡ self.0.trace }
+    {
+        let Node { core, start, trace } = self;
+        (core.retire(), start, Items::new(trace))
     }
 
     /// What the node did since its start, in order.

@@ -1,8 +1,10 @@
 //! A network whose nodes keep what they do.
-ghost use Rattle.std.specs.Prelude.{◌≡◌};
+ghost use Rattle.std.specs.Prelude.{◌≡◌, ℕ};
 ghost use Rattle.std.specs.Option.{option_copied};
 ghost use Rattle.std.specs.Prelude.{map, slice_get, IfOk, IsErrOf, OnOk};
 ghost use Rattle.c104_describe.specs.PlanImage.{Fits};
+ghost use Rattle.c104_net.specs.Finished.{run_arrived};
+ghost use Rattle.c104_net.specs.FinishedRecords.{record_finish};
 ghost use Rattle.c104_net.specs.Network.{network_arrived, placed_network};
 ghost use Rattle.c104_net.specs.NetRecords.{is_done, ticket_after, IsFirstRecord, IsNetRecord, RecordsEvent};
 ghost use Rattle.c104_net.specs.RecordedRuns.{AnswersRecord};
@@ -14,7 +16,9 @@ use crate::events::happen;
 use crate::faults::PlaceFault;
 use crate::place::Place;
 use crate::recorded::Node;
+use crate::recorded_run::RecordedRun;
 use crate::recording::{place_recorded, retire_recorded};
+use crate::run_parts::{RunParts, parts_of};
 use crate::wires::Wires;
 use c104_describe::{Image, Plan};
 use c104_event::{Event, EventFault};
@@ -30,16 +34,22 @@ pub struct RecordedNet {
     places: Vec<Node>,
     // How many events were done.
     count: u64,
+    // Room for what is left at the end, so that `finish` takes no memory.
+    room: RunParts,
 }
 
 impl Model for RecordedNet {
+    ghost use Rattle.std.specs.Vec.{vec_capacity};
+    ghost use Rattle.c104_net.specs.FinishedRecords.{HaveRunRoom};
     ghost use Rattle.c104_net.specs.NetRecords.{net_record, IsNetRecord, NetRecord};
 
     ghost Value = { NetRecord };
 
     ghost view = { λ net. net_record net.wires net.places.items net.count };
 
-    ghost invariant = { λ net. IsNetRecord (net_record net.wires net.places.items net.count) };
+    ghost invariant = { λ net. IsNetRecord (net_record net.wires net.places.items net.count)
+        × HaveRunRoom net.wires net.room.starts.items net.room.traces.items net.room.terminals.items
+        (vec_capacity net.room.starts) (vec_capacity net.room.traces) (vec_capacity net.room.terminals) };
 }
 
 impl RecordedNet {
@@ -64,7 +74,8 @@ impl RecordedNet {
         requires { Fits image.now plan.now }
         ensures { IfOk result (IsFirstRecord (placed_network plan.now image.now)) }
     {
-        let _terminals = plan.terminals();
+        let terminals = plan.terminals().len();
+        let room = RunParts::with_room(alloc, plan.switches().len() + terminals, terminals)?;
         let copy = plan.clone()?;
         let wires = Wires::new(alloc, copy)?;
         let mut places = Vec::new(alloc);
@@ -73,11 +84,37 @@ impl RecordedNet {
                 wires,
                 places,
                 count: 0,
+                room,
             }),
             Err(error) => {
                 retire_recorded(places);
                 Err(error)
             }
+        }
+    }
+
+    /// The run up to now, at its end: where each node started, what it did since, and what arrived. The
+    /// switches are retired. It takes no memory.
+    pub fn finish(self) -> RecordedRun
+        ensures left { result ≡ record_finish self }
+        ensures arrived { (t : ℕ) → run_arrived result.finished t ≡ network_arrived self.network t }
+    {
+        let RecordedNet {
+            wires,
+            places,
+            count,
+            room,
+        } = self;
+        let RunParts {
+            starts,
+            traces,
+            terminals,
+        } = room;
+        let parts = parts_of(places, starts, traces, terminals);
+        RecordedRun {
+            plan: wires.into_plan(),
+            parts,
+            count,
         }
     }
 
@@ -87,6 +124,7 @@ impl RecordedNet {
             wires: _,
             places,
             count: _,
+            room: _,
         } = self;
         retire_recorded(places);
     }

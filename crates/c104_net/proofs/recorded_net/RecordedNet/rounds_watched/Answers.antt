@@ -18,7 +18,7 @@ invariant_of-self g c =
     let ends : RecordsRounds before c.args.count c.rounds_at.result after = subst (λ ns. RecordsRounds (net_record c.self.inside.wires ns c.self.inside.count) c.args.count c.rounds_at.result after) c.as_mut_slice.ensures.value
     (places_recorded c.self.inside.wires c.as_mut_slice.result.now new c.self.inside.count c.rounds_at.new.count (rounds c.self.inside.wires c.args.count) c.rounds_at.result c.rounds_at.ensures.ends) in
     let placed : (with_items c.self.inside.places new).items ≡ new = with_items_is c.self.inside.places new (c.rounds_at.auto.places ∙ c.as_mut_slice.ensures.len) in
-    subst (λ ns. IsNetRecord (net_record c.self.inside.wires ns c.rounds_at.new.count)) (sym placed) (run_kept before after (rounds c.self.inside.wires c.args.count) c.rounds_at.result c.rounds_at.ensures.kept c.self.invariant ends)
+    (subst (λ ns. IsNetRecord (net_record c.self.inside.wires ns c.rounds_at.new.count)) (sym placed) (run_kept before after (rounds c.self.inside.wires c.args.count) c.rounds_at.result c.rounds_at.ensures.kept c.self.invariant.0 ends), c.self.invariant.1)
 
 pub returns : goal.returns
 returns g c =
