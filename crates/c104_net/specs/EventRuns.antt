@@ -30,6 +30,14 @@ module _ {S : Type 0} (apply : S → Event → Result Reply EventFault × S) whe
       (◌≡◌ {A = Result Reply EventFault × S} (answer, after) (apply s e))
       ⊎ ((answer ≡ Err fault.NoMemory) × (is_done (apply s e).0 ≡ true) × (after ≡ s))
 
+  -- the answers to events in turn
+  abbrev pub AnswersAll : S → List Event → List (Result Reply EventFault) → S → Type 0
+  AnswersAll s [] [] after = after ≡ s
+  AnswersAll s (e ∷ events) (a ∷ answers) after =
+      (next : S) × Answers s e a next × AnswersAll next events answers after
+  AnswersAll s [] (a ∷ answers) after = ⊥
+  AnswersAll s (e ∷ events) [] after = ⊥
+
   -- out of memory for an event that would be done, and each event before it stands
   pub record StopsShort (s : S) (events : List Event)
       (result : Result (Unit {0}) EventFault) (after : S) : Type 0 where

@@ -224,11 +224,3 @@ module _ {A : Type 0} (kind : Kind A) where
   -- nothing changed
   abbrev pub AnswersEvent : Network A → Event → Result Reply EventFault → Network A → Type 0
   AnswersEvent net e answer after = AnswersWith false net e answer after
-
-  -- the answers to a list of events, and the network after them
-  abbrev pub AnswersEvents : Network A → List Event → List (Result Reply EventFault) → Network A → Type 0
-  AnswersEvents net [] [] after = after ≡ net
-  AnswersEvents net (e ∷ events) (a ∷ answers) after =
-      (next : Network A) × AnswersEvent net e a next × AnswersEvents next events answers after
-  AnswersEvents net [] (a ∷ answers) after = ⊥
-  AnswersEvents net (e ∷ events) [] after = ⊥

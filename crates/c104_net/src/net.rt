@@ -1,16 +1,14 @@
 //! A network of switches and terminals.
-ghost use Rattle.std.specs.Prelude.{◌≡◌, ◌↔◌, ℕ, IsTrue, MatchResult, IfOk, OnOk, OnErr, IsErrOf};
+ghost use Rattle.std.specs.Prelude.{◌≡◌, ◌↔◌, ℕ, IsTrue, MatchResult, IfOk, OnOk, IsErrOf};
 ghost use Rattle.std.specs.Option.{option_copied};
 ghost use Rattle.c104_describe.specs.PlanImage.{Fits};
 ghost use Rattle.c104_net.specs.Balance.{IsBalanced};
 ghost use Rattle.c104_net.specs.Finished.{network_finish, run_arrived};
-ghost use Rattle.c104_net.specs.Network.{AnswersEvent, AnswersEvents};
-ghost use Rattle.c104_net.specs.Network.{new_network, placed_network, network_arrived, network_peek};
+ghost use Rattle.c104_net.specs.Network.{AnswersEvent};
+ghost use Rattle.c104_net.specs.Network.{new_network, placed_network, network_arrived};
 ghost use Rattle.c104_net.specs.Quiet.{begun_if, IsQuiet};
 ghost use Rattle.c104_net.specs.Rounds.{RoundsEnd};
-ghost use Rattle.c104_net.specs.Waiting.{network_undrained, network_unsent};
 
-mod reasons;
 mod starts;
 
 use crate::events::happen;
@@ -27,7 +25,7 @@ use c104_describe::{Image, Plan};
 use c104_event::{Event, EventFault};
 use c104_switch::Reply;
 use c104_token::{NoMemory, Token, TokenKind};
-use std::alloc::{AllocError, Global};
+use std::alloc::Global;
 use std::marker::Model;
 
 /// A network over any kind of token.
@@ -159,32 +157,6 @@ impl<T: TokenKind> NetOf<T> {
         self.places.get(plan.switches().len() + terminal)?.arrived()
     }
 
-    /// How many tokens of its packets wait at a terminal to go out. None where the plan has no such
-    /// terminal.
-    pub fn unsent(&self, terminal: usize) -> Option<usize>
-        ensures { result ≡ network_unsent self.now terminal }
-    {
-        let plan = self.wires.plan();
-        if terminal >= plan.terminals().len() {
-            return None;
-        }
-        self.places.get(plan.switches().len() + terminal)?.waiting()
-    }
-
-    /// How many tokens came in at a terminal and have yet to arrive. None where the plan has no such
-    /// terminal.
-    pub fn undrained(&self, terminal: usize) -> Option<usize>
-        ensures { result ≡ network_undrained self.now terminal }
-    {
-        let plan = self.wires.plan();
-        if terminal >= plan.terminals().len() {
-            return None;
-        }
-        self.places
-            .get(plan.switches().len() + terminal)?
-            .undrained()
-    }
-
     /// Whether no token stands anywhere, and no packet is under way.
     pub fn quiet(&self) -> bool
         ensures { IsTrue result ↔ IsQuiet self.now }
@@ -204,17 +176,6 @@ impl<T: TokenKind> NetOf<T> {
         }
         begin_all(self.places.as_mut_slice());
         true
-    }
-
-    /// The value of the register at this address of a switch. None where the plan has no such
-    /// switch, or no register has the address.
-    pub fn peek(&self, switch: usize, addr: u16) -> Option<u32>
-        ensures { result ≡ network_peek self.now switch addr }
-    {
-        if switch >= self.wires.plan().switches().len() {
-            return None;
-        }
-        self.places.get(switch)?.peek(addr)
     }
 
     /// Does an event, and answers what came of it, or NotReady where one of its conditions doesn't
@@ -253,26 +214,5 @@ impl<T: TokenKind> NetOf<T> {
             count,
             watch,
         )
-    }
-
-    /// Applies events in turn, and gives their answers. The only error is out of memory for the
-    /// answers, and then nothing has changed.
-    pub fn apply_all(
-        &mut self,
-        alloc: Global,
-        events: &[Event],
-    ) -> Result<Vec<Result<Reply, EventFault>>, AllocError>
-        ensures done { IfOk result (λ answers.
-            AnswersEvents T.kind self.old events.now answers.items self.new) }
-        ensures kept { OnErr result (self.new ≡ self.old) }
-    {
-        let mut answers = Vec::with_capacity(alloc, events.len())?;
-        for event in events {
-            let answer = self.apply(event);
-            let Ok(()) = answers.push(answer) else {
-                unreachable!();
-            };
-        }
-        Ok(answers)
     }
 }

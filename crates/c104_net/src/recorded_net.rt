@@ -9,6 +9,8 @@ ghost use Rattle.c104_net.specs.Network.{network_arrived, placed_network};
 ghost use Rattle.c104_net.specs.NetRecords.{is_done, ticket_after, IsFirstRecord, IsNetRecord, RecordsEvent};
 ghost use Rattle.c104_net.specs.RecordedRuns.{AnswersRecord};
 
+mod answers;
+mod asking;
 mod rounds;
 
 use crate::acts::Entry;

@@ -1,12 +1,13 @@
 use Rattle.std.proofs.Common.{◌≡◌, ◌≤◌, length, take, vec_len}
 use Rattle.std.specs.Vec.{vec_capacity}
-use Rattle.c104_net.specs.Network.{AnswersEvents}
-use Rattle.c104_net.proofs.net.NetOf.apply_all.Given as goal
+use Rattle.c104_net.specs.EventRuns.{AnswersAll}
+use Rattle.c104_net.specs.RecordedRuns.{record_apply}
+use Rattle.c104_net.proofs.recorded_net.RecordedNet.apply_all.Given as goal
 
 -- the events so far are answered, and there is room for the other answers
 abbrev pub invariant-loop-event : goal.invariant-loop-event
-invariant-loop-event g l = record {
-  run : AnswersEvents g.T.TokenKind.kind l.initial.self (take l.event-index l.events) l.answers.items l.self;
+invariant-loop-event l = record {
+  run : AnswersAll record_apply l.initial.self (take l.event-index l.events) l.answers.items l.self;
   count : vec_len l.answers ≡ l.event-index;
   room : length l.events ≤ vec_capacity l.answers;
 }
