@@ -16,7 +16,7 @@ use Rattle.c104_token.specs.declared.tokens.Token.{Token}
 use Rattle.std.proofs.Common.{Bool, List, None, Option, Some, [], ap, arith, drop, false, get_or, if◌then◌else◌, inl, inr, is_some, length, length-append, map, nat_eq, option_map, refl, replicate, slice_get, slice_index_or, slice_set, subst, suc, sym, true, ℕ, ◌+◌, ◌<◌, ◌∙◌, ◌∷◌, ◌≡◌, ◌≤◌, ◌⊎◌}
 use Rattle.std.proofs.lemmas.Bool.Decides.{nat_tests}
 use Rattle.std.proofs.lemmas.List.{get_or-set_other, get_or-set_same, length-map, length-replicate}
-use Rattle.std.proofs.lemmas.Option.{slice_get_cases, slice_get_within}
+use Rattle.std.proofs.lemmas.Option.{slice_get-map, slice_get_cases, slice_get_within}
 
 -- the tickets of the entries that lead are those of the events that they tell
 led_tickets : (switches k : ℕ) (entries : List Entry) → leading_tickets entries ≡ map (λ (e : ℕ × Event). e.0) (led_events switches k entries)
@@ -49,6 +49,16 @@ module _ (plan : Plan) (is_plan : IsPlan plan) (start nodes : List (Node Token))
       (λ i trace at. led_tickets (length plan.switches) i trace ∙ ap (map (λ (e : ℕ × Event). e.0)) (told i trace at) ∙ ap (λ j. map (λ (e : ℕ × Event). e.0) (events_at plan j 0 events)) (let sum : i ≡ 0 + i = omega arith in sum))
       (long ∙ of_run.counted)
       (λ i e at. trace_there placed (event_place plan e.0) (run_inside plain_kind plan (network_of plan start) (network_of plan nodes) events refl of_run.run i e at))
+
+  -- there is a trace at each of these places
+  pub places_inside : AreInPlace plan start → (i k : ℕ) → slice_get (event_places plan events) i ≡ Some k → k < length traces
+  places_inside placed i k is = by_event (slice_get events i) refl (sym (slice_get-map (λ (e : Event × Reply). event_place plan e.0) events i) ∙ is)
+    where
+      by_event : (o : Option (Event × Reply)) → slice_get events i ≡ o → option_map (λ (e : Event × Reply). event_place plan e.0) o ≡ Some k → k < length traces
+      by_event None at same = absurd (cc)
+      by_event (Some e) at same =
+          let one : event_place plan e.0 ≡ k = cc in
+          subst (λ j. j < length traces) one (trace_there placed (event_place plan e.0) (run_inside plain_kind plan (network_of plan start) (network_of plan nodes) events refl of_run.run i e at))
 
   -- behind no entry at all the traces tell all events
   pub all_ahead : (behind : List ℕ) → ((k : ℕ) → slice_index_or behind k 0 ≡ 0) → IsAhead plan traces behind 0 events

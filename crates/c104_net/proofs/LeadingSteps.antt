@@ -27,7 +27,7 @@ leads_any switches k act.CreditOut = refl
 leads_any switches k act.CreditIn = refl
 
 -- a list from a place on begins with the element there
-drop_here : {X : Type 0} (xs : List X) (i : ℕ) (x : X) → slice_get xs i ≡ Some x → drop i xs ≡ x ∷ drop (suc i) xs
+pub drop_here : {X : Type 0} (xs : List X) (i : ℕ) (x : X) → slice_get xs i ≡ Some x → drop i xs ≡ x ∷ drop (suc i) xs
 drop_here [] i x here = absurd (cc)
 drop_here (y ∷ xs) zero x here = let same : y ≡ x = cc in ap (λ z. z ∷ xs) same
 drop_here (y ∷ xs) (suc i) x here = drop_here xs i x here

@@ -69,3 +69,4 @@ pub mod LedEvents
 pub mod LeadingSteps
 pub mod LeadingPlaces
 pub mod LeadingRuns
+pub mod ReplaySteps

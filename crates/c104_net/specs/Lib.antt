@@ -33,3 +33,4 @@ pub mod Deliveries
 pub mod Unchanged
 pub mod Origins
 pub mod Leading
+pub mod Replays

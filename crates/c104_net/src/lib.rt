@@ -30,6 +30,7 @@ mod recorded;
 mod recorded_net;
 mod recorded_run;
 mod recording;
+mod replays;
 mod rounds;
 mod run;
 mod run_parts;
