@@ -26,7 +26,7 @@ Shown = Node Token × Node Token × List Entry
 abbrev no_entries : Node Token → List Entry
 no_entries n = []
 
-map_twice : {X Y Z : Type 0} (g : Y → Z) (f : X → Y) (xs : List X) → map g (map f xs) ≡ map (λ x. g (f x)) xs
+pub map_twice : {X Y Z : Type 0} (g : Y → Z) (f : X → Y) (xs : List X) → map g (map f xs) ≡ map (λ x. g (f x)) xs
 map_twice g f [] = refl
 map_twice g f (x ∷ xs) = ap (λ zs. g (f x) ∷ zs) (map_twice g f xs)
 

@@ -38,6 +38,7 @@ pub mod BalancePlaced
 pub mod Finishing
 pub mod RunPartLists
 pub mod QuietNodes
+pub mod BegunRecords
 mod UnreadyNodes
 mod UnreadyEvents
 mod EventReasons

@@ -103,7 +103,7 @@ module _ (plan : Plan) (is_plan : IsPlan plan) (nodes : List (Node Token)) (stea
   deeds_room (event.Drain t) made free = given (yield_step_at nodes (terminal_place plan t) node_drain) _ (r, after) made (λ v stepped last. from_place_made nodes (terminal_place plan t) node_drain v stepped (λ n m here step set. rw ready (lone_room (terminal_place plan t) n here free)))
 
 -- records that show the same are one
-same_record : (new old : NetRecord) → new.network ≡ old.network → new.starts ≡ old.starts → new.traces ≡ old.traces → new.count ≡ old.count → new ≡ old
+pub same_record : (new old : NetRecord) → new.network ≡ old.network → new.starts ≡ old.starts → new.traces ≡ old.traces → new.count ≡ old.count → new ≡ old
 same_record new old network starts traces count =
     let a : new ≡ record new { network = old.network } = ap (λ n. record new { network = n }) network in
     let b : record new { network = old.network } ≡ record new { network = old.network; starts = old.starts } = ap (λ s. record new { network = old.network; starts = s }) starts in

@@ -10,6 +10,7 @@ pub mod Waiting
 pub mod Reasons
 pub mod ReasonMeanings
 pub mod Balance
+pub mod Quiet
 pub mod Traces
 pub mod Starts
 pub mod TerminalStarts
@@ -26,7 +27,6 @@ pub mod LinkedSets
 pub mod PortParts
 pub mod RoundParts
 pub mod PlaceFaults
-pub mod Quiet
 pub mod Traced
 pub mod TracedRuns
 pub mod Deliveries

@@ -13,7 +13,8 @@ use Rattle.c104_net.specs.Nodes.{Node}
 use Rattle.c104_net.specs.Network.{Network, network_of, AnswersWith}
 use Rattle.c104_net.specs.Records.{NodeRecord}
 use Rattle.c104_net.specs.Runs.{IsRunRecord}
-use Rattle.c104_net.specs.Starts.{start_node}
+use Rattle.c104_net.specs.Quiet.{network_begin, node_begin}
+use Rattle.c104_net.specs.Starts.{start_node, start_of}
 use Rattle.c104_net.specs.Traces.{event_deeds, event_full, is_switch_place, kept_of, noted_all, trace_limit}
 
 -- what is seen of a node with its record, beside the room for further entries
@@ -56,6 +57,19 @@ pub record IsFirstRecord (net : Network Token) (r : NetRecord) : Type 0 where
   pub starts : map start_node r.starts ≡ net.nodes
   pub traces : r.traces ≡ map (λ n. []) net.nodes
   pub count : r.count ≡ 0
+
+-- a network with its record where a run starts: nothing was done yet
+abbrev pub fresh_record : Network Token → NetRecord
+fresh_record net = record { network = net; starts = map start_of net.nodes; traces = map (λ n. []) net.nodes; count = 0 }
+
+-- a node with its record where a run starts, and such a network after it was asked to begin one: it has
+-- begun, or stands as it was
+abbrev pub begun_record : NodeRecord → NodeRecord
+begun_record n = record { state = node_begin n.state; start = start_of n.state; trace = [] }
+
+abbrev pub record_begun_if : Bool → NetRecord → NetRecord
+record_begun_if true r = fresh_record (network_begin r.network)
+record_begun_if false r = r
 
 -- the largest count of events that were done
 abbrev pub largest_ticket : ℕ

@@ -2,7 +2,10 @@
 ghost use Rattle.std.specs.Prelude.{◌≡◌, ◌∷◌, []};
 ghost use Rattle.std.specs.Option.{option_to_list};
 ghost use Rattle.c104_net.specs.Finished.{terminals_of};
-ghost use Rattle.c104_net.specs.Starts.{start_node};
+ghost use Rattle.c104_net.specs.Balance.{is_switch};
+ghost use Rattle.c104_net.specs.NetRecords.{begun_record};
+ghost use Rattle.c104_net.specs.Quiet.{node_begin, IsQuietNode};
+ghost use Rattle.c104_net.specs.Starts.{start_node, start_of};
 ghost use Rattle.c104_net.specs.Records.{IsRecorded};
 
 use crate::acts::{Act, Entry, same_reply};
@@ -78,6 +81,19 @@ impl Node {
         (core.retire(), start, Items::new(trace))
     }
 
+    /// Starts a run where the node stands, if it is quiet: what it sent and what arrived is forgotten, and
+    /// what it did. It takes no memory.
+    pub fn begin(&mut self)
+        requires { IsQuietNode self.old.0.state }
+        ensures begun { self.new.0 ≡ begun_record self.old.0 }
+        ensures stands { self.new.0.state ≡ start_node self.new.0.start }
+    {
+        write_start(&self.core, &mut self.start);
+        stands(&self.core);
+        self.core.begin();
+        self.trace.clear();
+    }
+
     /// What the node did since its start, in order.
     pub fn trace(&self) -> &[Entry]
         ensures trace { result.now ≡ self.now.0.trace }
@@ -87,6 +103,36 @@ impl Node {
         let _core = &self.core;
         let _start = &self.start;
         self.trace.as_slice()
+    }
+}
+
+/// Writes where a node stands in place of the start of another of its kind.
+fn write_start(core: &NodeOf<Token>, start: &mut NodeStart)
+    requires { is_switch (start_node {A = Token} start.old) ≡ is_switch core.now }
+    ensures { start.new ≡ start_of core.now }
+{
+    match core {
+        NodeOf::Switch(switch) => match start {
+            NodeStart::Switch(start) => switch.write_start(start),
+            NodeStart::Terminal(_) => unreachable!(),
+        },
+        NodeOf::Terminal(terminal) => match start {
+            NodeStart::Switch(_) => unreachable!(),
+            NodeStart::Terminal(start) => terminal.write_start(start),
+        },
+    }
+}
+
+/// A node that is quiet stands at the start that it is at, as it begins a run.
+fn stands(core: &NodeOf<Token>)
+    ensures { IsQuietNode core.now → start_node (start_of core.now) ≡ node_begin core.now }
+{
+    match core {
+        NodeOf::Switch(switch) => {
+            // The proof reads by this name what every switch keeps.
+            let _started = switch.started();
+        }
+        NodeOf::Terminal(_) => (),
     }
 }
 

@@ -11,6 +11,7 @@ ghost use Rattle.c104_net.specs.RecordedRuns.{AnswersRecord};
 
 mod answers;
 mod asking;
+mod beginning;
 mod rounds;
 
 use crate::acts::Entry;

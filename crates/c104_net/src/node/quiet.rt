@@ -19,7 +19,7 @@ impl<T: TokenKind> NodeOf<T> {
     }
 
     /// Forgets what was sent and what arrived, if the node is a terminal.
-    fn begin(&mut self)
+    pub fn begin(&mut self)
         ensures { self.new ≡ node_begin self.old }
     {
         match self {
