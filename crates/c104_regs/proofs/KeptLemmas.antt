@@ -69,6 +69,9 @@ placed a l r at = placed_by a l r _ _ _ refl at
 pub placed_below : (a l : ℕ) (r : Register) → address_of a ≡ Some (AtLink l r) → a < 8448
 placed_below a l r at = (placed a l r at).below
 
+pub placed_register : (a l : ℕ) (r : Register) → address_of a ≡ Some (AtLink l r) → IsRegister r
+placed_register a l r at = (placed a l r at).register
+
 -- a value that is kept is of a register that can be written, and not that after a reset
 record IsUnlessReset (r : Register) (w v : ℕ) : Type 0 where
   pub writable : (register_properties r).is_writable ≡ true

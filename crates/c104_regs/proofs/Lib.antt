@@ -9,3 +9,5 @@ pub mod PlacedRegisters
 pub mod KeptEntries
 pub mod KeptLemmas
 pub mod PlacedPokes
+pub mod KeptPokes
+pub mod SameSettings

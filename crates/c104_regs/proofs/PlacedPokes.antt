@@ -29,7 +29,7 @@ module _ (a v : ℕ) where
   poke_refused b e is = rw (target_refused e is) refl
 
   -- no link of a placed switch is busy
-  idle : (settings : List Settings) (l : ℕ) (r : Register) → (waits r && (status_at (placed_bank settings) l).busy) ≡ false
+  pub idle : (settings : List Settings) (l : ℕ) (r : Register) → (waits r && (status_at (placed_bank settings) l).busy) ≡ false
   idle settings l r = ap (λ (s : Status). waits r && s.busy) (get_or-same 32 l reset_status) ∙ never (waits r)
     where
       never : (b : Bool) → (b && false) ≡ false

@@ -14,7 +14,7 @@ use Rattle.c104_regs.specs.Values.{Status, register_read, select_code, select_of
 use Rattle.c104_regs.proofs.ValueLemmas.{by_writable, select_kept, value_other, value_same}
 
 -- a register stands at its offset, so registers of one offset are one
-at_offset : (r : Register) → IsRegister r → register_at (register_properties r).offset ≡ Some r
+pub at_offset : (r : Register) → IsRegister r → register_at (register_properties r).offset ≡ Some r
 at_offset Mode is = refl
 at_offset RandomBase is = refl
 at_offset RandomRange is = refl

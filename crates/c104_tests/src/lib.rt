@@ -43,3 +43,5 @@ mod script;
 mod switch;
 #[cfg(test)]
 mod token;
+#[cfg(test)]
+mod tools;

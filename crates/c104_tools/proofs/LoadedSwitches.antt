@@ -1,16 +1,18 @@
 -- Switches do the steps of a load, each answered as it is to be.
-use Rattle.std.proofs.Common.{◌≡◌, ℕ, zero, suc, ◌+◌, ◌^◌, ◌<◌, Some, Ok, List, [], ◌∷◌, ◌++◌, append_assoc, length, map, slice_get, slice_set, refl, sym, ap, ◌∙◌, subst, arith}
+use Rattle.std.proofs.Common.{◌≡◌, ℕ, zero, suc, ◌+◌, ◌^◌, ◌<◌, Some, List, [], ◌∷◌, ◌++◌, append_assoc, length, map, slice_get, slice_set, refl, sym, ap, ◌∙◌, subst, arith}
 use Rattle.std.proofs.Math.Seq.{set-append_seam}
 use Rattle.std.specs.List.{range_with_len}
 use Rattle.c104_control.specs.declared.commands.Command.TheVariants.{Start, Reset}
+use Rattle.c104_regs.proofs.KeptPokes.{AreKept, AreSettable, kept_settable, with_values}
+use Rattle.c104_regs.proofs.SameSettings.{kept_back}
 use Rattle.c104_regs.proofs.PlacedPokes.{settable_below}
 use Rattle.c104_regs.specs.KeptValues.{kept_values}
-use Rattle.c104_regs.specs.Registers.{bank_poke, placed_bank, reset_bank, settable}
+use Rattle.c104_regs.specs.Registers.{bank_poke, placed_bank, reset_bank}
 use Rattle.c104_regs.specs.declared.settings.Settings.{Settings}
 use Rattle.c104_switch.specs.Commands.{switch_reset}
 use Rattle.c104_switch.specs.Switch.{Switch}
 use Rattle.c104_token.specs.declared.tokens.Token.{Token}
-use Rattle.c104_tools.specs.Loaded.{each_with, loaded, reset_with, with_values}
+use Rattle.c104_tools.specs.Loaded.{each_with, loaded, reset_with}
 use Rattle.c104_tools.specs.Loads.{for_each, load_list, order, pokes, steps_from, switch_pokes}
 use Rattle.c104_tools.specs.Ports.{Switches}
 use Rattle.c104_tools.specs.Steps.{Step}
@@ -50,15 +52,10 @@ resets_done front (s ∷ rest) n is =
           (resets_done (front ++ t ∷ []) rest (n + 1) (longer front t n is)),
     )
 
--- values that may be set, each at its address
-abbrev pub AreSettable : List (ℕ × ℕ) → Type 0
-AreSettable [] = Unit {0}
-AreSettable (x ∷ values) = (settable x.0 x.1 ≡ Ok tt) × AreSettable values
-
--- and of each switch of an image what is kept
+-- settings of each switch of an image, within the registers' ranges
 abbrev pub AreLoadable : List (List Settings) → Type 0
 AreLoadable [] = Unit {0}
-AreLoadable (settings ∷ image) = AreSettable (kept_values settings) × AreLoadable image
+AreLoadable (settings ∷ image) = AreKept settings × AreLoadable image
 
 -- values are poked into a switch that was reset
 values_done : (front rest : Switches) (s : Switch Token) (settings : List Settings) (values : List (ℕ × ℕ)) (n : ℕ) → n ≡ length front → AreSettable values → AreDone (front ++ reset_with s settings ∷ rest) (pokes n values) (front ++ reset_with s (with_values settings values) ∷ rest)
@@ -76,45 +73,42 @@ values_done front rest s settings (x ∷ values) n is (may, more) =
           (values_done front rest s (bank_poke (placed_bank settings) x.0 x.1).1.settings values n is more),
     )
 
--- a switch that was reset, with what is kept of these settings poked
-abbrev poked : Switch Token → List Settings → Switch Token
-poked s settings = reset_with s (with_values reset_bank.settings (kept_values settings))
-
 -- the same of every switch of an image
-image_done : (front switches : Switches) (image : List (List Settings)) (n : ℕ) → n ≡ length front → length image ≡ length switches → AreLoadable image → AreDone (front ++ map switch_reset switches) (steps_from switch_pokes n image) (front ++ each_with poked switches image)
+image_done : (front switches : Switches) (image : List (List Settings)) (n : ℕ) → n ≡ length front → length image ≡ length switches → AreLoadable image → AreDone (front ++ map switch_reset switches) (steps_from switch_pokes n image) (front ++ each_with reset_with switches image)
 image_done front [] [] n is same may = refl
 image_done front [] (settings ∷ image) n is same may = absurd (omega arith)
 image_done front (s ∷ switches) [] n is same may = absurd (omega arith)
 image_done front (s ∷ switches) (settings ∷ image) n is same (may, more) =
-    let t = poked s settings in
+    let t = reset_with s settings in
     let as_many : length image ≡ length switches = omega arith in
     done_on _ (switch_pokes n settings) (steps_from switch_pokes (n + 1) image) _ _
-    (values_done front (map switch_reset switches) s reset_bank.settings (kept_values settings) n is may)
+    (subst (λ (x : List Settings). AreDone (front ++ switch_reset s ∷ map switch_reset switches) (switch_pokes n settings) (front ++ reset_with s x ∷ map switch_reset switches)) (kept_back settings may)
+    (values_done front (map switch_reset switches) s reset_bank.settings (kept_values settings) n is (kept_settable settings may)))
     (moved _ _ _ _ (steps_from switch_pokes (n + 1) image)
-    (sym (append_assoc front (t ∷ []) (map switch_reset switches))) (append_assoc front (t ∷ []) (each_with poked switches image))
+    (sym (append_assoc front (t ∷ []) (map switch_reset switches))) (append_assoc front (t ∷ []) (each_with reset_with switches image))
     (image_done (front ++ t ∷ []) switches image (n + 1) (longer front t n is) as_many more))
 
 -- and every switch is started
-starts_done : (front switches : Switches) (image : List (List Settings)) (n : ℕ) → n ≡ length front → length image ≡ length switches → AreDone (front ++ each_with poked switches image) (map (λ switch. order switch Start) (range_with_len n (length image))) (front ++ each_with loaded switches image)
+starts_done : (front switches : Switches) (image : List (List Settings)) (n : ℕ) → n ≡ length front → length image ≡ length switches → AreDone (front ++ each_with reset_with switches image) (map (λ switch. order switch Start) (range_with_len n (length image))) (front ++ each_with loaded switches image)
 starts_done front [] [] n is same = refl
 starts_done front [] (settings ∷ image) n is same = absurd (omega arith)
 starts_done front (s ∷ switches) [] n is same = absurd (omega arith)
 starts_done front (s ∷ switches) (settings ∷ image) n is same =
-    let now = poked s settings in
+    let now = reset_with s settings in
     let t = loaded s settings in
     let as_many : length image ≡ length switches = omega arith in (
       now,
-      at_seam front (each_with poked switches image) now n is,
+      at_seam front (each_with reset_with switches image) now n is,
       refl,
       moved _ _ _ _ (map (λ switch. order switch Start) (range_with_len (n + 1) (length image)))
-          (set_seam front (each_with poked switches image) now t n is ∙ sym (append_assoc front (t ∷ []) (each_with poked switches image))) (append_assoc front (t ∷ []) (each_with loaded switches image))
+          (set_seam front (each_with reset_with switches image) now t n is ∙ sym (append_assoc front (t ∷ []) (each_with reset_with switches image))) (append_assoc front (t ∷ []) (each_with loaded switches image))
           (starts_done (front ++ t ∷ []) switches image (n + 1) (longer front t n is) as_many),
     )
 
 -- so an image is loaded
 pub load_done : (switches : Switches) (image : List (List Settings)) → length image ≡ length switches → AreLoadable image → AreDone switches (load_list image) (each_with loaded switches image)
 load_done switches image same may =
-    done_on switches (for_each (length image) Reset ++ steps_from switch_pokes 0 image) (for_each (length image) Start) (each_with poked switches image) _
+    done_on switches (for_each (length image) Reset ++ steps_from switch_pokes 0 image) (for_each (length image) Start) (each_with reset_with switches image) _
     (done_on switches (for_each (length image) Reset) (steps_from switch_pokes 0 image) (map switch_reset switches) _
     (subst (λ n. AreDone switches (for_each n Reset) (map switch_reset switches)) (sym same) (resets_done [] switches 0 refl))
     (image_done [] switches image 0 refl same may))

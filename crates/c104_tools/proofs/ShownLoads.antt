@@ -2,18 +2,17 @@
 use Rattle.std.proofs.Common.{◌≡◌, ◌≢◌, ℕ, zero, suc, ◌+◌, ◌<◌, inl, inr, All, Option, Some, Result, Ok, Err, MatchOption, MatchResult, List, [], ◌∷◌, ◌++◌, append_assoc, get_or, length, map, refl, sym, ap, ◌∙◌, subst, arith}
 use Rattle.std.proofs.lemmas.Bool.{cases_lt}
 use Rattle.std.proofs.lemmas.List.{append_cancel_left, get_or_past}
-use Rattle.std.specs.List.{Contains, range_with_len}
+use Rattle.std.specs.List.{range_with_len}
 use Rattle.c104_control.specs.declared.commands.Command.{Command}
 use Rattle.c104_control.specs.declared.commands.Command.TheVariants.{Start, Reset, Identify, CPeek, CPoke}
 use Rattle.c104_control.specs.declared.replies.Answer.TheVariants.{Refused}
 use Rattle.c104_control.specs.Table.{command_bytes, command_format, reply_bytes}
 use Rattle.c104_describe.specs.PlanImage.{AreSettings}
 use Rattle.c104_event.specs.declared.faults.EventFault.{EventFault}
-use Rattle.c104_regs.proofs.KeptLemmas.{map_of_kept}
+use Rattle.c104_regs.proofs.KeptPokes.{AreKept}
 use Rattle.c104_regs.proofs.RegisterLemmas.{IsInRange-reset}
 use Rattle.c104_regs.specs.KeptValues.{kept_values}
 use Rattle.c104_regs.specs.Ranges.{IsInRange}
-use Rattle.c104_regs.specs.Registers.{settable}
 use Rattle.c104_regs.specs.Settings.{reset_settings}
 use Rattle.c104_regs.specs.declared.settings.Settings.{Settings}
 use Rattle.c104_tools.specs.declared.faults.LoadFault.{LoadFault}
@@ -24,9 +23,9 @@ use Rattle.c104_tools.specs.Loads.{for_each, load_list, order, pokes, steps_from
 use Rattle.c104_tools.specs.Ports.{Obeyed, Switches, Went, command_asked}
 use Rattle.c104_tools.specs.Steps.{Performed, Step, StopsAt, command_fails, step_done}
 use Rattle.c104_tools.proofs.DoneSteps.{AreDone, replied_so, shown_after}
-use Rattle.c104_tools.proofs.LoadedSwitches.{AreLoadable, AreSettable, load_done}
+use Rattle.c104_tools.proofs.LoadedSwitches.{AreLoadable, load_done}
 
--- what an image keeps may be set
+-- the settings of an image are those that a switch may have
 module _ (settings : List Settings) (all : AreSettings settings) where
   ranges : (l : ℕ) → IsInRange (get_or settings l reset_settings)
   ranges l = elim (cases_lt l (length settings)) [
@@ -34,16 +33,12 @@ module _ (settings : List Settings) (all : AreSettings settings) where
     | inr past ↦ subst IsInRange (sym (get_or_past settings l reset_settings past)) IsInRange-reset
   ]
 
-  settable_among : (values : List (ℕ × ℕ)) → ((x : ℕ × ℕ) → Contains values x → settable x.0 x.1 ≡ Ok tt) → AreSettable values
-  settable_among [] each = tt
-  settable_among (x ∷ values) each = (each x (zero, omega arith, refl), settable_among values (λ y (k, inside, is). each y (suc k, omega arith, is)))
-
-  pub kept_settable : AreSettable (kept_values settings)
-  kept_settable = settable_among (kept_values settings) (λ x among. (((map_of_kept settings ranges).entries x.0 x.1).0 among).settable)
+  pub in_range : AreKept settings
+  in_range = record { links = all.0; statuses = refl; in_range = ranges }
 
 loadable_by : (image : List (List Settings)) → All AreSettings image → AreLoadable image
 loadable_by [] all = tt
-loadable_by (settings ∷ image) all = (kept_settable settings (all zero settings (omega arith)), loadable_by image (λ k d inside. all (suc k) d (omega arith)))
+loadable_by (settings ∷ image) all = (in_range settings (all zero settings (omega arith)), loadable_by image (λ k d inside. all (suc k) d (omega arith)))
 
 -- a load reads nothing
 abbrev AreOrders : List Step → Type 0
