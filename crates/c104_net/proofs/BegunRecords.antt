@@ -60,15 +60,6 @@ module _ {A : Type 0} where
       let one : ◌≡◌ {A = Outgoing A} (record { items = []; credit = q.credit }) q = ap (λ xs. record { items = xs; credit = q.credit }) (sym empty) in
       ap (λ x. x ∷ map start_output (link_starts ps qs)) one ∙ ap (λ xs. q ∷ xs) (outputs_back ps qs (omega (arith, same)) (All-tail IsQuietOutput q qs quiet))
 
--- a start is where a node at it stands
-links_back : (links : List LinkStart) → link_starts {A = Token} (map start_input links) (map start_output links) ≡ links
-links_back [] = refl
-links_back (l ∷ links) = ap (λ ls. l ∷ ls) (links_back links)
-
-pub start_back : (s : NodeStart) → start_of (start_node {A = Token} s) ≡ s
-start_back (start.Switch s) = ap (λ ls. start.Switch (record s { links = ls })) (links_back s.links)
-start_back (start.Terminal t) = refl
-
 -- where no token stands, a node at the start that it is at stands as it begins a run
 pub switch_stands : (s : switch.Switch Token) → length s.inputs ≡ length s.outputs → IsQuietNode (node.Switch s) → start_node (start_of (node.Switch s)) ≡ node_begin (node.Switch s)
 switch_stands s same quiet =

@@ -6,19 +6,22 @@ use Rattle.std.proofs.lemmas.Option.{slice_get-map}
 use Rattle.std.specs.Option.{option_map}
 use Rattle.c104_token.specs.declared.tokens.Token.{Token}
 use Rattle.c104_regs.specs.declared.settings.Settings.{Settings}
-use Rattle.c104_switch.specs.Switch.{new_switch_with}
+use Rattle.c104_switch.specs.Switch.{new_switch, new_switch_with}
 use Rattle.c104_describe.specs.declared.plans.Terminal.{Terminal}
 use Rattle.c104_net.specs.declared.node.NodeOf.TheVariants as node
 use Rattle.c104_net.specs.Terminals.{new_terminal}
-use Rattle.c104_describe.specs.Plans.{Plan, IsPlan}
-use Rattle.c104_describe.specs.PlanImage.{Image, Fits}
+use Rattle.c104_describe.specs.Plans.{Plan}
+use Rattle.c104_describe.specs.PlanImage.{Image}
 use Rattle.c104_net.specs.declared.acts.Entry.{Entry}
 use Rattle.c104_net.specs.Nodes.{Node}
-use Rattle.c104_net.specs.Network.{network_of, placed_network}
+use Rattle.c104_net.specs.Network.{network_of, new_network, placed_network}
 use Rattle.c104_net.specs.Records.{NodeRecord}
-use Rattle.c104_net.specs.Starts.{start_node}
-use Rattle.c104_net.specs.NetRecords.{first_record, net_record, node_start, node_state, node_trace, shown_record, IsFirstRecord, IsNetRecord, IsWithinLimit}
-use Rattle.c104_net.proofs.BalancePlaced.{steady_copy, steady_made}
+use Rattle.c104_net.specs.Balance.{IsSteady}
+use Rattle.c104_net.specs.Starts.{start_node, start_of}
+use Rattle.c104_net.specs.NetRecords.{first_record, fresh_record, net_record, node_start, node_state, node_trace, shown_record, IsNetRecord, IsWithinLimit}
+use Rattle.c104_net.proofs.BalancePlaced.{steady_copy}
+use Rattle.c104_net.proofs.RecordSteps.{same_record}
+use Rattle.c104_net.proofs.StartsBack.{starts_back}
 
 abbrev Shown : Type 0
 Shown = Node Token × Node Token × List Entry
@@ -36,14 +39,28 @@ made_switch cap settings = node.Switch (new_switch_with cap settings true)
 abbrev made_terminal : ℕ → Terminal → Node Token
 made_terminal cap t = node.Terminal (new_terminal cap)
 
--- switches and then terminals, as they are placed
+-- a new switch, for each of a plan
+abbrev made_new : ℕ → List ℕ → Node Token
+made_new cap name = node.Switch (new_switch cap)
+
+-- switches and then terminals, as they are made
+all_made : {E X : Type 0} (r : Result (Unit {0}) E) (made : X → Node Token) (xs : List X) (cap : ℕ) (terminals : List Terminal) (mid new : List Shown) → mid ≡ map (λ x. first_record (made x)) xs →
+    OnOk r (new ≡ mid ++ map (λ t. first_record (made_terminal cap t)) terminals) → OnOk r (new ≡ map first_record (map made xs ++ map (made_terminal cap) terminals))
+all_made (Ok u) made xs cap terminals mid new first grown =
+    grown ∙ ap (λ ys. ys ++ map (λ t. first_record (made_terminal cap t)) terminals) (first ∙ sym (map_twice first_record made xs))
+    ∙ ap (λ ys. map first_record (map made xs) ++ ys) (sym (map_twice first_record (made_terminal cap) terminals))
+    ∙ sym (map-append first_record (map made xs) (map (made_terminal cap) terminals))
+all_made (Err e) made xs cap terminals mid new first grown = tt
+
+-- as they are placed
 pub placed_all : {E : Type 0} (r : Result (Unit {0}) E) (plan : Plan) (image : Image) (mid new : List Shown) → mid ≡ map (λ settings. first_record (made_switch plan.cap settings)) image.settings →
     OnOk r (new ≡ mid ++ map (λ t. first_record (made_terminal plan.cap t)) plan.terminals) → OnOk r (new ≡ map first_record (placed_network plan image).nodes)
-placed_all (Ok u) plan image mid new made grown =
-    grown ∙ ap (λ xs. xs ++ map (λ t. first_record (made_terminal plan.cap t)) plan.terminals) (made ∙ sym (map_twice first_record (made_switch plan.cap) image.settings))
-    ∙ ap (λ ys. map first_record (map (made_switch plan.cap) image.settings) ++ ys) (sym (map_twice first_record (made_terminal plan.cap) plan.terminals))
-    ∙ sym (map-append first_record (map (made_switch plan.cap) image.settings) (map (made_terminal plan.cap) plan.terminals))
-placed_all (Err e) plan image mid new made grown = tt
+placed_all r plan image mid new first grown = all_made r (made_switch plan.cap) image.settings plan.cap plan.terminals mid new first grown
+
+-- and as they are new
+pub new_all : {E : Type 0} (r : Result (Unit {0}) E) (plan : Plan) (mid new : List Shown) → mid ≡ map (λ name. first_record (made_new plan.cap name)) plan.switches →
+    OnOk r (new ≡ mid ++ map (λ t. first_record (made_terminal plan.cap t)) plan.terminals) → OnOk r (new ≡ map first_record (new_network plan).nodes)
+new_all r plan mid new first grown = all_made r (made_new plan.cap) plan.switches plan.cap plan.terminals mid new first grown
 
 -- what a switch with its start shows
 pub shown_switch : (v : NodeRecord × ℕ) (r : NodeRecord) (n : Node Token) → v.0 ≡ r → r.state ≡ n → start_node r.start ≡ n → r.trace ≡ [] → shown_record v ≡ first_record n
@@ -64,17 +81,15 @@ shown_first (n ∷ list) (m ∷ nodes) is =
       ap (λ x. x ∷ map node_trace list) (ap (λ (v : Shown). v.2) first) ∙ ap (λ xs. [] ∷ xs) others.2,
     )
 
-module _ (plan wires : Plan) (image : Image) (list : List (NodeRecord × ℕ)) (same : wires ≡ plan) (shown : map shown_record list ≡ map first_record (placed_network plan image).nodes) where
-  abbrev nodes : List (Node Token)
-  nodes = (placed_network plan image).nodes
-
+module _ (plan wires : Plan) (nodes : List (Node Token)) (list : List (NodeRecord × ℕ)) (same : wires ≡ plan) (shown : map shown_record list ≡ map first_record nodes) where
   -- it keeps what such a network keeps
-  pub record_first : Fits image plan → IsPlan plan → IsNetRecord (net_record wires list 0)
-  record_first fits is_plan =
+  pub record_first : IsSteady (network_of plan nodes) → IsNetRecord (net_record wires list 0)
+  record_first steady =
       let are = shown_first list nodes shown in
+      let there : IsSteady (network_of wires nodes) = steady_copy plan wires nodes same steady in
       record {
-        steady = steady_copy plan wires (map node_state list) same (steady_made plan plan image (map node_state list) refl are.0 fits is_plan);
-        started = steady_copy plan wires (map start_node (map node_start list)) same (steady_made plan plan image (map start_node (map node_start list)) refl are.1 fits is_plan);
+        steady = subst (λ ns. IsSteady (network_of wires ns)) (sym are.0) there;
+        started = subst (λ ns. IsSteady (network_of wires ns)) (sym are.1) there;
         told = (
           [],
           record {
@@ -87,13 +102,10 @@ module _ (plan wires : Plan) (image : Image) (list : List (NodeRecord × ℕ)) (
         counted = omega arith;
       }
 
-  -- and it is the one that was placed
-  pub first_is : IsFirstRecord (placed_network plan image) (net_record wires list 0)
+  -- and it is the one that was made, where a run starts
+  pub first_is : net_record wires list 0 ≡ fresh_record (network_of plan nodes)
   first_is =
       let are = shown_first list nodes shown in
-      record {
-        network = ap (λ p. network_of p (map node_state list)) same ∙ ap (network_of plan) are.0;
-        starts = are.1;
-        traces = are.2;
-        count = refl;
-      }
+      same_record (net_record wires list 0) (fresh_record (network_of plan nodes))
+      (ap (λ p. network_of p (map node_state list)) same ∙ ap (network_of plan) are.0)
+      (starts_back (map node_start list) ∙ ap (map start_of) are.1) are.2 refl

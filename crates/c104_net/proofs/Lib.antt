@@ -14,6 +14,7 @@ pub mod EntryCounts
 pub mod UndoneEvents
 pub mod RecordSteps
 pub mod NetRecording
+pub mod StartsBack
 pub mod FirstRecords
 pub mod RoundLists
 pub mod RoundRuns

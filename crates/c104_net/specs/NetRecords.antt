@@ -51,13 +51,6 @@ shown_record n = (n.0.state, start_node n.0.start, n.0.trace)
 abbrev pub first_record : Node Token → Node Token × Node Token × List Entry
 first_record n = (n, n, [])
 
--- a network where nothing was done yet: the start is what it is, and no trace has an entry
-pub record IsFirstRecord (net : Network Token) (r : NetRecord) : Type 0 where
-  pub network : r.network ≡ net
-  pub starts : map start_node r.starts ≡ net.nodes
-  pub traces : r.traces ≡ map (λ n. []) net.nodes
-  pub count : r.count ≡ 0
-
 -- a network with its record where a run starts: nothing was done yet
 abbrev pub fresh_record : Network Token → NetRecord
 fresh_record net = record { network = net; starts = map start_of net.nodes; traces = map (λ n. []) net.nodes; count = 0 }

@@ -5,8 +5,8 @@ ghost use Rattle.std.specs.Prelude.{map, slice_get, IfOk, IsErrOf, OnOk};
 ghost use Rattle.c104_describe.specs.PlanImage.{Fits};
 ghost use Rattle.c104_net.specs.Finished.{run_arrived};
 ghost use Rattle.c104_net.specs.FinishedRecords.{record_finish};
-ghost use Rattle.c104_net.specs.Network.{network_arrived, placed_network};
-ghost use Rattle.c104_net.specs.NetRecords.{is_done, ticket_after, IsFirstRecord, IsNetRecord, RecordsEvent};
+ghost use Rattle.c104_net.specs.Network.{network_arrived, new_network, placed_network};
+ghost use Rattle.c104_net.specs.NetRecords.{fresh_record, is_done, ticket_after, IsNetRecord, RecordsEvent};
 ghost use Rattle.c104_net.specs.RecordedRuns.{AnswersRecord};
 
 mod answers;
@@ -20,7 +20,7 @@ use crate::faults::PlaceFault;
 use crate::place::Place;
 use crate::recorded::Node;
 use crate::recorded_run::RecordedRun;
-use crate::recording::{place_recorded, retire_recorded};
+use crate::recording::{place_new_recorded, place_recorded, retire_recorded};
 use crate::run_parts::{RunParts, parts_of};
 use crate::wires::Wires;
 use c104_describe::{Image, Plan};
@@ -56,11 +56,35 @@ impl Model for RecordedNet {
 }
 
 impl RecordedNet {
+    /// A network of this plan, each switch of which is reset and not started, no token anywhere, and
+    /// nothing done yet. The only error is out of memory.
+    pub fn new(alloc: Global, plan: &Plan) -> Result<Self, NoMemory>
+        ensures { IfOk result (λ net. net ≡ fresh_record (new_network plan.now)) }
+    {
+        let terminals = plan.terminals().len();
+        let room = RunParts::with_room(alloc, plan.switches().len() + terminals, terminals)?;
+        let copy = plan.clone()?;
+        let wires = Wires::new(alloc, copy)?;
+        let mut places = Vec::new(alloc);
+        match place_new_recorded(alloc, plan, &mut places) {
+            Ok(()) => Ok(RecordedNet {
+                wires,
+                places,
+                count: 0,
+                room,
+            }),
+            Err(error) => {
+                retire_recorded(places);
+                Err(error)
+            }
+        }
+    }
+
     /// A network of this plan, each switch of which is started with the image's settings, no token
     /// anywhere, and nothing done yet. NotFitting exactly where the image has other counts of switches
     /// or terminals than the plan; else the only error is out of memory.
     pub fn placed(alloc: Global, plan: &Plan, image: &Image) -> Result<Self, PlaceFault>
-        ensures placed { IfOk result (IsFirstRecord (placed_network plan.now image.now)) }
+        ensures placed { IfOk result (λ net. net ≡ fresh_record (placed_network plan.now image.now)) }
         ensures fits { OnOk result (Fits image.now plan.now) }
         ensures not_fitting { IsErrOf result PlaceFault.NotFitting → Fits image.now plan.now → ⊥ }
         ensures no_memory { IsErrOf result PlaceFault.NoMemory → Fits image.now plan.now }
@@ -75,7 +99,7 @@ impl RecordedNet {
     /// A network of this plan, with an image that fits it.
     fn started(alloc: Global, plan: &Plan, image: &Image) -> Result<Self, NoMemory>
         requires { Fits image.now plan.now }
-        ensures { IfOk result (IsFirstRecord (placed_network plan.now image.now)) }
+        ensures { IfOk result (λ net. net ≡ fresh_record (placed_network plan.now image.now)) }
     {
         let terminals = plan.terminals().len();
         let room = RunParts::with_room(alloc, plan.switches().len() + terminals, terminals)?;

@@ -1,9 +1,9 @@
 //! The nodes of a network that keep what they do, at first.
 ghost use Rattle.std.specs.Prelude.{◌≡◌, ◌++◌, [], true, map, OnOk};
-ghost use Rattle.c104_switch.specs.Switch.{new_switch_with};
+ghost use Rattle.c104_switch.specs.Switch.{new_switch, new_switch_with};
 ghost use Rattle.c104_net.specs.Terminals.{new_terminal};
 ghost use Rattle.c104_net.specs.declared.node.NodeOf.TheVariants as node;
-ghost use Rattle.c104_net.specs.Network.{placed_network};
+ghost use Rattle.c104_net.specs.Network.{new_network, placed_network};
 ghost use Rattle.c104_net.specs.NetRecords.{first_record, shown_record};
 
 use crate::node::NodeOf;
@@ -30,6 +30,35 @@ pub fn place_recorded(
 {
     add_switches(alloc, plan, image, list)?;
     add_terminals(alloc, plan, list)
+}
+
+/// The nodes of a new network of this plan join an empty list, and nothing is kept of them yet: the
+/// switches, reset and not started, and then the terminals. The only error is out of memory.
+pub fn place_new_recorded(alloc: Global, plan: &Plan, list: &mut Vec<Node>) -> Result<(), NoMemory>
+    requires { list.old.items ≡ [] }
+    ensures { OnOk result (map shown_record list.new.items
+        ≡ map first_record (new_network plan.now).nodes) }
+{
+    add_new_switches(alloc, plan, list)?;
+    add_terminals(alloc, plan, list)
+}
+
+/// A new switch for each of a plan joins an empty list.
+#[tactic(auto, using(crate::proofs::PlanBuffers::valid_cap))]
+fn add_new_switches(alloc: Global, plan: &Plan, list: &mut Vec<Node>) -> Result<(), NoMemory>
+    requires { list.old.items ≡ [] }
+    ensures { OnOk result (map shown_record list.new.items
+        ≡ map (λ name. first_record (node.Switch (new_switch plan.now.cap))) plan.now.switches) }
+{
+    let cap = plan.cap();
+    for _name in plan.switches() {
+        list.reserve(1)?;
+        let start = SwitchStart::new(alloc, cap)?;
+        let core = SwitchOf::new(alloc, cap)?;
+        let node = Node::new(alloc, NodeOf::Switch(core), NodeStart::Switch(start));
+        list.push_reserved(node);
+    }
+    Ok(())
 }
 
 /// Switches join an empty list, each started with an image's settings at its links.

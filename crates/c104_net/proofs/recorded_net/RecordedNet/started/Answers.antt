@@ -1,7 +1,9 @@
-use Rattle.std.proofs.Common.{◌≡◌, ◌∙◌, ℕ, List, ap, length, subst, sym, arith}
+use Rattle.std.proofs.Common.{◌≡◌, ◌∙◌, ℕ, List, ap, length, refl, subst, sym, arith}
 use Rattle.std.specs.Vec.{vec_capacity}
 use Rattle.c104_describe.specs.declared.plans.Terminal.{Terminal}
 use Rattle.c104_net.specs.FinishedRecords.{HaveRunRoom}
+use Rattle.c104_net.specs.Network.{placed_network}
+use Rattle.c104_net.proofs.BalancePlaced.{steady_made}
 use Rattle.c104_net.proofs.FirstRecords.{first_is, record_first}
 use Rattle.c104_net.proofs.recorded_net.RecordedNet.started.Goals as goal
 
@@ -10,7 +12,7 @@ invariant_of-result c =
     let same : c.in_ok-wires.wires ≡ c.args.plan.now = c.in_ok-wires.ensures ∙ c.in_ok-copy.ensures.cases in
     let switches = ap (length {A = List ℕ}) c.switches.ensures.switches in
     let terminals = ap (length {A = Terminal}) c.terminals-terminals.ensures.terminals in (
-      record_first c.args.plan.now c.in_ok-wires.wires c.args.image.now c.place_recorded.new.list.items same c.in-Ok.ensures c.requires c.terminals-terminals.ensures.kept,
+      record_first c.args.plan.now c.in_ok-wires.wires (placed_network c.args.plan.now c.args.image.now).nodes c.place_recorded.new.list.items same c.in-Ok.ensures (steady_made c.args.plan.now c.args.plan.now c.args.image.now (placed_network c.args.plan.now c.args.image.now).nodes refl refl c.requires c.terminals-terminals.ensures.kept),
       subst (λ p. HaveRunRoom p c.in_ok-room.room.starts.items c.in_ok-room.room.traces.items c.in_ok-room.room.terminals.items (vec_capacity c.in_ok-room.room.starts) (vec_capacity c.in_ok-room.room.traces) (vec_capacity c.in_ok-room.room.terminals)) (sym same)
           (record {
             no_start = c.in_ok-room.ensures.starts.0;
@@ -25,4 +27,4 @@ invariant_of-result c =
 pub returns-in-Ok : goal.returns-in-Ok
 returns-in-Ok c =
     let same : c.in_ok-wires.wires ≡ c.args.plan.now = c.in_ok-wires.ensures ∙ c.in_ok-copy.ensures.cases in
-    first_is c.args.plan.now c.in_ok-wires.wires c.args.image.now c.place_recorded.new.list.items same c.in-Ok.ensures
+    first_is c.args.plan.now c.in_ok-wires.wires (placed_network c.args.plan.now c.args.image.now).nodes c.place_recorded.new.list.items same c.in-Ok.ensures
