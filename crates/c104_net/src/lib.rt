@@ -8,11 +8,13 @@
 //! A network can't be dropped, since its switches hold claims: `finish` ends it, and gives a `RunOf`
 //! (a `Run`), which keeps the plan and what had arrived at each of its terminals. A `PlaceFault` is
 //! why a network was not made, and a `Reason` why an event isn't ready, and where. `rounds` does the
-//! events of all parts in turn, again and again; a `Watch` is told how far they are. In a `RecordedNet` each node
+//! events of all parts in turn, again and again; a `Watch` is told how far they are. In a `Net` each node
 //! keeps an `Entry` of each act that it did, and the type keeps that the entries of all are those of one run.
 #![tactic(auto)]
 
 mod acts;
+mod bare_net;
+mod bare_run;
 mod ends;
 mod events;
 mod faults;
@@ -27,8 +29,6 @@ mod port_part;
 mod reason;
 mod reasons;
 mod recorded;
-mod recorded_net;
-mod recorded_run;
 mod recording;
 mod replays;
 mod rounds;
@@ -45,12 +45,10 @@ mod wires;
 pub use acts::{Act, ActOf, Entry};
 pub use c104_event::{Event, EventFault, Port};
 pub use faults::PlaceFault;
-pub use net::{Net, NetOf};
+pub use net::Net;
 pub use origins::{Origin, origin_of, origins_of};
 pub use reason::Reason;
-pub use recorded_net::RecordedNet;
-pub use recorded_run::RecordedRun;
-pub use run::{Run, RunOf};
+pub use run::Run;
 pub use sent_packet::SentPacket;
 pub use starts::NodeStart;
 pub use terminal::TerminalStart;

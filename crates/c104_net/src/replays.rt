@@ -7,8 +7,8 @@ ghost use Rattle.c104_net.specs.declared.acts.Entry.{Entry as TheEntry};
 ghost use Rattle.c104_net.specs.declared.traced.Traced.{Traced as TheTraced};
 
 use crate::acts::Entry;
+use crate::bare_net::NetOf;
 use crate::leading::{next_event, note_leaders};
-use crate::net::NetOf;
 use crate::recorded::Node;
 use crate::traced::Traced;
 use c104_describe::Plan;

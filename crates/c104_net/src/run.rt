@@ -1,69 +1,89 @@
-//! A run of a network that is finished.
-ghost use Rattle.std.specs.Prelude.{◌≡◌, ◌≤◌, [], length};
+//! A run of a network whose nodes kept what they did.
+ghost use Rattle.std.specs.Prelude.{◌≡◌, map, slice_get};
 ghost use Rattle.std.specs.Option.{option_copied};
-ghost use Rattle.std.specs.Vec.{vec_capacity};
-ghost use Rattle.c104_net.specs.Finished.{run_arrived, terminals_of};
+ghost use Rattle.c104_net.specs.Finished.{run_arrived};
+ghost use Rattle.c104_net.specs.FinishedRecords.{IsFinishedRecord};
 
-use crate::node::NodeOf;
-use crate::terminal::TerminalOf;
+use crate::acts::Entry;
+use crate::run_parts::RunParts;
+use crate::starts::NodeStart;
 use c104_describe::Plan;
-use c104_token::{Token, TokenKind};
+use c104_token::Token;
 use std::marker::Model;
 
-/// What a run of a network left, over any kind of token: its plan, and what had arrived at each of
-/// its terminals.
+/// What a run of a network left whose nodes kept what they did: its plan, where each node started, what it
+/// did since, and what had arrived at each of the terminals.
 #[derive(Drop)]
-pub struct RunOf<T: TokenKind> {
+pub struct Run {
     pub(crate) plan: Plan,
-    pub(crate) terminals: Vec<TerminalOf<T>>,
+    pub(crate) parts: RunParts,
+    pub(crate) count: u64,
 }
 
-/// A run of plain tokens.
-pub type Run = RunOf<Token>;
+impl Model for Run {
+    ghost use Rattle.c104_net.specs.FinishedRecords.{FinishedRecord, IsFinishedRecord};
 
-impl<T: TokenKind> Model for RunOf<T> {
-    ghost use Rattle.c104_net.specs.Finished.{FinishedRun};
+    ghost Value = { FinishedRecord };
 
-    ghost Value = { FinishedRun T };
+    ghost view = { λ run. record {
+      finished = record { plan = run.plan; terminals = run.parts.terminals.items };
+      starts = run.parts.starts.items;
+      traces = run.parts.traces.items;
+      count = run.count;
+    } };
 
-    ghost view = { λ run. record { plan = run.plan; terminals = run.terminals.items } };
+    ghost invariant = { λ run. IsFinishedRecord (record {
+      finished = record { plan = run.plan; terminals = run.parts.terminals.items };
+      starts = run.parts.starts.items;
+      traces = run.parts.traces.items;
+      count = run.count;
+    }) };
 }
 
-impl<T: TokenKind> RunOf<T> {
+impl Run {
     /// The plan of the network.
     pub fn plan(&self) -> &Plan
-        ensures { result.now ≡ self.now.plan }
+        ensures { result.now ≡ self.now.finished.plan }
     {
         &self.plan
     }
 
+    /// Where each node started: the switches in order, and then the terminals.
+    pub fn starts(&self) -> &[NodeStart]
+        ensures starts { result.now ≡ self.now.starts }
+        ensures told { IsFinishedRecord self.now }
+    {
+        // The proof reads the rest of the run by these names.
+        let _plan = &self.plan;
+        let _count = self.count;
+        self.parts.starts.as_slice()
+    }
+
+    /// What the node at a place did from its start to the end, in order. None where there is no such node.
+    pub fn trace(&self, node: usize) -> Option<&[Entry]>
+        ensures { option_copied result ≡ slice_get self.now.traces node }
+    {
+        match self.parts.traces.get(node) {
+            Some(trace) => Some(trace.as_slice()),
+            None => None,
+        }
+    }
+
+    /// How many events were done.
+    pub fn count(&self) -> u64
+        ensures { result ≡ self.now.count }
+    {
+        self.count
+    }
+
     /// The tokens that had arrived at a terminal at the end, in order. None where the plan has no
     /// such terminal.
-    pub fn arrived(&self, terminal: usize) -> Option<&[T]>
-        ensures { option_copied result ≡ run_arrived self.now terminal }
+    pub fn arrived(&self, terminal: usize) -> Option<&[Token]>
+        ensures { option_copied result ≡ run_arrived self.now.finished terminal }
     {
-        match self.terminals.get(terminal) {
+        match self.parts.terminals.get(terminal) {
             Some(terminal) => Some(terminal.arrived()),
             None => None,
         }
     }
-}
-
-/// The terminals among nodes, in order, in an empty list with room for them. The switches are retired.
-pub fn terminals_of<T: TokenKind>(
-    mut list: Vec<NodeOf<T>>,
-    mut room: Vec<TerminalOf<T>>,
-) -> Vec<TerminalOf<T>>
-    requires empty { room.items ≡ [] }
-    requires room { length (terminals_of list.items) ≤ vec_capacity room }
-    ensures { result.items ≡ terminals_of list.items }
-{
-    while let Some(node) = list.pop() {
-        if let Some(terminal) = node.retire() {
-            room.push_reserved(terminal);
-        }
-    }
-    list.destroy_empty();
-    room.reverse();
-    room
 }

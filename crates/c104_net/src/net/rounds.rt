@@ -1,0 +1,34 @@
+//! Rounds of a network whose nodes keep what they do.
+ghost use Rattle.c104_net.specs.RecordedRuns.{RecordsRounds};
+
+use super::Net;
+use crate::rounds::rounds_at;
+use crate::watch::{Unwatched, Watch};
+use c104_event::EventFault;
+
+impl Net {
+    /// Does so many rounds, as a network does that keeps no traces, up to the first fault of an event;
+    /// and each event that was done has its entries, with its number among those that were. TraceFull
+    /// is such a fault: a trace that an event would add to is full.
+    ///
+    /// The events before a fault stand, and their entries. NoMemory comes when out of memory for an event
+    /// that would be done.
+    pub fn rounds(&mut self, count: u32) -> Result<(), EventFault>
+        ensures { RecordsRounds self.old count result self.new }
+    {
+        self.rounds_watched(count, &mut Unwatched)
+    }
+
+    /// The same, and tells of each round that changed something.
+    pub fn rounds_watched<W: Watch>(&mut self, count: u32, watch: &mut W) -> Result<(), EventFault>
+        ensures { RecordsRounds self.old count result self.new }
+    {
+        rounds_at(
+            &self.wires,
+            self.places.as_mut_slice(),
+            &mut self.count,
+            count,
+            watch,
+        )
+    }
+}
