@@ -4,7 +4,7 @@ use Rattle.std.proofs.lemmas.List.{append-nil}
 use Rattle.std.specs.Io.KnownBytes.{Appends}
 use Rattle.c104_describe.specs.Plans.{Plan}
 use Rattle.c104_describe.specs.PlanImage.{Image}
-use Rattle.c104_net.specs.Finished.{network_finish}
+use Rattle.c104_net.specs.FinishedRecords.{record_finish}
 use Rattle.c104_stream.specs.declared.halt.Halt.{Halt}
 use Rattle.c104_stream.specs.declared.halt.Halt.TheVariants as halt
 use Rattle.c104_session.specs.declared.session.Session.{Session}
@@ -19,7 +19,7 @@ use Rattle.c104_stream.proofs.Prefixes.{prefix_next, prefix_longer}
 -- what is shown after the answers
 after_answers : Bool → List ℕ × Session → List ℕ
 after_answers true r = script_too_long
-after_answers false r = summary (network_finish r.1.net)
+after_answers false r = summary (record_finish r.1.net)
 
 ended_text : (long : Bool) (r : List ℕ × Session) → (output_with_summary long r).0 ≡ r.0 ++ after_answers long r
 unfolding after_answers
@@ -51,19 +51,19 @@ long_stops plan image (Some script) left held now holds after answered wrote =
     subst (λ long. AppendsPrefix held holds (output_with_summary long r).0) answered.0 (prefix_next held now holds r.0 script_too_long answered.2 wrote)
 
 -- the summary was written, or a prefix of it
-pub summary_ends : (plan : Plan) (image : Image) (all left held now holds : Option (List ℕ)) (after : Session) → AnswersScript (new_session plan image) all left held now after (Ok false) → Appends now holds (summary (network_finish after.net)) → RunsPlan plan image all left held holds (Ok after.faulty)
+pub summary_ends : (plan : Plan) (image : Image) (all left held now holds : Option (List ℕ)) (after : Session) → AnswersScript (new_session plan image) all left held now after (Ok false) → Appends now holds (summary (record_finish after.net)) → RunsPlan plan image all left held holds (Ok after.faulty)
 summary_ends plan image None left held now holds after answered wrote = tt
 summary_ends plan image (Some script) left held now holds after answered wrote =
     let r : List ℕ × Session = script_outcome (new_session plan image) script in (
-      subst (λ long. Appends held holds (output_with_summary long r).0) answered.0 (Appends-trans held now holds r.0 (summary (network_finish r.1.net)) answered.2 (subst (λ (s : Session). Appends now holds (summary (network_finish s.net))) answered.1 wrote)),
+      subst (λ long. Appends held holds (output_with_summary long r).0) answered.0 (Appends-trans held now holds r.0 (summary (record_finish r.1.net)) answered.2 (subst (λ (s : Session). Appends now holds (summary (record_finish s.net))) answered.1 wrote)),
       ap (λ (s : Session). s.faulty) answered.1 ∙ ap (λ long. (output_with_summary long r).1) answered.0,
     )
 
-pub summary_stops : (plan : Plan) (image : Image) (all left held now holds : Option (List ℕ)) (after : Session) → AnswersScript (new_session plan image) all left held now after (Ok false) → AppendsPrefix now holds (summary (network_finish after.net)) → RunsPlan plan image all left held holds (Err halt.CannotWrite)
+pub summary_stops : (plan : Plan) (image : Image) (all left held now holds : Option (List ℕ)) (after : Session) → AnswersScript (new_session plan image) all left held now after (Ok false) → AppendsPrefix now holds (summary (record_finish after.net)) → RunsPlan plan image all left held holds (Err halt.CannotWrite)
 summary_stops plan image None left held now holds after answered wrote = tt
 summary_stops plan image (Some script) left held now holds after answered wrote =
     let r : List ℕ × Session = script_outcome (new_session plan image) script in
-    subst (λ long. AppendsPrefix held holds (output_with_summary long r).0) answered.0 (prefix_next held now holds r.0 (summary (network_finish r.1.net)) answered.2 (subst (λ (s : Session). AppendsPrefix now holds (summary (network_finish s.net))) answered.1 wrote))
+    subst (λ long. AppendsPrefix held holds (output_with_summary long r).0) answered.0 (prefix_next held now holds r.0 (summary (record_finish r.1.net)) answered.2 (subst (λ (s : Session). AppendsPrefix now holds (summary (record_finish s.net))) answered.1 wrote))
 
 -- memory for the summary was refused
 pub summary_unmade : (plan : Plan) (image : Image) (all left held now : Option (List ℕ)) (after : Session) → AnswersScript (new_session plan image) all left held now after (Ok false) → RunsPlan plan image all left held now (Err halt.NoMemory)

@@ -1,7 +1,6 @@
 -- What a run shows: the answers to the script's lines in turn, and then what arrived.
 use Rattle.std.specs.Prelude.{ℕ, suc, Bool, true, false, List, [], ◌∷◌, ◌++◌, flat_map, codes, Option, Some, None, Result, Ok, Err}
 use Rattle.c104_token.specs.declared.tokens.Token.{Token}
-use Rattle.c104_token.specs.Kinds.{plain_kind}
 use Rattle.c104_token.specs.Cut.{whole_pieces}
 use Rattle.c104_switch.specs.Actions.{Reply}
 use Rattle.c104_switch.specs.declared.actions.ReplyOf.TheVariants.{Done}
@@ -9,9 +8,13 @@ use Rattle.c104_event.specs.declared.faults.EventFault.{EventFault}
 use Rattle.c104_describe.specs.Plans.{Plan}
 use Rattle.c104_describe.specs.declared.plans.Terminal.{Terminal}
 use Rattle.c104_describe.specs.PlanImage.{Image}
-use Rattle.c104_net.specs.Network.{Network, placed_network, network_apply}
-use Rattle.c104_net.specs.Finished.{FinishedRun, network_finish, run_arrived}
-use Rattle.c104_net.specs.Rounds.{rounds, run_until}
+use Rattle.c104_net.specs.EventRuns.{run_events}
+use Rattle.c104_net.specs.Finished.{FinishedRun, run_arrived}
+use Rattle.c104_net.specs.FinishedRecords.{FinishedRecord, record_finish}
+use Rattle.c104_net.specs.NetRecords.{NetRecord, fresh_record}
+use Rattle.c104_net.specs.Network.{placed_network}
+use Rattle.c104_net.specs.RecordedRuns.{record_apply}
+use Rattle.c104_net.specs.Rounds.{rounds}
 use Rattle.c104_session.specs.Lines.{script_lines, is_long}
 use Rattle.c104_script.specs.Script.{read_script_line}
 use Rattle.c104_script.specs.declared.faults.LineFault.{LineFault}
@@ -24,7 +27,7 @@ use Rattle.c104_script.specs.Texts.{token_text, answer_line, script_too_long}
 
 -- a network of this plan with an image, before the first line
 abbrev pub new_session : Plan → Image → Session
-new_session plan image = record { net = placed_network plan image; faulty = false }
+new_session plan image = record { net = fresh_record (placed_network plan image); faulty = false }
 
 -- what rounds answer: that they are done, or the refusal of the event that they stopped at
 abbrev pub rounds_answer : Result (Unit {0}) EventFault → Result Reply EventFault
@@ -32,8 +35,9 @@ rounds_answer (Ok u) = Ok Done
 rounds_answer (Err kind) = Err kind
 
 -- the network after so many rounds, or after those events of them that came before a refusal
-abbrev pub rounds_outcome : Network Token → ℕ → Result Reply EventFault × Network Token
-rounds_outcome net count = let r = run_until plain_kind net (rounds net.plan count) in (rounds_answer r.0, r.1)
+abbrev pub rounds_outcome : NetRecord → ℕ → Result Reply EventFault × NetRecord
+rounds_outcome net count =
+    let r = run_events record_apply net (rounds net.network.plan count) in (rounds_answer r.0, r.1)
 
 -- what answers an event: the reply, or the refusal
 abbrev pub event_answer : Result Reply EventFault → Answer
@@ -41,12 +45,12 @@ event_answer (Ok r) = Replied r
 event_answer (Err kind) = Refused kind
 
 -- what answers a request that a network did, and the run after it
-abbrev pub answer_after : Bool → Result Reply EventFault × Network Token → Answer × Session
+abbrev pub answer_after : Bool → Result Reply EventFault × NetRecord → Answer × Session
 answer_after faulty r = (event_answer r.0, record { net = r.1; faulty = faulty })
 
 -- what answers a request, and the run after it
 abbrev pub request_answer : Session → Request → Answer × Session
-request_answer session (ask.Asked event) = answer_after session.faulty (network_apply plain_kind session.net event)
+request_answer session (ask.Asked event) = answer_after session.faulty (record_apply session.net event)
 request_answer session (ask.Rounds count) = answer_after session.faulty (rounds_outcome session.net count)
 request_answer session (ask.Refused kind) = (Refused kind, session)
 
@@ -58,7 +62,7 @@ answer_of_read session (Err kind) = (Some (Faulty kind), record { net = session.
 
 -- what answers a line, and the run after it
 unfoldable pub line_answer : Session → List ℕ → Option Answer × Session
-line_answer session text = answer_of_read session (read_script_line session.net.plan text)
+line_answer session text = answer_of_read session (read_script_line session.net.network.plan text)
 
 -- what is shown of a line of this number: the line of its answer, if it has one
 abbrev pub shown : ℕ → Option Answer → List ℕ
@@ -99,13 +103,13 @@ terminals_text run number (terminal ∷ more) =
     packets_text terminal.name (run_arrived run number) ++ terminals_text run (suc number) more
 
 -- the summary: for each terminal in order, each whole packet that arrived there, in order
-unfoldable pub summary : FinishedRun Token → List ℕ
-summary run = terminals_text run 0 run.plan.terminals
+unfoldable pub summary : FinishedRecord → List ℕ
+summary run = terminals_text run.finished 0 run.finished.plan.terminals
 
 -- what follows the answers, and whether a script was refused: for its length, or for one of its lines
 abbrev pub output_with_summary : Bool → List ℕ × Session → List ℕ × Bool
 output_with_summary true r = (r.0 ++ script_too_long, true)
-output_with_summary false r = (r.0 ++ summary (network_finish r.1.net), r.1.faulty)
+output_with_summary false r = (r.0 ++ summary (record_finish r.1.net), r.1.faulty)
 
 -- the answers to a script's lines, and the run after them
 abbrev pub script_outcome : Session → List ℕ → List ℕ × Session

@@ -14,9 +14,9 @@ use Rattle.c104_session.specs.declared.session.Session.{Session}
 -- a text tells the reason of the event that a line asks for: why it isn't ready in the network as it is, and where
 abbrev pub TellsReason : Session → List ℕ → List ℕ → Type 0
 TellsReason session line text = (event : Event) × (reason : Reason)
-    × (read_script_line session.net.plan line ≡ Ok (Some (Asked event)))
-    × (network_why session.net event ≡ Some reason)
-    × (text ≡ reason_text session.net.plan reason)
+    × (read_script_line session.net.network.plan line ≡ Ok (Some (Asked event)))
+    × (network_why session.net.network event ≡ Some reason)
+    × (text ≡ reason_text session.net.network.plan reason)
 
 -- what may be told of a line that was answered so: of one that isn't ready its reason, and of one that was done nothing
 abbrev pub MayTell : Session → List ℕ → Answer → List ℕ → Type 0

@@ -1,12 +1,11 @@
 //! A run of a network, line by line.
 ghost use Rattle.std.specs.Prelude.{◌≡◌, ◌⊎◌, Option, Result, Err, IfOk};
-ghost use Rattle.c104_token.specs.declared.tokens.Token.{Token};
 ghost use Rattle.c104_switch.specs.Actions.{Reply as TheReply};
 ghost use Rattle.c104_event.specs.declared.faults.EventFault.{EventFault as TheFault};
 ghost use Rattle.c104_event.specs.declared.faults.EventFault.TheVariants as fault;
-ghost use Rattle.c104_net.specs.Finished.{network_finish};
+ghost use Rattle.c104_net.specs.FinishedRecords.{record_finish};
 ghost use Rattle.c104_describe.specs.PlanImage.{Fits};
-ghost use Rattle.c104_net.specs.Network.{Network};
+ghost use Rattle.c104_net.specs.NetRecords.{NetRecord as TheNet};
 ghost use Rattle.c104_script.specs.declared.answers.Answer.{Answer as TheAnswer};
 ghost use Rattle.c104_session.specs.Shown.{new_session, line_answer, request_answer, rounds_outcome};
 ghost use Rattle.c104_session.specs.declared.session.Session.{Session as TheSession};
@@ -52,7 +51,7 @@ impl Session {
 
     /// Ends the run.
     pub fn finish(self) -> Ended
-        ensures run { result.run ≡ network_finish self.net }
+        ensures run { result.run ≡ record_finish self.net }
         ensures faulty { result.faulty ≡ self.faulty }
     {
         let Session { net, faulty } = self;
@@ -120,7 +119,7 @@ impl Session {
 
 /// Does so many rounds, up to the first event that is refused.
 fn do_rounds<W: Watch>(net: &mut Net, count: u32, watch: &mut W) -> Result<Reply, EventFault>
-    ensures { (◌≡◌ {A = Result TheReply TheFault × Network Token}
+    ensures { (◌≡◌ {A = Result TheReply TheFault × TheNet}
         (result, net.new) (rounds_outcome net.old count)) ⊎ (result ≡ Err fault.NoMemory) }
 {
     net.rounds_watched(count, watch)?;
