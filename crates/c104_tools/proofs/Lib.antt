@@ -7,3 +7,4 @@ pub mod ResetSwitches
 pub mod DoneSteps
 pub mod LoadedSwitches
 pub mod ShownLoads
+pub mod TableReads

@@ -14,7 +14,7 @@ use Rattle.c104_tools.specs.Reads.{StopsReading, numbered}
 use Rattle.c104_tools.specs.Steps.{IsFaultOf, done, step_done}
 
 -- the addresses are those of a range
-numbered_addresses : (a : ℕ) (values : List ℕ) → map (λ (x : ℕ × ℕ). x.0) (numbered a values) ≡ range_with_len a (length values)
+pub numbered_addresses : (a : ℕ) (values : List ℕ) → map (λ (x : ℕ × ℕ). x.0) (numbered a values) ≡ range_with_len a (length values)
 numbered_addresses a [] = refl
 numbered_addresses a (v ∷ values) = ap (λ xs. a ∷ xs) (numbered_addresses (a + 1) values)
 

@@ -3,4 +3,5 @@ pub mod LoadFaults
 pub mod Steps
 pub mod Loads
 pub mod Reads
+pub mod Tables
 pub mod Loaded

@@ -4,7 +4,8 @@
 //!   what was answered, and it may show its switches. All that follows is proved once, of every port.
 //! - [`load`] resets each switch, pokes what an image keeps, and starts each switch. [`verify`] reads
 //!   every register that can be written and compares it with the image.
-//! - [`read_link`] reads what a link tells of itself, and [`write_register`] sets a register.
+//! - [`read_link`] reads what a link tells of itself, [`read_table`] an input's table, and
+//!   [`write_register`] sets a register.
 //! - [`LoadFault`] is why one of these stopped. What was asked before it stays done.
 //!
 //! None of them takes memory. What is asked between two of their commands is for the port to say.
@@ -15,6 +16,7 @@ mod faults;
 mod loading;
 mod ports;
 mod reading;
+mod tables;
 mod verifying;
 mod writes;
 
@@ -22,5 +24,6 @@ pub use faults::LoadFault;
 pub use loading::load;
 pub use ports::{Asked, ControlPort};
 pub use reading::{LinkNumbers, read_link};
+pub use tables::read_table;
 pub use verifying::verify;
 pub use writes::write_register;

@@ -34,7 +34,7 @@ pub struct LinkNumbers {
 
 /// Reads registers at addresses that follow one another, from the first on. Of those that were read
 /// before one failed the values are written.
-fn read_run<P: ControlPort>(
+pub(crate) fn read_run<P: ControlPort>(
     port: &mut P,
     switch: usize,
     first: u16,
