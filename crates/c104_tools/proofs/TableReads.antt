@@ -1,13 +1,11 @@
 -- A table is read in two runs: its base and limits, and its selects.
-use Rattle.std.proofs.Common.{◌≡◌, ℕ, zero, suc, ◌+◌, ◌≤◌, inl, inr, IsTrue, not, Result, Err, MatchResult, List, [], ◌∷◌, ◌++◌, append_assoc, drop, get_or, length, map, take, refl, sym, ap, ◌∙◌, subst, arith}
+use Rattle.std.proofs.Common.{◌≡◌, ℕ, IsTrue, not, List, [], ◌∷◌, ◌++◌, append_assoc, drop, get_or, length, map, take, refl, sym, ap, ◌∙◌, subst, arith}
 use Rattle.std.proofs.lemmas.List.{map-append}
 use Rattle.std.proofs.Math.Seq.{take-length}
 use Rattle.std.specs.List.{list_any, range_with_len}
-use Rattle.std.specs.Result.{IsErr, IsErrAnd}
 use Rattle.c104_control.specs.declared.commands.Command.TheVariants.{CPeek}
 use Rattle.c104_event.specs.declared.faults.EventFault.{EventFault}
 use Rattle.c104_interval.specs.declared.intervals.Row.{Row}
-use Rattle.c104_interval.specs.declared.intervals.Table.{Table}
 use Rattle.c104_regs.specs.Addresses.{address_number}
 use Rattle.c104_regs.specs.declared.addresses.Address.TheVariants.{AtLink}
 use Rattle.c104_regs.specs.declared.addresses.Register.TheVariants.{Base, Select}

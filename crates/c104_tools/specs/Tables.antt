@@ -1,5 +1,5 @@
 -- An input's table, as the debugger reads it.
-use Rattle.std.specs.Prelude.{◌≡◌, ◌⊎◌, ℕ, ◌+◌, ◌==◌, ◌||◌, not, nat_le, Bool, IsTrue, List, ◌∷◌, ◌++◌, map, Result, MatchResult}
+use Rattle.std.specs.Prelude.{◌≡◌, ◌⊎◌, ℕ, ◌==◌, ◌||◌, not, nat_le, Bool, IsTrue, List, ◌∷◌, ◌++◌, map, Result, MatchResult}
 use Rattle.std.specs.List.{list_any, range_with_len}
 use Rattle.c104_event.specs.declared.faults.EventFault.{EventFault}
 use Rattle.c104_interval.specs.declared.intervals.Row.{Row}
