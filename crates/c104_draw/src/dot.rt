@@ -162,19 +162,41 @@ fn edge_line(
     )
 }
 
-/// How an edge is drawn, by its two ways: bold ones with an arrow, and red those of a refused walk.
+/// How an edge is drawn, by its two ways: bold ones with an arrow, and red those of a refused walk. Where one of two
+/// is red, its half of the edge is.
 fn style_text(onward: Stroke, back: Stroke, marked: bool) -> &'static str {
-    let forward = onward.bold || onward.red;
-    let backward = back.bold || back.red;
-    let red = onward.red || back.red;
-    match (forward, backward, red) {
-        (true, true, true) => ", dir=both, penwidth=3, color=red",
-        (true, false, true) => ", dir=forward, penwidth=3, color=red",
-        (false, true, true) => ", dir=back, penwidth=3, color=red",
-        (true, true, false) => ", dir=both, penwidth=3",
-        (true, false, false) => ", dir=forward, penwidth=3",
-        (false, true, false) => ", dir=back, penwidth=3",
-        (false, false, _) => { if marked { ", color=gray60" } else { "" } }
+    match (is_marked(onward), is_marked(back)) {
+        (true, true) => both_text(onward.red, back.red),
+        (true, false) => {
+            if onward.red {
+                ", dir=forward, penwidth=3, color=red"
+            } else {
+                ", dir=forward, penwidth=3"
+            }
+        }
+        (false, true) => {
+            if back.red {
+                ", dir=back, penwidth=3, color=red"
+            } else {
+                ", dir=back, penwidth=3"
+            }
+        }
+        (false, false) => { if marked { ", color=gray60" } else { "" } }
+    }
+}
+
+/// Whether a way is bold or red.
+fn is_marked(stroke: Stroke) -> bool {
+    stroke.bold || stroke.red
+}
+
+/// How an edge is drawn of which both ways are marked, by whether they are red.
+fn both_text(onward: bool, back: bool) -> &'static str {
+    match (onward, back) {
+        (true, true) => ", dir=both, penwidth=3, color=red",
+        (true, false) => ", dir=both, penwidth=3, color=\"black;0.5:red\"",
+        (false, true) => ", dir=both, penwidth=3, color=\"red;0.5:black\"",
+        (false, false) => ", dir=both, penwidth=3",
     }
 }
 
