@@ -45,3 +45,5 @@ mod switch;
 mod token;
 #[cfg(test)]
 mod tools;
+#[cfg(test)]
+mod traces;
