@@ -72,3 +72,4 @@ pub mod LeadingSteps
 pub mod LeadingPlaces
 pub mod LeadingRuns
 pub mod ReplaySteps
+pub mod RunOrigins

@@ -34,3 +34,4 @@ pub mod Unchanged
 pub mod Origins
 pub mod Leading
 pub mod Replays
+pub mod RunOrigins

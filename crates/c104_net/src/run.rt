@@ -4,6 +4,8 @@ ghost use Rattle.std.specs.Option.{option_copied};
 ghost use Rattle.c104_net.specs.Finished.{run_arrived};
 ghost use Rattle.c104_net.specs.FinishedRecords.{IsFinishedRecord};
 
+mod origins;
+
 use crate::acts::Entry;
 use crate::run_parts::RunParts;
 use crate::starts::NodeStart;

@@ -1,0 +1,199 @@
+-- What a run that is done once more tells of where its packets came from.
+use Rattle.c104_check.specs.Routes.{routes_of}
+use Rattle.c104_describe.specs.Plans.{IsPlan, Plan}
+use Rattle.c104_event.specs.declared.events.Event.{Event}
+use Rattle.c104_link.specs.Steps.{◌>>=◌}
+use Rattle.c104_net.proofs.EntryCounts.{lengths_same}
+use Rattle.c104_net.proofs.Finishing.{arrived_same, terminals_counted}
+use Rattle.c104_net.proofs.Promises.{headline}
+use Rattle.c104_net.proofs.RecordSteps.{nodes_counted}
+use Rattle.c104_net.proofs.ReplaySteps.{all_left}
+use Rattle.c104_net.proofs.StartMaps.{starts_are, still_placed}
+use Rattle.c104_net.proofs.SureOrigins.{arrived_sure}
+use Rattle.c104_net.proofs.TracedRuns.{traced_from}
+use Rattle.c104_net.specs.Balance.{AreInPlace, IsSteady, is_switch, credit_at, credit_of, granted_at, granted_of}
+use Rattle.c104_net.specs.Deliveries.{arrived_at}
+use Rattle.c104_net.specs.Ends.{end_of}
+use Rattle.c104_net.specs.Finished.{FinishedRun, network_finish, terminals_of}
+use Rattle.c104_net.specs.FinishedRecords.{FinishedRecord, IsFinishedRecord, record_finish}
+use Rattle.c104_net.specs.Leading.{marked_all}
+use Rattle.c104_net.specs.NetRecords.{IsNetRecord, NetRecord}
+use Rattle.c104_net.specs.Network.{Network, network_arrived, network_of, terminal_place}
+use Rattle.c104_net.specs.Nodes.{Node, arrived_tokens, node_arrived}
+use Rattle.c104_net.specs.Origins.{Origin, origins_in}
+use Rattle.c104_net.specs.Replays.{IsLeft}
+use Rattle.c104_net.specs.RunOrigins.{AreOrigins}
+use Rattle.c104_net.specs.Runs.{IsRunRecord, at_node, run_deeds}
+use Rattle.c104_net.specs.Starts.{start_node}
+use Rattle.c104_net.specs.Terminals.{Terminal}
+use Rattle.c104_net.specs.TracedRuns.{IsTracedRun, map_node}
+use Rattle.c104_net.specs.Traces.{part}
+use Rattle.c104_net.specs.declared.acts.Entry.{Entry}
+use Rattle.c104_net.specs.declared.ends.End.{End}
+use Rattle.c104_net.specs.declared.starts.NodeStart.{NodeStart}
+use Rattle.c104_net.specs.declared.traced.Traced.{Traced}
+use Rattle.c104_switch.specs.Actions.{Reply}
+use Rattle.c104_switch.specs.Starts.{start_input, start_output}
+use Rattle.c104_switch.specs.declared.link_start.LinkStart.{LinkStart}
+use Rattle.c104_token.specs.Kinds.{plain_kind}
+use Rattle.c104_token.specs.declared.tokens.Token.{Token}
+use Rattle.std.proofs.Common.{Err, IfOk, List, None, Ok, Option, Result, Some, [], ap, arith, false, get_or, if◌then◌else◌, length, map, nat_lt, option_map, refl, replicate, slice_get, subst, sym, true, ℕ, ⊎_elim, ◌<◌, ◌∙◌, ◌∷◌, ◌≡◌, ◌≤◌, ◌⊎◌}
+use Rattle.std.proofs.lemmas.List.{length-map, length-replicate}
+use Rattle.std.proofs.lemmas.Bool.Decides.{nat_tests}
+use Rattle.std.proofs.lemmas.Option.{slice_get-map, slice_get_cases}
+use Rattle.c104_net.specs.declared.node.NodeOf.TheVariants as node
+use Rattle.c104_net.specs.declared.starts.NodeStart.TheVariants as start
+
+-- starts read no token: what holds of the credits at a start holds of them over any kind of token
+module _ (A B : Type 0) where
+  output_same : (o : Option LinkStart) → (option_map (start_output {A = B}) o >>= (λ q. Some q.credit)) ≡ (option_map (start_output {A = A}) o >>= (λ q. Some q.credit))
+  output_same None = refl
+  output_same (Some l) = refl
+
+  input_same : (o : Option LinkStart) → (option_map (start_input {A = B}) o >>= (λ p. Some p.buffer.granted)) ≡ (option_map (start_input {A = A}) o >>= (λ p. Some p.buffer.granted))
+  input_same None = refl
+  input_same (Some l) = refl
+
+  credit_start : (l : ℕ) (s : NodeStart) → credit_of l (start_node {A = B} s) ≡ credit_of l (start_node {A = A} s)
+  credit_start l (start.Switch s) = rw (slice_get-map (start_output {A = B}) s.links l, slice_get-map (start_output {A = A}) s.links l) (output_same (slice_get s.links l))
+  credit_start l (start.Terminal t) = refl
+
+  granted_start : (l : ℕ) (s : NodeStart) → granted_of l (start_node {A = B} s) ≡ granted_of l (start_node {A = A} s)
+  granted_start l (start.Switch s) = rw (slice_get-map (start_input {A = B}) s.links l, slice_get-map (start_input {A = A}) s.links l) (input_same (slice_get s.links l))
+  granted_start l (start.Terminal t) = refl
+
+  credit_there : (l : ℕ) (o : Option NodeStart) → (option_map (start_node {A = B}) o >>= credit_of l) ≡ (option_map (start_node {A = A}) o >>= credit_of l)
+  credit_there l None = refl
+  credit_there l (Some s) = credit_start l s
+
+  granted_there : (l : ℕ) (o : Option NodeStart) → (option_map (start_node {A = B}) o >>= granted_of l) ≡ (option_map (start_node {A = A}) o >>= granted_of l)
+  granted_there l None = refl
+  granted_there l (Some s) = granted_start l s
+
+  credits_same : (starts : List NodeStart) (end : End) → credit_at (map (start_node {A = B}) starts) end ≡ credit_at (map (start_node {A = A}) starts) end
+  credits_same starts end = rw (slice_get-map (start_node {A = B}) starts end.node, slice_get-map (start_node {A = A}) starts end.node) (credit_there end.link (slice_get starts end.node))
+
+  grants_same : (starts : List NodeStart) (end : End) → granted_at (map (start_node {A = B}) starts) end ≡ granted_at (map (start_node {A = A}) starts) end
+  grants_same starts end = rw (slice_get-map (start_node {A = B}) starts end.node, slice_get-map (start_node {A = A}) starts end.node) (granted_there end.link (slice_get starts end.node))
+
+  pub still_steady : (plan : Plan) (starts : List NodeStart) → IsSteady {A = A} (network_of plan (map start_node starts)) → IsSteady {A = B} (network_of plan (map start_node starts))
+  still_steady plan starts steady = record {
+    in_place = still_placed A B plan starts steady.in_place;
+    balanced = λ p q wired. let level = steady.balanced p q wired in (level.0, credits_same starts (end_of plan p) ∙ level.1, grants_same starts (end_of plan q) ∙ level.2);
+  }
+
+-- what the type of a run keeps, by its own fields
+pub record IsKeptRun (run : FinishedRecord) : Type 0 where
+  pub events : List (Event × Reply)
+  pub nodes : List (Node Token)
+  pub told : IsRunRecord plain_kind run.finished.plan (map start_node run.starts) nodes run.traces run.count events
+  pub ended : run.finished ≡ network_finish (network_of run.finished.plan nodes)
+  pub placed : AreInPlace run.finished.plan nodes
+  pub started : IsSteady {A = Token} (network_of run.finished.plan (map start_node run.starts))
+
+kept_net : (net : NetRecord) → IsNetRecord net → IsKeptRun (record_finish net)
+kept_net net kept = record { events = kept.told.0; nodes = net.network.nodes; told = kept.told.1; ended = refl; placed = kept.steady.in_place; started = kept.started }
+
+pub kept_run : (run : FinishedRecord) → IsFinishedRecord run → IsKeptRun run
+kept_run run is = subst IsKeptRun (sym is.left) (kept_net is.net is.kept)
+
+module _ (run : FinishedRecord) (is_plan : IsPlan run.finished.plan) (kept : IsKeptRun run) where
+  abbrev plan : Plan
+  plan = run.finished.plan
+
+  -- the same run over tokens that tell where they came from
+  pub traced : (traced : List (Node Traced)) × IsTracedRun run.finished.plan run.starts kept.events kept.nodes traced
+  traced = traced_from run.finished.plan run.starts kept.nodes kept.events kept.told.run
+
+  pub steady_start : IsSteady {A = Traced} (network_of run.finished.plan (map start_node run.starts))
+  steady_start = still_steady Token Traced run.finished.plan run.starts kept.started
+
+  -- there are few traces
+  pub few_traces : length run.traces ≤ 65536
+  few_traces =
+      let same : length run.traces ≡ length (map (start_node {A = Token}) run.starts) = lengths_same run.traces (map (start_node {A = Token}) run.starts) (λ k n. at_node k (run_deeds run.finished.plan 0 kept.events)) kept.told.told in
+      let counted = nodes_counted run.finished.plan (map (start_node {A = Token}) run.starts) kept.started.in_place in
+      omega (arith, same, counted, is_plan.few_switches, is_plan.terminals.few)
+
+  -- at first all of it is left
+  pub left_first : (leaders : List ℕ) (n : ℕ) → leaders ≡ marked_all 0 run.traces (replicate run.count 0) → IsLeft run.finished.plan (network_of run.finished.plan (map start_node run.starts)) run.traces (replicate n 0) 0 leaders (network_of run.finished.plan traced.0)
+  left_first leaders n marked = all_left run.finished.plan run.starts kept.nodes run.traces run.count kept.events traced.0 leaders (replicate run.count 0) n is_plan kept.started.in_place kept.told traced.1 marked (length-replicate run.count 0)
+
+-- where the nodes stand in place, so do those of the traced run
+kinds_plain : {A B : Type 0} (f : A → B) (nodes : List (Node A)) → map is_switch (map (map_node f) nodes) ≡ map is_switch nodes
+kinds_plain f [] = refl
+kinds_plain f (node.Switch s ∷ nodes) = ap (λ bs. true ∷ bs) (kinds_plain f nodes)
+kinds_plain f (node.Terminal t ∷ nodes) = ap (λ bs. false ∷ bs) (kinds_plain f nodes)
+
+-- the origins of what arrived at each terminal among nodes
+abbrev pub terminal_origins : Terminal Traced → List Origin
+terminal_origins t = origins_in t.arrived
+
+origins_there : (found : Terminal Traced) (o : Option (Node Traced)) → ◌≡◌ {A = Option (List Traced)} (Some found.arrived) (o >>= node_arrived) → origins_in found.arrived ≡ origins_in (part [] arrived_tokens o)
+origins_there found None is = absurd (cc)
+origins_there found (Some (node.Switch s)) is = absurd (cc)
+origins_there found (Some (node.Terminal t)) is = let same : found.arrived ≡ t.arrived = cc in ap origins_in same
+
+module _ (plan : Plan) (nodes : List (Node Traced)) (placed : AreInPlace plan nodes) where
+  lists_counted : length (map terminal_origins (terminals_of nodes)) ≡ length plan.terminals
+  lists_counted = length-map (terminals_of nodes) terminal_origins ∙ terminals_counted plan nodes placed
+
+  list_there : (t : ℕ) → t < length plan.terminals → slice_get (map terminal_origins (terminals_of nodes)) t ≡ Some (origins_in (arrived_at (network_of plan nodes) t))
+  list_there t inside = ⊎_elim
+      (λ (there : (x : Terminal Traced) × (t < length (terminals_of nodes)) × (slice_get (terminals_of nodes) t ≡ Some x) × (get_or (terminals_of nodes) t x ≡ x)). by_terminal there.0 there.2)
+      (λ (past : (length (terminals_of nodes) ≤ t) × (slice_get (terminals_of nodes) t ≡ None)). absurd (let few = past.0 in let counted = terminals_counted plan nodes placed in let no : ⊥ = omega (arith, few, counted, inside) in no))
+      (slice_get_cases (terminals_of nodes) t).1
+    where
+      by_terminal : (found : Terminal Traced) → slice_get (terminals_of nodes) t ≡ Some found → slice_get (map terminal_origins (terminals_of nodes)) t ≡ Some (origins_in (arrived_at (network_of plan nodes) t))
+      by_terminal found some =
+          let told : ◌≡◌ {A = Option (List Traced)} (Some found.arrived) (network_arrived (network_of plan nodes) t) = ap (λ (o : Option (Terminal Traced)). o >>= (λ (x : Terminal Traced). Some x.arrived)) (sym some) ∙ arrived_same (network_of plan nodes) placed t in
+          let here : nat_lt t (length plan.terminals) ≡ true = grind (arith, nat_tests) in
+          let arrived : ◌≡◌ {A = Option (List Traced)} (Some found.arrived) (slice_get nodes (terminal_place plan t) >>= node_arrived) = told ∙ ap (λ b. if b then (slice_get nodes (terminal_place plan t) >>= node_arrived) else None) here in
+          slice_get-map terminal_origins (terminals_of nodes) t ∙ ap (option_map terminal_origins) some ∙ ap Some (origins_there found (slice_get nodes (terminal_place plan t)) arrived)
+
+-- the lists of the traced run's terminals are the origins of the run
+module _ (run : FinishedRecord) (is_plan : IsPlan run.finished.plan) (kept : IsKeptRun run) where
+  traced_placed : AreInPlace run.finished.plan (traced run is_plan kept).0
+  traced_placed = sym (kinds_plain (λ (x : Traced). x.token) (traced run is_plan kept).0) ∙ ap (map is_switch) (traced run is_plan kept).1.plain ∙ kept.placed
+
+  pub origins_are : AreOrigins run (map terminal_origins (terminals_of (traced run is_plan kept).0))
+  origins_are =
+      let found = traced run is_plan kept in
+      record {
+        events = kept.events;
+        nodes = kept.nodes;
+        told = kept.told;
+        ended = kept.ended;
+        traced = found.0;
+        once_more = found.1;
+        sure = arrived_sure run.finished.plan run.starts kept.events (network_of run.finished.plan found.0) found.1.run;
+        counted = lists_counted run.finished.plan found.0 traced_placed;
+        each = list_there run.finished.plan found.0 traced_placed;
+        promise = λ image accepted are unchanged. headline image (network_of run.finished.plan (map start_node run.starts)) (network_of run.finished.plan found.0) kept.events is_plan accepted (starts_are run.finished.plan image run.starts are) found.1.run unchanged;
+      }
+
+map_same : {X : Type 0} (xs : List X) → map (λ (x : X). x) xs ≡ xs
+map_same [] = refl
+map_same (x ∷ xs) = ap (λ ys. x ∷ ys) (map_same xs)
+
+module _ (run : FinishedRecord) (is_plan : IsPlan run.finished.plan) (kept : IsKeptRun run) where
+  -- the same of what is lent of the run
+  pub left_lent : (lent : List (List Entry)) (starts : List NodeStart) (net : Network Traced) (made given : List ℕ) → lent ≡ run.traces → starts ≡ run.starts → net ≡ network_of run.finished.plan (map start_node starts) →
+      made ≡ marked_all 0 (map (λ (t : List Entry). t) lent) (replicate run.count 0) → given ≡ made → IsLeft run.finished.plan net (map (λ (t : List Entry). t) lent) (replicate (length lent) 0) 0 given (network_of run.finished.plan (traced run is_plan kept).0)
+  left_lent lent starts net made given lent_is starts_is net_is made_is given_is =
+      let same : map (λ (t : List Entry). t) lent ≡ run.traces = map_same lent ∙ lent_is in
+      let ended : Network Traced = network_of run.finished.plan (traced run is_plan kept).0 in
+      let first = left_first run is_plan kept given (length lent) (given_is ∙ made_is ∙ ap (λ ts. marked_all 0 ts (replicate run.count 0)) same) in
+      subst (λ ts. IsLeft run.finished.plan net ts (replicate (length lent) 0) 0 given ended) (sym same)
+      (subst (λ n. IsLeft run.finished.plan n run.traces (replicate (length lent) 0) 0 given ended) (sym (net_is ∙ ap (λ (s : List NodeStart). network_of run.finished.plan (map start_node s)) starts_is)) first)
+
+  -- the lists of the run that was done once more are the origins of the run
+  pub origins_lent : (net : Network Traced) (again : FinishedRun Traced) (lists : List (List Origin)) → net ≡ network_of run.finished.plan (traced run is_plan kept).0 → again ≡ network_finish net → lists ≡ map terminal_origins again.terminals → AreOrigins run lists
+  origins_lent net again lists net_is again_is lists_are =
+      let ends : again.terminals ≡ terminals_of (traced run is_plan kept).0 = ap (λ (r : FinishedRun Traced). r.terminals) again_is ∙ ap (λ (n : Network Traced). terminals_of n.nodes) net_is in
+      subst (AreOrigins run) (sym (lists_are ∙ ap (map terminal_origins) ends)) (origins_are run is_plan kept)
+
+-- what is said of a result, with what follows of it
+pub if_ok : {X E : Type 0} (P Q : X → Type 0) (r : Result X E) → ((x : X) → P x → Q x) → IfOk r P → IfOk r Q
+if_ok P Q (Ok x) f is = f x is
+if_ok P Q (Err e) f is = tt

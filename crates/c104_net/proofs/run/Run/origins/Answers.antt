@@ -1,0 +1,70 @@
+use Rattle.std.proofs.Common.{List, ap, arith, length, map, replicate, subst, sym, ℕ, ◌≡◌, ◌≤◌}
+use Rattle.std.specs.Global.{Vec as Kept}
+use Rattle.c104_describe.specs.Plans.{IsPlan, Plan}
+use Rattle.c104_net.specs.Terminals.{Terminal}
+use Rattle.c104_token.specs.declared.tokens.Token.{Token}
+use Rattle.c104_net.specs.FinishedRecords.{FinishedRecord}
+use Rattle.c104_net.specs.Origins.{Origin}
+use Rattle.c104_net.specs.Replays.{IsLeft}
+use Rattle.c104_net.specs.RunOrigins.{AreOrigins}
+use Rattle.c104_net.specs.declared.acts.Entry.{Entry}
+use Rattle.c104_net.specs.Network.{Network, network_of}
+use Rattle.c104_net.specs.Starts.{start_node}
+use Rattle.c104_net.specs.declared.starts.NodeStart.{NodeStart}
+use Rattle.c104_net.specs.declared.traced.Traced.{Traced}
+use Rattle.c104_net.specs.Balance.{IsSteady}
+use Rattle.c104_net.proofs.RunOrigins.{IsKeptRun, few_traces, if_ok, kept_run, left_lent, origins_lent, steady_start, terminal_origins, traced}
+use Rattle.c104_net.proofs.run.Run.origins.Goals as goal
+
+-- a run by its fields
+abbrev run_of : Plan → List (Terminal Token) → List NodeStart → List (List Entry) → ℕ → FinishedRecord
+run_of plan terminals starts traces count = record {
+  finished = record { plan = plan; terminals = terminals };
+  starts = starts;
+  traces = traces;
+  count = count;
+}
+
+pub leaders_of-requires : goal.leaders_of-requires
+leaders_of-requires c =
+    let run : FinishedRecord = run_of c.self.inside.plan c.self.inside.parts.terminals.items c.self.inside.parts.starts.items c.self.inside.parts.traces.items c.self.inside.count in
+    let kept : IsKeptRun run = kept_run run c.self.invariant in
+    let is_plan : IsPlan run.finished.plan = c.switches-switches.ensures.kept in
+    let few : length c.self.inside.parts.traces.items ≤ 65536 = few_traces run is_plan kept in
+    let same = ap length c.as_slice-traces.ensures.value in
+    record { few = omega (arith, few, same) }
+
+pub from_starts-requires : goal.from_starts-requires
+from_starts-requires c =
+    let run : FinishedRecord = run_of c.self.inside.plan c.self.inside.parts.terminals.items c.self.inside.parts.starts.items c.self.inside.parts.traces.items c.self.inside.count in
+    let kept : IsKeptRun run = kept_run run c.self.invariant in
+    let is_plan : IsPlan run.finished.plan = c.switches-switches.ensures.kept in
+    subst (λ (starts : List NodeStart). IsSteady {A = Traced} (network_of c.self.inside.plan (map start_node starts))) (sym c.as_slice-starts.ensures.value)
+    (steady_start run is_plan kept)
+
+-- all of the run is left at first
+pub replay-result-requires : goal.replay-result-requires
+replay-result-requires c =
+    let run : FinishedRecord = run_of c.self.inside.plan c.self.inside.parts.terminals.items c.self.inside.parts.starts.items c.self.inside.parts.traces.items c.self.inside.count in
+    let kept : IsKeptRun run = kept_run run c.self.invariant in
+    let is_plan : IsPlan run.finished.plan = c.switches-switches.ensures.kept in
+    let ended : Network Traced = network_of run.finished.plan (traced run is_plan kept).0 in
+    let left = left_lent run is_plan kept c.as_slice-traces.result.now c.as_slice-starts.result.now c.in_ok-net.net c.in_ok-leaders.leaders.items c.as_slice.result.now c.as_slice-traces.ensures.value c.as_slice-starts.ensures.value c.in_ok-net.ensures c.in_ok-leaders.ensures c.as_slice.ensures.value in
+    record { left = (ended, left) }
+
+-- and it led where it leads over tokens that tell where they came from
+pub returns : goal.returns
+returns c =
+    let run : FinishedRecord = run_of c.self.inside.plan c.self.inside.parts.terminals.items c.self.inside.parts.starts.items c.self.inside.parts.traces.items c.self.inside.count in
+    let kept : IsKeptRun run = kept_run run c.self.invariant in
+    let is_plan : IsPlan run.finished.plan = c.switches-switches.ensures.kept in
+    let ended : Network Traced = network_of run.finished.plan (traced run is_plan kept).0 in
+    let left = left_lent run is_plan kept c.as_slice-traces.result.now c.as_slice-starts.result.now c.in_ok-net.net c.in_ok-leaders.leaders.items c.as_slice.result.now c.as_slice-traces.ensures.value c.as_slice-starts.ensures.value c.in_ok-net.ensures c.in_ok-leaders.ensures c.as_slice.ensures.value in
+    let net_is : c.replay-result.new.net ≡ ended = c.in_ok-result.ensures ended left in
+    if_ok
+    (λ lists. map (λ (list : Kept Origin). list.items) lists.items ≡ map terminal_origins c.finish-run.result.terminals)
+    (λ lists. AreOrigins c.args.self.now (map (λ (list : Kept Origin). list.items) lists.items))
+    c.origins_at.result
+    (λ lists are. subst (λ (run : FinishedRecord). AreOrigins run (map (λ (list : Kept Origin). list.items) lists.items)) c.self.view_is
+    (origins_lent run is_plan kept c.replay-result.new.net c.finish-run.result (map (λ (list : Kept Origin). list.items) lists.items) net_is c.finish-run.ensures.end are))
+    c.origins_at.ensures

@@ -1,0 +1,40 @@
+-- What a run tells of where the packets came from that arrived in it.
+--     AreOrigins run lists     the lists are the origins of what arrived at each terminal in this run
+use Rattle.c104_check.specs.Routes.{IsAccepted, routes_of}
+use Rattle.c104_describe.specs.PlanImage.{Image}
+use Rattle.c104_event.specs.declared.events.Event.{Event}
+use Rattle.c104_net.specs.Deliveries.{IsDelivered, Promise, arrived_at, received}
+use Rattle.c104_net.specs.Finished.{network_finish}
+use Rattle.c104_net.specs.FinishedRecords.{FinishedRecord}
+use Rattle.c104_net.specs.Network.{network_of}
+use Rattle.c104_net.specs.Nodes.{Node}
+use Rattle.c104_net.specs.Origins.{IsSure, Origin, origins_in}
+use Rattle.c104_net.specs.Runs.{IsRunRecord}
+use Rattle.c104_net.specs.Starts.{start_node}
+use Rattle.c104_net.specs.Traced.{Traced}
+use Rattle.c104_net.specs.TracedRuns.{IsTracedRun}
+use Rattle.c104_net.specs.Unchanged.{AreStartsOf, IsUnchanged}
+use Rattle.c104_switch.specs.Actions.{Reply}
+use Rattle.c104_token.specs.Kinds.{plain_kind}
+use Rattle.c104_token.specs.declared.tokens.Token.{Token}
+use Rattle.std.specs.Prelude.{List, Some, length, map, slice_get, ℕ, ◌<◌, ◌≡◌}
+
+-- Each list is that of a terminal of the plan, in order: the origins of the packets whose terminators arrived
+-- there, in the order of their arrival.
+pub record AreOrigins (run : FinishedRecord) (lists : List (List Origin)) : Type 0 where
+  -- the events of the run, and its nodes at the end
+  pub events : List (Event × Reply)
+  pub nodes : List (Node Token)
+  pub told : IsRunRecord plain_kind run.finished.plan (map start_node run.starts) nodes run.traces run.count events
+  pub ended : run.finished ≡ network_finish (network_of run.finished.plan nodes)
+  -- the nodes at the end of the same events over tokens that tell where they came from
+  pub traced : List (Node Traced)
+  pub once_more : IsTracedRun run.finished.plan run.starts events nodes traced
+  -- each terminator that arrived there tells its packet
+  pub sure : (t k : ℕ) (x : Traced) → slice_get (arrived_at (network_of run.finished.plan traced) t) k ≡ Some x → IsSure x
+  -- as many lists as terminals, and the list of each
+  pub counted : length lists ≡ length run.finished.plan.terminals
+  pub each : (t : ℕ) → t < length run.finished.plan.terminals → slice_get lists t ≡ Some (origins_in (arrived_at (network_of run.finished.plan traced) t))
+  -- where the check accepts an image for the plan, the run started with its settings, and nobody changed the network
+  -- since, the promise holds of what arrived
+  pub promise : (image : Image) → IsAccepted (routes_of run.finished.plan image) → AreStartsOf run.finished.plan image run.starts → IsUnchanged events → Promise (routes_of run.finished.plan image) (network_of run.finished.plan traced)

@@ -1,0 +1,59 @@
+//! Where the packets came from that arrived in a run.
+ghost use Rattle.std.specs.Prelude.{◌≡◌, map, IfOk};
+ghost use Rattle.std.specs.Global.{Vec as Kept};
+ghost use Rattle.c104_net.specs.Origins.{Origin as TheOrigin, origins_in};
+ghost use Rattle.c104_net.specs.RunOrigins.{AreOrigins};
+ghost use Rattle.c104_net.specs.Terminals.{Terminal};
+ghost use Rattle.c104_net.specs.declared.traced.Traced.{Traced as TheTraced};
+
+use super::Run;
+use crate::acts::Entry;
+use crate::bare_net::NetOf;
+use crate::bare_run::RunOf;
+use crate::origins::{Origin, origins_of};
+use crate::replays::{Trail, leaders_of, replay};
+use crate::traced::Traced;
+use c104_token::{Items, NoMemory};
+use std::alloc::Global;
+
+impl Trail for Items<Entry> {
+    ghost entries = { λ trace. trace };
+
+    fn trace(&self) -> &[Entry] {
+        self.as_slice()
+    }
+}
+
+impl Run {
+    /// For each terminal of the plan, in order, the origins of the packets whose terminators arrived there, in the
+    /// order of their arrival. The run is done once more, over tokens that tell where they came from. The only
+    /// error is out of memory.
+    pub fn origins(&self, alloc: Global) -> Result<Vec<Vec<Origin>>, NoMemory>
+        ensures { IfOk result (λ lists. AreOrigins self.now (map (λ (list : Kept TheOrigin). list.items) lists.items)) }
+    {
+        // The proof reads here what every plan keeps.
+        let _switches = self.plan.switches();
+        let traces = self.parts.traces.as_slice();
+        let starts = self.parts.starts.as_slice();
+        let leaders = leaders_of(alloc, self.count as usize, traces)?;
+        let mut net = NetOf::<Traced>::from_starts(alloc, &self.plan, starts)?;
+        let result = replay(alloc, &mut net, &self.plan, leaders.as_slice(), traces);
+        let run = net.finish();
+        result?;
+        origins_at(alloc, &run)
+    }
+}
+
+/// The origins of what arrived at each terminal, in order. The only error is out of memory.
+fn origins_at(alloc: Global, run: &RunOf<Traced>) -> Result<Vec<Vec<Origin>>, NoMemory>
+    ensures { IfOk result (λ lists.
+        map (λ (list : Kept TheOrigin). list.items) lists.items
+        ≡ map (λ (t : Terminal TheTraced). origins_in t.arrived) run.now.terminals) }
+{
+    let mut lists = Vec::new(alloc);
+    let terminals = run.terminals.as_slice();
+    for terminal in terminals {
+        lists.push(origins_of(alloc, terminal.arrived())?)?;
+    }
+    Ok(lists)
+}
