@@ -38,3 +38,6 @@ pub record AreOrigins (run : FinishedRecord) (lists : List (List Origin)) : Type
   -- where the check accepts an image for the plan, the run started with its settings, and nobody changed the network
   -- since, the promise holds of what arrived
   pub promise : (image : Image) → IsAccepted (routes_of run.finished.plan image) → AreStartsOf run.finished.plan image run.starts → IsUnchanged events → Promise (routes_of run.finished.plan image) (network_of run.finished.plan traced)
+  -- and then each packet that was received at a terminal has one origin, at its place in the terminal's list: that
+  -- which it is delivered from
+  pub named : (image : Image) → IsAccepted (routes_of run.finished.plan image) → AreStartsOf run.finished.plan image run.starts → IsUnchanged events → (t k : ℕ) (piece : List Traced) → slice_get (received (network_of run.finished.plan traced) t) k ≡ Some piece → (d : IsDelivered (routes_of run.finished.plan image) (network_of run.finished.plan traced) t piece) × (slice_get (origins_in (arrived_at (network_of run.finished.plan traced) t)) k ≡ Some (record { terminal = d.terminal; number = d.number }))
