@@ -8,3 +8,6 @@ pub mod DoneSteps
 pub mod LoadedSwitches
 pub mod ShownLoads
 pub mod TableReads
+pub mod NetSwitches
+pub mod NetCommands
+pub mod NetAnswers

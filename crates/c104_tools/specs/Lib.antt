@@ -5,3 +5,4 @@ pub mod Loads
 pub mod Reads
 pub mod Tables
 pub mod Loaded
+pub mod NetCommands
