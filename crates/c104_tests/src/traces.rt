@@ -24,17 +24,18 @@ fn placed(alloc: Global, text: &[u8]) -> Result<Net, Fail> {
 #[test]
 fn full_trace(rt: HostRuntime) -> Result<(), Fail> {
     let mut net = placed(rt.alloc(), ROW)?;
-    let result = fill(&rt, &mut net);
+    let result = fill(&rt, &mut net, 1_048_576);
     let _run = net.finish();
     result
 }
 
-fn fill(rt: &impl Abort, net: &mut Net) -> Result<(), Fail> {
-    for _ in 0..1_048_576u32 {
+/// The limit comes as an argument, since the prover would compute with a literal.
+fn fill(rt: &impl Abort, net: &mut Net, limit: usize) -> Result<(), Fail> {
+    for _ in 0..limit {
         net.apply(&identify(1))?;
     }
     assert!(rt; net.apply(&identify(1)) == Err(EventFault::TraceFull));
-    assert!(rt; count(net, 1) == 1_048_576);
+    assert!(rt; count(net, 1) == limit);
     net.apply(&identify(2))?;
     assert!(rt; net.begin());
     assert!(rt; count(net, 1) == 0);
