@@ -1,15 +1,16 @@
 //! Networks of switches and terminals, run event by event.
 //!
-//! A `NetOf` (a `Net`, over plain tokens) is the switches and the terminals of a plan. It keeps that
-//! each stands at its place, the switches first, and that at the two ends of each wire the credit of
-//! the one is what the other has granted. An event is done as a whole, at both ends of its wire, or
-//! it is answered with NotReady or refused, and then nothing has changed.
+//! A `Net` is the switches and the terminals of a plan. It keeps that each stands at its place, the switches
+//! first, and that at the two ends of each wire the credit of the one is what the other has granted. An
+//! event is done as a whole, at both ends of its wire, or it is answered with NotReady or refused, and then
+//! nothing has changed. Each node keeps where it started and an `Entry` of each act that it did since, and the
+//! type keeps that the entries of all are those of one run.
 //!
-//! A network can't be dropped, since its switches hold claims: `finish` ends it, and gives a `RunOf`
-//! (a `Run`), which keeps the plan and what had arrived at each of its terminals. A `PlaceFault` is
-//! why a network was not made, and a `Reason` why an event isn't ready, and where. `rounds` does the
-//! events of all parts in turn, again and again; a `Watch` is told how far they are. In a `Net` each node
-//! keeps an `Entry` of each act that it did, and the type keeps that the entries of all are those of one run.
+//! A network can't be dropped, since its switches hold claims: `finish` ends it, and gives a `Run`, which
+//! keeps the plan, the starts, the entries, and what had arrived at each of the terminals. `Run::origins` tells
+//! which packet each received packet was. A `PlaceFault` is why a network was not made, and a `Reason` why an
+//! event isn't ready, and where. `rounds` does the events of all parts in turn, again and again; a `Watch` is
+//! told how far they are.
 #![tactic(auto)]
 
 mod acts;
