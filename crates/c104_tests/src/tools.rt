@@ -1,8 +1,10 @@
-//! The loader and the debugger over ports of one switch.
+//! The loader and the debugger over ports of one switch, and over a network.
 use c104_control::ControlBytes;
 use c104_describe::{Image, hand_image, read_description};
-use c104_event::EventFault;
+use c104_event::{Event, EventFault};
+use c104_net::Net;
 use c104_switch::Switch;
+use c104_token::{Token, parse_packet};
 use c104_tools::{Asked, ControlPort, LoadFault, load, read_link, verify, write_register};
 use std::alloc::Global;
 use std::process::Abort;
@@ -143,5 +145,57 @@ fn no_reply(rt: HostRuntime) -> Result<(), Fail> {
         asked: Vec::new(alloc),
     };
     assert!(rt; load(&mut mute, &image) == Err(LoadFault::BadReply(0)));
+    Ok(())
+}
+
+/// A network is loaded, begins a run, and carries a packet; a damaged row is found.
+#[test]
+fn loaded_network(rt: HostRuntime) -> Result<(), Fail> {
+    let alloc = rt.alloc();
+    let image = image(alloc, PLAN)?;
+    let mut net = new_network(alloc, PLAN)?;
+    let result = load_and_carry(&rt, alloc, &mut net, &image);
+    net.retire();
+    result
+}
+
+/// A new network of a description, in which no switch is started.
+fn new_network(alloc: Global, text: &[u8]) -> Result<Net, Fail> {
+    let plan = read_description(alloc, text)?;
+    let net = Net::new(alloc, &plan)?;
+    Ok(net)
+}
+
+fn load_and_carry(
+    rt: &impl Abort,
+    alloc: Global,
+    net: &mut Net,
+    image: &Image,
+) -> Result<(), Fail> {
+    load_network(rt, net, image)?;
+    carry(rt, alloc, net)
+}
+
+fn load_network(rt: &impl Abort, net: &mut Net, image: &Image) -> Result<(), Fail> {
+    assert!(rt; load(net, image) == Ok(()));
+    assert!(rt; verify(net, image) == Ok(()));
+    assert!(rt; write_register(net, 0, 0x0140, 5) == Ok(()));
+    assert!(rt; verify(net, image) == Err(LoadFault::Differs(0, 0x0140, 5)));
+    assert!(rt; load(net, image) == Ok(()));
+    assert!(rt; net.command(1, &ControlBytes::new(&[0x03])).is_err());
+    assert!(rt; net.begin());
+    Ok(())
+}
+
+/// A packet of `a` for `b` goes through the switch that was loaded.
+fn carry(rt: &impl Abort, alloc: Global, net: &mut Net) -> Result<(), Fail> {
+    let packet = parse_packet(alloc, "01 eop")?;
+    net.apply(&Event::Send {
+        terminal: 0,
+        packet,
+    })?;
+    net.rounds(4)?;
+    let arrived = net.arrived(1).ok_or("no terminal b")?;
+    assert!(rt; arrived == [Token::Byte(1), Token::Eop].as_slice());
     Ok(())
 }
