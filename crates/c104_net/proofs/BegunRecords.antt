@@ -1,19 +1,17 @@
 -- Nodes with their records begin a run where they are quiet.
-use Rattle.std.proofs.Common.{◌≡◌, ◌≢◌, ◌∙◌, ◌+◌, ◌≤◌, ◌<◌, ℕ, zero, suc, inl, inr, All, true, false, List, [], ◌∷◌, Option, Some, None, drop, length, map, slice_get, slice_set, take, refl, sym, ap, subst, arith}
+use Rattle.std.proofs.Common.{◌≡◌, ◌∙◌, ◌+◌, ◌≤◌, ◌<◌, ℕ, zero, suc, inl, inr, All, true, false, List, [], ◌∷◌, Option, Some, None, length, map, slice_get, slice_set, refl, sym, ap, subst, arith}
 use Rattle.std.proofs.lemmas.Option.{slice_get-map}
 use Rattle.std.specs.Option.{option_map}
 use Rattle.c104_link.proofs.MadeSteps.{place_after_set, All-place}
 use Rattle.c104_link.specs.Buffers.{Outgoing}
 use Rattle.c104_link.specs.Steps.{◌>>=◌}
 use Rattle.c104_switch.specs.Actions.{Reply}
-use Rattle.c104_switch.specs.declared.actions.ActionOf.{ActionOf}
 use Rattle.c104_switch.specs.declared.actions.ActionOf.TheVariants as action
 use Rattle.c104_switch.specs.declared.actions.ReplyOf.TheVariants as reply
-use Rattle.c104_switch.specs.declared.link_start.LinkStart.{LinkStart}
 use Rattle.c104_switch.specs.Claims as claims
 use Rattle.c104_switch.specs.Control as controls
 use Rattle.c104_switch.specs.Turns as turns
-use Rattle.c104_switch.specs.Starts.{link_starts, start_input, start_output, start_switch, switch_start}
+use Rattle.c104_switch.specs.Starts.{link_starts, start_input, start_output}
 use Rattle.c104_switch.specs.Switch as switch
 use Rattle.c104_switch.specs.Switch.{Input}
 use Rattle.c104_token.specs.declared.tokens.Token.{Token}
@@ -22,8 +20,6 @@ use Rattle.c104_net.specs.declared.acts.ActOf.{ActOf}
 use Rattle.c104_net.specs.declared.acts.ActOf.TheVariants as act
 use Rattle.c104_net.specs.declared.acts.Entry.{Entry}
 use Rattle.c104_net.specs.declared.node.NodeOf.TheVariants as node
-use Rattle.c104_net.specs.declared.starts.NodeStart.{NodeStart}
-use Rattle.c104_net.specs.declared.starts.NodeStart.TheVariants as start
 use Rattle.c104_net.specs.Acts.{done_by, token_by, node_act}
 use Rattle.c104_describe.specs.Plans.{Plan}
 use Rattle.c104_net.specs.Balance.{is_switch, IsSteady}

@@ -38,7 +38,7 @@ module _ {P : Type 0} (full : P → Bool) where
     none_of_ends plan xs p (Some q) = rw (none_full xs (end_of plan p).node, none_full xs (end_of plan q).node) refl
 
     -- nor is any that an event would add to
-    pub event_not_full : (plan : Plan) (xs : List P) (e : Event) → event_full plan (map full xs) e ≡ false
+    event_not_full : (plan : Plan) (xs : List P) (e : Event) → event_full plan (map full xs) e ≡ false
     event_not_full plan xs (event.Cross p) = none_of_ends plan xs p (peer plan p)
     event_not_full plan xs (event.Credit p) = none_of_ends plan xs p (peer plan p)
     event_not_full plan xs (event.Input s l word) = none_full xs s

@@ -29,7 +29,7 @@ led_tickets switches k (e ∷ entries) = ap (λ b. if b then e.ticket ∷ leadin
 
 module _ (plan : Plan) (is_plan : IsPlan plan) (start nodes : List (Node Token)) (traces : List (List Entry)) (count : ℕ) (events : List (Event × Reply)) (of_run : IsRunRecord plain_kind plan start nodes traces count events) where
   -- each node of the plan has a trace
-  trace_there : AreInPlace plan start → (k : ℕ) → k < length plan.switches + length plan.terminals → k < length traces
+  pub trace_there : AreInPlace plan start → (k : ℕ) → k < length plan.switches + length plan.terminals → k < length traces
   trace_there placed k inside = by_start (slice_get_cases start k).1
     where
       long : length start ≡ length plan.switches + length plan.terminals

@@ -13,6 +13,7 @@ pub mod RunRecords
 pub mod EntryCounts
 pub mod UndoneEvents
 pub mod RecordSteps
+pub mod WiredTraces
 pub mod NetRecording
 pub mod StartsBack
 pub mod FirstRecords
@@ -24,6 +25,7 @@ pub mod StageSteps
 pub mod IdleEvents
 pub mod RoundJoins
 pub mod RecordedRuns
+pub mod DoneEvents
 pub mod WiredPorts
 pub mod PortWalks
 pub mod ReadyNodes
@@ -71,5 +73,6 @@ pub mod LedEvents
 pub mod LeadingSteps
 pub mod LeadingPlaces
 pub mod LeadingRuns
+pub mod ToldEvents
 pub mod ReplaySteps
 pub mod RunOrigins

@@ -1,5 +1,5 @@
 -- An event over nodes with their records is one of the network with its record.
-use Rattle.std.proofs.Common.{◌≡◌, ◌∙◌, ◌++◌, ℕ, Bool, true, false, List, [], ◌∷◌, Some, Result, Ok, Err, IfOk, length, map, nat_le, refl, ap, subst}
+use Rattle.std.proofs.Common.{◌≡◌, ◌∙◌, ℕ, Bool, true, false, List, [], ◌∷◌, Some, Result, Ok, Err, IfOk, length, map, nat_le, refl, ap, subst}
 use Rattle.c104_token.specs.Kinds.{plain_kind}
 use Rattle.c104_switch.specs.Actions.{Reply, is_ready}
 use Rattle.c104_describe.specs.Plans.{Plan, IsPlan}

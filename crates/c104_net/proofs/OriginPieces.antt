@@ -5,10 +5,11 @@ use Rattle.c104_net.proofs.HeaderReads.{bytes_push}
 use Rattle.c104_net.proofs.PacketInvariant.{bytes_only}
 use Rattle.c104_net.specs.Deliveries.{IsDelivered, cut_at, deletes}
 use Rattle.c104_net.specs.Network.{Network}
-use Rattle.c104_net.specs.Origins.{origin_of, origins_in}
+use Rattle.c104_net.specs.Origins.{AreSure, origin_by, origin_of, origins_in}
 use Rattle.c104_net.specs.Terminals.{sent_from, sent_tokens}
 use Rattle.c104_net.specs.Traced.{traced_kind}
 use Rattle.c104_net.specs.declared.origins.Origin.{Origin}
+use Rattle.c104_net.specs.declared.traced.Source.{Source}
 use Rattle.c104_net.specs.declared.traced.Traced.{Traced}
 use Rattle.c104_token.specs.Cut.{unfinished_piece, whole_pieces}
 use Rattle.c104_token.specs.Tokens.{end_token, is_end}
@@ -52,6 +53,29 @@ unfinished_none front (x ∷ xs) h = ⊎_elim
 -- the origins of what arrived, piece by piece
 pub received_origins : (xs : List Traced) → origins_in xs ≡ flat_map origins_in (whole_pieces plain [] xs)
 received_origins xs = sym (pieces_origins [] xs) ∙ ap (λ z. flat_map origins_in (whole_pieces plain [] xs) ++ z) (unfinished_none [] xs tt) ∙ append-nil (flat_map origins_in (whole_pieces plain [] xs))
+
+-- a list of one origin
+abbrev pub one_origin : Origin → List Origin
+one_origin o = o ∷ []
+
+-- where each terminator tells its packet, each piece has one origin, and in turn they are those of all
+pub piece_origins : (front xs : List Traced) → bytes_only front → AreSure xs → map origins_in (whole_pieces plain front xs) ≡ map one_origin (origins_in xs)
+piece_origins front [] h sure = refl
+piece_origins front (x ∷ xs) h sure = ⊎_elim
+    (λ (e : is_end x.token ≡ true). by_source e (sure 0 x refl e) (piece_origins [] xs tt (λ k y at. sure (suc k) y at)))
+    (λ (e : is_end x.token ≡ false). rw e (piece_origins (front ++ x ∷ []) xs (bytes_push front x h e) (λ k y at. sure (suc k) y at)))
+    (cases_Bool (is_end x.token))
+  where
+    by_source : is_end x.token ≡ true → (s : Source) × (x.source ≡ Some s) → map origins_in (whole_pieces plain [] xs) ≡ map one_origin (origins_in xs) → map origins_in (whole_pieces plain front (x ∷ xs)) ≡ map one_origin (origins_in (x ∷ xs))
+    by_source e (s, is) rest =
+        let o : Origin = record { terminal = s.terminal; number = s.number } in
+        let here : origin_of x ≡ Some o = ap (λ b. origin_by b x.source) e ∙ ap (origin_by true) is in
+        let alone : origins_in (x ∷ []) ≡ o ∷ [] = ap (λ z. option_to_list z ++ []) here in
+        let piece : origins_in (front ++ x ∷ []) ≡ o ∷ [] = origins_append front (x ∷ []) ∙ ap (λ z. z ++ origins_in (x ∷ [])) (bytes_none front h) ∙ alone in
+        ap (λ b. map origins_in (if b then (front ++ x ∷ []) ∷ whole_pieces plain [] xs else whole_pieces plain (front ++ x ∷ []) xs)) e
+        ∙ ap (λ z. z ∷ map origins_in (whole_pieces plain [] xs)) piece
+        ∙ ap (λ z. (o ∷ []) ∷ z) rest
+        ∙ ap (λ z. map one_origin (option_to_list z ++ origins_in xs)) (sym here)
 
 abbrev pub packet_origin : ℕ → ℕ → Origin
 packet_origin a n = record { terminal = a; number = n }

@@ -1,9 +1,9 @@
 -- An event, done or not, keeps what the type of a network with its record keeps.
-use Rattle.std.proofs.Common.{◌≡◌, ◌≢◌, ◌∙◌, ◌+◌, ◌++◌, ◌||◌, ◌<◌, ◌≤◌, ℕ, All, Bool, true, false, List, [], ◌∷◌, Option, Some, None, Result, Ok, Err, IfOk, length, length-append, map, replicate, slice_get, inl, inr, refl, sym, ap, subst, arith}
+use Rattle.std.proofs.Common.{◌≡◌, ◌≢◌, ◌∙◌, ◌+◌, ◌++◌, ◌||◌, ◌≤◌, ℕ, All, Bool, true, false, List, [], ◌∷◌, Option, Some, None, Result, Ok, Err, length, length-append, map, replicate, slice_get, inl, inr, refl, sym, ap, subst, arith}
 use Rattle.std.proofs.lemmas.List.{length-map, length-replicate}
 use Rattle.c104_token.specs.declared.tokens.Token.{Token}
 use Rattle.c104_token.specs.Kinds.{Kind, plain_kind}
-use Rattle.c104_link.specs.Steps.{◌>>=◌, step_at, yield_step_at}
+use Rattle.c104_link.specs.Steps.{step_at, yield_step_at}
 use Rattle.c104_link.proofs.MadeSteps.{given, at_place_made, from_place_made}
 use Rattle.c104_switch.specs.Actions.{Reply, is_ready}
 use Rattle.c104_switch.specs.declared.actions.ReplyOf.TheVariants as reply
@@ -14,16 +14,15 @@ use Rattle.c104_event.specs.declared.events.Event.{Event}
 use Rattle.c104_event.specs.declared.events.Event.TheVariants as event
 use Rattle.c104_event.specs.declared.faults.EventFault.{EventFault}
 use Rattle.c104_net.specs.declared.acts.Entry.{Entry}
-use Rattle.c104_net.specs.declared.ends.End.{End}
 use Rattle.c104_net.specs.Balance.{credit_of, granted_of, is_switch, AreInPlace, IsSteady}
 use Rattle.c104_net.specs.Ends.{end_of}
 use Rattle.c104_net.specs.Nodes.{Node, node_input, node_claim, node_control, node_send, node_drain}
 use Rattle.c104_net.specs.Network.{Network, network_apply, network_of, network_step, event_fault, limit_fault, limited_node, outcome_within_limit, outcome_if_ready, outcome_if_possible, terminal_place, AnswersWith}
-use Rattle.c104_net.specs.Wires.{nodes_cross, nodes_credit}
+use Rattle.c104_net.specs.Wires.{nodes_cross}
 use Rattle.c104_net.specs.Runs.{IsRunRecord, at_node, run_deeds}
 use Rattle.c104_net.specs.Starts.{start_node}
-use Rattle.c104_net.specs.Traces.{Deed, crossing_deeds, crediting_deeds, event_deeds, event_full, full_at, full_ends, is_switch_at, is_switch_place, kept_of, noted_all, part, trace_limit}
-use Rattle.c104_net.specs.NetRecords.{is_done, is_trace_full, largest_ticket, ticket_after, total_entries, IsNetRecord, IsRunOf, IsWithinLimit, NetRecord, RecordsEvent}
+use Rattle.c104_net.specs.Traces.{Deed, event_deeds, event_full, full_at, full_ends, is_switch_at, is_switch_place, noted_all}
+use Rattle.c104_net.specs.NetRecords.{is_done, is_trace_full, ticket_after, total_entries, IsNetRecord, IsWithinLimit, NetRecord, RecordsEvent}
 use Rattle.c104_net.proofs.BalanceEvents.{applied_with}
 use Rattle.c104_net.proofs.BalanceWires.{nodes_apart}
 use Rattle.c104_net.proofs.EntryCounts.{all_more, all_within, lengths_same, room_there, total_below, HasRoom, HaveRoom}

@@ -1,5 +1,5 @@
 -- A network with its record goes on by events, one or in turn.
-use Rattle.std.proofs.Common.{◌≡◌, ◌∙◌, ◌+◌, ◌<◌, ◌++◌, ◌&&◌, ℕ, Bool, true, false, List, [], ◌∷◌, Some, Result, Ok, Err, IfOk, if◌then◌else◌, map, inl, inr, refl, sym, ap, subst, arith}
+use Rattle.std.proofs.Common.{◌≡◌, ◌∙◌, ◌&&◌, ℕ, Bool, true, false, List, [], ◌∷◌, Some, Result, Ok, Err, IfOk, if◌then◌else◌, map, inl, inr, refl, sym, ap, subst}
 use Rattle.c104_token.specs.declared.tokens.Token.{Token}
 use Rattle.c104_token.specs.Kinds.{plain_kind}
 use Rattle.c104_switch.specs.Actions.{Reply, is_ready}
@@ -9,7 +9,6 @@ use Rattle.c104_event.specs.declared.faults.EventFault.{EventFault}
 use Rattle.c104_event.specs.declared.faults.EventFault.TheVariants as fault
 use Rattle.c104_net.specs.declared.acts.Entry.{Entry}
 use Rattle.c104_net.specs.declared.starts.NodeStart.{NodeStart}
-use Rattle.c104_net.specs.Nodes.{Node}
 use Rattle.c104_net.specs.Records.{NodeRecord}
 use Rattle.c104_net.specs.Network.{Network, network_apply, network_of}
 use Rattle.c104_net.specs.NetRecords.{is_done, is_trace_full, net_record, node_start, node_state, node_trace, IsNetRecord, NetRecord, RecordsEvent}

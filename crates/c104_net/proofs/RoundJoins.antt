@@ -1,12 +1,11 @@
--- The parts of a round make a round, and what rounds leave is in balance.
-use Rattle.std.proofs.Common.{◌≡◌, ◌∙◌, ◌<◌, ◌||◌, ℕ, Bool, false, List, [], ◌∷◌, ◌++◌, Option, Some, None, Result, Ok, Err, map, inl, refl, sym, ap, subst, arith}
+-- The parts of a round make a round.
+use Rattle.std.proofs.Common.{◌≡◌, ◌∙◌, ◌<◌, ◌||◌, ℕ, Bool, false, List, [], ◌∷◌, ◌++◌, Option, Some, None, Result, Ok, Err, map, refl, sym, ap, subst, arith}
 use Rattle.std.specs.List.{flat_map, range_with_len}
 use Rattle.c104_token.specs.Kinds.{Kind}
 use Rattle.c104_link.specs.Steps.{step_at, yield_step_at}
 use Rattle.c104_link.proofs.MadeSteps.{given}
 use Rattle.c104_switch.specs.Actions.{Reply}
 use Rattle.c104_switch.specs.declared.actions.ReplyOf.TheVariants as reply
-use Rattle.c104_describe.specs.Plans.{IsPlan}
 use Rattle.c104_describe.specs.Wiring.{peer}
 use Rattle.c104_event.specs.declared.events.Event.{Event}
 use Rattle.c104_event.specs.declared.events.Event.TheVariants as event
@@ -15,14 +14,11 @@ use Rattle.c104_net.specs.Nodes.{Node, node_input, node_claim, node_control, nod
 use Rattle.c104_net.specs.Wires.{nodes_cross, nodes_credit}
 use Rattle.c104_net.specs.Ends.{end_of}
 use Rattle.c104_net.specs.Network.{Network, network_apply, network_step, terminal_place, event_fault, limit_fault, limited_node, outcome_within_limit, outcome_if_ready, outcome_if_possible, with_nodes}
-use Rattle.c104_net.specs.Balance.{IsSteady}
-use Rattle.c104_net.specs.EventRuns.{EventsEnd}
 use Rattle.c104_net.specs.Rounds.{claims_of, link_numbers, switch_claims}
 use Rattle.c104_net.specs.RoundParts.{PartEnds}
-use Rattle.c104_net.proofs.BalanceEvents.{applied_steady}
 use Rattle.c104_net.proofs.PartRuns.{numbers_done, numbers_passed, part_after, part_empty, single, singles, stops_after, stops_before}
 use Rattle.c104_net.proofs.RoundLists.{links_passed}
-use Rattle.c104_net.proofs.RoundRuns.{ends_keep, Applied}
+use Rattle.c104_net.proofs.RoundRuns.{Applied}
 
 module _ {S : Type 0} (apply : S → Event → Applied S) where
   -- the claims of an input, one by one, and those of a switch, input by input
@@ -93,11 +89,3 @@ module _ {A : Type 0} (kind : Kind A) where
 
     pub apply_plan : (e : Event) → (network_apply kind net e).1.plan ≡ net.plan
     apply_plan e = by_fault e (event_fault net.plan e)
-
-  -- a run of events keeps the balance
-  pub events_steady : (net after : Network A) (events : List Event) (result : Result (Unit {0}) EventFault) → IsPlan net.plan → IsSteady net → EventsEnd (network_apply kind) net events result after → IsSteady after
-  events_steady net after events result is_plan steady ends =
-      (ends_keep (network_apply kind) (λ n. IsPlan n.plan × IsSteady n) (λ n e holds. (
-        subst IsPlan (sym (apply_plan n e)) holds.0,
-        applied_steady kind n.plan holds.0 n.nodes holds.1 e (network_apply kind n e).0 (network_apply kind n e).1 (inl refl),
-      )) net after events result (is_plan, steady) ends).1

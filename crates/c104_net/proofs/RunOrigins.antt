@@ -12,22 +12,26 @@ use Rattle.c104_net.proofs.RecordSteps.{nodes_counted}
 use Rattle.c104_net.proofs.ReplaySteps.{all_left}
 use Rattle.c104_net.proofs.StartMaps.{starts_are, still_placed}
 use Rattle.c104_net.proofs.SureOrigins.{arrived_sure}
-use Rattle.c104_net.proofs.TracedRuns.{traced_from}
+use Rattle.c104_net.proofs.ToldEvents.{events_told}
+use Rattle.c104_net.proofs.TracedRuns.{run_after, token_of, traced_from}
 use Rattle.c104_net.specs.Balance.{AreInPlace, IsSteady, is_switch, credit_at, credit_of, granted_at, granted_of}
 use Rattle.c104_net.specs.Deliveries.{IsDelivered, Promise, arrived_at, received}
 use Rattle.c104_net.specs.Ends.{end_of}
-use Rattle.c104_net.specs.Finished.{FinishedRun, network_finish, terminals_of}
+use Rattle.c104_net.specs.EventRuns.{run_events}
+use Rattle.c104_net.specs.Finished.{FinishedRun, network_finish, run_arrived, terminals_of}
 use Rattle.c104_net.specs.FinishedRecords.{FinishedRecord, IsFinishedRecord, record_finish}
 use Rattle.c104_net.specs.Leading.{marked_all}
 use Rattle.c104_net.specs.NetRecords.{IsNetRecord, NetRecord}
-use Rattle.c104_net.specs.Network.{Network, network_arrived, network_of, terminal_place}
+use Rattle.c104_net.specs.Network.{Network, network_apply, network_arrived, network_of, terminal_place}
 use Rattle.c104_net.specs.Nodes.{Node, arrived_tokens, node_arrived}
-use Rattle.c104_net.specs.Origins.{Origin, origins_in}
+use Rattle.c104_net.specs.Origins.{AreSure, Origin, origins_in}
 use Rattle.c104_net.specs.Replays.{IsLeft}
 use Rattle.c104_net.specs.RunOrigins.{AreOrigins}
 use Rattle.c104_net.specs.Runs.{IsRunRecord, at_node, run_deeds}
 use Rattle.c104_net.specs.Starts.{start_node}
 use Rattle.c104_net.specs.Terminals.{Terminal}
+use Rattle.c104_net.specs.Traced.{traced_kind}
+use Rattle.c104_net.specs.TracedEnds.{traced_end}
 use Rattle.c104_net.specs.TracedRuns.{IsTracedRun, map_node}
 use Rattle.c104_net.specs.Traces.{part}
 use Rattle.c104_net.specs.Unchanged.{AreStartsOf, IsUnchanged}
@@ -40,7 +44,7 @@ use Rattle.c104_switch.specs.Starts.{start_input, start_output}
 use Rattle.c104_switch.specs.declared.link_start.LinkStart.{LinkStart}
 use Rattle.c104_token.specs.Kinds.{plain_kind}
 use Rattle.c104_token.specs.declared.tokens.Token.{Token}
-use Rattle.std.proofs.Common.{Err, IfOk, List, None, Ok, Option, Result, Some, [], ap, arith, false, flat_map, get_or, if◌then◌else◌, length, map, nat_lt, option_map, refl, replicate, slice_get, subst, suc, sym, true, zero, ℕ, ⊎_elim, ◌++◌, ◌<◌, ◌∙◌, ◌∷◌, ◌≡◌, ◌≤◌, ◌⊎◌}
+use Rattle.std.proofs.Common.{Err, IfOk, List, None, Ok, Option, Result, Some, [], ap, arith, false, flat_map, get_or, if◌then◌else◌, length, map, nat_lt, option_map, refl, replicate, slice_get, subst, suc, sym, true, zero, ℕ, ⊎_elim, ◌++◌, ◌<◌, ◌∙◌, ◌∷◌, ◌≡◌, ◌≤◌}
 use Rattle.std.proofs.lemmas.List.{length-map, length-replicate}
 use Rattle.std.proofs.lemmas.Bool.Decides.{nat_tests}
 use Rattle.std.proofs.lemmas.Option.{slice_get-map, slice_get_cases}
@@ -137,22 +141,44 @@ origins_there found None is = absurd (cc)
 origins_there found (Some (node.Switch s)) is = absurd (cc)
 origins_there found (Some (node.Terminal t)) is = let same : found.arrived ≡ t.arrived = cc in ap origins_in same
 
+plain_node : (arrived : List Traced) (o : Option (Node Traced)) → ◌≡◌ {A = Option (List Traced)} (Some arrived) (o >>= node_arrived) → (option_map (map_node token_of) o >>= node_arrived) ≡ Some (map token_of (part [] arrived_tokens o))
+plain_node arrived None is = absurd (cc)
+plain_node arrived (Some (node.Switch s)) is = absurd (cc)
+plain_node arrived (Some (node.Terminal t)) is = refl
+
 module _ (plan : Plan) (nodes : List (Node Traced)) (placed : AreInPlace plan nodes) where
   lists_counted : length (map terminal_origins (terminals_of nodes)) ≡ length plan.terminals
   lists_counted = length-map (terminals_of nodes) terminal_origins ∙ terminals_counted plan nodes placed
 
-  list_there : (t : ℕ) → t < length plan.terminals → slice_get (map terminal_origins (terminals_of nodes)) t ≡ Some (origins_in (arrived_at (network_of plan nodes) t))
-  list_there t inside = ⊎_elim
+  -- a terminal of the plan is there, and what arrived at it
+  terminal_there : (t : ℕ) → t < length plan.terminals → (found : Terminal Traced) × (slice_get (terminals_of nodes) t ≡ Some found) × (◌≡◌ {A = Option (List Traced)} (Some found.arrived) (slice_get nodes (terminal_place plan t) >>= node_arrived))
+  terminal_there t inside = ⊎_elim
       (λ (there : (x : Terminal Traced) × (t < length (terminals_of nodes)) × (slice_get (terminals_of nodes) t ≡ Some x) × (get_or (terminals_of nodes) t x ≡ x)). by_terminal there.0 there.2)
       (λ (past : (length (terminals_of nodes) ≤ t) × (slice_get (terminals_of nodes) t ≡ None)). absurd (let few = past.0 in let counted = terminals_counted plan nodes placed in let no : ⊥ = omega (arith, few, counted, inside) in no))
       (slice_get_cases (terminals_of nodes) t).1
     where
-      by_terminal : (found : Terminal Traced) → slice_get (terminals_of nodes) t ≡ Some found → slice_get (map terminal_origins (terminals_of nodes)) t ≡ Some (origins_in (arrived_at (network_of plan nodes) t))
+      by_terminal : (found : Terminal Traced) → slice_get (terminals_of nodes) t ≡ Some found → (found : Terminal Traced) × (slice_get (terminals_of nodes) t ≡ Some found) × (◌≡◌ {A = Option (List Traced)} (Some found.arrived) (slice_get nodes (terminal_place plan t) >>= node_arrived))
       by_terminal found some =
           let told : ◌≡◌ {A = Option (List Traced)} (Some found.arrived) (network_arrived (network_of plan nodes) t) = ap (λ (o : Option (Terminal Traced)). o >>= (λ (x : Terminal Traced). Some x.arrived)) (sym some) ∙ arrived_same (network_of plan nodes) placed t in
           let here : nat_lt t (length plan.terminals) ≡ true = grind (arith, nat_tests) in
-          let arrived : ◌≡◌ {A = Option (List Traced)} (Some found.arrived) (slice_get nodes (terminal_place plan t) >>= node_arrived) = told ∙ ap (λ b. if b then (slice_get nodes (terminal_place plan t) >>= node_arrived) else None) here in
-          slice_get-map terminal_origins (terminals_of nodes) t ∙ ap (option_map terminal_origins) some ∙ ap Some (origins_there found (slice_get nodes (terminal_place plan t)) arrived)
+          (found, some, told ∙ ap (λ b. if b then (slice_get nodes (terminal_place plan t) >>= node_arrived) else None) here)
+
+  list_there : (t : ℕ) → t < length plan.terminals → slice_get (map terminal_origins (terminals_of nodes)) t ≡ Some (origins_in (arrived_at (network_of plan nodes) t))
+  list_there t inside =
+      let there = terminal_there t inside in
+      slice_get-map terminal_origins (terminals_of nodes) t ∙ ap (option_map terminal_origins) there.1 ∙ ap Some (origins_there there.0 (slice_get nodes (terminal_place plan t)) there.2)
+
+  -- what arrived there without where it came from is what arrived in the plain run
+  plain_there : (run : FinishedRun Token) (ends : List (Node Token)) → run ≡ network_finish (network_of plan ends) → AreInPlace plan ends → map (map_node token_of) nodes ≡ ends → (t : ℕ) → t < length plan.terminals → run_arrived run t ≡ Some (map token_of (arrived_at (network_of plan nodes) t))
+  plain_there run ends ended stand plain t inside =
+      let there = terminal_there t inside in
+      let here : nat_lt t (length plan.terminals) ≡ true = grind (arith, nat_tests) in
+      ap (λ (r : FinishedRun Token). run_arrived r t) ended
+      ∙ arrived_same (network_of plan ends) stand t
+      ∙ ap (λ b. if b then (slice_get ends (terminal_place plan t) >>= node_arrived) else None) here
+      ∙ ap (λ (ns : List (Node Token)). slice_get ns (terminal_place plan t) >>= node_arrived) (sym plain)
+      ∙ ap (λ (o : Option (Node Token)). o >>= node_arrived) (slice_get-map (map_node token_of) nodes (terminal_place plan t))
+      ∙ plain_node there.0.arrived (slice_get nodes (terminal_place plan t)) there.2
 
 -- where each list that is joined has one element, the k-th of all is that of the k-th
 one_each : {X Y : Type 0} (f : X → List Y) (name : X → Y → Type 0) (xs : List X) → ((k : ℕ) (x : X) → slice_get xs k ≡ Some x → (y : Y) × name x y × (f x ≡ y ∷ [])) → (k : ℕ) (x : X) → slice_get xs k ≡ Some x → (y : Y) × name x y × (slice_get (flat_map f xs) k ≡ Some y)
@@ -178,22 +204,33 @@ module _ (run : FinishedRecord) (is_plan : IsPlan run.finished.plan) (kept : IsK
   traced_placed : AreInPlace run.finished.plan (traced run is_plan kept).0
   traced_placed = sym (kinds_plain (λ (x : Traced). x.token) (traced run is_plan kept).0) ∙ ap (map is_switch) (traced run is_plan kept).1.plain ∙ kept.placed
 
+  -- over tokens that tell where they came from the run ends where the events that its traces tell lead
+  ends_traced : traced_end run ≡ network_of run.finished.plan (traced run is_plan kept).0
+  unfolding traced_end
+  ends_traced =
+      ap (λ (events : List Event). (run_events (network_apply traced_kind) (network_of run.finished.plan (map start_node run.starts)) events).1)
+      (events_told run.finished.plan is_plan (map start_node run.starts) kept.nodes run.traces run.count kept.events kept.told kept.started.in_place)
+      ∙ run_after traced_kind (network_of run.finished.plan (map start_node run.starts)) (network_of run.finished.plan (traced run is_plan kept).0) kept.events (traced run is_plan kept).1.run
+
   pub origins_are : AreOrigins run (map terminal_origins (terminals_of (traced run is_plan kept).0))
   origins_are =
       let found = traced run is_plan kept in
       let promised : (image : Image) → IsAccepted (routes_of run.finished.plan image) → AreStartsOf run.finished.plan image run.starts → IsUnchanged kept.events → Promise (routes_of run.finished.plan image) (network_of run.finished.plan found.0) = λ image accepted are unchanged. headline image (network_of run.finished.plan (map start_node run.starts)) (network_of run.finished.plan found.0) kept.events is_plan accepted (starts_are run.finished.plan image run.starts are) found.1.run unchanged in
+      let is : network_of run.finished.plan found.0 ≡ traced_end run = sym ends_traced in
       record {
         events = kept.events;
         nodes = kept.nodes;
         told = kept.told;
         ended = kept.ended;
-        traced = found.0;
-        once_more = found.1;
-        sure = arrived_sure run.finished.plan run.starts kept.events (network_of run.finished.plan found.0) found.1.run;
+        events_told = events_told run.finished.plan is_plan (map start_node run.starts) kept.nodes run.traces run.count kept.events kept.told kept.started.in_place;
+        once_more = subst (λ (net : Network Traced). IsTracedRun run.finished.plan run.starts kept.events kept.nodes net.nodes) is found.1;
+        same_plan = ap (λ (net : Network Traced). net.plan) ends_traced;
+        plain = subst (λ (net : Network Traced). (t : ℕ) → t < length run.finished.plan.terminals → run_arrived run.finished t ≡ Some (map (λ (x : Traced). x.token) (arrived_at net t))) is (plain_there run.finished.plan found.0 traced_placed run.finished kept.nodes kept.ended kept.placed found.1.plain);
+        sure = subst (λ (net : Network Traced). (t : ℕ) → AreSure (arrived_at net t)) is (arrived_sure run.finished.plan run.starts kept.events (network_of run.finished.plan found.0) found.1.run);
         counted = lists_counted run.finished.plan found.0 traced_placed;
-        each = list_there run.finished.plan found.0 traced_placed;
-        promise = promised;
-        named = λ image accepted are unchanged. named_origins (routes_of run.finished.plan image) (network_of run.finished.plan found.0) (promised image accepted are unchanged);
+        each = subst (λ (net : Network Traced). (t : ℕ) → t < length run.finished.plan.terminals → slice_get (map terminal_origins (terminals_of found.0)) t ≡ Some (origins_in (arrived_at net t))) is (list_there run.finished.plan found.0 traced_placed);
+        promise = λ image accepted are unchanged. subst (Promise (routes_of run.finished.plan image)) is (promised image accepted are unchanged);
+        named = λ image accepted are unchanged. named_origins (routes_of run.finished.plan image) (traced_end run) (subst (Promise (routes_of run.finished.plan image)) is (promised image accepted are unchanged));
       }
 
 map_same : {X : Type 0} (xs : List X) → map (λ (x : X). x) xs ≡ xs

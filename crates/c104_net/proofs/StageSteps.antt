@@ -1,26 +1,22 @@
 -- An event of a stage: what it answers, and what is kept of it.
-use Rattle.std.proofs.Common.{◌≡◌, ◌∙◌, ◌&&◌, ℕ, Bool, true, false, List, [], ◌∷◌, Option, Some, None, Result, Ok, Err, IfOk, if◌then◌else◌, is_some, map, inl, inr, refl, sym, ap, subst}
-use Rattle.std.proofs.lemmas.List.{map-id}
+use Rattle.std.proofs.Common.{◌≡◌, ◌∙◌, ◌&&◌, ℕ, Bool, true, false, List, [], ◌∷◌, Option, Some, None, Result, Ok, Err, IfOk, if◌then◌else◌, is_some, map, inl, inr, refl, sym, ap}
 use Rattle.c104_token.specs.Kinds.{Kind}
 use Rattle.c104_switch.specs.Actions.{Reply, is_ready}
 use Rattle.c104_switch.specs.declared.actions.ReplyOf.TheVariants as reply
-use Rattle.c104_describe.specs.Plans.{Plan}
 use Rattle.c104_event.specs.declared.events.Event.{Event}
 use Rattle.c104_event.specs.declared.faults.EventFault.{EventFault}
 use Rattle.c104_event.specs.declared.faults.EventFault.TheVariants as fault
 use Rattle.c104_net.specs.declared.acts.Entry.{Entry}
 use Rattle.c104_net.specs.declared.starts.NodeStart.{NodeStart}
-use Rattle.c104_net.specs.Nodes.{Node}
-use Rattle.c104_net.specs.Network.{Network, network_apply, network_of, network_step, outcome_if_possible, outcome_if_ready, outcome_within_limit, room_fault, AnswersWith, WouldBeDone}
+use Rattle.c104_net.specs.Network.{Network, network_apply, network_step, outcome_if_possible, outcome_if_ready, outcome_within_limit, room_fault, AnswersWith, WouldBeDone}
 use Rattle.c104_net.specs.NetRecords.{is_done, ticket_after}
 use Rattle.c104_net.specs.Traces.{event_deeds, is_switch_at, kept_of, noted_all}
-use Rattle.c104_net.specs.EventRuns.{Answers, EventsEnd}
-use Rattle.c104_net.specs.Stages.{is_kept_full, stage_after, stage_apply, stage_full, stage_of, unless_full, Stage}
+use Rattle.c104_net.specs.EventRuns.{Answers}
+use Rattle.c104_net.specs.Stages.{is_kept_full, stage_after, stage_apply, stage_full, unless_full, Stage}
 use Rattle.c104_net.specs.RoundParts.{done_answer, PartEnds}
-use Rattle.c104_net.proofs.KeptEntries.{event_not_full}
 use Rattle.c104_net.proofs.UndoneEvents.{undone_deeds}
 use Rattle.c104_net.proofs.PartRuns.{part_of_reply}
-use Rattle.c104_net.proofs.RoundRuns.{ends_seen, fault_ends, step_replies, undone_leaves, Applied}
+use Rattle.c104_net.proofs.RoundRuns.{fault_ends, step_replies, undone_leaves, Applied}
 
 -- where fullness is told by what is kept, that of all places is
 pub fulls_kept : {P : Type 0} (full : P → Bool) (trace : P → List Entry) (keeps : Bool) → ((p : P) → full p ≡ is_kept_full keeps (trace p)) → (places : List P) → map full places ≡ map (is_kept_full keeps) (map trace places)
@@ -38,7 +34,7 @@ not_full true (Ok r) free = by_ready (is_ready r) free
 not_full true (Err f) free = refl
 
 -- an event that would be done is done
-would : {A : Type 0} (kind : Kind A) (net : Network A) (e : Event) → WouldBeDone kind net e → is_done (network_apply kind net e).0 ≡ true
+pub would : {A : Type 0} (kind : Kind A) (net : Network A) (e : Event) → WouldBeDone kind net e → is_done (network_apply kind net e).0 ≡ true
 would {A} kind net e (possible, ready, within) = by_step (network_step kind net e) refl ready
   where
     told : (r : Reply) → (r ≡ reply.NotReady → ⊥) → is_ready r ≡ true
@@ -121,16 +117,3 @@ module _ {A : Type 0} (kind : Kind A) where
   unready_part keeps s e unready =
       attempted kind keeps s s (stage_full keeps s e) e refl (Ok reply.NotReady)
       (refl, sym (ap (noted_all keeps s.traces) (undone_deeds (is_switch_at s.network.nodes) s.network.plan s.count e (Ok reply.NotReady) refl)), refl) (inl (sym unready)) (λ ready. absurd (cc ready))
-
-  -- where nothing is kept a stage is its network
-  bare_follows : (s : Stage A) (e : Event) → ◌≡◌ {A = Applied (Network A)} ((stage_apply kind false s e).0, (stage_apply kind false s e).1.network) (network_apply kind s.network e)
-  bare_follows s e = ap (λ b. unless_full b s.network (network_apply kind s.network e)) (event_not_full (is_kept_full false) (λ t. refl) s.network.plan s.traces e)
-
-  -- bare nodes, which were lent as a list, show as they are
-  pub ends_as_they_are : (plan : Plan) (nodes lent after : List (Node A)) (count counted : ℕ) (events : List Event) (result : Result (Unit {0}) EventFault) → lent ≡ nodes →
-      EventsEnd (stage_apply kind false) (stage_of (λ n. n) (λ n. None) (λ n. []) plan lent count) events result (stage_of (λ n. n) (λ n. None) (λ n. []) plan after counted) →
-      EventsEnd (network_apply kind) (network_of plan nodes) events result (network_of plan after)
-  ends_as_they_are plan nodes lent after count counted events result same is =
-      let ends : EventsEnd (network_apply kind) (network_of plan (map (λ n. n) lent)) events result (network_of plan (map (λ n. n) after)) =
-      ends_seen (stage_apply kind false) (network_apply kind) (λ (s : Stage A). s.network) bare_follows (stage_of (λ n. n) (λ n. None) (λ n. []) plan lent count) (stage_of (λ n. n) (λ n. None) (λ n. []) plan after counted) events result is in
-      subst (λ ns. EventsEnd (network_apply kind) (network_of plan ns) events result (network_of plan after)) (map-id lent ∙ same) (subst (λ ns. EventsEnd (network_apply kind) (network_of plan (map (λ n. n) lent)) events result (network_of plan ns)) (map-id after) ends)

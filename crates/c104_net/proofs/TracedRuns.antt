@@ -8,7 +8,8 @@ use Rattle.c104_net.proofs.Promises.{headline}
 use Rattle.c104_net.proofs.StartMaps.{starts_are, starts_same}
 use Rattle.c104_net.proofs.StepMaps.{run_lift, run_map}
 use Rattle.c104_net.specs.Deliveries.{Promise}
-use Rattle.c104_net.specs.Network.{AnswersEvent, Network, network_of}
+use Rattle.c104_net.specs.EventRuns.{run_events, unless_fault}
+use Rattle.c104_net.specs.Network.{AnswersEvent, Network, network_apply, network_of}
 use Rattle.c104_net.specs.Nodes.{Node}
 use Rattle.c104_net.specs.Runs.{IsDoneRun, IsRunRecord}
 use Rattle.c104_net.specs.Starts.{start_node}
@@ -19,9 +20,9 @@ use Rattle.c104_net.specs.declared.acts.Entry.{Entry}
 use Rattle.c104_net.specs.declared.starts.NodeStart.{NodeStart}
 use Rattle.c104_net.specs.declared.traced.Traced.{Traced}
 use Rattle.c104_switch.specs.Actions.{Reply}
-use Rattle.c104_token.specs.Kinds.{plain_kind}
+use Rattle.c104_token.specs.Kinds.{Kind, plain_kind}
 use Rattle.c104_token.specs.declared.tokens.Token.{Token}
-use Rattle.std.proofs.Common.{Err, List, Ok, Result, ap, inl, inr, map, refl, subst, sym, ℕ, ◌∙◌, ◌∷◌, ◌≡◌, ◌⊎◌}
+use Rattle.std.proofs.Common.{Err, List, Ok, Result, [], ap, inl, inr, map, refl, subst, sym, ℕ, ◌∙◌, ◌∷◌, ◌≡◌, ◌⊎◌}
 use Rattle.c104_event.specs.declared.faults.EventFault.TheVariants as fault
 
 -- the token alone
@@ -56,6 +57,13 @@ module _ (plan : Plan) (starts : List NodeStart) where
   run_promise image nodes traces count events is_plan accepted are record_is unchanged =
       let found = traced_from nodes events record_is.run in
       (found.0, found.1, headline image (network_of plan (map start_node starts)) (network_of plan found.0) events is_plan accepted (starts_are plan image starts are) found.1.run unchanged)
+
+-- where events that were done lead
+pub run_after : {A : Type 0} (kind : Kind A) (net ended : Network A) (events : List (Event × Reply)) → IsDoneRun kind net events ended → (run_events (network_apply kind) net (map (λ (e : Event × Reply). e.0) events)).1 ≡ ended
+run_after kind net ended [] is = sym is
+run_after {A} kind net ended (e ∷ events) is =
+    ap (λ (z : Result Reply EventFault × Network A). (unless_fault z.0 z.1 (λ next. run_events (network_apply kind) next (map (λ (d : Event × Reply). d.0) events))).1) (sym is.1)
+    ∙ run_after kind is.0 ended events is.3
 
 -- an event of a run is answered as it was, unless memory runs out, and then the run goes on
 pub replay_next : (net next ended : Network Traced) (e : Event × Reply) (events : List (Event × Reply)) (told : Result Reply EventFault) → IsDoneRun traced_kind net (e ∷ events) ended → AnswersEvent traced_kind net e.0 told next → ((told ≡ Err fault.NoMemory) × (next ≡ net)) ⊎ ((told ≡ Ok e.1) × IsDoneRun traced_kind next events ended)

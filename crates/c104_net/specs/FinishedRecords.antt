@@ -8,6 +8,7 @@ use Rattle.c104_net.specs.declared.starts.NodeStart.{NodeStart}
 use Rattle.c104_net.specs.Finished.{FinishedRun, network_finish}
 use Rattle.c104_net.specs.NetRecords.{IsNetRecord, NetRecord}
 use Rattle.c104_net.specs.Terminals.{Terminal}
+use Rattle.c104_net.specs.WiredActs.{IsRecordedAt}
 
 -- a run that is finished, with its record
 pub record FinishedRecord : Type 0 where
@@ -27,11 +28,12 @@ record_finish r = record {
 
 -- what the type of a run keeps: it is what such a network left. So there is one list of events, each
 -- answered and done, which leads from the start to the end, and of which the trace of each node is its part
--- in the order of the tickets.
+-- in the order of the tickets. Each trace is a run of its node, over wired links alone.
 pub record IsFinishedRecord (run : FinishedRecord) : Type 0 where
   pub net : NetRecord
   pub kept : IsNetRecord net
   pub left : run ≡ record_finish net
+  pub recorded : (k : ℕ) → IsRecordedAt net k
 
 -- empty lists with room for what is left of a run: of each node where it started and what it did, and the
 -- terminals

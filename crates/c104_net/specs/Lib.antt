@@ -7,6 +7,7 @@ pub mod Acts
 pub mod Places
 pub mod Network
 pub mod Waiting
+pub mod Views
 pub mod Reasons
 pub mod ReasonMeanings
 pub mod Balance
@@ -17,6 +18,7 @@ pub mod TerminalStarts
 pub mod Records
 pub mod Runs
 pub mod NetRecords
+pub mod WiredActs
 pub mod Finished
 pub mod EventRuns
 pub mod Stages
@@ -33,5 +35,7 @@ pub mod Deliveries
 pub mod Unchanged
 pub mod Origins
 pub mod Leading
+pub mod ToldEvents
+pub mod TracedEnds
 pub mod Replays
 pub mod RunOrigins

@@ -1,5 +1,5 @@
 -- Origins: which packet each terminator among tokens ended.
-use Rattle.std.specs.Prelude.{◌≡◌, Bool, true, false, List, flat_map, Option, Some, None}
+use Rattle.std.specs.Prelude.{◌≡◌, ℕ, Bool, true, false, List, flat_map, slice_get, Option, Some, None}
 use Rattle.std.specs.Option.{option_to_list}
 use Rattle.c104_token.specs.Tokens.{is_end}
 use Rattle.c104_net.specs.Traced.{Source, Traced}
@@ -22,3 +22,7 @@ origins_in tokens = flat_map (λ x. option_to_list (origin_of x)) tokens
 -- a token that, if it is a terminator, tells its packet
 abbrev pub IsSure : Traced → Type 0
 IsSure x = is_end x.token ≡ true → (s : Source) × (x.source ≡ Some s)
+
+-- each terminator among tokens tells its packet
+abbrev pub AreSure : List Traced → Type 0
+AreSure tokens = (k : ℕ) (x : Traced) → slice_get tokens k ≡ Some x → IsSure x

@@ -52,8 +52,3 @@ node_begin (node.Terminal t) = node.Terminal (terminal_begin t)
 -- a network at the start of a run: it stands as it did, and what was sent and what arrived is forgotten
 abbrev pub network_begin : {A : Type 0} → Network A → Network A
 network_begin net = with_nodes net (map node_begin net.nodes)
-
--- a network after it was asked to begin a run: it has begun, or stands as it was
-abbrev pub begun_if : {A : Type 0} → Bool → Network A → Network A
-begun_if true net = network_begin net
-begun_if false net = net

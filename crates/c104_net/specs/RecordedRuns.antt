@@ -1,5 +1,5 @@
 -- What events come to in a network with its record, one alone or in turn.
-use Rattle.std.specs.Prelude.{ℕ, true, List, Result, Some, map}
+use Rattle.std.specs.Prelude.{ℕ, ◌≡◌, ◌↔◌, true, false, List, Result, Some, map}
 use Rattle.c104_token.specs.declared.tokens.Token.{Token}
 use Rattle.c104_token.specs.Kinds.{plain_kind}
 use Rattle.c104_switch.specs.Actions.{Reply}
@@ -7,9 +7,11 @@ use Rattle.c104_event.specs.declared.events.Event.{Event}
 use Rattle.c104_event.specs.declared.faults.EventFault.{EventFault}
 use Rattle.c104_net.specs.declared.starts.NodeStart.{NodeStart}
 use Rattle.c104_net.specs.EventRuns.{Answers, EventsEnd}
-use Rattle.c104_net.specs.NetRecords.{NetRecord}
+use Rattle.c104_net.specs.Network.{WouldBeDone}
+use Rattle.c104_net.specs.NetRecords.{is_done, is_trace_full, NetRecord}
 use Rattle.c104_net.specs.Rounds.{rounds}
 use Rattle.c104_net.specs.Stages.{stage_apply, Stage}
+use Rattle.c104_net.specs.Traces.{event_full}
 
 -- the stage that a network with its record is at
 abbrev pub record_stage : NetRecord → Stage Token
@@ -44,3 +46,10 @@ AnswersRecord old e answer new = Answers record_apply old e answer new
 -- how so many rounds end: as the run of their events, up to the first that is refused
 abbrev pub RecordsRounds : NetRecord → ℕ → Result (Unit {0}) EventFault → NetRecord → Type 0
 RecordsRounds old n result new = EventsEnd record_apply old (rounds old.network.plan n) result new
+
+-- what is due to an event says that it is done exactly where it would be done in the network, and no trace
+-- that it adds to is full
+unfoldable pub DoneLaw : Type 0
+DoneLaw = (r : NetRecord) (e : Event) →
+    (is_done (record_apply r e).0 ≡ true)
+    ↔ (WouldBeDone plain_kind r.network e × (event_full r.network.plan (map is_trace_full r.traces) e ≡ false))

@@ -1,17 +1,13 @@
 -- Rounds: the events in which every part of a network takes its turn.
-use Rattle.std.specs.Prelude.{ℕ, suc, zero, Bool, List, [], ◌∷◌, ◌++◌, length, map, filter, is_some, Result}
+use Rattle.std.specs.Prelude.{ℕ, suc, zero, Bool, List, [], ◌∷◌, ◌++◌, length, map, filter, is_some}
 use Rattle.std.specs.List.{range_with_len, flat_map}
 use Rattle.c104_regs.specs.declared.registers.TheConstants.{LINKS}
-use Rattle.c104_token.specs.Kinds.{Kind}
 use Rattle.c104_describe.specs.Plans.{Plan}
 use Rattle.c104_describe.specs.declared.ports.Port.{Port}
 use Rattle.c104_describe.specs.declared.ports.Port.TheVariants as port
 use Rattle.c104_event.specs.declared.events.Event.{Event}
 use Rattle.c104_event.specs.declared.events.Event.TheVariants as event
-use Rattle.c104_event.specs.declared.faults.EventFault.{EventFault}
 use Rattle.c104_describe.specs.Wiring.{peer}
-use Rattle.c104_net.specs.Network.{Network, network_apply}
-use Rattle.c104_net.specs.EventRuns.{run_events, EventsEnd, Outcome}
 
 -- the numbers of a switch's links
 unfoldable pub link_numbers : List ℕ
@@ -70,12 +66,3 @@ round plan =
 abbrev pub rounds : Plan → ℕ → List Event
 rounds plan zero = []
 rounds plan (suc n) = round plan ++ rounds plan n
-
-module _ {A : Type 0} (kind : Kind A) where
-  -- a run of events of a network in turn, up to the first that a fault refuses
-  abbrev pub run_until : Network A → List Event → Outcome (Network A)
-  run_until net events = run_events (network_apply kind) net events
-
-  -- how so many rounds end: as the run of their events
-  abbrev pub RoundsEnd : Network A → ℕ → Result (Unit {0}) EventFault → Network A → Type 0
-  RoundsEnd net n result after = EventsEnd (network_apply kind) net (rounds net.plan n) result after

@@ -4,14 +4,16 @@ use Rattle.c104_check.specs.Routes.{IsAccepted, routes_of}
 use Rattle.c104_describe.specs.PlanImage.{Image}
 use Rattle.c104_event.specs.declared.events.Event.{Event}
 use Rattle.c104_net.specs.Deliveries.{IsDelivered, Promise, arrived_at, received}
-use Rattle.c104_net.specs.Finished.{network_finish}
+use Rattle.c104_net.specs.Finished.{network_finish, run_arrived}
 use Rattle.c104_net.specs.FinishedRecords.{FinishedRecord}
 use Rattle.c104_net.specs.Network.{network_of}
 use Rattle.c104_net.specs.Nodes.{Node}
-use Rattle.c104_net.specs.Origins.{IsSure, Origin, origins_in}
+use Rattle.c104_net.specs.Origins.{AreSure, Origin, origins_in}
 use Rattle.c104_net.specs.Runs.{IsRunRecord}
 use Rattle.c104_net.specs.Starts.{start_node}
+use Rattle.c104_net.specs.ToldEvents.{told_events}
 use Rattle.c104_net.specs.Traced.{Traced}
+use Rattle.c104_net.specs.TracedEnds.{traced_end}
 use Rattle.c104_net.specs.TracedRuns.{IsTracedRun}
 use Rattle.c104_net.specs.Unchanged.{AreStartsOf, IsUnchanged}
 use Rattle.c104_switch.specs.Actions.{Reply}
@@ -27,17 +29,21 @@ pub record AreOrigins (run : FinishedRecord) (lists : List (List Origin)) : Type
   pub nodes : List (Node Token)
   pub told : IsRunRecord plain_kind run.finished.plan (map start_node run.starts) nodes run.traces run.count events
   pub ended : run.finished ≡ network_finish (network_of run.finished.plan nodes)
-  -- the nodes at the end of the same events over tokens that tell where they came from
-  pub traced : List (Node Traced)
-  pub once_more : IsTracedRun run.finished.plan run.starts events nodes traced
+  -- these are the events that the traces tell, and they were done with the same replies over tokens that tell where
+  -- they came from
+  pub events_told : told_events run.finished.plan run.traces run.count ≡ map (λ (e : Event × Reply). e.0) events
+  pub once_more : IsTracedRun run.finished.plan run.starts events nodes (traced_end run).nodes
+  pub same_plan : (traced_end run).plan ≡ run.finished.plan
+  -- what arrived at each terminal is what arrived there, with where it came from
+  pub plain : (t : ℕ) → t < length run.finished.plan.terminals → run_arrived run.finished t ≡ Some (map (λ (x : Traced). x.token) (arrived_at (traced_end run) t))
   -- each terminator that arrived there tells its packet
-  pub sure : (t k : ℕ) (x : Traced) → slice_get (arrived_at (network_of run.finished.plan traced) t) k ≡ Some x → IsSure x
+  pub sure : (t : ℕ) → AreSure (arrived_at (traced_end run) t)
   -- as many lists as terminals, and the list of each
   pub counted : length lists ≡ length run.finished.plan.terminals
-  pub each : (t : ℕ) → t < length run.finished.plan.terminals → slice_get lists t ≡ Some (origins_in (arrived_at (network_of run.finished.plan traced) t))
+  pub each : (t : ℕ) → t < length run.finished.plan.terminals → slice_get lists t ≡ Some (origins_in (arrived_at (traced_end run) t))
   -- where the check accepts an image for the plan, the run started with its settings, and nobody changed the network
   -- since, the promise holds of what arrived
-  pub promise : (image : Image) → IsAccepted (routes_of run.finished.plan image) → AreStartsOf run.finished.plan image run.starts → IsUnchanged events → Promise (routes_of run.finished.plan image) (network_of run.finished.plan traced)
+  pub promise : (image : Image) → IsAccepted (routes_of run.finished.plan image) → AreStartsOf run.finished.plan image run.starts → IsUnchanged events → Promise (routes_of run.finished.plan image) (traced_end run)
   -- and then each packet that was received at a terminal has one origin, at its place in the terminal's list: that
   -- which it is delivered from
-  pub named : (image : Image) → IsAccepted (routes_of run.finished.plan image) → AreStartsOf run.finished.plan image run.starts → IsUnchanged events → (t k : ℕ) (piece : List Traced) → slice_get (received (network_of run.finished.plan traced) t) k ≡ Some piece → (d : IsDelivered (routes_of run.finished.plan image) (network_of run.finished.plan traced) t piece) × (slice_get (origins_in (arrived_at (network_of run.finished.plan traced) t)) k ≡ Some (record { terminal = d.terminal; number = d.number }))
+  pub named : (image : Image) → IsAccepted (routes_of run.finished.plan image) → AreStartsOf run.finished.plan image run.starts → IsUnchanged events → (t k : ℕ) (piece : List Traced) → slice_get (received (traced_end run) t) k ≡ Some piece → (d : IsDelivered (routes_of run.finished.plan image) (traced_end run) t piece) × (slice_get (origins_in (arrived_at (traced_end run) t)) k ≡ Some (record { terminal = d.terminal; number = d.number }))

@@ -46,6 +46,8 @@ pub struct Entry {
 }
 
 /// The same reply.
+// Inlined: where the reply is known, its other cases go.
+#[inline(always)]
 pub fn same_reply(reply: &Reply) -> Reply
     ensures { result ≡ reply.now }
 {

@@ -1,13 +1,12 @@
 //! A run of a network that is finished.
 ghost use Rattle.std.specs.Prelude.{◌≡◌, ◌≤◌, [], length};
-ghost use Rattle.std.specs.Option.{option_copied};
 ghost use Rattle.std.specs.Vec.{vec_capacity};
-ghost use Rattle.c104_net.specs.Finished.{run_arrived, terminals_of};
+ghost use Rattle.c104_net.specs.Finished.{terminals_of};
 
 use crate::node::NodeOf;
 use crate::terminal::TerminalOf;
 use c104_describe::Plan;
-use c104_token::{Token, TokenKind};
+use c104_token::TokenKind;
 use std::marker::Model;
 
 /// What a run of a network left, over any kind of token: its plan, and what had arrived at each of
@@ -24,26 +23,6 @@ impl<T: TokenKind> Model for RunOf<T> {
     ghost Value = { FinishedRun T };
 
     ghost view = { λ run. record { plan = run.plan; terminals = run.terminals.items } };
-}
-
-impl<T: TokenKind> RunOf<T> {
-    /// The plan of the network.
-    pub fn plan(&self) -> &Plan
-        ensures { result.now ≡ self.now.plan }
-    {
-        &self.plan
-    }
-
-    /// The tokens that had arrived at a terminal at the end, in order. None where the plan has no
-    /// such terminal.
-    pub fn arrived(&self, terminal: usize) -> Option<&[T]>
-        ensures { option_copied result ≡ run_arrived self.now terminal }
-    {
-        match self.terminals.get(terminal) {
-            Some(terminal) => Some(terminal.arrived()),
-            None => None,
-        }
-    }
 }
 
 /// The terminals among nodes, in order, in an empty list with room for them. The switches are retired.

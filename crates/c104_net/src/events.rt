@@ -60,7 +60,6 @@ pub fn happen<T: TokenKind, P: Place<T>>(
 }
 
 /// Does an event at these places, by its kind.
-#[inline(always)]
 pub fn do_event<T: TokenKind, P: Place<T>>(
     wires: &Wires,
     places: &mut [P],
@@ -82,7 +81,7 @@ pub fn do_event<T: TokenKind, P: Place<T>>(
     match event {
         Event::Cross(port) => cross(wires, places, ticket, *port),
         Event::Credit(port) => credit(wires, places, ticket, *port),
-        Event::Input { switch, link, word } => input(plan, places, ticket, *switch, *link, *word),
+        Event::Input { switch, link, word } => input(wires, places, ticket, *switch, *link, *word),
         Event::Claim {
             switch,
             input,
@@ -90,13 +89,13 @@ pub fn do_event<T: TokenKind, P: Place<T>>(
         } => claim(plan, places, ticket, *switch, *input, *output),
         Event::Control { switch, bytes } => control(plan, places, ticket, *switch, bytes),
         Event::Send { terminal, packet } => send(plan, places, ticket, *terminal, packet),
-        Event::Drain { terminal } => drain(plan, places, ticket, *terminal),
+        Event::Drain { terminal } => drain(wires, places, ticket, *terminal),
     }
 }
 
 /// A token crosses the wire at a port.
 #[inline(always)]
-fn cross<T: TokenKind, P: Place<T>>(
+pub fn cross<T: TokenKind, P: Place<T>>(
     wires: &Wires,
     places: &mut [P],
     ticket: u64,
@@ -120,8 +119,7 @@ fn cross<T: TokenKind, P: Place<T>>(
 }
 
 /// A port grants eight more tokens to the other end of its wire.
-#[inline(always)]
-fn credit<T: TokenKind, P: Place<T>>(
+pub fn credit<T: TokenKind, P: Place<T>>(
     wires: &Wires,
     places: &mut [P],
     ticket: u64,
@@ -147,24 +145,25 @@ fn credit<T: TokenKind, P: Place<T>>(
 
 /// An input of a switch takes a turn.
 #[inline(always)]
-fn input<T: TokenKind, P: Place<T>>(
-    plan: &Plan,
+pub fn input<T: TokenKind, P: Place<T>>(
+    wires: &Wires,
     places: &mut [P],
     ticket: u64,
     switch: usize,
     link: usize,
     word: u32,
 ) -> Result<Reply, EventFault>
-    ensures answers { AnswersWith T.kind (event_full plan.now (map P.full places.old) (event.Input switch link word))
-        (network_of plan.now (map P.state places.old)) (event.Input switch link word)
-        result (network_of plan.now (map P.state places.new)) }
+    ensures answers { AnswersWith T.kind (event_full wires.now (map P.full places.old) (event.Input switch link word))
+        (network_of wires.now (map P.state places.old)) (event.Input switch link word)
+        result (network_of wires.now (map P.state places.new)) }
     ensures free { IfOk result (λ reply. is_ready reply ≡ true →
-        event_full plan.now (map P.full places.old) (event.Input switch link word) ≡ false) }
+        event_full wires.now (map P.full places.old) (event.Input switch link word) ≡ false) }
     ensures start { map P.start places.new ≡ map P.start places.old }
     ensures trace { map P.trace places.new ≡ noted_all P.keeps (map P.trace places.old)
-        (kept_of (event_deeds (is_switch_at (map P.state places.old)) plan.now ticket (event.Input switch link word))
+        (kept_of (event_deeds (is_switch_at (map P.state places.old)) wires.now ticket (event.Input switch link word))
         result) }
 {
+    let plan = wires.plan();
     if switch >= plan.switches().len() {
         return Err(EventFault::NoNode);
     }
@@ -273,22 +272,23 @@ fn send<T: TokenKind, P: Place<T>>(
 
 /// The first token that came in at a terminal arrives.
 #[inline(always)]
-fn drain<T: TokenKind, P: Place<T>>(
-    plan: &Plan,
+pub fn drain<T: TokenKind, P: Place<T>>(
+    wires: &Wires,
     places: &mut [P],
     ticket: u64,
     terminal: usize,
 ) -> Result<Reply, EventFault>
-    ensures answers { AnswersWith T.kind (event_full plan.now (map P.full places.old) (event.Drain terminal))
-        (network_of plan.now (map P.state places.old)) (event.Drain terminal)
-        result (network_of plan.now (map P.state places.new)) }
+    ensures answers { AnswersWith T.kind (event_full wires.now (map P.full places.old) (event.Drain terminal))
+        (network_of wires.now (map P.state places.old)) (event.Drain terminal)
+        result (network_of wires.now (map P.state places.new)) }
     ensures free { IfOk result (λ reply. is_ready reply ≡ true →
-        event_full plan.now (map P.full places.old) (event.Drain terminal) ≡ false) }
+        event_full wires.now (map P.full places.old) (event.Drain terminal) ≡ false) }
     ensures start { map P.start places.new ≡ map P.start places.old }
     ensures trace { map P.trace places.new ≡ noted_all P.keeps (map P.trace places.old)
-        (kept_of (event_deeds (is_switch_at (map P.state places.old)) plan.now ticket (event.Drain terminal))
+        (kept_of (event_deeds (is_switch_at (map P.state places.old)) wires.now ticket (event.Drain terminal))
         result) }
 {
+    let plan = wires.plan();
     if terminal >= plan.terminals().len() {
         return Err(EventFault::NoNode);
     }

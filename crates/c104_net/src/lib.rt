@@ -9,7 +9,8 @@
 //! A network can't be dropped, since its switches hold claims: `finish` ends it, and gives a `Run`, which
 //! keeps the plan, the starts, the entries, and what had arrived at each of the terminals. `Run::origins` tells
 //! which packet each received packet was. A `PlaceFault` is why a network was not made, and a `Reason` why an
-//! event isn't ready, and where. `rounds` does the events of all parts in turn, again and again; a `Watch` is
+//! event isn't ready, and where. `view_link` and `view_terminal` show how a link of a switch and how a terminal
+//! stands. `rounds` does the events of all parts in turn, again and again; a `Watch` is
 //! told how far they are.
 #![tactic(auto)]
 
@@ -25,7 +26,6 @@ mod node;
 mod origins;
 mod place;
 mod places;
-mod placing;
 mod port_part;
 mod reason;
 mod reasons;
@@ -52,6 +52,6 @@ pub use reason::Reason;
 pub use run::Run;
 pub use sent_packet::SentPacket;
 pub use starts::NodeStart;
-pub use terminal::TerminalStart;
+pub use terminal::{TerminalStart, TerminalView};
 pub use traced::{Source, Traced};
 pub use watch::{Unwatched, Watch};

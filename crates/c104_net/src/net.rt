@@ -7,12 +7,14 @@ ghost use Rattle.c104_net.specs.Finished.{run_arrived};
 ghost use Rattle.c104_net.specs.FinishedRecords.{record_finish};
 ghost use Rattle.c104_net.specs.Network.{network_arrived, new_network, placed_network};
 ghost use Rattle.c104_net.specs.NetRecords.{fresh_record, is_done, ticket_after, IsNetRecord, RecordsEvent};
-ghost use Rattle.c104_net.specs.RecordedRuns.{AnswersRecord};
+ghost use Rattle.c104_net.specs.RecordedRuns.{AnswersRecord, DoneLaw};
+ghost use Rattle.c104_net.specs.WiredActs.{IsRecordedAt};
 
 mod answers;
 mod asking;
 mod beginning;
 mod rounds;
+mod viewing;
 
 use crate::acts::Entry;
 use crate::events::happen;
@@ -132,6 +134,8 @@ impl Net {
             count,
             room,
         } = self;
+        // The proof reads here what every plan keeps.
+        let _plan = wires.plan();
         let RunParts {
             starts,
             traces,
@@ -180,8 +184,10 @@ impl Net {
     pub fn trace(&self, node: usize) -> Option<&[Entry]>
         ensures trace { option_copied result ≡ slice_get self.now.traces node }
         ensures told { IsNetRecord self.now }
+        ensures recorded { IsRecordedAt self.now node }
     {
-        let _wires = &self.wires;
+        // The proof reads here what every plan keeps, and the count by its name.
+        let _plan = self.wires.plan();
         let _count = self.count;
         match self.places.get(node) {
             Some(found) => Some(found.trace()),
@@ -195,6 +201,7 @@ impl Net {
     pub fn apply(&mut self, event: &Event) -> Result<Reply, EventFault>
         ensures recorded { RecordsEvent self.old event.now result self.new }
         ensures due { AnswersRecord self.old event.now result self.new }
+        ensures done { DoneLaw }
     {
         let answer = happen(&self.wires, self.places.as_mut_slice(), self.count, event);
         self.count = ticket_after(self.count, was_done(&answer));

@@ -9,6 +9,7 @@ mod acting;
 pub mod quiet;
 mod reasons;
 pub mod starts;
+mod views;
 
 use crate::terminal::TerminalOf;
 use c104_switch::SwitchOf;

@@ -76,6 +76,7 @@ impl Node {
         ensures terminal { option_to_list result.0 ≡ terminals_of (self.0.state ∷ []) }
         ensures start { result.1 ≡ self.0.start }
         ensures trace { result.2 ≡ self.0.trace }
+        ensures recorded { IsRecorded self.0 }
     {
         let Node { core, start, trace } = self;
         (core.retire(), start, Items::new(trace))

@@ -1,9 +1,10 @@
 //! What the nodes of a network leave, when they are retired at the end of a run.
-ghost use Rattle.std.specs.Prelude.{◌≡◌, ◌≤◌, ◌+◌, ◌++◌, [], length, map, IfOk};
+ghost use Rattle.std.specs.Prelude.{◌≡◌, ◌≤◌, ◌+◌, ◌++◌, ℕ, [], length, map, All, IfOk};
 ghost use Rattle.std.specs.Option.{option_to_list};
 ghost use Rattle.std.specs.Vec.{vec_capacity};
 ghost use Rattle.c104_net.specs.Finished.{terminals_of};
 ghost use Rattle.c104_net.specs.NetRecords.{node_start, node_state, node_trace};
+ghost use Rattle.c104_net.specs.Records.{IsRecorded, NodeRecord};
 
 use crate::acts::Entry;
 use crate::recorded::Node;
@@ -58,6 +59,7 @@ pub fn parts_of(
     ensures starts { result.starts.items ≡ map node_start list.items }
     ensures traces { result.traces.items ≡ map node_trace list.items }
     ensures terminals { result.terminals.items ≡ terminals_of (map node_state list.items) }
+    ensures recorded { All (λ (node : NodeRecord × ℕ). IsRecorded node.0) list.items }
 {
     while let Some(node) = list.pop() {
         let (terminal, start, trace) = node.finish();

@@ -10,6 +10,7 @@ ghost use Rattle.c104_net.specs.Terminals.{terminal_begin, terminal_send, sent_f
 
 mod reasons;
 mod starts;
+mod views;
 
 use c104_link::{CREDIT_LIMIT, InBufferOf, TOKENS_OF_A_GRANT};
 use c104_token::{NoMemory, Packet, Token, TokenKind};
@@ -17,6 +18,7 @@ pub use starts::TerminalStart;
 use std::alloc::Global;
 use std::collections::VecDeque;
 use std::marker::Model;
+pub use views::TerminalView;
 
 /// A terminal, with its end of the wire.
 #[derive(Drop)]

@@ -5,8 +5,8 @@ ghost use Rattle.c104_net.specs.Network.{network_of};
 ghost use Rattle.c104_net.specs.Starts.{start_node};
 
 use super::NetOf;
+use crate::node::NodeOf;
 use crate::node::starts::add_starts;
-use crate::placing::retire_all;
 use crate::starts::NodeStart;
 use crate::wires::Wires;
 use c104_describe::Plan;
@@ -35,4 +35,12 @@ impl<T: TokenKind> NetOf<T> {
             }
         }
     }
+}
+
+/// Lets go of nodes.
+fn retire_all<T: TokenKind>(mut list: Vec<NodeOf<T>>) {
+    while let Some(node) = list.pop() {
+        node.retire();
+    }
+    list.destroy_empty();
 }

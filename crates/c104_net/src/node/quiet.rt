@@ -1,5 +1,5 @@
 //! Whether a node is quiet, and the start of a run there.
-ghost use Rattle.std.specs.Prelude.{◌≡◌, ◌↔◌, map, All, IsTrue};
+ghost use Rattle.std.specs.Prelude.{◌≡◌, ◌↔◌, IsTrue};
 ghost use Rattle.c104_switch.specs.Views.{link_view};
 ghost use Rattle.c104_net.specs.Quiet.{is_quiet_view, node_begin, IsQuietNode, IsQuietSwitch};
 
@@ -27,27 +27,6 @@ impl<T: TokenKind> NodeOf<T> {
             NodeOf::Terminal(terminal) => terminal.begin(),
         }
     }
-}
-
-/// All of these nodes forget what was sent and what arrived.
-pub fn begin_all<T: TokenKind>(nodes: &mut [NodeOf<T>])
-    ensures { nodes.new ≡ map node_begin nodes.old }
-{
-    for node in nodes.iter_mut() {
-        node.begin();
-    }
-}
-
-/// Whether all of these nodes are quiet.
-pub fn are_quiet<T: TokenKind>(nodes: &[NodeOf<T>]) -> bool
-    ensures { IsTrue result ↔ All IsQuietNode nodes.now }
-{
-    for node in nodes {
-        if !node.is_quiet() {
-            return false;
-        }
-    }
-    true
 }
 
 /// Whether no token stands at a switch, and no packet is under way in it.

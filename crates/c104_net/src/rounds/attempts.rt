@@ -1,19 +1,20 @@
 //! One event of a round, which tells whether it was done, and is counted where it was.
+//!
+//! The kinds of which a round has many have a function each, which is inlined: the others' cases aren't in it.
 ghost use Rattle.std.specs.Prelude.{◌≡◌, ◌∷◌, []};
+ghost use Rattle.c104_event.specs.declared.events.Event.TheVariants as event;
 ghost use Rattle.c104_net.specs.NetRecords.{is_done, ticket_after};
 ghost use Rattle.c104_net.specs.RoundParts.{PartEnds, done_answer};
 ghost use Rattle.c104_net.specs.Stages.{is_kept_full, stage_apply, stage_of};
 
-use crate::events::do_event;
+use crate::events::{credit, cross, do_event, drain, input};
 use crate::place::Place;
 use crate::wires::Wires;
-use c104_event::{Event, EventFault};
+use c104_event::{Event, EventFault, Port};
 use c104_switch::Reply;
 use c104_token::TokenKind;
 
 /// Tries an event, and tells whether it was done. Its ticket is the count of those before it.
-// Inlined: where the event is known, its other cases go.
-#[inline(always)]
 pub fn attempt<T: TokenKind, P: Place<T>>(
     wires: &Wires,
     places: &mut [P],
@@ -26,6 +27,75 @@ pub fn attempt<T: TokenKind, P: Place<T>>(
         result (stage_of P.state P.start P.trace wires.now places.new count.new) }
 {
     let answer = do_event(wires, places, *count, event);
+    counted(count, answer)
+}
+
+/// The same of a crossing.
+#[inline(always)]
+pub fn attempt_cross<T: TokenKind, P: Place<T>>(
+    wires: &Wires,
+    places: &mut [P],
+    count: &mut u64,
+    port: Port,
+) -> Result<bool, EventFault>
+    requires full { (p : P) → P.full p ≡ is_kept_full P.keeps (P.trace p) }
+    ensures { PartEnds (stage_apply T.kind P.keeps)
+        (stage_of P.state P.start P.trace wires.now places.old count.old) (event.Cross port ∷ [])
+        result (stage_of P.state P.start P.trace wires.now places.new count.new) }
+{
+    let answer = cross(wires, places, *count, port);
+    counted(count, answer)
+}
+
+/// The same of a credit.
+#[inline(always)]
+pub fn attempt_credit<T: TokenKind, P: Place<T>>(
+    wires: &Wires,
+    places: &mut [P],
+    count: &mut u64,
+    port: Port,
+) -> Result<bool, EventFault>
+    requires full { (p : P) → P.full p ≡ is_kept_full P.keeps (P.trace p) }
+    ensures { PartEnds (stage_apply T.kind P.keeps)
+        (stage_of P.state P.start P.trace wires.now places.old count.old) (event.Credit port ∷ [])
+        result (stage_of P.state P.start P.trace wires.now places.new count.new) }
+{
+    let answer = credit(wires, places, *count, port);
+    counted(count, answer)
+}
+
+/// The same of a turn of an input, with word 0.
+#[inline(always)]
+pub fn attempt_turn<T: TokenKind, P: Place<T>>(
+    wires: &Wires,
+    places: &mut [P],
+    count: &mut u64,
+    switch: usize,
+    link: usize,
+) -> Result<bool, EventFault>
+    requires full { (p : P) → P.full p ≡ is_kept_full P.keeps (P.trace p) }
+    ensures { PartEnds (stage_apply T.kind P.keeps)
+        (stage_of P.state P.start P.trace wires.now places.old count.old) (event.Input switch link 0 ∷ [])
+        result (stage_of P.state P.start P.trace wires.now places.new count.new) }
+{
+    let answer = input(wires, places, *count, switch, link, 0);
+    counted(count, answer)
+}
+
+/// The same of an arrival at a terminal.
+#[inline(always)]
+pub fn attempt_drain<T: TokenKind, P: Place<T>>(
+    wires: &Wires,
+    places: &mut [P],
+    count: &mut u64,
+    terminal: usize,
+) -> Result<bool, EventFault>
+    requires full { (p : P) → P.full p ≡ is_kept_full P.keeps (P.trace p) }
+    ensures { PartEnds (stage_apply T.kind P.keeps)
+        (stage_of P.state P.start P.trace wires.now places.old count.old) (event.Drain terminal ∷ [])
+        result (stage_of P.state P.start P.trace wires.now places.new count.new) }
+{
+    let answer = drain(wires, places, *count, terminal);
     counted(count, answer)
 }
 

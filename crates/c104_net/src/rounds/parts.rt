@@ -7,7 +7,7 @@ ghost use Rattle.c104_net.specs.Rounds.{turn_at, wired_ports};
 ghost use Rattle.c104_net.specs.RoundParts.{PartEnds};
 ghost use Rattle.c104_net.specs.Stages.{is_kept_full, stage_apply, stage_of};
 
-use super::attempts::attempt;
+use super::attempts::{attempt, attempt_drain};
 use super::ports::walk_ports;
 use crate::place::Place;
 use crate::places::{next_claim_at, next_wanting_at};
@@ -150,7 +150,7 @@ pub fn drain_terminals<T: TokenKind, P: Place<T>>(
     let mut changed = false;
     let terminals = wires.plan().terminals().len();
     for terminal in 0..terminals {
-        let done = attempt(wires, places, count, &Event::Drain { terminal })?;
+        let done = attempt_drain(wires, places, count, terminal)?;
         changed |= done;
     }
     Ok(changed)

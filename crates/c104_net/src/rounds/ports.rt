@@ -12,12 +12,12 @@ ghost use Rattle.c104_net.specs.Rounds.{is_wired, turn_at, wired_links, wired_po
 ghost use Rattle.c104_net.specs.RoundParts.{PartEnds};
 ghost use Rattle.c104_net.specs.Stages.{is_kept_full, stage_apply, stage_of};
 
-use super::attempts::attempt;
+use super::attempts::{attempt_credit, attempt_cross, attempt_turn};
 use crate::place::Place;
 use crate::places::{can_credit_out_at, can_leave_at, next_ready_at};
 use crate::port_part::PortPart;
 use crate::wires::Wires;
-use c104_event::{Event, EventFault, Port};
+use c104_event::{EventFault, Port};
 use c104_token::TokenKind;
 
 /// The events of a part at all wired ports.
@@ -195,8 +195,8 @@ fn try_at<T: TokenKind, P: Place<T>>(
         result (stage_of P.state P.start P.trace wires.now places.new count.new) }
 {
     match part {
-        PortPart::Credit => attempt(wires, places, count, &Event::Credit(port)),
-        PortPart::Cross => attempt(wires, places, count, &Event::Cross(port)),
+        PortPart::Credit => attempt_credit(wires, places, count, port),
+        PortPart::Cross => attempt_cross(wires, places, count, port),
         PortPart::Turn => try_turn(wires, places, count, port),
     }
 }
@@ -215,16 +215,7 @@ fn try_turn<T: TokenKind, P: Place<T>>(
         result (stage_of P.state P.start P.trace wires.now places.new count.new) }
 {
     match port {
-        Port::Switch(switch, link) => attempt(
-            wires,
-            places,
-            count,
-            &Event::Input {
-                switch,
-                link,
-                word: 0,
-            },
-        ),
+        Port::Switch(switch, link) => attempt_turn(wires, places, count, switch, link),
         Port::Terminal(_) => Ok(false),
     }
 }

@@ -1,13 +1,13 @@
-use Rattle.std.proofs.Common.{◌≡◌, ◌∙◌, ◌++◌, ◌+◌, ℕ, List, [], ◌∷◌, length, length-append, map, sym, ap, arith}
+use Rattle.std.proofs.Common.{◌≡◌, ◌∙◌, ◌++◌, ℕ, List, [], ◌∷◌, length, length-append, map, ap, arith}
 use Rattle.std.proofs.lemmas.List.{map-append}
+use Rattle.std.proofs.lemmas.List.Elements.{All-push, All-same}
 use Rattle.std.specs.Option.{option_to_list}
 use Rattle.c104_token.specs.declared.tokens.Token.{Token}
 use Rattle.c104_net.specs.declared.acts.Entry.{Entry}
 use Rattle.c104_net.specs.declared.starts.NodeStart.{NodeStart}
 use Rattle.c104_net.specs.Finished.{terminals_of}
 use Rattle.c104_net.specs.NetRecords.{node_start, node_state, node_trace}
-use Rattle.c104_net.specs.Nodes.{Node}
-use Rattle.c104_net.specs.Records.{NodeRecord}
+use Rattle.c104_net.specs.Records.{IsRecorded, NodeRecord}
 use Rattle.c104_net.specs.Terminals.{Terminal}
 use Rattle.c104_net.proofs.Finishing.{terminals_popped}
 use Rattle.c104_net.proofs.RunPartLists.{left_on, left_maybe}
@@ -39,6 +39,7 @@ loop-node-preserved c =
       starts = left_on node_start (map node_start c.args.list.items) list rest c.in-Some.node c.loop-node.starts.items c.push_reserved.new.self.items is start c.loop-node.invariant.starts;
       traces = left_on node_trace (map node_trace c.args.list.items) list rest c.in-Some.node c.loop-node.traces.items c.push_reserved-in-Some.new.self.items is trace c.loop-node.invariant.traces;
       terminals = left_maybe (terminals_of (map node_state c.args.list.items)) (terminals_of (map node_state rest)) (terminals_of (map node_state list)) c.loop-node.terminals.items c.push_terminal.new.list.items c.finish-terminal.result.0 last c.push_terminal.ensures.items c.loop-node.invariant.terminals;
+      recorded = λ left. c.loop-node.invariant.recorded (All-same (λ (n : NodeRecord × ℕ). IsRecorded n.0) list (rest ++ c.in-Some.node ∷ []) is (All-push (λ (n : NodeRecord × ℕ). IsRecorded n.0) rest c.in-Some.node left c.finish-terminal.ensures.recorded));
       start_room = omega (arith, fewer, starts, c.push_reserved.ensures.capacity, c.loop-node.invariant.start_room);
       trace_room = omega (arith, fewer, traces, c.push_reserved-in-Some.ensures.capacity, c.loop-node.invariant.trace_room);
       terminal_room = omega (arith, counted, more, c.push_terminal.ensures.room, c.loop-node.invariant.terminal_room);

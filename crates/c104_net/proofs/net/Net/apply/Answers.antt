@@ -4,6 +4,7 @@ use Rattle.std.proofs.lemmas.List.{with_items_is}
 use Rattle.c104_net.specs.Records.{NodeRecord}
 use Rattle.c104_net.specs.NetRecords.{is_done, net_record, ticket_after, IsNetRecord, RecordsEvent}
 use Rattle.c104_net.proofs.NetRecording.{record_after, event_recorded}
+use Rattle.c104_net.proofs.DoneEvents.{done_law}
 use Rattle.c104_net.proofs.RecordedRuns.{record_answers}
 use Rattle.c104_net.proofs.net.Net.apply.Goals as goal
 
@@ -38,3 +39,6 @@ returns-clause-recorded c =
 -- what is said of it is what is due, or out of memory
 pub returns-clause-due : goal.returns-clause-due
 returns-clause-due c = record_answers c.args.self.now _ c.args.event.now c.happen-answer.result (subst IsNetRecord c.self.view_is c.self.invariant.0) (returns-clause-recorded c)
+
+pub returns-clause-done : goal.returns-clause-done
+returns-clause-done c = done_law

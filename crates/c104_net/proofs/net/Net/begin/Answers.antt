@@ -1,9 +1,7 @@
 use Rattle.std.proofs.Common.{◌≡◌, ◌∙◌, ℕ, List, ap, map, sym, subst}
 use Rattle.std.specs.Vec.{with_items}
 use Rattle.std.proofs.lemmas.List.{with_items_is}
-use Rattle.c104_net.specs.Balance.{IsSteady}
-use Rattle.c104_net.specs.Network.{network_of}
-use Rattle.c104_net.specs.NetRecords.{begun_record, fresh_record, net_record, node_state, IsNetRecord, NetRecord}
+use Rattle.c104_net.specs.NetRecords.{begun_record, fresh_record, net_record, IsNetRecord, NetRecord}
 use Rattle.c104_net.specs.Quiet.{network_begin}
 use Rattle.c104_net.specs.Records.{NodeRecord}
 use Rattle.c104_net.proofs.BegunRecords.{begun_is, begun_kept}

@@ -1,11 +1,9 @@
-use Rattle.std.proofs.Common.{◌≡◌, IfSome, Option, is_some, map, sym, subst, rules}
-use Rattle.c104_token.specs.declared.tokens.Token.{Token}
+use Rattle.std.proofs.Common.{◌≡◌, IfSome, is_some, sym, subst, rules}
 use Rattle.c104_token.specs.Kinds.{plain_kind}
-use Rattle.c104_net.specs.NetRecords.{node_state, IsNetRecord}
-use Rattle.c104_net.specs.Network.{Network, network_apply, network_of}
+use Rattle.c104_net.specs.NetRecords.{IsNetRecord}
+use Rattle.c104_net.specs.Network.{network_apply}
 use Rattle.c104_net.specs.Reasons.{is_unready, network_why}
 use Rattle.c104_net.specs.ReasonMeanings.{IsEventReason}
-use Rattle.c104_net.specs.declared.reason.Reason.{Reason}
 use Rattle.c104_net.proofs.UnreadyEvents.{unready_answered}
 use Rattle.c104_net.proofs.EventReasons.{event_reason_holds}
 use Rattle.c104_net.proofs.net.Net.why.Goals as goal

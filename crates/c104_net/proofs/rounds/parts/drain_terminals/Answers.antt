@@ -13,7 +13,7 @@ pub loop-terminal-preserved : goal.loop-terminal-preserved
 loop-terminal-preserved g c =
     let counted = ap length c.terminals-terminals.ensures.terminals in
     let planned = ap (λ (p : Plan). length p.terminals) c.plan.ensures.plan in
-    number_next (stage_apply g.T.TokenKind.kind g.P.Place.keeps) (single event.Drain) (length c.args.wires.now.terminals) c.loop-terminal.terminal (stage_of g.P.Place.state g.P.Place.start g.P.Place.trace c.args.wires.now c.args.places.now c.args.count.now) (stage_of g.P.Place.state g.P.Place.start g.P.Place.trace c.args.wires.now c.loop-terminal.places c.loop-terminal.count) (stage_of g.P.Place.state g.P.Place.start g.P.Place.trace c.args.wires.now c.attempt.new.places c.attempt.new.count) c.loop-terminal.changed c.in_ok-done.done (omega (arith, counted, planned, c.loop-terminal-test.true)) c.loop-terminal.invariant c.in_ok-done.ensures
+    number_next (stage_apply g.T.TokenKind.kind g.P.Place.keeps) (single event.Drain) (length c.args.wires.now.terminals) c.loop-terminal.terminal (stage_of g.P.Place.state g.P.Place.start g.P.Place.trace c.args.wires.now c.args.places.now c.args.count.now) (stage_of g.P.Place.state g.P.Place.start g.P.Place.trace c.args.wires.now c.loop-terminal.places c.loop-terminal.count) (stage_of g.P.Place.state g.P.Place.start g.P.Place.trace c.args.wires.now c.attempt_drain.new.places c.attempt_drain.new.count) c.loop-terminal.changed c.in_ok-done.done (omega (arith, counted, planned, c.loop-terminal-test.true)) c.loop-terminal.invariant c.in_ok-done.ensures
 
 pub returns : goal.returns
 returns g c =
@@ -26,4 +26,4 @@ returns-in_err-done g c =
     let counted = ap length c.terminals-terminals.ensures.terminals in
     let planned = ap (λ (p : Plan). length p.terminals) c.plan.ensures.plan in
     rw (err_is _ _ c.from_residual.ensures)
-    (of_events (stage_apply g.T.TokenKind.kind g.P.Place.keeps) event.Drain (range_with_len 0 (length c.args.wires.now.terminals)) (stage_of g.P.Place.state g.P.Place.start g.P.Place.trace c.args.wires.now c.args.places.now c.args.count.now) (stage_of g.P.Place.state g.P.Place.start g.P.Place.trace c.args.wires.now c.attempt.new.places c.attempt.new.count) (Err c.in_err-done.field-0.0) (number_stops (stage_apply g.T.TokenKind.kind g.P.Place.keeps) (single event.Drain) (length c.args.wires.now.terminals) c.loop-terminal.terminal (stage_of g.P.Place.state g.P.Place.start g.P.Place.trace c.args.wires.now c.args.places.now c.args.count.now) (stage_of g.P.Place.state g.P.Place.start g.P.Place.trace c.args.wires.now c.loop-terminal.places c.loop-terminal.count) (stage_of g.P.Place.state g.P.Place.start g.P.Place.trace c.args.wires.now c.attempt.new.places c.attempt.new.count) c.loop-terminal.changed c.in_err-done.field-0.0 (omega (arith, counted, planned, c.loop-terminal-test.true)) c.loop-terminal.invariant c.in_err-done.ensures))
+    (of_events (stage_apply g.T.TokenKind.kind g.P.Place.keeps) event.Drain (range_with_len 0 (length c.args.wires.now.terminals)) (stage_of g.P.Place.state g.P.Place.start g.P.Place.trace c.args.wires.now c.args.places.now c.args.count.now) (stage_of g.P.Place.state g.P.Place.start g.P.Place.trace c.args.wires.now c.attempt_drain.new.places c.attempt_drain.new.count) (Err c.in_err-done.field-0.0) (number_stops (stage_apply g.T.TokenKind.kind g.P.Place.keeps) (single event.Drain) (length c.args.wires.now.terminals) c.loop-terminal.terminal (stage_of g.P.Place.state g.P.Place.start g.P.Place.trace c.args.wires.now c.args.places.now c.args.count.now) (stage_of g.P.Place.state g.P.Place.start g.P.Place.trace c.args.wires.now c.loop-terminal.places c.loop-terminal.count) (stage_of g.P.Place.state g.P.Place.start g.P.Place.trace c.args.wires.now c.attempt_drain.new.places c.attempt_drain.new.count) c.loop-terminal.changed c.in_err-done.field-0.0 (omega (arith, counted, planned, c.loop-terminal-test.true)) c.loop-terminal.invariant c.in_err-done.ensures))

@@ -1,11 +1,10 @@
-use Rattle.std.proofs.Common.{List, ap, arith, length, map, replicate, subst, sym, ℕ, ◌≡◌, ◌≤◌}
+use Rattle.std.proofs.Common.{List, ap, arith, length, map, subst, sym, ℕ, ◌≡◌, ◌≤◌}
 use Rattle.std.specs.Global.{Vec as Kept}
 use Rattle.c104_describe.specs.Plans.{IsPlan, Plan}
 use Rattle.c104_net.specs.Terminals.{Terminal}
 use Rattle.c104_token.specs.declared.tokens.Token.{Token}
 use Rattle.c104_net.specs.FinishedRecords.{FinishedRecord}
 use Rattle.c104_net.specs.Origins.{Origin}
-use Rattle.c104_net.specs.Replays.{IsLeft}
 use Rattle.c104_net.specs.RunOrigins.{AreOrigins}
 use Rattle.c104_net.specs.declared.acts.Entry.{Entry}
 use Rattle.c104_net.specs.Network.{Network, network_of}
@@ -66,5 +65,5 @@ returns c =
     (λ lists. AreOrigins c.args.self.now (map (λ (list : Kept Origin). list.items) lists.items))
     c.origins_at.result
     (λ lists are. subst (λ (run : FinishedRecord). AreOrigins run (map (λ (list : Kept Origin). list.items) lists.items)) c.self.view_is
-    (origins_lent run is_plan kept c.replay-result.new.net c.finish-run.result (map (λ (list : Kept Origin). list.items) lists.items) net_is c.finish-run.ensures.end are))
+    (origins_lent run is_plan kept c.replay-result.new.net c.finish-run.result (map (λ (list : Kept Origin). list.items) lists.items) net_is c.finish-run.ensures are))
     c.origins_at.ensures

@@ -1,0 +1,51 @@
+-- What can be seen of the nodes of a network: of a switch each of its links, and a terminal.
+use Rattle.std.specs.Prelude.{ℕ, length, nat_lt, List, Option, Some, None, if◌then◌else◌, slice_get}
+use Rattle.c104_token.specs.Kinds.{Kind}
+use Rattle.c104_link.specs.Steps.{◌>>=◌}
+use Rattle.c104_switch.specs.Views.{link_view}
+use Rattle.c104_switch.specs.declared.actions.LinkView.{LinkView}
+use Rattle.c104_net.specs.Terminals as terminal
+use Rattle.c104_net.specs.declared.node.NodeOf.TheVariants.{Switch, Terminal}
+use Rattle.c104_net.specs.declared.terminal.views.TerminalView.{TerminalView}
+use Rattle.c104_net.specs.Nodes.{Node}
+use Rattle.c104_net.specs.Network.{Network, terminal_place}
+
+-- what is seen of a terminal
+abbrev pub terminal_view : {A : Type 0} → terminal.Terminal A → TerminalView
+terminal_view t = record {
+  waiting = length t.output.items;
+  undrained = length t.input.items;
+  credit = t.output.credit;
+  granted = t.input.granted;
+}
+
+-- what is seen of a node, if it is a terminal
+abbrev pub node_terminal_view : {A : Type 0} → Node A → Option TerminalView
+node_terminal_view (Switch s) = None
+node_terminal_view (Terminal t) = Some (terminal_view t)
+
+-- the same of the node at this place
+abbrev pub nodes_terminal_view : {A : Type 0} → List (Node A) → ℕ → Option TerminalView
+nodes_terminal_view nodes place = slice_get nodes place >>= node_terminal_view
+
+-- what is seen of a terminal of the network
+abbrev pub network_terminal_view : {A : Type 0} → Network A → ℕ → Option TerminalView
+network_terminal_view net t =
+    if nat_lt t (length net.plan.terminals)
+    then nodes_terminal_view net.nodes (terminal_place net.plan t)
+    else None
+
+module _ {A : Type 0} (kind : Kind A) where
+  -- what is seen of a link of a node, if it is a switch
+  abbrev pub node_link_view : ℕ → Node A → Option LinkView
+  node_link_view l (Switch s) = link_view kind s l
+  node_link_view l (Terminal t) = None
+
+  -- the same of the node at this place
+  abbrev pub nodes_link_view : List (Node A) → ℕ → ℕ → Option LinkView
+  nodes_link_view nodes place l = slice_get nodes place >>= node_link_view l
+
+  -- what is seen of a link of a switch of the network
+  abbrev pub network_link_view : Network A → ℕ → ℕ → Option LinkView
+  network_link_view net s l =
+      if nat_lt s (length net.plan.switches) then nodes_link_view net.nodes s l else None
