@@ -5,7 +5,7 @@ use Rattle.std.specs.List.{flat_map, range_with_len}
 use Rattle.c104_control.specs.declared.commands.Command.{Command}
 use Rattle.c104_control.specs.declared.commands.Command.TheVariants.{CPoke}
 use Rattle.c104_regs.specs.declared.settings.Settings.{Settings}
-use Rattle.c104_tools.specs.Loads.{due_entry, due_value, order, peeks, pokes, steps_from, switch_peeks}
+use Rattle.c104_tools.specs.Loads.{due_entry, due_value, for_each, order, peeks, pokes, steps_from, switch_peeks}
 use Rattle.c104_tools.specs.Steps.{Step}
 
 -- numbers from a on: the first, and those after it
@@ -18,6 +18,9 @@ range_end a n past = let none : n - a ≡ 0 = omega arith in ap (range_with_len 
 -- a command for each switch from a on
 abbrev pub orders_left : Command → ℕ → ℕ → List Step
 orders_left c a n = map (λ switch. order switch c) (range_with_len a (n - a))
+
+pub orders_all : (c : Command) (n : ℕ) → for_each n c ≡ orders_left c 0 n
+orders_all c n = let same : n ≡ n - 0 = omega arith in ap (λ m. for_each m c) same
 
 pub orders_next : (c : Command) (a n : ℕ) → a < n → orders_left c a n ≡ (order a c ∷ []) ++ orders_left c (a + 1) n
 orders_next c a n below = ap (map (λ switch. order switch c)) (range_next a n below)

@@ -22,7 +22,7 @@ numbered_more : (a b : ℕ) (values : List ℕ) (v : ℕ) → b ≡ a + length v
 numbered_more a b [] v is = ap (λ n. (n, v) ∷ []) (omega arith)
 numbered_more a b (x ∷ values) v is = ap (λ xs. (a, x) ∷ xs) (numbered_more (a + 1) b values v (omega arith))
 
-range_cut : (a n m : ℕ) → range_with_len a (n + suc m) ≡ range_with_len a n ++ (a + n) ∷ range_with_len (a + n + 1) m
+pub range_cut : (a n m : ℕ) → range_with_len a (n + suc m) ≡ range_with_len a n ++ (a + n) ∷ range_with_len (a + n + 1) m
 range_cut a zero m =
     let more : zero + suc m ≡ suc m = omega arith in
     let same : a ≡ a + zero = omega arith in

@@ -6,3 +6,5 @@ pub mod Reads
 pub mod Tables
 pub mod Loaded
 pub mod NetCommands
+pub mod Outcomes
+pub mod NetOutcomes

@@ -1,5 +1,6 @@
 -- What a load leaves of the switches of a port that shows them.
-use Rattle.std.specs.Prelude.{true, List, ◌∷◌}
+use Rattle.std.specs.Prelude.{◌≡◌, ◌<◌, ℕ, true, List, ◌∷◌}
+use Rattle.c104_event.specs.declared.faults.EventFault.{EventFault}
 use Rattle.c104_regs.specs.declared.settings.Settings.{Settings}
 use Rattle.c104_token.specs.declared.tokens.Token.{Token}
 use Rattle.c104_switch.specs.Commands.{switch_reset}
@@ -25,3 +26,10 @@ each_with f switches image = switches
 abbrev pub IsUnansweredFault : LoadFault → Type 0
 IsUnansweredFault (fault.Port e) = Unit {0}
 IsUnansweredFault f = ⊥
+
+-- where the port gave no reply, it may leave a command of one of its so many switches unanswered so
+abbrev pub IsLeftBySwitch : {P : Type 0} → (P → ℕ) → (P → ℕ → List ℕ → EventFault → Type 0) → ℕ → LoadFault → Type 0
+IsLeftBySwitch {P} switch_count unanswered count (fault.Port e) =
+    (p : P) × (switch : ℕ) × (command : List ℕ)
+    × (switch_count p ≡ count) × (switch < count) × unanswered p switch command e
+IsLeftBySwitch switch_count unanswered count f = Unit {0}

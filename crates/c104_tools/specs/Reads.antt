@@ -24,16 +24,16 @@ pub record StopsReading (unanswered : ℕ → List ℕ → EventFault → Type 0
 
 -- so many registers of a switch were read through a port, from an address on, and have the values that
 -- are made of what is answered; or the first peek that failed is told
-abbrev pub AreRead : {P X : Type 0} → (P → List Asked) → (P → ℕ → List ℕ → EventFault → Type 0) → P → P → ℕ → ℕ → ℕ → (X → List ℕ) → Result X LoadFault → Type 0
-AreRead commands unanswered old new switch first count values result =
+abbrev pub AreRead : {P X : Type 0} → (P → List Asked) → (P → ℕ) → (P → ℕ → List ℕ → EventFault → Type 0) → P → P → ℕ → ℕ → ℕ → (X → List ℕ) → Result X LoadFault → Type 0
+AreRead commands switch_count unanswered old new switch first count values result =
     MatchResult result
     (λ x. commands new ≡ commands old ++ map step_done (peeks switch (numbered first (values x))))
-    (λ f. StopsReading (IsUnanswered commands unanswered (commands new)) (commands old) (commands new) switch (range_with_len first count) f)
+    (λ f. StopsReading (IsUnanswered commands switch_count unanswered new) (commands old) (commands new) switch (range_with_len first count) f)
 
 -- the same, with these values
-abbrev pub HaveRead : {P X : Type 0} → (P → List Asked) → (P → ℕ → List ℕ → EventFault → Type 0) → P → P → ℕ → ℕ → List ℕ → Result X LoadFault → Type 0
-HaveRead commands unanswered old new switch first values result =
-    AreRead commands unanswered old new switch first (length values) (λ x. values) result
+abbrev pub HaveRead : {P X : Type 0} → (P → List Asked) → (P → ℕ) → (P → ℕ → List ℕ → EventFault → Type 0) → P → P → ℕ → ℕ → List ℕ → Result X LoadFault → Type 0
+HaveRead commands switch_count unanswered old new switch first values result =
+    AreRead commands switch_count unanswered old new switch first (length values) (λ x. values) result
 
 -- the numbers of a link, in the order of their addresses
 abbrev pub link_values : LinkNumbers → List ℕ

@@ -69,10 +69,11 @@ pub record IsRefusal (before after : List Asked) (switch : ℕ) (c : Command) (n
   pub asked : after ≡ before ++ answered switch c (Refused number) ∷ []
   pub may : IsTrue (may_refuse c number)
 
--- a port may leave a command of a switch unanswered, with this fault, after just these commands
-abbrev pub IsUnanswered : {P : Type 0} → (P → List Asked) → (P → ℕ → List ℕ → EventFault → Type 0) → List Asked → ℕ → List ℕ → EventFault → Type 0
-IsUnanswered {P} commands unanswered asked switch command e =
-    (p : P) × (commands p ≡ asked) × unanswered p switch command e
+-- a port may leave a command of a switch unanswered, with this fault, after the same commands and with as many
+-- switches as in this state
+abbrev pub IsUnanswered : {P : Type 0} → (P → List Asked) → (P → ℕ) → (P → ℕ → List ℕ → EventFault → Type 0) → P → ℕ → List ℕ → EventFault → Type 0
+IsUnanswered {P} commands switch_count unanswered new switch command e =
+    (p : P) × (commands p ≡ commands new) × (switch_count p ≡ switch_count new) × unanswered p switch command e
 
 -- a fault comes of command c of a switch, by the commands before it and after. Where the port gave no
 -- reply, nothing was asked; `unanswered` says of which commands it may give none
@@ -130,11 +131,11 @@ comparison_fails unanswered before after step f =
 
 -- steps were carried out through a port, that is now in a new state: all of them in order; or the first that
 -- was refused, badly replied to or not answered is told
-abbrev pub CarriedOut : {P X : Type 0} → (P → List Asked) → (P → ℕ → List ℕ → EventFault → Type 0) → P → P → List Step → Result X LoadFault → Type 0
-CarriedOut commands unanswered old new steps result =
-    Performed (command_fails (IsUnanswered commands unanswered (commands new))) (commands old) (commands new) steps result
+abbrev pub CarriedOut : {P X : Type 0} → (P → List Asked) → (P → ℕ) → (P → ℕ → List ℕ → EventFault → Type 0) → P → P → List Step → Result X LoadFault → Type 0
+CarriedOut commands switch_count unanswered old new steps result =
+    Performed (command_fails (IsUnanswered commands switch_count unanswered new)) (commands old) (commands new) steps result
 
 -- the same of peeks, of which one can also read another value than it was to
-abbrev pub Compared : {P X : Type 0} → (P → List Asked) → (P → ℕ → List ℕ → EventFault → Type 0) → P → P → List Step → Result X LoadFault → Type 0
-Compared commands unanswered old new steps result =
-    Performed (comparison_fails (IsUnanswered commands unanswered (commands new))) (commands old) (commands new) steps result
+abbrev pub Compared : {P X : Type 0} → (P → List Asked) → (P → ℕ) → (P → ℕ → List ℕ → EventFault → Type 0) → P → P → List Step → Result X LoadFault → Type 0
+Compared commands switch_count unanswered old new steps result =
+    Performed (comparison_fails (IsUnanswered commands switch_count unanswered new)) (commands old) (commands new) steps result

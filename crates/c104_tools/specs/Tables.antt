@@ -46,9 +46,9 @@ pub record IsBadTable (before after : List Asked) (switch link : ℕ) : Type 0 w
 
 -- the table of an input was read through a port; or the first peek that failed is told, or that a number
 -- which was read selects nothing
-abbrev pub IsTableRead : {P : Type 0} → (P → List Asked) → (P → ℕ → List ℕ → EventFault → Type 0) → P → P → ℕ → ℕ → Result Table LoadFault → Type 0
-IsTableRead commands unanswered old new switch link result =
+abbrev pub IsTableRead : {P : Type 0} → (P → List Asked) → (P → ℕ) → (P → ℕ → List ℕ → EventFault → Type 0) → P → P → ℕ → ℕ → Result Table LoadFault → Type 0
+IsTableRead commands switch_count unanswered old new switch link result =
     MatchResult result
     (λ t. commands new ≡ commands old ++ map step_done (peeks switch (table_entries link (t.base ∷ map row_limits t.rows) (map row_codes t.rows))))
-    (λ f. StopsReading (IsUnanswered commands unanswered (commands new)) (commands old) (commands new) switch (table_addresses link) f
+    (λ f. StopsReading (IsUnanswered commands switch_count unanswered new) (commands old) (commands new) switch (table_addresses link) f
     ⊎ ((f ≡ fault.BadReply switch) × IsBadTable (commands old) (commands new) switch link))

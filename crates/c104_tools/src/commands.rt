@@ -1,5 +1,6 @@
 //! One command through a port, and what its reply tells.
 ghost use Rattle.std.specs.Prelude.{◌≡◌, [], ◌∷◌, ◌++◌, MatchResult};
+ghost use Rattle.c104_tools.specs.Outcomes.{IsTold};
 ghost use Rattle.c104_tools.specs.Ports.{CameBy};
 ghost use Rattle.c104_tools.specs.Steps.{IsFaultOf, IsUnanswered, done, judged, may_refuse, named_address};
 
@@ -15,7 +16,8 @@ pub(crate) fn ask<P: ControlPort>(
 ) -> Result<u32, LoadFault>
     ensures answer { MatchResult result
         (λ v. P.commands port.new ≡ P.commands port.old ++ done switch command v ∷ [])
-        (λ f. IsFaultOf (IsUnanswered P.commands P.unanswered (P.commands port.new)) (P.commands port.old) (P.commands port.new) switch command f) }
+        (λ f. IsFaultOf (IsUnanswered P.commands P.switch_count P.unanswered port.new) (P.commands port.old) (P.commands port.new) switch command f) }
+    ensures due { IsTold P.due port.old switch command result port.new }
     ensures went { CameBy P.commands P.shown port.old port.new }
     ensures count { P.switch_count port.new ≡ P.switch_count port.old }
 {

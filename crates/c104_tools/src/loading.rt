@@ -1,9 +1,10 @@
 //! The loader.
-ghost use Rattle.std.specs.Prelude.{◌≡◌, ◌≢◌, ◌↔◌, true, Bool, Err, MatchResult, Some, length};
+ghost use Rattle.std.specs.Prelude.{◌≡◌, ◌≢◌, ◌↔◌, true, Bool, Err, IfErr, MatchResult, Some, length};
 ghost use Rattle.c104_describe.specs.PlanImage.{AreSettings};
 ghost use Rattle.c104_tools.specs.declared.faults.LoadFault.TheVariants as fault;
 ghost use Rattle.c104_tools.specs.Loads.{for_each, load_list, pokes, steps_from, switch_pokes};
-ghost use Rattle.c104_tools.specs.Loaded.{IsUnansweredFault, each_with, loaded};
+ghost use Rattle.c104_tools.specs.Loaded.{IsLeftBySwitch, IsUnansweredFault, each_with, loaded};
+ghost use Rattle.c104_tools.specs.Outcomes.{Outcome, any_value, nothing_made};
 ghost use Rattle.c104_tools.specs.Ports.{CameBy, Switches};
 ghost use Rattle.c104_tools.specs.Steps.{CarriedOut, reads_nothing};
 
@@ -16,7 +17,8 @@ use c104_describe::{Image, SwitchImage};
 /// Asks a command that reads nothing of each of so many switches, in order.
 fn ask_each<P: ControlPort>(port: &mut P, count: usize, command: Command) -> Result<(), LoadFault>
     requires { reads_nothing command ≡ true }
-    ensures performed { CarriedOut P.commands P.unanswered port.old port.new (for_each count command) result }
+    ensures performed { CarriedOut P.commands P.switch_count P.unanswered port.old port.new (for_each count command) result }
+    ensures due { Outcome P.due any_value nothing_made port.old (for_each count command) result port.new }
     ensures went { CameBy P.commands P.shown port.old port.new }
     ensures count { P.switch_count port.new ≡ P.switch_count port.old }
 {
@@ -32,7 +34,8 @@ fn poke_values<P: ControlPort>(
     switch: usize,
     values: &[(u16, u32)],
 ) -> Result<(), LoadFault>
-    ensures performed { CarriedOut P.commands P.unanswered port.old port.new (pokes switch values.now) result }
+    ensures performed { CarriedOut P.commands P.switch_count P.unanswered port.old port.new (pokes switch values.now) result }
+    ensures due { Outcome P.due any_value nothing_made port.old (pokes switch values.now) result port.new }
     ensures went { CameBy P.commands P.shown port.old port.new }
     ensures count { P.switch_count port.new ≡ P.switch_count port.old }
 {
@@ -44,7 +47,8 @@ fn poke_values<P: ControlPort>(
 
 /// Pokes what an image keeps into each of its switches.
 fn poke_all<P: ControlPort>(port: &mut P, image: &[SwitchImage]) -> Result<(), LoadFault>
-    ensures performed { CarriedOut P.commands P.unanswered port.old port.new (steps_from switch_pokes 0 image.now) result }
+    ensures performed { CarriedOut P.commands P.switch_count P.unanswered port.old port.new (steps_from switch_pokes 0 image.now) result }
+    ensures due { Outcome P.due any_value nothing_made port.old (steps_from switch_pokes 0 image.now) result port.new }
     ensures went { CameBy P.commands P.shown port.old port.new }
     ensures count { P.switch_count port.new ≡ P.switch_count port.old }
 {
@@ -62,10 +66,18 @@ fn poke_all<P: ControlPort>(port: &mut P, image: &[SwitchImage]) -> Result<(), L
 /// done stays.
 pub fn load<P: ControlPort>(port: &mut P, image: &Image) -> Result<(), LoadFault>
     ensures unfitting { (result ≡ Err fault.NoSwitch) ↔ (P.switch_count port.old ≢ length image.now.settings) }
-    ensures not_asked { P.switch_count port.old ≢ length image.now.settings → P.commands port.new ≡ P.commands port.old }
+    ensures not_asked { P.switch_count port.old ≢ length image.now.settings → port.new ≡ port.old }
     ensures performed { P.switch_count port.old ≡ length image.now.settings →
-        CarriedOut P.commands P.unanswered port.old port.new (load_list image.now.settings) result }
+        CarriedOut P.commands P.switch_count P.unanswered port.old port.new (load_list image.now.settings) result }
     ensures went { CameBy P.commands P.shown port.old port.new }
+
+    // So where it is known what is given for each command, it is known what comes of all.
+    ensures due { P.switch_count port.old ≡ length image.now.settings →
+        Outcome P.due any_value nothing_made port.old (load_list image.now.settings) result port.new }
+
+    // Where the port doesn't answer, it is for a command of a switch that it has.
+    ensures left { P.switch_count port.old ≡ length image.now.settings →
+        IfErr result (IsLeftBySwitch P.switch_count P.unanswered (length image.now.settings)) }
 
     // Switches that are shown are loaded, and they refuse nothing.
     ensures loaded { (before : Switches) → P.shown port.old ≡ Some before →

@@ -15,6 +15,7 @@ use c104_switch::Reply;
 /// switch, where the switch's trace is full, or when out of memory.
 impl ControlPort for Net {
     ghost use Rattle.c104_tools.specs.NetCommands.{IsNetUnanswered, net_commands, net_switch_count, net_switches};
+    ghost use Rattle.c104_tools.specs.NetOutcomes.{MayGive};
 
     ghost commands = { net_commands };
 
@@ -23,6 +24,8 @@ impl ControlPort for Net {
     ghost shown = { net_switches };
 
     ghost unanswered = { IsNetUnanswered };
+
+    ghost due = { MayGive };
 
     fn switches(&self) -> usize {
         see_record(self);

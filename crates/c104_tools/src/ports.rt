@@ -2,6 +2,7 @@
 ghost use Rattle.std.specs.Prelude.{◌≡◌, ℕ, List, [], ◌∷◌, ◌++◌, Option, MatchOption, MatchResult, length};
 ghost use Rattle.c104_event.specs.declared.faults.EventFault.{EventFault as TheFault};
 ghost use Rattle.c104_tools.specs.declared.ports.Asked.{Asked as TheAsked};
+ghost use Rattle.c104_tools.specs.Outcomes.{Given};
 ghost use Rattle.c104_tools.specs.Ports.{Obeyed, Switches, command_asked};
 
 use c104_control::ControlBytes;
@@ -33,6 +34,10 @@ pub trait ControlPort {
     /// reply.
     ghost unanswered: { Self → ℕ → List ℕ → TheFault → Type 0 };
 
+    /// A port in this state may give this for a command of a switch, a reply or a fault, and be in that
+    /// state afterwards.
+    ghost due: { Self → ℕ → List ℕ → Given → Self → Type 0 };
+
     /// How many switches there are. They have the numbers from 0 on.
     fn switches(&self) -> usize
         ensures count { result ≡ switch_count self.now }
@@ -47,5 +52,6 @@ pub trait ControlPort {
         ensures shown { MatchResult result
             (λ reply. Obeyed (shown self.old) (command_asked switch bytes.now reply ∷ []) (shown self.new))
             (λ _. shown self.new ≡ shown self.old) }
+        ensures due { due self.old switch bytes.now result self.new }
         ensures count { switch_count self.new ≡ switch_count self.old };
 }

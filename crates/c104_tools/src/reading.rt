@@ -1,9 +1,11 @@
 //! What the debugger reads.
-ghost use Rattle.std.specs.Prelude.{◌≡◌, ◌↔◌, ◌+◌, ◌<◌, ◌≤◌, Err, MatchResult, length};
+ghost use Rattle.std.specs.List.{range_with_len};
+ghost use Rattle.std.specs.Prelude.{◌≡◌, ◌↔◌, ◌+◌, ◌<◌, ◌≤◌, Err, MatchResult, Ok, length};
 ghost use Rattle.c104_regs.specs.declared.addresses.Address.TheVariants.{AtLink};
 ghost use Rattle.c104_regs.specs.declared.addresses.Register.TheVariants.{Sunk};
 ghost use Rattle.c104_regs.specs.Addresses.{address_number};
 ghost use Rattle.c104_tools.specs.declared.faults.LoadFault.TheVariants as fault;
+ghost use Rattle.c104_tools.specs.Outcomes.{ComesTo, Outcome, and_then, any_value, link_made, link_peeks, peeks_at};
 ghost use Rattle.c104_tools.specs.Ports.{CameBy};
 ghost use Rattle.c104_tools.specs.Reads.{AreRead, HaveRead, link_values};
 
@@ -41,7 +43,9 @@ pub(crate) fn read_run<P: ControlPort>(
     values: &mut [u32],
 ) -> Result<(), LoadFault>
     requires { first + length values.old ≤ 0x10000 }
-    ensures read { HaveRead P.commands P.unanswered port.old port.new switch first values.new result }
+    ensures read { HaveRead P.commands P.switch_count P.unanswered port.old port.new switch first values.new result }
+    ensures due { ComesTo P.due any_value port.old (peeks_at switch (range_with_len first (length values.new)))
+        (and_then result (λ _. Ok values.new)) port.new }
     ensures came { CameBy P.commands P.shown port.old port.new }
     ensures count { P.switch_count port.new ≡ P.switch_count port.old }
 {
@@ -63,9 +67,11 @@ pub fn read_link<P: ControlPort>(
 ) -> Result<LinkNumbers, LoadFault>
     requires { link < LINKS }
     ensures unknown { (result ≡ Err fault.NoSwitch) ↔ (P.switch_count port.old ≤ switch) }
-    ensures not_asked { P.switch_count port.old ≤ switch → P.commands port.new ≡ P.commands port.old }
+    ensures not_asked { P.switch_count port.old ≤ switch → port.new ≡ port.old }
     ensures read { switch < P.switch_count port.old →
-        AreRead P.commands P.unanswered port.old port.new switch (address_number (AtLink link Sunk)) 7 link_values result }
+        AreRead P.commands P.switch_count P.unanswered port.old port.new switch (address_number (AtLink link Sunk)) 7 link_values result }
+    ensures due { switch < P.switch_count port.old →
+        Outcome P.due any_value link_made port.old (link_peeks switch link) result port.new }
     ensures came { CameBy P.commands P.shown port.old port.new }
 {
     if switch >= port.switches() {

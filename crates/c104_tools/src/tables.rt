@@ -1,8 +1,9 @@
 //! An input's table, as the debugger reads it.
-ghost use Rattle.std.specs.Prelude.{◌≡◌, ◌↔◌, ◌<◌, ◌≤◌, not, false, Err, IsTrue, MatchOption, length, map};
+ghost use Rattle.std.specs.Prelude.{◌≡◌, ◌↔◌, ◌<◌, ◌≤◌, not, false, true, Err, IfSome, IsTrue, MatchOption, length, map};
 ghost use Rattle.std.specs.List.{list_any};
-ghost use Rattle.c104_regs.specs.Values.{select_code};
+ghost use Rattle.c104_regs.specs.Values.{select_code, select_of};
 ghost use Rattle.c104_tools.specs.declared.faults.LoadFault.TheVariants as fault;
+ghost use Rattle.c104_tools.specs.Outcomes.{Outcome, any_value, rows_with, table_made, table_peeks};
 ghost use Rattle.c104_tools.specs.Ports.{CameBy};
 ghost use Rattle.c104_tools.specs.Tables.{IsTableRead, is_select, row_codes, row_limits};
 
@@ -14,7 +15,7 @@ use c104_regs::{Address, LINKS, Register};
 
 /// What a row selects by this number: a link below 32, at 32 to discard, and at 64 the sink.
 fn select_at(code: u32) -> Option<Select>
-    ensures { MatchOption result (is_select code ≡ false) (λ select. select_code select ≡ code) }
+    ensures { MatchOption result (is_select code ≡ false) (λ select. (select_code select ≡ code) × (select ≡ select_of code) × (is_select code ≡ true)) }
 {
     match code {
         0..=31 => Some(Select::Link(code as u8)),
@@ -28,9 +29,11 @@ fn select_at(code: u32) -> Option<Select>
 fn rows_of(limits: &[u32], codes: &[u32]) -> Option<[Row; ROWS]>
     requires limits { length limits.now ≡ ROWS }
     requires codes { length codes.now ≡ ROWS }
-    ensures { MatchOption result
+    ensures read { MatchOption result
         (IsTrue (list_any (λ code. not (is_select code)) codes.now))
         (λ rows. (map row_limits rows ≡ limits.now) × (map row_codes rows ≡ codes.now)) }
+    ensures made { IfSome result (λ rows. rows ≡ rows_with limits.now codes.now) }
+    ensures good { IfSome result (λ _. list_any (λ code. not (is_select code)) codes.now ≡ false) }
 {
     let mut rows = [Row::RESET; ROWS];
     for k in 0..ROWS {
@@ -58,9 +61,11 @@ pub fn read_table<P: ControlPort>(
 ) -> Result<Table, LoadFault>
     requires { link < LINKS }
     ensures unknown { (result ≡ Err fault.NoSwitch) ↔ (P.switch_count port.old ≤ switch) }
-    ensures not_asked { P.switch_count port.old ≤ switch → P.commands port.new ≡ P.commands port.old }
+    ensures not_asked { P.switch_count port.old ≤ switch → port.new ≡ port.old }
     ensures read { switch < P.switch_count port.old →
-        IsTableRead P.commands P.unanswered port.old port.new switch link result }
+        IsTableRead P.commands P.switch_count P.unanswered port.old port.new switch link result }
+    ensures due { switch < P.switch_count port.old →
+        Outcome P.due any_value (table_made switch) port.old (table_peeks switch link) result port.new }
     ensures came { CameBy P.commands P.shown port.old port.new }
 {
     if switch >= port.switches() {

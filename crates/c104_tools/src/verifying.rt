@@ -2,6 +2,7 @@
 ghost use Rattle.std.specs.Prelude.{◌≡◌, ◌≢◌, ◌↔◌, Err, length};
 ghost use Rattle.c104_tools.specs.declared.faults.LoadFault.TheVariants as fault;
 ghost use Rattle.c104_tools.specs.Loads.{due_entry, due_value, peeks, steps_from, switch_peeks, verify_list};
+ghost use Rattle.c104_tools.specs.Outcomes.{Outcome, due_value_only, nothing_made};
 ghost use Rattle.c104_tools.specs.Ports.{CameBy};
 ghost use Rattle.c104_tools.specs.Steps.{Compared};
 
@@ -29,7 +30,8 @@ fn verify_switch<P: ControlPort>(
     switch: usize,
     kept: &SwitchImage,
 ) -> Result<(), LoadFault>
-    ensures performed { Compared P.commands P.unanswered port.old port.new (switch_peeks switch kept.now) result }
+    ensures performed { Compared P.commands P.switch_count P.unanswered port.old port.new (switch_peeks switch kept.now) result }
+    ensures due { Outcome P.due due_value_only nothing_made port.old (switch_peeks switch kept.now) result port.new }
     ensures went { CameBy P.commands P.shown port.old port.new }
     ensures count { P.switch_count port.new ≡ P.switch_count port.old }
 {
@@ -46,7 +48,8 @@ fn compare<P: ControlPort>(
     addr: u16,
     due: Option<u32>,
 ) -> Result<(), LoadFault>
-    ensures performed { Compared P.commands P.unanswered port.old port.new (peeks switch (due_entry addr due)) result }
+    ensures performed { Compared P.commands P.switch_count P.unanswered port.old port.new (peeks switch (due_entry addr due)) result }
+    ensures due { Outcome P.due due_value_only nothing_made port.old (peeks switch (due_entry addr due)) result port.new }
     ensures went { CameBy P.commands P.shown port.old port.new }
     ensures count { P.switch_count port.new ≡ P.switch_count port.old }
 {
@@ -68,9 +71,11 @@ fn compare<P: ControlPort>(
 /// doesn't answer. Nothing is read after that.
 pub fn verify<P: ControlPort>(port: &mut P, image: &Image) -> Result<(), LoadFault>
     ensures unfitting { (result ≡ Err fault.NoSwitch) ↔ (P.switch_count port.old ≢ length image.now.settings) }
-    ensures not_asked { P.switch_count port.old ≢ length image.now.settings → P.commands port.new ≡ P.commands port.old }
+    ensures not_asked { P.switch_count port.old ≢ length image.now.settings → port.new ≡ port.old }
     ensures performed { P.switch_count port.old ≡ length image.now.settings →
-        Compared P.commands P.unanswered port.old port.new (verify_list image.now.settings) result }
+        Compared P.commands P.switch_count P.unanswered port.old port.new (verify_list image.now.settings) result }
+    ensures due { P.switch_count port.old ≡ length image.now.settings →
+        Outcome P.due due_value_only nothing_made port.old (verify_list image.now.settings) result port.new }
     ensures went { CameBy P.commands P.shown port.old port.new }
 {
     let kept = image.switches();
@@ -82,7 +87,8 @@ pub fn verify<P: ControlPort>(port: &mut P, image: &Image) -> Result<(), LoadFau
 
 /// The same of these switches of an image.
 fn verify_all<P: ControlPort>(port: &mut P, image: &[SwitchImage]) -> Result<(), LoadFault>
-    ensures performed { Compared P.commands P.unanswered port.old port.new (steps_from switch_peeks 0 image.now) result }
+    ensures performed { Compared P.commands P.switch_count P.unanswered port.old port.new (steps_from switch_peeks 0 image.now) result }
+    ensures due { Outcome P.due due_value_only nothing_made port.old (steps_from switch_peeks 0 image.now) result port.new }
     ensures went { CameBy P.commands P.shown port.old port.new }
 {
     for (switch, kept) in image.iter().enumerate() {

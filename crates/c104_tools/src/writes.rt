@@ -2,6 +2,7 @@
 ghost use Rattle.std.specs.Prelude.{◌≡◌, ◌↔◌, ◌≤◌, ◌<◌, Err};
 ghost use Rattle.c104_tools.specs.declared.faults.LoadFault.TheVariants as fault;
 ghost use Rattle.c104_tools.specs.Loads.{pokes};
+ghost use Rattle.c104_tools.specs.Outcomes.{Outcome, any_value, nothing_made};
 ghost use Rattle.c104_tools.specs.Ports.{CameBy};
 ghost use Rattle.c104_tools.specs.Steps.{CarriedOut};
 ghost use Rattle.std.specs.Prelude.{[], ◌∷◌};
@@ -22,9 +23,11 @@ pub fn write_register<P: ControlPort>(
     value: u32,
 ) -> Result<(), LoadFault>
     ensures unknown { (result ≡ Err fault.NoSwitch) ↔ (P.switch_count port.old ≤ switch) }
-    ensures not_asked { P.switch_count port.old ≤ switch → P.commands port.new ≡ P.commands port.old }
+    ensures not_asked { P.switch_count port.old ≤ switch → port.new ≡ port.old }
     ensures performed { switch < P.switch_count port.old →
-        CarriedOut P.commands P.unanswered port.old port.new (pokes switch ((addr, value) ∷ [])) result }
+        CarriedOut P.commands P.switch_count P.unanswered port.old port.new (pokes switch ((addr, value) ∷ [])) result }
+    ensures due { switch < P.switch_count port.old →
+        Outcome P.due any_value nothing_made port.old (pokes switch ((addr, value) ∷ [])) result port.new }
     ensures went { CameBy P.commands P.shown port.old port.new }
 {
     if switch >= port.switches() {

@@ -1,7 +1,10 @@
-use Rattle.std.proofs.Common.{◌∙◌, Ok, subst, sym}
+use Rattle.std.proofs.Common.{◌∙◌, Ok, ap, subst, sym}
 use Rattle.c104_event.specs.declared.events.Event.TheVariants as event
 use Rattle.c104_net.specs.NetRecords.{RecordsEvent}
+use Rattle.c104_net.specs.RecordedRuns.{AnswersRecord}
 use Rattle.c104_tools.proofs.NetAnswers.{by_switch, commands_grown, was_obeyed}
+use Rattle.c104_tools.proofs.NetRuns.{may_give}
+use Rattle.c104_tools.specs.NetOutcomes.{control_given}
 use Rattle.c104_tools.specs.NetCommands.{IsControlReply}
 use Rattle.c104_tools.proofs.nets.NetControlPort.command.Goals as goal
 
@@ -26,3 +29,10 @@ returns-clause-shown c =
     was_obeyed c.args.self.now c.apply-answer.new.self c.see_record.ensures c.see_record-2.ensures c.args.switch c.args.bytes.now c.control_bytes.result
     (subst (λ r. RecordsEvent c.args.self.now (event.Control c.args.switch c.args.bytes.now) (Ok r) c.apply-answer.new.self) c.control_bytes.ensures
     (subst (λ bytes. RecordsEvent c.args.self.now (event.Control c.args.switch bytes) (Ok c.in_ok-reply.reply) c.apply-answer.new.self) same c.in_ok-reply.ensures.recorded))
+
+-- what is given is what its event is answered
+pub returns-clause-due : goal.returns-clause-due
+returns-clause-due c =
+    let same = c.new.ensures ∙ c.as_slice.ensures.value in
+    may_give c.args.self.now c.apply-answer.new.self c.args.switch c.args.bytes.now (Ok c.in_ok-reply.reply) (Ok c.control_bytes.result) (ap control_given (ap Ok c.control_bytes.ensures))
+    (subst (λ bytes. AnswersRecord c.args.self.now (event.Control c.args.switch bytes) (Ok c.in_ok-reply.reply) c.apply-answer.new.self) same c.in_ok-reply.ensures.due)

@@ -1,0 +1,246 @@
+-- A load of a new network of a plan never meets a full trace: all its steps are fewer than a trace holds.
+use Rattle.std.proofs.Common.{◌≡◌, ◌<◌, ◌≤◌, ◌+◌, ◌*◌, ◌++◌, ℕ, zero, suc, Bool, true, false, Option, Some, None, Result, Ok, Err, MatchResult, inl, inr, List, [], ◌∷◌, if◌then◌else◌, length, map, nat_eq, nat_le, nat_lt, slice_get, slice_set, refl, sym, ap, subst, arith}
+use Rattle.std.proofs.lemmas.Bool.Decides.{nat_tests}
+use Rattle.std.proofs.lemmas.List.{length-append, length-map}
+use Rattle.std.specs.List.{cons_option, filter_map, range_with_len}
+use Rattle.c104_control.specs.declared.commands.Command.{Command}
+use Rattle.c104_control.specs.declared.commands.Command.TheVariants.{Start, Reset, CPoke}
+use Rattle.c104_control.specs.declared.replies.Answer.{Answer}
+use Rattle.c104_control.specs.declared.replies.Answer.TheVariants.{Started, WasReset, Identity, Value, Poked, Refused}
+use Rattle.c104_control.specs.Reading.{read_reply}
+use Rattle.c104_control.specs.Table.{command_bytes}
+use Rattle.c104_describe.specs.PlanImage.{Fits, Image}
+use Rattle.c104_describe.specs.Plans.{IsPlan, Plan}
+use Rattle.c104_event.specs.declared.events.Event.TheVariants as event
+use Rattle.c104_event.specs.declared.faults.EventFault.{EventFault}
+use Rattle.c104_event.specs.declared.faults.EventFault.TheVariants as event_fault
+use Rattle.c104_net.specs.Balance.{AreInPlace}
+use Rattle.c104_net.specs.NetRecords.{NetRecord, fresh_record}
+use Rattle.c104_net.specs.Network.{Network, network_apply, new_network, with_nodes}
+use Rattle.c104_net.specs.Stages.{is_kept_full, unless_full}
+use Rattle.c104_net.specs.Traces.{event_deeds, full_at, is_switch_at, kept_of, lone_deed, noted_all, noted_in, trace_limit}
+use Rattle.c104_net.specs.declared.acts.ActOf.{ActOf}
+use Rattle.c104_net.specs.declared.acts.ActOf.TheVariants as act
+use Rattle.c104_net.specs.declared.acts.Entry.{Entry}
+use Rattle.c104_net.specs.declared.node.NodeOf.TheVariants as node
+use Rattle.c104_regs.specs.declared.settings.Settings.{Settings}
+use Rattle.c104_regs.specs.KeptValues.{kept_entry, kept_values}
+use Rattle.c104_switch.specs.Actions.{Reply, is_ready}
+use Rattle.c104_switch.specs.Control.{switch_control}
+use Rattle.c104_switch.specs.declared.actions.ActionOf.TheVariants as action
+use Rattle.c104_switch.specs.declared.actions.ReplyOf.TheVariants as reply
+use Rattle.c104_token.specs.declared.tokens.Token.{Token}
+use Rattle.c104_token.specs.Kinds.{plain_kind}
+use Rattle.c104_tools.proofs.LoadSteps.{StepsBelow, below_load}
+use Rattle.c104_tools.proofs.NetLoads.{command_keeps, still_placed}
+use Rattle.c104_tools.proofs.NetSwitches.{stands_at}
+use Rattle.c104_tools.specs.declared.faults.LoadFault.{LoadFault}
+use Rattle.c104_tools.specs.declared.faults.LoadFault.TheVariants as fault
+use Rattle.c104_tools.specs.Loaded.{IsUnansweredFault}
+use Rattle.c104_tools.specs.Loads.{for_each, load_list, order, pokes, steps_from, switch_pokes}
+use Rattle.c104_tools.specs.NetOutcomes.{EndsSo, control_given, net_command, net_load}
+use Rattle.c104_tools.specs.Outcomes.{and_then, any_value, nothing_made, run_steps, step_result, told, unless_failed, with_value}
+use Rattle.c104_tools.specs.Steps.{Step, judged, may_refuse, named_address, told_value, value_or_bad}
+
+-- the port gave a reply to each command
+abbrev pub IsReplied : {X : Type 0} → Result X LoadFault → Type 0
+IsReplied (Ok x) = Unit {0}
+IsReplied (Err (fault.Refused s a n)) = Unit {0}
+IsReplied (Err (fault.Differs s a n)) = Unit {0}
+IsReplied (Err fault.NoSwitch) = Unit {0}
+IsReplied (Err (fault.Port e)) = ⊥
+IsReplied (Err (fault.BadReply s)) = Unit {0}
+
+-- so where a reply is judged
+value_replied : (switch : ℕ) (o : Option ℕ) → IsReplied (value_or_bad switch o)
+value_replied switch None = tt
+value_replied switch (Some v) = tt
+
+refused_replied : (switch a n : ℕ) (may : Bool) → IsReplied {X = ℕ} (if may then Err (fault.Refused switch a n) else Err (fault.BadReply switch))
+refused_replied switch a n true = tt
+refused_replied switch a n false = tt
+
+judged_replied : (switch : ℕ) (c : Command) (o : Option Answer) → IsReplied (judged switch c o)
+judged_replied switch c None = tt
+judged_replied switch c (Some (Refused n)) = refused_replied switch (named_address c) n (may_refuse c n)
+judged_replied switch c (Some Started) = value_replied switch (told_value c Started)
+judged_replied switch c (Some WasReset) = value_replied switch (told_value c WasReset)
+judged_replied switch c (Some (Identity n)) = value_replied switch (told_value c (Identity n))
+judged_replied switch c (Some (Value v)) = value_replied switch (told_value c (Value v))
+judged_replied switch c (Some Poked) = value_replied switch (told_value c Poked)
+
+then_replied : (t : Step) (x : Result ℕ LoadFault) → IsReplied x → IsReplied (and_then x (any_value t))
+then_replied t (Ok v) is = tt
+then_replied t (Err (fault.Refused s a n)) is = tt
+then_replied t (Err (fault.Differs s a n)) is = tt
+then_replied t (Err fault.NoSwitch) is = tt
+then_replied t (Err (fault.Port e)) is = is
+then_replied t (Err (fault.BadReply s)) is = tt
+
+with_replied : (v : ℕ) (rest : Result (List ℕ) LoadFault) → IsReplied rest → IsReplied (with_value v rest)
+with_replied v (Ok values) is = tt
+with_replied v (Err (fault.Refused s a n)) is = tt
+with_replied v (Err (fault.Differs s a n)) is = tt
+with_replied v (Err fault.NoSwitch) is = tt
+with_replied v (Err (fault.Port e)) is = is
+with_replied v (Err (fault.BadReply s)) is = tt
+
+made_replied : (read : Result (List ℕ) LoadFault) → IsReplied read → IsReplied (and_then read nothing_made)
+made_replied (Ok values) is = tt
+made_replied (Err (fault.Refused s a n)) is = tt
+made_replied (Err (fault.Differs s a n)) is = tt
+made_replied (Err fault.NoSwitch) is = tt
+made_replied (Err (fault.Port e)) is = is
+made_replied (Err (fault.BadReply s)) is = tt
+
+goes_replied : (x : Result ℕ LoadFault) (s : NetRecord) (f : NetRecord → Result (List ℕ) LoadFault × NetRecord) → IsReplied x → IsReplied (f s).0 → IsReplied (unless_failed x s f).0
+goes_replied (Ok v) s f is rest = with_replied v (f s).0 rest
+goes_replied (Err (fault.Refused a b c)) s f is rest = tt
+goes_replied (Err (fault.Differs a b c)) s f is rest = tt
+goes_replied (Err fault.NoSwitch) s f is rest = tt
+goes_replied (Err (fault.Port e)) s f is rest = is
+goes_replied (Err (fault.BadReply a)) s f is rest = tt
+
+-- traces have no more than so many entries
+abbrev AreShort : ℕ → List (List Entry) → Type 0
+AreShort n [] = Unit {0}
+AreShort n (trace ∷ traces) = (length trace ≤ n) × AreShort n traces
+
+still_short : (n : ℕ) (traces : List (List Entry)) → AreShort n traces → AreShort (n + 1) traces
+still_short n [] short = tt
+still_short n (trace ∷ traces) short = let few = short.0 in (omega (arith, few), still_short n traces short.1)
+
+none_yet : {X : Type 0} (nodes : List X) → AreShort 0 (map (λ x. []) nodes)
+none_yet [] = tt
+none_yet (x ∷ nodes) = (omega arith, none_yet nodes)
+
+set_short : (n : ℕ) (traces : List (List Entry)) (k : ℕ) (trace : List Entry) (e : Entry) → slice_get traces k ≡ Some trace → AreShort n traces → AreShort (n + 1) (slice_set traces k (trace ++ e ∷ []))
+set_short n [] k trace e is short = tt
+set_short n (t ∷ traces) zero trace e is short =
+    let same : t ≡ trace = cc in
+    let few : length trace ≤ n = subst (λ x. length x ≤ n) same short.0 in
+    let more = length-append trace (e ∷ []) in
+    (omega (arith, few, more), still_short n traces short.1)
+set_short n (t ∷ traces) (suc k) trace e is short = let few = short.0 in (omega (arith, few), set_short n traces k trace e is short.1)
+
+noted_short : (n : ℕ) (traces : List (List Entry)) (k : ℕ) (e : Entry) (o : Option (List Entry)) → slice_get traces k ≡ o → AreShort n traces → AreShort (n + 1) (noted_in true traces k e o)
+noted_short n traces k e None is short = still_short n traces short
+noted_short n traces k e (Some trace) is short = set_short n traces k trace e is short
+
+lone_short : (n : ℕ) (traces : List (List Entry)) (ticket k : ℕ) (a : ActOf Token) (r : Reply) (ready : Bool) → is_ready r ≡ ready → AreShort n traces → AreShort (n + 1) (noted_all true traces (lone_deed ticket k a r))
+lone_short n traces ticket k a r true is short = rw is (noted_short n traces k _ (slice_get traces k) refl short)
+lone_short n traces ticket k a r false is short = rw is (still_short n traces short)
+
+kept_short : (n : ℕ) (r : NetRecord) (k : ℕ) (bytes : List ℕ) (answer : Result Reply EventFault) → AreShort n r.traces → AreShort (n + 1) (noted_all true r.traces (kept_of (event_deeds (is_switch_at r.network.nodes) r.network.plan r.count (event.Control k bytes)) answer))
+kept_short n r k bytes (Ok told) short = lone_short n r.traces r.count k (act.Step (action.Control bytes)) told (is_ready told) refl short
+kept_short n r k bytes (Err f) short = still_short n r.traces short
+
+command_short : (n : ℕ) (r : NetRecord) (k : ℕ) (bytes : List ℕ) → AreShort n r.traces → AreShort (n + 1) (net_command r k bytes).1.traces
+command_short n r k bytes short = kept_short n r k bytes _ short
+
+-- so none is full
+not_full : (trace : List Entry) (n : ℕ) → length trace ≤ n → n < trace_limit → nat_le trace_limit (length trace) ≡ false
+not_full trace n few low = grind (arith, nat_tests)
+
+none_full : (n : ℕ) (traces : List (List Entry)) (k : ℕ) → n < trace_limit → AreShort n traces → full_at (map (is_kept_full true) traces) k ≡ false
+none_full n [] k low short = refl
+none_full n (trace ∷ traces) zero low short = not_full trace n short.0 low
+none_full n (trace ∷ traces) (suc k) low short = none_full n traces k low short.1
+
+-- a command of a switch is replied to
+abbrev Answered : Type 0
+Answered = Result Reply EventFault × Network Token
+
+module _ (r : NetRecord) (k : ℕ) (bytes : List ℕ) (are : AreInPlace r.network.plan r.network.nodes) (inside : k < length r.network.plan.switches) (n : ℕ) (low : n < trace_limit) (short : AreShort n r.traces) where
+  replied : (told : List ℕ) × ((net_command r k bytes).0 ≡ Ok told)
+  replied =
+      let net = r.network in
+      let at = stands_at (length net.plan.switches) (length net.plan.terminals) net.nodes are k inside in
+      let done = switch_control at.switch bytes in
+      let here : nat_lt k (length net.plan.switches) ≡ true = grind (arith, nat_tests) in
+      let made : network_apply plain_kind net (event.Control k bytes) ≡ (Ok (reply.Control done.0), with_nodes net (slice_set net.nodes k (node.Switch done.1))) = rw (here, at.there) refl in
+      (done.0, by_due (network_apply plain_kind net (event.Control k bytes)) done.0 (ap (λ (t : Answered). t.0) made) _ (none_full n r.traces k low short))
+    where
+      by_due : (due : Answered) (told : List ℕ) → due.0 ≡ Ok (reply.Control told) → (full : Bool) → full ≡ false → control_given (unless_full full r.network due).0 ≡ Ok told
+      by_due due told is true not = absurd (cc not)
+      by_due due told is false not = ap control_given is
+
+-- so a run of such steps, of few enough, is replied to throughout
+told_replied : (t : Step) (given : Result (List ℕ) EventFault) (bytes : List ℕ) → given ≡ Ok bytes → IsReplied (step_result any_value t given)
+told_replied t given bytes is =
+    subst (λ (g : Result (List ℕ) EventFault). IsReplied (step_result any_value t g)) (sym is)
+    (then_replied t (judged t.switch t.command (read_reply bytes)) (judged_replied t.switch t.command (read_reply bytes)))
+
+run_replied : (steps : List Step) (r : NetRecord) (n : ℕ) → AreInPlace r.network.plan r.network.nodes → AreShort n r.traces → n + length steps ≤ trace_limit → StepsBelow (length r.network.plan.switches) steps → IsReplied (run_steps net_command any_value r steps).0
+run_replied [] r n are short room below = tt
+run_replied (t ∷ steps) r n are short room below =
+    let bytes = command_bytes t.command in
+    let given = net_command r t.switch bytes in
+    let kept = command_keeps r t.switch bytes are in
+    let low : n < trace_limit = omega (arith, room) in
+    let left : n + 1 + length steps ≤ trace_limit = omega (arith, room) in
+    let told = replied r t.switch bytes are below.0 n low short in
+    goes_replied (step_result any_value t given.0) given.1 (λ next. run_steps net_command any_value next steps)
+    (told_replied t given.0 told.0 told.1)
+    (run_replied steps given.1 (n + 1) (still_placed r.network given.1.network are kept) (command_short n r t.switch bytes short) left
+    (subst (λ (p : Plan). StepsBelow (length p.switches) steps) (sym kept.plan) below.1))
+
+-- the steps of a load are few
+length_each : (c : Command) (a n : ℕ) → length (map (λ switch. order switch c) (range_with_len a n)) ≡ n
+length_each c a zero = refl
+length_each c a (suc n) = let rest = length_each c (a + 1) n in omega (arith, rest)
+
+few_entries : (h : ℕ → Option (ℕ × ℕ)) (a n : ℕ) → length (filter_map h (range_with_len a n)) ≤ n
+few_entries h a zero = omega arith
+few_entries h a (suc n) = by_one (h a) (few_entries h (a + 1) n)
+  where
+    by_one : (o : Option (ℕ × ℕ)) → length (filter_map h (range_with_len (a + 1) n)) ≤ n → length (cons_option o (filter_map h (range_with_len (a + 1) n))) ≤ suc n
+    by_one None few = omega (arith, few)
+    by_one (Some x) few = omega (arith, few)
+
+few_kept : (settings : List Settings) → length (kept_values settings) ≤ 8448
+unfolding kept_values
+few_kept settings = few_entries (kept_entry settings) 0 8448
+
+few_from : (n : ℕ) (image : List (List Settings)) → length (steps_from switch_pokes n image) ≤ length image * 8448
+few_from n [] = omega arith
+few_from n (settings ∷ image) =
+    let here : length (switch_pokes n settings) ≡ length (kept_values settings) = length-map (kept_values settings) (λ (x : ℕ × ℕ). order n (CPoke x.0 x.1)) in
+    let few = few_kept settings in
+    let rest = few_from (n + 1) image in
+    let both = length-append (switch_pokes n settings) (steps_from switch_pokes (n + 1) image) in
+    omega (arith, here, few, rest, both)
+
+few_steps : (image : List (List Settings)) → length image ≤ 64 → 0 + length (load_list image) ≤ 1048576
+few_steps image few =
+    let c = length image in
+    let one = length_each Reset 0 c in
+    let two = few_from 0 image in
+    let three = length_each Start 0 c in
+    let both = length-append (for_each c Reset) (steps_from switch_pokes 0 image) in
+    let all = length-append (for_each c Reset ++ steps_from switch_pokes 0 image) (for_each c Start) in
+    omega (arith, few, one, two, three, both, all)
+
+module _ (plan : Plan) (image : Image) (is_plan : IsPlan plan) (fits : Fits image plan) (in_place : AreInPlace plan (new_network {A = Token} plan).nodes) where
+  -- a load of a new network is replied to throughout
+  pub fresh_replied : IsReplied (net_load (fresh_record (new_network plan)) image).0
+  unfolding net_load
+  fresh_replied =
+      let same = fits.settings in
+      let few : length plan.switches ≤ 64 = is_plan.few_switches in
+      let counted : nat_eq (length plan.switches) (length image.settings) ≡ true = grind (arith, nat_tests) in
+      rw counted
+      (made_replied (run_steps net_command any_value (fresh_record (new_network plan)) (load_list image.settings)).0
+      (run_replied (load_list image.settings) (fresh_record (new_network plan)) 0 in_place (none_yet (new_network {A = Token} plan).nodes) (few_steps image.settings (omega (arith, same, few)))
+      (subst (λ n. StepsBelow n (load_list image.settings)) same (below_load image.settings))))
+
+  -- so it is done, or out of memory
+  pub fresh_load : (result : Result (Unit {0}) LoadFault) (after : NetRecord) → EndsSo (net_load (fresh_record (new_network plan)) image) result after → MatchResult result (λ _. Unit {0}) IsUnansweredFault → MatchResult result (λ u. ◌≡◌ {A = Result (Unit {0}) LoadFault × NetRecord} (Ok u, after) (net_load (fresh_record (new_network plan)) image)) (λ f. f ≡ fault.Port event_fault.NoMemory)
+  fresh_load (Ok u) after (inl due) answered = due
+  fresh_load (Ok u) after (inr none) answered = absurd (cc none)
+  fresh_load (Err f) after (inr none) answered = let same : f ≡ fault.Port event_fault.NoMemory = cc in same
+  fresh_load (Err (fault.Port e)) after (inl due) answered = absurd (subst IsReplied (sym (ap (λ (x : Result (Unit {0}) LoadFault × NetRecord). x.0) due)) fresh_replied)
+  fresh_load (Err (fault.Refused s a n)) after (inl due) answered = absurd answered
+  fresh_load (Err (fault.Differs s a n)) after (inl due) answered = absurd answered
+  fresh_load (Err fault.NoSwitch) after (inl due) answered = absurd answered
+  fresh_load (Err (fault.BadReply s)) after (inl due) answered = absurd answered

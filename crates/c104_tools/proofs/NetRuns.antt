@@ -1,0 +1,123 @@
+-- What comes of steps on a network with its record is what its record tells, unless memory runs out.
+use Rattle.std.proofs.Common.{◌≡◌, ◌≢◌, ◌↔◌, ◌⊎◌, ◌<◌, ◌≤◌, ℕ, Bool, true, false, List, [], ◌∷◌, Result, Ok, Err, if◌then◌else◌, inl, inr, length, nat_eq, nat_lt, refl, sym, ap, ◌∙◌, subst, arith}
+use Rattle.std.proofs.lemmas.Bool.Decides.{nat_tests}
+use Rattle.c104_control.specs.Table.{command_bytes}
+use Rattle.c104_describe.specs.PlanImage.{Image}
+use Rattle.c104_event.specs.declared.events.Event.TheVariants as event
+use Rattle.c104_event.specs.declared.faults.EventFault.{EventFault}
+use Rattle.c104_event.specs.declared.faults.EventFault.TheVariants as event_fault
+use Rattle.c104_interval.specs.declared.intervals.Table.{Table}
+use Rattle.c104_net.specs.NetRecords.{NetRecord}
+use Rattle.c104_net.specs.RecordedRuns.{AnswersRecord}
+use Rattle.c104_switch.specs.Actions.{Reply}
+use Rattle.c104_tools.specs.declared.faults.LoadFault.{LoadFault}
+use Rattle.c104_tools.specs.declared.faults.LoadFault.TheVariants as fault
+use Rattle.c104_tools.specs.declared.reading.LinkNumbers.{LinkNumbers}
+use Rattle.c104_tools.specs.Loads.{load_list, pokes, verify_list}
+use Rattle.c104_tools.specs.NetCommands.{net_switch_count}
+use Rattle.c104_tools.specs.NetOutcomes.{EndsSo, MayGive, control_given, net_command, net_link, net_load, net_outcome, net_poke, net_table, net_verify}
+use Rattle.c104_tools.specs.Outcomes.{ComesTo, Given, GoesOn, Judge, Outcome, and_then, any_value, due_value_only, link_made, link_peeks, nothing_made, run_steps, step_result, table_made, table_peeks, unless_failed, with_value}
+use Rattle.c104_tools.specs.Steps.{Step}
+
+-- what a network may give for a command, by what its event is answered
+pub may_give : (r after : NetRecord) (k : ℕ) (bytes : List ℕ) (answer : Result Reply EventFault) (given : Given) → control_given answer ≡ given → AnswersRecord r (event.Control k bytes) answer after → MayGive r k bytes given after
+may_give r after k bytes answer given is (inl due) = inl (ap (λ (g : Given). (g, after)) (sym is) ∙ ap (λ (x : Result Reply EventFault × NetRecord). (control_given x.0, x.1)) due)
+may_give r after k bytes answer given is (inr (none, wanted, same)) = inr (sym is ∙ ap control_given none, wanted, same)
+
+abbrev Read : Type 0
+Read = Result (List ℕ) LoadFault
+
+abbrev out_of_memory : {X : Type 0} → Result X LoadFault
+out_of_memory = Err (fault.Port event_fault.NoMemory)
+
+-- an end that is due, or short of it
+abbrev Follows : {X : Type 0} → Result X LoadFault × NetRecord → Result X LoadFault → NetRecord → Type 0
+Follows {X} due result after = (◌≡◌ {A = Result X LoadFault × NetRecord} (result, after) due) ⊎ (result ≡ out_of_memory)
+
+module _ (judge : Judge) where
+  -- one step, and those after it
+  module _ (next after : NetRecord) (more : NetRecord → Read → Type 0) (f : NetRecord → Read × NetRecord) (each : (rest : Read) → more next rest → Follows (f next) rest after) where
+    value_follows : (v : ℕ) (rest result : Read) → result ≡ with_value v rest → Follows (f next) rest after → Follows (with_value v (f next).0, (f next).1) result after
+    value_follows v rest result is (inl due) = inl (ap (λ (x : Read). (x, after)) is ∙ ap (λ (x : Read × NetRecord). (with_value v x.0, x.1)) due)
+    value_follows v rest result is (inr none) = inr (is ∙ ap (with_value v) none)
+
+    goes_so : (x : Result ℕ LoadFault) (result : Read) → GoesOn x next result after more → Follows (unless_failed x next f) result after
+    goes_so (Ok v) result (rest, is, came) = value_follows v rest result is (each rest came)
+    goes_so (Err e) result (is, same) = inl (ap (λ (x : Read). (x, after)) is ∙ ap (λ (x : NetRecord). (Err e, x)) same)
+
+  pub net_follows : (steps : List Step) (r : NetRecord) (result : Read) (after : NetRecord) → ComesTo MayGive judge r steps result after → Follows (run_steps net_command judge r steps) result after
+  net_follows [] r result after (is, same) = inl (ap (λ (x : Read). (x, after)) is ∙ ap (λ (x : NetRecord). (Ok [], x)) same)
+  net_follows (t ∷ steps) r result after (given, next, gave, goes) = by_given (λ rest came. net_follows steps next rest after came) gave
+    where
+      by_given : ((rest : Read) → ComesTo MayGive judge next steps rest after → Follows (run_steps net_command judge next steps) rest after) → MayGive r t.switch (command_bytes t.command) given next → Follows (run_steps net_command judge r (t ∷ steps)) result after
+      by_given each (inl due) =
+          subst (λ (x : Given × NetRecord). Follows (unless_failed (step_result judge t x.0) x.1 (λ s. run_steps net_command judge s steps)) result after) due
+          (goes_so next after (λ s rest. ComesTo MayGive judge s steps rest after) (λ s. run_steps net_command judge s steps) each (step_result judge t given) result goes)
+      by_given each (inr (none, wanted, same)) =
+          let stopped : GoesOn {P = NetRecord} (step_result judge t (Err event_fault.NoMemory)) next result after (λ s rest. ComesTo MayGive judge s steps rest after) = subst (λ (g : Given). GoesOn (step_result judge t g) next result after (λ s rest. ComesTo MayGive judge s steps rest after)) none goes in
+          inr stopped.0
+
+  module _ {X : Type 0} (make : List ℕ → Result X LoadFault) (r after : NetRecord) (steps : List Step) (result : Result X LoadFault) where
+    made_so : (read : Read) → result ≡ and_then read make → Follows (run_steps net_command judge r steps) read after → EndsSo (net_outcome judge make r steps) result after
+    made_so read is (inl due) = inl (ap (λ (x : Result X LoadFault). (x, after)) is ∙ ap (λ (x : Read × NetRecord). (and_then x.0 make, x.1)) due)
+    made_so read is (inr none) = inr (is ∙ ap (λ (x : Read). and_then x make) none)
+
+    pub outcome_ends : Outcome MayGive judge make r steps result after → EndsSo (net_outcome judge make r steps) result after
+    outcome_ends out = made_so out.read out.made (net_follows steps r out.read after out.came)
+
+-- a call that is told there is no such switch, or else asks its steps
+module _ {X : Type 0} (r after : NetRecord) (result : Result X LoadFault) (due : Result X LoadFault × NetRecord) where
+  by_test : (fits : Bool) → (fits ≡ false → (result ≡ Err fault.NoSwitch) × (after ≡ r)) → (fits ≡ true → EndsSo due result after) → EndsSo (if fits then due else (Err fault.NoSwitch, r)) result after
+  by_test true refused asked = asked refl
+  by_test false refused asked = inl (ap (λ (x : Result X LoadFault). (x, after)) (refused refl).0 ∙ ap (λ (x : NetRecord). (Err fault.NoSwitch, x)) (refused refl).1)
+
+-- the numbers of switches are tested
+differ : (a b : ℕ) → nat_eq a b ≡ false → a ≢ b
+differ a b is same = absurd (grind (arith, nat_tests))
+
+equal : (a b : ℕ) → nat_eq a b ≡ true → a ≡ b
+equal a b is = grind (arith, nat_tests)
+
+past : (a b : ℕ) → nat_lt a b ≡ false → b ≤ a
+past a b is = grind (arith, nat_tests)
+
+below : (a b : ℕ) → nat_lt a b ≡ true → a < b
+below a b is = grind (arith, nat_tests)
+
+-- what each call of the loader and the debugger says of a network, by its clauses
+module _ (r after : NetRecord) where
+  module _ (image : Image) (result : Result (Unit {0}) LoadFault) (unfitting : (result ≡ Err fault.NoSwitch) ↔ (net_switch_count r ≢ length image.settings)) (not_asked : net_switch_count r ≢ length image.settings → after ≡ r) where
+    refused : nat_eq (net_switch_count r) (length image.settings) ≡ false → (result ≡ Err fault.NoSwitch) × (after ≡ r)
+    refused is = let no = differ (net_switch_count r) (length image.settings) is in (unfitting.1 no, not_asked no)
+
+    pub load_ends : (net_switch_count r ≡ length image.settings → Outcome MayGive any_value nothing_made r (load_list image.settings) result after) → EndsSo (net_load r image) result after
+    unfolding net_load
+    load_ends due =
+        by_test r after result (net_outcome any_value nothing_made r (load_list image.settings)) (nat_eq (net_switch_count r) (length image.settings)) refused
+        (λ is. outcome_ends any_value nothing_made r after (load_list image.settings) result (due (equal (net_switch_count r) (length image.settings) is)))
+
+    pub verify_ends : (net_switch_count r ≡ length image.settings → Outcome MayGive due_value_only nothing_made r (verify_list image.settings) result after) → EndsSo (net_verify r image) result after
+    unfolding net_verify
+    verify_ends due =
+        by_test r after result (net_outcome due_value_only nothing_made r (verify_list image.settings)) (nat_eq (net_switch_count r) (length image.settings)) refused
+        (λ is. outcome_ends due_value_only nothing_made r after (verify_list image.settings) result (due (equal (net_switch_count r) (length image.settings) is)))
+
+  module _ {X : Type 0} (switch : ℕ) (result : Result X LoadFault) (unknown : (result ≡ Err fault.NoSwitch) ↔ (net_switch_count r ≤ switch)) (not_asked : net_switch_count r ≤ switch → after ≡ r) where
+    called : (judge : Judge) (make : List ℕ → Result X LoadFault) (steps : List Step) → (switch < net_switch_count r → Outcome MayGive judge make r steps result after) → EndsSo (if nat_lt switch (net_switch_count r) then net_outcome judge make r steps else (Err fault.NoSwitch, r)) result after
+    called judge make steps due =
+        by_test r after result (net_outcome judge make r steps) (nat_lt switch (net_switch_count r))
+        (λ is. let no = past switch (net_switch_count r) is in (unknown.1 no, not_asked no))
+        (λ is. outcome_ends judge make r after steps result (due (below switch (net_switch_count r) is)))
+
+  module _ (switch : ℕ) where
+    pub poke_ends : (addr value : ℕ) (result : Result (Unit {0}) LoadFault) → (result ≡ Err fault.NoSwitch) ↔ (net_switch_count r ≤ switch) → (net_switch_count r ≤ switch → after ≡ r) → (switch < net_switch_count r → Outcome MayGive any_value nothing_made r (pokes switch ((addr, value) ∷ [])) result after) → EndsSo (net_poke r switch addr value) result after
+    unfolding net_poke
+    poke_ends addr value result unknown not_asked due = called switch result unknown not_asked any_value nothing_made (pokes switch ((addr, value) ∷ [])) due
+
+    pub link_ends : (link : ℕ) (result : Result LinkNumbers LoadFault) → (result ≡ Err fault.NoSwitch) ↔ (net_switch_count r ≤ switch) → (net_switch_count r ≤ switch → after ≡ r) → (switch < net_switch_count r → Outcome MayGive any_value link_made r (link_peeks switch link) result after) → EndsSo (net_link r switch link) result after
+    unfolding net_link
+    link_ends link result unknown not_asked due = called switch result unknown not_asked any_value link_made (link_peeks switch link) due
+
+    pub table_ends : (link : ℕ) (result : Result Table LoadFault) → (result ≡ Err fault.NoSwitch) ↔ (net_switch_count r ≤ switch) → (net_switch_count r ≤ switch → after ≡ r) → (switch < net_switch_count r → Outcome MayGive any_value (table_made switch) r (table_peeks switch link) result after) → EndsSo (net_table r switch link) result after
+    unfolding net_table
+    table_ends link result unknown not_asked due = called switch result unknown not_asked any_value (table_made switch) (table_peeks switch link) due
