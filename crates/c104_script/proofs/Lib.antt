@@ -1,4 +1,6 @@
 pub mod FirstPart
 mod FirstWord
 pub mod ControlLine
+pub mod HexNumbers
+pub mod ResetRows
 pub mod PartsLaw

@@ -1,4 +1,6 @@
 pub mod Parts
+pub mod HexWords
 pub mod Script
+pub mod Findings
 pub mod Texts
 pub mod TextLines

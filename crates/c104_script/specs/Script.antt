@@ -24,8 +24,13 @@ pub use Rattle.c104_script.specs.declared.faults.LineFault.{LineFault}
 use Rattle.c104_script.specs.declared.faults.LineFault.TheVariants as fault
 pub use Rattle.c104_script.specs.declared.words.Verb.{Verb}
 use Rattle.c104_script.specs.declared.words.Verb.TheVariants as verb
+pub use Rattle.c104_script.specs.declared.words.ProbeVerb.{ProbeVerb}
+use Rattle.c104_script.specs.declared.words.ProbeVerb.TheVariants as asks
 pub use Rattle.c104_script.specs.declared.places.Request.{Request}
-use Rattle.c104_script.specs.declared.places.Request.TheVariants.{Asked, Refused, Rounds}
+use Rattle.c104_script.specs.declared.places.Request.TheVariants.{Asked, Refused, Rounds, Probed}
+pub use Rattle.c104_script.specs.declared.probes.Probe.{Probe}
+use Rattle.c104_script.specs.declared.probes.Probe.TheVariants as probe
+use Rattle.c104_script.specs.HexWords.{address_word, register_word}
 
 -- the number that a word spells, or that it spells none
 abbrev pub number_word : List ℕ → Result ℕ LineFault
@@ -166,7 +171,58 @@ rounds_line count_word = do
   require (nat_le 1 count && nat_le count most_rounds) fault.BadNumber
   Ok (Rounds count)
 
--- the words with which lines begin
+-- what is asked of what was found, or the refusal where nothing was
+abbrev pub probe_of : {X : Type 0} → Result X EventFault → (X → Probe) → Request
+probe_of (Ok x) f = Probed (f x)
+probe_of (Err kind) f = Refused kind
+
+-- `peek S ADDR`
+abbrev pub peek_line : Plan → List ℕ → List ℕ → Result Request LineFault
+peek_line plan node addr_word = do
+  place ← place_word node
+  addr ← address_word addr_word
+  Ok (probe_of (switch_at plan place) (λ s. probe.Peek s addr))
+
+-- `poke S ADDR VALUE`
+abbrev pub poke_line : Plan → List ℕ → List ℕ → List ℕ → Result Request LineFault
+poke_line plan node addr_word value_word = do
+  place ← place_word node
+  addr ← address_word addr_word
+  value ← register_word value_word
+  Ok (probe_of (switch_at plan place) (λ s. probe.Poke s addr value))
+
+-- `link S.l`
+abbrev pub link_line : Plan → List ℕ → Result Request LineFault
+link_line plan node = do
+  place ← place_word node
+  Ok (probe_of (input_at plan place) (λ r. probe.Link r.0 r.1))
+
+-- `table S.l`
+abbrev pub table_line : Plan → List ℕ → Result Request LineFault
+table_line plan node = do
+  place ← place_word node
+  Ok (probe_of (input_at plan place) (λ r. probe.Table r.0 r.1))
+
+-- a line of the debugger, by what its first word asks for and the words after it
+abbrev pub probe_line : ProbeVerb → Plan → List (List ℕ) → Result Request LineFault
+probe_line asks.Peek plan (node ∷ addr_word ∷ []) = peek_line plan node addr_word
+probe_line asks.Poke plan (node ∷ addr_word ∷ value_word ∷ []) = poke_line plan node addr_word value_word
+probe_line asks.Link plan (node ∷ []) = link_line plan node
+probe_line asks.Table plan (node ∷ []) = table_line plan node
+probe_line asks.Verify plan [] = Ok (Probed probe.Verify)
+probe_line verb plan rest = Err fault.BadShape
+
+-- the words with which lines of the debugger begin
+abbrev pub probe_verbs : List (List ℕ × ProbeVerb)
+probe_verbs =
+    (codes "peek", asks.Peek)
+    ∷ (codes "poke", asks.Poke)
+    ∷ (codes "link", asks.Link)
+    ∷ (codes "table", asks.Table)
+    ∷ (codes "verify", asks.Verify)
+    ∷ []
+
+-- the words with which other lines begin
 abbrev pub verbs : List (List ℕ × Verb)
 verbs =
     (codes "send", verb.Send)
@@ -179,9 +235,22 @@ verbs =
     ∷ (codes "rounds", verb.Rounds)
     ∷ []
 
+-- what the first word of a line asks of the debugger
+abbrev pub probe_verb_of : List ℕ → Option ProbeVerb
+probe_verb_of word = lookup (λ known. bytes_eq known word) probe_verbs
+
+-- what the first word of another line asks for
+abbrev pub other_verb_of : List ℕ → Option Verb
+other_verb_of word = lookup (λ known. bytes_eq known word) verbs
+
+-- the debugger's, or else the other
+abbrev pub either_verb : Option ProbeVerb → Option Verb → Option Verb
+either_verb (Some asked) other = Some (verb.Probe asked)
+either_verb None other = other
+
 -- what the first word of a line asks for
 abbrev pub verb_of : List ℕ → Option Verb
-verb_of word = lookup (λ known. bytes_eq known word) verbs
+verb_of word = either_verb (probe_verb_of word) (other_verb_of word)
 
 -- a line, by what its first word asks for and the words after it
 abbrev pub verb_line : Verb → Plan → List (List ℕ) → Result Request LineFault
@@ -194,6 +263,7 @@ verb_line verb.Input plan (node ∷ word ∷ []) = input_line plan node (number_
 verb_line verb.Claim plan (node ∷ input_word ∷ output_word ∷ []) = claim_line plan node input_word output_word
 verb_line verb.Control plan (node ∷ byte_words) = control_line plan node byte_words
 verb_line verb.Rounds plan (count_word ∷ []) = rounds_line count_word
+verb_line (verb.Probe word) plan rest = probe_line word plan rest
 verb_line verb plan rest = Err fault.BadShape
 
 -- a line with words

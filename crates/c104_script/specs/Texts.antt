@@ -1,10 +1,10 @@
 -- What is printed: tokens, replies, refusals and faults.
-use Rattle.std.specs.Prelude.{ℕ, ◌/◌, ◌%◌, List, [], ◌∷◌, ◌++◌, flat_map, codes}
+use Rattle.std.specs.Prelude.{ℕ, List, ◌∷◌, ◌++◌, flat_map, codes}
 use Rattle.std.specs.Fmt.{decimal}
 use Rattle.c104_token.specs.declared.tokens.Token.{Token}
 use Rattle.c104_token.specs.declared.tokens.Token.TheVariants as token
 use Rattle.c104_token.specs.declared.tokens.Mark.TheVariants as mark
-use Rattle.c104_token.specs.Text.{hex_digit, mark_word}
+use Rattle.c104_token.specs.Text.{mark_word}
 use Rattle.c104_switch.specs.Actions.{Reply}
 use Rattle.c104_switch.specs.declared.actions.ReplyOf.TheVariants as reply
 use Rattle.c104_event.specs.EventFaults.{event_fault_number, event_fault_name}
@@ -12,8 +12,9 @@ use Rattle.c104_describe.specs.declared.faults.PlanFault.{PlanFault}
 use Rattle.c104_describe.specs.PlanFaults.{plan_fault_number, plan_fault_name}
 use Rattle.c104_script.specs.declared.faults.LineFault.{LineFault}
 use Rattle.c104_script.specs.declared.faults.LineFault.TheVariants as fault
+use Rattle.c104_script.specs.Findings.{byte_text, fault_words, finding_text}
 pub use Rattle.c104_script.specs.declared.answers.Answer.{Answer}
-use Rattle.c104_script.specs.declared.answers.Answer.TheVariants.{Replied, Refused, Faulty}
+use Rattle.c104_script.specs.declared.answers.Answer.TheVariants.{Replied, Refused, Found, Faulty}
 
 -- the number that is printed
 abbrev pub line_fault_number : LineFault → ℕ
@@ -39,10 +40,6 @@ line_fault_name fault.AfterEnd = codes "AfterEnd"
 line_fault_name fault.PacketTooLong = codes "PacketTooLong"
 line_fault_name fault.NoMemory = codes "NoMemory"
 
--- a byte: its two hexadecimal digits
-abbrev pub byte_text : ℕ → List ℕ
-byte_text byte = hex_digit (byte / 16) ∷ hex_digit (byte % 16) ∷ []
-
 -- a token: a byte, or its terminator's word
 abbrev pub token_text : Token → List ℕ
 token_text (token.Byte byte) = byte_text byte
@@ -60,14 +57,11 @@ reply_text reply.NotReady = codes "not ready"
 reply_text (reply.Token x) = codes "token " ++ token_text x
 reply_text (reply.Control bytes) = codes "control" ++ flat_map spaced_byte bytes
 
--- a fault, by its number and name
-abbrev pub fault_words : ℕ → List ℕ → List ℕ
-fault_words number name = decimal number ++ (codes " " ++ name)
-
--- what an answer is printed as: a reply, or a refusal or a line's fault by its number and name
+-- what an answer is printed as: a reply, what was found, or a refusal or a line's fault by its number and name
 abbrev pub answer_text : Answer → List ℕ
 answer_text (Replied r) = reply_text r
 answer_text (Refused kind) = codes "refused " ++ fault_words (event_fault_number kind) (event_fault_name kind)
+answer_text (Found it) = finding_text it
 answer_text (Faulty kind) = codes "fault " ++ fault_words (line_fault_number kind) (line_fault_name kind)
 
 -- the line of an answer, by the number of the line that it answers

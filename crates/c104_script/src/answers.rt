@@ -1,9 +1,11 @@
 //! What answers a line, and how it is printed.
 ghost use Rattle.std.specs.Prelude.{◌≡◌, ◌++◌, OnOk, decimal};
 ghost use Rattle.c104_switch.specs.declared.actions.ReplyOf.TheVariants as reply;
-ghost use Rattle.c104_script.specs.Texts.{answer_line, byte_text, fault_words, reply_text};
+ghost use Rattle.c104_script.specs.Findings.{byte_text, fault_words};
+ghost use Rattle.c104_script.specs.Texts.{answer_line, reply_text};
 
 use crate::faults::LineFault;
+use crate::findings::{Finding, add_finding};
 use c104_control::ControlBytes;
 use c104_event::EventFault;
 use c104_switch::Reply;
@@ -17,6 +19,8 @@ pub enum Answer {
     Replied(Reply),
     /// What was asked is refused.
     Refused(EventFault),
+    /// This was found at the switches.
+    Found(Finding),
     /// The line is faulty, and asks nothing.
     Faulty(LineFault),
 }
@@ -33,6 +37,7 @@ pub fn add_answer(number: usize, answer: &Answer, text: &mut Vec<u8>) -> Result<
             text.extend_from_slice(b"refused ")?;
             add_fault(fault.number(), fault.name(), text)?;
         }
+        Answer::Found(finding) => add_finding(finding, text)?,
         Answer::Faulty(fault) => {
             text.extend_from_slice(b"fault ")?;
             add_fault(fault.number(), fault.name(), text)?;
@@ -43,7 +48,7 @@ pub fn add_answer(number: usize, answer: &Answer, text: &mut Vec<u8>) -> Result<
 }
 
 /// A number joins the text, in decimal digits.
-fn add_number(number: usize, text: &mut Vec<u8>) -> Result<(), NoMemory>
+pub(crate) fn add_number(number: usize, text: &mut Vec<u8>) -> Result<(), NoMemory>
     ensures { OnOk result (text.new.items ≡ text.old.items ++ decimal number) }
 {
     let mut digits = Buffer::new();
@@ -52,7 +57,7 @@ fn add_number(number: usize, text: &mut Vec<u8>) -> Result<(), NoMemory>
 }
 
 /// A fault's number and name join the text.
-fn add_fault(number: u8, name: &str, text: &mut Vec<u8>) -> Result<(), NoMemory>
+pub(crate) fn add_fault(number: u8, name: &str, text: &mut Vec<u8>) -> Result<(), NoMemory>
     ensures { OnOk result (text.new.items ≡ text.old.items ++ fault_words number name.now) }
 {
     add_number(usize::from(number), text)?;
@@ -100,7 +105,7 @@ fn add_control(bytes: &ControlBytes, text: &mut Vec<u8>) -> Result<(), NoMemory>
 }
 
 /// The two hexadecimal digits of a byte join the text.
-fn add_byte(byte: u8, text: &mut Vec<u8>) -> Result<(), NoMemory>
+pub(crate) fn add_byte(byte: u8, text: &mut Vec<u8>) -> Result<(), NoMemory>
     ensures { OnOk result (text.new.items ≡ text.old.items ++ byte_text byte) }
 {
     text.push(digit_of(byte / 16) as u8)?;

@@ -25,7 +25,8 @@ pub enum LineFault {
     /// A number is not 1 to 7 decimal digits.
     #[error("a number is 1 to 7 decimal digits")]
     BadNumber = 4,
-    /// A word of a packet is neither two hexadecimal digits nor a terminator.
+    /// A word of a packet is neither two hexadecimal digits nor a terminator, or a word of another line isn't
+    /// the hexadecimal digits that are asked for.
     #[error("a word is neither two hexadecimal digits nor `eop` or `eom`")]
     BadHex = 5,
     /// A packet has no terminator.

@@ -5,6 +5,7 @@ ghost use Rattle.c104_event.specs.declared.events.Event.TheVariants as event;
 
 use crate::faults::LineFault;
 use crate::places::{Request, find_input, find_port, find_switch, find_terminal};
+use crate::probe_lines::read_probe;
 use crate::words::{Verb, read_bytes, read_number_word, read_place, read_verb};
 use c104_control::MAX_CONTROL_BYTES;
 use c104_describe::{Plan, cut_words, is_plain, uncommented};
@@ -76,6 +77,7 @@ fn read_request(
         (Verb::Claim, [node, input, output]) => read_claim(plan, node, input, output),
         (Verb::Control, [node, bytes @ ..]) => read_control(plan, node, bytes),
         (Verb::Rounds, [count]) => read_rounds(count),
+        (Verb::Probe(verb), words) => read_probe(plan, verb, words),
         _ => Err(LineFault::BadShape),
     }
 }

@@ -2,6 +2,7 @@
 ghost use Rattle.std.specs.Prelude.{◌≡◌};
 ghost use Rattle.c104_script.specs.Script.{input_at, node_with, port_at, switch_at, terminal_at};
 
+use crate::probes::Probe;
 use crate::words::PlaceWord;
 use c104_describe::Plan;
 use c104_event::{Event, EventFault, Port};
@@ -13,6 +14,8 @@ pub enum Request {
     Asked(Event),
     /// So many rounds, 1 to 10,000.
     Rounds(u32),
+    /// What the debugger is to read or to set.
+    Probed(Probe),
     /// An event of a node that isn't there or of the wrong kind, or of a link where none is wanted
     /// or without one where one is.
     Refused(EventFault),

@@ -1,7 +1,7 @@
 //! The words of a script's line.
 ghost use Rattle.std.specs.Prelude.{◌≡◌, ◌≤◌, [], bytes_eq, length, map, Err, MatchResult, Ok};
 ghost use Rattle.std.specs.Map.{lookup};
-ghost use Rattle.c104_script.specs.Script.{bytes_after, number_word, place_word, verb_of};
+ghost use Rattle.c104_script.specs.Script.{bytes_after, number_word, other_verb_of, place_word, probe_verb_of, verb_of};
 
 use crate::faults::LineFault;
 use arrayvec::ArrayVec;
@@ -20,9 +20,20 @@ pub(crate) enum Verb {
     Claim,
     Control,
     Rounds,
+    Probe(ProbeVerb),
 }
 
-/// The words with which lines begin.
+/// What the first word of a line asks of the debugger.
+#[derive(Clone, Copy)]
+pub(crate) enum ProbeVerb {
+    Peek,
+    Poke,
+    Link,
+    Table,
+    Verify,
+}
+
+/// The words with which other lines begin.
 const VERBS: [(&[u8], Verb); 8] = [
     (b"send", Verb::Send),
     (b"drain", Verb::Drain),
@@ -32,6 +43,15 @@ const VERBS: [(&[u8], Verb); 8] = [
     (b"claim", Verb::Claim),
     (b"control", Verb::Control),
     (b"rounds", Verb::Rounds),
+];
+
+/// The words with which lines of the debugger begin.
+const PROBE_VERBS: [(&[u8], ProbeVerb); 5] = [
+    (b"peek", ProbeVerb::Peek),
+    (b"poke", ProbeVerb::Poke),
+    (b"link", ProbeVerb::Link),
+    (b"table", ProbeVerb::Table),
+    (b"verify", ProbeVerb::Verify),
 ];
 
 /// A node or a port as a line names it.
@@ -47,10 +67,28 @@ pub(crate) struct PlaceWord<'a> {
 pub(crate) fn read_verb(word: &[u8]) -> Option<Verb>
     ensures { result ≡ verb_of word.now }
 {
+    match read_probe_verb(word) {
+        Some(verb) => Some(Verb::Probe(verb)),
+        None => read_other_verb(word),
+    }
+}
+
+/// What a word asks of the debugger. None where no line of the debugger begins with it.
+fn read_probe_verb(word: &[u8]) -> Option<ProbeVerb>
+    ensures { result ≡ probe_verb_of word.now }
+{
+    verb_among(PROBE_VERBS.as_slice(), word)
+}
+
+/// What a word asks for, where it asks the debugger nothing. None where no such line begins with it.
+fn read_other_verb(word: &[u8]) -> Option<Verb>
+    ensures { result ≡ other_verb_of word.now }
+{
     verb_among(VERBS.as_slice(), word)
 }
 
-fn verb_among(known: &[(&[u8], Verb)], word: &[u8]) -> Option<Verb>
+/// What stands at a word in a table. None where the word isn't there.
+fn verb_among<V: Copy>(known: &[(&[u8], V)], word: &[u8]) -> Option<V>
     ensures { result ≡ lookup (λ text. bytes_eq text word.now)
         (map (λ row. (row.0.now, row.1)) known.now) }
 {

@@ -1,0 +1,8 @@
+-- The value of so many hexadecimal digits is small.
+use Rattle.std.proofs.Common.{ℕ, ◌^◌, ◌<◌, ◌≤◌, lit<, arith}
+use Rattle.std.proofs.Math.Nat.{pow-le-pow_right}
+
+pub below_most : (value digits most : ℕ) → value < 16 ^ digits → digits ≤ most → value < 16 ^ most
+below_most value digits most small few =
+    let more : 16 ^ digits ≤ 16 ^ most = pow-le-pow_right (lit< tt) few in
+    omega arith

@@ -1,0 +1,82 @@
+-- What is printed of what the debugger found.
+use Rattle.std.specs.Prelude.{ℕ, ◌/◌, ◌%◌, ◌==◌, ◌&&◌, Bool, true, false, List, [], ◌∷◌, ◌++◌, codes, if◌then◌else◌}
+use Rattle.std.specs.List.{list_all}
+use Rattle.std.specs.Fmt.{decimal}
+use Rattle.c104_describe.specs.PlanPrint.{select_text}
+use Rattle.c104_interval.specs.declared.intervals.Row.{Row}
+use Rattle.c104_interval.specs.declared.intervals.Select.{Select}
+use Rattle.c104_interval.specs.declared.intervals.Select.TheVariants.{Sink}
+use Rattle.c104_interval.specs.declared.intervals.Table.{Table}
+use Rattle.c104_regs.specs.declared.faults.RegFault.{RegFault}
+use Rattle.c104_regs.specs.Faults.{register_fault_number, register_fault_name}
+use Rattle.c104_token.specs.Text.{hex_digit}
+pub use Rattle.c104_script.specs.declared.findings.Finding.{Finding}
+use Rattle.c104_script.specs.declared.findings.Finding.TheVariants as finding
+
+-- a byte: its two hexadecimal digits
+abbrev pub byte_text : ℕ → List ℕ
+byte_text byte = hex_digit (byte / 16) ∷ hex_digit (byte % 16) ∷ []
+
+-- a fault, by its number and name
+abbrev pub fault_words : ℕ → List ℕ → List ℕ
+fault_words number name = decimal number ++ (codes " " ++ name)
+
+-- an address, or half a value: its four hexadecimal digits
+abbrev pub half_text : ℕ → List ℕ
+half_text half = byte_text (half / 0x100) ++ byte_text (half % 0x100)
+
+-- a value: its eight hexadecimal digits
+abbrev pub word_text : ℕ → List ℕ
+word_text value = half_text (value / 0x10000) ++ half_text (value % 0x10000)
+
+-- what a link tells of itself
+abbrev pub link_text : ℕ → ℕ → ℕ → ℕ → ℕ → ℕ → ℕ → List ℕ
+link_text input_level output_level credit granted owner sunk short =
+    (codes "in " ++ decimal input_level) ++ ((codes " out " ++ decimal output_level)
+    ++ ((codes " credit " ++ decimal credit) ++ ((codes " granted " ++ decimal granted)
+    ++ ((codes " owner " ++ decimal owner) ++ ((codes " sunk " ++ decimal sunk)
+    ++ (codes " short " ++ decimal short))))))
+
+-- whether this is the sink
+abbrev pub is_sink : Select → Bool
+is_sink Sink = true
+is_sink select = false
+
+-- whether a row is as after a reset
+abbrev pub is_reset_row : Row → Bool
+is_reset_row row = is_sink row.select && row.limit == 0
+
+-- a row: where its interval ends, and what it selects
+abbrev pub row_text : Row → List ℕ
+row_text row = (codes " " ++ decimal row.limit) ++ (codes ":" ++ select_text row.select)
+
+-- rows, up to the last that isn't as after a reset
+abbrev pub rows_text : List Row → List ℕ
+rows_text [] = []
+rows_text (row ∷ rows) = if list_all is_reset_row (row ∷ rows) then [] else row_text row ++ rows_text rows
+
+-- a table: its base and its rows
+abbrev pub table_text : Table → List ℕ
+table_text table = (codes "base " ++ decimal table.base) ++ (codes " rows" ++ rows_text table.rows)
+
+-- an address and a value
+abbrev pub register_text : ℕ → ℕ → List ℕ
+register_text addr value = codes " " ++ (half_text addr ++ (codes " " ++ word_text value))
+
+-- the register of the switch of this name at this address reads another value than was loaded
+abbrev pub difference_text : List ℕ → ℕ → ℕ → List ℕ
+difference_text switch addr value = codes "differs " ++ (switch ++ register_text addr value)
+
+-- why a register is refused
+abbrev pub refusal_text : RegFault → List ℕ
+refusal_text kind = codes "refused register " ++ fault_words (register_fault_number kind) (register_fault_name kind)
+
+-- what was found
+abbrev pub finding_text : Finding → List ℕ
+finding_text (finding.Value value) = word_text value
+finding_text (finding.Link input_level output_level credit granted owner sunk short) =
+    link_text input_level output_level credit granted owner sunk short
+finding_text (finding.Table table) = table_text table
+finding_text finding.Verified = codes "verified"
+finding_text (finding.Differs switch addr value) = difference_text switch addr value
+finding_text (finding.Refused kind) = refusal_text kind

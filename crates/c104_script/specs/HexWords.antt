@@ -1,0 +1,31 @@
+-- Words of hexadecimal digits.
+use Rattle.std.specs.Prelude.{ℕ, ◌+◌, ◌*◌, ◌&&◌, Bool, List, length, fold, nat_le, if◌then◌else◌, Option, Some, None, is_some, Result}
+use Rattle.std.specs.List.{list_all}
+use Rattle.std.specs.Option.{unwrap_or}
+use Rattle.c104_token.specs.Text.{hex_value}
+use Rattle.c104_describe.specs.Checks.{value_or_fault}
+use Rattle.c104_script.specs.declared.faults.LineFault.{LineFault}
+use Rattle.c104_script.specs.declared.faults.LineFault.TheVariants as fault
+
+-- a hexadecimal digit, of either case
+abbrev pub is_hex_digit : ℕ → Bool
+is_hex_digit byte = is_some (hex_value byte)
+
+-- the value of hexadecimal digits
+abbrev pub hex_digits_value : List ℕ → ℕ
+hex_digits_value digits = fold (λ value digit. 16 * value + unwrap_or (hex_value digit) 0) 0 digits
+
+-- the number that hexadecimal digits spell, at least one and at most so many
+abbrev pub hex_number : ℕ → List ℕ → Option ℕ
+hex_number most word =
+    if (nat_le 1 (length word) && nat_le (length word) most) && list_all is_hex_digit word
+    then Some (hex_digits_value word)
+    else None
+
+-- a register's address, in 1 to 4 digits, or that a word spells none
+abbrev pub address_word : List ℕ → Result ℕ LineFault
+address_word word = value_or_fault (hex_number 4 word) fault.BadHex
+
+-- a register's value, in 1 to 8 digits, or that a word spells none
+abbrev pub register_word : List ℕ → Result ℕ LineFault
+register_word word = value_or_fault (hex_number 8 word) fault.BadHex
