@@ -2,9 +2,12 @@
 //!
 //! An answer names a fault by its number and name. A message says what was wanted, and about which word:
 //! `description_message` of a faulty description, `fault_message` of a faulty line of a script and
-//! `refusal_message` of a refused one. `reason_message` says why what a line asked isn't ready, and
-//! `leftover_messages` at the end of a run what didn't arrive. The sentences are tables: one for
-//! descriptions, one for scripts, and one for what isn't ready.
+//! `refusal_message` of a refused one, and `register_message` of one whose register is refused. `reason_message`
+//! says why what a line asked isn't ready, and `leftover_messages` at the end of a run what didn't arrive. The
+//! sentences are tables: one for descriptions, one for scripts, and one for what isn't ready.
+//!
+//! Who types a script may ask between its lines: `is_question` tells such a line, and `question_message` what
+//! lines there are, or how a node of the network stands.
 //!
 //! `Messages` is what takes messages, with the line that each is `About`; `Silent` takes none. Nothing
 //! hangs on a message: it is left out where memory is short. What a message says of a reason is proved, and what
@@ -16,16 +19,19 @@ mod descriptions;
 mod leftovers;
 mod messages;
 mod nearest;
+mod questions;
 mod reason_sentences;
 mod reasons;
 mod script_mistakes;
 mod scripts;
+mod shown_nodes;
 mod words;
 
 pub use description_mistakes::DescriptionMistake;
 pub use descriptions::description_message;
 pub use leftovers::leftover_messages;
 pub use messages::{About, Behind, Messages, Silent};
+pub use questions::{is_question, question_message};
 pub use reasons::reason_message;
 pub use script_mistakes::ScriptMistake;
-pub use scripts::{fault_message, refusal_message};
+pub use scripts::{fault_message, refusal_message, register_message};

@@ -9,6 +9,8 @@ pub enum About {
     DescriptionLine(usize),
     /// A line of the script.
     ScriptLine(usize),
+    /// What was asked between the lines of a script.
+    Question,
     /// What a run has come to at its end.
     Run,
 }

@@ -16,12 +16,19 @@ pub enum ScriptMistake {
     ClaimLine,
     ControlLine,
     RoundsLine,
+    PeekLine,
+    PokeLine,
+    LinkLine,
+    TableLine,
+    VerifyLine,
     NoPort,
     NoLink,
     NoNumber,
     NoRounds,
     NoToken,
     NoByte,
+    NoAddress,
+    NoValue,
     NoEnd,
     AfterEnd,
     PacketTooLong,
@@ -36,6 +43,10 @@ pub enum ScriptMistake {
     OutboxFull,
     InboxFull,
     TraceFull,
+    NoRegister,
+    ReadOnly,
+    OutOfRange,
+    Busy,
 }
 
 impl ScriptMistake {
@@ -49,8 +60,8 @@ impl ScriptMistake {
             }
             ScriptMistake::ScriptBegan => "the script has begun already",
             ScriptMistake::NoWord => {
-                "a line begins with `send`, `drain`, `cross`, `credit`, `input`, `claim`, `control` or \
-                 `rounds`"
+                "a line begins with `send`, `drain`, `cross`, `credit`, `input`, `claim`, `control`, \
+                 `rounds`, `peek`, `poke`, `link`, `table` or `verify`"
             }
             ScriptMistake::WrongByte => {
                 "outside of a comment a byte is printable ASCII, a space, a tab or a carriage return"
@@ -67,6 +78,12 @@ impl ScriptMistake {
                 "the line is `control SWITCH`, and behind it stand at most 8 bytes"
             }
             ScriptMistake::RoundsLine => "the line is `rounds COUNT`",
+            ScriptMistake::PeekLine => "the line is `peek SWITCH ADDRESS`, as `peek A 0140`",
+            ScriptMistake::PokeLine =>
+                "the line is `poke SWITCH ADDRESS VALUE`, as `poke A 0140 5`",
+            ScriptMistake::LinkLine => "the line is `link SWITCH.LINK`",
+            ScriptMistake::TableLine => "the line is `table SWITCH.LINK`",
+            ScriptMistake::VerifyLine => "the line is `verify` alone",
             ScriptMistake::NoPort => "a port has one dot, as A.0",
             ScriptMistake::NoLink => "a link is 0 to 31",
             ScriptMistake::NoNumber => "a number is 1 to 7 decimal digits",
@@ -75,6 +92,8 @@ impl ScriptMistake {
                 "a byte of a packet is two hexadecimal digits, 00 to ff, and its end is `eop` or `eom`"
             }
             ScriptMistake::NoByte => "a byte is two hexadecimal digits, 00 to ff",
+            ScriptMistake::NoAddress => "an address is 1 to 4 hexadecimal digits",
+            ScriptMistake::NoValue => "a value is 1 to 8 hexadecimal digits",
             ScriptMistake::NoEnd => "a packet ends with `eop` or `eom`",
             ScriptMistake::AfterEnd => {
                 "a packet ends at its first `eop` or `eom`, and a line sends one packet"
@@ -98,6 +117,14 @@ impl ScriptMistake {
             }
             ScriptMistake::TraceFull => {
                 "1048576 entries are kept of a node, and there is room for no more"
+            }
+            ScriptMistake::NoRegister => "no register has this address",
+            ScriptMistake::ReadOnly => {
+                "the register tells what the switch does, and can't be set"
+            }
+            ScriptMistake::OutOfRange => "the register doesn't take this value",
+            ScriptMistake::Busy => {
+                "the mode of a link can't change while a packet is on its way through the link"
             }
         }
     }

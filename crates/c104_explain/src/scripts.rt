@@ -8,12 +8,16 @@ use crate::words::{
 };
 use c104_describe::{Plan, cut_words, read_number, uncommented};
 use c104_event::EventFault;
+use c104_regs::RegFault;
 use c104_script::LineFault;
 use c104_token::read_byte;
 use std::alloc::Global;
 
 /// The most words of a control line.
 const MAX_CONTROL_WORDS: usize = 10;
+
+/// The most digits of a register's address.
+const ADDRESS_DIGITS: usize = 4;
 
 /// What is told of a faulty line. None out of memory.
 pub fn fault_message(alloc: Global, line: &[u8], fault: LineFault) -> Option<String> {
@@ -35,6 +39,19 @@ pub fn refusal_message(
     find_refusal(fault, words.as_slice(), plan).text(alloc).ok()
 }
 
+/// What is told of a line whose register a switch refuses to read or to set. None out of memory.
+pub fn register_message(alloc: Global, line: &[u8], fault: RegFault) -> Option<String> {
+    let words = cut_words(alloc, uncommented(line)).ok()?;
+    let words = words.as_slice();
+    let mistake = match fault {
+        RegFault::NoRegister => told(ScriptMistake::NoRegister, word_at(words, 2)),
+        RegFault::ReadOnly => told(ScriptMistake::ReadOnly, word_at(words, 2)),
+        RegFault::OutOfRange => told(ScriptMistake::OutOfRange, word_at(words, 3)),
+        RegFault::Busy => told(ScriptMistake::Busy, word_at(words, 2)),
+    };
+    mistake.text(alloc).ok()
+}
+
 /// A mistake about a word.
 fn told(what: ScriptMistake, word: Option<&[u8]>) -> Mistake<'_> {
     Mistake::new(what.sentence(), word)
@@ -47,7 +64,7 @@ fn find_fault<'a>(fault: LineFault, words: &[&'a [u8]]) -> Mistake<'a> {
         LineFault::UnknownWord => first_word_mistake(word_at(words, 0)),
         LineFault::BadShape => shape_mistake(words),
         LineFault::BadNumber => number_mistake(words),
-        LineFault::BadHex => byte_mistake(words),
+        LineFault::BadHex => hex_mistake(words),
         LineFault::NoEnd => told(ScriptMistake::NoEnd, words.last().copied()),
         LineFault::AfterEnd => told(ScriptMistake::AfterEnd, word_after_end(words)),
         LineFault::PacketTooLong => told(ScriptMistake::PacketTooLong, None),
@@ -78,6 +95,11 @@ fn form_of(first: &[u8]) -> ScriptMistake {
         b"input" => ScriptMistake::InputLine,
         b"claim" => ScriptMistake::ClaimLine,
         b"control" => ScriptMistake::ControlLine,
+        b"peek" => ScriptMistake::PeekLine,
+        b"poke" => ScriptMistake::PokeLine,
+        b"link" => ScriptMistake::LinkLine,
+        b"table" => ScriptMistake::TableLine,
+        b"verify" => ScriptMistake::VerifyLine,
         _ => ScriptMistake::RoundsLine,
     }
 }
@@ -86,9 +108,11 @@ fn form_of(first: &[u8]) -> ScriptMistake {
 fn may_have(first: &[u8], count: usize) -> bool {
     match first {
         b"send" => count >= 2,
-        b"drain" | b"cross" | b"credit" | b"rounds" => count == 2,
+        b"drain" | b"cross" | b"credit" | b"rounds" | b"link" | b"table" => count == 2,
         b"input" => count == 2 || count == 3,
-        b"claim" => count == 4,
+        b"claim" | b"poke" => count == 4,
+        b"peek" => count == 3,
+        b"verify" => count == 1,
         _ => 2 <= count && count <= MAX_CONTROL_WORDS,
     }
 }
@@ -120,6 +144,25 @@ fn number_mistake<'a>(words: &[&'a [u8]]) -> Mistake<'a> {
         }
         _ => told(ScriptMistake::NoNumber, word_at(words, 3)),
     }
+}
+
+/// A word that isn't the hexadecimal digits that are asked for.
+fn hex_mistake<'a>(words: &[&'a [u8]]) -> Mistake<'a> {
+    match words {
+        [b"peek" | b"poke", _, addr, rest @ ..] => {
+            if is_hex(addr, ADDRESS_DIGITS) {
+                told(ScriptMistake::NoValue, word_at(rest, 0))
+            } else {
+                told(ScriptMistake::NoAddress, Some(*addr))
+            }
+        }
+        _ => byte_mistake(words),
+    }
+}
+
+/// Whether a word is of hexadecimal digits, at least one and at most so many.
+fn is_hex(word: &[u8], most: usize) -> bool {
+    !word.is_empty() && word.len() <= most && word.iter().all(|digit| digit.is_ascii_hexdigit())
 }
 
 /// A word that is no byte.
@@ -196,7 +239,7 @@ fn link_mistake<'a>(words: &[&'a [u8]], plan: &Plan) -> Mistake<'a> {
     if names_terminal(plan, node) {
         return told(ScriptMistake::TerminalsLink, Some(*node));
     }
-    if matches!(*first, b"claim" | b"control") {
+    if matches!(*first, b"claim" | b"control" | b"peek" | b"poke") {
         if has_dot(node) {
             return told(ScriptMistake::SwitchsLink, Some(*node));
         }

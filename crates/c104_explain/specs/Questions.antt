@@ -1,0 +1,12 @@
+-- What people ask where they type a script, beside its lines.
+use Rattle.std.specs.Prelude.{◌||◌, ℕ, Bool, false, List, Option, Some, None, bytes_eq, codes, slice_get}
+use Rattle.c104_describe.specs.TextCut.{uncommented_line, line_words}
+
+-- whether a question begins with this word
+abbrev pub asks : Option (List ℕ) → Bool
+asks None = false
+asks (Some word) = bytes_eq word (codes "help") || bytes_eq word (codes "show")
+
+-- a line is a question where its first word is `help` or `show`
+unfoldable pub is_question : List ℕ → Bool
+is_question line = asks (slice_get (line_words (uncommented_line line)) 0)
