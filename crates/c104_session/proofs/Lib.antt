@@ -1,6 +1,9 @@
 pub mod Printing
+pub mod PacketLines
 pub mod Lines
 pub mod LinesLaw
+pub mod Hearing
 pub mod ScriptSoFar
 pub mod ScriptEnds
 pub mod PlanRuns
+pub mod Starts

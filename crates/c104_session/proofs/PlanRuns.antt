@@ -8,6 +8,7 @@ use Rattle.c104_net.specs.FinishedRecords.{record_finish}
 use Rattle.c104_stream.specs.declared.halt.Halt.{Halt}
 use Rattle.c104_stream.specs.declared.halt.Halt.TheVariants as halt
 use Rattle.c104_session.specs.declared.session.Session.{Session}
+use Rattle.c104_session.specs.declared.asker.Asker.{Asker}
 use Rattle.c104_session.specs.Lines.{is_long}
 use Rattle.c104_stream.specs.Writing.{AppendsPrefix}
 use Rattle.c104_session.specs.Shown.{script_outcome, output_with_summary, new_session, summary}
@@ -27,51 +28,51 @@ ended_text true r = refl
 ended_text false r = refl
 
 -- the script came to no end
-pub plan_stops : (plan : Plan) (image : Image) (all left held holds : Option (List ℕ)) (after : Session) (kind : Halt) → AnswersScript (new_session plan image) all left held holds after (Err kind) → RunsPlan plan image all left held holds (Err kind)
-plan_stops plan image None left held holds after kind stopped = tt
-plan_stops plan image (Some script) left held holds after halt.CannotRead stopped = stopped
-plan_stops plan image (Some script) left held holds after halt.CannotWrite stopped =
-    let r : List ℕ × Session = script_outcome (new_session plan image) script in
+pub plan_stops : (asker : Asker) (plan : Plan) (image : Image) (all left held holds : Option (List ℕ)) (after : Session) (kind : Halt) → AnswersScript (new_session asker plan image) all left held holds after (Err kind) → RunsPlan asker plan image all left held holds (Err kind)
+plan_stops asker plan image None left held holds after kind stopped = tt
+plan_stops asker plan image (Some script) left held holds after halt.CannotRead stopped = stopped
+plan_stops asker plan image (Some script) left held holds after halt.CannotWrite stopped =
+    let r : List ℕ × Session = script_outcome (new_session asker plan image) script in
     subst (λ text. AppendsPrefix held holds text) (sym (ended_text (is_long script) r)) (prefix_longer held holds r.0 (after_answers (is_long script) r) stopped)
-plan_stops plan image (Some script) left held holds after halt.NoMemory stopped = stopped
+plan_stops asker plan image (Some script) left held holds after halt.NoMemory stopped = stopped
 
 -- the script is too long, and that was written, or a prefix of it
-pub long_ends : (plan : Plan) (image : Image) (all left held now holds : Option (List ℕ)) (after : Session) → AnswersScript (new_session plan image) all left held now after (Ok true) → Appends now holds script_too_long → RunsPlan plan image all left held holds (Ok true)
-long_ends plan image None left held now holds after answered wrote = tt
-long_ends plan image (Some script) left held now holds after answered wrote =
-    let r : List ℕ × Session = script_outcome (new_session plan image) script in (
+pub long_ends : (asker : Asker) (plan : Plan) (image : Image) (all left held now holds : Option (List ℕ)) (after : Session) → AnswersScript (new_session asker plan image) all left held now after (Ok true) → Appends now holds script_too_long → RunsPlan asker plan image all left held holds (Ok true)
+long_ends asker plan image None left held now holds after answered wrote = tt
+long_ends asker plan image (Some script) left held now holds after answered wrote =
+    let r : List ℕ × Session = script_outcome (new_session asker plan image) script in (
       subst (λ long. Appends held holds (output_with_summary long r).0) answered.0 (Appends-trans held now holds r.0 script_too_long answered.2 wrote),
       ap (λ long. (output_with_summary long r).1) answered.0,
     )
 
-pub long_stops : (plan : Plan) (image : Image) (all left held now holds : Option (List ℕ)) (after : Session) → AnswersScript (new_session plan image) all left held now after (Ok true) → AppendsPrefix now holds script_too_long → RunsPlan plan image all left held holds (Err halt.CannotWrite)
-long_stops plan image None left held now holds after answered wrote = tt
-long_stops plan image (Some script) left held now holds after answered wrote =
-    let r : List ℕ × Session = script_outcome (new_session plan image) script in
+pub long_stops : (asker : Asker) (plan : Plan) (image : Image) (all left held now holds : Option (List ℕ)) (after : Session) → AnswersScript (new_session asker plan image) all left held now after (Ok true) → AppendsPrefix now holds script_too_long → RunsPlan asker plan image all left held holds (Err halt.CannotWrite)
+long_stops asker plan image None left held now holds after answered wrote = tt
+long_stops asker plan image (Some script) left held now holds after answered wrote =
+    let r : List ℕ × Session = script_outcome (new_session asker plan image) script in
     subst (λ long. AppendsPrefix held holds (output_with_summary long r).0) answered.0 (prefix_next held now holds r.0 script_too_long answered.2 wrote)
 
 -- the summary was written, or a prefix of it
-pub summary_ends : (plan : Plan) (image : Image) (all left held now holds : Option (List ℕ)) (after : Session) → AnswersScript (new_session plan image) all left held now after (Ok false) → Appends now holds (summary (record_finish after.net)) → RunsPlan plan image all left held holds (Ok after.faulty)
-summary_ends plan image None left held now holds after answered wrote = tt
-summary_ends plan image (Some script) left held now holds after answered wrote =
-    let r : List ℕ × Session = script_outcome (new_session plan image) script in (
+pub summary_ends : (asker : Asker) (plan : Plan) (image : Image) (all left held now holds : Option (List ℕ)) (after : Session) → AnswersScript (new_session asker plan image) all left held now after (Ok false) → Appends now holds (summary (record_finish after.net)) → RunsPlan asker plan image all left held holds (Ok after.faulty)
+summary_ends asker plan image None left held now holds after answered wrote = tt
+summary_ends asker plan image (Some script) left held now holds after answered wrote =
+    let r : List ℕ × Session = script_outcome (new_session asker plan image) script in (
       subst (λ long. Appends held holds (output_with_summary long r).0) answered.0 (Appends-trans held now holds r.0 (summary (record_finish r.1.net)) answered.2 (subst (λ (s : Session). Appends now holds (summary (record_finish s.net))) answered.1 wrote)),
       ap (λ (s : Session). s.faulty) answered.1 ∙ ap (λ long. (output_with_summary long r).1) answered.0,
     )
 
-pub summary_stops : (plan : Plan) (image : Image) (all left held now holds : Option (List ℕ)) (after : Session) → AnswersScript (new_session plan image) all left held now after (Ok false) → AppendsPrefix now holds (summary (record_finish after.net)) → RunsPlan plan image all left held holds (Err halt.CannotWrite)
-summary_stops plan image None left held now holds after answered wrote = tt
-summary_stops plan image (Some script) left held now holds after answered wrote =
-    let r : List ℕ × Session = script_outcome (new_session plan image) script in
+pub summary_stops : (asker : Asker) (plan : Plan) (image : Image) (all left held now holds : Option (List ℕ)) (after : Session) → AnswersScript (new_session asker plan image) all left held now after (Ok false) → AppendsPrefix now holds (summary (record_finish after.net)) → RunsPlan asker plan image all left held holds (Err halt.CannotWrite)
+summary_stops asker plan image None left held now holds after answered wrote = tt
+summary_stops asker plan image (Some script) left held now holds after answered wrote =
+    let r : List ℕ × Session = script_outcome (new_session asker plan image) script in
     subst (λ long. AppendsPrefix held holds (output_with_summary long r).0) answered.0 (prefix_next held now holds r.0 (summary (record_finish r.1.net)) answered.2 (subst (λ (s : Session). AppendsPrefix now holds (summary (record_finish s.net))) answered.1 wrote))
 
 -- memory for the summary was refused
-pub summary_unmade : (plan : Plan) (image : Image) (all left held now : Option (List ℕ)) (after : Session) → AnswersScript (new_session plan image) all left held now after (Ok false) → RunsPlan plan image all left held now (Err halt.NoMemory)
-summary_unmade plan image None left held now after answered = tt
-summary_unmade plan image (Some script) left held now after answered =
-    let all : List ℕ = (script_outcome (new_session plan image) script).0 in
+pub summary_unmade : (asker : Asker) (plan : Plan) (image : Image) (all left held now : Option (List ℕ)) (after : Session) → AnswersScript (new_session asker plan image) all left held now after (Ok false) → RunsPlan asker plan image all left held now (Err halt.NoMemory)
+summary_unmade asker plan image None left held now after answered = tt
+summary_unmade asker plan image (Some script) left held now after answered =
+    let all : List ℕ = (script_outcome (new_session asker plan image) script).0 in
     record { written = all; unwritten = []; grew = answered.2; is_prefix = sym (append-nil all) }
 
 -- the session by its plan, and what the answer says by its test
-pub of_plan : (plan : Plan) (image : Image) (all left held holds : Option (List ℕ)) (session after : Session) (result : Result Bool Halt) → session ≡ new_session plan image → AnswersScript session all left held holds after result → AnswersScript (new_session plan image) all left held holds after result
-of_plan plan image all left held holds session after result is answered = subst (λ s. AnswersScript s all left held holds after result) is answered
+pub of_plan : (asker : Asker) (plan : Plan) (image : Image) (all left held holds : Option (List ℕ)) (session after : Session) (result : Result Bool Halt) → session ≡ new_session asker plan image → AnswersScript session all left held holds after result → AnswersScript (new_session asker plan image) all left held holds after result
+of_plan asker plan image all left held holds session after result is answered = subst (λ s. AnswersScript s all left held holds after result) is answered

@@ -10,7 +10,7 @@ use Rattle.c104_token.specs.Tokens.{end_token}
 use Rattle.c104_token.specs.Packets.{packet_tokens}
 use Rattle.c104_token.specs.Text.{hex_digit, mark_word, packet_text}
 use Rattle.c104_script.specs.Texts.{token_text}
-use Rattle.c104_session.specs.Shown.{tokens_text, received_text}
+use Rattle.c104_session.specs.Shown.{tokens_text}
 
 -- a space stands before whatever follows a token
 after_one : (x : Token) (bytes : List ℕ) (end : Token) → tokens_text (x ∷ (map Byte bytes ++ end ∷ [])) ≡ token_text x ++ 32 ∷ tokens_text (map Byte bytes ++ end ∷ [])
@@ -29,7 +29,7 @@ pub printed_tokens : (packet : Packet) → tokens_text (packet_tokens packet) �
 printed_tokens packet = of_bytes packet.bytes packet.mark
 
 -- the parts of a packet's line, each joined to what stood before
-pub joined : (old first second third last name text : List ℕ) (packet : Packet) → first ≡ old ++ name → second ≡ first ++ codes ": " → third ≡ second ++ text → last ≡ third ++ codes "\n" → text ≡ packet_text packet → last ≡ old ++ received_text name (packet_tokens packet)
-joined old first second third last name text packet is_first is_second is_third is_last is_text =
+pub joined : (old first second third fourth last name text from : List ℕ) (packet : Packet) → first ≡ old ++ name → second ≡ first ++ codes ": " → third ≡ second ++ text → fourth ≡ third ++ from → last ≡ fourth ++ codes "\n" → text ≡ packet_text packet → last ≡ old ++ (name ++ (codes ": " ++ (tokens_text (packet_tokens packet) ++ (from ++ codes "\n"))))
+joined old first second third fourth last name text from packet is_first is_second is_third is_fourth is_last is_text =
     let as_text : text ≡ tokens_text (packet_tokens packet) = is_text ∙ sym (printed_tokens packet) in
-    rw (is_last, is_third, is_second, is_first, as_text, append_assoc, append_assoc, append_assoc)
+    rw (is_last, is_fourth, is_third, is_second, is_first, as_text, append_assoc, append_assoc, append_assoc, append_assoc)

@@ -7,6 +7,7 @@ use Rattle.c104_describe.specs.PlanImage.{Image}
 use Rattle.c104_stream.specs.declared.halt.Halt.{Halt}
 use Rattle.c104_stream.specs.declared.halt.Halt.TheVariants as halt
 use Rattle.c104_session.specs.declared.session.Session.{Session}
+use Rattle.c104_session.specs.declared.asker.Asker.{Asker}
 use Rattle.c104_session.specs.Lines.{whole_lines, is_long}
 use Rattle.c104_stream.specs.Writing.{AppendsAndKeeps, AppendsPrefix}
 use Rattle.c104_session.specs.Shown.{line_outcome, lines_outcome, script_outcome, new_session, run_output}
@@ -69,14 +70,14 @@ abbrev pub AnswersLines : Session → Option (List ℕ) → Option (List ℕ) �
 AnswersLines session None left held holds keeps after result = ⊤
 AnswersLines session (Some script) left held holds keeps after result = LinesEnd session script left held holds keeps after result
 
--- a script was run on the network of a plan with an image
-abbrev pub PlanEnds : Plan → Image → List ℕ → Option (List ℕ) → Option (List ℕ) → Option (List ℕ) → Result Bool Halt → Type 0
-PlanEnds plan image script left held holds (Ok refused) = Appends held holds (run_output plan image script).0 × (refused ≡ (run_output plan image script).1)
-PlanEnds plan image script left held holds (Err halt.CannotRead) = AnswersPrefix (new_session plan image) script left held holds
-PlanEnds plan image script left held holds (Err halt.CannotWrite) = AppendsPrefix held holds (run_output plan image script).0
-PlanEnds plan image script left held holds (Err halt.NoMemory) = AppendsPrefix held holds (script_outcome (new_session plan image) script).0
+-- a script of whoever asks was run on the network of a plan with an image
+abbrev pub PlanEnds : Asker → Plan → Image → List ℕ → Option (List ℕ) → Option (List ℕ) → Option (List ℕ) → Result Bool Halt → Type 0
+PlanEnds asker plan image script left held holds (Ok refused) = Appends held holds (run_output asker plan image script).0 × (refused ≡ (run_output asker plan image script).1)
+PlanEnds asker plan image script left held holds (Err halt.CannotRead) = AnswersPrefix (new_session asker plan image) script left held holds
+PlanEnds asker plan image script left held holds (Err halt.CannotWrite) = AppendsPrefix held holds (run_output asker plan image script).0
+PlanEnds asker plan image script left held holds (Err halt.NoMemory) = AppendsPrefix held holds (script_outcome (new_session asker plan image) script).0
 
 -- the same where nothing may be known of the script
-abbrev pub RunsPlan : Plan → Image → Option (List ℕ) → Option (List ℕ) → Option (List ℕ) → Option (List ℕ) → Result Bool Halt → Type 0
-RunsPlan plan image None left held holds result = ⊤
-RunsPlan plan image (Some script) left held holds result = PlanEnds plan image script left held holds result
+abbrev pub RunsPlan : Asker → Plan → Image → Option (List ℕ) → Option (List ℕ) → Option (List ℕ) → Option (List ℕ) → Result Bool Halt → Type 0
+RunsPlan asker plan image None left held holds result = ⊤
+RunsPlan asker plan image (Some script) left held holds result = PlanEnds asker plan image script left held holds result

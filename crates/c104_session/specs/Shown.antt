@@ -1,5 +1,5 @@
 -- What a run shows: the answers to the script's lines in turn, and then what arrived.
-use Rattle.std.specs.Prelude.{ℕ, suc, Bool, true, false, List, [], ◌∷◌, ◌++◌, flat_map, codes, Option, Some, None, Result, Ok, Err}
+use Rattle.std.specs.Prelude.{ℕ, suc, Bool, true, false, List, [], ◌∷◌, ◌++◌, flat_map, map, codes, decimal, Option, Some, None, Result, Ok, Err}
 use Rattle.c104_token.specs.declared.tokens.Token.{Token}
 use Rattle.c104_token.specs.Cut.{whole_pieces}
 use Rattle.c104_switch.specs.Actions.{Reply}
@@ -8,13 +8,18 @@ use Rattle.c104_event.specs.declared.faults.EventFault.{EventFault}
 use Rattle.c104_describe.specs.Plans.{Plan}
 use Rattle.c104_describe.specs.declared.plans.Terminal.{Terminal}
 use Rattle.c104_describe.specs.PlanImage.{Image}
+use Rattle.c104_describe.specs.PlanPrint.{terminal_name}
 use Rattle.c104_net.specs.EventRuns.{run_events}
-use Rattle.c104_net.specs.Finished.{FinishedRun, run_arrived}
+use Rattle.c104_net.specs.Deliveries.{arrived_at}
 use Rattle.c104_net.specs.FinishedRecords.{FinishedRecord, record_finish}
 use Rattle.c104_net.specs.NetRecords.{NetRecord, fresh_record}
-use Rattle.c104_net.specs.Network.{placed_network}
+use Rattle.c104_net.specs.Network.{Network, placed_network}
+use Rattle.c104_net.specs.Origins.{origins_in}
+use Rattle.c104_net.specs.declared.origins.Origin.{Origin}
 use Rattle.c104_net.specs.RecordedRuns.{record_apply}
 use Rattle.c104_net.specs.Rounds.{rounds}
+use Rattle.c104_net.specs.TracedEnds.{traced_end}
+use Rattle.c104_net.specs.declared.traced.Traced.{Traced}
 use Rattle.c104_session.specs.Lines.{script_lines, is_long}
 use Rattle.c104_script.specs.Script.{read_script_line}
 use Rattle.c104_script.specs.declared.faults.LineFault.{LineFault}
@@ -22,12 +27,15 @@ use Rattle.c104_script.specs.declared.places.Request.{Request}
 use Rattle.c104_script.specs.declared.places.Request.TheVariants as ask
 use Rattle.c104_script.specs.declared.answers.Answer.TheVariants.{Replied, Refused, Faulty}
 use Rattle.c104_session.specs.declared.session.Session.{Session}
+use Rattle.c104_session.specs.declared.asker.Asker.{Asker}
+use Rattle.c104_session.specs.Asked.{heard}
+use Rattle.c104_session.specs.Probing.{probe_answer}
 use Rattle.c104_script.specs.declared.answers.Answer.{Answer}
 use Rattle.c104_script.specs.Texts.{token_text, answer_line, script_too_long}
 
--- a network of this plan with an image, before the first line
-abbrev pub new_session : Plan → Image → Session
-new_session plan image = record { net = fresh_record (placed_network plan image); faulty = false }
+-- a network of this plan with an image, before the first line of whoever asks
+abbrev pub new_session : Asker → Plan → Image → Session
+new_session asker plan image = record { net = fresh_record (placed_network plan image); image = image; faulty = false; asker = asker }
 
 -- what rounds answer: that they are done, or the refusal of the event that they stopped at
 abbrev pub rounds_answer : Result (Unit {0}) EventFault → Result Reply EventFault
@@ -45,24 +53,30 @@ event_answer (Ok r) = Replied r
 event_answer (Err kind) = Refused kind
 
 -- what answers a request that a network did, and the run after it
-abbrev pub answer_after : Bool → Result Reply EventFault × NetRecord → Answer × Session
-answer_after faulty r = (event_answer r.0, record { net = r.1; faulty = faulty })
+abbrev pub answer_after : Session → Result Reply EventFault × NetRecord → Answer × Session
+answer_after session r = (event_answer r.0, record session { net = r.1 })
+
+-- the same of the debugger, whose answer is made
+abbrev pub probe_after : Session → Answer × NetRecord → Answer × Session
+probe_after session r = (r.0, record session { net = r.1 })
 
 -- what answers a request, and the run after it
 abbrev pub request_answer : Session → Request → Answer × Session
-request_answer session (ask.Asked event) = answer_after session.faulty (record_apply session.net event)
-request_answer session (ask.Rounds count) = answer_after session.faulty (rounds_outcome session.net count)
+request_answer session (ask.Asked event) = answer_after session (record_apply session.net event)
+request_answer session (ask.Rounds count) = answer_after session (rounds_outcome session.net count)
+request_answer session (ask.Probed it) = probe_after session (probe_answer session.net session.image it)
 request_answer session (ask.Refused kind) = (Refused kind, session)
 
 -- a line without words has no answer; a faulty one changes nothing but that there was one
 abbrev pub answer_of_read : Session → Result (Option Request) LineFault → Option Answer × Session
 answer_of_read session (Ok None) = (None, session)
 answer_of_read session (Ok (Some request)) = let r = request_answer session request in (Some r.0, r.1)
-answer_of_read session (Err kind) = (Some (Faulty kind), record { net = session.net; faulty = true })
+answer_of_read session (Err kind) = (Some (Faulty kind), record session { faulty = true })
 
 -- what answers a line, and the run after it
 unfoldable pub line_answer : Session → List ℕ → Option Answer × Session
-line_answer session text = answer_of_read session (read_script_line session.net.network.plan text)
+line_answer session text =
+    answer_of_read session (read_script_line session.net.network.plan (heard session.asker text))
 
 -- what is shown of a line of this number: the line of its answer, if it has one
 abbrev pub shown : ℕ → Option Answer → List ℕ
@@ -87,24 +101,33 @@ tokens_text [] = []
 tokens_text (x ∷ []) = token_text x
 tokens_text (x ∷ y ∷ more) = token_text x ++ 32 ∷ tokens_text (y ∷ more)
 
--- the line of a packet that a terminal of this name received
-abbrev pub received_text : List ℕ → List Token → List ℕ
-received_text name piece = name ++ (codes ": " ++ (tokens_text piece ++ codes "\n"))
+-- where a packet came from: the name of the terminal that sent it, and its number there
+abbrev pub origin_text : Plan → Origin → List ℕ
+origin_text plan origin = codes " from " ++ (terminal_name plan origin.terminal ++ (codes " " ++ decimal origin.number))
+
+-- the line of a packet that a terminal of this name received: its tokens, and where it came from
+abbrev pub packet_line : Plan → List ℕ → List Token → List Origin → List ℕ
+packet_line plan name tokens origins =
+    name ++ (codes ": " ++ (tokens_text tokens ++ (flat_map (origin_text plan) origins ++ codes "\n")))
+
+-- the same of a packet whose tokens tell where they came from: its terminator tells where it came from
+abbrev pub received_text : Plan → List ℕ → List Traced → List ℕ
+received_text plan name piece = packet_line plan name (map (λ (x : Traced). x.token) piece) (origins_in piece)
 
 -- the lines of all whole packets of these tokens
-abbrev pub packets_text : List ℕ → Option (List Token) → List ℕ
-packets_text name None = []
-packets_text name (Some arrived) = flat_map (received_text name) (whole_pieces (λ x. x) [] arrived)
+abbrev pub packets_text : Plan → List ℕ → List Traced → List ℕ
+packets_text plan name arrived = flat_map (received_text plan name) (whole_pieces (λ (x : Traced). x.token) [] arrived)
 
--- the lines of these terminals, the first of which has this number
-abbrev pub terminals_text : FinishedRun Token → ℕ → List Terminal → List ℕ
-terminals_text run number [] = []
-terminals_text run number (terminal ∷ more) =
-    packets_text terminal.name (run_arrived run number) ++ terminals_text run (suc number) more
+-- the lines of these terminals of a network, the first of which has this number
+abbrev pub terminals_text : Plan → Network Traced → ℕ → List Terminal → List ℕ
+terminals_text plan net number [] = []
+terminals_text plan net number (terminal ∷ more) =
+    packets_text plan terminal.name (arrived_at net number) ++ terminals_text plan net (suc number) more
 
--- the summary: for each terminal in order, each whole packet that arrived there, in order
+-- the summary: for each terminal in order, each whole packet that arrived there, in order. Where it came from is
+-- told by its own tokens, in the same run over tokens that tell where they came from.
 unfoldable pub summary : FinishedRecord → List ℕ
-summary run = terminals_text run.finished 0 run.finished.plan.terminals
+summary run = terminals_text run.finished.plan (traced_end run) 0 run.finished.plan.terminals
 
 -- what follows the answers, and whether a script was refused: for its length, or for one of its lines
 abbrev pub output_with_summary : Bool → List ℕ × Session → List ℕ × Bool
@@ -117,6 +140,6 @@ script_outcome session script = lines_outcome 1 session (script_lines script)
 
 -- what a run on the network of a plan with an image shows, and whether any of it was refused: the answers to
 -- the script, line by line, and the summary
-abbrev pub run_output : Plan → Image → List ℕ → List ℕ × Bool
-run_output plan image script =
-    output_with_summary (is_long script) (script_outcome (new_session plan image) script)
+abbrev pub run_output : Asker → Plan → Image → List ℕ → List ℕ × Bool
+run_output asker plan image script =
+    output_with_summary (is_long script) (script_outcome (new_session asker plan image) script)

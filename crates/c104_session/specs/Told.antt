@@ -7,7 +7,9 @@ use Rattle.c104_net.specs.Reasons.{network_why}
 use Rattle.c104_switch.specs.declared.actions.ReplyOf.TheVariants as reply
 use Rattle.c104_script.specs.Script.{read_script_line}
 use Rattle.c104_script.specs.declared.answers.Answer.{Answer}
-use Rattle.c104_script.specs.declared.answers.Answer.TheVariants.{Replied, Refused, Faulty}
+use Rattle.c104_script.specs.declared.answers.Answer.TheVariants.{Replied, Refused, Found, Faulty}
+use Rattle.c104_script.specs.declared.findings.Finding.{Finding}
+use Rattle.c104_script.specs.declared.findings.Finding.TheVariants as finding
 use Rattle.c104_script.specs.declared.places.Request.TheVariants.{Asked}
 use Rattle.c104_session.specs.declared.session.Session.{Session}
 
@@ -18,6 +20,11 @@ TellsReason session line text = (event : Event) × (reason : Reason)
     × (network_why session.net.network event ≡ Some reason)
     × (text ≡ reason_text session.net.network.plan reason)
 
+-- whether anything may be told of a finding: only of a register that is refused
+abbrev pub IsToldOf : Finding → Type 0
+IsToldOf (finding.Refused kind) = ⊤
+IsToldOf it = ⊥
+
 -- what may be told of a line that was answered so: of one that isn't ready its reason, and of one that was done nothing
 abbrev pub MayTell : Session → List ℕ → Answer → List ℕ → Type 0
 MayTell session line (Replied reply.NotReady) text = TellsReason session line text
@@ -25,4 +32,5 @@ MayTell session line (Replied reply.Done) text = ⊥
 MayTell session line (Replied (reply.Token x)) text = ⊥
 MayTell session line (Replied (reply.Control bytes)) text = ⊥
 MayTell session line (Refused kind) text = ⊤
+MayTell session line (Found it) text = IsToldOf it
 MayTell session line (Faulty kind) text = ⊤

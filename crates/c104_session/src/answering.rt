@@ -6,7 +6,7 @@ ghost use Rattle.c104_stream.specs.Writing.{AppendsAndKeeps};
 ghost use Rattle.c104_session.specs.Lines.{script_lines, AreOnlyLines, JoinsLine};
 ghost use Rattle.c104_session.specs.Runs.{AnswersLine, AnswersLines, AnswersScript, LineStops, ReadStops};
 
-use crate::explaining::explain_answer;
+use crate::explaining::explain_line;
 use crate::progress::Progress;
 use crate::session::Session;
 use c104_explain::{Messages, Silent};
@@ -171,11 +171,9 @@ fn answer_line<W: Write, M: Messages>(
         (W.contents writer.old) (W.contents writer.new) kept.old kept.new halt) }
 {
     let answer = give_answer(alloc, session, number, line, text, kept, writer, messages)?;
-    if let Some(answer) = &answer
-        && messages.are_wanted()
-    {
-        explain_answer(alloc, session, number, line, answer, kept, writer, messages)?;
-    }
+    explain_line(
+        alloc, session, number, line, &answer, kept, writer, messages,
+    )?;
     Ok(())
 }
 

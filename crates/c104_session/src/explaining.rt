@@ -4,16 +4,46 @@ ghost use Rattle.std.specs.String.{string_bytes};
 ghost use Rattle.c104_stream.specs.Writing.{AppendsAndKeeps, AppendsPrefix};
 ghost use Rattle.c104_session.specs.Told.{MayTell, TellsReason};
 
+use crate::questions::answer_question;
 use crate::session::Session;
-use c104_explain::{About, Messages, fault_message, reason_message, refusal_message};
-use c104_script::{Answer, Request, read_line};
+use c104_explain::{
+    About, Messages, fault_message, reason_message, refusal_message, register_message,
+};
+use c104_script::{Answer, Finding, Request, read_line};
 use c104_stream::{CannotWrite, Kept};
 use c104_switch::Reply;
 use std::alloc::Global;
 use std::io::Write;
 
+/// Tells of a line that was answered so, if it was answered, and else answers it if it is a question, where anyone
+/// reads the messages: all that is kept is written before.
+pub(crate) fn explain_line<W: Write, M: Messages>(
+    alloc: Global,
+    session: &Session,
+    number: usize,
+    line: &[u8],
+    answer: &Option<Answer>,
+    kept: &mut Kept,
+    writer: &mut W,
+    messages: &mut M,
+) -> Result<(), CannotWrite>
+    ensures kept { OnOk result (AppendsAndKeeps (W.contents writer.old) (W.contents writer.new) kept.new kept.old) }
+    ensures prefix { OnErr result (AppendsPrefix (W.contents writer.old) (W.contents writer.new) kept.old) }
+    ensures empty { OnErr result (kept.new ≡ []) }
+{
+    if !messages.are_wanted() {
+        return Ok(());
+    }
+    match answer {
+        Some(answer) => explain_answer(
+            alloc, session, number, line, answer, kept, writer, messages,
+        ),
+        None => answer_question(alloc, session, line, kept, writer, messages),
+    }
+}
+
 /// Tells of a line that was answered so, where there is something to tell: all that is kept is written before.
-pub(crate) fn explain_answer<W: Write, M: Messages>(
+fn explain_answer<W: Write, M: Messages>(
     alloc: Global,
     session: &Session,
     number: usize,
@@ -42,6 +72,8 @@ fn answer_message(alloc: Global, session: &Session, line: &[u8], answer: &Answer
     match answer {
         Answer::Faulty(fault) => fault_message(alloc, line, *fault),
         Answer::Refused(fault) => refusal_message(alloc, session.net.plan(), line, *fault),
+        Answer::Found(Finding::Refused(fault)) => register_message(alloc, line, *fault),
+        Answer::Found(_) => None,
         Answer::Replied(Reply::NotReady) => unready_message(alloc, session, line),
         Answer::Replied(Reply::Done | Reply::Token(_) | Reply::Control(_)) => None,
     }

@@ -1,23 +1,32 @@
 //! Scripts that are answered by a network.
 //!
-//! A `Session` is a network in the midst of a script: it keeps the `Net` and whether a line was
-//! faulty so far. It can't be dropped; `finish` gives what is left at its end, an `Ended`.
+//! A `Session` is a network in the midst of a script: it keeps the `Net`, what was loaded there, and whether a
+//! line was faulty so far. It can't be dropped; `finish` gives what is left at its end, an `Ended`.
 //! `answer_script` answers the lines of a script as they are read, `summary_text` tells what arrived
 //! at each terminal, and `run_plan` does both on the network of a plan.
 //!
 //! Lines are answered as they are read, and all answers are written before the reader is asked for
 //! more. A faulty line changes nothing but that there was one; running out of memory ends the script,
 //! and so does a failing reader or writer.
+//!
+//! An `Asker` is who asks. A person may ask questions between the lines of a script: they are counted as lines,
+//! and else the network hears nothing of them.
 #![tactic(auto)]
 
 mod answering;
+mod asker;
 mod explaining;
+mod probing;
 mod progress;
+mod questions;
 mod runs;
 mod session;
+mod starting;
 mod summary;
+mod tools;
 
 pub use answering::{MAX_SCRIPT, answer_script, answer_script_explained};
+pub use asker::Asker;
 pub use runs::{run_plan, run_plan_explained};
 pub use session::{Ended, Session};
 pub use summary::summary_text;

@@ -2,8 +2,10 @@
 ghost use Rattle.std.specs.Io.KnownBytes.{prepend_known};
 ghost use Rattle.c104_describe.specs.PlanImage.{Fits};
 ghost use Rattle.c104_session.specs.Runs.{RunsPlan};
+ghost use Rattle.c104_session.specs.declared.asker.Asker.TheVariants as who;
 
 use crate::answering::answer_script_explained;
+use crate::asker::Asker;
 use crate::session::Session;
 use crate::summary::summary_text;
 use c104_describe::{Image, Plan};
@@ -18,36 +20,47 @@ use std::io::{Read, Write};
 pub fn run_plan<S: Read, W: Write>(
     alloc: Global,
     plan: &Plan,
-    image: &Image,
+    image: Image,
     ahead: &mut Ahead,
     script: &mut S,
     writer: &mut W,
 ) -> Result<bool, Halt>
-    requires { Fits image.now plan.now }
-    ensures { RunsPlan plan.now image.now
+    requires { Fits image plan.now }
+    ensures { RunsPlan who.Script plan.now image
         (prepend_known ahead.old (S.remaining script.old)) (S.remaining script.new)
         (W.contents writer.old) (W.contents writer.new) result }
 {
-    run_plan_explained(alloc, plan, image, ahead, script, writer, &mut Silent)
+    run_plan_explained(
+        alloc,
+        Asker::Script,
+        plan,
+        image,
+        ahead,
+        script,
+        writer,
+        &mut Silent,
+    )
 }
 
-/// The same, and tells of its lines, and at the end of what didn't arrive. What is written and answered is the
-/// same, whatever takes the messages does.
+/// The same of whoever asks, and tells of the lines, and at the end of what didn't arrive. A person's questions
+/// are answered there, and a person's other lines as those of a script in which a line without words stands for
+/// each question. What is written and answered is the same, whatever takes the messages does.
 pub fn run_plan_explained<S: Read, W: Write, M: Messages>(
     alloc: Global,
+    asker: Asker,
     plan: &Plan,
-    image: &Image,
+    image: Image,
     ahead: &mut Ahead,
     script: &mut S,
     writer: &mut W,
     messages: &mut M,
 ) -> Result<bool, Halt>
-    requires { Fits image.now plan.now }
-    ensures { RunsPlan plan.now image.now
+    requires { Fits image plan.now }
+    ensures { RunsPlan asker plan.now image
         (prepend_known ahead.old (S.remaining script.old)) (S.remaining script.new)
         (W.contents writer.old) (W.contents writer.new) result }
 {
-    let mut session = Session::new(alloc, plan, image)?;
+    let mut session = Session::new(alloc, asker, plan, image)?;
     let answered = answer_script_explained(alloc, &mut session, ahead, script, writer, messages);
     let leftovers = leftovers_of(alloc, &session, messages);
     let ended = session.finish();

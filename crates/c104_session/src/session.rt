@@ -10,20 +10,27 @@ ghost use Rattle.c104_script.specs.declared.answers.Answer.{Answer as TheAnswer}
 ghost use Rattle.c104_session.specs.Shown.{new_session, line_answer, request_answer, rounds_outcome};
 ghost use Rattle.c104_session.specs.declared.session.Session.{Session as TheSession};
 
+use crate::asker::Asker;
+use crate::probing::answer_probe;
+use crate::starting::start_net;
 use c104_describe::{Image, Plan};
 use c104_event::EventFault;
-use c104_net::{Net, PlaceFault, Run, Unwatched, Watch};
+use c104_net::{Net, Run, Unwatched, Watch};
 use c104_script::{Answer, LineFault, Request, read_line};
 use c104_switch::Reply;
 use c104_token::NoMemory;
 use std::alloc::Global;
 
-/// A network that a script is run on. It can't be let go of: `finish` ends it.
+/// A network that a script is run on, or that a person asks line by line. It can't be let go of: `finish` ends it.
 pub struct Session {
     /// The network.
     pub net: Net,
+    /// What was loaded into its switches.
+    pub image: Image,
     /// Whether a line was faulty so far.
     pub faulty: bool,
+    /// Who asks.
+    pub asker: Asker,
 }
 
 /// What a script's run came to.
@@ -36,17 +43,19 @@ pub struct Ended {
 }
 
 impl Session {
-    /// The network of a plan with an image that fits it, before the first line. The only error
-    /// is out of memory.
-    pub fn new(alloc: Global, plan: &Plan, image: &Image) -> Result<Self, NoMemory>
-        requires { Fits image.now plan.now }
-        ensures { IfOk result (λ session. session ≡ new_session plan.now image.now) }
+    /// The network of a plan with an image that fits it, before the first line of whoever asks. The only
+    /// error is out of memory.
+    pub fn new(alloc: Global, asker: Asker, plan: &Plan, image: Image) -> Result<Self, NoMemory>
+        requires { Fits image plan.now }
+        ensures { IfOk result (λ session. session ≡ new_session asker plan.now image) }
     {
-        match Net::placed(alloc, plan, image) {
-            Ok(net) => Ok(Session { net, faulty: false }),
-            Err(PlaceFault::NoMemory) => Err(NoMemory),
-            Err(PlaceFault::NotFitting) => unreachable!(),
-        }
+        let net = start_net(alloc, plan, &image)?;
+        Ok(Session {
+            net,
+            image,
+            faulty: false,
+            asker,
+        })
     }
 
     /// Ends the run.
@@ -54,7 +63,12 @@ impl Session {
         ensures run { result.run ≡ record_finish self.net }
         ensures faulty { result.faulty ≡ self.faulty }
     {
-        let Session { net, faulty } = self;
+        let Session {
+            net,
+            image: _,
+            faulty,
+            asker: _,
+        } = self;
         Ended {
             run: net.finish(),
             faulty,
@@ -81,6 +95,7 @@ impl Session {
         ensures { IfOk result (λ answer. ◌≡◌ {A = Option TheAnswer × TheSession}
             (answer, self.new) (line_answer self.old line.now)) }
     {
+        let line = self.asker.heard(line);
         match read_line(alloc, self.net.plan(), line) {
             Ok(None) => Ok(None),
             Ok(Some(request)) => {
@@ -107,6 +122,9 @@ impl Session {
         let done = match request {
             Request::Asked(event) => self.net.apply(event),
             Request::Rounds(count) => do_rounds(&mut self.net, *count, watch),
+            Request::Probed(probe) => {
+                return answer_probe(&mut self.net, &self.image, *probe);
+            }
             Request::Refused(fault) => Err(*fault),
         };
         match done {

@@ -1,40 +1,75 @@
-//! The summary of a run: what arrived at each terminal.
-ghost use Rattle.std.specs.Prelude.{◌≡◌, ◌++◌, IfOk, OnOk, Some};
+//! The summary of a run: what arrived at each terminal, and where it came from.
+ghost use Rattle.std.specs.Prelude.{◌≡◌, ◌++◌, ◌<◌, List, IfOk, OnOk, flat_map, length, map, option_to_list};
+ghost use Rattle.std.specs.Global.{Vec as Kept};
+ghost use Rattle.c104_describe.specs.PlanPrint.{terminal_name};
+ghost use Rattle.c104_net.specs.Deliveries.{arrived_at};
+ghost use Rattle.c104_net.specs.RunOrigins.{AreOrigins};
+ghost use Rattle.c104_net.specs.Origins.{AreSure, origins_in};
+ghost use Rattle.c104_net.specs.declared.origins.Origin.{Origin as TheOrigin};
+ghost use Rattle.c104_net.specs.TracedEnds.{traced_end};
+ghost use Rattle.c104_net.specs.declared.traced.Traced.{Traced as TheTraced};
+ghost use Rattle.c104_session.specs.Shown.{origin_text, packet_line, packets_text, summary};
 ghost use Rattle.c104_token.specs.Packets.{packet_tokens};
-ghost use Rattle.c104_session.specs.Shown.{packets_text, received_text, summary};
 
-use c104_net::Run;
+use c104_describe::Plan;
+use c104_net::{Origin, Run};
 use c104_token::{NoMemory, Packet, Token, cut_packets, print_packet};
+use itoa::Buffer;
 use std::alloc::Global;
 
 /// A line for each whole packet that arrived, by terminal in the plan's order and then as they
-/// came. It is made whole before any of it is written, so that none of it is where memory runs out. The
-/// only error is out of memory.
+/// came: the packet, the terminal that sent it, and its number among those that this terminal sent, from 0. It is
+/// made whole before any of it is written, so that none of it is where memory runs out. The only error is out of
+/// memory.
 #[tactic(auto, unfolding(crate::specs::Shown::summary))]
 pub fn summary_text(alloc: Global, run: &Run) -> Result<Vec<u8>, NoMemory>
     ensures { IfOk result (λ text. text.items ≡ summary run.now) }
 {
+    let origins = run.origins(alloc)?;
     let mut text = Vec::new(alloc);
     for (number, terminal) in run.plan().terminals().iter().enumerate() {
-        if let Some(arrived) = run.arrived(number) {
-            add_packets(alloc, terminal.name.as_bytes(), arrived, &mut text)?;
-        }
+        let name = terminal.name.as_bytes();
+        add_terminal(alloc, run, number, name, origins.as_slice(), &mut text)?;
     }
     Ok(text)
 }
 
-/// The lines of a terminal's whole packets join the text.
-fn add_packets(
+/// The lines of the packets that a terminal received join the text.
+fn add_terminal(
     alloc: Global,
+    run: &Run,
+    number: usize,
     name: &[u8],
-    arrived: &[Token],
+    origins: &[Vec<Origin>],
     text: &mut Vec<u8>,
 ) -> Result<(), NoMemory>
-    ensures { OnOk result (text.new.items ≡ text.old.items ++ packets_text name.now (Some arrived.now)) }
+    requires origins { AreOrigins run.now (map (λ (list : Kept TheOrigin). list.items) origins.now) }
+    requires inside { number < length run.now.finished.plan.terminals }
+    ensures { OnOk result (text.new.items
+        ≡ text.old.items ++ packets_text run.now.finished.plan name.now (arrived_at (traced_end run.now) number)) }
+{
+    let (Some(arrived), Some(origins)) = (run.arrived(number), origins.get(number)) else {
+        unreachable!();
+    };
+    add_packets(alloc, run.plan(), name, arrived, origins.as_slice(), text)
+}
+
+/// The lines of a terminal's whole packets join the text. The origins are those of the packets, in order.
+fn add_packets(
+    alloc: Global,
+    plan: &Plan,
+    name: &[u8],
+    arrived: &[Token],
+    origins: &[Origin],
+    text: &mut Vec<u8>,
+) -> Result<(), NoMemory>
+    ensures { (tokens : List TheTraced) → arrived.now ≡ map (λ (x : TheTraced). x.token) tokens
+        → origins.now ≡ origins_in tokens → AreSure tokens
+        → OnOk result (text.new.items ≡ text.old.items ++ packets_text plan.now name.now tokens) }
 {
     let (packets, _unfinished) = cut_packets(alloc, arrived)?;
-    for packet in packets.as_slice() {
-        add_packet(alloc, name, packet, text)?;
+    for (place, packet) in packets.as_slice().iter().enumerate() {
+        add_packet(alloc, plan, name, packet, origins.get(place).copied(), text)?;
     }
     Ok(())
 }
@@ -43,16 +78,45 @@ fn add_packets(
 #[tactic(auto, using(crate::proofs::Printing::printed_tokens))]
 fn add_packet(
     alloc: Global,
+    plan: &Plan,
     name: &[u8],
     packet: &Packet,
+    origin: Option<Origin>,
     text: &mut Vec<u8>,
 ) -> Result<(), NoMemory>
-    ensures { OnOk result (text.new.items ≡ text.old.items ++ received_text name.now (packet_tokens packet.now)) }
+    ensures { OnOk result (text.new.items
+        ≡ text.old.items ++ packet_line plan.now name.now (packet_tokens packet.now) (option_to_list origin)) }
 {
     let printed = print_packet(alloc, packet)?;
     text.extend_from_slice(name)?;
     text.extend_from_slice(b": ")?;
     text.extend_from_slice(printed.as_bytes())?;
+    add_origin(plan, origin, text)?;
     text.push(b'\n')?;
+    Ok(())
+}
+
+/// Where a packet came from joins the text, where that is known.
+fn add_origin(plan: &Plan, origin: Option<Origin>, text: &mut Vec<u8>) -> Result<(), NoMemory>
+    ensures { OnOk result (text.new.items ≡ text.old.items ++ flat_map (origin_text plan.now) (option_to_list origin)) }
+{
+    let Some(origin) = origin else {
+        return Ok(());
+    };
+    let mut digits = Buffer::new();
+    text.extend_from_slice(b" from ")?;
+    add_name(plan, origin.terminal, text)?;
+    text.push(b' ')?;
+    text.extend_from_slice(digits.format(origin.number).as_bytes())?;
+    Ok(())
+}
+
+/// The name of a terminal joins the text.
+fn add_name(plan: &Plan, number: usize, text: &mut Vec<u8>) -> Result<(), NoMemory>
+    ensures { OnOk result (text.new.items ≡ text.old.items ++ terminal_name plan.now number) }
+{
+    if let Some(terminal) = plan.terminals().get(number) {
+        text.extend_from_slice(terminal.name.as_bytes())?;
+    }
     Ok(())
 }

@@ -1,8 +1,8 @@
-use Rattle.std.proofs.Common.{◌≡◌, ◌++◌, map, take, flat_map}
+use Rattle.std.proofs.Common.{◌≡◌, ◌++◌, drop, map}
 use Rattle.c104_token.specs.Packets.{packet_tokens}
-use Rattle.c104_session.specs.Shown.{received_text}
+use Rattle.c104_session.proofs.PacketLines.{lines_with}
 use Rattle.c104_session.proofs.summary.add_packets.Given as goal
 
--- the lines of the packets so far have joined the text
-abbrev pub invariant-loop-packet : goal.invariant-loop-packet
-invariant-loop-packet l = l.text.items ≡ l.initial.text.items ++ flat_map (received_text l.name) (map packet_tokens (take l.packet-index l.packet-items))
+-- the lines so far, and those of the packets that are left, are those of all
+abbrev pub invariant-loop-place : goal.invariant-loop-place
+invariant-loop-place l = l.text.items ++ lines_with l.plan l.name l.place (map packet_tokens (drop l.place l.packet-items)) l.origins ≡ l.initial.text.items ++ lines_with l.plan l.name 0 (map packet_tokens l.packet-items) l.origins
