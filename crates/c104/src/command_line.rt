@@ -10,6 +10,8 @@ const ABOUT: &str = "Emulates networks of IMS C104 packet routing switches, even
 
 const ABOUT_RUN: &str = "Runs a script on the network of a description, and shows what arrived";
 
+const ABOUT_DEBUG: &str = "Runs a script that is typed, or that a program sends, line by line";
+
 const ABOUT_CHECK: &str =
     "Checks the labels of a description: whether each header comes to its owner";
 
@@ -33,6 +35,7 @@ only word is `script`, and then the script. `c104` alone is `c104 run`.
 Examples:
   c104 run network.txt events.txt     a description and a script from two files
   c104 < examples/first-network.txt   both in one text
+  c104 debug network.txt              a description from a file, and a script as you type it
   c104 check network.txt              whether its packets can go astray
   c104 label network.txt              which labels and registers it gives
   c104 draw network.txt | dot -Tsvg   its picture
@@ -51,6 +54,13 @@ Exit status:
 const TEACHING_RUN: &str =
     "Without DESC and SCRIPT both are read from standard input as one text: the
 description, a line whose only word is `script`, and then the script.";
+
+const TEACHING_DEBUG: &str =
+    "The script is read from standard input, and each line is answered before the next is
+read. Where standard input and standard error are terminals, a prompt with the line's
+number stands there, and two more words may be typed: `help` lists the lines that there
+are, and `show` with a switch or a terminal tells how its links stand. Such a line is
+counted, has no answer and changes nothing.";
 
 const TEACHING_CHECK: &str =
     "The labels of a terminal are the headers that are to come to it, from every
@@ -109,6 +119,11 @@ pub enum Order<'a> {
         /// The script's path.
         script: &'a str,
     },
+    /// A run of a description's file, whose script comes line by line from standard input.
+    Debug {
+        /// The description's path.
+        description: &'a str,
+    },
     /// A check of a description's labels.
     Check {
         /// The description's path.
@@ -137,6 +152,9 @@ impl<'a> Order<'a> {
         let Some(description) = given.get_str(DESCRIPTION) else {
             return Order::RunText;
         };
+        if command == DEBUG {
+            return Order::Debug { description };
+        }
         if command == CHECK {
             return Order::Check { description };
         }
@@ -166,7 +184,10 @@ impl<'a> Order<'a> {
             Order::RunText => STANDARD_INPUT,
             Order::Check { description } | Order::Label { description } => description,
             Order::Draw { description, .. } => description,
-            Order::RunFiles { description, .. } if number == 0 => description,
+            Order::RunFiles { description, .. } | Order::Debug { description } if number == 0 => {
+                description
+            }
+            Order::Debug { .. } => STANDARD_INPUT,
             Order::RunFiles { script, .. } => script,
         }
     }
@@ -174,6 +195,8 @@ impl<'a> Order<'a> {
 
 /// The names of commands.
 const RUN: &str = "run";
+
+const DEBUG: &str = "debug";
 
 const CHECK: &str = "check";
 
@@ -212,6 +235,7 @@ fn command_line<'a>(alloc: Global) -> Result<Command<'a>, AllocError> {
         .after_help(TEACHING)
         .arg(explain_option(alloc))?
         .subcommand(run_command(alloc)?)?
+        .subcommand(debug_command(alloc)?)?
         .subcommand(check_command(alloc)?)?
         .subcommand(label_command(alloc)?)?
         .subcommand(draw_command(alloc)?)?;
@@ -238,6 +262,17 @@ fn run_command<'a>(alloc: Global) -> Result<Command<'a>, AllocError> {
         .after_help(TEACHING_RUN)
         .arg(description)?
         .arg(script)
+}
+
+/// `debug DESC`.
+fn debug_command<'a>(alloc: Global) -> Result<Command<'a>, AllocError> {
+    let description = Arg::new(alloc, DESCRIPTION)
+        .help(DESCRIPTION_HELP)
+        .required(true);
+    Command::new(alloc, DEBUG)
+        .about(ABOUT_DEBUG)
+        .after_help(TEACHING_DEBUG)
+        .arg(description)
 }
 
 /// `check DESC`.

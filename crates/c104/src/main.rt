@@ -2,26 +2,29 @@
 //!
 //! `main` reads the command line, opens what it names, calls the function of a command and says what that
 //! function's `Status` means: a message on standard error and an exit status. The words of the command
-//! line and its help are in `command_line`, what a path stands for in `sources`, what people are told beside the
-//! answers in `told`; the functions of the commands are those of `c104_commands`.
+//! line and its help are in `command_line`, what a path stands for in `sources`, a script that is typed in
+//! `typed`, what people are told beside the answers in `told`; the functions of the commands are those of `c104_commands`.
 #![tactic(auto)]
 
 mod command_line;
 mod sources;
 mod told;
+mod typed;
 
 pub use c104_commands::{
-    Status, check_command, check_explained, draw_command, draw_explained, draw_header_command,
-    label_command, label_explained, run, run_explained, run_text, run_text_explained,
+    Status, check_command, check_explained, debug_command, debug_explained, debug_terminal,
+    draw_command, draw_explained, draw_header_command, label_command, label_explained, run,
+    run_explained, run_text, run_text_explained,
 };
 use clap::error::ErrorKind;
 use command_line::{Order, Words};
 use sources::Source;
 use std::fs::File;
-use std::io::Input;
+use std::io::{Input, IsTerminal};
 use std::process::ExitCode;
 use std::{env, io};
 use told::{Told, tell_of_words};
+use typed::Typed;
 
 /// The exit status of a wrong command line.
 const WRONG_USAGE: u8 = 2;
@@ -82,6 +85,7 @@ fn do_order(rt: &HostRuntime, order: Order<'_>, told: &mut Told<'_>) -> Status {
             description,
             script,
         } => run_files(rt, description, script, told),
+        Order::Debug { description } => debug_file(rt, description, told),
         Order::Check { description } => check_file(rt, description, told),
         Order::Label { description } => label_file(rt, description, told),
         Order::Draw {
@@ -105,6 +109,31 @@ fn run_files(rt: &HostRuntime, description: &str, script: &str, told: &mut Told<
         rt.alloc(),
         &mut description,
         &mut script,
+        &mut io::writer(rt),
+        told,
+    )
+}
+
+/// Runs a description's file and a script from standard input, line by line. Where a person types it, and sees
+/// standard error, there are prompts, and questions are answered.
+fn debug_file(rt: &HostRuntime, description: &str, told: &mut Told<'_>) -> Status {
+    let opened: io::Result<HostSource> = Source::open(rt, description);
+    let Ok(mut description) = opened else {
+        return Status::CannotRead(0);
+    };
+    if rt.stdin().is_terminal() && rt.stderr().is_terminal() {
+        return debug_terminal(
+            rt.alloc(),
+            &mut description,
+            &mut Typed::new(rt, rt.reader()),
+            &mut io::writer(rt),
+            told,
+        );
+    }
+    debug_explained(
+        rt.alloc(),
+        &mut description,
+        &mut rt.reader(),
         &mut io::writer(rt),
         told,
     )

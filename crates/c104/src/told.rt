@@ -57,6 +57,7 @@ impl<'a> Told<'a> {
             About::DescriptionLine(line) => {
                 format!(in alloc; "c104: {description}:{line}: {message}\n")
             }
+            About::Question => format!(in alloc; "{message}\n"),
             About::ScriptLine(line) => format!(in alloc; "c104: {script}:{line}: {message}\n"),
         }
     }

@@ -5,9 +5,12 @@
 //! `draw_command` and `draw_header_command` draw its network. Each reads no further than the limits of a
 //! description, 1 MiB, and of a script, 16 MiB.
 //!
+//! `debug_command` is `run` for who asks line by line.
+//!
 //! Each of them has a second form that tells people of what is faulty, refused, not ready or didn't arrive, by
-//! what takes `Messages`: `run_explained`, `run_text_explained`, `check_explained`, `label_explained` and
-//! `draw_explained`. What these write and answer is the same.
+//! what takes `Messages`: `run_explained`, `run_text_explained`, `check_explained`, `label_explained`,
+//! `draw_explained` and `debug_explained`. What these write and answer is the same. `debug_terminal` answers a
+//! person's questions too.
 //!
 //! A `Status` is how a command ended; it keeps which of two readers failed, and stands for the program's
 //! exit status. The texts of the program's messages are in `c104`, which has `main`.
@@ -15,6 +18,7 @@
 
 mod advice;
 mod checks;
+mod debugging;
 mod draws;
 mod images;
 mod labels;
@@ -26,6 +30,7 @@ mod texts;
 
 pub use advice::check_advice;
 pub use checks::{check_command, check_explained};
+pub use debugging::{debug_command, debug_explained, debug_terminal};
 pub use draws::{draw_command, draw_explained, draw_header_command};
 pub use images::image_text;
 pub use labels::{label_command, label_explained};
