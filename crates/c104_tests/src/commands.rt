@@ -18,7 +18,7 @@ const ANSWERS: &str =
     9: token 01\n10: done\n11: done\n12: token aa\n13: token eop\n14: token 01\n15: token aa\n16: token eop\n\
     17: not ready\n";
 
-const SUMMARY: &str = "b: 01 aa eop\n";
+const SUMMARY: &str = "b: 01 aa eop from a 0\n";
 
 /// A reader of some text that then fails. It tells how often it was asked after that.
 #[derive(Drop)]

@@ -17,6 +17,7 @@ impl Heard {
             About::Run => "run",
             About::Description | About::DescriptionLine(_) => "description",
             About::ScriptLine(_) => "script",
+            About::Question => "question",
         };
         self.text.push_str(part)?;
         if let About::DescriptionLine(line) | About::ScriptLine(line) = about

@@ -3,8 +3,8 @@
 //! A crate with tests is proved twice, so the tests stand here, above all the crates, and the crates
 //! have none. What a contract says needs no test. These show what no contract can: that a call which
 //! takes memory succeeds where there is some, that the definitions agree with examples that were
-//! worked out elsewhere, and what is printed of faults. What the program can show is a case in
-//! `tests/cases`.
+//! worked out elsewhere, and what is printed of faults. `named_packets` cites the theorem about packets as
+//! a caller does. What the program can show is a case in `tests/cases`.
 #![tactic(auto)]
 
 #[cfg(test)]
@@ -13,6 +13,8 @@ mod commands;
 mod control;
 #[cfg(test)]
 mod crossbar;
+#[cfg(test)]
+mod crossings;
 #[cfg(test)]
 mod describe;
 #[cfg(test)]
@@ -30,7 +32,11 @@ mod label;
 #[cfg(test)]
 mod link;
 #[cfg(test)]
+mod named_packets;
+#[cfg(test)]
 mod net;
+#[cfg(test)]
+mod origins;
 #[cfg(test)]
 mod output;
 #[cfg(test)]

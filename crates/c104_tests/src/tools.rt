@@ -34,6 +34,8 @@ impl ControlPort for Bench {
 
     ghost unanswered = { λ port switch bytes e. Unit {0} };
 
+    ghost due = { λ port switch bytes given after. Unit {0} };
+
     fn switches(&self) -> usize {
         1
     }
@@ -71,6 +73,8 @@ impl ControlPort for Mute {
     ghost shown = { λ port. None };
 
     ghost unanswered = { λ port switch bytes e. Unit {0} };
+
+    ghost due = { λ port switch bytes given after. Unit {0} };
 
     fn switches(&self) -> usize {
         1

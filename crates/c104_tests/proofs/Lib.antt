@@ -1,0 +1,3 @@
+pub mod CalmSteps
+pub mod CalmRuns
+pub mod NamedPackets
