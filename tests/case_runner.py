@@ -32,7 +32,7 @@ FIRST_RUN = [
     ('drain b', 'token eop'), ('drain b', 'not ready'),
 ]
 DRAINS_TO_THE_TERMINATOR = 16
-RECEIVED = b'b: 01 aa eop\n'
+RECEIVED = b'b: 01 aa eop from a 0\n'
 
 CANNOT_READ = b'c104: cannot read -\n'
 CANNOT_WRITE = b'c104: cannot write\n'
