@@ -36,7 +36,7 @@ impl<I: Read + Drop> Read for Typed<'_, I> {
         }
         let count = self.input.read(buf)?;
         let piece = &buf[..count];
-        if count == 0 && self.begins {
+        if count == 0 {
             // What follows stands on a line of its own.
             let _ = self.rt.stderr().write_all(b"\n");
         }

@@ -3,7 +3,8 @@ ghost use Rattle.std.specs.Prelude.{◌≡◌};
 ghost use Rattle.std.specs.Option.{option_map};
 ghost use Rattle.c104_explain.specs.Questions.{asks, is_question};
 
-use crate::nearest::{nearest_switch, nearest_terminal};
+use crate::nearest::nearest_node;
+use crate::script_mistakes::ScriptMistake;
 use crate::shown_nodes::{switch_text, terminal_text};
 use crate::words::Mistake;
 use c104_describe::{cut_words, first_word, uncommented};
@@ -12,28 +13,26 @@ use std::alloc::{AllocError, Global};
 
 /// The lines of a script, each with what it asks, and the questions.
 const HELP: &str = "\
-send TERMINAL PACKET        a packet waits at the terminal to go out, as `send a 01 68 eop`
+send TERMINAL PACKET        a packet waits to go out, as `send a 01 68 eop`
 drain TERMINAL              the first token that came in there arrives
-cross PORT                  the first token that waits at a port crosses its wire
-credit PORT                 a port grants eight more tokens to the other end of its wire
+cross PORT                  the first token that waits there crosses its wire
+credit PORT                 the port grants eight more tokens to the far end
 input SWITCH.LINK [NUMBER]  an input takes a turn with its first token
 claim SWITCH INPUT OUTPUT   an input claims an output for its header
 control SWITCH BYTE ..      a switch takes a command of at most 8 bytes
 rounds COUNT                so often each wire, input and terminal has its turn
-peek SWITCH ADDRESS         what a register of a switch reads, as `peek A 0004`
+peek SWITCH ADDRESS         what a register of a switch reads, as `peek A 0140`
 poke SWITCH ADDRESS VALUE   a register is set
 link SWITCH.LINK            what a link tells of itself
 table SWITCH.LINK           the base and the rows of an input
-verify                      whether every register reads as the description says
+verify                      whether all that can be set reads as it was loaded
 help                        tells the lines that there are
-show SWITCH                 tells how each link of a switch stands that has a wire
+show SWITCH                 tells how each link stands that has a wire
 show TERMINAL               tells how a terminal stands
 A PORT is a terminal, or a switch with a link, as A.0. A `#` begins a comment.";
 
 /// What a line `show` is.
 const SHOW_FORM: &str = "the line is `show SWITCH` or `show TERMINAL`";
-
-const NO_NODE: &str = "no line of the description gives anything this name";
 
 /// Whether a line is a question of people's, and none of a script: its first word is `help` or `show`.
 #[tactic(auto, unfolding(crate::specs::Questions::is_question))]
@@ -77,6 +76,7 @@ fn node_text(alloc: Global, net: &Net, name: &[u8]) -> Result<String, AllocError
     if let Some(terminal) = plan.terminal_number(name) {
         return terminal_text(alloc, net, terminal);
     }
-    let near = nearest_terminal(plan, name).or(nearest_switch(plan, name));
-    Mistake::new(NO_NODE, Some(name)).near(near).text(alloc)
+    Mistake::new(ScriptMistake::NoNode.sentence(), Some(name))
+        .near(nearest_node(plan, name))
+        .text(alloc)
 }

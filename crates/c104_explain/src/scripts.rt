@@ -1,6 +1,8 @@
 //! What is told of a script's line that is faulty or refused.
 
-use crate::nearest::{is_description_word, nearest_script_word, nearest_switch, nearest_terminal};
+use crate::nearest::{
+    is_description_word, nearest_node, nearest_script_word, nearest_switch, nearest_terminal,
+};
 use crate::script_mistakes::ScriptMistake;
 use crate::words::{
     LAST_LINK, Mistake, has_dot, is_within, link_of, name_of, names_switch, names_terminal,
@@ -223,8 +225,7 @@ fn node_mistake<'a>(words: &[&'a [u8]], plan: &'a Plan) -> Mistake<'a> {
             told(ScriptMistake::NoNode, Some(*node)).near(nearest_terminal(plan, name))
         }
         b"cross" | b"credit" => {
-            let near = nearest_terminal(plan, name).or(nearest_switch(plan, name));
-            told(ScriptMistake::NoNode, Some(*node)).near(near)
+            told(ScriptMistake::NoNode, Some(*node)).near(nearest_node(plan, name))
         }
         _ if names_terminal(plan, node) => told(ScriptMistake::NotASwitch, Some(*node)),
         _ => told(ScriptMistake::NoNode, Some(*node)).near(nearest_switch(plan, name)),

@@ -176,10 +176,6 @@ module _ (plan : Plan) (image : Image) (labelled : IsLabelled (routes_of plan im
   not_owned (p ∷ inputs) o zero h = λ e. (let f : is_stream o p.phase ≡ true = ap (is_stream o) e ∙ eq-eqb o o refl in absurd (true≢false (rw f at h)))
   not_owned (p ∷ inputs) o (suc j) h = not_owned inputs o j (or_false (is_stream o p.phase) (is_owned inputs o) h)
 
-  left_true : (a b : Bool) → (a && b) ≡ true → b ≡ true
-  left_true true b h = h
-  left_true false b h = absurd (true≢false (sym h))
-
   -- what a header does to an output
   header_put : (so : Settings) (b : List Traced) (q q' : Outgoing Traced) → put_header so b q ≡ Some q' → q'.items ≡ (if so.delete_header then q.items else q.items ++ b)
   header_put so b q q' e = ⊎_elim

@@ -28,7 +28,6 @@ pub mod RecordedRuns
 pub mod DoneEvents
 pub mod WiredPorts
 pub mod PortWalks
-pub mod ReadyNodes
 pub mod PlanBuffers
 pub mod BalanceWires
 pub mod BalancePlaces

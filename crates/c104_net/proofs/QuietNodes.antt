@@ -49,9 +49,6 @@ module _ {A : Type 0} (kind : Kind A) where
       let rest = both (nat_eq (length q.items) 0) (is_fresh (phase_view kind p.phase)) first.1 in
       ((empty_is p.buffer.items first.0, fresh_is p.phase rest.1), empty_is q.items rest.0)
 
-  quiet_seen : (p : Input A) (q : Outgoing A) → IsQuietInput p → IsQuietOutput q → seen p q ≡ true
-  quiet_seen p q input output = rw (input.0, input.1, output) refl
-
   module _ (s : SwitchState A) (sound : IsSound s) where
     view_is : (l : ℕ) (p : Input A) (q : Outgoing A) → slice_get s.inputs l ≡ Some p → slice_get s.outputs l ≡ Some q → is_quiet_view (link_view kind s l) ≡ seen p q
     view_is l p q input output = rw (input, output) refl
@@ -66,16 +63,6 @@ module _ {A : Type 0} (kind : Kind A) where
           let p : Input A = get_or s.inputs i (record { buffer = record { cap = 0; items = []; granted = 0 }; phase = Fresh; sunk = 0; short = 0 }) in
           (seen_quiet p (get_or s.outputs i q) (sym (view_is i p (get_or s.outputs i q) (slice_get-get_or s.inputs i (record { buffer = record { cap = 0; items = []; granted = 0 }; phase = Fresh; sunk = 0; short = 0 }) (omega (arith, sound.inputs, sound.outputs))) (slice_get-get_or s.outputs i q inside)) ∙ quiet i (omega (arith, sound.outputs)))).1,
     )
-
-    -- a link that is seen not to be quiet
-    pub one_loud : (l : ℕ) → is_quiet_view (link_view kind s l) ≡ false → IsQuietSwitch s → ⊥
-    one_loud l loud quiet = by_input (slice_get s.inputs l) refl (slice_get s.outputs l) refl
-      where
-        by_input : (o : Option (Input A)) → slice_get s.inputs l ≡ o → (r : Option (Outgoing A)) → slice_get s.outputs l ≡ r → ⊥
-        by_input None input r output = let no : is_quiet_view (link_view kind s l) ≡ true = rw input refl in cc
-        by_input (Some p) input None output = let no : is_quiet_view (link_view kind s l) ≡ true = rw (input, output) refl in cc
-        by_input (Some p) input (Some q) output =
-            let no : is_quiet_view (link_view kind s l) ≡ true = view_is l p q input output ∙ quiet_seen p q (All-place IsQuietInput s.inputs l p input quiet.0) (All-place IsQuietOutput s.outputs l q output quiet.1) in cc
 
 -- the nodes up to one, and this one
 pub quiet_next : {A : Type 0} (nodes : List (Node A)) (i : ℕ) (n : Node A) → i < length nodes → n ≡ get_or nodes i n → IsQuietNode n → ((k : ℕ) (d : Node A) → k < i → IsQuietNode (get_or nodes k d)) → (k : ℕ) (d : Node A) → k < i + 1 → IsQuietNode (get_or nodes k d)

@@ -42,9 +42,6 @@ module _ {A B : Type 0} (f : A → B) (from : Kind A) (to : Kind B) (plain_is : 
   bytes_map [] = refl
   bytes_map (x ∷ b) = rw (plain_is x, bytes_map b) refl
 
-  goes_map : (p : Input A) (ph : Phase (List A)) (a b : Bool) → input_in_phase (map_input f p) (map_phase f ph) a b ≡ map_input f (input_in_phase p ph a b)
-  goes_map p ph a b = refl
-
   used_map : (p : Input A) (ph : Phase (List A)) (a b : Bool) → input_after_token (map_input f p) (map_phase f ph) a b ≡ map_input f (input_after_token p ph a b)
   used_map p ph a b = rw (drop_map f p.buffer.items) refl
 
@@ -194,12 +191,7 @@ module _ {A B : Type 0} (f : A → B) (from : Kind A) (to : Kind B) (plain_is : 
   pub apply_map : (net : Network A) (e : Event) → ◌≡◌ {A = Result Reply EventFault × Network B} (network_apply to (map_network f net) e) (map_answer (network_apply from net e))
   apply_map net e = there_map net e (event_fault net.plan e)
 
-  -- a run over the one kind of token is a run over the other, with the same replies
-  pub run_map : (net ended : Network A) (events : List (Event × Reply)) → IsDoneRun from net events ended → IsDoneRun to (map_network f net) events (map_network f ended)
-  run_map net ended [] is = ap (map_network f) is
-  run_map net ended (e ∷ events) is = (map_network f is.0, ap map_answer is.1 ∙ sym (apply_map net e.0), is.2, run_map is.0 ended events is.3)
-
-  -- and a run over the other kind, from where a network is mapped to, is that of a run over the one
+  -- a run over the other kind, from where a network is mapped to, is that of a run over the one, with the same replies
   pub run_lift : (net : Network A) (ended : Network B) (events : List (Event × Reply)) → IsDoneRun to (map_network f net) events ended → (last : Network A) × IsDoneRun from net events last × (map_network f last ≡ ended)
   run_lift net ended [] is = (net, refl, sym is)
   run_lift net ended (e ∷ events) is =

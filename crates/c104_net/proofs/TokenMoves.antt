@@ -15,9 +15,6 @@ use Rattle.c104_token.specs.declared.packets.Packet.{Packet}
 use Rattle.std.proofs.Common.{Bool, List, None, Some, [], ap, arith, false, if◌then◌else◌, refl, sym, true, ℕ, ⊎_elim, ◌++◌, ◌+◌, ◌∙◌, ◌∷◌, ◌≡◌, ◌≢◌, ◌⊎◌}
 use Rattle.std.proofs.lemmas.Bool.{cases_Bool, true≢false}
 
-marks_byte : (a n : ℕ) (x : Traced) (c : List Traced) → is_end x.token ≡ false → marks a n (x ∷ c) ≡ marks a n c
-marks_byte a n x c h = rw h (omega arith)
-
 pub marks_other : (a n : ℕ) (x : Traced) (c : List Traced) → is_end_of a n x ≡ false → marks a n (x ∷ c) ≡ marks a n c
 marks_other a n x c h = rw h (omega arith)
 

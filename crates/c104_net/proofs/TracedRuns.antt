@@ -33,10 +33,6 @@ token_of x = x.token
 abbrev pub plain_network : Network Traced → Network Token
 plain_network net = map_network token_of net
 
--- a traced run is the plain one, with more told of each token
-pub plain_run : (net ended : Network Traced) (events : List (Event × Reply)) → IsDoneRun traced_kind net events ended → IsDoneRun plain_kind (plain_network net) events (plain_network ended)
-plain_run net ended events is = run_map token_of traced_kind plain_kind (λ x. refl) (λ j b. refl) (λ t n j x. refl) net ended events is
-
 -- each plain run is that of a traced run
 pub traced_run : (net : Network Traced) (ended : Network Token) (events : List (Event × Reply)) → IsDoneRun plain_kind (plain_network net) events ended → (last : Network Traced) × IsDoneRun traced_kind net events last × (plain_network last ≡ ended)
 traced_run net ended events is = run_lift token_of traced_kind plain_kind (λ x. refl) (λ j b. refl) (λ t n j x. refl) net ended events is
@@ -50,13 +46,6 @@ module _ (plan : Plan) (starts : List NodeStart) where
       let same_plan : found.0.plan ≡ plan = ap (λ (n : Network Token). n.plan) found.2 in
       let whole : found.0 ≡ network_of plan found.0.nodes = ap (λ p. network_of p found.0.nodes) same_plan in
       (found.0.nodes, record { run = subst (λ n. IsDoneRun traced_kind (network_of plan (map start_node starts)) events n) whole found.1; plain = ap (λ (n : Network Token). n.nodes) found.2 })
-
-  -- what is promised of any run from a start, with premises on the plain run alone: over tokens that tell where they
-  -- came from it goes as it went, and the promise holds of where it ends
-  pub run_promise : (image : Image) (nodes : List (Node Token)) (traces : List (List Entry)) (count : ℕ) (events : List (Event × Reply)) → IsPlan plan → IsAccepted (routes_of plan image) → AreStartsOf plan image starts → IsRunRecord plain_kind plan (map start_node starts) nodes traces count events → IsUnchanged events → (traced : List (Node Traced)) × IsTracedRun plan starts events nodes traced × Promise (routes_of plan image) (network_of plan traced)
-  run_promise image nodes traces count events is_plan accepted are record_is unchanged =
-      let found = traced_from nodes events record_is.run in
-      (found.0, found.1, headline image (network_of plan (map start_node starts)) (network_of plan found.0) events is_plan accepted (starts_are plan image starts are) found.1.run unchanged)
 
 -- where events that were done lead
 pub run_after : {A : Type 0} (kind : Kind A) (net ended : Network A) (events : List (Event × Reply)) → IsDoneRun kind net events ended → (run_events (network_apply kind) net (map (λ (e : Event × Reply). e.0) events)).1 ≡ ended

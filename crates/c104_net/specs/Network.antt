@@ -154,11 +154,6 @@ limited_node net (event.Control s bytes) = None
 limited_node net (event.Send t packet) = slice_get net.nodes (terminal_place net.plan t)
 limited_node net (event.Drain t) = slice_get net.nodes (terminal_place net.plan t)
 
--- what is answered where a switch replies to a command
-abbrev pub control_reply : Option (List ℕ) → Reply
-control_reply (Some bytes) = reply.Control bytes
-control_reply None = reply.NotReady
-
 module _ {A : Type 0} (kind : Kind A) where
   -- what is left where nothing else comes of an event
   abbrev pub done_step : Network A → Option (List (Node A)) → Option (Reply × Network A)

@@ -195,9 +195,12 @@ impl Net {
         }
     }
 
-    /// Does an event, as a network does that keeps no traces; and where it was done, each node that acted
-    /// has one entry more, with the event's number among those that were done. TraceFull comes after
-    /// InboxFull and before NoMemory.
+    /// Does an event and answers what came of it, or NotReady where one of its conditions doesn't hold; or refuses
+    /// it. Where it was done, each node that acted has one entry more, with the event's number among those that were
+    /// done; else nothing has changed.
+    ///
+    /// The first of these is answered: NoNode, NoLink, NotWired, TooLong; NotReady; OutboxFull, InboxFull, TraceFull,
+    /// NoMemory. The order is this emulator's own.
     pub fn apply(&mut self, event: &Event) -> Result<Reply, EventFault>
         ensures recorded { RecordsEvent self.old event.now result self.new }
         ensures due { AnswersRecord self.old event.now result self.new }

@@ -7,8 +7,8 @@
 //! shown of a line: what it asked was done, or refused, or it is faulty. A `Probe` is what the debugger
 //! is asked, and a `Finding` what it found.
 //!
-//! The grammar is a function over the list of a line's words: the first is looked up in one table, and has a
-//! reader of the others. Nothing here acts: a network answers what was asked, and `add_answer` prints it.
+//! The grammar is a function over the list of a line's words: the first is looked up in the two tables of words,
+//! and has a reader of the others. Nothing here acts: a network answers what was asked, and `add_answer` prints it.
 #![tactic(auto)]
 
 mod answers;

@@ -4,6 +4,7 @@ use c104_label::LabelFault;
 use c104_net::{EventFault, PlaceFault};
 use c104_regs::RegFault;
 use c104_token::{NoMemory, TokenFault};
+use c104_tools::LoadFault;
 use std::alloc::Global;
 use std::fmt::Display;
 use std::test::Fail;
@@ -115,6 +116,47 @@ fn of_labels(rt: HostRuntime) -> Result<(), Fail> {
             "the network does not have the shape that is labelled so",
         ),
         (LabelFault::NoMemory, 4, "NoMemory", "out of memory"),
+    ] {
+        let found = message_of(rt.alloc(), &fault)?;
+        let told = (fault.number(), fault.name(), found.as_str());
+        assert!(rt; told == (number, name, message), "{found}");
+    }
+    Ok(())
+}
+
+#[test]
+fn of_tools(rt: HostRuntime) -> Result<(), Fail> {
+    for (fault, number, name, message) in [
+        (
+            LoadFault::Refused(1, 0x0140, 5),
+            1,
+            "Refused",
+            "switch 1 refused a command",
+        ),
+        (
+            LoadFault::Differs(1, 0x0140, 5),
+            2,
+            "Differs",
+            "a register of switch 1 has another value than the image",
+        ),
+        (
+            LoadFault::NoSwitch,
+            3,
+            "NoSwitch",
+            "there is no such switch, or another number of them",
+        ),
+        (
+            LoadFault::Port(EventFault::NoMemory),
+            4,
+            "Port",
+            "out of memory",
+        ),
+        (
+            LoadFault::BadReply(1),
+            5,
+            "BadReply",
+            "switch 1 gave a reply that answers something else",
+        ),
     ] {
         let found = message_of(rt.alloc(), &fault)?;
         let told = (fault.number(), fault.name(), found.as_str());

@@ -41,7 +41,7 @@ fn faulty_lines(rt: HostRuntime) -> Result<(), Fail> {
         (
             LineFault::BadHex,
             "10: fault 5 BadHex\n",
-            "a word is neither two hexadecimal digits nor `eop` or `eom`",
+            "a word isn't the hexadecimal digits, or the end of a packet, that are wanted there",
         ),
         (
             LineFault::NoEnd,

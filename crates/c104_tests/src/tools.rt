@@ -5,7 +5,9 @@ use c104_event::{Event, EventFault};
 use c104_net::Net;
 use c104_switch::Switch;
 use c104_token::{Token, parse_packet};
-use c104_tools::{Asked, ControlPort, LoadFault, load, read_link, verify, write_register};
+use c104_tools::{
+    Asked, ControlPort, LinkNumbers, LoadFault, load, read_link, read_table, verify, write_register,
+};
 use std::alloc::Global;
 use std::process::Abort;
 use std::test::Fail;
@@ -16,6 +18,17 @@ const PLAN: &[u8] = b"switch A\nterminal a A.0\nterminal b A.1\n\
 
 /// Two switches.
 const PAIR: &[u8] = b"switch A\nswitch B\nterminal a A.0\nterminal b B.0\nwire A.1 B.1\n";
+
+/// What a link tells of itself where nothing has happened yet.
+const IDLE: LinkNumbers = LinkNumbers {
+    sunk: 0,
+    short: 0,
+    input_level: 0,
+    output_level: 0,
+    credit: 0,
+    granted: 0,
+    owner: 0,
+};
 
 /// A port of one switch, which keeps what it was asked.
 struct Bench {
@@ -128,13 +141,14 @@ fn try_bench(rt: &impl Abort, bench: &mut Bench, own: &Image, pair: &Image) -> R
     assert!(rt; load(bench, own) == Ok(()));
     // A reset, a limit and a select for each of two rows of two inputs, and the start.
     assert!(rt; bench.asked.len() == 10);
+    let table = read_table(bench, 0, 0)?;
+    assert!(rt; table.base == 0 && table.rows[1].limit == 2);
     assert!(rt; verify(bench, own) == Ok(()));
     assert!(rt; write_register(bench, 0, 0x0140, 5) == Ok(()));
     assert!(rt; verify(bench, own) == Err(LoadFault::Differs(0, 0x0140, 5)));
     assert!(rt; write_register(bench, 0, 0xffff, 0) == Err(LoadFault::Refused(0, 0xffff, 3)));
     assert!(rt; read_link(bench, 1, 0) == Err(LoadFault::NoSwitch));
-    let numbers = read_link(bench, 0, 31)?;
-    assert!(rt; numbers.credit == 0 && numbers.owner == 0);
+    assert!(rt; read_link(bench, 0, 31) == Ok(IDLE));
     assert!(rt; load(bench, own) == Ok(()));
     assert!(rt; verify(bench, own) == Ok(()));
     Ok(())
@@ -186,7 +200,7 @@ fn load_network(rt: &impl Abort, net: &mut Net, image: &Image) -> Result<(), Fai
     assert!(rt; write_register(net, 0, 0x0140, 5) == Ok(()));
     assert!(rt; verify(net, image) == Err(LoadFault::Differs(0, 0x0140, 5)));
     assert!(rt; load(net, image) == Ok(()));
-    assert!(rt; net.command(1, &ControlBytes::new(&[0x03])).is_err());
+    assert!(rt; net.command(1, &ControlBytes::new(&[0x03])) == Err(EventFault::NoNode));
     assert!(rt; net.begin());
     Ok(())
 }
@@ -198,6 +212,9 @@ fn carry(rt: &impl Abort, alloc: Global, net: &mut Net) -> Result<(), Fail> {
         terminal: 0,
         packet,
     })?;
+    assert!(rt; !net.begin());
+    let trace = net.trace(1).ok_or("no terminal a")?;
+    assert!(rt; trace.len() == 1);
     net.rounds(4)?;
     let arrived = net.arrived(1).ok_or("no terminal b")?;
     assert!(rt; arrived == [Token::Byte(1), Token::Eop].as_slice());

@@ -1,8 +1,9 @@
 use c104_control::ControlBytes;
-use c104_describe::{hand_image, read_description};
+use c104_describe::{Image, hand_image, read_description};
 use c104_net::{Act, Entry, Event, EventFault, Net, Port};
 use c104_switch::{ActionOf, Reply};
 use c104_token::{Token, parse_packet};
+use c104_tools::{LoadFault, load};
 use std::alloc::Global;
 use std::process::Abort;
 use std::test::Fail;
@@ -11,31 +12,32 @@ use std::test::Fail;
 const ROW: &[u8] = b"switch A\nswitch B\nswitch C\nterminal a A.0\nterminal c C.1\n\
     wire A.1 B.0\nwire B.1 C.0\nrow A.0 1 sink\nrow A.0 2 1\nrow B.0 2 1\nrow C.0 2 1\n";
 
-/// A network of a description, with the image of its own lines. The text comes as an argument, since the
-/// prover would compute with a literal.
-fn placed(alloc: Global, text: &[u8]) -> Result<Net, Fail> {
+/// A network of a description, with the image of its own lines, which comes beside it. The text comes as an
+/// argument, since the prover would compute with a literal.
+fn placed(alloc: Global, text: &[u8]) -> Result<(Net, Image), Fail> {
     let plan = read_description(alloc, text)?;
     let image = hand_image(alloc, &plan)?;
     let net = Net::placed(alloc, &plan, &image)?;
-    Ok(net)
+    Ok((net, image))
 }
 
 /// A trace takes 1,048,576 entries and no more, until a run begins.
 #[test]
 fn full_trace(rt: HostRuntime) -> Result<(), Fail> {
-    let mut net = placed(rt.alloc(), ROW)?;
-    let result = fill(&rt, &mut net, 1_048_576);
+    let (mut net, image) = placed(rt.alloc(), ROW)?;
+    let result = fill(&rt, &mut net, &image, 1_048_576);
     let _run = net.finish();
     result
 }
 
 /// The limit comes as an argument, since the prover would compute with a literal.
-fn fill(rt: &impl Abort, net: &mut Net, limit: usize) -> Result<(), Fail> {
+fn fill(rt: &impl Abort, net: &mut Net, image: &Image, limit: usize) -> Result<(), Fail> {
     for _ in 0..limit {
         net.apply(&identify(1))?;
     }
     assert!(rt; net.apply(&identify(1)) == Err(EventFault::TraceFull));
     assert!(rt; count(net, 1) == limit);
+    assert!(rt; load(net, image) == Err(LoadFault::Port(EventFault::TraceFull)));
     net.apply(&identify(2))?;
     assert!(rt; net.begin());
     assert!(rt; count(net, 1) == 0);
@@ -63,7 +65,7 @@ fn count(net: &Net, node: usize) -> usize {
 /// A packet goes through three switches, and each node tells what it did.
 #[test]
 fn told_entry_by_entry(rt: HostRuntime) -> Result<(), Fail> {
-    let mut net = placed(rt.alloc(), ROW)?;
+    let (mut net, _image) = placed(rt.alloc(), ROW)?;
     let result = go_through(rt.alloc(), &mut net);
     let run = net.finish();
     result?;

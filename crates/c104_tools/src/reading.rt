@@ -30,7 +30,7 @@ pub struct LinkNumbers {
     pub credit: u32,
     /// How many more tokens the input let the other end of its wire send.
     pub granted: u32,
-    /// 0, or 1 and the input that streams to the output.
+    /// 0, or 1 plus the number of the input that streams to the output.
     pub owner: u32,
 }
 

@@ -7,9 +7,10 @@ use crate::watch::{Unwatched, Watch};
 use c104_event::EventFault;
 
 impl Net {
-    /// Does so many rounds, as a network does that keeps no traces, up to the first fault of an event;
-    /// and each event that was done has its entries, with its number among those that were. TraceFull
-    /// is such a fault: a trace that an event would add to is full.
+    /// Does so many rounds, up to the first fault of an event. A round is this emulator's own order of events: Credit
+    /// of each wired port, those of the switches by switch and link and then the terminals; Cross of the same; Input of
+    /// each wired input, with word 0; Claim of each input and output of each switch; and Drain of each terminal. An
+    /// event that isn't ready stops nothing.
     ///
     /// The events before a fault stand, and their entries. NoMemory comes when out of memory for an event
     /// that would be done.

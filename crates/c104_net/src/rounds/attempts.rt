@@ -1,6 +1,7 @@
 //! One event of a round, which tells whether it was done, and is counted where it was.
 //!
-//! The kinds of which a round has many have a function each, which is inlined: the others' cases aren't in it.
+//! Of the kinds that a round has most, each has a function of its own, which is inlined, so that a walk holds no code
+//! of other kinds. `attempt` is for the rest, which are claims.
 ghost use Rattle.std.specs.Prelude.{◌≡◌, ◌∷◌, []};
 ghost use Rattle.c104_event.specs.declared.events.Event.TheVariants as event;
 ghost use Rattle.c104_net.specs.NetRecords.{is_done, ticket_after};
