@@ -25,9 +25,10 @@ const TEACHING: &str = "A run has two inputs, which are text:
   switches, the wires between them, the terminals on their links, and the rows
   by which an input of a switch chooses the output for a packet's header.
 
-  The script says what happens in it, an event on each line. A line is answered
-  behind its number as soon as it is read. At the end stands each packet that
-  arrived, behind the name of its terminal.
+  The script says what happens in it: on each line an event, rounds, or a register
+  that is to be read or set. A line is answered behind its number as soon as it is
+  read. At the end stands each packet that arrived, behind the name of its terminal,
+  with the terminal that sent it and its number there.
 
 They are two files, or one text on standard input: the description, a line whose
 only word is `script`, and then the script. `c104` alone is `c104 run`.
@@ -212,7 +213,7 @@ pub const EXPLAIN_WORD: &str = "--explain";
 
 const EXPLAIN_HELP: &str =
     "Tells on standard error what is wrong with a line, and what didn't arrive;
-so it is without this where standard error is a terminal";
+where standard error is a terminal that is told anyway";
 
 /// The names of arguments, as help shows them.
 const DESCRIPTION: &str = "DESC";

@@ -20,14 +20,14 @@ credit PORT                 the port grants eight more tokens to the far end
 input SWITCH.LINK [NUMBER]  an input takes a turn with its first token
 claim SWITCH INPUT OUTPUT   an input claims an output for its header
 control SWITCH BYTE ..      a switch takes a command of at most 8 bytes
-rounds COUNT                so often each wire, input and terminal has its turn
+rounds COUNT                so often each wire, input and terminal has a turn
 peek SWITCH ADDRESS         what a register of a switch reads, as `peek A 0140`
 poke SWITCH ADDRESS VALUE   a register is set
 link SWITCH.LINK            what a link tells of itself
 table SWITCH.LINK           the base and the rows of an input
 verify                      whether all that can be set reads as it was loaded
-help                        tells the lines that there are
-show SWITCH                 tells how each link stands that has a wire
+help                        lists these lines
+show SWITCH                 tells how each wired link stands
 show TERMINAL               tells how a terminal stands
 A PORT is a terminal, or a switch with a link, as A.0. A `#` begins a comment.";
 

@@ -116,7 +116,7 @@ impl ScriptMistake {
                 "262144 tokens have arrived at a terminal, and it takes no more"
             }
             ScriptMistake::TraceFull => {
-                "1048576 entries are kept of a node, and there is room for no more"
+                "a switch or a terminal does at most 1048576 acts, and one that would act has done so many"
             }
             ScriptMistake::NoRegister => "no register has this address",
             ScriptMistake::ReadOnly => {

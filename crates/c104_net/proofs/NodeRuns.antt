@@ -2,16 +2,10 @@
 use Rattle.std.proofs.Common.{◌≡◌, ◌++◌, ◌∷◌, [], ℕ, true, List, Option, Some, None, is_some, refl, sym, ap, subst}
 use Rattle.c104_token.specs.declared.tokens.Token.{Token}
 use Rattle.c104_token.specs.Kinds.{plain_kind}
-use Rattle.c104_switch.specs.Actions.{Action, Reply}
 use Rattle.c104_switch.specs.declared.actions.ReplyOf.{ReplyOf}
-use Rattle.c104_switch.specs.declared.actions.ActionOf.TheVariants as action
-use Rattle.c104_switch.specs.declared.actions.ReplyOf.TheVariants as reply
-use Rattle.c104_net.specs.declared.acts.ActOf.{ActOf}
-use Rattle.c104_net.specs.declared.acts.ActOf.TheVariants as act
 use Rattle.c104_net.specs.declared.acts.Entry.{Entry}
 use Rattle.c104_net.specs.Nodes.{Node}
-use Rattle.c104_net.specs.Acts.{IsShort, node_act, plain_reply, reply_outcome}
-use Rattle.c104_net.specs.Traces.{entry_of, kept_entry, plain_act, plain_action}
+use Rattle.c104_net.specs.Acts.{IsShort, node_act, reply_outcome}
 use Rattle.c104_net.specs.Records.{IsNodeRun}
 
 pub run_on : (from mid to : Node Token) (entries : List Entry) (e : Entry) (number : ℕ) → IsNodeRun from entries mid → IsShort e.act → node_act plain_kind number e.act mid ≡ Some (e.reply, to) → IsNodeRun from (entries ++ e ∷ []) to

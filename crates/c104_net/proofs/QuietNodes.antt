@@ -6,7 +6,6 @@ use Rattle.std.proofs.lemmas.Bool.Decides.{nat_tests}
 use Rattle.std.proofs.lemmas.Option.{slice_get-get_or, slice_get-map}
 use Rattle.c104_token.specs.Kinds.{Kind}
 use Rattle.c104_link.specs.Buffers.{Outgoing}
-use Rattle.c104_link.proofs.MadeSteps.{All-place}
 use Rattle.c104_regs.specs.declared.registers.TheConstants.{LINKS}
 use Rattle.c104_switch.specs.Switch.{Input, Switch as SwitchState}
 use Rattle.c104_switch.specs.Soundness.{IsSound}

@@ -19,7 +19,7 @@ use Rattle.c104_switch.specs.Actions.{Reply}
 use Rattle.c104_switch.specs.Claims.{input_claim, inputs_claim, put_header, switch_claim}
 use Rattle.c104_switch.specs.Headers.{header_value, phase_after_header, random_bytes, random_from, random_header}
 use Rattle.c104_switch.specs.Switch.{Input, Switch, is_owned}
-use Rattle.c104_switch.specs.Turns.{header_turn, input_after_token, input_in_phase, input_turn, phase_after_token, switch_input, turn_by_phase}
+use Rattle.c104_switch.specs.Turns.{header_turn, input_after_token, input_turn, phase_after_token, switch_input, turn_by_phase}
 use Rattle.c104_switch.specs.declared.phase.Phase.{Phase}
 use Rattle.c104_switch.specs.declared.phase.Phase.TheVariants.{Fresh, Head, Sinking, Stream, Want}
 use Rattle.c104_token.specs.Kinds.{Kind}

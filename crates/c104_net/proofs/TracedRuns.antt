@@ -1,22 +1,16 @@
 -- Runs over tokens that tell where they came from, and what is promised of them.
-use Rattle.c104_check.specs.Routes.{IsAccepted, routes_of}
-use Rattle.c104_describe.specs.PlanImage.{Image}
-use Rattle.c104_describe.specs.Plans.{IsPlan, Plan}
+use Rattle.c104_describe.specs.Plans.{Plan}
 use Rattle.c104_event.specs.declared.events.Event.{Event}
 use Rattle.c104_event.specs.declared.faults.EventFault.{EventFault}
-use Rattle.c104_net.proofs.Promises.{headline}
-use Rattle.c104_net.proofs.StartMaps.{starts_are, starts_same}
-use Rattle.c104_net.proofs.StepMaps.{run_lift, run_map}
-use Rattle.c104_net.specs.Deliveries.{Promise}
+use Rattle.c104_net.proofs.StartMaps.{starts_same}
+use Rattle.c104_net.proofs.StepMaps.{run_lift}
 use Rattle.c104_net.specs.EventRuns.{run_events, unless_fault}
 use Rattle.c104_net.specs.Network.{AnswersEvent, Network, network_apply, network_of}
 use Rattle.c104_net.specs.Nodes.{Node}
-use Rattle.c104_net.specs.Runs.{IsDoneRun, IsRunRecord}
+use Rattle.c104_net.specs.Runs.{IsDoneRun}
 use Rattle.c104_net.specs.Starts.{start_node}
 use Rattle.c104_net.specs.Traced.{traced_kind}
 use Rattle.c104_net.specs.TracedRuns.{IsTracedRun, map_network}
-use Rattle.c104_net.specs.Unchanged.{AreStartsOf, IsUnchanged}
-use Rattle.c104_net.specs.declared.acts.Entry.{Entry}
 use Rattle.c104_net.specs.declared.starts.NodeStart.{NodeStart}
 use Rattle.c104_net.specs.declared.traced.Traced.{Traced}
 use Rattle.c104_switch.specs.Actions.{Reply}

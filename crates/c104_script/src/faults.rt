@@ -27,7 +27,7 @@ pub enum LineFault {
     BadNumber = 4,
     /// A word of a packet is neither two hexadecimal digits nor a terminator, or a word of another line isn't
     /// the hexadecimal digits that are asked for.
-    #[error("a word isn't the hexadecimal digits, or the end of a packet, that are wanted there")]
+    #[error("a word isn't made of the hexadecimal digits that are wanted, and is no end of a packet")]
     BadHex = 5,
     /// A packet has no terminator.
     #[error("the packet has no end: `eop` or `eom` is wanted")]

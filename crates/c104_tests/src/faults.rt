@@ -143,7 +143,7 @@ fn of_tools(rt: HostRuntime) -> Result<(), Fail> {
             LoadFault::NoSwitch,
             3,
             "NoSwitch",
-            "there is no such switch, or another number of them",
+            "there is no such switch, or the image has another number of switches",
         ),
         (
             LoadFault::Port(EventFault::NoMemory),

@@ -1,4 +1,4 @@
-//! Tests of the library crates: a module for each crate, and one for the texts of all faults.
+//! Tests of the library crates, in modules by what they test, and one for the texts of all faults.
 //!
 //! A crate with tests is proved twice, so the tests stand here, above all the crates, and the crates
 //! have none. What a contract says needs no test. These show what no contract can: that a call which

@@ -41,7 +41,7 @@ fn faulty_lines(rt: HostRuntime) -> Result<(), Fail> {
         (
             LineFault::BadHex,
             "10: fault 5 BadHex\n",
-            "a word isn't the hexadecimal digits, or the end of a packet, that are wanted there",
+            "a word isn't made of the hexadecimal digits that are wanted, and is no end of a packet",
         ),
         (
             LineFault::NoEnd,

@@ -19,7 +19,7 @@ pub enum LoadFault {
     Differs(usize, u16, u32),
     /// The port has no switch of the number, or another number of switches than the image. Nothing
     /// was asked.
-    #[error("there is no such switch, or another number of them")]
+    #[error("there is no such switch, or the image has another number of switches")]
     NoSwitch,
     /// The port gave no reply.
     #[error("{0}")]
