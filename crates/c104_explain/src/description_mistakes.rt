@@ -119,7 +119,8 @@ impl DescriptionMistake {
             DescriptionMistake::NotASwitch => "this is a terminal, and a switch is wanted",
             DescriptionMistake::NoTerminal => "no line before gives a terminal this name",
             DescriptionMistake::NotATerminal => "this is a switch, and a terminal is wanted",
-            DescriptionMistake::SelfWire => "a wire joins two switches, and both its ends are at the same one",
+            DescriptionMistake::SelfWire =>
+                "a wire joins two switches, and both its ends are at the same one",
             DescriptionMistake::TerminalThere => "the link has a terminal already",
             DescriptionMistake::WireThere => "the link has a wire already",
             DescriptionMistake::Switches => "there are at most 64 switches",

@@ -94,9 +94,13 @@ fn add_terminal(
     name: &str,
     messages: &mut Vec<String>,
 ) -> Result<(), AllocError> {
+    let (waiting, undrained) = match net.view_terminal(number) {
+        Some(view) => (view.waiting, view.undrained),
+        None => (0, 0),
+    };
     let counts = [
-        (net.unsent(number).unwrap_or(0), UNSENT),
-        (net.undrained(number).unwrap_or(0), UNDRAINED),
+        (waiting, UNSENT),
+        (undrained, UNDRAINED),
         (unfinished_tokens(alloc, net, number)?, UNFINISHED),
     ];
     for (count, sentence) in counts {

@@ -6,7 +6,6 @@ pub mod FarEnds
 pub mod Acts
 pub mod Places
 pub mod Network
-pub mod Waiting
 pub mod Views
 pub mod Reasons
 pub mod ReasonMeanings

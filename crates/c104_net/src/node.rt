@@ -3,7 +3,6 @@ ghost use Rattle.std.specs.Prelude.{◌≡◌, ◌∷◌, []};
 ghost use Rattle.std.specs.Option.{option_copied, option_to_list};
 ghost use Rattle.c104_net.specs.Nodes.{node_waiting, node_arrived, node_peek};
 ghost use Rattle.c104_net.specs.Finished.{terminals_of};
-ghost use Rattle.c104_net.specs.Waiting.{node_undrained};
 
 mod acting;
 pub mod quiet;
@@ -53,16 +52,6 @@ impl<T: TokenKind> NodeOf<T> {
         match self {
             NodeOf::Switch(_) => None,
             NodeOf::Terminal(terminal) => Some(terminal.waiting()),
-        }
-    }
-
-    /// How many tokens came in and have yet to arrive, if the node is a terminal.
-    pub fn undrained(&self) -> Option<usize>
-        ensures { result ≡ node_undrained self.now }
-    {
-        match self {
-            NodeOf::Switch(_) => None,
-            NodeOf::Terminal(terminal) => Some(terminal.undrained()),
         }
     }
 

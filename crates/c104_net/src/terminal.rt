@@ -71,13 +71,6 @@ impl<T: TokenKind> TerminalOf<T> {
         self.outbox.len()
     }
 
-    /// How many tokens came in and have yet to arrive.
-    pub fn undrained(&self) -> usize
-        ensures { result ≡ length self.now.input.items }
-    {
-        self.input.len()
-    }
-
     /// Whether no token came in that hasn't arrived, and none waits to go out.
     pub fn is_quiet(&self) -> bool
         ensures { IsTrue result ↔ ((self.now.input.items ≡ []) × (self.now.output.items ≡ [])) }

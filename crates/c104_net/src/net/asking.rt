@@ -5,7 +5,6 @@ ghost use Rattle.c104_net.specs.Network.{network_apply, network_peek};
 ghost use Rattle.c104_net.specs.NetRecords.{IsNetRecord};
 ghost use Rattle.c104_net.specs.ReasonMeanings.{IsEventReason};
 ghost use Rattle.c104_net.specs.Reasons.{is_unready, network_why};
-ghost use Rattle.c104_net.specs.Waiting.{network_undrained, network_unsent};
 
 use super::Net;
 use crate::place::Place;
@@ -14,32 +13,6 @@ use crate::reasons::first_reason;
 use c104_event::Event;
 
 impl Net {
-    /// How many tokens of its packets wait at a terminal to go out. None where the plan has no such
-    /// terminal.
-    pub fn unsent(&self, terminal: usize) -> Option<usize>
-        ensures { result ≡ network_unsent self.now.network terminal }
-    {
-        let plan = self.wires.plan();
-        if terminal >= plan.terminals().len() {
-            return None;
-        }
-        let place = plan.switches().len() + terminal;
-        self.places.get(place)?.node().waiting()
-    }
-
-    /// How many tokens came in at a terminal and have yet to arrive. None where the plan has no such
-    /// terminal.
-    pub fn undrained(&self, terminal: usize) -> Option<usize>
-        ensures { result ≡ network_undrained self.now.network terminal }
-    {
-        let plan = self.wires.plan();
-        if terminal >= plan.terminals().len() {
-            return None;
-        }
-        let place = plan.switches().len() + terminal;
-        self.places.get(place)?.node().undrained()
-    }
-
     /// The value of the register at this address of a switch. None where the plan has no such
     /// switch, or no register has the address.
     pub fn peek(&self, switch: usize, addr: u16) -> Option<u32>
