@@ -5,6 +5,7 @@ use Rattle.c104_describe.specs.Plans.{IsPlan, Plan}
 use Rattle.c104_event.specs.declared.events.Event.{Event}
 use Rattle.c104_event.specs.declared.faults.EventFault.{EventFault}
 use Rattle.c104_net.proofs.Promises.{headline}
+use Rattle.c104_net.proofs.SentBytes.{AreBytesSent}
 use Rattle.c104_net.proofs.StartMaps.{starts_are, starts_same}
 use Rattle.c104_net.proofs.StepMaps.{run_lift, run_map}
 use Rattle.c104_net.specs.Deliveries.{Promise}
@@ -53,10 +54,10 @@ module _ (plan : Plan) (starts : List NodeStart) where
 
   -- what is promised of any run from a start, with premises on the plain run alone: over tokens that tell where they
   -- came from it goes as it went, and the promise holds of where it ends
-  pub run_promise : (image : Image) (nodes : List (Node Token)) (traces : List (List Entry)) (count : ℕ) (events : List (Event × Reply)) → IsPlan plan → IsAccepted (routes_of plan image) → AreStartsOf plan image starts → IsRunRecord plain_kind plan (map start_node starts) nodes traces count events → IsUnchanged events → (traced : List (Node Traced)) × IsTracedRun plan starts events nodes traced × Promise (routes_of plan image) (network_of plan traced)
-  run_promise image nodes traces count events is_plan accepted are record_is unchanged =
+  pub run_promise : (image : Image) (nodes : List (Node Token)) (traces : List (List Entry)) (count : ℕ) (events : List (Event × Reply)) → IsPlan plan → IsAccepted (routes_of plan image) → AreStartsOf plan image starts → IsRunRecord plain_kind plan (map start_node starts) nodes traces count events → IsUnchanged events → AreBytesSent events → (traced : List (Node Traced)) × IsTracedRun plan starts events nodes traced × Promise (routes_of plan image) (network_of plan traced)
+  run_promise image nodes traces count events is_plan accepted are record_is unchanged sent =
       let found = traced_from nodes events record_is.run in
-      (found.0, found.1, headline image (network_of plan (map start_node starts)) (network_of plan found.0) events is_plan accepted (starts_are plan image starts are) found.1.run unchanged)
+      (found.0, found.1, headline image (network_of plan (map start_node starts)) (network_of plan found.0) events is_plan accepted (starts_are plan image starts are) found.1.run unchanged sent)
 
 -- where events that were done lead
 pub run_after : {A : Type 0} (kind : Kind A) (net ended : Network A) (events : List (Event × Reply)) → IsDoneRun kind net events ended → (run_events (network_apply kind) net (map (λ (e : Event × Reply). e.0) events)).1 ≡ ended
