@@ -60,6 +60,9 @@ pub mod CommandEvents
 pub mod InputEvents
 pub mod QuietPorts
 pub mod RunSteps
+pub mod LedEvents
+pub mod EventEntries
+pub mod SentBytes
 pub mod Promises
 pub mod TokenMaps
 pub mod SwitchMaps
@@ -68,7 +71,6 @@ pub mod StartMaps
 pub mod TracedRuns
 pub mod SureOrigins
 pub mod OriginPieces
-pub mod LedEvents
 pub mod LeadingSteps
 pub mod LeadingPlaces
 pub mod LeadingRuns

@@ -5,10 +5,10 @@ use Rattle.c104_token.specs.Kinds.{plain_kind}
 use Rattle.c104_switch.specs.declared.actions.ReplyOf.{ReplyOf}
 use Rattle.c104_net.specs.declared.acts.Entry.{Entry}
 use Rattle.c104_net.specs.Nodes.{Node}
-use Rattle.c104_net.specs.Acts.{IsShort, node_act, reply_outcome}
+use Rattle.c104_net.specs.Acts.{IsWithinLimits, node_act, reply_outcome}
 use Rattle.c104_net.specs.Records.{IsNodeRun}
 
-pub run_on : (from mid to : Node Token) (entries : List Entry) (e : Entry) (number : ℕ) → IsNodeRun from entries mid → IsShort e.act → node_act plain_kind number e.act mid ≡ Some (e.reply, to) → IsNodeRun from (entries ++ e ∷ []) to
+pub run_on : (from mid to : Node Token) (entries : List Entry) (e : Entry) (number : ℕ) → IsNodeRun from entries mid → IsWithinLimits e.act → node_act plain_kind number e.act mid ≡ Some (e.reply, to) → IsNodeRun from (entries ++ e ∷ []) to
 run_on from mid to [] e number run short made = (number, to, short, subst (λ n. node_act plain_kind number e.act n ≡ Some (e.reply, to)) run made, refl)
 run_on from mid to (d ∷ entries) e number run short made = (run.0, run.1, run.2, run.3, run_on run.1 mid to entries e number run.4 short made)
 

@@ -15,6 +15,7 @@ use Rattle.c104_net.proofs.PlanWires.{wired}
 use Rattle.c104_net.proofs.QuietPorts.{empty_content, no_items_in, no_items_out}
 use Rattle.c104_net.proofs.ReceivedPieces.{own_is, received_all, received_once, received_whole, terminal_own}
 use Rattle.c104_net.proofs.RunSteps.{done_step_is, header_positive, low_header}
+use Rattle.c104_net.proofs.SentBytes.{AreBytesSent, SendsBytes}
 use Rattle.c104_net.specs.Balance.{AreInPlace}
 use Rattle.c104_net.specs.Deliveries.{IsDelivered, Promise, sent_packets}
 use Rattle.c104_net.specs.Network.{Network, network_of, network_step, terminal_place}
@@ -69,20 +70,20 @@ module _ (plan : Plan) (image : Image) (is_plan : IsPlan plan) (labelled : IsLab
   same nodes net' good k = next nodes net' good (record { nodes' = k.nodes'; is = k.is; settings_are = k.settings_are; kinds_are = k.kinds_are; holds = kept_same plan image (world_of plan image nodes) (world_of plan image k.nodes') k.holds good.holds })
 
   -- each event that is done keeps all this
-  pub one : (nodes : List (Node Traced)) (net' : Network Traced) (e : Event) (r : Reply) → MayHappen e r → network_step traced_kind (network_of plan nodes) e ≡ Some (r, net') → IsSettled nodes → Next net'
-  one nodes net' (event.Cross p) r may is good = same nodes net' good (cross_same plan image is_plan nodes good.placed net' r p is)
-  one nodes net' (event.Credit p) r may is good = same nodes net' good (credit_same plan image is_plan nodes good.placed net' r p is)
-  one nodes net' (event.Input s l word) r may is good = next nodes net' good (input_kept plan image labelled (wired plan is_plan) nodes (set_is nodes good.set) good.holds net' s l word r is)
-  one nodes net' (event.Claim s i o) r may is good = next nodes net' good (claim_kept plan image labelled (wired plan is_plan) nodes (set_is nodes good.set) good.holds net' s i o r is)
-  one nodes net' (event.Control s bytes) r may is good = same nodes net' good (control_same plan image nodes net' r s bytes may is)
-  one nodes net' (event.Send t p) r may is good = next nodes net' good (send_kept plan image is_plan nodes good.placed net' r t p (low_header plan image p may) is good.holds)
-  one nodes net' (event.Drain t) r may is good = same nodes net' good (drain_same plan image is_plan nodes good.placed net' r t is)
+  pub one : (nodes : List (Node Traced)) (net' : Network Traced) (e : Event) (r : Reply) → MayHappen e r → SendsBytes e → network_step traced_kind (network_of plan nodes) e ≡ Some (r, net') → IsSettled nodes → Next net'
+  one nodes net' (event.Cross p) r may bytes is good = same nodes net' good (cross_same plan image is_plan nodes good.placed net' r p is)
+  one nodes net' (event.Credit p) r may bytes is good = same nodes net' good (credit_same plan image is_plan nodes good.placed net' r p is)
+  one nodes net' (event.Input s l word) r may bytes is good = next nodes net' good (input_kept plan image labelled (wired plan is_plan) nodes (set_is nodes good.set) good.holds net' s l word r is)
+  one nodes net' (event.Claim s i o) r may bytes is good = next nodes net' good (claim_kept plan image labelled (wired plan is_plan) nodes (set_is nodes good.set) good.holds net' s i o r is)
+  one nodes net' (event.Control s command) r may bytes is good = same nodes net' good (control_same plan image nodes net' r s command may is)
+  one nodes net' (event.Send t p) r may bytes is good = next nodes net' good (send_kept plan image is_plan nodes good.placed net' r t p (low_header plan image p bytes) is good.holds)
+  one nodes net' (event.Drain t) r may bytes is good = same nodes net' good (drain_same plan image is_plan nodes good.placed net' r t is)
 
-  pub each : (nodes : List (Node Traced)) (ended : Network Traced) (events : List (Event × Reply)) → IsDoneRun traced_kind (network_of plan nodes) events ended → IsUnchanged events → IsSettled nodes → Next ended
-  each nodes ended [] is all good = (nodes, sym is, good)
-  each nodes ended (e ∷ events) is all good =
-      let k = one nodes is.0 e.0 e.1 all.0 (done_step_is traced_kind (network_of plan nodes) is.0 e.0 e.1 is.1 is.2) good in
-      each k.0 ended events (subst (λ n. IsDoneRun traced_kind n events ended) (sym k.1) is.3) all.1 k.2
+  pub each : (nodes : List (Node Traced)) (ended : Network Traced) (events : List (Event × Reply)) → IsDoneRun traced_kind (network_of plan nodes) events ended → IsUnchanged events → AreBytesSent events → IsSettled nodes → Next ended
+  each nodes ended [] is all sent good = (nodes, sym is, good)
+  each nodes ended (e ∷ events) is all sent good =
+      let k = one nodes is.0 e.0 e.1 all.0 sent.0 (done_step_is traced_kind (network_of plan nodes) is.0 e.0 e.1 is.1 is.2) good in
+      each k.0 ended events (subst (λ n. IsDoneRun traced_kind n events ended) (sym k.1) is.3) all.1 sent.1 k.2
 
   module _ (nodes : List (Node Traced)) (start : IsStart image (network_of plan nodes)) where
     all_fresh : (Q : Port) → phases plan nodes Q ≡ Fresh
@@ -193,8 +194,8 @@ module _ (plan : Plan) (image : Image) (is_plan : IsPlan plan) (labelled : IsLab
 
 -- the headline: in a network that is accepted and that nobody changes, from any start, each received packet is one
 -- packet that was sent there, whole, no two are one, and where all is quiet none is missing
-pub headline : (image : Image) (start ended : Network Traced) (events : List (Event × Reply)) → IsPlan start.plan → IsAccepted (routes_of start.plan image) → IsStart image start → IsDoneRun traced_kind start events ended → IsUnchanged events → Promise (routes_of start.plan image) ended
-headline image start ended events is_plan accepted is_start is_run all =
+pub headline : (image : Image) (start ended : Network Traced) (events : List (Event × Reply)) → IsPlan start.plan → IsAccepted (routes_of start.plan image) → IsStart image start → IsDoneRun traced_kind start events ended → IsUnchanged events → AreBytesSent events → Promise (routes_of start.plan image) ended
+headline image start ended events is_plan accepted is_start is_run all sent =
     let labelled : IsLabelled (routes_of start.plan image) = record { accepted = accepted; positive = header_positive start.plan image } in
-    let k = each start.plan image is_plan labelled start.nodes ended events is_run all (starts start.plan image is_plan labelled start.nodes is_start) in
+    let k = each start.plan image is_plan labelled start.nodes ended events is_run all sent (starts start.plan image is_plan labelled start.nodes is_start) in
     subst (Promise (routes_of start.plan image)) k.1 (promised start.plan image is_plan labelled k.0 k.2)

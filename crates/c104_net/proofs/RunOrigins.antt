@@ -10,6 +10,7 @@ use Rattle.c104_net.proofs.OriginPieces.{delivered_origin, packet_origin, receiv
 use Rattle.c104_net.proofs.Promises.{headline}
 use Rattle.c104_net.proofs.RecordSteps.{nodes_counted}
 use Rattle.c104_net.proofs.ReplaySteps.{all_left}
+use Rattle.c104_net.proofs.SentBytes.{AreBytesSent, IsFitEntry, fit_run, run_bytes}
 use Rattle.c104_net.proofs.StartMaps.{starts_are, still_placed}
 use Rattle.c104_net.proofs.SureOrigins.{arrived_sure}
 use Rattle.c104_net.proofs.ToldEvents.{events_told}
@@ -35,6 +36,7 @@ use Rattle.c104_net.specs.TracedEnds.{traced_end}
 use Rattle.c104_net.specs.TracedRuns.{IsTracedRun, map_node}
 use Rattle.c104_net.specs.Traces.{part}
 use Rattle.c104_net.specs.Unchanged.{AreStartsOf, IsUnchanged}
+use Rattle.c104_net.specs.WiredActs.{IsRecordedAt}
 use Rattle.c104_net.specs.declared.acts.Entry.{Entry}
 use Rattle.c104_net.specs.declared.ends.End.{End}
 use Rattle.c104_net.specs.declared.starts.NodeStart.{NodeStart}
@@ -44,7 +46,7 @@ use Rattle.c104_switch.specs.Starts.{start_input, start_output}
 use Rattle.c104_switch.specs.declared.link_start.LinkStart.{LinkStart}
 use Rattle.c104_token.specs.Kinds.{plain_kind}
 use Rattle.c104_token.specs.declared.tokens.Token.{Token}
-use Rattle.std.proofs.Common.{Err, IfOk, List, None, Ok, Option, Result, Some, [], ap, arith, false, flat_map, get_or, if◌then◌else◌, length, map, nat_lt, option_map, refl, replicate, slice_get, subst, suc, sym, true, zero, ℕ, ⊎_elim, ◌++◌, ◌<◌, ◌∙◌, ◌∷◌, ◌≡◌, ◌≤◌}
+use Rattle.std.proofs.Common.{All, Err, IfOk, List, None, Ok, Option, Result, Some, [], ap, arith, false, flat_map, get_or, if◌then◌else◌, length, map, nat_lt, option_map, refl, replicate, slice_get, subst, suc, sym, true, zero, ℕ, ⊎_elim, ◌++◌, ◌<◌, ◌∙◌, ◌∷◌, ◌≡◌, ◌≤◌}
 use Rattle.std.proofs.lemmas.List.{length-map, length-replicate}
 use Rattle.std.proofs.lemmas.Bool.Decides.{nat_tests}
 use Rattle.std.proofs.lemmas.Option.{slice_get-map, slice_get_cases}
@@ -97,12 +99,27 @@ pub record IsKeptRun (run : FinishedRecord) : Type 0 where
   pub ended : run.finished ≡ network_finish (network_of run.finished.plan nodes)
   pub placed : AreInPlace run.finished.plan nodes
   pub started : IsSteady {A = Token} (network_of run.finished.plan (map start_node run.starts))
+  pub sent : AreBytesSent events
 
-kept_net : (net : NetRecord) → IsNetRecord net → IsKeptRun (record_finish net)
-kept_net net kept = record { events = kept.told.0; nodes = net.network.nodes; told = kept.told.1; ended = refl; placed = kept.steady.in_place; started = kept.started }
+-- each trace that is kept of a network is within the limits of a packet
+traces_fit : (net : NetRecord) → ((k : ℕ) → IsRecordedAt net k) → (k : ℕ) (trace : List Entry) → slice_get net.traces k ≡ Some trace → All IsFitEntry trace
+traces_fit net recorded k trace at =
+    let found = recorded k trace at in
+    fit_run (start_node found.1) found.0 trace found.2.recorded.run
+
+kept_net : (net : NetRecord) → IsNetRecord net → ((k : ℕ) → IsRecordedAt net k) → IsKeptRun (record_finish net)
+kept_net net kept recorded = record {
+  events = kept.told.0;
+  nodes = net.network.nodes;
+  told = kept.told.1;
+  ended = refl;
+  placed = kept.steady.in_place;
+  started = kept.started;
+  sent = run_bytes net.network.plan (map start_node net.starts) net.network.nodes net.traces net.count kept.told.0 kept.started.in_place kept.told.1 (traces_fit net recorded);
+}
 
 pub kept_run : (run : FinishedRecord) → IsFinishedRecord run → IsKeptRun run
-kept_run run is = subst IsKeptRun (sym is.left) (kept_net is.net is.kept)
+kept_run run is = subst IsKeptRun (sym is.left) (kept_net is.net is.kept is.recorded)
 
 module _ (run : FinishedRecord) (is_plan : IsPlan run.finished.plan) (kept : IsKeptRun run) where
   abbrev plan : Plan
@@ -215,7 +232,7 @@ module _ (run : FinishedRecord) (is_plan : IsPlan run.finished.plan) (kept : IsK
   pub origins_are : AreOrigins run (map terminal_origins (terminals_of (traced run is_plan kept).0))
   origins_are =
       let found = traced run is_plan kept in
-      let promised : (image : Image) → IsAccepted (routes_of run.finished.plan image) → AreStartsOf run.finished.plan image run.starts → IsUnchanged kept.events → Promise (routes_of run.finished.plan image) (network_of run.finished.plan found.0) = λ image accepted are unchanged. headline image (network_of run.finished.plan (map start_node run.starts)) (network_of run.finished.plan found.0) kept.events is_plan accepted (starts_are run.finished.plan image run.starts are) found.1.run unchanged in
+      let promised : (image : Image) → IsAccepted (routes_of run.finished.plan image) → AreStartsOf run.finished.plan image run.starts → IsUnchanged kept.events → Promise (routes_of run.finished.plan image) (network_of run.finished.plan found.0) = λ image accepted are unchanged. headline image (network_of run.finished.plan (map start_node run.starts)) (network_of run.finished.plan found.0) kept.events is_plan accepted (starts_are run.finished.plan image run.starts are) found.1.run unchanged kept.sent in
       let is : network_of run.finished.plan found.0 ≡ traced_end run = sym ends_traced in
       record {
         events = kept.events;

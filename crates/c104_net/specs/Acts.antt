@@ -1,5 +1,5 @@
 -- What a node does and answers, one word for every act; and the acts of a node at the end of a wire.
-use Rattle.std.specs.Prelude.{ℕ, ◌≤◌, Bool, true, false, List, Option, Some, None, length}
+use Rattle.std.specs.Prelude.{ℕ, ◌<◌, ◌≤◌, All, Bool, true, false, List, Option, Some, None, length}
 use Rattle.c104_token.specs.declared.text.TheConstants.{MAX_PACKET_BYTES}
 use Rattle.c104_token.specs.Kinds.{Kind}
 use Rattle.c104_link.specs.Steps.{◌>>=◌, yield_step_at}
@@ -88,15 +88,15 @@ abbrev pub credit_in_act : {A : Type 0} → ℕ → Node A → ActOf A
 credit_in_act l (Switch s) = act.Step (action.CreditIn l)
 credit_in_act l (Terminal t) = act.CreditIn
 
--- a packet that is sent has at most 4,096 bytes
-abbrev pub IsShort : {A : Type 0} → ActOf A → Type 0
-IsShort (act.Step a) = Unit {0}
-IsShort (act.Send packet) = length packet.bytes ≤ MAX_PACKET_BYTES
-IsShort act.Drain = Unit {0}
-IsShort act.Leave = Unit {0}
-IsShort (act.Enter x) = Unit {0}
-IsShort act.CreditOut = Unit {0}
-IsShort act.CreditIn = Unit {0}
+-- an act is within the limits of a packet: one that is sent has at most 4,096 bytes, and each is below 256
+abbrev pub IsWithinLimits : {A : Type 0} → ActOf A → Type 0
+IsWithinLimits (act.Step a) = Unit {0}
+IsWithinLimits (act.Send packet) = (length packet.bytes ≤ MAX_PACKET_BYTES) × All (λ (b : ℕ). b < 256) packet.bytes
+IsWithinLimits act.Drain = Unit {0}
+IsWithinLimits act.Leave = Unit {0}
+IsWithinLimits (act.Enter x) = Unit {0}
+IsWithinLimits act.CreditOut = Unit {0}
+IsWithinLimits act.CreditIn = Unit {0}
 
 -- whether an act may want memory
 abbrev pub wants_memory : {A : Type 0} → ActOf A → Bool

@@ -5,18 +5,18 @@ use Rattle.c104_token.specs.declared.tokens.Token.{Token}
 use Rattle.c104_token.specs.Kinds.{plain_kind}
 use Rattle.c104_net.specs.declared.acts.Entry.{Entry}
 use Rattle.c104_net.specs.declared.starts.NodeStart.{NodeStart}
-use Rattle.c104_net.specs.Acts.{IsShort, node_act}
+use Rattle.c104_net.specs.Acts.{IsWithinLimits, node_act}
 use Rattle.c104_net.specs.Nodes.{Node}
 use Rattle.c104_net.specs.Starts.{start_node}
 use Rattle.c104_net.specs.Traces.{trace_limit}
 
--- a run of one node, from a state to a state: each act was ready, within the limit of a packet, and was
+-- a run of one node, from a state to a state: each act was ready, within the limits of a packet, and was
 -- answered as it was due. The number is a terminal's, which plain tokens don't tell.
 abbrev pub IsNodeRun : Node Token → List Entry → Node Token → Type 0
 IsNodeRun from [] to = to ≡ from
 IsNodeRun from (e ∷ entries) to =
     (number : ℕ) × (mid : Node Token)
-    × IsShort e.act
+    × IsWithinLimits e.act
     × (node_act plain_kind number e.act from ≡ Some (e.reply, mid))
     × IsNodeRun mid entries to
 

@@ -1,5 +1,5 @@
 -- Runs in which nobody changes a network, and where they start.
-use Rattle.std.specs.Prelude.{ℕ, ◌<◌, ◌≡◌, All, List, [], ◌∷◌, Some, Ok, map, slice_get}
+use Rattle.std.specs.Prelude.{ℕ, ◌≡◌, List, [], ◌∷◌, Some, Ok, map, slice_get}
 use Rattle.c104_token.specs.declared.tokens.Token.{Token}
 use Rattle.c104_control.specs.Table.{reply_bytes}
 use Rattle.c104_control.specs.Reading.{read_command}
@@ -24,9 +24,9 @@ IsHarmless bytes r =
     (read_command bytes ≡ Ok command.Reset → ⊥)
     × (r ≡ reply.Control (reply_bytes answer.Poked) → ⊥)
 
--- an event with its reply that leaves registers as they were; what is sent is bytes
+-- an event with its reply that leaves registers as they were
 abbrev pub MayHappen : Event → Reply → Type 0
-MayHappen (event.Send t p) r = All (λ (b : ℕ). b < 256) p.bytes
+MayHappen (event.Send t p) r = Unit {0}
 MayHappen (event.Control s bytes) r = IsHarmless bytes r
 MayHappen (event.Cross p) r = Unit {0}
 MayHappen (event.Credit p) r = Unit {0}

@@ -49,7 +49,7 @@ abbrev pub AreWiredLinks : Plan → ℕ → List Entry → Type 0
 AreWiredLinks plan k trace = All (IsWiredAct plan k) trace
 
 -- what a network with its record keeps of a node at this place: its trace is a run from where it started to
--- its state, within the limits, and over wired links alone
+-- its state, within the limits of a packet and of a trace, and over wired links alone
 pub record IsRecordedNode (r : NetRecord) (k : ℕ) (n : NodeRecord) : Type 0 where
   pub state : slice_get r.network.nodes k ≡ Some n.state
   pub start : slice_get r.starts k ≡ Some n.start

@@ -249,7 +249,9 @@ fn send<T: TokenKind, P: Place<T>>(
     if terminal >= plan.terminals().len() {
         return Err(EventFault::NoNode);
     }
-    let length = packet.bytes.as_slice().len();
+    // The proof reads by this name that what is sent is bytes.
+    let bytes = packet.bytes.as_bytes();
+    let length = bytes.len();
     if length > MAX_PACKET_BYTES {
         return Err(EventFault::TooLong);
     }

@@ -1,6 +1,6 @@
 //! What stands for each node of a network: the node, and whatever is kept beside it.
 ghost use Rattle.std.specs.Prelude.{◌≡◌, true, false, Bool, List, Option, is_some, MatchResult, OnOk};
-ghost use Rattle.c104_net.specs.Acts.{IsShort, node_act, reply_outcome, wants_memory};
+ghost use Rattle.c104_net.specs.Acts.{IsWithinLimits, node_act, reply_outcome, wants_memory};
 ghost use Rattle.c104_net.specs.Nodes.{Node};
 ghost use Rattle.c104_net.specs.Traces.{kept_entry, noted};
 ghost use Rattle.c104_net.specs.declared.acts.Entry.{Entry as TheEntry};
@@ -53,7 +53,7 @@ pub trait Place<T: TokenKind> {
     /// terminal's, if the node is one. Only Send and Drain may want memory, and then nothing has
     /// changed.
     fn act(&mut self, number: usize, ticket: u64, act: ActOf<T>) -> Result<ReplyOf<T>, NoMemory>
-        requires short { IsShort act }
+        requires short { IsWithinLimits act }
         requires room { has_room self.old }
         requires ready { is_some (node_act T.kind number act (state self.old)) ≡ true }
         ensures acted { MatchResult result
@@ -71,7 +71,7 @@ pub trait Place<T: TokenKind> {
 /// The node alone, of whose acts nothing is kept.
 impl<T: TokenKind> Place<T> for NodeOf<T> {
     ghost use Rattle.std.specs.Prelude.{◌≡◌, [], None, true, false, MatchResult, OnOk};
-    ghost use Rattle.c104_net.specs.Acts.{IsShort, node_act, reply_outcome, wants_memory};
+    ghost use Rattle.c104_net.specs.Acts.{IsWithinLimits, node_act, reply_outcome, wants_memory};
 
     ghost state = { λ n. n };
 
@@ -107,7 +107,7 @@ impl<T: TokenKind> Place<T> for NodeOf<T> {
 
     #[inline(always)]
     fn act(&mut self, number: usize, _ticket: u64, act: ActOf<T>) -> Result<ReplyOf<T>, NoMemory>
-        requires { IsShort act }
+        requires { IsWithinLimits act }
         ensures acted { MatchResult result
             (λ reply. (reply, self.new) ≡
             reply_outcome (node_act T.kind number act self.old) self.old)

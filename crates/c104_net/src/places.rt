@@ -2,7 +2,7 @@
 ghost use Rattle.std.specs.Prelude.{◌≡◌, ◌≢◌, ◌<◌, ◌≤◌, ℕ, None, Some, true, false, length, is_some, map, unwrap_or, IfOk, IfSome, MatchResult, OnOk};
 ghost use Rattle.c104_regs.specs.declared.registers.TheConstants.{LINKS};
 ghost use Rattle.c104_link.specs.Steps.{step_at, yield_step_at};
-ghost use Rattle.c104_net.specs.Acts.{IsShort, nodes_act, reply_outcome, wants_memory};
+ghost use Rattle.c104_net.specs.Acts.{IsWithinLimits, nodes_act, reply_outcome, wants_memory};
 ghost use Rattle.c104_net.specs.Traces.{end_credit_in, end_credit_out, end_enter, end_leave, entry_of, full_at, is_switch_at, kept_entry, kept_of, lone_deed, noted_all, noted_at, plain_act};
 ghost use Rattle.c104_switch.specs.Actions.{is_ready};
 ghost use Rattle.c104_switch.specs.Claims.{IsNextLink};
@@ -76,7 +76,7 @@ fn act_at<T: TokenKind, P: Place<T>>(
     act: ActOf<T>,
 ) -> Result<ReplyOf<T>, NoMemory>
     requires inside { place < length places.old }
-    requires short { IsShort act }
+    requires short { IsWithinLimits act }
     requires room { HasRoomAt P.has_room places.old place }
     requires ready { is_some (nodes_act T.kind (map P.state places.old) place number act) ≡ true }
     ensures acted { MatchResult result
@@ -105,7 +105,7 @@ pub fn act_alone<T: TokenKind, P: Place<T>>(
     ticket: u64,
     act: ActOf<T>,
 ) -> Result<ReplyOf<T>, EventFault>
-    requires { IsShort act }
+    requires { IsWithinLimits act }
     ensures ends { StepEnds
         (reply_outcome
         (nodes_act T.kind (map P.state places.old) place number act)

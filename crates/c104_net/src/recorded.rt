@@ -140,7 +140,7 @@ fn stands(core: &NodeOf<Token>)
 impl Place<Token> for Node {
     ghost use Rattle.std.specs.Prelude.{◌≡◌, ◌<◌, ◌++◌, ◌∷◌, [], Some, length, true, false, nat_le, is_some, OnOk, MatchResult};
     ghost use Rattle.c104_token.specs.Kinds.{plain_kind};
-    ghost use Rattle.c104_net.specs.Acts.{IsShort, node_act, reply_outcome, wants_memory};
+    ghost use Rattle.c104_net.specs.Acts.{IsWithinLimits, node_act, reply_outcome, wants_memory};
     ghost use Rattle.c104_net.specs.Traces.{kept_entry, trace_limit};
 
     ghost state = { λ n. n.0.state };
@@ -180,7 +180,7 @@ impl Place<Token> for Node {
 
     #[inline(always)]
     fn act(&mut self, number: usize, ticket: u64, act: Act) -> Result<Reply, NoMemory>
-        requires short { IsShort act }
+        requires short { IsWithinLimits act }
         requires room { (0 < self.old.1) × (length self.old.0.trace < trace_limit) }
         requires ready { is_some (node_act plain_kind number act self.old.0.state) ≡ true }
         ensures acted { MatchResult result

@@ -4,12 +4,14 @@ use Rattle.c104_describe.specs.PlanImage.{Image}
 use Rattle.c104_describe.specs.Plans.{IsPlan, Plan}
 use Rattle.c104_event.specs.declared.events.Event.{Event}
 use Rattle.c104_link.proofs.MadeSteps.{All-place}
-use Rattle.c104_net.proofs.LedEvents.{AreTold, run_inside, run_told}
+use Rattle.c104_net.proofs.EventEntries.{all_events, lone_is}
+use Rattle.c104_net.proofs.LedEvents.{IsTold}
 use Rattle.c104_net.proofs.NodeViews.{node_settings, settings_seen}
 use Rattle.c104_net.proofs.PacketInvariant.{IsLabelled}
 use Rattle.c104_net.proofs.Promises.{each, starts}
 use Rattle.c104_net.proofs.RecordSteps.{nodes_counted}
 use Rattle.c104_net.proofs.RunSteps.{header_positive}
+use Rattle.c104_net.proofs.SentBytes.{AreBytesSent, SendsBytes}
 use Rattle.c104_net.proofs.StartMaps.{starts_are}
 use Rattle.c104_net.proofs.TracedRuns.{traced_from}
 use Rattle.c104_net.specs.Balance.{AreInPlace}
@@ -32,72 +34,68 @@ use Rattle.c104_switch.specs.Actions.{Reply, is_ready}
 use Rattle.c104_switch.specs.Starts.{SwitchStart, switch_start}
 use Rattle.c104_switch.specs.Switch.{Switch}
 use Rattle.c104_tests.proofs.CalmSteps.{no_entries}
-use Rattle.c104_tests.specs.CalmNets.{IsCalm, IsCalmAct, IsCalmEntry, IsCalmTrace}
+use Rattle.c104_tests.specs.CalmNets.{IsCalm, IsCalmDone, IsCalmEntry, IsCalmTrace}
 use Rattle.c104_token.specs.Kinds.{plain_kind}
 use Rattle.c104_token.specs.declared.tokens.Token.{Token}
 use Rattle.std.proofs.Common.{All, Bool, List, None, Option, Some, [], ap, arith, false, if◌then◌else◌, length, map, nat_eq, option_map, refl, slice_get, subst, suc, sym, true, zero, ℕ, ◌++◌, ◌+◌, ◌<◌, ◌∙◌, ◌∷◌, ◌≡◌}
 use Rattle.std.proofs.lemmas.Bool.Decides.{nat_tests}
-use Rattle.std.proofs.lemmas.List.Elements.{All-head, All-tail}
 use Rattle.std.proofs.lemmas.Option.{slice_get-map}
+use Rattle.std.specs.List.{AllByRecursion}
 use Rattle.c104_event.specs.declared.events.Event.TheVariants as event
 use Rattle.c104_net.specs.declared.acts.ActOf.TheVariants as act
 use Rattle.c104_net.specs.declared.node.NodeOf.TheVariants as node
 use Rattle.c104_net.specs.declared.starts.NodeStart.TheVariants as start
 use Rattle.c104_switch.specs.declared.actions.ActionOf.TheVariants as action
 
--- what the node at a place did after some deeds
-rest_calm : (k : ℕ) (ds es : List Deed) → All IsCalmEntry (at_node k (ds ++ es)) → All IsCalmEntry (at_node k es)
-rest_calm k [] es all = all
-rest_calm k (d ∷ ds) es all = by_place (λ here. rest_calm k ds es here) (nat_eq d.0 k) all
-  where
-    by_place : (All IsCalmEntry (at_node k (ds ++ es)) → All IsCalmEntry (at_node k es)) → (b : Bool) → All IsCalmEntry (if b then d.1 ∷ at_node k (ds ++ es) else at_node k (ds ++ es)) → All IsCalmEntry (at_node k es)
-    by_place rest true here = rest (All-tail IsCalmEntry d.1 (at_node k (ds ++ es)) here)
-    by_place rest false here = rest here
+-- an event whose entry is calm
+was_calm : (plan : Plan) (ticket : ℕ) (e : Event) (r : Reply) (es : List Deed) → IsTold plan e r → All IsCalmEntry (at_node (event_place plan e) (event_deeds (is_switch_place plan) plan ticket e r ++ es)) → IsCalmDone e r
+was_calm plan ticket (event.Cross p) r es told all = tt
+was_calm plan ticket (event.Credit p) r es told all = tt
+was_calm plan ticket (event.Input s l word) r es told all = tt
+was_calm plan ticket (event.Claim s i o) r es told all = tt
+was_calm plan ticket (event.Control s bytes) r es told all = lone_is IsCalmEntry ticket s (act.Step (action.Control bytes)) r es told all
+was_calm plan ticket (event.Send t p) r es told all = lone_is IsCalmEntry ticket _ (act.Send p) r es told all
+was_calm plan ticket (event.Drain t) r es told all = tt
 
--- the one entry of an event
-lone_is : (ticket k : ℕ) (a : ActOf Token) (r : Reply) (es : List Deed) → is_ready r ≡ true → All IsCalmEntry (at_node k ((if is_ready r then (k, entry_of ticket a r) ∷ [] else []) ++ es)) → IsCalmAct a r
-lone_is ticket k a r es ready all =
-    let same : nat_eq k k ≡ true = grind (arith, nat_tests) in
-    let first : at_node k ((if is_ready r then (k, entry_of ticket a r) ∷ [] else []) ++ es) ≡ entry_of ticket a r ∷ at_node k es = ap (λ b. at_node k ((if b then (k, entry_of ticket a r) ∷ [] else []) ++ es)) ready ∙ ap (λ b. if b then entry_of ticket a r ∷ at_node k es else at_node k es) same in
-    All-head IsCalmEntry (entry_of ticket a r) (at_node k es) (subst (All IsCalmEntry) first all)
+may_happen : (e : Event) (r : Reply) → IsCalmDone e r → MayHappen e r
+may_happen (event.Cross p) r calm = tt
+may_happen (event.Credit p) r calm = tt
+may_happen (event.Input s l word) r calm = tt
+may_happen (event.Claim s i o) r calm = tt
+may_happen (event.Control s bytes) r calm = calm
+may_happen (event.Send t p) r calm = tt
+may_happen (event.Drain t) r calm = tt
 
-module _ (plan : Plan) (n : ℕ) where
-  may_happen : (ticket : ℕ) (e : Event) (r : Reply) (es : List Deed) → AreTold plan ((e, r) ∷ []) → All IsCalmEntry (at_node (event_place plan e) (event_deeds (is_switch_place plan) plan ticket e r ++ es)) → MayHappen e r
-  may_happen ticket (event.Cross p) r es told all = tt
-  may_happen ticket (event.Credit p) r es told all = tt
-  may_happen ticket (event.Input s l word) r es told all = tt
-  may_happen ticket (event.Claim s i o) r es told all = tt
-  may_happen ticket (event.Control s bytes) r es told all = lone_is ticket s (act.Step (action.Control bytes)) r es told.0 all
-  may_happen ticket (event.Send t p) r es told all = lone_is ticket _ (act.Send p) r es told.0 all
-  may_happen ticket (event.Drain t) r es told all = tt
+sends_bytes : (e : Event) (r : Reply) → IsCalmDone e r → SendsBytes e
+sends_bytes (event.Cross p) r calm = tt
+sends_bytes (event.Credit p) r calm = tt
+sends_bytes (event.Input s l word) r calm = tt
+sends_bytes (event.Claim s i o) r calm = tt
+sends_bytes (event.Control s bytes) r calm = tt
+sends_bytes (event.Send t p) r calm = calm
+sends_bytes (event.Drain t) r calm = tt
 
-  -- a run whose nodes did nothing that changes a register
-  unchanged_run : (ticket : ℕ) (events : List (Event × Reply)) → AreTold plan events → ((i : ℕ) (e : Event × Reply) → slice_get events i ≡ Some e → event_place plan e.0 < n) → ((k : ℕ) → k < n → All IsCalmEntry (at_node k (run_deeds plan ticket events))) → IsUnchanged events
-  unchanged_run ticket [] told inside all = tt
-  unchanged_run ticket (e ∷ events) told inside all =
-      let here : List Deed = event_deeds (is_switch_place plan) plan ticket e.0 e.1 in
-      let rest : List Deed = run_deeds plan (suc ticket) events in (
-        may_happen ticket e.0 e.1 rest (told.0, tt) (all (event_place plan e.0) (inside 0 e refl)),
-        unchanged_run (suc ticket) events told.1 (λ i d at. inside (suc i) d at) (λ k within. rest_calm k here rest (all k within)),
-      )
+abbrev AreCalm : List (Event × Reply) → Type 0
+AreCalm events = AllByRecursion (λ (e : Event × Reply). IsCalmDone e.0 e.1) events
 
--- the events of such a run
-pub unchanged : (plan : Plan) (starts : List NodeStart) (nodes : List (Node Token)) (traces : List (List Entry)) (count : ℕ) (events : List (Event × Reply)) → AreInPlace {A = Token} plan (map start_node starts) → All IsCalmTrace traces → IsRunRecord plain_kind plan (map start_node starts) nodes traces count events → IsUnchanged events
-unchanged plan starts nodes traces count events placed calm told =
-    let first : List (Node Token) = map start_node starts in
-    unchanged_run plan (length plan.switches + length plan.terminals) 0 events
-    (run_told plain_kind plan (network_of plan first) (network_of plan nodes) events refl told.run)
-    (run_inside plain_kind plan (network_of plan first) (network_of plan nodes) events refl told.run)
-    (λ k within. by_start k (slice_get first k) refl (λ none. (let counted = nodes_counted plan first placed in some_there k first (omega (arith, within, counted)) none)))
-  where
-    some_there : (k : ℕ) (ns : List (Node Token)) → k < length ns → slice_get ns k ≡ None → ⊥
-    some_there k [] within none = absurd (let no : ⊥ = omega (arith, within) in no)
-    some_there zero (x ∷ ns) within none = cc
-    some_there (suc k) (x ∷ ns) within none = some_there k ns (omega (arith, within)) none
+unchanged_all : (events : List (Event × Reply)) → AreCalm events → IsUnchanged events
+unchanged_all [] each = tt
+unchanged_all (e ∷ events) each = (may_happen e.0 e.1 each.0, unchanged_all events each.1)
 
-    by_start : (k : ℕ) (o : Option (Node Token)) → slice_get (map start_node starts) k ≡ o → (o ≡ None → ⊥) → All IsCalmEntry (at_node k (run_deeds plan 0 events))
-    by_start k None is there = absurd (there refl)
-    by_start k (Some x) is there = All-place IsCalmTrace traces k (at_node k (run_deeds plan 0 events)) (told.told k ∙ ap (option_map (λ m. at_node k (run_deeds plan 0 events))) is) calm
+bytes_all : (events : List (Event × Reply)) → AreCalm events → AreBytesSent events
+bytes_all [] each = tt
+bytes_all (e ∷ events) each = (sends_bytes e.0 e.1 each.0, bytes_all events each.1)
+
+module _ (plan : Plan) (starts : List NodeStart) (nodes : List (Node Token)) (traces : List (List Entry)) (count : ℕ) (events : List (Event × Reply)) (placed : AreInPlace {A = Token} plan (map start_node starts)) (calm : All IsCalmTrace traces) (told : IsRunRecord plain_kind plan (map start_node starts) nodes traces count events) where
+  -- the events of a run whose nodes did nothing that changes a register
+  calm_run : AreCalm events
+  calm_run = all_events IsCalmEntry plan (λ (e : Event × Reply). IsCalmDone e.0 e.1) (was_calm plan) (map start_node starts) nodes traces count events placed told (λ k trace at. All-place IsCalmTrace traces k trace at calm)
+
+  pub unchanged : IsUnchanged events
+  unchanged = unchanged_all events calm_run
+
+  bytes_sent : AreBytesSent events
+  bytes_sent = bytes_all events calm_run
 
 module _ (plan : Plan) (image : Image) (is_plan : IsPlan plan) (accepted : IsAccepted (routes_of plan image)) where
   -- where such a run ended each switch is set as it was
@@ -107,7 +105,8 @@ module _ (plan : Plan) (image : Image) (is_plan : IsPlan plan) (accepted : IsAcc
       let traced = traced_from plan first nodes events told.run in
       let begun : List (Node Traced) = map start_node first in
       let quiet = unchanged plan first nodes traces count events are.in_place calm told in
-      let ended = each plan image is_plan labelled begun (network_of plan traced.0) events traced.1.run quiet (starts plan image is_plan labelled begun (starts_are plan image first are)) in
+      let sent = bytes_sent plan first nodes traces count events are.in_place calm told in
+      let ended = each plan image is_plan labelled begun (network_of plan traced.0) events traced.1.run quiet sent (starts plan image is_plan labelled begun (starts_are plan image first are)) in
       let same : ended.0 ≡ traced.0 = ap (λ (net : Network Traced). net.nodes) ended.1 in
       let there : option_map (map_node (λ (x : Traced). x.token)) (slice_get traced.0 k) ≡ Some (node.Switch s) = sym (slice_get-map (map_node (λ (x : Traced). x.token)) traced.0 k) ∙ ap (λ ns. slice_get ns k) traced.1.plain ∙ at in
       by_node (slice_get traced.0 k) there (λ settings seen. ended.2.set k settings (ap (λ ns. settings_seen plan ns k) same ∙ seen))

@@ -18,7 +18,6 @@ use Rattle.c104_net.specs.Rounds.{all_claims, all_drains, claims_of, link_number
 use Rattle.c104_net.specs.Stages.{stage_full, unless_full}
 use Rattle.c104_net.specs.Starts.{start_of}
 use Rattle.c104_net.specs.Traces.{Deed, crediting_deeds, crossing_deeds, end_credit_in, end_credit_out, end_enter, end_leave, entry_of, event_deeds, is_switch_at, kept_of, lone_deed, noted_all, noted_at, noted_in, part}
-use Rattle.c104_net.specs.Unchanged.{MayHappen}
 use Rattle.c104_net.specs.declared.acts.ActOf.{ActOf}
 use Rattle.c104_net.specs.declared.acts.Entry.{Entry}
 use Rattle.c104_net.specs.declared.ends.End.{End}
@@ -27,7 +26,7 @@ use Rattle.c104_describe.specs.Wiring.{peer}
 use Rattle.c104_regs.specs.declared.settings.Settings.{Settings}
 use Rattle.c104_switch.specs.Actions.{Reply, is_ready}
 use Rattle.c104_switch.specs.Starts.{SwitchStart}
-use Rattle.c104_tests.specs.CalmNets.{IsCalm, IsCalmAct, IsCalmEntry, IsCalmEvent, IsCalmTrace}
+use Rattle.c104_tests.specs.CalmNets.{IsCalm, IsCalmAct, IsCalmDone, IsCalmEntry, IsCalmEvent, IsCalmTrace}
 use Rattle.c104_token.specs.Kinds.{plain_kind}
 use Rattle.c104_token.specs.declared.packets.Packet.{Packet}
 use Rattle.c104_token.specs.declared.tokens.Token.{Token}
@@ -96,7 +95,7 @@ module _ (f : ℕ → Bool) (plan : Plan) (ticket : ℕ) where
       by_test true = (out_calm (f from.node) from.link reply.Done, (in_calm (f (end_of plan q).node) (end_of plan q).link reply.Done, tt))
       by_test false = tt
 
-  event_calm : (e : Event) (r : Reply) → MayHappen e r → AllByRecursion IsCalmDeed (event_deeds f plan ticket e r)
+  event_calm : (e : Event) (r : Reply) → IsCalmDone e r → AllByRecursion IsCalmDeed (event_deeds f plan ticket e r)
   event_calm (event.Cross p) r may = crossing_calm (end_of plan p) r (peer plan p)
   event_calm (event.Credit p) r may = crediting_calm (end_of plan p) r (peer plan p)
   event_calm (event.Input s l word) r may = lone_calm s (act.Step (action.Input l word)) r tt

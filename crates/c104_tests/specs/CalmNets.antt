@@ -7,6 +7,7 @@ use Rattle.c104_describe.specs.PlanImage.{Image}
 use Rattle.c104_describe.specs.Plans.{Plan}
 use Rattle.c104_describe.specs.declared.ports.Port.TheVariants as port
 use Rattle.c104_event.specs.declared.events.Event.{Event}
+use Rattle.c104_event.specs.declared.events.Event.TheVariants as event
 use Rattle.c104_label.specs.Images.{IsImageOf}
 use Rattle.c104_net.specs.Deliveries.{arrived_at, cut_at, header_of, sent_at}
 use Rattle.c104_net.specs.Finished.{network_finish}
@@ -14,7 +15,7 @@ use Rattle.c104_net.specs.FinishedRecords.{FinishedRecord}
 use Rattle.c104_net.specs.NetRecords.{NetRecord}
 use Rattle.c104_net.specs.Network.{Network}
 use Rattle.c104_net.specs.Terminals.{sent_tokens}
-use Rattle.c104_net.specs.Unchanged.{AreStartsOf, IsHarmless, MayHappen}
+use Rattle.c104_net.specs.Unchanged.{AreStartsOf, IsHarmless}
 use Rattle.c104_net.specs.declared.acts.ActOf.{ActOf}
 use Rattle.c104_net.specs.declared.acts.ActOf.TheVariants as act
 use Rattle.c104_net.specs.declared.acts.Entry.{Entry}
@@ -26,9 +27,20 @@ use Rattle.c104_token.specs.Kinds.{plain_kind}
 use Rattle.c104_token.specs.declared.packets.Packet.{Packet}
 use Rattle.c104_token.specs.declared.tokens.Token.{Token}
 
--- an event that leaves registers as they were, whatever is answered
+-- an event that was answered so and left registers as they were; what is sent is bytes, so that a further run can
+-- be told of
+abbrev pub IsCalmDone : Event → Reply → Type 0
+IsCalmDone (event.Send t p) r = All (λ (b : ℕ). b < 256) p.bytes
+IsCalmDone (event.Control s bytes) r = IsHarmless bytes r
+IsCalmDone (event.Cross p) r = Unit {0}
+IsCalmDone (event.Credit p) r = Unit {0}
+IsCalmDone (event.Input s l word) r = Unit {0}
+IsCalmDone (event.Claim s i o) r = Unit {0}
+IsCalmDone (event.Drain t) r = Unit {0}
+
+-- the same, whatever is answered
 abbrev pub IsCalmEvent : Event → Type 0
-IsCalmEvent e = (r : Reply) → MayHappen e r
+IsCalmEvent e = (r : Reply) → IsCalmDone e r
 
 -- an act that was answered so, and left registers as they were
 abbrev pub IsCalmAction : Action → Reply → Type 0

@@ -1,6 +1,6 @@
 //! The acts of a node.
 ghost use Rattle.std.specs.Prelude.{◌≡◌, ◌<◌, ◌≤◌, ℕ, None, true, is_some, unwrap_or, IfSome, MatchResult};
-ghost use Rattle.c104_net.specs.Acts.{IsShort, node_act, reply_outcome, wants_memory};
+ghost use Rattle.c104_net.specs.Acts.{IsWithinLimits, node_act, reply_outcome, wants_memory};
 ghost use Rattle.c104_net.specs.Acts.{leave_act, enter_act, credit_out_act, credit_in_act};
 ghost use Rattle.c104_regs.specs.declared.registers.TheConstants.{LINKS};
 ghost use Rattle.c104_net.specs.Nodes.{node_enter, node_leave, node_credit_out, node_credit_in, node_claim, node_drain};
@@ -20,7 +20,7 @@ impl<T: TokenKind> NodeOf<T> {
     #[inline(always)]
     #[tactic(auto, using(crate::proofs::ActionSteps::step_as_node))]
     pub fn act(&mut self, number: usize, act: &ActOf<T>) -> Result<ReplyOf<T>, NoMemory>
-        requires { IsShort act.now }
+        requires { IsWithinLimits act.now }
         ensures acted { MatchResult result
             (λ reply. (reply, self.new) ≡
             reply_outcome (node_act T.kind number act.now self.old) self.old)
