@@ -71,6 +71,7 @@ pub mod StartMaps
 pub mod TracedRuns
 pub mod SureOrigins
 pub mod OriginPieces
+pub mod NamedOrigins
 pub mod LeadingSteps
 pub mod LeadingPlaces
 pub mod LeadingRuns

@@ -1,12 +1,13 @@
 -- What a run that is done once more tells of where its packets came from.
-use Rattle.c104_check.specs.Routes.{IsAccepted, Routes, routes_of}
+use Rattle.c104_check.specs.Routes.{IsAccepted, routes_of}
 use Rattle.c104_describe.specs.PlanImage.{Image}
 use Rattle.c104_describe.specs.Plans.{IsPlan, Plan}
 use Rattle.c104_event.specs.declared.events.Event.{Event}
 use Rattle.c104_link.specs.Steps.{◌>>=◌}
 use Rattle.c104_net.proofs.EntryCounts.{lengths_same}
 use Rattle.c104_net.proofs.Finishing.{arrived_same, terminals_counted}
-use Rattle.c104_net.proofs.OriginPieces.{delivered_origin, packet_origin, received_origins}
+use Rattle.c104_net.proofs.NamedOrigins.{found_origins, named_origins, quiet_traced, sent_plain}
+use Rattle.c104_net.proofs.OriginPieces.{packet_origin}
 use Rattle.c104_net.proofs.Promises.{headline}
 use Rattle.c104_net.proofs.RecordSteps.{nodes_counted}
 use Rattle.c104_net.proofs.ReplaySteps.{all_left}
@@ -16,7 +17,7 @@ use Rattle.c104_net.proofs.SureOrigins.{arrived_sure}
 use Rattle.c104_net.proofs.ToldEvents.{events_told}
 use Rattle.c104_net.proofs.TracedRuns.{run_after, token_of, traced_from}
 use Rattle.c104_net.specs.Balance.{AreInPlace, IsSteady, is_switch, credit_at, credit_of, granted_at, granted_of}
-use Rattle.c104_net.specs.Deliveries.{IsDelivered, Promise, arrived_at, received}
+use Rattle.c104_net.specs.Deliveries.{Promise, arrived_at}
 use Rattle.c104_net.specs.Ends.{end_of}
 use Rattle.c104_net.specs.EventRuns.{run_events}
 use Rattle.c104_net.specs.Finished.{FinishedRun, network_finish, run_arrived, terminals_of}
@@ -46,7 +47,7 @@ use Rattle.c104_switch.specs.Starts.{start_input, start_output}
 use Rattle.c104_switch.specs.declared.link_start.LinkStart.{LinkStart}
 use Rattle.c104_token.specs.Kinds.{plain_kind}
 use Rattle.c104_token.specs.declared.tokens.Token.{Token}
-use Rattle.std.proofs.Common.{All, Err, IfOk, List, None, Ok, Option, Result, Some, [], ap, arith, false, flat_map, get_or, if◌then◌else◌, length, map, nat_lt, option_map, refl, replicate, slice_get, subst, suc, sym, true, zero, ℕ, ⊎_elim, ◌++◌, ◌<◌, ◌∙◌, ◌∷◌, ◌≡◌, ◌≤◌}
+use Rattle.std.proofs.Common.{All, Err, IfOk, List, None, Ok, Option, Result, Some, [], ap, arith, false, get_or, if◌then◌else◌, length, map, nat_lt, option_map, refl, replicate, slice_get, subst, sym, true, ℕ, ⊎_elim, ◌<◌, ◌∙◌, ◌∷◌, ◌≡◌, ◌≤◌}
 use Rattle.std.proofs.lemmas.List.{length-map, length-replicate}
 use Rattle.std.proofs.lemmas.Bool.Decides.{nat_tests}
 use Rattle.std.proofs.lemmas.Option.{slice_get-map, slice_get_cases}
@@ -197,25 +198,6 @@ module _ (plan : Plan) (nodes : List (Node Traced)) (placed : AreInPlace plan no
       ∙ ap (λ (o : Option (Node Token)). o >>= node_arrived) (slice_get-map (map_node token_of) nodes (terminal_place plan t))
       ∙ plain_node there.0.arrived (slice_get nodes (terminal_place plan t)) there.2
 
--- where each list that is joined has one element, the k-th of all is that of the k-th
-one_each : {X Y : Type 0} (f : X → List Y) (name : X → Y → Type 0) (xs : List X) → ((k : ℕ) (x : X) → slice_get xs k ≡ Some x → (y : Y) × name x y × (f x ≡ y ∷ [])) → (k : ℕ) (x : X) → slice_get xs k ≡ Some x → (y : Y) × name x y × (slice_get (flat_map f xs) k ≡ Some y)
-one_each f name [] ones k x is = absurd (cc)
-one_each f name (z ∷ xs) ones zero x is =
-    let same : z ≡ x = cc in
-    let one = ones 0 z refl in
-    (one.0, subst (λ w. name w one.0) same one.1, ap (λ ys. slice_get (ys ++ flat_map f xs) 0) one.2)
-one_each f name (z ∷ xs) ones (suc k) x is =
-    let one = ones 0 z refl in
-    let rest = one_each f name xs (λ j w at. ones (suc j) w at) k x is in
-    (rest.0, rest.1, ap (λ ys. slice_get (ys ++ flat_map f xs) (suc k)) one.2 ∙ rest.2)
-
--- of packets that are delivered as is promised the origins of what arrived are theirs, in turn
-named_origins : (routes : Routes) (net : Network Traced) → Promise routes net → (t k : ℕ) (piece : List Traced) → slice_get (received net t) k ≡ Some piece → (d : IsDelivered routes net t piece) × (slice_get (origins_in (arrived_at net t)) k ≡ Some (packet_origin d.terminal d.number))
-named_origins routes net promised t k piece is =
-    let found = one_each origins_in (λ (p : List Traced) (o : Origin). (d : IsDelivered routes net t p) × (packet_origin d.terminal d.number ≡ o)) (received net t)
-    (λ j p at. let d = promised.delivered t j p at in (packet_origin d.terminal d.number, (d, refl), delivered_origin routes net t p d)) k piece is in
-    (found.1.0, ap (λ os. slice_get os k) (received_origins (arrived_at net t)) ∙ found.2 ∙ ap Some (sym found.1.1))
-
 -- the lists of the traced run's terminals are the origins of the run
 module _ (run : FinishedRecord) (is_plan : IsPlan run.finished.plan) (kept : IsKeptRun run) where
   traced_placed : AreInPlace run.finished.plan (traced run is_plan kept).0
@@ -248,6 +230,10 @@ module _ (run : FinishedRecord) (is_plan : IsPlan run.finished.plan) (kept : IsK
         each = subst (λ (net : Network Traced). (t : ℕ) → t < length run.finished.plan.terminals → slice_get (map terminal_origins (terminals_of found.0)) t ≡ Some (origins_in (arrived_at net t))) is (list_there run.finished.plan found.0 traced_placed);
         promise = λ image accepted are unchanged. subst (Promise (routes_of run.finished.plan image)) is (promised image accepted are unchanged);
         named = λ image accepted are unchanged. named_origins (routes_of run.finished.plan image) (traced_end run) (subst (Promise (routes_of run.finished.plan image)) is (promised image accepted are unchanged));
+        found = λ image accepted are unchanged quiet a n t p sent whole owned.
+            subst (λ (net : Network Traced). (k : ℕ) × (slice_get (origins_in (arrived_at net t)) k ≡ Some (packet_origin a n))) is
+            (found_origins (routes_of run.finished.plan image) (network_of run.finished.plan found.0) (promised image accepted are unchanged) (quiet_traced run.finished.plan found.0 kept.nodes found.1.plain quiet) a n t p
+            (ap (λ ps. slice_get ps n) (sym (sent_plain run.finished.plan found.0 kept.nodes found.1.plain a)) ∙ sent) whole owned);
       }
 
 map_same : {X : Type 0} (xs : List X) → map (λ (x : X). x) xs ≡ xs

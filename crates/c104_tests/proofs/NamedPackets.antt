@@ -3,8 +3,9 @@ use Rattle.c104_check.specs.Routes.{IsAccepted, Routes, routes_of}
 use Rattle.c104_describe.specs.PlanImage.{Image}
 use Rattle.c104_describe.specs.Plans.{Plan}
 use Rattle.c104_label.specs.Images.{IsImageOf}
+use Rattle.c104_net.proofs.NamedOrigins.{sent_plain}
 use Rattle.c104_net.proofs.OriginPieces.{delivered_origin, received_origins}
-use Rattle.c104_net.specs.Deliveries.{IsDelivered, arrived_at, cut_at, received, sent_at, sent_packets}
+use Rattle.c104_net.specs.Deliveries.{IsDelivered, arrived_at, cut_at, received}
 use Rattle.c104_net.specs.FinishedRecords.{FinishedRecord, record_finish}
 use Rattle.c104_net.specs.NetRecords.{NetRecord}
 use Rattle.c104_net.specs.Network.{Network, network_of, terminal_place}
@@ -53,16 +54,11 @@ sent_map : (a n j : ℕ) (xs : List Token) → map token_of (sent_from traced_ki
 sent_map a n j [] = refl
 sent_map a n j (x ∷ xs) = ap (λ ys. x ∷ ys) (sent_map a n (suc j) xs)
 
--- what arrived and what was sent, without the sources
+-- what arrived, without the sources
 arrived_map : (o : Option (Node Traced)) → part [] arrived_tokens (option_map (map_node token_of) o) ≡ map token_of (part [] arrived_tokens o)
 arrived_map None = refl
 arrived_map (Some (node.Switch s)) = refl
 arrived_map (Some (node.Terminal t)) = refl
-
-sents_map : (o : Option (Node Traced)) → part [] sent_packets (option_map (map_node token_of) o) ≡ part [] sent_packets o
-sents_map None = refl
-sents_map (Some (node.Switch s)) = refl
-sents_map (Some (node.Terminal t)) = refl
 
 module _ (plan : Plan) (nodes : List (Node Token)) (traced : List (Node Traced)) (plain : map (map_node (λ (x : Traced). x.token)) traced ≡ nodes) where
   node_there : (k : ℕ) → slice_get nodes k ≡ option_map (map_node token_of) (slice_get traced k)
@@ -70,9 +66,6 @@ module _ (plan : Plan) (nodes : List (Node Token)) (traced : List (Node Traced))
 
   arrived_same : (t : ℕ) → arrived_at (network_of plan nodes) t ≡ map token_of (arrived_at (network_of plan traced) t)
   arrived_same t = ap (part [] arrived_tokens) (node_there (terminal_place plan t)) ∙ arrived_map (slice_get traced (terminal_place plan t))
-
-  sent_same : (t : ℕ) → sent_at (network_of plan nodes) t ≡ sent_at (network_of plan traced) t
-  sent_same t = ap (part [] sent_packets) (node_there (terminal_place plan t)) ∙ sents_map (slice_get traced (terminal_place plan t))
 
   received_same : (t : ℕ) → received_tokens (network_of plan nodes) t ≡ map (map token_of) (received (network_of plan traced) t)
   received_same t = ap (whole_pieces (λ x. x) []) (arrived_same t) ∙ pieces_map [] (arrived_at (network_of plan traced) t)
@@ -83,7 +76,7 @@ module _ (plan : Plan) (nodes : List (Node Token)) (traced : List (Node Traced))
       let cut : ℕ = cut_at routes (routes.peer (port.Terminal t)) in
       record {
         packet = d.packet;
-        sent = ap (λ ps. slice_get ps d.number) (sent_same d.terminal) ∙ d.sent;
+        sent = ap (λ ps. slice_get ps d.number) (sent_plain plan traced nodes plain d.terminal) ∙ d.sent;
         whole = is ∙ ap (map token_of) d.whole ∙ sym (drop-map token_of cut (sent_tokens traced_kind d.terminal d.number d.packet)) ∙ ap (drop cut) (sent_map d.terminal d.number 0 (packet_tokens d.packet));
         owned = d.owned;
       }
@@ -119,7 +112,7 @@ named_here image run lists t k accepted starts calm are list listed o there =
     let within : t < length lists = slice_get_within lists t list listed in
     let inside : t < length plan.terminals = (let counted = are.counted in omega (arith, within, counted)) in
     let each : slice_get lists t ≡ Some (origins_in (arrived_at ended t)) = subst (λ (n : Network Traced). slice_get lists t ≡ Some (origins_in (arrived_at n t))) end_is (are.each t inside) in
-    let named : NamedAt routes t ended = subst (NamedAt routes t) end_is (λ j q at. are.named image accepted starts quiet t j q at) in
+    let named : NamedAt routes t ended = subst (NamedAt routes t) end_is (λ j q at. (let d = (are.promise image accepted starts quiet).delivered t j q at in (d, are.named image accepted starts quiet t j q at d))) in
     let same : list ≡ origins_in (arrived_at ended t) = some_same list _ (sym listed ∙ each) in
     let met : slice_get (origins_in (arrived_at ended t)) k ≡ Some o = ap (λ os. slice_get os k) (sym same) ∙ there in
     let joined : slice_get (flat_map origins_in (received ended t)) k ≡ Some o = ap (λ os. slice_get os k) (sym (received_origins (arrived_at ended t))) ∙ met in

@@ -27,8 +27,8 @@ use Rattle.c104_token.specs.Kinds.{plain_kind}
 use Rattle.c104_token.specs.declared.packets.Packet.{Packet}
 use Rattle.c104_token.specs.declared.tokens.Token.{Token}
 
--- an event that was answered so and left registers as they were; what is sent is bytes, so that a further run can
--- be told of
+-- an event that was answered so, and left registers as they were. What it sends is bytes: where a further run begins,
+-- the packets of the run before it are followed by this.
 abbrev pub IsCalmDone : Event → Reply → Type 0
 IsCalmDone (event.Send t p) r = All (λ (b : ℕ). b < 256) p.bytes
 IsCalmDone (event.Control s bytes) r = IsHarmless bytes r
