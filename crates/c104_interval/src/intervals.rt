@@ -1,4 +1,4 @@
-ghost use Rattle.std.specs.Prelude.{◌≡◌, ℕ, ◌<◌, IfOk, Some, filter, nat_lt, slice_get};
+ghost use Rattle.std.specs.Prelude.{◌≡◌, ◌<◌, IfOk, Some, filter, nat_lt, slice_get};
 ghost use Rattle.std.specs.List.Sorted.{IsStrictlyIncreasing};
 ghost use Rattle.c104_interval.specs.Segments.{AreSegmentsBelow, IsConstantBetween, SelectsBySegment, separators};
 ghost use Rattle.c104_interval.specs.Selection.{IsSelected, reset_table, select};

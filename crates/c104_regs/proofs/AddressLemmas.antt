@@ -58,3 +58,22 @@ address_by a x false false false is_first is_second is_link at = cc
 -- what stands at an address has that address
 pub address_number_is : (a : ℕ) (x : Address) → address_of a ≡ Some x → address_number x ≡ a
 address_number_is a x at = address_by a x _ _ _ refl refl refl at
+
+at_same : (l k : ℕ) (r q : Register) → Some (AtLink k q) ≡ Some (AtLink l r) → l ≡ k
+at_same l k r q is = cc
+
+link_of : (a : ℕ) (r : Register) (l : ℕ) (q : Option Register) → option_map (λ p. AtLink (a / 256 - 1) p) q ≡ Some (AtLink l r) → l ≡ a / 256 - 1
+link_of a r l None at = cc
+link_of a r l (Some q) at = at_same l (a / 256 - 1) r q at
+
+link_by : (a l : ℕ) (r : Register) (first second link : Bool)
+    → (if first then Some DeviceId else (if second then Some Started else (if link then option_map (λ p. AtLink (a / 256 - 1) p) (register_at (a % 256)) else None))) ≡ Some (AtLink l r)
+    → l ≡ a / 256 - 1
+link_by a l r true second link at = cc
+link_by a l r false true link at = cc
+link_by a l r false false true at = link_of a r l (register_at (a % 256)) at
+link_by a l r false false false at = cc
+
+-- the link of an address
+pub link_at : (a l : ℕ) (r : Register) → address_of a ≡ Some (AtLink l r) → l ≡ a / 256 - 1
+link_at a l r at = link_by a l r _ _ _ at

@@ -13,10 +13,10 @@ use Rattle.c104_regs.specs.Ranges.{IsInRange}
 use Rattle.c104_regs.specs.Registers.{IsRegisterBank, IsTarget, bank_peek, bank_poke, RegisterBank, placed_bank, reset_bank, settable, status_at, target, with_register}
 use Rattle.c104_regs.specs.Settings.{Settings, reset_settings}
 use Rattle.c104_regs.specs.Values.{Status, register_read, reset_status, with_value}
+use Rattle.c104_regs.proofs.AddressLemmas.{link_at}
 use Rattle.c104_regs.proofs.KeptLemmas.{kept_value_is, map_of_kept, placed_below, placed_register}
 use Rattle.c104_regs.proofs.PlacedPokes.{idle, poke_placed}
 use Rattle.c104_regs.proofs.RegisterLemmas.{IsInRange-reset, IsKept-with_register, get_or-same, peek_other, value_reset}
-use Rattle.c104_regs.proofs.StatusLemmas.{link_at}
 use Rattle.c104_regs.proofs.ValueLemmas.{value_same}
 
 -- what a poke that may be made sets

@@ -4,7 +4,6 @@ pub mod RangeNumbers
 pub mod AddressLemmas
 pub mod RegisterLemmas
 pub mod ContinueLemmas
-pub mod StatusLemmas
 pub mod PlacedRegisters
 pub mod KeptEntries
 pub mod KeptLemmas

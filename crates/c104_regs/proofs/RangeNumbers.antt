@@ -1,15 +1,13 @@
 -- The ranges of the registers as numbers: what settings within them hold, and which settings are within
 -- them. This follows the table of registers, and changes with it.
-use Rattle.std.proofs.Common.{◌≡◌, ℕ, ◌+◌, ◌<◌, ◌≤◌, inl, inr, Bool, true, false, nat_eq, nat_lt, if◌then◌else◌, length, IsTrue, refl, arith}
-use Rattle.std.proofs.lemmas.Bool.{cases_lt}
+use Rattle.std.proofs.Common.{◌≡◌, ℕ, ◌+◌, ◌<◌, ◌≤◌, Bool, true, false, nat_lt, length, IsTrue, refl, arith}
 use Rattle.std.proofs.lemmas.Bool.Decides.{nat_tests}
-use Rattle.std.proofs.lemmas.List.{get_or_past}
-use Rattle.c104_interval.specs.Selection.{reset_row, row_at}
+use Rattle.c104_interval.specs.Selection.{row_at}
 use Rattle.c104_interval.specs.declared.intervals.Table.{Table}
 use Rattle.c104_interval.specs.declared.intervals.Select as interval
 use Rattle.c104_interval.specs.declared.intervals.Select.TheVariants.{Link, Discard, Sink}
 use Rattle.c104_regs.specs.Addresses.{IsRegister, register_takes}
-use Rattle.c104_regs.specs.declared.addresses.Register.TheVariants.{Mode, RandomBase, RandomRange, Base, Limit, Select}
+use Rattle.c104_regs.specs.declared.addresses.Register.TheVariants.{Mode, Base, Limit, Select}
 use Rattle.c104_regs.specs.Ranges.{IsInRange, IsTableInRange}
 use Rattle.c104_regs.specs.Settings.{Settings, plain_settings}
 use Rattle.c104_regs.specs.Values.{bit_value, register_read, reset_status, select_code, select_of}
@@ -71,49 +69,6 @@ IsInRange-from s one_byte plain base range table = record {
   selects = table.selects;
   rows = table.rows;
 }
-
--- what reads as a link or the sink, and is what it reads as, is a link that there is or the sink
-selectable_by : (k : ℕ) (x : interval.Select) → IsTrue (register_takes (Select k) (select_code x)) → select_of (select_code x) ≡ x → IsSelectable x
-selectable_by k (Link l) fits is = by_test (nat_lt l 32) (nat_eq l 32) refl is
-  where
-    by_test : (small discards : Bool) → small ≡ nat_lt l 32 → (if small then Link l else (if discards then Discard else Sink)) ≡ Link l → l < 32
-    by_test true discards small is = grind (arith, nat_tests)
-    by_test false true small is = cc
-    by_test false false small is = cc
-selectable_by k Discard fits is = cc
-selectable_by k Sink fits is = tt
-
--- what no row of a table is reads as a reset one
-past_reset : (t : Table) (k : ℕ) → length t.rows ≡ 36 → 36 ≤ k → row_at t k ≡ reset_row
-past_reset t k rows past = get_or_past t.rows k reset_row (omega arith)
-
--- so the numbers of a table are within their bounds, and a row selects only what there is
-pub table_numbers : (t : Table) → IsTableInRange t → AreTableNumbers t
-table_numbers t kept = record {
-  base = base_below (kept.takes reset_status Base tt refl);
-  rows = kept.rows;
-  limits = λ k. elim (cases_lt k 36) [
-    | inl inside ↦ limit_within k (kept.takes reset_status (Limit k) inside refl)
-    | inr past ↦ rw (past_reset t k kept.rows past) (omega arith)
-  ];
-  selects = λ k. elim (cases_lt k 36) [
-    | inl inside ↦ selectable_by k _ (kept.takes reset_status (Select k) inside refl) (kept.selects k)
-    | inr past ↦ rw (past_reset t k kept.rows past) tt
-  ];
-}
-  where
-    base_below : IsTrue (register_takes Base t.base) → t.base < 65536
-    base_below fits = grind (arith, nat_tests)
-
-    limit_within : (k : ℕ) → IsTrue (register_takes (Limit k) (row_at t k).limit) → (row_at t k).limit ≤ 65536
-    limit_within k fits = grind (arith, nat_tests)
-
--- and so are those of random headers
-pub random_base_below : (s : Settings) → IsInRange s → s.random_base < 65536
-random_base_below s kept = let fits = kept.takes reset_status RandomBase tt refl in grind (arith, nat_tests)
-
-pub random_range_within : (s : Settings) → IsInRange s → s.random_range ≤ 65536
-random_range_within s kept = let fits = kept.takes reset_status RandomRange tt refl in grind (arith, nat_tests)
 
 -- the two tests of a mode tell of two of its bits
 mode_tests : (two_byte deletes randomize continues : Bool) → IsTrue (register_takes Mode (bit_value two_byte 1 + bit_value deletes 2 + bit_value randomize 4 + bit_value continues 8)) → (two_byte ≡ false) × (randomize ≡ false)

@@ -2,7 +2,7 @@
 ghost use Rattle.std.specs.Prelude.{◌≡◌, ◌↔◌, ℕ, Some, IfOk, length};
 ghost use Rattle.c104_regs.specs.Addresses.{register_properties};
 ghost use Rattle.c104_regs.specs.Registers.{IsRegisterBank};
-ghost use Rattle.c104_regs.specs.KeptValues.{IsKept, IsMapOf, address_end, kept_value, kept_values, unless_reset};
+ghost use Rattle.c104_regs.specs.KeptValues.{IsKept, IsMapOf, kept_value, kept_values, unless_reset};
 
 use crate::addresses::{ADDRESS_END, Address, Register};
 use crate::registers::{LINKS, Registers};

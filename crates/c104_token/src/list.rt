@@ -1,4 +1,4 @@
-ghost use Rattle.std.specs.Prelude.{◌≡◌, ℕ, ◌<◌, All, List};
+ghost use Rattle.std.specs.Prelude.{◌≡◌, ◌<◌, All, List};
 
 use std::alloc::AllocError;
 use std::marker::Model;

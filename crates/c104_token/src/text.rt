@@ -1,4 +1,4 @@
-ghost use Rattle.std.specs.Prelude.{◌≡◌, ◌≤◌, ◌<◌, ◌+◌, ◌*◌, ◌∷◌, ℕ, [], length, map, IfOk, IfSome};
+ghost use Rattle.std.specs.Prelude.{◌≡◌, ◌<◌, ◌+◌, ◌*◌, map, IfOk, IfSome};
 ghost use Rattle.std.specs.String.{string_bytes};
 ghost use Rattle.c104_token.specs.Text.{packet_words, word_of, spelled_byte, hex_value, parse_packet, parse_words, packet_text, hex_digit, IsPacketText, TakesPacketText, ReadsBack, GivesPacketOrNoMemory};
 
