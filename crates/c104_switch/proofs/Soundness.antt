@@ -8,12 +8,11 @@ use Rattle.c104_link.specs.Steps.{step_at, yield_step_at, joint_step_at}
 use Rattle.c104_link.specs.Buffers as buffer
 use Rattle.c104_link.specs.Buffers.{Outgoing, IsValidCap, IsWithinCap, IsWithinLimits, empty_outgoing, outgoing_credited}
 use Rattle.c104_regs.specs.declared.settings.Settings.{Settings}
-use Rattle.c104_regs.specs.Settings.{reset_settings}
-use Rattle.c104_switch.specs.Switch.{Fresh, Stream, Input, Switch, is_owned, with_inputs, with_outputs, with_sides, input_accept, input_grant, new_input, new_switch_with, new_switch, switch_enter, switch_leave, switch_credit_out, switch_credit_in}
-use Rattle.c104_switch.specs.Turns.{input_turn, switch_input}
-use Rattle.c104_switch.specs.Claims.{streaming_input, input_claim, inputs_claim, switch_claim}
+use Rattle.c104_switch.specs.Switch.{Fresh, Stream, Input, Switch, is_owned, with_inputs, with_outputs, with_sides, input_accept, input_grant, new_input, new_switch_with}
+use Rattle.c104_switch.specs.Turns.{input_turn}
+use Rattle.c104_switch.specs.Claims.{streaming_input, input_claim, inputs_claim}
 use Rattle.c104_switch.specs.Soundness.{IsExclusive, IsSound}
-use Rattle.c104_link.proofs.MadeSteps.{given, required, at_place_made, from_place_made, with_place_made, All-place}
+use Rattle.c104_link.proofs.MadeSteps.{required, at_place_made, from_place_made, with_place_made, All-place}
 use Rattle.c104_switch.proofs.SoundnessBuffers.{within_empty_in, within_empty_out, within_leave, within_credited}
 use Rattle.c104_switch.proofs.SoundnessInputs.{IsAlone, KeepsInput, exclusive_set, alone_at, unowned, keeps_accepted, keeps_granted}
 use Rattle.c104_switch.proofs.SoundnessTurns.{KeepsOutputs, keeps_at_place, keeps_turn, claimed_gives}
@@ -38,10 +37,6 @@ sound_first {A} cap settings started valid links = record {
   within_limits = All-replicate IsWithinLimits 32 empty_outgoing within_empty_out;
   exclusive = exclusive_first 32 cap;
 }
-
--- a new switch
-pub sound_first_state : {A : Type 0} (cap : ℕ) → IsValidCap cap → IsSound {A = A} (new_switch cap)
-sound_first_state cap valid = sound_first cap (replicate 32 reset_settings) false valid (length-replicate 32 reset_settings)
 
 module _ {A : Type 0} (s : Switch A) (sound : IsSound s) where
   -- one input changes, stays within its capacity, and is alone in what it streams to
@@ -108,40 +103,3 @@ sound_claimed {A} s sound settings i o r is = required (not (is_owned s.inputs o
     let alone = λ (d : ℕ) (to : Stream o ≡ Stream d) (j : ℕ) (q : Input A) (at_j : slice_get s.inputs j ≡ Some q) (to_q : q.phase ≡ Stream d). absurd {A = i ≡ j} (unowned s.inputs o free j q at_j (to_q ∙ sym to)) in
     let one : IsSound (with_inputs s (slice_set s.inputs i y.0)) = subst (λ (p : Input A). IsSound (with_inputs s (slice_set s.inputs i p))) gives.0 (sound_set s sound i (streaming_input p o) within alone) in
     subst (λ (r : Sides A). IsSound (with_sides s r)) set (sound_outputs (with_inputs s (slice_set s.inputs i y.0)) one y.1 gives.1)))
-
-module _ {A : Type 0} (s s' : Switch A) (sound : IsSound s) where
-  -- a token comes in over a link's wire
-  pub sound_enter : (l : ℕ) (x : A) → switch_enter s l x ≡ Some s' → IsSound s'
-  sound_enter l x is = given (step_at s.inputs l (input_accept x)) _ s' is (λ ps made last.
-      let same : with_inputs s ps ≡ s' = cc in
-      subst IsSound same (sound_accepted s sound l x ps made))
-
-  -- a link grants eight more tokens
-  pub sound_credit_out : (l : ℕ) → switch_credit_out s l ≡ Some s' → IsSound s'
-  sound_credit_out l is = required s.started _ s' is (λ started more. given (step_at s.inputs l input_grant) _ s' more (λ ps made last.
-      let same : with_inputs s ps ≡ s' = cc in
-      subst IsSound same (sound_granted s sound l ps made)))
-
-  -- the other end of a link's wire grants eight more tokens
-  pub sound_credit_in : (l : ℕ) → switch_credit_in s l ≡ Some s' → IsSound s'
-  sound_credit_in l is = given (step_at s.outputs l outgoing_credited) _ s' is (λ qs made last.
-      let same : with_outputs s qs ≡ s' = cc in
-      subst IsSound same (sound_credited s sound l qs made))
-
-  -- the first token of an output goes out over its wire
-  pub sound_leave : (l : ℕ) (x : A) → switch_leave s l ≡ Some (x, s') → IsSound s'
-  sound_leave l x is = given (yield_step_at s.outputs l buffer.outgoing_emit) _ (x, s') is (λ r made last.
-      let same : (r.0, with_outputs s r.1) ≡ (x, s') = cc in
-      subst (λ (r : A × Switch A). IsSound r.1) same (sound_left s sound l r made))
-
-  -- an input takes a turn, where the switch is started
-  pub sound_input : (kind : Kind A) (i word : ℕ) → switch_input kind s i word ≡ Some s' → IsSound s'
-  sound_input kind i word is = required s.started _ s' is (λ started more. given (slice_get s.settings i) _ s' more (λ t own most. given (joint_step_at s.inputs i (λ p. input_turn kind t word p s.outputs)) _ s' most (λ r made last.
-      let same : with_sides s r ≡ s' = cc in
-      subst IsSound same (sound_turned kind s sound i t word r made))))
-
-  -- an input claims an output, where the switch is started and no input owns it
-  pub sound_claim : (i o : ℕ) → switch_claim s i o ≡ Some s' → IsSound s'
-  sound_claim i o is = required s.started _ s' is (λ started more. given (inputs_claim s.settings s.inputs s.outputs i o) _ s' more (λ r made last.
-      let same : with_sides s r ≡ s' = cc in
-      subst IsSound same (sound_claimed s sound s.settings i o r made)))

@@ -1,6 +1,6 @@
 -- Claims that aren't ready: of an input that can't make its own, outside of a group, and in a switch that isn't
 -- started.
-use Rattle.std.proofs.Common.{◌≡◌, ◌∙◌, ◌<◌, ◌≤◌, ◌&&◌, ℕ, not, nat_le, Bool, true, false, List, Option, Some, None, is_some, slice_get, refl, sym, ap, arith}
+use Rattle.std.proofs.Common.{◌≡◌, ◌∙◌, ◌<◌, ◌&&◌, ℕ, not, nat_le, Bool, true, false, List, Option, Some, None, is_some, slice_get, refl, sym, ap, arith}
 use Rattle.std.proofs.lemmas.Bool.Decides.{nat_tests}
 use Rattle.c104_link.specs.Buffers.{Outgoing, outgoing_emit}
 use Rattle.c104_link.specs.Steps.{◌>>=◌, ◌>>◌, require, joint_step_at, step_at, yield_step_at}

@@ -1,5 +1,5 @@
 -- Which links may be ready, as sets of links: what is kept beside the inputs and the outputs of a switch.
-use Rattle.std.specs.Prelude.{ℕ, ◌≡◌, ◌<◌, ◌&&◌, not, Bool, false, List, Option, Some, is_some, slice_get}
+use Rattle.std.specs.Prelude.{ℕ, ◌≡◌, ◌<◌, ◌&&◌, not, Bool, false, List, Option, is_some, slice_get}
 use Rattle.std.specs.Option.{option_map_or}
 use Rattle.c104_crossbar.specs.Groups.{has_bit}
 use Rattle.c104_link.specs.Buffers.{Outgoing, outgoing_emit}

@@ -1,5 +1,4 @@
 //! What is asked of a switch, what it answers, and what can be seen of a link.
-ghost use Rattle.std.specs.Prelude.{◌≡◌};
 
 use crate::header::HeaderBytes;
 use crate::phase::Phase;

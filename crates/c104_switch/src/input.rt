@@ -1,7 +1,7 @@
 //! The input side of one link.
-ghost use Rattle.std.specs.Prelude.{option_to_list, ◌≡◌, ◌==◌, Bool, ℕ, length, List, IfOk, is_some};
+ghost use Rattle.std.specs.Prelude.{option_to_list, ◌≡◌, ◌==◌, length, IfOk, is_some};
 ghost use Rattle.std.specs.Option.{option_copied};
-ghost use Rattle.c104_link.specs.Buffers.{Incoming, empty_incoming, IsValidCap, IsWithinCap};
+ghost use Rattle.c104_link.specs.Buffers.{IsValidCap, IsWithinCap};
 ghost use Rattle.c104_link.specs.Steps.{bool_outcome};
 ghost use Rattle.c104_switch.specs.Switch.{Input, input_accept, input_grant, new_input};
 ghost use Rattle.c104_switch.specs.Phases.{is_stream, is_want, streamed_output};

@@ -1,5 +1,5 @@
 //! Which inputs may be ready, as sets of links.
-ghost use Rattle.std.specs.Prelude.{◌≡◌, ◌≢◌, ◌<◌, ℕ, Some};
+ghost use Rattle.std.specs.Prelude.{◌≢◌, ◌<◌, ℕ, Some};
 ghost use Rattle.c104_regs.specs.declared.registers.TheConstants.{LINKS};
 ghost use Rattle.c104_switch.specs.Readiness.{AgreeOn, AreKept, IsKept};
 

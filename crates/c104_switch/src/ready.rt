@@ -1,8 +1,5 @@
 //! Whether a switch is ready for an action.
-ghost use Rattle.std.specs.Prelude.{◌≡◌, ℕ, is_some};
-ghost use Rattle.c104_switch.specs.Switch.{switch_enter, switch_leave, switch_credit_out, switch_credit_in};
-ghost use Rattle.c104_switch.specs.Turns.{switch_input};
-ghost use Rattle.c104_switch.specs.Claims.{switch_claim};
+ghost use Rattle.std.specs.Prelude.{◌≡◌};
 ghost use Rattle.c104_switch.specs.Actions.{switch_step, is_ready};
 
 use crate::actions::ActionOf;

@@ -4,7 +4,7 @@ ghost use Rattle.std.specs.Option.{option_copied};
 ghost use Rattle.c104_crossbar.specs.Marks.{ArePartition};
 ghost use Rattle.c104_link.specs.Buffers.{IsValidCap};
 ghost use Rattle.c104_link.specs.Steps.{bool_outcome, option_outcome};
-ghost use Rattle.c104_switch.specs.Switch.{Switch as State, new_switch, new_switch_with, switch_enter, switch_leave, switch_credit_out, switch_credit_in};
+ghost use Rattle.c104_switch.specs.Switch.{new_switch, new_switch_with, switch_enter, switch_leave, switch_credit_out, switch_credit_in};
 ghost use Rattle.c104_switch.specs.Turns.{switch_input};
 ghost use Rattle.c104_switch.specs.Claims.{switch_claim};
 ghost use Rattle.c104_switch.specs.Views.{link_view};

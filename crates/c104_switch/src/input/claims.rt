@@ -1,9 +1,7 @@
 //! An input's claim of an output.
-ghost use Rattle.std.specs.Prelude.{option_to_list, ◌≡◌, ◌<◌, ◌≤◌, ◌∷◌, ◌++◌, ◌&&◌, Bool, List, Some, None, ℕ, false, is_some, is_none, nat_le, IfNone, IfSome};
+ghost use Rattle.std.specs.Prelude.{option_to_list, ◌≡◌, ◌<◌, ◌∷◌, ◌++◌, ◌&&◌, List, Some, None, ℕ, false, is_some, is_none, nat_le, IfNone, IfSome};
 ghost use Rattle.c104_link.specs.Buffers.{Outgoing};
-ghost use Rattle.c104_link.specs.Steps.{bool_outcome};
 ghost use Rattle.c104_regs.specs.declared.registers.TheConstants.{LINKS};
-ghost use Rattle.c104_switch.specs.Switch.{Input};
 ghost use Rattle.c104_switch.specs.Claims.{input_claim, IsClaim};
 ghost use Rattle.c104_switch.specs.Holding.{phase_claims};
 

@@ -1,7 +1,7 @@
 //! Why an input isn't ready.
 ghost use Rattle.std.specs.Prelude.{◌≡◌, ◌<◌};
 ghost use Rattle.c104_regs.specs.declared.registers.TheConstants.{LINKS};
-ghost use Rattle.c104_switch.specs.Reasons.{accept_why, grant_why, turn_why, wanted_why, owned_why, header_why, has_room};
+ghost use Rattle.c104_switch.specs.Reasons.{accept_why, grant_why, turn_why, wanted_why, header_why, has_room};
 
 use super::InputOf;
 use crate::group::is_in_group;

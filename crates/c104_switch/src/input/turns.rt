@@ -1,12 +1,10 @@
 //! What an input does with its first token.
-ghost use Rattle.std.specs.Prelude.{◌≡◌, ◌++◌, Bool, ℕ, true, false, if◌then◌else◌, List, None, is_some, IsSome};
+ghost use Rattle.std.specs.Prelude.{◌≡◌, ◌++◌, ℕ, true, false, if◌then◌else◌, None, is_some, IsSome};
 ghost use Rattle.c104_token.specs.Tokens.{is_end};
-ghost use Rattle.c104_link.specs.Buffers.{Outgoing};
-ghost use Rattle.c104_link.specs.Steps.{bool_outcome};
 ghost use Rattle.c104_regs.specs.declared.settings.Settings.{Settings as TheSettings};
-ghost use Rattle.c104_switch.specs.Switch.{Input, Fresh, count_after};
+ghost use Rattle.c104_switch.specs.Switch.{Fresh, count_after};
 ghost use Rattle.c104_switch.specs.Headers.{phase_after_header, random_header};
-ghost use Rattle.c104_switch.specs.Turns.{input_turn, IsTurn, header_turn, random_turn, input_after_token, input_in_phase, phase_after_token};
+ghost use Rattle.c104_switch.specs.Turns.{input_turn, IsTurn, header_turn, random_turn, input_after_token};
 ghost use Rattle.c104_switch.specs.Holding.{phase_claims, is_done_turn, freed_claims};
 ghost use Rattle.c104_switch.specs.Phases.{Sinking, phase_of, streamed_output, HasRoom, IsReading, tokens_read};
 

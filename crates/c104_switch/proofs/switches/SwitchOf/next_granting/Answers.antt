@@ -1,4 +1,4 @@
-use Rattle.std.proofs.Common.{◌&&◌, ◌∙◌, ap, is_some, sym, false}
+use Rattle.std.proofs.Common.{◌&&◌, ◌∙◌, ap, is_some, sym}
 use Rattle.c104_crossbar.specs.Groups.{has_bit}
 use Rattle.c104_link.specs.Steps.{step_at}
 use Rattle.c104_regs.specs.Registers.{RegisterBank}

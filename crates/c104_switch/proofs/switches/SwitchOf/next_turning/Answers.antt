@@ -1,4 +1,4 @@
-use Rattle.std.proofs.Common.{◌&&◌, ◌≡◌, ◌∙◌, None, ap, sym}
+use Rattle.std.proofs.Common.{◌∙◌, ap, sym}
 use Rattle.c104_switch.specs.Switch.{Switch}
 use Rattle.c104_switch.specs.Turns.{switch_input}
 use Rattle.c104_switch.proofs.Wanting.{first_isnt, unturned}
