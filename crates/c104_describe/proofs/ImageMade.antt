@@ -6,7 +6,7 @@ use Rattle.c104_regs.specs.Ranges.{IsInRange}
 use Rattle.c104_regs.specs.Settings.{reset_settings}
 use Rattle.c104_regs.specs.declared.settings.Settings.{Settings}
 use Rattle.c104_regs.proofs.RegisterLemmas.{IsInRange-reset}
-use Rattle.c104_describe.specs.Plans.{IsPlan, IsRange, Plan, Terminal}
+use Rattle.c104_describe.specs.Plans.{IsPlan, IsRange, Plan}
 use Rattle.c104_describe.specs.PlanImage.{AreSettings, IsImage, range_of, switch_settings}
 use Rattle.c104_describe.proofs.PlanSettings.{all_have_settings}
 use Rattle.std.specs.List.{range_with_len}

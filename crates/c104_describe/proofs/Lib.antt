@@ -33,6 +33,7 @@ pub mod MixedLast
 pub mod LineFaultLaws
 pub mod PlanDue
 mod NameText
+mod LineWords
 mod PrintedSteps
 mod PrintedParts
 mod PrintedWords

@@ -1,6 +1,6 @@
 -- What one switch of an image keeps.
-use Rattle.std.proofs.Common.{◌≡◌, ◌≢◌, ℕ, ◌<◌, true, Bool, Option, Some, Result, Ok, Err, List, [], ◌++◌, All, replicate, refl, sym, ap, ◌∙◌, subst}
-use Rattle.c104_regs.specs.KeptValues.{kept_value, kept_values, IsMapOf}
+use Rattle.std.proofs.Common.{◌≡◌, ◌≢◌, ℕ, ◌<◌, true, Option, Result, Ok, List, [], ◌++◌, All, replicate, refl, sym, ap, ◌∙◌, subst}
+use Rattle.c104_regs.specs.KeptValues.{kept_value, IsMapOf}
 use Rattle.c104_regs.specs.declared.faults.RegFault.{RegFault}
 use Rattle.c104_regs.specs.Registers.{IsRegisterBank, RegisterBank, bank_peek, bank_poke, placed_bank, reset_bank, settable}
 use Rattle.c104_regs.proofs.KeptLemmas.{map_of_kept, none_kept_values}

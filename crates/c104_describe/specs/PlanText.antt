@@ -106,3 +106,8 @@ IsDue text fault = (fault ≡ no_memory) ⊎ (IsTooLong text fault ⊎ IsFirstFa
 abbrev pub GivesDraftOrNoMemory : Result Kept PlanFault → Result Draft PlanFault → Type 0
 GivesDraftOrNoMemory result due =
     MatchResult result (λ kept. due ≡ Ok (draft_of kept)) (λ fault. (due ≡ Err fault) ⊎ (fault ≡ no_memory))
+
+-- the same of lines, which made this of what was read before
+abbrev pub ReadsLines : {X : Type 0} → Result X PlanFault → Draft → Result Draft PlanFault → Type 0
+ReadsLines result made due =
+    MatchResult result (λ _. due ≡ Ok made) (λ fault. (due ≡ Err fault) ⊎ (fault ≡ no_memory))

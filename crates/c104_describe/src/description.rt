@@ -3,8 +3,9 @@ ghost use Rattle.std.specs.Prelude.{◌≡◌, ◌<◌, ◌⊎◌, length, map, 
 ghost use Rattle.c104_describe.specs.declared.faults.PlanFaultKind.TheVariants.{TooLong};
 ghost use Rattle.c104_describe.specs.PlanFaults.{fault_at, no_memory};
 ghost use Rattle.c104_describe.specs.PlanText.{read_description, empty_draft, most_bytes, read_plan_lines};
-ghost use Rattle.c104_describe.specs.PlanText.{AreFaultless, GivesDraftOrNoMemory, GivesPlanOrNoMemory, IsDue};
+ghost use Rattle.c104_describe.specs.PlanText.{AreFaultless, GivesDraftOrNoMemory, GivesPlanOrNoMemory, IsDue, ReadsLines};
 ghost use Rattle.c104_describe.specs.TextCut.{lines};
+ghost use Rattle.c104_describe.specs.PlanParts.{draft_of};
 ghost use Rattle.c104_describe.specs.Plans.{IsPlan};
 
 use crate::drafts::Draft;
@@ -52,13 +53,23 @@ fn read_lines(alloc: Global, lines: &[&[u8]]) -> Result<Draft, PlanFault>
         (read_plan_lines 1 (map (λ line. line.now) lines.now) empty_draft) }
 {
     let mut draft = Draft::new(alloc)?;
+    add_lines(alloc, &mut draft, lines)?;
+    Ok(draft)
+}
+
+/// What the lines of a description say, the first of which is line 1, joins the draft of no line.
+fn add_lines(alloc: Global, draft: &mut Draft, lines: &[&[u8]]) -> Result<(), PlanFault>
+    requires { draft_of draft.old ≡ empty_draft }
+    ensures { ReadsLines result (draft_of draft.new)
+        (read_plan_lines 1 (map (λ line. line.now) lines.now) empty_draft) }
+{
     for (index, line) in lines.iter().enumerate() {
-        match read_line(alloc, &mut draft, line) {
+        match read_line(alloc, draft, line) {
             Ok(()) => {}
             Err(kind) => return Err(fault_at(index + 1, kind)),
         }
     }
-    Ok(draft)
+    Ok(())
 }
 
 /// A fault of a line. Out of memory belongs to no line.

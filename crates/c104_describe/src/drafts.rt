@@ -11,7 +11,7 @@ use crate::words::{Keyword, read_range};
 use std::alloc::{AllocError, Global};
 
 /// The parts of a plan, and what was said that may be said once and that they don't show.
-#[derive(Debug, Drop)]
+#[derive(Drop)]
 pub(crate) struct Draft {
     pub(crate) parts: Parts,
     /// Whether a line has given the length of headers.

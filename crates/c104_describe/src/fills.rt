@@ -11,7 +11,7 @@ ghost use Rattle.c104_describe.specs.Plans.{most_switches, most_terminals};
 use crate::faults::PlanFaultKind;
 use crate::limits::{MAX_SWITCHES, MAX_TERMINALS};
 use crate::names::Name;
-use crate::parts::Parts;
+use crate::parts::{Network, Parts};
 use crate::plans::{Shape, Terminal};
 use crate::ports::{Port, Wire};
 use crate::switch_list::SwitchList;
@@ -40,10 +40,9 @@ pub(crate) fn set_mesh(
     if switches > MAX_SWITCHES || switches * terminals > MAX_TERMINALS {
         return Err(PlanFaultKind::TooMany);
     }
-    parts.switches = filled_switches(alloc, switches)?;
-    parts.terminals = filled_terminals(alloc, MESH_LINKS, terminals, switches * terminals)?;
-    parts.wires = mesh_wires(alloc, width, height)?;
-    parts.shape = Shape::Mesh(width, height, terminals);
+    let wires = mesh_wires(alloc, width, height)?;
+    let network = filled_network(alloc, wires, switches, MESH_LINKS, terminals)?;
+    parts.fill(network, Shape::Mesh(width, height, terminals));
     Ok(())
 }
 
@@ -63,11 +62,38 @@ pub(crate) fn set_cube(
     if switches * terminals > MAX_TERMINALS {
         return Err(PlanFaultKind::TooMany);
     }
-    parts.switches = filled_switches(alloc, switches)?;
-    parts.terminals = filled_terminals(alloc, dimensions, terminals, switches * terminals)?;
-    parts.wires = cube_wires(alloc, dimensions)?;
-    parts.shape = Shape::Cube(dimensions, terminals);
+    let wires = cube_wires(alloc, dimensions)?;
+    let network = filled_network(alloc, wires, switches, dimensions, terminals)?;
+    parts.fill(network, Shape::Cube(dimensions, terminals));
     Ok(())
+}
+
+/// So many switches, each of which has so many terminals on the links from this one on, and the wires.
+fn filled_network(
+    alloc: Global,
+    wires: Vec<Wire>,
+    switches: usize,
+    links: usize,
+    terminals: usize,
+) -> Result<Network, AllocError>
+    requires links { links ≤ 6 }
+    requires some { 0 < terminals }
+    requires few_switches { switches ≤ most_switches }
+    requires few_terminals { switches * terminals ≤ most_terminals }
+    ensures switches { IfOk result (λ network.
+        network.switches ≡ map filled_name (range_with_len 0 switches)) }
+    ensures terminals { IfOk result (λ network.
+        network.terminals ≡ map (filled_terminal links terminals) (range_with_len 0 (switches * terminals))) }
+    ensures wires { IfOk result (λ network. network.wires.items ≡ wires.items) }
+{
+    let count = switches * terminals;
+    let switches = filled_switches(alloc, switches)?;
+    let terminals = filled_terminals(alloc, links, terminals, count)?;
+    Ok(Network {
+        switches,
+        terminals,
+        wires,
+    })
 }
 
 /// So many switches.

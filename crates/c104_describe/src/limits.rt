@@ -1,4 +1,6 @@
 //! How much a description may say.
+ghost use Rattle.std.specs.Prelude.{◌≡◌};
+ghost use Rattle.c104_describe.specs.Plans.{is_buffer_size};
 
 /// The most switches of a plan.
 pub(crate) const MAX_SWITCHES: usize = 64;
@@ -12,3 +14,10 @@ pub(crate) const MAX_HEADER_BYTES: u32 = 1;
 /// How many labels there are, and the highest limit of a row: how many values a header of two bytes
 /// has.
 pub(crate) const LABELS: u32 = 0x10000;
+
+/// Whether a buffer may have room for so many tokens.
+pub(crate) fn is_buffer_size(size: u32) -> bool
+    ensures { result ≡ is_buffer_size size }
+{
+    size % 8 == 0 && 8 <= size && size <= 64
+}

@@ -3,13 +3,14 @@ ghost use Rattle.std.specs.Prelude.{◌≡◌, [], ◌∷◌, ◌++◌, map, opt
 ghost use Rattle.c104_describe.specs.PlanLines.{read_plan_line, read_plan_words, keyword_line, header_line, buffer_line};
 ghost use Rattle.c104_describe.specs.PlanLines.{base_line, continue_line, delete_line, label_line, row_line, switch_line, terminal_line, wire_line};
 ghost use Rattle.c104_describe.specs.PlanParts.{draft_of, plan_of};
-ghost use Rattle.c104_describe.specs.Plans.{IsPlan, is_buffer_size};
+ghost use Rattle.c104_describe.specs.Plans.{IsPlan};
 ghost use Rattle.c104_describe.specs.PlanText.{ReadsLine};
+ghost use Rattle.c104_describe.specs.declared.words.Keyword.TheVariants as variant;
 
 use crate::drafts::Draft;
 use crate::faults::PlanFaultKind;
 use crate::fills::{set_cube, set_mesh};
-use crate::limits::{LABELS, MAX_HEADER_BYTES, MAX_SWITCHES, MAX_TERMINALS};
+use crate::limits::{LABELS, MAX_HEADER_BYTES, MAX_SWITCHES, MAX_TERMINALS, is_buffer_size};
 use crate::names::Name;
 use crate::parts::Parts;
 use crate::plans::{PlanBase, PlanRow, Terminal};
@@ -71,27 +72,89 @@ fn read_keyword_line(
     ensures { ReadsLine result (draft_of draft.new)
         (keyword_line keyword (draft_of draft.old) (map (λ word. word.now) rest.now)) }
 {
-    match (keyword, rest) {
-        (Keyword::Switch, [name]) => add_switch(alloc, &mut draft.parts, name),
-        (Keyword::Terminal, [name, port, rest @ ..]) => {
-            let range = read_range(rest)?;
-            draft.from_said = draft.from_said || range.from.is_some();
-            add_terminal(alloc, &mut draft.parts, name, port, range)
-        }
-        (Keyword::Wire, [here, there]) => add_wire(&mut draft.parts, here, there),
-        (Keyword::Header, [bytes]) => set_header(draft, bytes),
-        (Keyword::Buffer, [size]) => set_buffer(draft, size),
-        (Keyword::Continue, [port]) => add_continue(&mut draft.parts, port),
-        (Keyword::Delete, [name]) => add_delete(&mut draft.parts, name),
-        (Keyword::Base, [port, base]) => add_base(&mut draft.parts, port, base),
-        (Keyword::Row, [port, limit, select]) => add_row(&mut draft.parts, port, limit, select),
-        (Keyword::Label, [style, name]) => set_root(draft, style, name),
-        (Keyword::Mesh, [width, height, terminals]) => {
-            set_mesh(alloc, &mut draft.parts, width, height, terminals)
-        }
-        (Keyword::Cube, [dimensions, terminals]) => {
-            set_cube(alloc, &mut draft.parts, dimensions, terminals)
-        }
+    if matches!(keyword, Keyword::Terminal) {
+        return read_terminal_line(alloc, draft, rest);
+    }
+    match rest {
+        [word] => read_word(alloc, draft, keyword, word),
+        [first, second] => read_two_words(alloc, draft, keyword, first, second),
+        [first, second, third] => read_three_words(alloc, draft, keyword, first, second, third),
+        _ => Err(PlanFaultKind::BadShape),
+    }
+}
+
+/// Reads the words behind `terminal`.
+fn read_terminal_line(alloc: Global, draft: &mut Draft, rest: &[&[u8]]) -> Result<(), PlanFaultKind>
+    requires { IsPlan (draft_of draft.old).plan }
+    ensures { ReadsLine result (draft_of draft.new)
+        (keyword_line variant.Terminal (draft_of draft.old) (map (λ word. word.now) rest.now)) }
+{
+    let [name, port, rest @ ..] = rest else {
+        return Err(PlanFaultKind::BadShape);
+    };
+    let range = read_range(rest)?;
+    draft.from_said = draft.from_said || range.from.is_some();
+    add_terminal(alloc, &mut draft.parts, name, port, range)
+}
+
+/// Reads a line of one word behind its first.
+fn read_word(
+    alloc: Global,
+    draft: &mut Draft,
+    keyword: Keyword,
+    word: &[u8],
+) -> Result<(), PlanFaultKind>
+    ensures { ReadsLine result (draft_of draft.new)
+        (keyword_line keyword (draft_of draft.old) (word.now ∷ [])) }
+{
+    match keyword {
+        Keyword::Switch => add_switch(alloc, &mut draft.parts, word),
+        Keyword::Header => set_header(draft, word),
+        Keyword::Buffer => set_buffer(draft, word),
+        Keyword::Continue => add_continue(&mut draft.parts, word),
+        Keyword::Delete => add_delete(&mut draft.parts, word),
+        _ => Err(PlanFaultKind::BadShape),
+    }
+}
+
+/// Reads a line of two words behind its first, which isn't `terminal`.
+fn read_two_words(
+    alloc: Global,
+    draft: &mut Draft,
+    keyword: Keyword,
+    first: &[u8],
+    second: &[u8],
+) -> Result<(), PlanFaultKind>
+    requires { keyword ≡ variant.Terminal → ⊥ }
+    ensures { ReadsLine result (draft_of draft.new)
+        (keyword_line keyword (draft_of draft.old) (first.now ∷ second.now ∷ [])) }
+{
+    match keyword {
+        Keyword::Wire => add_wire(&mut draft.parts, first, second),
+        Keyword::Base => add_base(&mut draft.parts, first, second),
+        Keyword::Label => set_root(draft, first, second),
+        Keyword::Cube => set_cube(alloc, &mut draft.parts, first, second),
+        _ => Err(PlanFaultKind::BadShape),
+    }
+}
+
+/// Reads a line of three words behind its first, which isn't `terminal`.
+fn read_three_words(
+    alloc: Global,
+    draft: &mut Draft,
+    keyword: Keyword,
+    first: &[u8],
+    second: &[u8],
+    third: &[u8],
+) -> Result<(), PlanFaultKind>
+    requires plan { IsPlan (draft_of draft.old).plan }
+    requires kind { keyword ≡ variant.Terminal → ⊥ }
+    ensures { ReadsLine result (draft_of draft.new)
+        (keyword_line keyword (draft_of draft.old) (first.now ∷ second.now ∷ third.now ∷ [])) }
+{
+    match keyword {
+        Keyword::Row => add_row(&mut draft.parts, first, second, third),
+        Keyword::Mesh => set_mesh(alloc, &mut draft.parts, first, second, third),
         _ => Err(PlanFaultKind::BadShape),
     }
 }
@@ -324,13 +387,6 @@ fn set_buffer(draft: &mut Draft, size: &[u8]) -> Result<(), PlanFaultKind>
     draft.parts.cap = size as usize;
     draft.buffer_said = true;
     Ok(())
-}
-
-/// Whether a buffer may have room for so many tokens.
-fn is_buffer_size(size: u32) -> bool
-    ensures { result ≡ is_buffer_size size }
-{
-    size % 8 == 0 && 8 <= size && size <= 64
 }
 
 /// A value joins a list at its end.

@@ -23,6 +23,29 @@ pub(crate) struct Parts {
     pub(crate) randoms: Vec<PlanRandom>,
 }
 
+/// What a plan joins: switches and terminals, and the wires between switches.
+#[derive(Drop)]
+pub(crate) struct Network {
+    pub(crate) switches: SwitchList,
+    pub(crate) terminals: TerminalList,
+    pub(crate) wires: Vec<Wire>,
+}
+
+/// What a plan sets at links.
+#[derive(Drop)]
+struct Settings {
+    continues: Vec<Port>,
+    bases: Vec<PlanBase>,
+    rows: RowList,
+}
+
+/// What a plan says of headers.
+#[derive(Drop)]
+struct Headers {
+    deletes: Vec<usize>,
+    randoms: Vec<PlanRandom>,
+}
+
 impl Parts {
     ghost use Rattle.std.specs.Prelude.{◌≡◌, ℕ, ◌<◌, ◌≤◌, [], length, bytes_eq, IfOk, IfSome};
     ghost use Rattle.std.specs.List.{list_any};
@@ -58,27 +81,79 @@ impl Parts {
     pub(crate) fn copy(&self) -> Result<Self, AllocError>
         ensures { IfOk result (λ copy. plan_of copy ≡ plan_of self.now) }
     {
-        let switches = self.switches.copy()?;
-        let terminals = self.terminals.copy()?;
-        let wires = self.wires.clone()?;
-        let continues = self.continues.clone()?;
-        let deletes = self.deletes.clone()?;
-        let bases = self.bases.clone()?;
-        let rows = self.rows.copy()?;
-        let randoms = self.randoms.clone()?;
+        let headers = self.copy_headers()?;
+        let settings = self.copy_settings()?;
+        let network = self.copy_network()?;
         Ok(Parts {
             header: self.header,
             cap: self.cap,
             shape: self.shape,
+            switches: network.switches,
+            terminals: network.terminals,
+            wires: network.wires,
+            continues: settings.continues,
+            deletes: headers.deletes,
+            bases: settings.bases,
+            rows: settings.rows,
+            randoms: headers.randoms,
+        })
+    }
+
+    /// A copy of what the plan joins.
+    fn copy_network(&self) -> Result<Network, AllocError>
+        ensures switches { IfOk result (λ copy. copy.switches ≡ self.now.switches) }
+        ensures terminals { IfOk result (λ copy. copy.terminals ≡ self.now.terminals) }
+        ensures wires { IfOk result (λ copy. copy.wires.items ≡ self.now.wires.items) }
+    {
+        let wires = self.wires.clone()?;
+        let switches = self.switches.copy()?;
+        let terminals = self.terminals.copy()?;
+        Ok(Network {
             switches,
             terminals,
             wires,
+        })
+    }
+
+    /// A copy of what the plan sets at links.
+    fn copy_settings(&self) -> Result<Settings, AllocError>
+        ensures continues { IfOk result (λ copy. copy.continues.items ≡ self.now.continues.items) }
+        ensures bases { IfOk result (λ copy. copy.bases.items ≡ self.now.bases.items) }
+        ensures rows { IfOk result (λ copy. copy.rows ≡ self.now.rows) }
+    {
+        let continues = self.continues.clone()?;
+        let bases = self.bases.clone()?;
+        let rows = self.rows.copy()?;
+        Ok(Settings {
             continues,
-            deletes,
             bases,
             rows,
-            randoms,
         })
+    }
+
+    /// A copy of what the plan says of headers.
+    fn copy_headers(&self) -> Result<Headers, AllocError>
+        ensures deletes { IfOk result (λ copy. copy.deletes.items ≡ self.now.deletes.items) }
+        ensures randoms { IfOk result (λ copy. copy.randoms.items ≡ self.now.randoms.items) }
+    {
+        let deletes = self.deletes.clone()?;
+        let randoms = self.randoms.clone()?;
+        Ok(Headers { deletes, randoms })
+    }
+
+    /// The network becomes this one, which is of this shape.
+    pub(crate) fn fill(&mut self, network: Network, shape: Shape)
+        ensures { plan_of self.new ≡ record (plan_of self.old) {
+          shape = shape;
+          switches = network.switches;
+          terminals = network.terminals;
+          wires = network.wires.items;
+        } }
+    {
+        self.switches = network.switches;
+        self.terminals = network.terminals;
+        self.wires = network.wires;
+        self.shape = shape;
     }
 
     /// The number of the switch of this name.

@@ -2,11 +2,11 @@
 ghost use Rattle.std.specs.Prelude.{◌≡◌, ◌≤◌, ◌++◌, ◌∷◌, [], length, map, IfOk, OnOk, Ok};
 ghost use Rattle.std.specs.String.{string_bytes};
 ghost use Rattle.c104_describe.specs.declared.plans.Shape.TheVariants.{Hand, Tree};
-ghost use Rattle.c104_describe.specs.PlanPrint.{counted_words, label_words, network_lines, plan_text, port_text, select_text, sentence, switch_name, switch_words, terminal_name, text_of};
+ghost use Rattle.c104_describe.specs.PlanPrint.{buffer_words, counted_words, header_words, label_words, network_lines, plan_text, port_text, select_text, sentence, switch_name, switch_words, terminal_name, text_of};
 ghost use Rattle.c104_describe.specs.PlanPrint.{terminal_words, wire_words, continue_words, delete_words, base_words, row_words};
 ghost use Rattle.c104_describe.specs.PlanText.{most_bytes, read_description};
 
-use crate::plans::{Plan, Shape, Terminal};
+use crate::plans::{Plan, PlanRow, Shape, Terminal};
 use crate::ports::Port;
 use c104_interval::Select;
 use c104_token::NoMemory;
@@ -28,12 +28,22 @@ pub fn print_plan(alloc: Global, plan: &Plan) -> Result<String, NoMemory>
     let header = plan.header();
     let cap = plan.cap();
     let mut text = format!(in alloc; "header {header}\nbuffer {cap}\n")?;
-    add_network(alloc, &mut text, plan)?;
-    add_continues(alloc, &mut text, plan)?;
-    add_deletes(alloc, &mut text, plan)?;
-    add_bases(alloc, &mut text, plan)?;
-    add_rows(alloc, &mut text, plan)?;
+    add_parts(alloc, &mut text, plan)?;
     Ok(text)
+}
+
+/// The lines behind those of the header length and the buffer size join the text.
+fn add_parts(alloc: Global, text: &mut String, plan: &Plan) -> Result<(), AllocError>
+    requires { string_bytes text.old ≡
+        text_of (header_words plan.now.header ∷ buffer_words plan.now.cap ∷ []) }
+    ensures { OnOk result (string_bytes text.new ≡ plan_text plan.now) }
+{
+    add_network(alloc, text, plan)?;
+    add_continues(alloc, text, plan)?;
+    add_deletes(alloc, text, plan)?;
+    add_bases(alloc, text, plan)?;
+    add_rows(alloc, text, plan)?;
+    Ok(())
 }
 
 /// The lines of the network join the text.
@@ -218,13 +228,21 @@ fn add_rows(alloc: Global, text: &mut String, plan: &Plan) -> Result<(), AllocEr
         string_bytes text.old ++ text_of (map (row_words plan.now) plan.now.rows)) }
 {
     for row in plan.rows() {
-        let port = port_text(alloc, plan, row.port)?;
-        let limit = row.limit;
-        let select = select_text(alloc, row.select)?;
-        let line = format!(in alloc; "row {port} {limit} {select}\n")?;
-        text.push_str(line.as_str())?;
+        add_row(alloc, text, plan, row)?;
     }
     Ok(())
+}
+
+/// The line of a row joins the text.
+fn add_row(alloc: Global, text: &mut String, plan: &Plan, row: &PlanRow) -> Result<(), AllocError>
+    ensures { OnOk result (string_bytes text.new ≡
+        string_bytes text.old ++ (sentence (row_words plan.now row.now) ++ 0x0a ∷ [])) }
+{
+    let port = port_text(alloc, plan, row.port)?;
+    let limit = row.limit;
+    let select = select_text(alloc, row.select)?;
+    let line = format!(in alloc; "row {port} {limit} {select}\n")?;
+    text.push_str(line.as_str())
 }
 
 /// A port as a line names it.

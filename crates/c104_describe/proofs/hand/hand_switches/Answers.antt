@@ -1,4 +1,3 @@
-use Rattle.std.proofs.Common.{◌∙◌}
 use Rattle.c104_describe.specs.PlanImage.{switch_settings}
 use Rattle.c104_describe.proofs.PlanSettings.{made_next}
 use Rattle.c104_describe.proofs.hand.hand_switches.Goals as goal

@@ -1,8 +1,7 @@
-use Rattle.std.proofs.Common.{◌∙◌, List, ap, arith, sym}
+use Rattle.std.proofs.Common.{◌∙◌, List, ap, arith}
 use Rattle.c104_describe.specs.declared.ports.Port.TheVariants as port
 use Rattle.c104_describe.specs.Ports.{Port, is_any_at}
 use Rattle.c104_describe.specs.Plans.{rows_of}
-use Rattle.c104_describe.specs.PlanImage.{AreSettings}
 use Rattle.c104_describe.proofs.PlanSettings.{are_settings, made_next, settings_at, settings_last}
 use Rattle.c104_describe.proofs.PlanTables.{continues_of_link, rows_of_input}
 use Rattle.c104_describe.proofs.hand.switch_settings.Goals as goal

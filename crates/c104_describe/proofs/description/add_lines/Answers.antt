@@ -5,12 +5,12 @@ use Rattle.c104_describe.specs.PlanText.{read_plan_lines}
 use Rattle.c104_describe.specs.PlanParts.{draft_of}
 use Rattle.c104_describe.proofs.DraftsKept.{IsDraft, empty-kept, line_kept}
 use Rattle.c104_describe.proofs.PlanReading.{after_line, at_fault, texts}
-use Rattle.c104_describe.proofs.description.read_lines.Goals as goal
+use Rattle.c104_describe.proofs.description.add_lines.Goals as goal
 
 pub loop-index-init : goal.loop-index-init
 loop-index-init c = record {
-  due = ap (λ (d : Draft). read_plan_lines 1 (texts c.args.lines.now) d) c.in_ok-draft.ensures;
-  kept = subst IsDraft (sym c.in_ok-draft.ensures) empty-kept;
+  due = ap (λ (d : Draft). read_plan_lines 1 (texts c.args.lines.now) d) c.requires;
+  kept = subst IsDraft (sym c.requires) empty-kept;
 }
 
 pub loop-index-preserved : goal.loop-index-preserved

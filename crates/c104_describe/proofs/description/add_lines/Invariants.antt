@@ -2,7 +2,7 @@ use Rattle.std.proofs.Common.{◌≡◌, ◌+◌, map, drop}
 use Rattle.c104_describe.specs.PlanParts.{draft_of}
 use Rattle.c104_describe.specs.PlanText.{empty_draft, read_plan_lines}
 use Rattle.c104_describe.proofs.DraftsKept.{IsDraft}
-use Rattle.c104_describe.proofs.description.read_lines.Given as goal
+use Rattle.c104_describe.proofs.description.add_lines.Given as goal
 
 -- what the rest says after the lines read is what all lines say, and what was read is a plan
 abbrev pub invariant-loop-index : goal.invariant-loop-index
