@@ -6,7 +6,7 @@ use Rattle.c104_check.specs.declared.acceptance.Accepted.{Accepted}
 use Rattle.c104_check.specs.declared.faults.CheckFault.{CheckFault}
 use Rattle.c104_check.specs.declared.faults.CheckFault.TheVariants as fault
 use Rattle.c104_check.specs.declared.faults.WalkFault.TheVariants as walk
-use Rattle.c104_check.specs.Checks.{DeletesInside, HasLarge, IsCause, IsFirstRefused, IsMixed, IsPlain, Meet, NoneLarge, NoneMeet, Shown, fault_of}
+use Rattle.c104_check.specs.Checks.{DeletesInside, HasLarge, IsCause, IsFirstRefused, IsMixed, IsPlain, Meet, NoneLarge, NoneMeet, Shown}
 use Rattle.c104_check.specs.Refusals.{AllLand}
 use Rattle.c104_check.specs.Routes.{IsAccepted, Owns, Routes, SwitchPort, header_count}
 use Rattle.c104_check.specs.Trails.{IsNetwork}
@@ -66,12 +66,6 @@ module _ (routes : Routes) (net : IsNetwork routes) where
   accepted_cause are (fault.Loop shown) refused = absurd (no_refused are walk.Loop shown refused.1)
   accepted_cause are (fault.Stray shown) refused = absurd (no_refused are walk.Stray shown refused.1)
   accepted_cause are fault.NoMemory none = refl
-
-  pub refused_cause : IsPlain routes → (why : WalkFault) (shown : Shown) → IsFirstRefused routes why shown → IsCause routes (fault_of why shown)
-  refused_cause plain walk.WrongEnd shown refused = (plain, refused)
-  refused_cause plain walk.DeadEnd shown refused = (plain, refused)
-  refused_cause plain walk.Loop shown refused = (plain, refused)
-  refused_cause plain walk.Stray shown refused = (plain, refused)
 
 -- What is judged of the routes of a plan and an image
 module _ (a b : Routes) (same : a ≡ b) where

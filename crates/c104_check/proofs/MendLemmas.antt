@@ -5,14 +5,13 @@ use Rattle.std.proofs.lemmas.Bool.{le-leb}
 use Rattle.std.proofs.lemmas.Bool.Decides.{nat_tests}
 use Rattle.std.proofs.lemmas.List.Folds.{list_any_at}
 use Rattle.std.proofs.lemmas.Option.{get_or_from_slice_get, slice_get-get_or}
-use Rattle.c104_interval.specs.declared.intervals.Select.{Select}
 use Rattle.c104_interval.specs.declared.intervals.Select.TheVariants.{Link}
 use Rattle.c104_describe.specs.declared.ports.Port.{Port}
 use Rattle.c104_describe.specs.declared.ports.Port.TheVariants as port
 use Rattle.c104_check.specs.declared.faults.Shown.{Shown}
 use Rattle.c104_check.specs.declared.walks.Halt.{Halt}
 use Rattle.c104_check.specs.declared.walks.Halt.TheVariants.{Fault}
-use Rattle.c104_check.specs.Mends.{GroupLeads, IsFollowedBy, IsMend, IsMisstep, LandsBy, LeavesBy, NoGroupLeads, NoMend, is_wrong}
+use Rattle.c104_check.specs.Mends.{IsFollowedBy, IsMisstep, LandsBy, LeavesBy, NoGroupLeads, NoMend, is_wrong}
 use Rattle.c104_check.specs.Routes.{Leads, Routes, SwitchPort, is_in_group, owner, select}
 use Rattle.c104_check.specs.Trails.{IsInput, IsNetwork}
 use Rattle.c104_check.specs.Walking.{IsHalt, fault_on}
@@ -84,12 +83,6 @@ not_wrong routes h g first high p last t (Some l) other selects members right le
     let member : (nat_le first l && nat_le l high) ≡ true = sym (members l) ∙ ap (λ x. is_in_group routes p.switch x l) (sym same) ∙ leaves.2 in
     let within = between_parts first high l member in
     ap (is_wrong last t) (sym leaves.3) ∙ right l within.0 within.1
-
-pub mend_of : (routes : Routes) (shown : Shown) (at : SwitchPort) (t g : ℕ) (s : Select) → is_met at shown.walk ≡ true → owner routes shown.header ≡ Some t → s ≡ Link g → GroupLeads routes shown.header t at.switch g → IsMend routes shown (record { at = at; select = s })
-mend_of routes shown at t g s met owned is leads = record {
-  met = met;
-  lands = rw owned (g, is, leads);
-}
 
 -- no mend is at the inputs of a walk, at none of which a group leads to the owner
 pub no_mend : (routes : Routes) (shown : Shown) (t : ℕ) (xs : List SwitchPort) → xs ≡ shown.walk → owner routes shown.header ≡ Some t → AllByRecursion (λ p. NoGroupLeads routes shown.header t p.switch) xs → NoMend routes shown

@@ -55,24 +55,6 @@ refusal_from routes h t p o refusal net here entry own terminal header is =
       never_leads = shown_never routes h p refusal.why refusal.shown.walk (owner routes h) here shows;
     }
 
--- Terminal by terminal
-
-pub lands_next : (routes : Routes) (h n : ℕ) → LandsBefore routes h n → LandsFrom routes h n → LandsBefore routes h (n + 1)
-lands_next routes h n before here t below =
-    elim (cases_lt t n) [
-      | inl lower ↦ before t lower
-      | inr not ↦ let same : t ≡ n = omega (arith, below, not) in subst (LandsFrom routes h) (sym same) here
-    ]
-
-pub first_of_terminals : (routes : Routes) (h t n : ℕ) (refusal : Refusal) → t < n → LandsBefore routes h t → IsRefusal routes h t refusal → IsFirstOf routes h n refusal
-first_of_terminals routes h t n refusal below before refused =
-    let at = refused.terminal in
-    record {
-      inside = omega (arith, at, below);
-      before = subst (LandsBefore routes h) (sym at) before;
-      refused = subst (λ x. IsRefusal routes h x refusal) (sym at) refused;
-    }
-
 -- Header by header
 
 -- the first of what was refused so far, at the terminals before n nothing was

@@ -25,9 +25,6 @@ use Rattle.c104_check.specs.Walks.{peers_that, ways_of}
 
 -- A selected link is one of the 32
 
-Link-same : (a b : ℕ) → Link a ≡ Link b → a ≡ b
-Link-same a b is = cc
-
 pub Some-Link-same : (a b : ℕ) → Some (Link a) ≡ Some (Link b) → a ≡ b
 Some-Link-same a b is = cc
 

@@ -1,9 +1,8 @@
 -- The steps of a walk in code.
-use Rattle.std.proofs.Common.{◌≡◌, ℕ, suc, ◌<◌, ◌≤◌, ◌+◌, ◌*◌, ◌-◌, ◌==◌, ◌⊎◌, inl, inr, Bool, true, false, ◌||◌, List, [], ◌∷◌, ◌++◌, length, slice_index_or, slice_set, take, replicate, if◌then◌else◌, Option, Some, None, refl, sym, ap, subst, ◌∙◌, arith}
-use Rattle.std.proofs.lemmas.Bool.{cases_eq, cases_lt, cases_Bool, eq-eqb}
+use Rattle.std.proofs.Common.{◌≡◌, ℕ, suc, ◌<◌, ◌≤◌, ◌+◌, ◌*◌, ◌-◌, ◌==◌, ◌⊎◌, inl, inr, Bool, true, false, ◌||◌, List, [], ◌∷◌, ◌++◌, length, slice_index_or, slice_set, if◌then◌else◌, Option, Some, None, refl, sym, ap, subst, ◌∙◌, arith}
+use Rattle.std.proofs.lemmas.Bool.{cases_eq, cases_Bool, eq-eqb}
 use Rattle.std.proofs.lemmas.Grind.{get_or-set_at}
-use Rattle.std.proofs.lemmas.List.{get_or-replicate, get_or_past, get_or-set_other, length-append, length-replicate, length-set}
-use Rattle.std.proofs.Math.Seq.{take-append_seam}
+use Rattle.std.proofs.lemmas.List.{get_or-set_other, length-append, length-set}
 use Rattle.c104_describe.specs.declared.ports.Port.{Port}
 use Rattle.c104_describe.specs.declared.ports.Port.TheVariants as port
 use Rattle.c104_check.specs.declared.faults.WalkFault.TheVariants.{WrongEnd, DeadEnd, Loop}
@@ -15,7 +14,7 @@ use Rattle.c104_check.specs.declared.walks.Way.TheVariants.{Home, On, Astray}
 use Rattle.c104_check.specs.Routes.{Leads, Routes, SwitchPort, place, select, to_port}
 use Rattle.c104_check.specs.Shown.{Follows}
 use Rattle.c104_check.specs.Trails.{AreWays, IsInput, IsNetwork, IsTrail, run_peers}
-use Rattle.c104_check.specs.Walking.{AreGood, IsHalt, IsStep, TellMet, fault_from, fault_on, mark_at, tells_met, way_of}
+use Rattle.c104_check.specs.Walking.{AreGood, IsHalt, TellMet, fault_from, fault_on, mark_at, tells_met, way_of}
 use Rattle.c104_check.specs.Walks.{Found, WalkFault, at_peer, at_peers, at_ways, first_fault, first_of, is_met, is_port, port_of, ways}
 use Rattle.c104_check.proofs.RouteLemmas.{IsAmong, ways_leave}
 use Rattle.c104_check.proofs.RunLemmas.{run_among}
@@ -115,15 +114,7 @@ way_on t None q is = absurd cc
 way_on t (Some (port.Terminal u)) q is = absurd (terminal_on q (u == t) is)
 way_on t (Some (port.Switch s i)) q is = ap (λ x. Some (to_port x)) (port_same s i q is)
 
--- a walk that couldn't go on
-pub step_halts : (routes : Routes) (h t : ℕ) (walk new : List SwitchPort) (q : SwitchPort) (mark : Mark) (halt : Halt) → IsStep mark q halt walk new → tells_met mark ≡ is_met q walk → IsHalt halt (fault_on routes h t walk q) new
-step_halts routes h t walk new q mark (Fault why) is tells =
-    let met : is_met q walk ≡ true = sym tells ∙ is.1 in
-    let same : (Loop, walk ++ (q ∷ [])) ≡ (why, new) = λ i. (sym is.0 i, sym is.2 i) in
-    rw met (ap Some same)
-step_halts routes h t walk new q mark NoMemory is tells = tt
-
--- and one that went on, and stopped later
+-- a walk that went on, and stopped later
 pub later_halts : (routes : Routes) (h t : ℕ) (walk new : List SwitchPort) (q : SwitchPort) (halt : Halt) → IsHalt halt (fault_on routes h t walk q) new → (found : Found) → ((f : WalkFault × List SwitchPort) → at_peer (further routes h t walk) t walk (Some (port.Switch q.switch q.link)) ≡ Some f → found ≡ Some f) → IsHalt halt found new
 later_halts routes h t walk new q (Fault why) is found stop = stop (why, new) (on_is routes h t walk q ∙ is)
 later_halts routes h t walk new q NoMemory is found stop = tt
@@ -193,26 +184,6 @@ module _ (routes : Routes) (marks : List Mark) (walk : List SwitchPort) (p : Swi
         | inl (same, now) ↦ ap tells_met now ∙ sym (ap (λ x. is_met x walk) same ∙ new)
         | inr (differ, now) ↦ ap tells_met now ∙ tells q there ∙ met_others walk p q differ
       ]
-
--- at first nothing is known
-new_at : (n : ℕ) (p : SwitchPort) → mark_at (replicate n New) p ≡ New
-new_at n p = elim (cases_lt (place p) n) [
-  | inl below ↦ get_or-replicate n (place p) New New below
-  | inr past ↦ get_or_past (replicate n New) (place p) New (rw length-replicate past)
-]
-
-pub new_good : (routes : Routes) (h t n : ℕ) → AreGood routes h t (replicate n New)
-new_good routes h t n q there is = absurd (let clash : New ≡ Good = sym (new_at n q) ∙ is in cc)
-
-pub new_tells : (routes : Routes) (n : ℕ) → TellMet routes (replicate n New) []
-new_tells routes n q there = ap tells_met (new_at n q)
-
-pub shortened : (n : ℕ) (front xs new : List SwitchPort) (last : SwitchPort) → new ≡ take (n - 1) xs → n ≡ length xs → xs ≡ front ++ (last ∷ []) → new ≡ front
-shortened n front xs new last is count longer =
-    let e = length-append front (last ∷ []) in
-    let same : length xs ≡ length (front ++ (last ∷ [])) = ap length longer in
-    let k : n - 1 ≡ length front = omega (arith, e, same, count) in
-    is ∙ ap (λ m. take m xs) k ∙ ap (take (length front)) longer ∙ take-append_seam front (last ∷ [])
 
 -- An input that is new
 

@@ -43,9 +43,6 @@ met_parts (x ∷ xs) ys s is =
       | inr later ↦ elim (met_parts xs ys s later) [ inl a ↦ inl (or_right (s == x) (is_met xs s) a) | inr b ↦ inr b ]
     ]
 
-pub met_one : (s : ℕ) → is_met (s ∷ []) s ≡ true
-met_one s = rw (eq-eqb s s refl) refl
-
 pub met_first : (s : ℕ) (xs : List ℕ) → is_met (s ∷ xs) s ≡ true
 met_first s xs = rw (eq-eqb s s refl) refl
 

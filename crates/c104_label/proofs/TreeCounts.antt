@@ -1,18 +1,16 @@
 -- Labels that are counted one after another.
-use Rattle.std.proofs.Common.{◌≡◌, ℕ, zero, suc, ◌<◌, ◌≤◌, ◌+◌, List, [], ◌∷◌, length, map, drop, get_or, Option, Some, None, refl, sym, ap, ◌∙◌, arith, inl, inr}
+use Rattle.std.proofs.Common.{◌≡◌, ℕ, zero, suc, ◌≤◌, ◌+◌, List, [], ◌∷◌, length, map, get_or, Option, Some, None, refl, sym, ap, ◌∙◌, arith, inl, inr}
 use Rattle.std.proofs.Math.Path.{fun_ext}
 use Rattle.std.proofs.lemmas.Bool.{cases_lt}
-use Rattle.std.proofs.lemmas.List.{drop_more, get_or_past}
+use Rattle.std.proofs.lemmas.List.{get_or_past}
 use Rattle.std.proofs.lemmas.List.FromFn.{get_or-map-range_with_len, length-map-range_with_len}
 use Rattle.std.specs.List.{range_with_len}
 use Rattle.c104_describe.specs.declared.ports.Port.{Port}
 use Rattle.c104_describe.specs.declared.ports.Port.TheVariants as port
-use Rattle.c104_describe.specs.declared.plans.Terminal.{Terminal}
 use Rattle.c104_describe.specs.Plans.{Plan}
 use Rattle.c104_describe.specs.Wiring.{IsWiring}
 use Rattle.c104_label.specs.Forests.{ends_of, links}
 use Rattle.c104_label.specs.TreeLabels.{Net, count_at, labels_behind, labels_on, net_of, own_labels}
-use Rattle.c104_label.specs.TreeImages.{total_count}
 
 -- the links of a switch before one, and that one
 labels_more : (net : Net) (s a n l : ℕ) → a + n ≡ l → labels_on net s (range_with_len a (suc n)) ≡ labels_on net s (range_with_len a n) + labels_behind net.counts (net.ends s l)
@@ -28,19 +26,6 @@ pub labels_next : (net : Net) (s l : ℕ) → labels_on net s (range_with_len 0 
 labels_next net s l =
     let plus : l + 1 ≡ suc l = omega arith in
     ap (λ (k : ℕ). labels_on net s (range_with_len 0 k)) plus ∙ labels_more net s 0 l l (omega arith)
-
--- terminals, one after another
-pub sum_next : (ts : List Terminal) (i : ℕ) (d : Terminal) → i < length ts → total_count (drop i ts) ≡ (get_or ts i d).count + total_count (drop (i + 1) ts)
-sum_next ts i d inside = ap total_count (drop_more ts i d inside)
-
-pub sum_last : (ts : List Terminal) (i : ℕ) → length ts ≤ i → total_count (drop i ts) ≡ 0
-sum_last [] i past = of_none i
-  where
-    of_none : (i : ℕ) → total_count (drop i []) ≡ 0
-    of_none zero = refl
-    of_none (suc i) = refl
-sum_last (t ∷ ts) zero past = absurd (omega (arith, past))
-sum_last (t ∷ ts) (suc i) past = sum_last ts i (omega (arith, past))
 
 -- past the last switch there is none
 no_end : (plan : Plan) → IsWiring plan → (s l : ℕ) (o : Option Port) → length plan.switches ≤ s → ends_of plan s l ≡ o → labels_behind (net_of plan).counts o ≡ 0

@@ -9,24 +9,14 @@ use Rattle.c104_describe.specs.Plans.{IsPlan, Plan}
 use Rattle.c104_describe.specs.PlanImage.{Image}
 use Rattle.c104_describe.specs.LabelledImages.{labelled_image}
 use Rattle.c104_describe.proofs.Wires.{wiring}
-use Rattle.c104_label.specs.declared.faults.LabelFault.{LabelFault}
-use Rattle.c104_label.specs.declared.faults.LabelFault.TheVariants as fault
 use Rattle.c104_label.specs.Forests.{Forest, IsSpanning}
 use Rattle.c104_label.specs.LabelRows.{label_row, label_table, with_row, with_rows}
-use Rattle.c104_label.specs.Trees.{IsTreeCause}
 use Rattle.c104_label.specs.TreeLabels.{AreLinks, Net, Place, child_pieces, count_at, first_at, forest_labels, labels_on, net_of, own_labels, place, place_end, place_of, rows_from, switch_table, table_at, tree_labels, tree_range, tree_rows}
-use Rattle.c104_label.specs.TreeImages.{IsLabelCause, IsTreeImage, most_labels, plan_labels, switch_place, total_count}
+use Rattle.c104_label.specs.TreeImages.{IsTreeImage, most_labels, plan_labels, switch_place, total_count}
 use Rattle.c104_label.proofs.TreeAdded.{own_all, rows_front, rows_last}
 use Rattle.c104_label.proofs.TreePlaces.{place_of_within}
 use Rattle.c104_label.proofs.TreeSums.{labels_sum}
 use Rattle.c104_label.proofs.TreeTables.{place_known, place_links, rows_are, standing, tree_tables}
-
--- why there is no tree is why there are no labels
-pub cause_of : (plan : Plan) (root : ℕ) (e : LabelFault) → IsTreeCause plan root e → IsLabelCause plan root e
-cause_of plan root fault.NotConnected is = is
-cause_of plan root fault.TooManyLabels is = absurd is
-cause_of plan root fault.WrongShape is = is
-cause_of plan root fault.NoMemory is = is
 
 pub most_small : (plan : Plan) → most_labels plan ≤ 65536
 most_small plan = by (plan.header == 2)

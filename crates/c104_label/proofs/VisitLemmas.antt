@@ -73,10 +73,6 @@ tree_root E ends root empty one (Ok f) none is grown =
     subst (λ (x : List ℕ). Grown ends x root links (forest_of f)) (is ∙ ap (λ x. x ++ (root ∷ [])) none) (subst (λ (x : List ℕ). Grown ends one root x (forest_of f)) (sym links_are) grown)
 tree_root E ends root empty one (Err e) none is grown = tt
 
-pub tree_seen : (E : Type 0) (root : ℕ) (empty one more : List ℕ) (r : Result kept.Forest E) → empty ≡ [] → one ≡ empty ++ (root ∷ []) → IfOk r (λ f. more ≡ one ++ switches (forest_of f)) → IfOk r (λ f. more ≡ root ∷ switches (forest_of f))
-tree_seen E root empty one more (Ok f) none is seen = seen ∙ ap (λ x. x ++ switches (forest_of f)) (is ∙ ap (λ x. x ++ (root ∷ [])) none)
-tree_seen E root empty one more (Err e) none is seen = tt
-
 -- wires of a plan lead to its switches
 pub ends_inside : (plan : Plan) → IsWiring plan → AreInside (ends_of plan) (length plan.switches)
 ends_inside plan wiring s l r b at = (wiring.inside (port.Switch r b) (port.Switch s l) (wiring.back (port.Switch s l) (port.Switch r b) at)).0
