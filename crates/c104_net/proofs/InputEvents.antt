@@ -32,7 +32,7 @@ use Rattle.c104_switch.specs.Turns.{header_turn, input_after_token, input_turn, 
 use Rattle.c104_switch.specs.declared.phase.Phase.{Phase}
 use Rattle.c104_switch.specs.declared.phase.Phase.TheVariants.{Fresh, Head, Sinking, Stream, Want}
 use Rattle.c104_token.specs.Tokens.{is_end}
-use Rattle.std.proofs.Common.{Bool, List, Option, Some, [], ap, append-nil, arith, drop, false, if◌then◌else◌, length, length-append, nat_le, nat_lt, not, refl, slice_get, slice_set, subst, suc, sym, true, zero, ℕ, ⊎_elim, ◌&&◌, ◌++◌, ◌+◌, ◌<◌, ◌==◌, ◌||◌, ◌∙◌, ◌∷◌, ◌≡◌, ◌≢◌}
+use Rattle.std.proofs.Common.{Bool, List, Option, Some, [], ap, append-nil, arith, drop, false, if◌then◌else◌, length, length-append, nat_le, nat_lt, not, refl, slice_get, slice_set, subst, suc, sym, true, zero, ℕ, ⊎_elim, ◌++◌, ◌+◌, ◌<◌, ◌==◌, ◌||◌, ◌∙◌, ◌∷◌, ◌≡◌, ◌≢◌}
 use Rattle.std.proofs.lemmas.Bool.{cases_Bool, eq-eqb, leb-false, leb-true, not-true, true≢false}
 use Rattle.std.proofs.lemmas.Option.{some_pair_parts}
 use Rattle.c104_event.specs.declared.events.Event.TheVariants as event

@@ -242,14 +242,15 @@ map_same (x ∷ xs) = ap (λ ys. x ∷ ys) (map_same xs)
 
 module _ (run : FinishedRecord) (is_plan : IsPlan run.finished.plan) (kept : IsKeptRun run) where
   -- the same of what is lent of the run
-  pub left_lent : (lent : List (List Entry)) (starts : List NodeStart) (net : Network Traced) (made given : List ℕ) → lent ≡ run.traces → starts ≡ run.starts → net ≡ network_of run.finished.plan (map start_node starts) →
-      made ≡ marked_all 0 (map (λ (t : List Entry). t) lent) (replicate run.count 0) → given ≡ made → IsLeft run.finished.plan net (map (λ (t : List Entry). t) lent) (replicate (length lent) 0) 0 given (network_of run.finished.plan (traced run is_plan kept).0)
-  left_lent lent starts net made given lent_is starts_is net_is made_is given_is =
+  pub left_lent : (lent : List (List Entry)) (starts : List NodeStart) (net : Network Traced) → lent ≡ run.traces → starts ≡ run.starts → net ≡ network_of run.finished.plan (map start_node starts) →
+      IsLeft run.finished.plan net (map (λ (t : List Entry). t) lent) (replicate (length lent) 0) 0 (marked_all 0 (map (λ (t : List Entry). t) lent) (replicate run.count 0)) (network_of run.finished.plan (traced run is_plan kept).0)
+  left_lent lent starts net lent_is starts_is net_is =
       let same : map (λ (t : List Entry). t) lent ≡ run.traces = map_same lent ∙ lent_is in
       let ended : Network Traced = network_of run.finished.plan (traced run is_plan kept).0 in
-      let first = left_first run is_plan kept given (length lent) (given_is ∙ made_is ∙ ap (λ ts. marked_all 0 ts (replicate run.count 0)) same) in
-      subst (λ ts. IsLeft run.finished.plan net ts (replicate (length lent) 0) 0 given ended) (sym same)
-      (subst (λ n. IsLeft run.finished.plan n run.traces (replicate (length lent) 0) 0 given ended) (sym (net_is ∙ ap (λ (s : List NodeStart). network_of run.finished.plan (map start_node s)) starts_is)) first)
+      let leaders = marked_all 0 (map (λ (t : List Entry). t) lent) (replicate run.count 0) in
+      let first = left_first run is_plan kept leaders (length lent) (ap (λ ts. marked_all 0 ts (replicate run.count 0)) same) in
+      subst (λ ts. IsLeft run.finished.plan net ts (replicate (length lent) 0) 0 leaders ended) (sym same)
+      (subst (λ n. IsLeft run.finished.plan n run.traces (replicate (length lent) 0) 0 leaders ended) (sym (net_is ∙ ap (λ (s : List NodeStart). network_of run.finished.plan (map start_node s)) starts_is)) first)
 
   -- the lists of the run that was done once more are the origins of the run
   pub origins_lent : (net : Network Traced) (again : FinishedRun Traced) (lists : List (List Origin)) → net ≡ network_of run.finished.plan (traced run is_plan kept).0 → again ≡ network_finish net → lists ≡ map terminal_origins again.terminals → AreOrigins run lists

@@ -16,7 +16,7 @@ use Rattle.c104_net.specs.declared.traced.Traced.{Traced}
 use Rattle.c104_switch.specs.Actions.{Reply}
 use Rattle.c104_token.specs.Kinds.{Kind, plain_kind}
 use Rattle.c104_token.specs.declared.tokens.Token.{Token}
-use Rattle.std.proofs.Common.{Err, List, Ok, Result, [], ap, inl, inr, map, refl, subst, sym, ℕ, ◌∙◌, ◌∷◌, ◌≡◌, ◌⊎◌}
+use Rattle.std.proofs.Common.{Err, List, Ok, Result, [], ap, inl, inr, map, refl, subst, sym, ◌∙◌, ◌∷◌, ◌≡◌, ◌⊎◌}
 use Rattle.c104_event.specs.declared.faults.EventFault.TheVariants as fault
 
 -- the token alone

@@ -1,10 +1,12 @@
 //! A network whose nodes keep what they do.
 ghost use Rattle.std.specs.Prelude.{◌≡◌, ℕ};
 ghost use Rattle.std.specs.Option.{option_copied};
-ghost use Rattle.std.specs.Prelude.{map, slice_get, IfOk, IsErrOf, OnOk};
+ghost use Rattle.std.specs.Prelude.{slice_get, IfOk, IsErrOf, OnOk};
+ghost use Rattle.std.specs.Vec.{vec_capacity};
 ghost use Rattle.c104_describe.specs.PlanImage.{Fits};
+ghost use Rattle.c104_describe.specs.Plans.{IsPlan};
 ghost use Rattle.c104_net.specs.Finished.{run_arrived};
-ghost use Rattle.c104_net.specs.FinishedRecords.{record_finish};
+ghost use Rattle.c104_net.specs.FinishedRecords.{HaveRunRoom, record_finish};
 ghost use Rattle.c104_net.specs.Network.{network_arrived, new_network, placed_network};
 ghost use Rattle.c104_net.specs.NetRecords.{fresh_record, is_done, ticket_after, IsNetRecord, RecordsEvent};
 ghost use Rattle.c104_net.specs.RecordedRuns.{AnswersRecord, DoneLaw};
@@ -63,17 +65,14 @@ impl Net {
     pub fn new(alloc: Global, plan: &Plan) -> Result<Self, NoMemory>
         ensures { IfOk result (λ net. net ≡ fresh_record (new_network plan.now)) }
     {
-        let terminals = plan.terminals().len();
-        let room = RunParts::with_room(alloc, plan.switches().len() + terminals, terminals)?;
-        let copy = plan.clone()?;
-        let wires = Wires::new(alloc, copy)?;
+        let frame = Frame::new(alloc, plan)?;
         let mut places = Vec::new(alloc);
         match place_new_recorded(alloc, plan, &mut places) {
             Ok(()) => Ok(Net {
-                wires,
+                wires: frame.wires,
                 places,
                 count: 0,
-                room,
+                room: frame.room,
             }),
             Err(error) => {
                 retire_recorded(places);
@@ -103,17 +102,14 @@ impl Net {
         requires { Fits image.now plan.now }
         ensures { IfOk result (λ net. net ≡ fresh_record (placed_network plan.now image.now)) }
     {
-        let terminals = plan.terminals().len();
-        let room = RunParts::with_room(alloc, plan.switches().len() + terminals, terminals)?;
-        let copy = plan.clone()?;
-        let wires = Wires::new(alloc, copy)?;
+        let frame = Frame::new(alloc, plan)?;
         let mut places = Vec::new(alloc);
         match place_recorded(alloc, plan, image, &mut places) {
             Ok(()) => Ok(Net {
-                wires,
+                wires: frame.wires,
                 places,
                 count: 0,
-                room,
+                room: frame.room,
             }),
             Err(error) => {
                 retire_recorded(places);
@@ -209,6 +205,31 @@ impl Net {
         let answer = happen(&self.wires, self.places.as_mut_slice(), self.count, event);
         self.count = ticket_after(self.count, was_done(&answer));
         answer
+    }
+}
+
+/// What a network has beside its nodes: the wires of its plan, and room for what is left at the end.
+#[derive(Drop)]
+struct Frame {
+    wires: Wires,
+    room: RunParts,
+}
+
+impl Frame {
+    /// What a network of this plan has. The only error is out of memory.
+    fn new(alloc: Global, plan: &Plan) -> Result<Self, NoMemory>
+        ensures wires { IfOk result (λ frame. frame.wires ≡ plan.now) }
+        ensures room { IfOk result (λ frame. HaveRunRoom frame.wires
+            frame.room.starts.items frame.room.traces.items frame.room.terminals.items
+            (vec_capacity frame.room.starts) (vec_capacity frame.room.traces)
+            (vec_capacity frame.room.terminals)) }
+        ensures kept { IsPlan plan.now }
+    {
+        let terminals = plan.terminals().len();
+        let room = RunParts::with_room(alloc, plan.switches().len() + terminals, terminals)?;
+        let copy = plan.clone()?;
+        let wires = Wires::new(alloc, copy)?;
+        Ok(Frame { wires, room })
     }
 }
 

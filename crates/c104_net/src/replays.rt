@@ -1,5 +1,5 @@
 //! A run once more, over tokens that tell where they came from.
-ghost use Rattle.std.specs.Prelude.{◌≡◌, ◌≤◌, ◌<◌, ℕ, suc, List, [], ◌∷◌, length, map, replicate, IfOk, OnOk};
+ghost use Rattle.std.specs.Prelude.{◌≡◌, ◌≤◌, ◌<◌, ℕ, suc, List, ◌∷◌, length, map, replicate, IfOk, OnOk};
 ghost use Rattle.c104_net.specs.Leading.{marked_all};
 ghost use Rattle.c104_net.specs.Network.{Network};
 ghost use Rattle.c104_net.specs.Replays.{IsLeft};
@@ -35,7 +35,7 @@ impl Trail for Node {
 
 /// For each ticket of a run of so many events the place of the node that leads in its event. The only error is out
 /// of memory.
-pub fn leaders_of<P: Trail>(alloc: Global, count: usize, trails: &[P]) -> Result<Vec<u16>, NoMemory>
+fn leaders_of<P: Trail>(alloc: Global, count: usize, trails: &[P]) -> Result<Vec<u16>, NoMemory>
     requires few { length trails.now ≤ 65536 }
     ensures { IfOk result (λ leaders. leaders.items ≡ marked_all 0 (map P.entries trails.now) (replicate count 0)) }
 {
@@ -76,7 +76,7 @@ fn replay_event<P: Trail>(
 
 /// Does a run again, from its start, by the traces of its nodes and the places of the nodes that lead in its events
 /// (`leaders_of`). The only error is out of memory.
-pub fn replay<P: Trail>(
+fn replay<P: Trail>(
     alloc: Global,
     net: &mut NetOf<Traced>,
     plan: &Plan,
@@ -94,4 +94,25 @@ pub fn replay<P: Trail>(
         replay_event(net, plan, *leader as usize, trails, behind.as_mut_slice())?;
     }
     Ok(())
+}
+
+/// Does a run of so many events again, from its start, by the traces of its nodes. The only error is out of memory.
+pub fn replay_all<P: Trail>(
+    alloc: Global,
+    net: &mut NetOf<Traced>,
+    plan: &Plan,
+    count: usize,
+    trails: &[P],
+) -> Result<(), NoMemory>
+    requires few { length trails.now ≤ 65536 }
+    requires left { (ended : Network TheTraced) ×
+        IsLeft plan.now net.old (map P.entries trails.now) (replicate (length trails.now) 0) 0
+        (marked_all 0 (map P.entries trails.now) (replicate count 0)) ended }
+    ensures { (ended : Network TheTraced) →
+        IsLeft plan.now net.old (map P.entries trails.now) (replicate (length trails.now) 0) 0
+        (marked_all 0 (map P.entries trails.now) (replicate count 0)) ended →
+        OnOk result (net.new ≡ ended) }
+{
+    let leaders = leaders_of(alloc, count, trails)?;
+    replay(alloc, net, plan, leaders.as_slice(), trails)
 }

@@ -1,5 +1,4 @@
 //! Tokens that tell where they came from.
-ghost use Rattle.std.specs.Prelude.{◌≡◌};
 
 use c104_token::{Token, TokenKind};
 

@@ -59,14 +59,12 @@ impl Wires {
     pub fn new(alloc: Global, plan: Plan) -> Result<Self, NoMemory>
         ensures { IfOk result (λ wires. wires ≡ plan) }
     {
-        let links = link_ends(alloc, &plan)?;
-        let terminals = terminal_ends(alloc, &plan)?;
-        let linked = linked_sets(alloc, &plan, &links)?;
+        let ends = far_ends(alloc, &plan)?;
         Ok(Wires {
             plan,
-            links,
-            terminals,
-            linked,
+            links: ends.links,
+            terminals: ends.terminals,
+            linked: ends.linked,
         })
     }
 
@@ -174,6 +172,31 @@ impl Wires {
         let _switches = self.plan.switches();
         self.links[switch * LINKS + link]
     }
+}
+
+/// What is found of the wires of a plan.
+#[derive(Drop)]
+struct FarEnds {
+    links: Vec<Option<End>>,
+    terminals: Vec<Option<End>>,
+    linked: Vec<LinkSet>,
+}
+
+/// The far ends of all links and terminals of a plan, and the wired links of its switches.
+fn far_ends(alloc: Global, plan: &Plan) -> Result<FarEnds, NoMemory>
+    ensures links { IfOk result (λ ends. ends.links.items ≡ link_ends plan.now) }
+    ensures terminals { IfOk result (λ ends. ends.terminals.items ≡ terminal_ends plan.now) }
+    ensures linked { IfOk result (λ ends.
+        AreLinked plan.now (length plan.now.switches) ends.linked.items) }
+{
+    let links = link_ends(alloc, plan)?;
+    let terminals = terminal_ends(alloc, plan)?;
+    let linked = linked_sets(alloc, plan, &links)?;
+    Ok(FarEnds {
+        links,
+        terminals,
+        linked,
+    })
 }
 
 /// The far ends of all links of a plan, by switch and link.

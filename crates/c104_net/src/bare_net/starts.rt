@@ -1,5 +1,6 @@
 //! A network from the starts of its nodes.
-ghost use Rattle.std.specs.Prelude.{◌≡◌, map, IfOk};
+ghost use Rattle.std.specs.Prelude.{◌≡◌, ◌≤◌, [], length, map, IfOk};
+ghost use Rattle.std.specs.Vec.{vec_capacity};
 ghost use Rattle.c104_net.specs.Balance.{IsSteady};
 ghost use Rattle.c104_net.specs.Network.{network_of};
 ghost use Rattle.c104_net.specs.Starts.{start_node};
@@ -8,6 +9,7 @@ use super::NetOf;
 use crate::node::NodeOf;
 use crate::node::starts::add_starts;
 use crate::starts::NodeStart;
+use crate::terminal::TerminalOf;
 use crate::wires::Wires;
 use c104_describe::Plan;
 use c104_token::{NoMemory, TokenKind};
@@ -19,21 +21,41 @@ impl<T: TokenKind> NetOf<T> {
         requires { IsSteady {A = T} (network_of plan.now (map start_node starts.now)) }
         ensures { IfOk result (λ net. net ≡ network_of plan.now (map start_node starts.now)) }
     {
-        let copy = plan.clone()?;
-        let wires = Wires::new(alloc, copy)?;
-        let room = Vec::with_capacity(alloc, plan.terminals().len())?;
+        let frame = Frame::new(alloc, plan)?;
         let mut places = Vec::new(alloc);
         match add_starts(alloc, starts, &mut places) {
             Ok(()) => Ok(NetOf {
-                wires,
+                wires: frame.wires,
                 places,
-                room,
+                room: frame.room,
             }),
             Err(error) => {
                 retire_all(places);
                 Err(error)
             }
         }
+    }
+}
+
+/// What a network has beside its nodes: the wires of its plan, and room for the terminals at the end.
+#[derive(Drop)]
+struct Frame<T: TokenKind> {
+    wires: Wires,
+    room: Vec<TerminalOf<T>>,
+}
+
+impl<T: TokenKind> Frame<T> {
+    /// What a network of this plan has. The only error is out of memory.
+    fn new(alloc: Global, plan: &Plan) -> Result<Self, NoMemory>
+        ensures wires { IfOk result (λ frame. frame.wires ≡ plan.now) }
+        ensures empty { IfOk result (λ frame. frame.room.items ≡ []) }
+        ensures room { IfOk result (λ frame.
+            length frame.wires.terminals ≤ vec_capacity frame.room) }
+    {
+        let room = Vec::with_capacity(alloc, plan.terminals().len())?;
+        let copy = plan.clone()?;
+        let wires = Wires::new(alloc, copy)?;
+        Ok(Frame { wires, room })
     }
 }
 

@@ -2,7 +2,6 @@
 ghost use Rattle.std.specs.Prelude.{◌≡◌, is_some, IfSome};
 ghost use Rattle.c104_token.specs.Kinds.{plain_kind};
 ghost use Rattle.c104_net.specs.Network.{network_apply, network_peek};
-ghost use Rattle.c104_net.specs.NetRecords.{IsNetRecord};
 ghost use Rattle.c104_net.specs.ReasonMeanings.{IsEventReason};
 ghost use Rattle.c104_net.specs.Reasons.{is_unready, network_why};
 

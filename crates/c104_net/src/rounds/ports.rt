@@ -2,7 +2,7 @@
 //! of terminals each is asked, so that no event is tried of which it is known that its near end isn't ready.
 //!
 //! The walks are inlined, since each part is a code of its own.
-ghost use Rattle.std.specs.Prelude.{◌≡◌, ◌<◌, ◌≤◌, ℕ, None, false, true, flat_map, length, map, unwrap_or, IfSome, Ok};
+ghost use Rattle.std.specs.Prelude.{◌≡◌, ◌<◌, ◌≤◌, ℕ, None, false, true, flat_map, length, unwrap_or, IfSome, Ok};
 ghost use Rattle.c104_describe.specs.declared.ports.Port.TheVariants as port;
 ghost use Rattle.c104_regs.specs.declared.registers.TheConstants.{LINKS};
 ghost use Rattle.c104_net.specs.Network.{wired_fault};

@@ -1,5 +1,5 @@
 //! Where the packets came from that arrived in a run.
-ghost use Rattle.std.specs.Prelude.{◌≡◌, map, IfOk};
+ghost use Rattle.std.specs.Prelude.{◌≡◌, map, IfOk, Ok};
 ghost use Rattle.std.specs.Global.{Vec as Kept};
 ghost use Rattle.c104_net.specs.Origins.{Origin as TheOrigin, origins_in};
 ghost use Rattle.c104_net.specs.RunOrigins.{AreOrigins};
@@ -11,7 +11,7 @@ use crate::acts::Entry;
 use crate::bare_net::NetOf;
 use crate::bare_run::RunOf;
 use crate::origins::{Origin, origins_of};
-use crate::replays::{Trail, leaders_of, replay};
+use crate::replays::{Trail, replay_all};
 use crate::traced::Traced;
 use c104_token::{Items, NoMemory};
 use std::alloc::Global;
@@ -35,13 +35,25 @@ impl Run {
         let _switches = self.plan.switches();
         let traces = self.parts.traces.as_slice();
         let starts = self.parts.starts.as_slice();
-        let leaders = leaders_of(alloc, self.count as usize, traces)?;
         let mut net = NetOf::<Traced>::from_starts(alloc, &self.plan, starts)?;
-        let result = replay(alloc, &mut net, &self.plan, leaders.as_slice(), traces);
+        let replayed = replay_all(alloc, &mut net, &self.plan, self.count as usize, traces);
         let run = net.finish();
-        result?;
-        origins_at(alloc, &run)
+        origins_after(alloc, replayed, &run)
     }
+}
+
+/// The origins of what arrived at each terminal of a run that was done once more, or why it wasn't.
+fn origins_after(
+    alloc: Global,
+    replayed: Result<(), NoMemory>,
+    run: &RunOf<Traced>,
+) -> Result<Vec<Vec<Origin>>, NoMemory>
+    ensures { IfOk result (λ lists. (replayed ≡ Ok tt)
+        × (map (λ (list : Kept TheOrigin). list.items) lists.items
+        ≡ map (λ (t : Terminal TheTraced). origins_in t.arrived) run.now.terminals)) }
+{
+    replayed?;
+    origins_at(alloc, run)
 }
 
 /// The origins of what arrived at each terminal, in order. The only error is out of memory.

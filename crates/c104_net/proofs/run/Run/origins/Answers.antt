@@ -1,4 +1,5 @@
-use Rattle.std.proofs.Common.{List, ap, arith, length, map, subst, sym, ℕ, ◌≡◌, ◌≤◌}
+use Rattle.std.proofs.Common.{List, Ok, OnOk, Result, ap, arith, length, map, subst, sym, ℕ, ◌≡◌, ◌≤◌}
+use Rattle.c104_token.specs.declared.faults.NoMemory.{NoMemory}
 use Rattle.std.specs.Global.{Vec as Kept}
 use Rattle.c104_describe.specs.Plans.{IsPlan, Plan}
 use Rattle.c104_net.specs.Terminals.{Terminal}
@@ -24,15 +25,6 @@ run_of plan terminals starts traces count = record {
   count = count;
 }
 
-pub leaders_of-requires : goal.leaders_of-requires
-leaders_of-requires c =
-    let run : FinishedRecord = run_of c.self.inside.plan c.self.inside.parts.terminals.items c.self.inside.parts.starts.items c.self.inside.parts.traces.items c.self.inside.count in
-    let kept : IsKeptRun run = kept_run run c.self.invariant in
-    let is_plan : IsPlan run.finished.plan = c.switches-switches.ensures.kept in
-    let few : length c.self.inside.parts.traces.items ≤ 65536 = few_traces run is_plan kept in
-    let same = ap length c.as_slice-traces.ensures.value in
-    record { few = omega (arith, few, same) }
-
 pub from_starts-requires : goal.from_starts-requires
 from_starts-requires c =
     let run : FinishedRecord = run_of c.self.inside.plan c.self.inside.parts.terminals.items c.self.inside.parts.starts.items c.self.inside.parts.traces.items c.self.inside.count in
@@ -42,14 +34,18 @@ from_starts-requires c =
     (steady_start run is_plan kept)
 
 -- all of the run is left at first
-pub replay-result-requires : goal.replay-result-requires
-replay-result-requires c =
+pub replay_all-replayed-requires : goal.replay_all-replayed-requires
+replay_all-replayed-requires c =
     let run : FinishedRecord = run_of c.self.inside.plan c.self.inside.parts.terminals.items c.self.inside.parts.starts.items c.self.inside.parts.traces.items c.self.inside.count in
     let kept : IsKeptRun run = kept_run run c.self.invariant in
     let is_plan : IsPlan run.finished.plan = c.switches-switches.ensures.kept in
+    let few : length c.self.inside.parts.traces.items ≤ 65536 = few_traces run is_plan kept in
+    let same = ap length c.as_slice-traces.ensures.value in
     let ended : Network Traced = network_of run.finished.plan (traced run is_plan kept).0 in
-    let left = left_lent run is_plan kept c.as_slice-traces.result.now c.as_slice-starts.result.now c.in_ok-net.net c.in_ok-leaders.leaders.items c.as_slice.result.now c.as_slice-traces.ensures.value c.as_slice-starts.ensures.value c.in_ok-net.ensures c.in_ok-leaders.ensures c.as_slice.ensures.value in
-    record { left = (ended, left) }
+    record {
+      few = omega (arith, few, same);
+      left = (ended, left_lent run is_plan kept c.as_slice-traces.result.now c.as_slice-starts.result.now c.in_ok-net.net c.as_slice-traces.ensures.value c.as_slice-starts.ensures.value c.in_ok-net.ensures);
+    }
 
 -- and it led where it leads over tokens that tell where they came from
 pub returns : goal.returns
@@ -58,12 +54,14 @@ returns c =
     let kept : IsKeptRun run = kept_run run c.self.invariant in
     let is_plan : IsPlan run.finished.plan = c.switches-switches.ensures.kept in
     let ended : Network Traced = network_of run.finished.plan (traced run is_plan kept).0 in
-    let left = left_lent run is_plan kept c.as_slice-traces.result.now c.as_slice-starts.result.now c.in_ok-net.net c.in_ok-leaders.leaders.items c.as_slice.result.now c.as_slice-traces.ensures.value c.as_slice-starts.ensures.value c.in_ok-net.ensures c.in_ok-leaders.ensures c.as_slice.ensures.value in
-    let net_is : c.replay-result.new.net ≡ ended = c.in_ok-result.ensures ended left in
+    let left = left_lent run is_plan kept c.as_slice-traces.result.now c.as_slice-starts.result.now c.in_ok-net.net c.as_slice-traces.ensures.value c.as_slice-starts.ensures.value c.in_ok-net.ensures in
+    let led : OnOk c.replay_all-replayed.result (c.replay_all-replayed.new.net ≡ ended) = c.replay_all-replayed.ensures ended left in
     if_ok
-    (λ lists. map (λ (list : Kept Origin). list.items) lists.items ≡ map terminal_origins c.finish-run.result.terminals)
+    (λ lists. (c.replay_all-replayed.result ≡ Ok tt) × (map (λ (list : Kept Origin). list.items) lists.items ≡ map terminal_origins c.finish-run.result.terminals))
     (λ lists. AreOrigins c.args.self.now (map (λ (list : Kept Origin). list.items) lists.items))
-    c.origins_at.result
-    (λ lists are. subst (λ (run : FinishedRecord). AreOrigins run (map (λ (list : Kept Origin). list.items) lists.items)) c.self.view_is
-    (origins_lent run is_plan kept c.replay-result.new.net c.finish-run.result (map (λ (list : Kept Origin). list.items) lists.items) net_is c.finish-run.ensures are))
-    c.origins_at.ensures
+    c.origins_after.result
+    (λ lists are.
+    let net_is : c.replay_all-replayed.new.net ≡ ended = subst (λ (r : Result (Unit {0}) NoMemory). OnOk r (c.replay_all-replayed.new.net ≡ ended)) are.0 led in
+    subst (λ (run : FinishedRecord). AreOrigins run (map (λ (list : Kept Origin). list.items) lists.items)) c.self.view_is
+    (origins_lent run is_plan kept c.replay_all-replayed.new.net c.finish-run.result (map (λ (list : Kept Origin). list.items) lists.items) net_is c.finish-run.ensures are.1))
+    c.origins_after.ensures
