@@ -37,7 +37,7 @@ use Rattle.c104_tools.proofs.NetSwitches.{stands_at}
 use Rattle.c104_tools.specs.declared.faults.LoadFault.{LoadFault}
 use Rattle.c104_tools.specs.declared.faults.LoadFault.TheVariants as fault
 use Rattle.c104_tools.specs.Loaded.{IsUnansweredFault}
-use Rattle.c104_tools.specs.Loads.{for_each, load_list, order, pokes, steps_from, switch_pokes}
+use Rattle.c104_tools.specs.Loads.{for_each, load_list, order, steps_from, switch_pokes}
 use Rattle.c104_tools.specs.NetOutcomes.{EndsSo, control_given, net_command, net_load}
 use Rattle.c104_tools.specs.Outcomes.{and_then, any_value, nothing_made, run_steps, step_result, told, unless_failed, with_value}
 use Rattle.c104_tools.specs.Steps.{Step, judged, may_refuse, named_address, told_value, value_or_bad}

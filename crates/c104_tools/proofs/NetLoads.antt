@@ -1,5 +1,5 @@
 -- A new network into which an image is loaded is the network that is placed with the image.
-use Rattle.std.proofs.Common.{◌≡◌, ◌↔◌, ◌<◌, ◌+◌, ◌++◌, ℕ, zero, suc, All, Bool, true, false, IsTrue, Option, Some, Result, Ok, Err, List, [], ◌∷◌, if◌then◌else◌, length, map, nat_eq, nat_lt, replicate, slice_get, slice_set, refl, sym, ap, ◌∙◌, subst, arith}
+use Rattle.std.proofs.Common.{◌≡◌, ◌↔◌, ◌<◌, ◌++◌, ℕ, zero, suc, All, Bool, true, false, IsTrue, Option, Some, Result, Ok, Err, List, [], ◌∷◌, if◌then◌else◌, length, map, nat_eq, nat_lt, replicate, slice_get, slice_set, refl, sym, ap, ◌∙◌, subst, arith}
 use Rattle.std.proofs.lemmas.Bool.Decides.{nat_tests}
 use Rattle.c104_token.specs.declared.tokens.Token.{Token}
 use Rattle.c104_token.specs.Kinds.{plain_kind}

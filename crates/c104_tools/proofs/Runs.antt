@@ -1,7 +1,7 @@
 -- Registers that are read one after the other, at addresses that follow one another.
-use Rattle.std.proofs.Common.{◌≡◌, ℕ, zero, suc, ◌+◌, ◌-◌, ◌<◌, ◌≤◌, Option, List, [], ◌∷◌, ◌++◌, append-nil, append_assoc, get_or, length, map, set, take, refl, sym, ap, ◌∙◌, subst, arith}
+use Rattle.std.proofs.Common.{◌≡◌, ℕ, zero, suc, ◌+◌, ◌-◌, ◌<◌, Option, List, [], ◌∷◌, ◌++◌, append-nil, append_assoc, get_or, length, map, set, take, refl, sym, ap, ◌∙◌, subst, arith}
 use Rattle.std.proofs.lemmas.List.{length-take-le, map-append}
-use Rattle.std.proofs.Math.Seq.{take-length, take-suc-set}
+use Rattle.std.proofs.Math.Seq.{take-suc-set}
 use Rattle.std.specs.List.{range_with_len}
 use Rattle.c104_control.specs.declared.commands.Command.TheVariants.{CPeek}
 use Rattle.c104_event.specs.declared.faults.EventFault.{EventFault}
@@ -70,11 +70,6 @@ module _ (old mid : List Asked) (before middle : Option Switches) (switches left
         cut = ap (range_with_len first) size ∙ range_cut first i m ∙ ap (λ xs. xs ++ (first + i) ∷ range_with_len (first + i + 1) m) (sym (numbered_addresses first (take i values) ∙ ap (range_with_len first) there));
         fault = subst (λ xs. IsFaultOf unanswered xs new switch (CPeek (first + i)) f) so_far.grown fault;
       }
-
-pub read_all : (old new : List Asked) (before after : Option Switches) (switches left switch first : ℕ) (values : List ℕ) (i : ℕ) → length values ≤ i → i ≤ length values → ReadSoFar old new before after switches left switch first (take i values) → new ≡ old ++ map step_done (peeks switch (numbered first values))
-read_all old new before after switches left switch first values i low high so_far =
-    let end : i ≡ length values = omega arith in
-    so_far.grown ∙ ap (λ xs. old ++ map step_done (peeks switch (numbered first xs))) (ap (λ n. take n values) end ∙ take-length values)
 
 -- a list of seven, element by element
 seven_of : (values : List ℕ) → length values ≡ 7 → values ≡ get_or values 0 0 ∷ get_or values 1 0 ∷ get_or values 2 0 ∷ get_or values 3 0 ∷ get_or values 4 0 ∷ get_or values 5 0 ∷ get_or values 6 0 ∷ []

@@ -1,6 +1,5 @@
 //! The loader.
-ghost use Rattle.std.specs.Prelude.{◌≡◌, ◌≢◌, ◌↔◌, true, Bool, Err, IfErr, MatchResult, Some, length};
-ghost use Rattle.c104_describe.specs.PlanImage.{AreSettings};
+ghost use Rattle.std.specs.Prelude.{◌≡◌, ◌≢◌, ◌↔◌, true, Err, IfErr, MatchResult, Some, length};
 ghost use Rattle.c104_tools.specs.declared.faults.LoadFault.TheVariants as fault;
 ghost use Rattle.c104_tools.specs.Loads.{for_each, load_list, pokes, steps_from, switch_pokes};
 ghost use Rattle.c104_tools.specs.Loaded.{IsLeftBySwitch, IsUnansweredFault, each_with, loaded};

@@ -1,6 +1,6 @@
 //! What the debugger reads.
 ghost use Rattle.std.specs.List.{range_with_len};
-ghost use Rattle.std.specs.Prelude.{◌≡◌, ◌↔◌, ◌+◌, ◌<◌, ◌≤◌, Err, MatchResult, Ok, length};
+ghost use Rattle.std.specs.Prelude.{◌≡◌, ◌↔◌, ◌+◌, ◌<◌, ◌≤◌, Err, Ok, length};
 ghost use Rattle.c104_regs.specs.declared.addresses.Address.TheVariants.{AtLink};
 ghost use Rattle.c104_regs.specs.declared.addresses.Register.TheVariants.{Sunk};
 ghost use Rattle.c104_regs.specs.Addresses.{address_number};
