@@ -1,0 +1,62 @@
+//! The calls that tests make of plans and images, with nothing promised. What their contracts say would be facts of
+//! every later goal of a test, and the prover would compute with literal texts. A test fails where a call does.
+use c104_describe::{Image, Plan, Port, hand_image, print_plan, read_description};
+use c104_interval::Table;
+use c104_label::{LabelFault, image_of, label_cube, label_mesh, label_tree};
+use std::alloc::Global;
+
+/// The plan of a description.
+pub fn plan_of(alloc: Global, text: &[u8]) -> Option<Plan> {
+    read_description(alloc, text).ok()
+}
+
+/// What is printed of a plan.
+pub fn printed(alloc: Global, plan: &Plan) -> Option<String> {
+    print_plan(alloc, plan).ok()
+}
+
+/// The far end of a link.
+pub fn peer(plan: &Plan, port: Port) -> Option<Port> {
+    plan.peer(port)
+}
+
+/// What makes an image of a plan.
+#[derive(Clone, Copy)]
+pub enum Maker {
+    /// Nothing is set.
+    Empty,
+    /// The plan's own lines.
+    Lines,
+    /// The labels of a tree, a mesh or a cube.
+    Tree,
+    Mesh,
+    Cube,
+    /// The labels of what it is.
+    Any,
+}
+
+/// The image of a plan.
+pub fn image(alloc: Global, plan: &Plan, maker: Maker) -> Result<Image, LabelFault> {
+    match maker {
+        Maker::Empty => Ok(Image::new(alloc, plan)?),
+        Maker::Lines => Ok(hand_image(alloc, plan)?),
+        Maker::Tree => label_tree(alloc, plan),
+        Maker::Mesh => label_mesh(alloc, plan),
+        Maker::Cube => label_cube(alloc, plan),
+        Maker::Any => image_of(alloc, plan),
+    }
+}
+
+/// The image of a description.
+pub fn described(alloc: Global, text: &[u8], maker: Maker) -> Option<Image> {
+    let plan = plan_of(alloc, text)?;
+    image(alloc, &plan, maker).ok()
+}
+
+/// The table of a link.
+pub fn table(image: &Image, switch: usize, link: usize) -> Option<&Table> {
+    match image.settings(switch)?.get(link) {
+        Some(settings) => Some(&settings.table),
+        None => None,
+    }
+}

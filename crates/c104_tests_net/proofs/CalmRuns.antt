@@ -1,0 +1,139 @@
+-- In a run whose traces tell of no change nobody changed the network, so its switches end as they started.
+use Rattle.c104_check.specs.Routes.{IsAccepted, routes_of, settings_at, settings_in}
+use Rattle.c104_describe.specs.PlanImage.{Image}
+use Rattle.c104_describe.specs.Plans.{IsPlan, Plan}
+use Rattle.c104_event.specs.declared.events.Event.{Event}
+use Rattle.c104_link.proofs.MadeSteps.{All-place}
+use Rattle.c104_net.proofs.EventEntries.{all_events, lone_is}
+use Rattle.c104_net.proofs.LedEvents.{IsTold}
+use Rattle.c104_net.proofs.NodeViews.{node_settings, settings_seen}
+use Rattle.c104_net.proofs.PacketInvariant.{IsLabelled}
+use Rattle.c104_net.proofs.Promises.{each, starts}
+use Rattle.c104_net.proofs.RunSteps.{header_positive}
+use Rattle.c104_net.proofs.SentBytes.{AreBytesSent, SendsBytes}
+use Rattle.c104_net.proofs.StartMaps.{starts_are}
+use Rattle.c104_net.proofs.TracedRuns.{traced_from}
+use Rattle.c104_net.specs.Balance.{AreInPlace}
+use Rattle.c104_net.specs.Leading.{event_place}
+use Rattle.c104_net.specs.NetRecords.{IsNetRecord, NetRecord, fresh_record, record_begun_if}
+use Rattle.c104_net.specs.Network.{Network, network_of}
+use Rattle.c104_net.specs.Nodes.{Node}
+use Rattle.c104_net.specs.Quiet.{network_begin, node_begin}
+use Rattle.c104_net.specs.Runs.{IsRunRecord, at_node}
+use Rattle.c104_net.specs.Starts.{start_node, start_of}
+use Rattle.c104_net.specs.TracedRuns.{map_node, map_switch}
+use Rattle.c104_net.specs.Traces.{Deed, event_deeds, is_switch_place, part}
+use Rattle.c104_net.specs.Unchanged.{AreStartsOf, IsUnchanged, MayHappen}
+use Rattle.c104_net.specs.declared.acts.Entry.{Entry}
+use Rattle.c104_net.specs.declared.starts.NodeStart.{NodeStart}
+use Rattle.c104_net.specs.declared.traced.Traced.{Traced}
+use Rattle.c104_regs.specs.declared.settings.Settings.{Settings}
+use Rattle.c104_switch.specs.Actions.{Reply}
+use Rattle.c104_switch.specs.Starts.{SwitchStart, switch_start}
+use Rattle.c104_switch.specs.Switch.{Switch}
+use Rattle.c104_tests_net.proofs.CalmSteps.{no_entries}
+use Rattle.c104_tests_net.specs.CalmNets.{IsCalm, IsCalmDone, IsCalmEntry, IsCalmTrace}
+use Rattle.c104_token.specs.Kinds.{plain_kind}
+use Rattle.c104_token.specs.declared.tokens.Token.{Token}
+use Rattle.std.proofs.Common.{All, Bool, List, None, Option, Some, [], ap, false, map, option_map, refl, slice_get, subst, sym, true, ℕ, ◌++◌, ◌∙◌, ◌∷◌, ◌≡◌}
+use Rattle.std.proofs.lemmas.Option.{slice_get-map}
+use Rattle.std.specs.List.{AllByRecursion}
+use Rattle.c104_event.specs.declared.events.Event.TheVariants as event
+use Rattle.c104_net.specs.declared.acts.ActOf.TheVariants as act
+use Rattle.c104_net.specs.declared.node.NodeOf.TheVariants as node
+use Rattle.c104_net.specs.declared.starts.NodeStart.TheVariants as start
+use Rattle.c104_switch.specs.declared.actions.ActionOf.TheVariants as action
+
+-- an event whose entry is calm
+was_calm : (plan : Plan) (ticket : ℕ) (e : Event) (r : Reply) (es : List Deed) → IsTold plan e r → All IsCalmEntry (at_node (event_place plan e) (event_deeds (is_switch_place plan) plan ticket e r ++ es)) → IsCalmDone e r
+was_calm plan ticket (event.Cross p) r es told all = tt
+was_calm plan ticket (event.Credit p) r es told all = tt
+was_calm plan ticket (event.Input s l word) r es told all = tt
+was_calm plan ticket (event.Claim s i o) r es told all = tt
+was_calm plan ticket (event.Control s bytes) r es told all = lone_is IsCalmEntry ticket s (act.Step (action.Control bytes)) r es told all
+was_calm plan ticket (event.Send t p) r es told all = lone_is IsCalmEntry ticket _ (act.Send p) r es told all
+was_calm plan ticket (event.Drain t) r es told all = tt
+
+may_happen : (e : Event) (r : Reply) → IsCalmDone e r → MayHappen e r
+may_happen (event.Cross p) r calm = tt
+may_happen (event.Credit p) r calm = tt
+may_happen (event.Input s l word) r calm = tt
+may_happen (event.Claim s i o) r calm = tt
+may_happen (event.Control s bytes) r calm = calm
+may_happen (event.Send t p) r calm = tt
+may_happen (event.Drain t) r calm = tt
+
+sends_bytes : (e : Event) (r : Reply) → IsCalmDone e r → SendsBytes e
+sends_bytes (event.Cross p) r calm = tt
+sends_bytes (event.Credit p) r calm = tt
+sends_bytes (event.Input s l word) r calm = tt
+sends_bytes (event.Claim s i o) r calm = tt
+sends_bytes (event.Control s bytes) r calm = tt
+sends_bytes (event.Send t p) r calm = calm
+sends_bytes (event.Drain t) r calm = tt
+
+abbrev AreCalm : List (Event × Reply) → Type 0
+AreCalm events = AllByRecursion (λ (e : Event × Reply). IsCalmDone e.0 e.1) events
+
+unchanged_all : (events : List (Event × Reply)) → AreCalm events → IsUnchanged events
+unchanged_all [] each = tt
+unchanged_all (e ∷ events) each = (may_happen e.0 e.1 each.0, unchanged_all events each.1)
+
+bytes_all : (events : List (Event × Reply)) → AreCalm events → AreBytesSent events
+bytes_all [] each = tt
+bytes_all (e ∷ events) each = (sends_bytes e.0 e.1 each.0, bytes_all events each.1)
+
+module _ (plan : Plan) (starts : List NodeStart) (nodes : List (Node Token)) (traces : List (List Entry)) (count : ℕ) (events : List (Event × Reply)) (placed : AreInPlace {A = Token} plan (map start_node starts)) (calm : All IsCalmTrace traces) (told : IsRunRecord plain_kind plan (map start_node starts) nodes traces count events) where
+  -- the events of a run whose nodes did nothing that changes a register
+  calm_run : AreCalm events
+  calm_run = all_events IsCalmEntry plan (λ (e : Event × Reply). IsCalmDone e.0 e.1) (was_calm plan) (map start_node starts) nodes traces count events placed told (λ k trace at. All-place IsCalmTrace traces k trace at calm)
+
+  pub unchanged : IsUnchanged events
+  unchanged = unchanged_all events calm_run
+
+  bytes_sent : AreBytesSent events
+  bytes_sent = bytes_all events calm_run
+
+module _ (plan : Plan) (image : Image) (is_plan : IsPlan plan) (accepted : IsAccepted (routes_of plan image)) where
+  -- where such a run ended each switch is set as it was
+  still_set : (first : List NodeStart) (nodes : List (Node Token)) (traces : List (List Entry)) (count : ℕ) (events : List (Event × Reply)) → AreStartsOf plan image first → All IsCalmTrace traces → IsRunRecord plain_kind plan (map start_node first) nodes traces count events → (k : ℕ) (s : Switch Token) → slice_get nodes k ≡ Some (node.Switch s) → s.settings ≡ settings_in image.settings k
+  still_set first nodes traces count events are calm told k s at =
+      let labelled : IsLabelled (routes_of plan image) = record { accepted = accepted; positive = header_positive plan image } in
+      let traced = traced_from plan first nodes events told.run in
+      let begun : List (Node Traced) = map start_node first in
+      let quiet = unchanged plan first nodes traces count events are.in_place calm told in
+      let sent = bytes_sent plan first nodes traces count events are.in_place calm told in
+      let ended = each plan image is_plan labelled begun (network_of plan traced.0) events traced.1.run quiet sent (starts plan image is_plan labelled begun (starts_are plan image first are)) in
+      let same : ended.0 ≡ traced.0 = ap (λ (net : Network Traced). net.nodes) ended.1 in
+      let there : option_map (map_node (λ (x : Traced). x.token)) (slice_get traced.0 k) ≡ Some (node.Switch s) = sym (slice_get-map (map_node (λ (x : Traced). x.token)) traced.0 k) ∙ ap (λ ns. slice_get ns k) traced.1.plain ∙ at in
+      by_node (slice_get traced.0 k) there (λ settings seen. ended.2.set k settings (ap (λ ns. settings_seen plan ns k) same ∙ seen))
+    where
+      by_node : (o : Option (Node Traced)) → option_map (map_node (λ (x : Traced). x.token)) o ≡ Some (node.Switch s) → ((settings : List Settings) → part None node_settings o ≡ Some settings → settings ≡ settings_at (routes_of plan image) k) → s.settings ≡ settings_in image.settings k
+      by_node None is set = absurd (cc)
+      by_node (Some (node.Terminal t)) is set = absurd (cc)
+      by_node (Some (node.Switch x)) is set = let same : map_switch (λ (x : Traced). x.token) x ≡ s = cc in ap (λ (z : Switch Token). z.settings) (sym same) ∙ set x.settings refl
+
+  set_again : (nodes : List (Node Token)) → ((k : ℕ) (s : Switch Token) → slice_get nodes k ≡ Some (node.Switch s) → s.settings ≡ settings_in image.settings k) → (k : ℕ) (s : SwitchStart) → slice_get (map start_of (map node_begin nodes)) k ≡ Some (start.Switch s) → s.settings ≡ settings_in image.settings k
+  set_again nodes set k s at =
+      let there : option_map (start_of {A = Token}) (option_map node_begin (slice_get nodes k)) ≡ Some (start.Switch s) = ap (option_map (start_of {A = Token})) (sym (slice_get-map node_begin nodes k)) ∙ sym (slice_get-map (start_of {A = Token}) (map node_begin nodes) k) ∙ at in
+      by_node (slice_get nodes k) refl there
+    where
+      by_node : (o : Option (Node Token)) → slice_get nodes k ≡ o → option_map (start_of {A = Token}) (option_map node_begin o) ≡ Some (start.Switch s) → s.settings ≡ settings_in image.settings k
+      by_node None is there = absurd (cc)
+      by_node (Some (node.Terminal t)) is there = absurd (cc)
+      by_node (Some (node.Switch x)) is there = let same : switch_start x ≡ s = cc in ap (λ (z : SwitchStart). z.settings) (sym same) ∙ set k x is
+
+  -- and a further run starts with the image's settings
+  pub begun_calm : (b : Bool) (old new : NetRecord) → IsNetRecord old → IsNetRecord new → new ≡ record_begun_if b old → IsCalm plan image old → IsCalm plan image new
+  begun_calm false old new kept after is calm = subst (IsCalm plan image) (sym is) calm
+  begun_calm true old new kept after is calm =
+      let begun : IsNetRecord (fresh_record (network_begin old.network)) = subst IsNetRecord is after in
+      let told : IsRunRecord plain_kind plan (map start_node old.starts) old.network.nodes old.traces old.count kept.told.0 = subst (λ p. IsRunRecord plain_kind p (map start_node old.starts) old.network.nodes old.traces old.count kept.told.0) calm.same_plan kept.told.1 in
+      subst (IsCalm plan image) (sym is) (record {
+        same_plan = calm.same_plan;
+        starts = record {
+          in_place = subst (λ p. AreInPlace {A = Token} p (map start_node (map (start_of {A = Token}) (map node_begin old.network.nodes)))) calm.same_plan begun.started.in_place;
+          set = set_again old.network.nodes (still_set old.starts old.network.nodes old.traces old.count kept.told.0 calm.starts calm.traces told);
+        };
+        traces = no_entries (map node_begin old.network.nodes);
+      })

@@ -1,0 +1,209 @@
+-- A network that nobody changed stays so by each event that leaves registers as they were, and by rounds.
+use Rattle.c104_describe.proofs.RangeLists.{each_append}
+use Rattle.c104_describe.specs.PlanImage.{Image}
+use Rattle.c104_describe.specs.Plans.{Plan}
+use Rattle.c104_describe.specs.declared.plans.Terminal.{Terminal}
+use Rattle.c104_describe.specs.declared.ports.Port.{Port}
+use Rattle.c104_event.specs.declared.events.Event.{Event}
+use Rattle.c104_event.specs.declared.faults.EventFault.{EventFault}
+use Rattle.c104_link.proofs.MadeSteps.{All-place}
+use Rattle.c104_net.proofs.RecordedRuns.{record_plan}
+use Rattle.c104_net.specs.Ends.{end_of}
+use Rattle.c104_net.specs.EventRuns.{EventsEnd, Outcome, run_events, unless_fault}
+use Rattle.c104_net.specs.NetRecords.{IsNetRecord, NetRecord, fresh_record}
+use Rattle.c104_net.specs.Network.{network_apply, placed_network, switch_nodes, terminal_nodes}
+use Rattle.c104_net.specs.Nodes.{Node}
+use Rattle.c104_net.specs.RecordedRuns.{AnswersRecord, RecordsRounds, record_apply, record_stage}
+use Rattle.c104_net.specs.Rounds.{all_claims, all_drains, claims_of, link_numbers, round, rounds, switch_claims, turn_at, wired_ports}
+use Rattle.c104_net.specs.Stages.{stage_full, unless_full}
+use Rattle.c104_net.specs.Starts.{start_of}
+use Rattle.c104_net.specs.Traces.{Deed, crediting_deeds, crossing_deeds, end_credit_in, end_credit_out, end_enter, end_leave, entry_of, event_deeds, is_switch_at, kept_of, lone_deed, noted_all, noted_at, noted_in, part}
+use Rattle.c104_net.specs.declared.acts.ActOf.{ActOf}
+use Rattle.c104_net.specs.declared.acts.Entry.{Entry}
+use Rattle.c104_net.specs.declared.ends.End.{End}
+use Rattle.c104_check.specs.Routes.{settings_in}
+use Rattle.c104_describe.specs.Wiring.{peer}
+use Rattle.c104_regs.specs.declared.settings.Settings.{Settings}
+use Rattle.c104_switch.specs.Actions.{Reply, is_ready}
+use Rattle.c104_switch.specs.Starts.{SwitchStart}
+use Rattle.c104_tests_net.specs.CalmNets.{IsCalm, IsCalmAct, IsCalmDone, IsCalmEntry, IsCalmEvent, IsCalmTrace}
+use Rattle.c104_token.specs.Kinds.{plain_kind}
+use Rattle.c104_token.specs.declared.packets.Packet.{Packet}
+use Rattle.c104_token.specs.declared.tokens.Token.{Token}
+use Rattle.std.proofs.Common.{All, Bool, Err, List, None, Ok, Option, Result, Some, [], ap, false, flat_map, if◌then◌else◌, length, map, refl, slice_get, subst, suc, sym, true, zero, ℕ, ◌++◌, ◌<◌, ◌∙◌, ◌∷◌, ◌≡◌, inl, inr}
+use Rattle.std.proofs.lemmas.List.Elements.{All-append, All-cons, All-map, All-nil, All-set}
+use Rattle.std.specs.List.{AllByRecursion, range_with_len}
+use Rattle.c104_event.specs.declared.events.Event.TheVariants as event
+use Rattle.c104_net.specs.declared.acts.ActOf.TheVariants as act
+use Rattle.c104_net.specs.declared.starts.NodeStart.TheVariants as start
+use Rattle.c104_switch.specs.declared.actions.ActionOf.TheVariants as action
+use Rattle.c104_switch.specs.declared.actions.ReplyOf.TheVariants as reply
+use Rattle.c104_describe.specs.declared.ports.Port.TheVariants as port
+
+-- an entry that joins the traces
+noted_calm : (traces : List (List Entry)) (k : ℕ) (e : Entry) → IsCalmEntry e → All IsCalmTrace traces → All IsCalmTrace (noted_at true traces k e)
+noted_calm traces k e one all = by_trace (slice_get traces k) refl
+  where
+    by_trace : (o : Option (List Entry)) → slice_get traces k ≡ o → All IsCalmTrace (noted_in true traces k e o)
+    by_trace None is = all
+    by_trace (Some trace) is = All-set IsCalmTrace traces k (trace ++ e ∷ []) (All-append IsCalmEntry trace (e ∷ []) (All-place IsCalmTrace traces k trace is all) (All-cons IsCalmEntry e [] one (All-nil IsCalmEntry))) all
+
+abbrev IsCalmDeed : Deed → Type 0
+IsCalmDeed d = IsCalmEntry d.1
+
+all_noted : (ds : List Deed) (traces : List (List Entry)) → AllByRecursion IsCalmDeed ds → All IsCalmTrace traces → All IsCalmTrace (noted_all true traces ds)
+all_noted [] traces each all = all
+all_noted (d ∷ ds) traces each all = all_noted ds (noted_at true traces d.0 d.1) each.1 (noted_calm traces d.0 d.1 each.0 all)
+
+-- the entries of an event
+module _ (f : ℕ → Bool) (plan : Plan) (ticket : ℕ) where
+  lone_calm : (k : ℕ) (a : ActOf Token) (r : Reply) → IsCalmAct a r → AllByRecursion IsCalmDeed (lone_deed ticket k a r)
+  lone_calm k a r one = by_test (is_ready r)
+    where
+      by_test : (b : Bool) → AllByRecursion IsCalmDeed (if b then (k, entry_of ticket a r) ∷ [] else [])
+      by_test true = (one, tt)
+      by_test false = tt
+
+  leave_calm : (b : Bool) (l : ℕ) (r : Reply) → IsCalmAct (end_leave b l) r
+  leave_calm true l r = tt
+  leave_calm false l r = tt
+
+  enter_calm : (x : Token) (b : Bool) (l : ℕ) (r : Reply) → IsCalmAct (end_enter x b l) r
+  enter_calm x true l r = tt
+  enter_calm x false l r = tt
+
+  out_calm : (b : Bool) (l : ℕ) (r : Reply) → IsCalmAct (end_credit_out b l) r
+  out_calm true l r = tt
+  out_calm false l r = tt
+
+  in_calm : (b : Bool) (l : ℕ) (r : Reply) → IsCalmAct (end_credit_in b l) r
+  in_calm true l r = tt
+  in_calm false l r = tt
+
+  crossing_calm : (from : End) (r : Reply) (o : Option Port) → AllByRecursion IsCalmDeed (part [] (λ q. crossing_deeds f ticket from (end_of plan q) r) o)
+  crossing_calm from r None = tt
+  crossing_calm from reply.Done (Some q) = tt
+  crossing_calm from reply.NotReady (Some q) = tt
+  crossing_calm from (reply.Token x) (Some q) = (leave_calm (f from.node) from.link (reply.Token x), (enter_calm x (f (end_of plan q).node) (end_of plan q).link reply.Done, tt))
+  crossing_calm from (reply.Control bytes) (Some q) = tt
+
+  crediting_calm : (from : End) (r : Reply) (o : Option Port) → AllByRecursion IsCalmDeed (part [] (λ q. crediting_deeds f ticket from (end_of plan q) r) o)
+  crediting_calm from r None = tt
+  crediting_calm from r (Some q) = by_test (is_ready r)
+    where
+      by_test : (b : Bool) → AllByRecursion IsCalmDeed (if b then (from.node, entry_of ticket (end_credit_out (f from.node) from.link) reply.Done) ∷ ((end_of plan q).node, entry_of ticket (end_credit_in (f (end_of plan q).node) (end_of plan q).link) reply.Done) ∷ [] else [])
+      by_test true = (out_calm (f from.node) from.link reply.Done, (in_calm (f (end_of plan q).node) (end_of plan q).link reply.Done, tt))
+      by_test false = tt
+
+  event_calm : (e : Event) (r : Reply) → IsCalmDone e r → AllByRecursion IsCalmDeed (event_deeds f plan ticket e r)
+  event_calm (event.Cross p) r may = crossing_calm (end_of plan p) r (peer plan p)
+  event_calm (event.Credit p) r may = crediting_calm (end_of plan p) r (peer plan p)
+  event_calm (event.Input s l word) r may = lone_calm s (act.Step (action.Input l word)) r tt
+  event_calm (event.Claim s i o) r may = lone_calm s (act.Step (action.Claim i o)) r tt
+  event_calm (event.Control s bytes) r may = lone_calm s (act.Step (action.Control bytes)) r may
+  event_calm (event.Send t p) r may = lone_calm _ (act.Send p) r may
+  event_calm (event.Drain t) r may = lone_calm _ act.Drain r tt
+
+  kept_calm : (e : Event) (answer : Result Reply EventFault) → IsCalmEvent e → AllByRecursion IsCalmDeed (kept_of (event_deeds f plan ticket e) answer)
+  kept_calm e (Ok r) calm = event_calm e r (calm r)
+  kept_calm e (Err f) calm = tt
+
+module _ (plan : Plan) (image : Image) where
+  -- what an event leaves
+  record_calm : (net : NetRecord) (e : Event) → IsCalmEvent e → IsCalm plan image net → IsCalm plan image (record_apply net e).1
+  record_calm net e fine calm =
+      let answer : Result Reply EventFault = (unless_full (stage_full true (record_stage net) e) net.network (network_apply plain_kind net.network e)).0 in
+      record {
+        same_plan = record_plan net e ∙ calm.same_plan;
+        starts = calm.starts;
+        traces = all_noted (kept_of (event_deeds (is_switch_at net.network.nodes) net.network.plan net.count e) answer) net.traces (kept_calm (is_switch_at net.network.nodes) net.network.plan net.count e answer fine) calm.traces;
+      }
+
+  pub event_kept : (old new : NetRecord) (e : Event) (answer : Result Reply EventFault) → IsCalmEvent e → AnswersRecord old e answer new → IsCalm plan image old → IsCalm plan image new
+  event_kept old new e answer fine is calm =
+      elim is [
+        | inl due ↦ subst (IsCalm plan image) (sym (ap (λ (a : Result Reply EventFault × NetRecord). a.1) due)) (record_calm old e fine calm)
+        | inr refused ↦ subst (IsCalm plan image) (sym refused.2) calm
+      ]
+
+  -- what a packet that is sent leaves
+  pub send_kept : (old new : NetRecord) (t : ℕ) (p : Packet) (answer : Result Reply EventFault) → All (λ (b : ℕ). b < 256) p.bytes → AnswersRecord old (event.Send t p) answer new → IsCalm plan image old → IsCalm plan image new
+  send_kept old new t p answer bytes is calm = event_kept old new (event.Send t p) answer (λ r. bytes) is calm
+
+  -- what a run of such events leaves
+  run_kept : (events : List Event) (net : NetRecord) → AllByRecursion IsCalmEvent events → IsCalm plan image net → IsCalm plan image (run_events record_apply net events).1
+  run_kept [] net each calm = calm
+  run_kept (e ∷ events) net each calm = by_answer (λ next kept. run_kept events next each.1 kept) (record_apply net e).0 (record_apply net e).1 (record_calm net e each.0 calm)
+    where
+      by_answer : ((next : NetRecord) → IsCalm plan image next → IsCalm plan image (run_events record_apply next events).1) → (answer : Result Reply EventFault) (next : NetRecord) → IsCalm plan image next → IsCalm plan image (unless_fault answer next (λ n. run_events record_apply n events)).1
+      by_answer more (Ok r) next kept = more next kept
+      by_answer more (Err f) next kept = kept
+
+  first_of : (front rest : List Event) → AllByRecursion IsCalmEvent (front ++ rest) → AllByRecursion IsCalmEvent front
+  first_of [] rest each = tt
+  first_of (e ∷ front) rest each = (each.0, first_of front rest each.1)
+
+  events_kept : (old new : NetRecord) (events : List Event) (result : Result (Unit {0}) EventFault) → AllByRecursion IsCalmEvent events → EventsEnd record_apply old events result new → IsCalm plan image old → IsCalm plan image new
+  events_kept old new events result each ends calm =
+      elim ends [
+        | inl due ↦ subst (IsCalm plan image) (sym (ap (λ (r : Outcome NetRecord). r.1) due)) (run_kept events old each calm)
+        | inr short ↦ subst (IsCalm plan image) (ap (λ (r : Outcome NetRecord). r.1) short.stands) (run_kept short.front old (first_of short.front (short.event ∷ short.rest) (subst (AllByRecursion IsCalmEvent) short.parts each)) calm)
+      ]
+
+-- the events of rounds
+of_map : {X : Type 0} (f : X → Event) (xs : List X) → ((x : X) → IsCalmEvent (f x)) → AllByRecursion IsCalmEvent (map f xs)
+of_map f [] each = tt
+of_map f (x ∷ xs) each = (each x, of_map f xs each)
+
+of_flat : {X : Type 0} (f : X → List Event) (xs : List X) → ((x : X) → AllByRecursion IsCalmEvent (f x)) → AllByRecursion IsCalmEvent (flat_map f xs)
+of_flat f [] each = tt
+of_flat f (x ∷ xs) each = each_append IsCalmEvent (f x) (flat_map f xs) (each x) (of_flat f xs each)
+
+turn_calm : (p : Port) → AllByRecursion IsCalmEvent (turn_at p)
+turn_calm (port.Switch s l) = (λ r. tt, tt)
+turn_calm (port.Terminal t) = tt
+
+round_calm : (plan : Plan) → AllByRecursion IsCalmEvent (round plan)
+round_calm plan =
+    let ports : List Port = wired_ports plan in
+    let drains : AllByRecursion IsCalmEvent (all_drains (length plan.terminals)) = of_map event.Drain (range_with_len 0 (length plan.terminals)) (λ t r. tt) in
+    let claims : AllByRecursion IsCalmEvent (all_claims (length plan.switches)) = of_flat switch_claims (range_with_len 0 (length plan.switches)) (λ s. of_flat (claims_of s) link_numbers (λ i. of_map (event.Claim s i) link_numbers (λ o r. tt))) in
+    let turns : AllByRecursion IsCalmEvent (flat_map turn_at ports) = of_flat turn_at ports turn_calm in
+    let credits : AllByRecursion IsCalmEvent (map event.Credit ports) = of_map event.Credit ports (λ p r. tt) in
+    let crossings : AllByRecursion IsCalmEvent (map event.Cross ports) = of_map event.Cross ports (λ p r. tt) in
+    let moved = each_append IsCalmEvent (map event.Credit ports) (map event.Cross ports) credits crossings in
+    let turned = each_append IsCalmEvent (map event.Credit ports ++ map event.Cross ports) (flat_map turn_at ports) moved turns in
+    let claimed = each_append IsCalmEvent ((map event.Credit ports ++ map event.Cross ports) ++ flat_map turn_at ports) (all_claims (length plan.switches)) turned claims in
+    each_append IsCalmEvent (((map event.Credit ports ++ map event.Cross ports) ++ flat_map turn_at ports) ++ all_claims (length plan.switches)) (all_drains (length plan.terminals)) claimed drains
+
+rounds_calm : (plan : Plan) (n : ℕ) → AllByRecursion IsCalmEvent (rounds plan n)
+rounds_calm plan zero = tt
+rounds_calm plan (suc n) = each_append IsCalmEvent (round plan) (rounds plan n) (round_calm plan) (rounds_calm plan n)
+
+pub rounds_kept : (plan : Plan) (image : Image) (old new : NetRecord) (n : ℕ) (result : Result (Unit {0}) EventFault) → RecordsRounds old n result new → IsCalm plan image old → IsCalm plan image new
+rounds_kept plan image old new n result ends calm = events_kept plan image old new (rounds old.network.plan n) result (rounds_calm old.network.plan n) ends calm
+
+-- a network that was placed
+no_switch : (cap : ℕ) (terminals : List Terminal) (k : ℕ) (s : SwitchStart) → slice_get (map (start_of {A = Token}) (terminal_nodes cap terminals)) k ≡ Some (start.Switch s) → ⊥
+no_switch cap [] k s is = cc
+no_switch cap (t ∷ terminals) zero s is = cc
+no_switch cap (t ∷ terminals) (suc k) s is = no_switch cap terminals k s is
+
+set_first : (cap : ℕ) (all : List (List Settings)) (terminals : List Terminal) (k : ℕ) (s : SwitchStart) → slice_get (map (start_of {A = Token}) (switch_nodes cap all ++ terminal_nodes cap terminals)) k ≡ Some (start.Switch s) → s.settings ≡ settings_in all k
+set_first cap [] terminals k s is = absurd (no_switch cap terminals k s is)
+set_first cap (x ∷ all) terminals zero s is = cc
+set_first cap (x ∷ all) terminals (suc k) s is = set_first cap all terminals k s is
+
+pub no_entries : (nodes : List (Node Token)) → All IsCalmTrace (map (λ n. []) nodes)
+no_entries nodes = All-map IsCalmTrace (λ n. []) nodes (λ i d inside. All-nil IsCalmEntry)
+
+pub placed_calm : (plan : Plan) (image : Image) (net : NetRecord) → net ≡ fresh_record (placed_network plan image) → IsNetRecord net → IsCalm plan image net
+placed_calm plan image net is kept =
+    subst (IsCalm plan image) (sym is) (record {
+      same_plan = refl;
+      starts = record {
+        in_place = (subst IsNetRecord is kept).started.in_place;
+        set = set_first plan.cap image.settings plan.terminals;
+      };
+      traces = no_entries (placed_network plan image).nodes;
+    })

@@ -1,0 +1,27 @@
+//! Tests of networks and tools, in modules by what they test, and one for the texts of their faults.
+//! `named_packets` cites the theorem about packets as a caller does.
+//!
+//! A crate with tests is proved twice, so the tests stand in crates of their own and the others have none. What
+//! a contract says needs no test. These show what no contract can: that a call which takes memory succeeds where
+//! there is some, and that the definitions agree with examples that were worked out elsewhere. What the program
+//! can show is a case in `tests/cases`.
+#![tactic(auto)]
+
+#[cfg(test)]
+mod calls;
+#[cfg(test)]
+mod crossings;
+#[cfg(test)]
+mod faults;
+#[cfg(test)]
+mod named_packets;
+#[cfg(test)]
+mod net;
+#[cfg(test)]
+mod origins;
+#[cfg(test)]
+mod reasons;
+#[cfg(test)]
+mod tools;
+#[cfg(test)]
+mod traces;
