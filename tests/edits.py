@@ -1,4 +1,4 @@
-"""Edits that the prover must refuse, and copies of the functions that they change.
+"""Edits that the prover must refuse, and the functions that they change.
 
 An edit is a file of lines `file: src/..`, `old: TEXT` and `new: TEXT`: in the file, the old text, which
 stands there once, gives way to the new one. A line `fn: NAME` or `fn: TYPE::NAME` after that of the file
@@ -7,8 +7,6 @@ and new.
 """
 
 import os
-import re
-import shutil
 
 from sources import functions_of, read_text, write_text
 
@@ -66,13 +64,14 @@ class Edit:
 
     def __init__(self, crate, path):
         self.crate, self.label = crate, '%s/%s' % (crate.name, os.path.basename(path))
-        self.texts, self.wrong, self.path, self.is_refused = {}, None, None, None
+        self.text, self.texts, self.wrong, self.path, self.is_refused = '', {}, None, None, None
         # The function that it changes, with the edit; and how it can be tried beside others.
         self.changed, self.edited, self.is_copied, self.is_of_impl = None, None, False, False
         try:
             if not path.endswith(ENDING):
                 raise ValueError('its name does not end in %s' % ENDING)
-            self.texts = edited_texts(read_text(path).splitlines(), crate.folder)
+            self.text = read_text(path)
+            self.texts = edited_texts(self.text.splitlines(), crate.folder)
         except (ValueError, OSError) as error:
             self.wrong = str(error)
         if len(self.texts) == 1:
@@ -125,109 +124,3 @@ def write_texts(texts):
         for path, text in texts.items():
             write_text(text, folder, path)
     return change
-
-
-# Several edits in one copy of a crate
-
-class Together:
-    """A crate with several edits of functions: each one's name by which the prover tells of it, and its lines."""
-
-    def __init__(self, edits):
-        self.names = {edit: self.name(edit, number) for number, edit in enumerate(edits)}
-        self.places, self.texts = {}, {}
-        for path in sorted({edit.path for edit in edits}):
-            self.texts[path] = self.add_to(path, [edit for edit in edits if edit.path == path])
-
-    def add_to(self, path, edits):
-        """The text of a file with the functions that the edits make."""
-        text, made, done = read_text(edits[0].crate.folder, path), '', 0
-        for edit in sorted(edits, key=lambda it: it.changed.end):
-            made += text[done:self.kept_until(edit.changed)] + self.between
-            first, done = made.count('\n') + 1, edit.changed.end
-            made += self.edited(text, edit)
-            self.places[edit] = path, range(first, made.count('\n') + 2)
-        return made + text[done:]
-
-    def write(self, folder):
-        """Writes what the edits make into a copy of the crate."""
-        write_texts(self.texts)(folder)
-
-    def at(self, path, line):
-        """The edit whose function has a line of a file, or None."""
-        return next((edit for edit, (of, lines) in self.places.items() if of == path and line in lines), None)
-
-    def is_named(self, text):
-        """Whether a text has the name of one of these functions, or the path of its proof files."""
-        return any(re.search(r'\b%s\b' % '(::|/)'.join(name.split('::')[1:] or [name]), text) for name in self.names.values())
-
-
-class InPlace(Together):
-    """A crate with edits in place, of functions that differ. What calls one of them isn't told of."""
-
-    between = ''
-
-    def name(self, edit, _number):
-        return edit.full_name()
-
-    def kept_until(self, function):
-        return function.start
-
-    def edited(self, _text, edit):
-        return edit.edited
-
-    def told(self, edit, functions):
-        """The prover's names of the function that an edit changes, among those that a check tells of."""
-        return [it for it in functions if it == self.names[edit]]
-
-
-class Copies(Together):
-    """A crate with a copy of a function for each of some edits, under names of their own."""
-
-    between = '\n\n'
-
-    def __init__(self, edits, is_edited=True):
-        """The copies have the edits in their bodies, or are the functions as they stand."""
-        self.is_edited = is_edited
-        super().__init__(edits)
-
-    def name(self, edit, number):
-        return '%s_copy_%d' % (edit.changed.name, number)
-
-    def kept_until(self, function):
-        return function.end
-
-    def edited(self, text, edit):
-        function = edit.changed
-        copy = edit.edited if self.is_edited else text[function.start:function.end]
-        at = function.name_at - function.start
-        return copy[:at] + self.names[edit] + copy[at + len(function.name):]
-
-    def write(self, folder):
-        """Writes the copies and their proof files into a copy of the crate."""
-        super().write(folder)
-        for edit, name in self.names.items():
-            for proofs in edit.proof_folders(folder):
-                copy_proofs(proofs, name, edit, folder)
-
-    def told(self, edit, functions):
-        """The prover's names of the copy for an edit, among those that a check tells of, if it got the proof files of
-        its function, by the prover's own name for it."""
-        found = [it for it in functions if it.split('::')[-1] == self.names[edit]]
-        return [it for it in found if self.has_its_proofs(it, edit)]
-
-    def has_its_proofs(self, full, edit):
-        folder = edit.crate.folder
-        place = os.path.join(folder, 'proofs', *full.split('::')[1:-1], edit.changed.name)
-        return not os.path.isdir(place) or edit.proof_folders(folder) == [place]
-
-
-def copy_proofs(proofs, name, edit, folder):
-    """Copies the proof files of a function for its copy, by whose name they then call it."""
-    to = os.path.join(os.path.dirname(proofs), name)
-    shutil.copytree(proofs, to)
-    module = '.'.join(['Rattle', edit.crate.name, *os.path.relpath(proofs, folder).split(os.sep)[:-1]])
-    old, new = '%s.%s' % (module, edit.changed.name), '%s.%s' % (module, name)
-    for at, _, files in os.walk(to):
-        for file in files:
-            text = re.sub(re.escape(old) + r'(?=[.\s])', new, read_text(at, file))
-            write_text(re.sub(r'\b%s_spec\b' % edit.changed.name, name + '_spec', text), at, file)

@@ -47,13 +47,6 @@ def crates(top=TOP):
     return rt.rtlib.crates_below(top)
 
 
-def checks_at_once():
-    """How many checks this machine can run side by side: by its memory, and by its processors, of which more than two
-    leave one free, since a check takes longer on a processor that it shares."""
-    processors = rt.processors()
-    return max(1, min(processors - (processors > 2), int(0.85 * rt.free() / BYTES_PER_CHECK)))
-
-
 def missing_library(crate):
     """A library below a crate that isn't built, or was built from other texts than stand there; or None.
 
