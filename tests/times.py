@@ -21,22 +21,41 @@ def wait_for(process):
     return usage.ru_utime + usage.ru_stime
 
 
-def run_part(words, folder, watch=None):
-    """Runs a command and shows what it prints as it comes. Its exit status, its lines, and its processor
-    and wall seconds. `watch` is told the number of its process."""
-    began, lines = time.monotonic(), []
-    process = subprocess.Popen(words, cwd=folder, stdin=subprocess.DEVNULL, stdout=subprocess.PIPE,
-                               stderr=subprocess.STDOUT, errors='replace')
-    if watch:
-        watch.start(process.pid)
-    with process.stdout:
-        for line in process.stdout:
-            print(line, end='', flush=True)
-            lines.append(line.rstrip('\n'))
-    if watch:
-        watch.stop()
-    processor = wait_for(process)
-    return process.returncode, lines, processor, time.monotonic() - began
+class Command:
+    """A command that has begun. What it prints is shown as it comes, or else from when `show` is called; `heard` gets each
+    line of it too."""
+
+    def __init__(self, words, folder, heard=None, is_shown=True, **fields):
+        self.began, self.wall, self.lines, self.heard = time.monotonic(), None, [], heard
+        self.is_shown, self.showing = is_shown, threading.Lock()
+        fields = {'stdin': subprocess.DEVNULL, **fields}
+        self.process = subprocess.Popen(words, cwd=folder, stdout=subprocess.PIPE, stderr=subprocess.STDOUT, errors='replace',
+                                        **fields)
+        self.reader = threading.Thread(target=self.read)
+        self.reader.start()
+
+    def read(self):
+        with self.process.stdout:
+            for line in self.process.stdout:
+                with self.showing:
+                    self.lines.append(line.rstrip('\n'))
+                    if self.is_shown:
+                        print(line, end='', flush=True)
+                if self.heard:
+                    self.heard(line)
+        self.wall = time.monotonic() - self.began
+
+    def show(self):
+        """Shows what was printed until now, and what is printed from now on."""
+        with self.showing:
+            self.is_shown = True
+            print(''.join(line + '\n' for line in self.lines), end='', flush=True)
+
+    def end(self):
+        """Waits for the end, and returns the exit status, the lines, and the processor and wall seconds."""
+        self.reader.join()
+        processor = wait_for(self.process)
+        return self.process.returncode, self.lines, processor, self.wall
 
 
 # Processes, as /proc tells of them
