@@ -1,12 +1,14 @@
-# make                        proves and builds the program, build/c104
+# make                        proves and builds the program, build/c104, crates side by side; once stopped,
+#                             it goes on from what it had proved
 # make run                    builds it and runs the first example
 # make install                copies the program and its manual page below PREFIX, which is /usr/local unless
 #                             said, and below DESTDIR before it; what is built already isn't built again
-# make try                    runs the first example without proving anything
+# make try SCRIPT=FILE        runs a script without proving anything, and the first example where none is named
 # make check                  proves what has changed, over kept work, and runs the cases over the program
+# make slow                   lists the functions that took long in the last checks
 # make edits CRATE=c104_link  tries the edits of one crate that the prover must refuse
-# make test                   runs every proof, test, edit and case from nothing;
-#                             its last line is "N passed, M failed"
+# make test                   runs every proof, test, edit and case, from nothing but what passed before on this
+#                             machine; its last line is "N passed, M failed"
 # make bench                  times the program over grids of switches and over a long script; no part of the test
 
 program := build/c104
@@ -17,7 +19,7 @@ sources := $(shell find crates crates.txt -path '*/out' -prune -o -type f -print
 PREFIX ?= /usr/local
 installed := $(DESTDIR)$(PREFIX)
 
-.PHONY: all run install try check edits test bench
+.PHONY: all run install try check slow edits test bench
 
 all: $(program)
 
@@ -35,24 +37,27 @@ install:
 	install -m 755 $(program) '$(installed)/bin/c104'
 	install -m 644 docs/c104.1 '$(installed)/share/man/man1/c104.1'
 
-# The interpreter, which rt also tries, is no use to a program that reads.
+try: SCRIPT = $(example)
 try:
-	@mkdir -p build
-	@cd crates/c104 && rt try --steps 1 < ../../$(example) 2> ../../build/try-log \
-	    || { cat ../../build/try-log; exit 1; }
+	@tests/try_script '$(SCRIPT)'
 
 check:
 	@mkdir -p build
+	@touch build/check-begun
 	@echo 'rt all check: what it prints goes to build/check-log'
 	@rt all check > build/check-log 2>&1 || { grep -E '^(== |[^ ]+: (failed|not run)|.*error)' build/check-log; exit 1; }
 	@tail -n 1 build/check-log
+	@tests/slow_functions --since build/check-begun
 	@$(MAKE) --no-print-directory all
 	@for cases in $(cases); do echo $$cases; tests/$$cases $(program) || failed=1; done; [ -z "$$failed" ]
+
+slow:
+	@tests/slow_functions
 
 edits:
 	@[ -n "$(CRATE)" ] || { echo 'which crate? for example: make edits CRATE=c104_link'; exit 2; }
 	@mkdir -p build
-	@cd crates/$(CRATE) && rt check > ../../build/edits-log 2>&1 || { tail -n 30 ../../build/edits-log; exit 1; }
+	@cd crates/$(CRATE) && rt lib > ../../build/edits-log 2>&1 || { tail -n 30 ../../build/edits-log; exit 1; }
 	@tests/refused_edits --only --kept build/edits $(CRATE)
 
 test:
