@@ -16,3 +16,4 @@ pub mod ReasonMeanings
 pub mod Soundness
 pub mod Starts
 pub mod Readiness
+pub mod Rooms

@@ -17,6 +17,7 @@ mod next_links;
 mod peeks;
 mod readiness;
 mod reasons;
+mod rooms;
 mod starts;
 
 use crate::actions::LinkView;

@@ -1,10 +1,18 @@
-use Rattle.std.proofs.Common.{◌∙◌, List, ap, sym, subst}
+use Rattle.std.proofs.Common.{◌∙◌, ◌++◌, ◌∷◌, [], List, ap, replicate, sym, subst}
+use Rattle.std.proofs.lemmas.Grind.{replicate_next}
 use Rattle.c104_crossbar.specs.Marks.{ArePartition}
-use Rattle.c104_switch.specs.Switch.{Input}
+use Rattle.c104_switch.specs.Switch.{Input, new_input}
 use Rattle.c104_switch.specs.Holding.{held_claims}
 use Rattle.c104_switch.specs.Readiness.{AreKept}
 use Rattle.c104_switch.proofs.HeldClaims.{held_first}
 use Rattle.c104_switch.proofs.inputs.InputsOf.new.Goals as goal
+
+-- one more input was made
+pub loop-preserved : goal.loop-preserved
+loop-preserved g c =
+    let first : Input g.row.T.Denot = new_input c.args.cap in
+    c.push_reserved.ensures.items ∙ ap (λ (ps : List (Input g.row.T.Denot)). ps ++ c.in-Ok.input ∷ []) c.loop.invariant
+    ∙ ap (λ (p : Input g.row.T.Denot). replicate c.loop.counter first ++ p ∷ []) c.in-Ok.ensures ∙ sym (replicate_next c.loop.counter first)
 
 pub retire-requires : goal.retire-requires
 retire-requires g c = subst (λ claims. ArePartition claims c.new-in-Err.result) (sym (ap held_claims c.loop.invariant ∙ held_first g.row.T.Denot c.loop.counter c.args.cap)) c.new-in-Err.ensures.partition
