@@ -14,3 +14,11 @@ pub mod PeerLemmas
 pub mod MendLemmas
 pub mod MisstepLemmas
 pub mod ReachLemmas
+pub mod OwnerLemmas
+pub mod AcyclicLemmas
+pub mod DependencyLemmas
+pub mod RankSteps
+pub mod CycleCuts
+pub mod CycleWalks
+pub mod TableRanks
+pub mod EdgeLemmas

@@ -9,3 +9,9 @@ pub mod Refusals
 pub mod Tables
 pub mod Mends
 pub mod Reach
+pub mod Ranks
+pub mod ChannelDependencies
+pub mod Dependencies
+pub mod Edges
+pub mod Cycles
+pub mod Met

@@ -95,8 +95,29 @@ impl<'a> Routes<'a> {
             (IsFirstOf (routes_in self.now) header terminals)) }
     {
         let mut marks = vec![in alloc; Mark::New; self.switch_count() * LINKS]?;
+        self.first_misled(alloc, header, owner, terminals, &mut marks)
+    }
+
+    /// The same with marks of the inputs that were met before. The function above owns them, so that none of the
+    /// returns from this loop has to drop them.
+    fn first_misled(
+        &self,
+        alloc: Global,
+        header: u32,
+        owner: usize,
+        terminals: usize,
+        marks: &mut [Mark],
+    ) -> Result<Option<Refusal>, NoMemory>
+        requires terminals { terminals ≤ length (routes_in self.now).ranges }
+        requires owned { routes.owner (routes_in self.now) header ≡ Some owner }
+        requires good { AreGood (routes_in self.now) header owner marks.old }
+        requires met { TellMet (routes_in self.now) marks.old [] }
+        requires room { length marks.old ≡ length (routes_in self.now).settings * 32 }
+        ensures { IfOk result (λ found. MatchOption found (LandsBefore (routes_in self.now) header terminals)
+            (IsFirstOf (routes_in self.now) header terminals)) }
+    {
         for entry in 0..terminals {
-            let refusal = self.misled(alloc, header, entry, owner, &mut marks)?;
+            let refusal = self.misled(alloc, header, entry, owner, marks)?;
             if refusal.is_some() {
                 return Ok(refusal);
             }

@@ -1,0 +1,141 @@
+-- The table of dependencies as it is filled, link by link, input by input and header by header.
+use Rattle.std.proofs.Common.{◌≡◌, ◌≢◌, ℕ, ◌<◌, ◌≤◌, ◌+◌, ◌*◌, inl, inr, true, List, Option, None, Some, length, ◌++◌, drop, ◌&&◌, is_some, nat_le, replicate, take, slice_index_or, slice_set, refl, sym, ap, subst, ◌∙◌, arith}
+use Rattle.std.proofs.lemmas.Bool.{cases_lt}
+use Rattle.std.proofs.lemmas.Bool.Decides.{eqb_tells, nat_tests}
+use Rattle.std.proofs.lemmas.List.{get_or-set_other, get_or-set_same, length-set}
+use Rattle.std.proofs.Math.Seq.{take-append_seam}
+use Rattle.std.specs.List.{AllByRecursion}
+use Rattle.c104_regs.proofs.RegisterLemmas.{get_or-same}
+use Rattle.c104_crossbar.specs.declared.group.Group.{Group}
+use Rattle.c104_interval.specs.declared.intervals.Select.TheVariants.{Link}
+use Rattle.c104_check.specs.Dependencies.{AreDependencies, AreListedBelow, Dependency, IsDependencyAt, IsExtended, AreListedAt, AreListedFor, AreListedFrom, IsListedOver, dependency_at, dependency_place}
+use Rattle.c104_check.specs.Reach.{AreReached, IsSelected}
+use Rattle.c104_check.specs.Routes.{Routes, SwitchPort, is_in_group, owner, select, to_port}
+use Rattle.c104_check.specs.Trails.{IsInput}
+use Rattle.c104_check.specs.ChannelDependencies.{DependsBy}
+use Rattle.c104_check.specs.Walks.{port_of}
+use Rattle.c104_check.proofs.LinkLemmas.{place_below}
+use Rattle.c104_check.proofs.ReachLemmas.{all_taken, all_taken_next}
+use Rattle.c104_check.proofs.RouteLemmas.{Some-Link-same}
+use Rattle.c104_check.proofs.TrailLemmas.{All-found, All-map}
+
+pub extended_none : (routes : Routes) (table : List (Option Dependency)) → IsExtended routes table table
+extended_none routes table = record { room = refl; dependencies = λ is. is; kept = λ k is. is }
+
+-- one after another
+pub extended_more : (routes : Routes) (old now new : List (Option Dependency)) → IsExtended routes old now → IsExtended routes now new → IsExtended routes old new
+extended_more routes old now new before here = record {
+  room = here.room ∙ before.room;
+  dependencies = λ is. here.dependencies (before.dependencies is);
+  kept = λ k is. here.kept k (before.kept k is);
+}
+
+-- one dependency
+module _ (routes : Routes) (old : List (Option Dependency)) (at : SwitchPort) (o : ℕ) (d : Dependency) (input : IsInput (length routes.settings) at) (link : o < 32) (room : length old ≡ length routes.settings * 32 * 32) (leads : routes.peer (to_port (port_of at.switch o)) ≡ Some (to_port d.next)) (depends : DependsBy routes d.header at d.next) where
+  abbrev filled : List (Option Dependency)
+  filled = slice_set old (dependency_place at o) (Some d)
+
+  within_table : dependency_place at o < length old
+  within_table = let below = place_below (length routes.settings) at input in omega (arith, below, link, room)
+
+  here : dependency_at filled (dependency_place at o) ≡ Some d
+  here = get_or-set_same old (dependency_place at o) (Some d) None within_table
+
+  same_elsewhere : (k : ℕ) → k ≢ dependency_place at o → dependency_at filled k ≡ dependency_at old k
+  same_elsewhere k other = get_or-set_other old (dependency_place at o) k (Some d) None other
+
+  same_entry : (x y : Dependency) → Some x ≡ Some y → x ≡ y
+  same_entry x y is = cc
+
+  pub extended_one : IsExtended routes old filled
+  extended_one = record {
+    room = length-set old (dependency_place at o) (Some d);
+    dependencies = λ is k e there. elim (eqb_tells k (dependency_place at o)) [
+      | inl same ↦
+          let one : Some d ≡ Some e = sym here ∙ ap (dependency_at filled) (sym same.1) ∙ there in
+          subst (IsDependencyAt routes k) (same_entry d e one) (at, o, input, link, same.1, leads, depends)
+      | inr other ↦ is k e (sym (same_elsewhere k other.1) ∙ there)
+    ];
+    kept = λ k is. elim (eqb_tells k (dependency_place at o)) [
+      | inl same ↦ ap is_some (ap (dependency_at filled) same.1 ∙ here)
+      | inr other ↦ ap is_some (same_elsewhere k other.1) ∙ is
+    ];
+  }
+
+  pub listed_here : is_some (dependency_at filled (dependency_place at o)) ≡ true
+  listed_here = ap is_some here
+
+-- what is listed stays so
+pub over_kept : (routes : Routes) (now new : List (Option Dependency)) (at link : SwitchPort) → IsExtended routes now new → IsListedOver routes now at link → IsListedOver routes new at link
+over_kept routes now new at link kept is q leads = let one = is q leads in (one.0, kept.kept (dependency_place at link.link) one.1)
+
+pub at_kept : (routes : Routes) (now new : List (Option Dependency)) (h : ℕ) → IsExtended routes now new → (p : SwitchPort) → AreListedAt routes now h p → AreListedAt routes new h p
+at_kept routes now new h kept p is q follows = let one = is q follows in (one.0, kept.kept (dependency_place p follows.1) one.1)
+
+pub for_kept : (routes : Routes) (now new : List (Option Dependency)) (h : ℕ) → IsExtended routes now new → AreListedFor routes now h → AreListedFor routes new h
+for_kept routes now new h kept is p reached = at_kept routes now new h kept p (is p reached)
+
+-- over one link more
+pub from_next : (routes : Routes) (at : SwitchPort) (first link : ℕ) (now new : List (Option Dependency)) → IsExtended routes now new → AreListedFrom routes now at first link → IsListedOver routes new at (port_of at.switch link) → AreListedFrom routes new at first (link + 1)
+from_next routes at first link now new kept before here o from below =
+    elim (cases_lt o link) [
+      | inl lower ↦ over_kept routes now new at (port_of at.switch o) kept (before o from lower)
+      | inr not ↦
+          let same : link ≡ o = omega (arith, below, not) in
+          subst (λ k. IsListedOver routes new at (port_of at.switch k)) same here
+    ]
+
+run_within : (first last o : ℕ) → (nat_le first o && nat_le o last) ≡ true → (first ≤ o) × (o ≤ last)
+run_within first last o is = (grind (arith, nat_tests), grind (arith, nat_tests))
+
+-- over all links of the group
+pub from_all : (routes : Routes) (table : List (Option Dependency)) (h : ℕ) (group : Group) (p : SwitchPort) (end : ℕ) → group.last + 1 ≤ end → IsSelected routes h p group → AreListedFrom routes table p group.first end → AreListedAt routes table h p
+from_all routes table h group p end last selected all q (g, o, selects, inside, wired) =
+    let link : g ≡ selected.link = Some-Link-same g selected.link (sym selects ∙ selected.selects) in
+    let within = run_within group.first group.last o (sym (selected.members o) ∙ ap (λ k. is_in_group routes p.switch k o) (sym link) ∙ inside) in
+    let high = within.1 in
+    all o within.0 (omega (arith, last, high)) q wired
+
+pub from_none : (routes : Routes) (table : List (Option Dependency)) (h : ℕ) (p : SwitchPort) → ((g : ℕ) → select routes p.switch p.link h ≢ Some (Link g)) → AreListedAt routes table h p
+from_none routes table h p none q (g, o, selects, inside, wired) = absurd (none g selects)
+
+-- at one input more
+pub at_next : (routes : Routes) (h : ℕ) (xs : List SwitchPort) (k : ℕ) (d : SwitchPort) (now new : List (Option Dependency)) → k < length xs → IsExtended routes now new → AllByRecursion (AreListedAt routes now h) (take k xs) → AreListedAt routes new h (slice_index_or xs k d) → AllByRecursion (AreListedAt routes new h) (take (k + 1) xs)
+at_next routes h xs k d now new below kept before here =
+    all_taken_next (AreListedAt routes new h) xs k d below here (All-map (AreListedAt routes now h) (AreListedAt routes new h) (at_kept routes now new h kept) (take k xs) before)
+
+-- at all inputs
+pub at_all : (routes : Routes) (h : ℕ) (xs : List SwitchPort) (n : ℕ) (table : List (Option Dependency)) → length xs ≤ n → AreReached routes h xs → AllByRecursion (AreListedAt routes table h) (take n xs) → AreListedFor routes table h
+at_all routes h xs n table over reached all p here = All-found (AreListedAt routes table h) xs p (all_taken (AreListedAt routes table h) xs n over all) ((reached p).1 here)
+
+-- by one header more
+pub below_next : (routes : Routes) (h : ℕ) (now new : List (Option Dependency)) → IsExtended routes now new → AreListedBelow routes now h → AreListedFor routes new h → AreListedBelow routes new (h + 1)
+below_next routes h now new kept before here k t below owned =
+    elim (cases_lt k h) [
+      | inl lower ↦ for_kept routes now new k kept (before k t lower owned)
+      | inr not ↦ let same : h ≡ k = omega (arith, below, not) in subst (AreListedFor routes new) same here
+    ]
+
+pub below_skip : (routes : Routes) (h : ℕ) (table : List (Option Dependency)) → ((t : ℕ) → owner routes h ≡ Some t → ⊥) → AreListedBelow routes table h → AreListedBelow routes table (h + 1)
+below_skip routes h table none before k t below owned =
+    elim (cases_lt k h) [
+      | inl lower ↦ before k t lower owned
+      | inr not ↦ let same : k ≡ h = omega (arith, below, not) in absurd (none t (ap (owner routes) (sym same) ∙ owned))
+    ]
+
+pub below_all : (routes : Routes) (n end : ℕ) (table : List (Option Dependency)) → n ≤ end → AreListedBelow routes table end → AreListedBelow routes table n
+below_all routes n end table over all h t below owned = all h t (omega (arith, below, over)) owned
+
+-- a table of none
+pub dependencies_none : (routes : Routes) (n : ℕ) → AreDependencies routes (replicate n None)
+dependencies_none routes n k d there =
+    let none : dependency_at (replicate n None) k ≡ None = get_or-same n k None in
+    absurd (let clash : None ≡ Some d = sym none ∙ there in cc)
+
+-- what a slice of all of a list leaves in it
+pub written : {X : Type 0} (items new : List X) (n : ℕ) → n ≡ length new → take n (new ++ drop (length new) items) ≡ new
+written items new n same = ap (λ k. take k (new ++ drop (length new) items)) same ∙ take-append_seam new (drop (length new) items)
+
+pub none_only : {X : Type 0} (P : Option X → Type 0) → ((x : X) → P (Some x) → ⊥) → (y : Option X) → P y → y ≡ None
+none_only P refused None is = refl
+none_only P refused (Some x) is = absurd (refused x is)

@@ -1,0 +1,14 @@
+-- Headers that have owners, and those that have none.
+use Rattle.std.proofs.Common.{◌≡◌, ℕ, Bool, true, false, Option, Some, get_or, is_some, sym, ap, ◌∙◌}
+use Rattle.std.proofs.lemmas.List.Quantifiers.{position-Some}
+use Rattle.std.proofs.lemmas.Option.{slice_get-get_or}
+use Rattle.c104_check.specs.Routes.{Owns, Routes, has_label, owner}
+
+pub no_owner : (o p : Option ℕ) (b : Bool) → o ≡ p → b ≡ is_some o → b ≡ false → (t : ℕ) → p ≡ Some t → ⊥
+no_owner o p b same is false_is t some = let clash : true ≡ false = sym (ap is_some (same ∙ some)) ∙ sym is ∙ false_is in absurd cc
+
+-- all headers
+pub owner_owns : (routes : Routes) (h t : ℕ) → owner routes h ≡ Some t → Owns routes t h
+owner_owns routes h t is =
+    let found = position-Some (λ range. has_label range h) routes.ranges t (0, 0) is in
+    (get_or routes.ranges t (0, 0), slice_get-get_or routes.ranges t (0, 0) found.0, found.1)

@@ -1,0 +1,132 @@
+-- Ranks of more inputs, one by one.
+use Rattle.std.proofs.Common.{◌≡◌, ◌≢◌, ℕ, zero, suc, ◌<◌, ◌≤◌, ◌+◌, ◌-◌, ◌*◌, ◌||◌, inl, inr, Bool, true, false, List, [], ◌∷◌, Option, None, Some, length, replicate, slice_set, refl, sym, ap, subst, ◌∙◌, arith}
+use Rattle.std.proofs.lemmas.Bool.{cases_lt}
+use Rattle.std.proofs.lemmas.Bool.Decides.{eqb_tells}
+use Rattle.std.proofs.lemmas.List.{get_or-set_other, get_or-set_same, length-set}
+use Rattle.c104_regs.proofs.RegisterLemmas.{get_or-same}
+use Rattle.c104_check.specs.Cycles.{AllLeadToRanked, IsDependencyOf, ArePartialRanks, IsRankingPass, unranked_count}
+use Rattle.c104_check.specs.Dependencies.{Dependency, dependency_at}
+use Rattle.c104_check.specs.Ranks.{rank_at, rank_in}
+use Rattle.c104_check.specs.Routes.{place}
+
+same_entry : {X : Type 0} (x y : X) → Some x ≡ Some y → x ≡ y
+same_entry x y is = cc
+
+-- over one link more
+pub above_next : (table : List (Option Dependency)) (ranks : List ℕ) (p link most top : ℕ) → ((o : ℕ) (d : Dependency) → o < link → dependency_at table (p * 32 + o) ≡ Some d → rank_in ranks d.next ≤ most) → most ≤ top → ((d : Dependency) → dependency_at table (p * 32 + link) ≡ Some d → rank_in ranks d.next ≤ top) → (o : ℕ) (d : Dependency) → o < link + 1 → dependency_at table (p * 32 + o) ≡ Some d → rank_in ranks d.next ≤ top
+above_next table ranks p link most top before up here o d below is =
+    elim (cases_lt o link) [
+      | inl lower ↦ let b = before o d lower is in omega (arith, b, up)
+      | inr not ↦ let same : o ≡ link = omega (arith, below, not) in here d (sym (ap (λ k. dependency_at table (p * 32 + k)) same) ∙ is)
+    ]
+
+pub above_one : (table : List (Option Dependency)) (ranks : List ℕ) (k top : ℕ) (e : Dependency) → dependency_at table k ≡ Some e → rank_in ranks e.next ≤ top → (d : Dependency) → dependency_at table k ≡ Some d → rank_in ranks d.next ≤ top
+above_one table ranks k top e there low d is = subst (λ (x : Dependency). rank_in ranks x.next ≤ top) (same_entry e d (sym there ∙ is)) low
+
+pub above_none : (table : List (Option Dependency)) (ranks : List ℕ) (k top : ℕ) → dependency_at table k ≡ None → (d : Dependency) → dependency_at table k ≡ Some d → rank_in ranks d.next ≤ top
+above_none table ranks k top none d is = absurd (let clash : None ≡ Some d = sym none ∙ is in cc)
+
+unranked_set : (xs : List ℕ) (k v : ℕ) → k < length xs → rank_at xs k ≡ 0 → 0 < v → suc (unranked_count (slice_set xs k v)) ≡ unranked_count xs
+unranked_set [] k v inside none some = absurd (omega (arith, inside))
+unranked_set (x ∷ xs) zero zero inside none some = absurd (omega (arith, some))
+unranked_set (zero ∷ xs) zero (suc v) inside none some = refl
+unranked_set (suc x ∷ xs) zero (suc v) inside none some = absurd (omega (arith, none))
+unranked_set (zero ∷ xs) (suc k) v inside none some = ap suc (unranked_set xs k v (omega (arith, inside)) none some)
+unranked_set (suc x ∷ xs) (suc k) v inside none some = unranked_set xs k v (omega (arith, inside)) none some
+
+pub pass_none : (table : List (Option Dependency)) (ranks : List ℕ) → ArePartialRanks table ranks → IsRankingPass table ranks ranks false
+pass_none table ranks part = record {
+  room = refl;
+  part = part;
+  fewer = omega arith;
+  less = λ is. absurd (let clash : false ≡ true = is in cc);
+  same = λ _. refl;
+}
+
+-- one pass after another
+pub pass_more : (table : List (Option Dependency)) (old now new : List ℕ) (a b : Bool) → IsRankingPass table old now a → IsRankingPass table now new b → IsRankingPass table old new (a || b)
+pass_more table old now new a b before here = record {
+  room = here.room ∙ before.room;
+  part = here.part;
+  fewer = (let x = before.fewer in let y = here.fewer in omega (arith, x, y));
+  less = less a b before.less here.less;
+  same = same a b before.same here.same;
+}
+  where
+    less : (a b : Bool) → (a ≡ true → unranked_count now < unranked_count old) → (b ≡ true → unranked_count new < unranked_count now) → (a || b) ≡ true → unranked_count new < unranked_count old
+    less true b first later is = (let x = first refl in let y = here.fewer in omega (arith, x, y))
+    less false b first later is = (let x = later is in let y = before.fewer in omega (arith, x, y))
+
+    same : (a b : Bool) → (a ≡ false → now ≡ old) → (b ≡ false → new ≡ now) → (a || b) ≡ false → new ≡ old
+    same true b first later is = absurd (let clash : true ≡ false = is in cc)
+    same false b first later is = later is ∙ first refl
+
+-- one input is ranked
+module _ (table : List (Option Dependency)) (old : List ℕ) (at most : ℕ) (inside : at < length old) (none : rank_at old at ≡ 0) (part : ArePartialRanks table old) (ranked : AllLeadToRanked table old at) (above : (d : Dependency) → IsDependencyOf table at d → rank_in old d.next ≤ most) (least : (limit : ℕ) → ((k : ℕ) → rank_at old k ≤ limit) → most ≤ limit) where
+  abbrev after : List ℕ
+  after = slice_set old at (most + 1)
+
+  here : rank_at after at ≡ most + 1
+  here = get_or-set_same old at (most + 1) 0 inside
+
+  other : (k : ℕ) → k ≢ at → rank_at after k ≡ rank_at old k
+  other k apart = get_or-set_other old at k (most + 1) 0 apart
+
+  kept : (k : ℕ) → 0 < rank_at old k → rank_at after k ≡ rank_at old k
+  kept k some = other k (λ same. (let is : rank_at old k ≡ 0 = ap (rank_at old) same ∙ none in omega (arith, some, is)))
+
+  count : suc (unranked_count after) ≡ unranked_count old
+  count = unranked_set old at (most + 1) inside none (omega arith)
+
+  pub low_most : most + unranked_count old ≤ length old
+  low_most =
+      let one = part.low at in
+      let bound = least (length old - unranked_count old) (λ k. (let l = part.low k in omega (arith, l))) in
+      omega (arith, one, bound)
+
+  falls : (p : ℕ) (d : Dependency) → 0 < rank_at after p → IsDependencyOf table p d → (0 < rank_in after d.next) × (rank_in after d.next < rank_at after p)
+  falls p d some of = elim (eqb_tells p at) [
+    | inl same ↦
+        let of_at : IsDependencyOf table at d = subst (λ k. IsDependencyOf table k d) same.1 of in
+        let up = ranked d of_at in
+        let low = above d of_at in
+        let stays = kept (place d.next) up in
+        let top : rank_at after p ≡ most + 1 = ap (rank_at after) same.1 ∙ here in
+        (omega (arith, up, stays), omega (arith, low, stays, top))
+    | inr apart ↦
+        let as_before = other p apart.1 in
+        let is = part.falls p d (omega (arith, some, as_before)) of in
+        let up = is.0 in
+        let less = is.1 in
+        let stays = kept (place d.next) up in
+        (omega (arith, up, stays), omega (arith, less, stays, as_before))
+  ]
+
+  low : (p : ℕ) → rank_at after p + unranked_count after ≤ length after
+  low p =
+      let size : length after ≡ length old = length-set old at (most + 1) in
+      elim (eqb_tells p at) [
+        | inl same ↦ (let top : rank_at after p ≡ most + 1 = ap (rank_at after) same.1 ∙ here in let l = low_most in omega (arith, top, l, size, count))
+        | inr apart ↦ (let as_before = other p apart.1 in let l = part.low p in omega (arith, as_before, l, size, count))
+      ]
+
+  pub pass_one : IsRankingPass table old after true
+  pass_one = record {
+    room = length-set old at (most + 1);
+    part = record { falls = falls; low = low };
+    fewer = (let c = count in omega (arith, c));
+    less = λ _. (let c = count in omega (arith, c));
+    same = λ is. absurd (let clash : true ≡ false = is in cc);
+  }
+
+unranked_low : (xs : List ℕ) → unranked_count xs ≤ length xs
+unranked_low [] = omega arith
+unranked_low (zero ∷ xs) = (let rest = unranked_low xs in let goal : suc (unranked_count xs) ≤ suc (length xs) = omega (arith, rest) in goal)
+unranked_low (suc x ∷ xs) = (let rest = unranked_low xs in let goal : unranked_count xs ≤ suc (length xs) = omega (arith, rest) in goal)
+
+-- no ranks yet
+pub part_none : (table : List (Option Dependency)) (n : ℕ) → ArePartialRanks table (replicate n 0)
+part_none table n = record {
+  falls = λ p d some of. absurd (let none : rank_at (replicate n 0) p ≡ 0 = get_or-same n p 0 in omega (arith, some, none));
+  low = λ p. (let none : rank_at (replicate n 0) p ≡ 0 = get_or-same n p 0 in let few = unranked_low (replicate n 0) in omega (arith, none, few));
+}

@@ -1,0 +1,34 @@
+use Rattle.std.proofs.Common.{◌≡◌, ◌<◌, ◌∙◌, ◌*◌, List, Option, ℕ, ap, length, sym, subst}
+use Rattle.c104_check.specs.Cycles.{ArePartialRanks}
+use Rattle.c104_check.specs.Dependencies.{AreDependencies, AreListedBelow, Dependency}
+use Rattle.c104_check.specs.Ranks.{rank_at, rank_in}
+use Rattle.c104_check.specs.Routes.{Routes, header_count, routes_of}
+use Rattle.c104_check.specs.Trails.{routes_in}
+use Rattle.c104_check.specs.ChannelDependencies.{AreRanksWithin, IsRanking, input_count}
+use Rattle.c104_check.proofs.AcyclicLemmas.{never_both}
+use Rattle.c104_check.proofs.TableRanks.{table_ranking, table_ranks_within}
+use Rattle.c104_check.proofs.cycles.find_cycle.Goals as goal
+
+pub follow-requires-clause-dependencies : goal.follow-requires-clause-dependencies
+follow-requires-clause-dependencies c =
+    subst (λ (xs : List (Option Dependency)). AreDependencies (routes_in c.in_ok-routes.routes) xs) (sym c.as_slice-in-Some.ensures.value) c.in_ok-table.ensures.dependencies
+
+pub returns-in-None-clause-found : goal.returns-in-None-clause-found
+returns-in-None-clause-found c =
+    let routes = routes_of c.args.plan.now c.args.image.now in
+    let table = c.in_ok-table.table.items in
+    let ranks = c.in_ok-ranks.ranks.items in
+    let is = c.in_ok-routes.ensures.routes in
+    let dependencies = subst (λ (r : Routes). AreDependencies r table) is c.in_ok-table.ensures.dependencies in
+    let listed = subst (λ (r : Routes). AreListedBelow r table (header_count r)) is c.in_ok-table.ensures.listed in
+    let part = subst (λ (xs : List (Option Dependency)). ArePartialRanks xs ranks) c.as_slice.ensures.value c.in_ok-ranks.ensures.part in
+    let size : length ranks ≡ length routes.settings * 32 = c.in_ok-ranks.ensures.room ∙ ap (λ n. n * 32) (c.switch_count-places.ensures.count ∙ ap (λ (r : Routes). length r.settings) is) in
+    let all = subst (λ (xs : List ℕ). (k : ℕ) → k < length xs → 0 < rank_at xs k) c.as_slice-2.ensures.value c.in-None.ensures in
+    subst (λ (xs : List ℕ). IsRanking routes (rank_in xs) × AreRanksWithin (input_count routes) (rank_in xs)) (sym c.new-in-None.ensures)
+    (table_ranking routes table ranks c.in_ok-routes.ensures.network c.requires.accepted dependencies listed part size all, table_ranks_within routes table ranks part size)
+
+pub returns-in-None-clause-never_both : goal.returns-in-None-clause-never_both
+returns-in-None-clause-never_both c = never_both (routes_of c.args.plan.now c.args.image.now)
+
+pub returns-clause-never_both : goal.returns-clause-never_both
+returns-clause-never_both c = never_both (routes_of c.args.plan.now c.args.image.now)

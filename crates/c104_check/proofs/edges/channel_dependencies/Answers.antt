@@ -1,0 +1,18 @@
+use Rattle.std.proofs.Common.{◌≡◌, ◌∙◌, ◌*◌, List, Option, ap, length, sym, subst}
+use Rattle.c104_check.specs.Dependencies.{AreDependencies, AreListedBelow, Dependency}
+use Rattle.c104_check.specs.Edges.{AreAllEdges, AreEdgesBefore, DependencyEdge}
+use Rattle.c104_check.specs.Routes.{Routes, header_count, routes_of}
+use Rattle.c104_check.proofs.EdgeLemmas.{all_edges}
+use Rattle.c104_check.proofs.edges.channel_dependencies.Goals as goal
+
+pub returns : goal.returns
+returns c =
+    let routes = routes_of c.args.plan.now c.args.image.now in
+    let table = c.in_ok-table.table.items in
+    let is = c.in_ok-routes.ensures.routes in
+    let dependencies = subst (λ (r : Routes). AreDependencies r table) is c.in_ok-table.ensures.dependencies in
+    let listed = subst (λ (r : Routes). AreListedBelow r table (header_count r)) is c.in_ok-table.ensures.listed in
+    let size : length table ≡ length routes.settings * 32 * 32 = c.in_ok-table.ensures.room ∙ ap (λ (r : Routes). length r.settings * 32 * 32) is in
+    let edges = subst (λ (xs : List (Option Dependency)). AreEdgesBefore xs (length xs) c.in_ok-edges.edges.items) c.as_slice.ensures.value c.in_ok-edges.ensures in
+    subst (λ (xs : List DependencyEdge). AreAllEdges routes xs) (sym c.new-2.ensures)
+    (all_edges routes table c.in_ok-edges.edges.items c.in_ok-routes.ensures.network c.requires.accepted dependencies listed size edges)

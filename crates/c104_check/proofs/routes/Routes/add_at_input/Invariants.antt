@@ -1,0 +1,10 @@
+use Rattle.c104_check.specs.Dependencies.{IsExtended, AreListedFrom}
+use Rattle.c104_check.specs.Trails.{routes_in}
+use Rattle.c104_check.proofs.routes.Routes.add_at_input.Given as goal
+
+-- what the links so far lead to is listed
+abbrev pub invariant-loop-link : goal.invariant-loop-link
+invariant-loop-link l = record {
+  kept : IsExtended (routes_in l.self) l.fn.table l.table;
+  listed : AreListedFrom (routes_in l.self) l.table l.at l.initial.link l.link;
+}

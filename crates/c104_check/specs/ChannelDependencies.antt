@@ -1,0 +1,49 @@
+-- Channel dependencies, after Dally and Seitz. A channel is named by the input that reads it. One depends on another
+-- where a packet that came in at the one may have to wait until what came in at the other has gone on.
+--     Depends routes p q      input p depends on input q
+--     IsAcyclic routes      there are ranks of the inputs that fall along every dependency
+--     IsCycle routes dependencies      inputs each of which depends on the next, and the last on the first
+use Rattle.std.specs.Prelude.{ℕ, ◌≡◌, ◌<◌, ◌≤◌, ◌*◌, List, [], ◌∷◌, Some, length}
+use Rattle.c104_check.specs.Reach.{IsReached}
+use Rattle.c104_check.specs.Routes.{Routes, SwitchPort, owner}
+use Rattle.c104_check.specs.Shown.{Follows}
+-- an input, and a header by which it depends on the next
+pub use Rattle.c104_check.specs.declared.cycles.ChannelDependency.{ChannelDependency}
+
+-- a header that has an owner may come to input p from some terminal, and go on over one wire to input q
+abbrev pub DependsBy : Routes → ℕ → SwitchPort → SwitchPort → Type 0
+DependsBy routes h p q = (t : ℕ) × (owner routes h ≡ Some t) × IsReached routes h p × Follows routes h p q
+
+-- some header may. A group of links gives a dependency over each of them, since a packet may take any.
+abbrev pub Depends : Routes → SwitchPort → SwitchPort → Type 0
+Depends routes p q = (h : ℕ) × DependsBy routes h p q
+
+-- ranks of the inputs, which fall along every dependency
+abbrev pub IsRanking : Routes → (SwitchPort → ℕ) → Type 0
+IsRanking routes rank = (p q : SwitchPort) → Depends routes p q → rank q < rank p
+
+-- none of the ranks is above a limit
+abbrev pub AreRanksWithin : ℕ → (SwitchPort → ℕ) → Type 0
+AreRanksWithin limit rank = (p : SwitchPort) → rank p ≤ limit
+
+-- how many inputs the switches have
+abbrev pub input_count : Routes → ℕ
+input_count routes = 32 * length routes.settings
+
+-- there are such ranks, none above the count of inputs
+abbrev pub IsAcyclic : Routes → Type 0
+IsAcyclic routes = (rank : SwitchPort → ℕ) × IsRanking routes rank × AreRanksWithin (input_count routes) rank
+
+-- each depends on the next by its header, and the last on this input
+abbrev pub AreChained : Routes → ChannelDependency → List ChannelDependency → SwitchPort → Type 0
+AreChained routes a [] end = DependsBy routes a.header a.input end
+AreChained routes a (b ∷ more) end = DependsBy routes a.header a.input b.input × AreChained routes b more end
+
+-- there are some, each depends on the next by its header, and the last on the first
+abbrev pub IsCycle : Routes → List ChannelDependency → Type 0
+IsCycle routes [] = ⊥
+IsCycle routes (a ∷ more) = AreChained routes a more a.input
+
+-- a cycle leaves no ranks
+abbrev pub AreNeverBoth : Routes → Type 0
+AreNeverBoth routes = (cycle : List ChannelDependency) → IsCycle routes cycle → IsAcyclic routes → ⊥

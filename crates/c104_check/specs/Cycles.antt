@@ -1,0 +1,50 @@
+-- The search for a cycle of dependencies: ranks that are given to more and more inputs.
+use Rattle.std.specs.Prelude.{ℕ, zero, suc, ◌≡◌, ◌<◌, ◌≤◌, ◌+◌, ◌*◌, Bool, true, false, List, [], ◌∷◌, Some, Option, length}
+use Rattle.c104_check.specs.ChannelDependencies.{AreRanksWithin, IsCycle, IsRanking, input_count}
+use Rattle.c104_check.specs.Dependencies.{Dependency, dependency_at}
+use Rattle.c104_check.specs.Ranks.{rank_at, rank_in}
+use Rattle.c104_check.specs.Routes.{Routes, place}
+use Rattle.c104_check.specs.declared.cycles.RanksOrCycle.{RanksOrCycle}
+use Rattle.c104_check.specs.declared.cycles.RanksOrCycle.TheVariants.{Ranks, Cycle}
+
+-- ranks that fall along every dependency, none above the count of inputs; or a cycle
+abbrev pub AreRanksOrCycle : Routes → RanksOrCycle → Type 0
+AreRanksOrCycle routes (Ranks ranks) =
+    IsRanking routes (rank_in ranks.by_place) × AreRanksWithin (input_count routes) (rank_in ranks.by_place)
+AreRanksOrCycle routes (Cycle cycle) = IsCycle routes cycle.dependencies
+
+-- each dependency of the table leads to an input that has a rank in the other
+abbrev pub LeadInside : List (Option Dependency) → ℕ → Type 0
+LeadInside table n = (k : ℕ) (d : Dependency) → dependency_at table k ≡ Some d → (place d.next < n) × (d.next.link < 32)
+
+-- a dependency of the input at a place
+abbrev pub IsDependencyOf : List (Option Dependency) → ℕ → Dependency → Type 0
+IsDependencyOf table p d = (o : ℕ) × (o < 32) × (dependency_at table (p * 32 + o) ≡ Some d)
+
+-- it leads to an input that has no rank yet
+abbrev pub LeadsToUnranked : List (Option Dependency) → List ℕ → ℕ → Dependency → Type 0
+LeadsToUnranked table ranks p d = IsDependencyOf table p d × (rank_in ranks d.next ≡ 0)
+
+-- the input at a place depends on ranked inputs alone
+abbrev pub AllLeadToRanked : List (Option Dependency) → List ℕ → ℕ → Type 0
+AllLeadToRanked table ranks p = (d : Dependency) → IsDependencyOf table p d → 0 < rank_in ranks d.next
+
+-- how many inputs have no rank yet
+abbrev pub unranked_count : List ℕ → ℕ
+unranked_count [] = 0
+unranked_count (zero ∷ ranks) = suc (unranked_count ranks)
+unranked_count (suc _ ∷ ranks) = unranked_count ranks
+
+-- ranks of some inputs: each that has one depends on inputs of lower ranks alone; and with the unranked inputs none
+-- is above the count of inputs
+pub record ArePartialRanks (table : List (Option Dependency)) (ranks : List ℕ) : Type 0 where
+  pub falls : (p : ℕ) (d : Dependency) → 0 < rank_at ranks p → IsDependencyOf table p d → (0 < rank_in ranks d.next) × (rank_in ranks d.next < rank_at ranks p)
+  pub low : (p : ℕ) → rank_at ranks p + unranked_count ranks ≤ length ranks
+
+-- ranks before and after more inputs were ranked, if any were
+pub record IsRankingPass (table : List (Option Dependency)) (old new : List ℕ) (more : Bool) : Type 0 where
+  pub room : length new ≡ length old
+  pub part : ArePartialRanks table new
+  pub fewer : unranked_count new ≤ unranked_count old
+  pub less : more ≡ true → unranked_count new < unranked_count old
+  pub same : more ≡ false → new ≡ old

@@ -1,0 +1,53 @@
+-- The dependencies of all inputs in a table: for each input, by place, and each link of its switch, the input that a
+-- header may go on to over that link.
+--     AreDependencies routes table      each that stands there is one
+--     AreListedBelow routes table n      each by a header below n stands there
+use Rattle.std.specs.Prelude.{ℕ, ◌≡◌, ◌<◌, ◌≤◌, ◌+◌, ◌*◌, List, Option, None, Some, length, is_some, slice_index_or, true}
+use Rattle.c104_check.specs.ChannelDependencies.{DependsBy}
+use Rattle.c104_check.specs.Reach.{IsReached}
+use Rattle.c104_check.specs.Routes.{Routes, SwitchPort, owner, place, to_port}
+use Rattle.c104_check.specs.Shown.{Follows}
+use Rattle.c104_check.specs.Trails.{IsInput}
+use Rattle.c104_check.specs.Walks.{port_of}
+pub use Rattle.c104_check.specs.declared.dependencies.Dependency.{Dependency}
+
+abbrev pub dependency_at : List (Option Dependency) → ℕ → Option Dependency
+dependency_at table k = slice_index_or table k None
+
+-- where the dependency of an input over a link stands
+abbrev pub dependency_place : SwitchPort → ℕ → ℕ
+dependency_place p o = place p * 32 + o
+
+-- a dependency of some input, over the link where it stands
+abbrev pub IsDependencyAt : Routes → ℕ → Dependency → Type 0
+IsDependencyAt routes k d = (p : SwitchPort) × (o : ℕ) × IsInput (length routes.settings) p × (o < 32) × (k ≡ dependency_place p o) × (routes.peer (to_port (port_of p.switch o)) ≡ Some (to_port d.next)) × DependsBy routes d.header p d.next
+
+-- each that stands in the table is one
+abbrev pub AreDependencies : Routes → List (Option Dependency) → Type 0
+AreDependencies routes table = (k : ℕ) (d : Dependency) → dependency_at table k ≡ Some d → IsDependencyAt routes k d
+
+-- one stands there for the input that a link leads to
+abbrev pub IsListedOver : Routes → List (Option Dependency) → SwitchPort → SwitchPort → Type 0
+IsListedOver routes table at link = (q : SwitchPort) → routes.peer (to_port link) ≡ Some (to_port q) → (link.link < 32) × (is_some (dependency_at table (dependency_place at link.link)) ≡ true)
+
+-- for each link of a switch from one up to another
+abbrev pub AreListedFrom : Routes → List (Option Dependency) → SwitchPort → ℕ → ℕ → Type 0
+AreListedFrom routes table at first end = (o : ℕ) → first ≤ o → o < end → IsListedOver routes table at (port_of at.switch o)
+
+-- for each way of a header on from an input
+abbrev pub AreListedAt : Routes → List (Option Dependency) → ℕ → SwitchPort → Type 0
+AreListedAt routes table h p = (q : SwitchPort) → (follows : Follows routes h p q) → (follows.1 < 32) × (is_some (dependency_at table (dependency_place p follows.1)) ≡ true)
+
+-- from each input to which it may come
+abbrev pub AreListedFor : Routes → List (Option Dependency) → ℕ → Type 0
+AreListedFor routes table h = (p : SwitchPort) → IsReached routes h p → AreListedAt routes table h p
+
+-- for each header below n that has an owner
+abbrev pub AreListedBelow : Routes → List (Option Dependency) → ℕ → Type 0
+AreListedBelow routes table n = (h t : ℕ) → h < n → owner routes h ≡ Some t → AreListedFor routes table h
+
+-- a table before and after more dependencies were listed
+pub record IsExtended (routes : Routes) (old new : List (Option Dependency)) : Type 0 where
+  pub room : length new ≡ length old
+  pub dependencies : AreDependencies routes old → AreDependencies routes new
+  pub kept : (k : ℕ) → is_some (dependency_at old k) ≡ true → is_some (dependency_at new k) ≡ true

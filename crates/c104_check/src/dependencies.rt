@@ -1,0 +1,128 @@
+//! The dependencies of all inputs on one another, in a table.
+ghost use Rattle.std.specs.Prelude.{◌≡◌, ◌<◌, ◌≤◌};
+
+use crate::ports::SwitchPort;
+use crate::routes::Routes;
+use c104_describe::Port;
+use c104_regs::LINKS;
+use c104_token::NoMemory;
+use std::alloc::Global;
+
+/// What an input depends on over one of its switch's links.
+#[derive(Clone, Copy, Debug)]
+pub(crate) struct Dependency {
+    /// The other input.
+    pub(crate) next: SwitchPort,
+    /// A header that may go on to there.
+    pub(crate) header: u32,
+}
+
+impl<'a> Routes<'a> {
+    ghost use Rattle.std.specs.Prelude.{◌≡◌, ◌*◌, ℕ, OnOk, length, IfOk, Some};
+    ghost use Rattle.c104_check.specs.Dependencies.{AreDependencies, AreListedBelow, IsExtended, AreListedAt, AreListedFor, IsListedOver};
+    ghost use Rattle.c104_check.specs.Reach.{IsReached};
+    ghost use Rattle.c104_check.specs.Routes.{SwitchPort, header_count, owner, to_port};
+    ghost use Rattle.c104_check.specs.Trails.{IsInput, IsNetwork, routes_in};
+    ghost use Rattle.c104_check.specs.ChannelDependencies.{DependsBy};
+
+    /// The dependencies of all inputs. That of an input over a link of its switch stands at its place times 32 and
+    /// the link.
+    pub(crate) fn dependencies(&self, alloc: Global) -> Result<Vec<Option<Dependency>>, NoMemory>
+        requires network { IsNetwork (routes_in self.now) }
+        ensures room { IfOk result (λ table. length table.items ≡ length (routes_in self.now).settings * 32 * 32) }
+        ensures dependencies { IfOk result (λ table. AreDependencies (routes_in self.now) table.items) }
+        ensures listed { IfOk result (λ table. AreListedBelow (routes_in self.now) table.items (header_count (routes_in self.now))) }
+    {
+        let mut table = vec![in alloc; None::<Dependency>; self.switch_count() * LINKS * LINKS]?;
+        self.add_dependencies(alloc, &mut table)?;
+        Ok(table)
+    }
+
+    /// Adds the dependencies by all headers that have owners.
+    fn add_dependencies(
+        &self,
+        alloc: Global,
+        table: &mut [Option<Dependency>],
+    ) -> Result<(), NoMemory>
+        requires network { IsNetwork (routes_in self.now) }
+        requires room { length table.old ≡ length (routes_in self.now).settings * 32 * 32 }
+        ensures kept { OnOk result (IsExtended (routes_in self.now) table.old table.new) }
+        ensures listed { OnOk result (AreListedBelow (routes_in self.now) table.new (header_count (routes_in self.now))) }
+    {
+        for header in 0..self.header_count() {
+            if self.owner(header).is_some() {
+                self.add_by_header(alloc, header, table)?;
+            }
+        }
+        Ok(())
+    }
+
+    /// The same by one header.
+    fn add_by_header(
+        &self,
+        alloc: Global,
+        header: u32,
+        table: &mut [Option<Dependency>],
+    ) -> Result<(), NoMemory>
+        requires owned { (t : ℕ) × (owner (routes_in self.now) header ≡ Some t) }
+        requires network { IsNetwork (routes_in self.now) }
+        requires room { length table.old ≡ length (routes_in self.now).settings * 32 * 32 }
+        ensures kept { OnOk result (IsExtended (routes_in self.now) table.old table.new) }
+        ensures listed { OnOk result (AreListedFor (routes_in self.now) table.new header) }
+    {
+        let inputs = self.reached(alloc, header)?;
+        for at in inputs.as_slice() {
+            self.add_at_input(header, *at, table);
+        }
+        Ok(())
+    }
+
+    /// The same at one input.
+    fn add_at_input(&self, header: u32, at: SwitchPort, table: &mut [Option<Dependency>])
+        requires owned { (t : ℕ) × (owner (routes_in self.now) header ≡ Some t) }
+        requires reached { IsReached (routes_in self.now) header at }
+        requires network { IsNetwork (routes_in self.now) }
+        requires input { IsInput (length (routes_in self.now).settings) at }
+        requires room { length table.old ≡ length (routes_in self.now).settings * 32 * 32 }
+        ensures kept { IsExtended (routes_in self.now) table.old table.new }
+        ensures listed { AreListedAt (routes_in self.now) table.new header at }
+    {
+        let Some(group) = self.selected(header, at) else {
+            return;
+        };
+        for link in group.first..group.last + 1 {
+            let switch = at.switch;
+            self.add_over_link(header, at, SwitchPort { switch, link }, table);
+        }
+    }
+
+    /// The same over one link.
+    fn add_over_link(
+        &self,
+        header: u32,
+        at: SwitchPort,
+        link: SwitchPort,
+        table: &mut [Option<Dependency>],
+    )
+        requires depends { (q : SwitchPort) → (routes_in self.now).peer (to_port link) ≡ Some (to_port q) → DependsBy (routes_in self.now) header at q }
+        requires network { IsNetwork (routes_in self.now) }
+        requires input { IsInput (length (routes_in self.now).settings) at }
+        requires link { IsInput (length (routes_in self.now).settings) link }
+        requires here { link.switch ≡ at.switch }
+        requires room { length table.old ≡ length (routes_in self.now).settings * 32 * 32 }
+        ensures kept { IsExtended (routes_in self.now) table.old table.new }
+        ensures listed { IsListedOver (routes_in self.now) table.new at link }
+    {
+        match self.peer(link) {
+            Some(Port::Switch(next, input)) => {
+                let next = SwitchPort {
+                    switch: next,
+                    link: input,
+                };
+                table[at.place() * LINKS + link.link] = Some(Dependency { next, header });
+            }
+            Some(Port::Terminal(_)) => (),
+            None => (),
+        }
+    }
+}

@@ -1,0 +1,66 @@
+//! The edges of the channel dependency graph.
+ghost use Rattle.std.specs.Prelude.{◌≡◌, length, IfOk};
+ghost use Rattle.c104_describe.specs.PlanImage.{Fits};
+ghost use Rattle.c104_check.specs.Edges.{AreAllEdges, AreEdgesBefore, edge_of};
+ghost use Rattle.c104_check.specs.Routes.{IsAccepted, routes_of};
+
+use crate::dependencies::Dependency;
+use crate::ports::SwitchPort;
+use crate::routes::Routes;
+use c104_describe::{Image, Plan};
+use c104_regs::LINKS;
+use c104_token::{Items, NoMemory};
+use std::alloc::{AllocError, Global};
+
+/// An input that depends on another: a packet with this header that came in here may have to wait until what came in
+/// at the other has gone on.
+#[derive(Clone, Copy, Debug)]
+pub struct DependencyEdge {
+    /// The input.
+    pub input: SwitchPort,
+    /// The other, at the far end of a link that the header may take.
+    pub next: SwitchPort,
+    /// The highest such header, a label of some terminal.
+    pub header: u32,
+}
+
+/// The dependencies of all inputs on one another in the accepted network of an image for a plan, in the order of the
+/// inputs and then of the links by which packets go on. It fails only when out of memory.
+pub fn channel_dependencies(
+    alloc: Global,
+    plan: &Plan,
+    image: &Image,
+) -> Result<Items<DependencyEdge>, NoMemory>
+    requires fits { Fits image.now plan.now }
+    requires accepted { IsAccepted (routes_of plan.now image.now) }
+    ensures { IfOk result (AreAllEdges (routes_of plan.now image.now)) }
+{
+    let routes = Routes::new(alloc, plan, image)?;
+    let table = routes.dependencies(alloc)?;
+    let edges = edges_of(alloc, table.as_slice())?;
+    Ok(Items::new(edges))
+}
+
+/// The edges of a table of dependencies.
+fn edges_of(alloc: Global, table: &[Option<Dependency>]) -> Result<Vec<DependencyEdge>, AllocError>
+    ensures { IfOk result (λ edges. AreEdgesBefore table.now (length table.now) edges.items) }
+{
+    let mut edges = Vec::new(alloc);
+    for place in 0..table.len() {
+        if let Some(dependency) = table[place] {
+            edges.push(edge_at(place, dependency))?;
+        }
+    }
+    Ok(edges)
+}
+
+/// The edge of the dependency at a place of a table.
+fn edge_at(place: usize, dependency: Dependency) -> DependencyEdge
+    ensures { result ≡ edge_of place dependency }
+{
+    DependencyEdge {
+        input: SwitchPort::at(place / LINKS),
+        next: dependency.next,
+        header: dependency.header,
+    }
+}
