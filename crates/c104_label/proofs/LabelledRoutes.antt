@@ -142,8 +142,11 @@ module _ (plan : Plan) (ranges : List (ℕ × ℕ)) (tables : List Table) where
   pub settings_are : (s : ℕ) → s < length plan.switches → settings_at routes s ≡ labelled_switch plan (table_in tables s) s
   settings_are s lt = ap or_no_settings (map_at (λ switch. labelled_switch plan (table_in tables switch) switch) (length plan.switches) s lt)
 
+  pub settings_count : length routes.settings ≡ length plan.switches
+  settings_count = length-map-range_with_len (λ switch. labelled_switch plan (table_in tables switch) switch) 0 (length plan.switches)
+
   none_set : (s : ℕ) → length plan.switches ≤ s → settings_at routes s ≡ []
-  none_set s le = ap or_no_settings (slice_get_past routes.settings s (let e : length routes.settings ≡ length plan.switches = length-map-range_with_len (λ switch. labelled_switch plan (table_in tables switch) switch) 0 (length plan.switches) in omega (arith, e, le)))
+  none_set s le = ap or_no_settings (slice_get_past routes.settings s (omega (arith, settings_count, le)))
 
   -- what is set at a link
   pub link_was : (q : SwitchPort) (x : Settings) → link_settings routes.settings q ≡ Some x → x ≡ at q.switch q.link

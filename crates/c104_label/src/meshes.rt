@@ -1,5 +1,5 @@
 //! The labels of a mesh.
-ghost use Rattle.std.specs.Prelude.{◌≡◌, ◌↔◌, ◌<◌, ◌≤◌, ◌*◌, ◌&&◌, length, map, nat_le, nat_lt, IfOk, IsTrue};
+ghost use Rattle.std.specs.Prelude.{◌≡◌, ◌↔◌, ◌<◌, ◌≤◌, ◌+◌, ◌*◌, ◌/◌, ◌&&◌, length, map, nat_le, nat_lt, IfOk, IsTrue};
 ghost use Rattle.std.specs.List.{range_with_len};
 ghost use Rattle.c104_describe.specs.LabelledImages.{labelled_image};
 ghost use Rattle.c104_describe.specs.PlanImage.{Fits, range_of};
@@ -98,6 +98,23 @@ fn mesh_table(
     Ok(table_of(rows.as_slice()))
 }
 
+/// Where the labels of a switch's row of a mesh end, and those of the mesh. They are computed here and not where rows
+/// are added, since that they fit is proved by products.
+fn last_limits(width: usize, height: usize, terminals: usize, switch: usize) -> (u32, u32)
+    requires wide { 0 < width }
+    requires some { 0 < terminals }
+    requires inside { switch < width * height }
+    requires few { width * height * terminals ≤ 256 }
+    ensures row { result.0 ≡ (switch / width * width + width) * terminals }
+    ensures mesh { result.1 ≡ width * height * terminals }
+{
+    let end = switch / width * width + width;
+    (
+        (end * terminals) as u32,
+        (width * height * terminals) as u32,
+    )
+}
+
 /// The rows of a switch of a mesh: the labels of the rows above, of the switches before it in its row,
 /// its own, of those after it and of the rows below.
 #[tactic(auto, using(crate::proofs::MeshRows::front_first, crate::proofs::MeshRows::front_next))]
@@ -115,6 +132,7 @@ fn mesh_rows(
     requires few { width * height * terminals ≤ 256 }
     ensures { IfOk result (λ rows. rows.items ≡ mesh_rows width height terminals switch) }
 {
+    let (row, mesh) = last_limits(width, height, terminals, switch);
     let mut rows = Vec::new(alloc);
     let above = switch / width * width;
     add_row(&mut rows, (above * terminals) as u32, 0)?;
@@ -123,7 +141,7 @@ fn mesh_rows(
         let label = switch * terminals + terminal;
         add_row(&mut rows, (label + 1) as u32, (4 + terminal) as u8)?;
     }
-    add_row(&mut rows, ((above + width) * terminals) as u32, 2)?;
-    add_row(&mut rows, (width * height * terminals) as u32, 3)?;
+    add_row(&mut rows, row, 2)?;
+    add_row(&mut rows, mesh, 3)?;
     Ok(rows)
 }

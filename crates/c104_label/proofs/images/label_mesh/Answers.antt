@@ -2,6 +2,7 @@ use Rattle.std.proofs.Common.{sym, subst}
 use Rattle.c104_check.specs.Routes.{routes_of}
 use Rattle.c104_label.specs.Crossings.{AreCrossings}
 use Rattle.c104_label.proofs.AcceptedMeshes.{mesh_accepted, mesh_crossed}
+use Rattle.c104_label.proofs.MeshRanks.{mesh_acyclic}
 use Rattle.c104_label.proofs.images.label_mesh.Goals as goal
 
 pub returns-in_ok-image-in-Mesh-clause-accepted : goal.returns-in_ok-image-in-Mesh-clause-accepted
@@ -14,3 +15,8 @@ returns-in_ok-image-in-Mesh-clause-crossings c =
     subst (λ shape. AreCrossings shape (routes_of c.args.plan.now c.in_ok-image-in-Mesh.image)) c.in-Mesh.ensures.shape
     (mesh_crossed c.args.plan.now c.in-Mesh.width c.in-Mesh.height c.in-Mesh.terminals c.in_ok-image-in-Mesh.image c.in-Mesh.ensures.kept (sym c.in-Mesh.ensures.shape)
     (record { is = c.in_ok-image-in-Mesh.ensures.image; tables = c.in_ok-image-in-Mesh.ensures.labels }))
+
+pub returns-in_ok-image-in-Mesh-clause-acyclic : goal.returns-in_ok-image-in-Mesh-clause-acyclic
+returns-in_ok-image-in-Mesh-clause-acyclic c =
+    mesh_acyclic c.args.plan.now c.in-Mesh.width c.in-Mesh.height c.in-Mesh.terminals c.in_ok-image-in-Mesh.image c.in-Mesh.ensures.kept (sym c.in-Mesh.ensures.shape)
+    (record { is = c.in_ok-image-in-Mesh.ensures.image; tables = c.in_ok-image-in-Mesh.ensures.labels })
