@@ -49,7 +49,7 @@ module _ (plan : Plan) (image : Image) (labelled : IsLabelled (routes_of plan im
     (holds : Holds (routes_of plan image) (world_of plan image nodes)) where
   module _ (s i : ℕ) (S : Switch Traced) (is_switch : slice_get nodes s ≡ Some (node.Switch S)) (p : Input Traced) (is_input : slice_get S.inputs i ≡ Some p) where
     -- what a changed input is to the whole
-    input_world : (p' : Input Traced) → world_of plan image (slice_set nodes s (node.Switch (changed S i p' S.outputs))) ≡ read_world (routes_of plan image) (world_of plan image nodes) (port.Switch s i) (p'.buffer.items ++ out_at (peer plan) (outs plan nodes) (peer plan (port.Switch s i))) p'.phase
+    input_world : (p' : Input Traced) → world_of plan image (slice_set nodes s (node.Switch (changed S i p' S.outputs))) ≡ read_world (routes_of plan image) (world_of plan image nodes) (port.Switch s i) (p'.buffer.items ++ out_at (peer plan) (outs plan nodes) (port.Switch s i) (peer plan (port.Switch s i))) p'.phase
     input_world p' =
         let T = changed S i p' S.outputs in
         let n = ins_put plan nodes s S T is_switch i p'.buffer.items (λ j. part_set [] (λ (z : Input Traced). z.buffer.items) S.inputs i j p' p is_input) in
@@ -60,7 +60,7 @@ module _ (plan : Plan) (image : Image) (labelled : IsLabelled (routes_of plan im
       abbrev xs : List Traced
       xs = drop 1 p.buffer.items
 
-      content : (world_of plan image nodes).content (port.Switch s i) ≡ x ∷ (xs ++ out_at (peer plan) (outs plan nodes) (peer plan (port.Switch s i)))
+      content : (world_of plan image nodes).content (port.Switch s i) ≡ x ∷ (xs ++ out_at (peer plan) (outs plan nodes) (port.Switch s i) (peer plan (port.Switch s i)))
       content = rw (is_switch, is_input, is_first) refl
 
       phase_is : (ph : Phase (List Traced)) → p.phase ≡ ph → phases plan nodes (port.Switch s i) ≡ ph
@@ -70,13 +70,13 @@ module _ (plan : Plan) (image : Image) (labelled : IsLabelled (routes_of plan im
       own_settings = ap (λ l. slice_get l i) (sym (fits s S is_switch)) ∙ is_settings
 
       HoldsAfter : Input Traced → Type 0
-      HoldsAfter p' = Holds (routes_of plan image) (read_world (routes_of plan image) (world_of plan image nodes) (port.Switch s i) (p'.buffer.items ++ out_at (peer plan) (outs plan nodes) (peer plan (port.Switch s i))) p'.phase)
+      HoldsAfter p' = Holds (routes_of plan image) (read_world (routes_of plan image) (world_of plan image nodes) (port.Switch s i) (p'.buffer.items ++ out_at (peer plan) (outs plan nodes) (port.Switch s i) (peer plan (port.Switch s i))) p'.phase)
 
       header_kept : (ph : Phase (List Traced)) (b : List Traced) → p.phase ≡ ph → HasRead (routes_of plan image) labelled wired ph b → HoldsAfter (header_turn traced_kind s0 p b x)
       unfolding HoldsAfter
       header_kept ph b e h =
-          let wire = has_wire (routes_of plan image) labelled wired (world_of plan image nodes) holds.0 s i x (xs ++ out_at (peer plan) (outs plan nodes) (peer plan (port.Switch s i))) holds.1 ph (phase_is ph e) content b h in
-          let few : length b < (routes_of plan image).header = has_few (routes_of plan image) labelled wired (world_of plan image nodes) holds.0 s i x (xs ++ out_at (peer plan) (outs plan nodes) (peer plan (port.Switch s i))) holds.1 ph (phase_is ph e) content b h in
+          let wire = has_wire (routes_of plan image) labelled wired (world_of plan image nodes) holds.0 s i x (xs ++ out_at (peer plan) (outs plan nodes) (port.Switch s i) (peer plan (port.Switch s i))) holds.1 ph (phase_is ph e) content b h in
+          let few : length b < (routes_of plan image).header = has_few (routes_of plan image) labelled wired (world_of plan image nodes) holds.0 s i x (xs ++ out_at (peer plan) (outs plan nodes) (port.Switch s i) (peer plan (port.Switch s i))) holds.1 ph (phase_is ph e) content b h in
           let len : header_length s0 ≡ (routes_of plan image).header = labelled.accepted.one_length (record { switch = s; link = i }) wire.0 s0 wire.1 own_settings in
           ⊎_elim
           (λ (m : is_end x.token ≡ true). rw m (short_step (routes_of plan image) labelled wired (world_of plan image nodes) holds.0 s i x _ holds.1 ph (phase_is ph e) content b h m))
@@ -88,7 +88,7 @@ module _ (plan : Plan) (image : Image) (labelled : IsLabelled (routes_of plan im
 
       -- a token of the stream goes to the output
       pass_is : (o : ℕ) (R : Port) (q q' : Outgoing Traced) (p' : Input Traced) → slice_get S.outputs o ≡ Some q → q'.items ≡ q.items ++ x ∷ [] → p'.buffer.items ≡ xs → peer plan (port.Switch s o) ≡ Some R →
-          world_of plan image (slice_set nodes s (node.Switch (changed S i p' (slice_set S.outputs o q')))) ≡ pass_world (routes_of plan image) (world_of plan image nodes) (port.Switch s i) R x (xs ++ out_at (peer plan) (outs plan nodes) (peer plan (port.Switch s i))) p'.phase
+          world_of plan image (slice_set nodes s (node.Switch (changed S i p' (slice_set S.outputs o q')))) ≡ pass_world (routes_of plan image) (world_of plan image nodes) (port.Switch s i) R x (xs ++ out_at (peer plan) (outs plan nodes) (port.Switch s i) (peer plan (port.Switch s i))) p'.phase
       pass_is o R q q' p' eq eq' ep to_r =
           let T = changed S i p' (slice_set S.outputs o q') in
           let n : ins plan (slice_set nodes s (node.Switch T)) ≡ at (ins plan nodes) (port.Switch s i) xs = ins_put plan nodes s S T is_switch i xs (λ j. part_set [] (λ (z : Input Traced). z.buffer.items) S.inputs i j p' p is_input ∙ ap (λ (l : List Traced). if j == i then l else items_in S j) ep) in
@@ -97,7 +97,7 @@ module _ (plan : Plan) (image : Image) (labelled : IsLabelled (routes_of plan im
           let c = content_put (peer plan) wired (arrivals plan nodes) (at (ins plan nodes) (port.Switch s i) xs) (outs plan nodes) (port.Switch s o) R (x ∷ []) to_r in
           let t = content_take (peer plan) wired (arrivals plan nodes) (ins plan nodes) (outs plan nodes) (port.Switch s i) xs in
           worlds plan image
-          (rw (arrivals_same plan nodes s S T is_switch, n, m) (c ∙ ap (λ (f : Port → List Traced). at f R (f R ++ x ∷ [])) t ∙ ap (λ (l : List Traced). at (at (world_of plan image nodes).content (port.Switch s i) (xs ++ out_at (peer plan) (outs plan nodes) (peer plan (port.Switch s i)))) R (l ++ x ∷ [])) (at_other (world_of plan image nodes).content (port.Switch s i) R _ (wired.apart (port.Switch s i) R o to_r))))
+          (rw (arrivals_same plan nodes s S T is_switch, n, m) (c ∙ ap (λ (f : Port → List Traced). at f R (f R ++ x ∷ [])) t ∙ ap (λ (l : List Traced). at (at (world_of plan image nodes).content (port.Switch s i) (xs ++ out_at (peer plan) (outs plan nodes) (port.Switch s i) (peer plan (port.Switch s i)))) R (l ++ x ∷ [])) (at_other (world_of plan image nodes).content (port.Switch s i) R _ (wired.apart (port.Switch s i) R o to_r))))
           (phases_put plan nodes s S T is_switch i p'.phase (λ j. part_set Fresh (λ (z : Input Traced). z.phase) S.inputs i j p' p is_input)) (sents_same plan nodes s S T is_switch)
 
       -- what an input and the outputs become

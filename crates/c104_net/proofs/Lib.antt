@@ -42,8 +42,8 @@ pub mod RunPartLists
 pub mod QuietNodes
 pub mod BegunRecords
 mod UnreadyNodes
-mod UnreadyEvents
-mod EventReasons
+pub mod UnreadyEvents
+pub mod EventReasons
 pub mod Channels
 pub mod PacketInvariant
 pub mod PortChanges
@@ -64,6 +64,8 @@ pub mod LedEvents
 pub mod EventEntries
 pub mod SentBytes
 pub mod Promises
+pub mod StillWires
+pub mod StillPorts
 pub mod TokenMaps
 pub mod SwitchMaps
 pub mod StepMaps
@@ -78,3 +80,17 @@ pub mod LeadingRuns
 pub mod ToldEvents
 pub mod ReplaySteps
 pub mod RunOrigins
+pub mod RoundMembers
+mod EachSoFar
+pub mod StillParts
+pub mod StandingRuns
+pub mod WorkSteps
+pub mod WorkEvents
+pub mod StartedRuns
+pub mod WorkRounds
+pub mod RoundsEnd
+pub mod BeginsStarted
+pub mod RecordedRounds
+pub mod WorkBounds
+mod UndoneRounds
+pub mod DeadlockFree

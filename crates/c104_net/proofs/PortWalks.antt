@@ -40,7 +40,7 @@ module _ (plan : Plan) (part : PortPart) where
   wired_none p is = rw is refl
 
   -- one by one they are what it has for the wired ones
-  wired_each : (f : ℕ → Port) (ns : List ℕ) → flat_map (wired_by f) ns ≡ flat_map (port_events part) (filter (is_wired plan) (map f ns))
+  pub wired_each : (f : ℕ → Port) (ns : List ℕ) → flat_map (wired_by f) ns ≡ flat_map (port_events part) (filter (is_wired plan) (map f ns))
   wired_each f [] = refl
   wired_each f (n ∷ ns) =
       ap (λ es. wired_events plan part (f n) ++ es) (wired_each f ns)
@@ -51,7 +51,7 @@ module _ (plan : Plan) (part : PortPart) where
   abbrev pub of_switch : ℕ → List Event
   of_switch s = flat_map (port_events part) (wired_links plan s)
 
-  switches_each : (ss : List ℕ) → flat_map of_switch ss ≡ flat_map (port_events part) (flat_map (wired_links plan) ss)
+  pub switches_each : (ss : List ℕ) → flat_map of_switch ss ≡ flat_map (port_events part) (flat_map (wired_links plan) ss)
   switches_each [] = refl
   switches_each (s ∷ ss) = ap (λ es. of_switch s ++ es) (switches_each ss) ∙ sym (flat_map-append (port_events part) (wired_links plan s) (flat_map (wired_links plan) ss))
 

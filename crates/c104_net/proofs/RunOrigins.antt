@@ -103,7 +103,7 @@ pub record IsKeptRun (run : FinishedRecord) : Type 0 where
   pub sent : AreBytesSent events
 
 -- each trace that is kept of a network is within the limits of a packet
-traces_fit : (net : NetRecord) → ((k : ℕ) → IsRecordedAt net k) → (k : ℕ) (trace : List Entry) → slice_get net.traces k ≡ Some trace → All IsFitEntry trace
+pub traces_fit : (net : NetRecord) → ((k : ℕ) → IsRecordedAt net k) → (k : ℕ) (trace : List Entry) → slice_get net.traces k ≡ Some trace → All IsFitEntry trace
 traces_fit net recorded k trace at =
     let found = recorded k trace at in
     fit_run (start_node found.1) found.0 trace found.2.recorded.run

@@ -38,3 +38,6 @@ pub mod ToldEvents
 pub mod TracedEnds
 pub mod Replays
 pub mod RunOrigins
+pub mod Standstill
+pub mod Work
+pub mod DeadlockFreedom

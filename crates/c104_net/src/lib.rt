@@ -51,7 +51,7 @@ pub use origins::{Origin, origin_of, origins_of};
 pub use reason::Reason;
 pub use run::Run;
 pub use sent_packet::SentPacket;
-pub use starts::NodeStart;
+pub use starts::{NodeStart, all_started};
 pub use terminal::{TerminalStart, TerminalView};
 pub use traced::{Source, Traced};
 pub use watch::{Unwatched, Watch};

@@ -15,8 +15,11 @@ ghost use Rattle.c104_net.specs.WiredActs.{IsRecordedAt};
 mod answers;
 mod asking;
 mod beginning;
+mod deadlock;
 mod rounds;
+mod standstill;
 mod viewing;
+mod work;
 
 use crate::acts::Entry;
 use crate::events::happen;

@@ -95,6 +95,13 @@ impl Node {
         self.trace.clear();
     }
 
+    /// Where the node started.
+    pub fn start(&self) -> &NodeStart
+        ensures { result.now ≡ self.now.0.start }
+    {
+        &self.start
+    }
+
     /// What the node did since its start, in order.
     pub fn trace(&self) -> &[Entry]
         ensures trace { result.now ≡ self.now.0.trace }

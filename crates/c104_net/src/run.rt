@@ -4,6 +4,7 @@ ghost use Rattle.std.specs.Option.{option_copied};
 ghost use Rattle.c104_net.specs.Finished.{run_arrived};
 ghost use Rattle.c104_net.specs.FinishedRecords.{IsFinishedRecord};
 
+mod deadlock;
 mod origins;
 
 use crate::acts::Entry;

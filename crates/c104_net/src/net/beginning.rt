@@ -2,6 +2,7 @@
 ghost use Rattle.std.specs.Prelude.{◌≡◌, ◌↔◌, map, All, IsTrue};
 ghost use Rattle.c104_net.specs.NetRecords.{begun_record, node_start, node_state, record_begun_if};
 ghost use Rattle.c104_net.specs.Quiet.{IsQuiet, IsQuietNode};
+ghost use Rattle.c104_net.specs.Standstill.{IsStartedStart};
 ghost use Rattle.c104_net.specs.Starts.{start_node};
 
 use super::Net;
@@ -14,6 +15,13 @@ impl Net {
         ensures { IsTrue result ↔ IsQuiet self.now.network }
     {
         are_quiet(self.places.as_slice())
+    }
+
+    /// Whether each switch was started where the run began.
+    pub fn began_started(&self) -> bool
+        ensures { IsTrue result ↔ All IsStartedStart self.now.starts }
+    {
+        are_started(self.places.as_slice())
     }
 
     /// Begins a run where the network is quiet: it stands as it does, which is the new start; what the
@@ -38,6 +46,18 @@ fn are_quiet(nodes: &[Node]) -> bool
 {
     for node in nodes {
         if !node.node().is_quiet() {
+            return false;
+        }
+    }
+    true
+}
+
+/// Whether each of these nodes was started where the run began.
+fn are_started(nodes: &[Node]) -> bool
+    ensures { IsTrue result ↔ All IsStartedStart (map node_start nodes.now) }
+{
+    for node in nodes {
+        if !node.start().is_started() {
             return false;
         }
     }

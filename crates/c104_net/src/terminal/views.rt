@@ -1,6 +1,7 @@
 //! What can be seen of a terminal.
 ghost use Rattle.std.specs.Prelude.{◌≡◌};
 ghost use Rattle.c104_net.specs.Views.{terminal_view};
+ghost use Rattle.c104_switch.specs.Rooms.{room_left};
 
 use super::TerminalOf;
 use c104_token::TokenKind;
@@ -19,6 +20,13 @@ pub struct TerminalView {
 }
 
 impl<T: TokenKind> TerminalOf<T> {
+    /// How many more tokens the terminal could grant, 0 to 64.
+    pub fn room(&self) -> usize
+        ensures { result ≡ room_left self.now.input }
+    {
+        self.input.cap() - (self.input.len() + self.input.granted())
+    }
+
     /// What can be seen of the terminal.
     pub fn view(&self) -> TerminalView
         ensures { result ≡ terminal_view self.now }

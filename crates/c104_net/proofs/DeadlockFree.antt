@@ -1,0 +1,133 @@
+-- A network that is accepted, that nobody changed and whose channels don't depend on one another in a cycle has no
+-- deadlock: from what the type of a network with its record keeps.
+use Rattle.c104_check.specs.ChannelDependencies.{IsRanking}
+use Rattle.c104_check.specs.Routes.{Routes, routes_of}
+use Rattle.c104_check.specs.declared.ports.SwitchPort.{SwitchPort}
+use Rattle.c104_describe.specs.PlanImage.{Image}
+use Rattle.c104_describe.specs.Plans.{IsPlan, Plan}
+use Rattle.c104_event.specs.declared.events.Event.{Event}
+use Rattle.c104_net.proofs.BeginsStarted.{starts_are_started}
+use Rattle.c104_net.proofs.RecordedRounds.{done_after, done_of, plain_run, starts_stay}
+use Rattle.c104_net.proofs.RoundsEnd.{rounds_deliver, run_plain, work_map}
+use Rattle.c104_net.proofs.RunOrigins.{still_steady, traces_fit}
+use Rattle.c104_net.proofs.SentBytes.{AreBytesSent, run_bytes}
+use Rattle.c104_net.proofs.StandingRuns.{quiet_map, run_steady, stands_quiet, started_traced}
+use Rattle.c104_net.proofs.StartMaps.{starts_are}
+use Rattle.c104_net.proofs.StartedRuns.{run_started}
+use Rattle.c104_net.proofs.TracedRuns.{token_of, traced_from}
+use Rattle.c104_net.proofs.UndoneRounds.{undone_stands}
+use Rattle.c104_net.proofs.WorkBounds.{bound_by_tokens, work_within}
+use Rattle.c104_net.specs.DeadlockFreedom.{HasFullInbox, HasFullTrace, HasNoDeadlock, IsAcyclicNet, IsAllDelivered, NothingDone, RoundsDeliver}
+use Rattle.c104_net.specs.Deliveries.{Promise}
+use Rattle.c104_net.specs.EventRuns.{Outcome, StopsShort, run_events}
+use Rattle.c104_net.specs.NetRecords.{IsNetRecord, NetRecord}
+use Rattle.c104_net.specs.Network.{Network, network_apply, network_of}
+use Rattle.c104_net.specs.Quiet.{IsQuiet, IsQuietNode}
+use Rattle.c104_net.specs.RecordedRuns.{record_apply}
+use Rattle.c104_net.specs.Rounds.{rounds}
+use Rattle.c104_net.specs.Runs.{IsDoneRun}
+use Rattle.c104_net.specs.Standstill.{IsAcyclicRun, StandsStill}
+use Rattle.c104_net.specs.Starts.{start_node}
+use Rattle.c104_net.specs.Traced.{traced_kind}
+use Rattle.c104_net.specs.TracedRuns.{map_network, map_node}
+use Rattle.c104_net.specs.WiredActs.{IsRecordedAt}
+use Rattle.c104_net.specs.Work.{work}
+use Rattle.c104_net.specs.declared.traced.Traced.{Traced}
+use Rattle.c104_switch.specs.Actions.{Reply}
+use Rattle.c104_token.specs.Kinds.{plain_kind}
+use Rattle.c104_token.specs.declared.tokens.Token.{Token}
+use Rattle.std.proofs.Common.{List, Ok, ap, arith, get_or, inl, inr, length, map, subst, sym, ℕ, ⊎_elim, ◌*◌, ◌++◌, ◌<◌, ◌∙◌, ◌≡◌, ◌≤◌, ◌⊎◌}
+use Rattle.std.proofs.lemmas.List.Elements.{All-map}
+
+module _ (net : NetRecord) (is_plan : IsPlan net.network.plan) (kept : IsNetRecord net) (recorded : (k : ℕ) → IsRecordedAt net k) (image : Image) (is : IsAcyclicNet image net) where
+  abbrev plan : Plan
+  plan = net.network.plan
+
+  abbrev routes : Routes
+  routes = routes_of net.network.plan image
+
+  abbrev events : List (Event × Reply)
+  events = kept.told.0
+
+  sent : AreBytesSent events
+  sent = run_bytes plan (map start_node net.starts) net.network.nodes net.traces net.count kept.told.0 kept.started.in_place kept.told.1 (traces_fit net recorded)
+
+  acyclic_run : IsAcyclicRun plan image net.starts events net.network.nodes
+  acyclic_run = record {
+    accepted = is.accepted;
+    acyclic = is.acyclic;
+    set = is.set;
+    started = starts_are_started Token plan net.starts is.started;
+    steady = kept.started;
+    run = kept.told.1.run;
+    unchanged = is.unchanged events kept.told.1;
+  }
+
+  stands : StandsStill plain_kind net.network → IsQuiet net.network
+  stands still = stands_quiet plan image net.starts events net.network.nodes is_plan acyclic_run sent still
+
+  nothing_done : NothingDone net → IsQuiet net.network ⊎ (HasFullInbox net ⊎ HasFullTrace net)
+  nothing_done none = ⊎_elim (λ (still : StandsStill plain_kind net.network). inl (stands still)) (λ (full : HasFullInbox net ⊎ HasFullTrace net). inr full) (undone_stands net is_plan none)
+
+  -- the run so far over tokens that tell where they came from
+  abbrev Ended : NetRecord → Type 0
+  Ended after = (last : Network Traced) × (map_network token_of last ≡ after.network) × (more : List (Event × Reply)) × IsDoneRun traced_kind (network_of plan (map start_node net.starts)) more last × IsQuiet last × Promise routes last
+
+  ended_so : (rank : SwitchPort → ℕ) → IsRanking routes rank → (n : ℕ) → work plan rank net.network.nodes < n → (after : NetRecord) → ◌≡◌ {A = Outcome (Network Token)} (run_events (network_apply plain_kind) net.network (rounds plan n)) (Ok tt, after.network) → Ended after
+  ended_so rank falls n few after end =
+      let found = traced_from plan net.starts net.network.nodes events kept.told.1.run in
+      let mid : Network Traced = network_of plan found.0 in
+      let balance = run_steady traced_kind (network_of plan (map start_node net.starts)) mid events is_plan found.1.run (still_steady Token Traced plan net.starts kept.started) in
+      let started = run_started plain_kind (network_of plan (map start_node net.starts)) net.network events kept.told.1.run (is.unchanged events kept.told.1) acyclic_run.started in
+      let same : work plan rank found.0 ≡ work plan rank net.network.nodes = sym (work_map token_of plan rank found.0) ∙ ap (work plan rank) found.1.plain in
+      let after_traced = run_events (network_apply traced_kind) mid (rounds plan n) in
+      let both : ◌≡◌ {A = Outcome (Network Token)} (after_traced.0, map_network token_of after_traced.1) (Ok tt, after.network) = sym (run_plain mid (rounds plan n)) ∙ ap (λ ns. run_events (network_apply plain_kind) (network_of plan ns) (rounds plan n)) found.1.plain ∙ end in
+      let told : after_traced.0 ≡ Ok tt = ap (λ (z : Outcome (Network Token)). z.0) both in
+      let whole : ◌≡◌ {A = Outcome (Network Traced)} after_traced (Ok tt, after_traced.1) = ap (λ o. (o, after_traced.1)) told in
+      let delivered = rounds_deliver image (network_of plan (map start_node net.starts)) mid after_traced.1 events rank n is_plan is.accepted falls (starts_are plan image net.starts is.set) found.1.run (is.unchanged events kept.told.1) sent balance
+      (started_traced plan net.starts net.network.nodes events is_plan kept.told.1.run found.0 found.1.plain started) (subst (λ k. k < n) (sym same) few) whole in
+      let more = done_of traced_kind (rounds plan n) mid after_traced.1 whole in (
+        after_traced.1,
+        ap (λ (z : Outcome (Network Token)). z.1) both,
+        events ++ more.0,
+        done_after traced_kind (network_of plan (map start_node net.starts)) mid after_traced.1 events more.0 found.1.run more.1,
+        delivered.0,
+        delivered.1,
+      )
+
+  delivered_so : (after : NetRecord) → after.network.plan ≡ plan → after.starts ≡ net.starts → Ended after → IsAllDelivered routes after
+  delivered_so after same_plan same_starts e =
+      let last : Network Traced = e.0 in
+      let plans : last.plan ≡ after.network.plan = ap (λ (n : Network Token). n.plan) e.1 in
+      let whole : last ≡ network_of after.network.plan last.nodes = ap (λ p. network_of p last.nodes) plans in
+      let plain : map (map_node token_of) last.nodes ≡ after.network.nodes = ap (λ (n : Network Token). n.nodes) e.1 in
+      let start : network_of {A = Traced} plan (map start_node net.starts) ≡ network_of after.network.plan (map start_node after.starts) = ap (λ p. network_of p (map start_node net.starts)) (sym same_plan) ∙ ap (λ ss. network_of after.network.plan (map start_node ss)) (sym same_starts) in
+      record {
+        quiet = subst IsQuiet e.1 (All-map IsQuietNode (map_node token_of) last.nodes (λ k d inside. quiet_map token_of (get_or last.nodes k d) (e.4 k d inside)));
+        events = e.2;
+        traced = last.nodes;
+        run = subst (λ n. IsDoneRun traced_kind n e.2 (network_of after.network.plan last.nodes)) start (subst (λ n. IsDoneRun traced_kind (network_of plan (map start_node net.starts)) e.2 n) whole e.3);
+        plain = plain;
+        promise = subst (Promise routes) whole e.5;
+      }
+
+  rounds_law : (rank : SwitchPort → ℕ) → IsRanking routes rank → (n : ℕ) → work plan rank net.network.nodes < n → RoundsDeliver routes net n
+  rounds_law rank falls n few after ends =
+      let stay = starts_stay net after (rounds plan n) (Ok tt) ends in
+      ⊎_elim
+      (λ (due : ◌≡◌ {A = Outcome NetRecord} (Ok tt, after) (run_events record_apply net (rounds plan n))). delivered_so after stay.0 stay.1 (ended_so rank falls n few after (plain_run (rounds plan n) net after (sym due))))
+      (λ (short : StopsShort record_apply net (rounds plan n) (Ok tt) after). let no = short.refused in absurd (cc))
+      ends
+
+  pub has_no_deadlock : HasNoDeadlock image net
+  has_no_deadlock = record {
+    no_deadlock = nothing_done;
+    never = λ locked. locked.1 (stands locked.0);
+    stands_quiet = stands;
+    rounds_deliver = rounds_law;
+    rounds_suffice = λ n few.
+        (let within : (p : SwitchPort) → is.acyclic.0 p ≤ 32 * length plan.switches = λ p. subst (λ m. is.acyclic.0 p ≤ 32 * m) is.fits.settings (is.acyclic.2 p) in
+        let most = work_within plan is.acyclic.0 within net.network.nodes in
+        rounds_law is.acyclic.0 is.acyclic.1 n (omega (arith, most, few)));
+    bounded = bound_by_tokens plan net.network.nodes;
+  }

@@ -1,0 +1,124 @@
+-- Which events a round has.
+use Rattle.c104_describe.specs.Plans.{IsPlan, Plan}
+use Rattle.c104_describe.specs.Wiring.{peer}
+use Rattle.c104_describe.specs.declared.ports.Port.{Port}
+use Rattle.c104_event.specs.declared.events.Event.{Event}
+use Rattle.c104_net.proofs.BalanceWires.{switch_inside, terminal_inside}
+use Rattle.c104_net.proofs.RoundLists.{links_passed}
+use Rattle.c104_net.specs.Network.{Network}
+use Rattle.c104_net.specs.Rounds.{all_claims, all_drains, claims_of, is_wired, link_numbers, round, switch_claims, turn_at, wired_links, wired_ports, wired_terminals}
+use Rattle.c104_net.specs.Standstill.{StandsStill, IsStill, IsUnready}
+use Rattle.c104_token.specs.Kinds.{Kind}
+use Rattle.std.specs.Prelude.{Contains}
+use Rattle.std.specs.List.{flat_map, range_with_len}
+use Rattle.std.proofs.Common.{Bool, List, Some, [], ap, arith, false, filter, if◌then◌else◌, inl, inr, is_some, length, map, refl, subst, suc, sym, true, zero, ℕ, ⊎_elim, ◌++◌, ◌+◌, ◌<◌, ◌∙◌, ◌∷◌, ◌≡◌, ◌≤◌, ◌≢◌, ◌⊎◌}
+use Rattle.std.proofs.lemmas.Bool.{cases_eq}
+use Rattle.std.proofs.lemmas.List.Elements.{All-contains}
+use Rattle.c104_describe.specs.declared.ports.Port.TheVariants as port
+use Rattle.c104_event.specs.declared.events.Event.TheVariants as event
+
+module _ {X : Type 0} where
+  abbrev pub IsIn : X → List X → Type 0
+  IsIn x [] = ⊥
+  IsIn x (y ∷ ys) = (x ≡ y) ⊎ IsIn x ys
+
+  pub contained : (x : X) (xs : List X) → IsIn x xs → Contains xs x
+  contained x [] h = absurd h
+  contained x (y ∷ ys) (inl e) = (0, omega arith, sym e)
+  contained x (y ∷ ys) (inr h) = let r = contained x ys h in (suc r.0, omega (arith, r.1), r.2)
+
+  pub in_left : (x : X) (xs ys : List X) → IsIn x xs → IsIn x (xs ++ ys)
+  in_left x [] ys h = absurd h
+  in_left x (y ∷ xs) ys (inl e) = inl e
+  in_left x (y ∷ xs) ys (inr h) = inr (in_left x xs ys h)
+
+  pub in_right : (x : X) (xs ys : List X) → IsIn x ys → IsIn x (xs ++ ys)
+  in_right x [] ys h = h
+  in_right x (y ∷ xs) ys h = inr (in_right x xs ys h)
+
+  pub in_filter : (p : X → Bool) (x : X) (xs : List X) → IsIn x xs → p x ≡ true → IsIn x (filter p xs)
+  in_filter p x [] h k = absurd h
+  in_filter p x (y ∷ xs) (inl e) k = let here : p y ≡ true = ap p (sym e) ∙ k in rw here (inl e)
+  in_filter p x (y ∷ xs) (inr h) k = later (p y) (in_filter p x xs h k)
+    where
+      later : (b : Bool) → IsIn x (filter p xs) → IsIn x (if b then y ∷ filter p xs else filter p xs)
+      later true h = inr h
+      later false h = h
+
+pub in_map : {X Y : Type 0} (f : X → Y) (x : X) (xs : List X) → IsIn x xs → IsIn (f x) (map f xs)
+in_map f x [] h = absurd h
+in_map f x (y ∷ xs) (inl e) = inl (ap f e)
+in_map f x (y ∷ xs) (inr h) = inr (in_map f x xs h)
+
+pub in_flat : {X Y : Type 0} (f : X → List Y) (x : X) (y : Y) (xs : List X) → IsIn x xs → IsIn y (f x) → IsIn y (flat_map f xs)
+in_flat f x y [] h k = absurd h
+in_flat f x y (z ∷ xs) (inl e) k = in_left y (f z) (flat_map f xs) (subst (λ v. IsIn y (f v)) e k)
+in_flat f x y (z ∷ xs) (inr h) k = in_right y (f z) (flat_map f xs) (in_flat f x y xs h k)
+
+pub in_range : (a n k : ℕ) → a ≤ k → k < a + n → IsIn k (range_with_len a n)
+in_range a zero k low high = absurd (omega (arith, low, high))
+in_range a (suc n) k low high = ⊎_elim (λ (e : k ≡ a). inl e) (λ (e : k ≢ a). inr (in_range (a + 1) n k (omega (arith, low, e)) (omega (arith, high)))) (cases_eq k a)
+
+in_links : (l : ℕ) → l < 32 → IsIn l link_numbers
+in_links l below = subst (IsIn l) (links_passed 32 refl) (in_range 0 32 l (omega arith) (omega (arith, below)))
+
+module _ (plan : Plan) (is_plan : IsPlan plan) where
+  wired_in : (p q : Port) → peer plan p ≡ Some q → IsIn p (wired_ports plan)
+  wired_in (port.Switch s l) q wire =
+      let inside = switch_inside plan is_plan s l q wire in
+      let link : IsIn (port.Switch s l) (wired_links plan s) = in_filter (is_wired plan) (port.Switch s l) (map (port.Switch s) link_numbers) (in_map (port.Switch s) l link_numbers (in_links l inside.1)) (ap is_some wire) in
+      in_left (port.Switch s l) (flat_map (wired_links plan) (range_with_len 0 (length plan.switches))) (wired_terminals plan)
+      (in_flat (wired_links plan) s (port.Switch s l) (range_with_len 0 (length plan.switches)) (in_range 0 (length plan.switches) s (omega arith) (omega (arith, inside.0))) link)
+  wired_in (port.Terminal t) q wire =
+      in_right (port.Terminal t) (flat_map (wired_links plan) (range_with_len 0 (length plan.switches))) (wired_terminals plan)
+      (in_filter (is_wired plan) (port.Terminal t) (map port.Terminal (range_with_len 0 (length plan.terminals)))
+      (in_map port.Terminal t (range_with_len 0 (length plan.terminals)) (in_range 0 (length plan.terminals) t (omega arith) (omega (arith, terminal_inside plan is_plan t q wire)))) (ap is_some wire))
+
+  abbrev credits : List Event
+  credits = map event.Credit (wired_ports plan)
+
+  abbrev crosses : List Event
+  crosses = map event.Cross (wired_ports plan)
+
+  abbrev turns : List Event
+  turns = flat_map turn_at (wired_ports plan)
+
+  abbrev claims : List Event
+  claims = all_claims (length plan.switches)
+
+  abbrev drains : List Event
+  drains = all_drains (length plan.terminals)
+
+  pub credit_in : (p q : Port) → peer plan p ≡ Some q → IsIn (event.Credit p) (round plan)
+  credit_in p q wire = in_left (event.Credit p) (credits ++ crosses ++ turns ++ claims) drains (in_left (event.Credit p) (credits ++ crosses ++ turns) claims (in_left (event.Credit p) (credits ++ crosses) turns (in_left (event.Credit p) credits crosses
+      (in_map event.Credit p (wired_ports plan) (wired_in p q wire)))))
+
+  pub cross_in : (p q : Port) → peer plan p ≡ Some q → IsIn (event.Cross p) (round plan)
+  cross_in p q wire = in_left (event.Cross p) (credits ++ crosses ++ turns ++ claims) drains (in_left (event.Cross p) (credits ++ crosses ++ turns) claims (in_left (event.Cross p) (credits ++ crosses) turns (in_right (event.Cross p) credits crosses
+      (in_map event.Cross p (wired_ports plan) (wired_in p q wire)))))
+
+  pub input_in : (s l : ℕ) (q : Port) → peer plan (port.Switch s l) ≡ Some q → IsIn (event.Input s l 0) (round plan)
+  input_in s l q wire = in_left (event.Input s l 0) (credits ++ crosses ++ turns ++ claims) drains (in_left (event.Input s l 0) (credits ++ crosses ++ turns) claims (in_right (event.Input s l 0) (credits ++ crosses) turns
+      (in_flat turn_at (port.Switch s l) (event.Input s l 0) (wired_ports plan) (wired_in (port.Switch s l) q wire) (inl refl))))
+
+  pub claim_in : (s i o : ℕ) → s < length plan.switches → i < 32 → o < 32 → IsIn (event.Claim s i o) (round plan)
+  claim_in s i o inside input output = in_left (event.Claim s i o) (credits ++ crosses ++ turns ++ claims) drains (in_right (event.Claim s i o) (credits ++ crosses ++ turns) claims
+      (in_flat switch_claims s (event.Claim s i o) (range_with_len 0 (length plan.switches)) (in_range 0 (length plan.switches) s (omega arith) (omega (arith, inside)))
+      (in_flat (claims_of s) i (event.Claim s i o) link_numbers (in_links i input) (in_map (event.Claim s i) o link_numbers (in_links o output)))))
+
+  pub drain_in : (t : ℕ) → t < length plan.terminals → IsIn (event.Drain t) (round plan)
+  drain_in t inside = in_right (event.Drain t) (credits ++ crosses ++ turns ++ claims) drains
+      (in_map event.Drain t (range_with_len 0 (length plan.terminals)) (in_range 0 (length plan.terminals) t (omega arith) (omega (arith, inside))))
+
+-- what is so of each event of a round
+pub still_of : {A : Type 0} (kind : Kind A) (net : Network A) → IsPlan net.plan → StandsStill kind net → IsStill kind net
+still_of kind net is_plan all = record {
+  credits = λ p q wire. each (event.Credit p) (credit_in net.plan is_plan p q wire);
+  crosses = λ p q wire. each (event.Cross p) (cross_in net.plan is_plan p q wire);
+  inputs = λ s l q wire. each (event.Input s l 0) (input_in net.plan is_plan s l q wire);
+  claims = λ s i o inside input output. each (event.Claim s i o) (claim_in net.plan is_plan s i o inside input output);
+  drains = λ t inside. each (event.Drain t) (drain_in net.plan is_plan t inside);
+}
+  where
+    each : (e : Event) → IsIn e (round net.plan) → IsUnready kind net e
+    each e h = All-contains (IsUnready kind net) (round net.plan) e all (contained e (round net.plan) h)

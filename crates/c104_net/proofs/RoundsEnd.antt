@@ -1,0 +1,127 @@
+-- In an accepted network whose channels don't depend on one another in a cycle rounds go on until all is quiet: then each
+-- packet with an owner was received by it.
+use Rattle.c104_check.specs.Routes.{IsAccepted, routes_of}
+use Rattle.c104_check.specs.declared.ports.SwitchPort.{SwitchPort}
+use Rattle.c104_describe.specs.PlanImage.{Image}
+use Rattle.c104_describe.specs.Plans.{IsPlan, Plan}
+use Rattle.c104_describe.specs.Wiring.{peer}
+use Rattle.c104_event.specs.declared.events.Event.{Event}
+use Rattle.c104_event.specs.declared.faults.EventFault.{EventFault}
+use Rattle.c104_link.specs.Buffers.{Incoming}
+use Rattle.c104_net.proofs.StartedRuns.{run_started}
+use Rattle.c104_net.proofs.PacketInvariant.{IsLabelled}
+use Rattle.c104_net.proofs.Promises.{each, promised, starts, IsStart}
+use Rattle.c104_net.proofs.RunOrigins.{still_steady}
+use Rattle.c104_net.proofs.RunSteps.{header_positive}
+use Rattle.c104_net.proofs.SentBytes.{AreBytesSent}
+use Rattle.c104_net.proofs.StandingRuns.{started_traced, quiet_map, run_steady}
+use Rattle.c104_net.proofs.StartMaps.{starts_are}
+use Rattle.c104_net.proofs.StepMaps.{apply_map}
+use Rattle.c104_net.proofs.TracedRuns.{token_of, traced_from}
+use Rattle.c104_net.proofs.WorkRounds.{rounds_rest}
+use Rattle.c104_net.specs.Balance.{IsSteady}
+use Rattle.c104_net.specs.Deliveries.{Promise}
+use Rattle.c104_net.specs.EventRuns.{Outcome, run_events, unless_fault}
+use Rattle.c104_net.specs.Network.{Network, network_apply, network_of}
+use Rattle.c104_net.specs.Nodes.{Node}
+use Rattle.c104_net.specs.Quiet.{IsQuiet, IsQuietNode}
+use Rattle.c104_net.specs.Rounds.{rounds}
+use Rattle.c104_net.specs.Runs.{IsDoneRun}
+use Rattle.c104_net.specs.Standstill.{IsStarted, IsAcyclicRun}
+use Rattle.c104_check.specs.ChannelDependencies.{IsRanking}
+use Rattle.c104_net.specs.Starts.{start_node}
+use Rattle.c104_net.specs.Traced.{traced_kind}
+use Rattle.c104_net.specs.TracedRuns.{map_incoming, map_input, map_network, map_node, map_outgoing}
+use Rattle.c104_net.specs.Unchanged.{IsUnchanged}
+use Rattle.c104_net.specs.Work.{header_held, incoming_work, input_work, level, link_work, node_work, sum_at, weigh, work}
+use Rattle.c104_net.specs.declared.starts.NodeStart.{NodeStart}
+use Rattle.c104_net.specs.declared.traced.Traced.{Traced}
+use Rattle.c104_switch.specs.Actions.{Reply}
+use Rattle.c104_switch.specs.Phases.{with_header}
+use Rattle.c104_switch.specs.Switch.{Input}
+use Rattle.c104_switch.specs.declared.phase.Phase.{Phase}
+use Rattle.c104_switch.specs.declared.phase.Phase.TheVariants.{Fresh, Head, Sinking, Stream, Want}
+use Rattle.c104_token.specs.Kinds.{plain_kind}
+use Rattle.c104_token.specs.declared.tokens.Token.{Token}
+use Rattle.std.proofs.Common.{Err, List, Ok, Result, Some, [], ap, get_or, length, map, refl, subst, suc, sym, ℕ, ◌+◌, ◌-◌, ◌*◌, ◌<◌, ◌∙◌, ◌∷◌, ◌≡◌}
+use Rattle.std.proofs.lemmas.List.{length-map}
+use Rattle.std.proofs.lemmas.List.Elements.{All-map}
+use Rattle.c104_net.specs.declared.node.NodeOf.TheVariants as node
+use Rattle.c104_describe.specs.declared.ports.Port.TheVariants as port
+
+-- the work doesn't read tokens
+module _ {A B : Type 0} (f : A → B) where
+  weigh_map : (a : ℕ) (xs : List A) → weigh a (map f xs) ≡ weigh a xs
+  weigh_map a [] = refl
+  weigh_map a (x ∷ xs) = ap (λ n. a + n) (weigh_map a xs)
+
+  held_map : (a : ℕ) (ph : Phase (List A)) → weigh a (header_held (with_header (map f) ph)) ≡ weigh a (header_held ph)
+  held_map a Fresh = refl
+  held_map a (Head b) = weigh_map a b
+  held_map a (Want b g) = weigh_map a b
+  held_map a (Stream o) = refl
+  held_map a Sinking = refl
+
+  sum_map : {X Y : Type 0} (u : X → Y) (v : ℕ → Y → ℕ) (w : ℕ → X → ℕ) → ((j : ℕ) (x : X) → v j (u x) ≡ w j x) → (j : ℕ) (xs : List X) → sum_at v j (map u xs) ≡ sum_at w j xs
+  sum_map u v w h j [] = refl
+  sum_map u v w h j (x ∷ xs) = rw (h j x, sum_map u v w h (suc j) xs) refl
+
+  module _ (plan : Plan) (rank : SwitchPort → ℕ) where
+    incoming_map : (far : ℕ) (b : Incoming A) → incoming_work plan rank far (map_incoming f b) ≡ incoming_work plan rank far b
+    incoming_map far b = rw (weigh_map (8 * far + 2) b.items, length-map b.items f) refl
+
+    input_map : (s l : ℕ) (p : Input A) → input_work plan rank s l (map_input f p) ≡ input_work plan rank s l p
+    input_map s l p = rw (incoming_map (level plan rank (Some (port.Switch s l))) p.buffer, held_map (8 * level plan rank (Some (port.Switch s l))) p.phase) refl
+
+    node_map : (k : ℕ) (n : Node A) → node_work plan rank k (map_node f n) ≡ node_work plan rank k n
+    node_map k (node.Switch S) = rw (
+      sum_map (map_input f) (input_work plan rank k) (input_work plan rank k) (input_map k) 0 S.inputs,
+      sum_map (map_outgoing f) (link_work plan rank k) (link_work plan rank k) (λ l q. weigh_map (8 * level plan rank (peer plan (port.Switch k l)) + 4) q.items) 0 S.outputs,
+    ) refl
+    node_map k (node.Terminal T) = rw (incoming_map 0 T.input, weigh_map (8 * level plan rank (peer plan (port.Terminal (k - length plan.switches))) + 4) T.output.items) refl
+
+    pub work_map : (nodes : List (Node A)) → work plan rank (map (map_node f) nodes) ≡ work plan rank nodes
+    work_map nodes = sum_map (map_node f) (node_work plan rank) (node_work plan rank) node_map 0 nodes
+
+-- a run of events over plain tokens is that over tokens that tell where they came from
+pub run_plain : (net : Network Traced) (es : List Event) → ◌≡◌ {A = Outcome (Network Token)} (run_events (network_apply plain_kind) (map_network token_of net) es) ((run_events (network_apply traced_kind) net es).0, map_network token_of (run_events (network_apply traced_kind) net es).1)
+run_plain net [] = refl
+run_plain net (e ∷ es) =
+    ap (λ (z : Result Reply EventFault × Network Token). unless_fault z.0 z.1 (λ n. run_events (network_apply plain_kind) n es)) (apply_map token_of traced_kind plain_kind (λ x. refl) (λ j b. refl) (λ t n j x. refl) net e)
+    ∙ on (network_apply traced_kind net e).0 (network_apply traced_kind net e).1 (run_plain (network_apply traced_kind net e).1 es)
+  where
+    on : (answer : Result Reply EventFault) (next : Network Traced) → ◌≡◌ {A = Outcome (Network Token)} (run_events (network_apply plain_kind) (map_network token_of next) es) ((run_events (network_apply traced_kind) next es).0, map_network token_of (run_events (network_apply traced_kind) next es).1) →
+        ◌≡◌ {A = Outcome (Network Token)} (unless_fault answer (map_network token_of next) (λ n. run_events (network_apply plain_kind) n es))
+        ((unless_fault answer next (λ n. run_events (network_apply traced_kind) n es)).0, map_network token_of (unless_fault answer next (λ n. run_events (network_apply traced_kind) n es)).1)
+    on (Ok r) next later = later
+    on (Err k) next later = refl
+
+-- from a traced run: after more rounds than there is work nothing stands anywhere, and all promises are kept, so that
+-- each packet with a whole header that has an owner was received by it
+pub rounds_deliver : (image : Image) (start mid ended : Network Traced) (events : List (Event × Reply)) (rank : SwitchPort → ℕ) (n : ℕ) → IsPlan start.plan → IsAccepted (routes_of start.plan image) → IsRanking (routes_of start.plan image) rank → IsStart image start → IsDoneRun traced_kind start events mid → IsUnchanged events → AreBytesSent events →
+    IsSteady mid → IsStarted mid → work start.plan rank mid.nodes < n → ◌≡◌ {A = Outcome (Network Traced)} (run_events (network_apply traced_kind) mid (rounds start.plan n)) (Ok tt, ended) → IsQuiet ended × Promise (routes_of start.plan image) ended
+rounds_deliver image start mid ended events rank n is_plan accepted falls is_start is_run all sent steady started few is =
+    let labelled : IsLabelled (routes_of start.plan image) = record { accepted = accepted; positive = header_positive start.plan image } in
+    let k = each start.plan image is_plan labelled start.nodes mid events is_run all sent (starts start.plan image is_plan labelled start.nodes is_start) in
+    let r = rounds_rest start.plan image is_plan labelled rank falls n k.0 ended k.2 (subst IsStarted (sym k.1) started) (subst IsSteady (sym k.1) steady)
+    (subst (λ (net : Network Traced). work start.plan rank net.nodes < n) (sym k.1) few)
+    (subst (λ net. ◌≡◌ {A = Outcome (Network Traced)} (run_events (network_apply traced_kind) net (rounds start.plan n)) (Ok tt, ended)) (sym k.1) is) in
+    (subst IsQuiet r.is r.quiet, subst (Promise (routes_of start.plan image)) r.is (promised start.plan image is_plan labelled r.nodes r.good))
+
+-- over plain tokens: after more rounds than there is work nothing stands anywhere
+pub rounds_end : (plan : Plan) (image : Image) (starts : List NodeStart) (events : List (Event × Reply)) (nodes : List (Node Token)) (ended : Network Token) (n : ℕ) → IsPlan plan → (is : IsAcyclicRun plan image starts events nodes) → AreBytesSent events → work plan is.acyclic.0 nodes < n →
+    ◌≡◌ {A = Outcome (Network Token)} (run_events (network_apply plain_kind) (network_of plan nodes) (rounds plan n)) (Ok tt, ended) → IsQuiet ended
+rounds_end plan image starts events nodes ended n is_plan is sent few end =
+    let rank : SwitchPort → ℕ = is.acyclic.0 in
+    let found = traced_from plan starts nodes events is.run in
+    let balance = run_steady traced_kind (network_of plan (map start_node starts)) (network_of plan found.0) events is_plan found.1.run (still_steady Token Traced plan starts is.steady) in
+    let started = run_started plain_kind (network_of plan (map start_node starts)) (network_of plan nodes) events is.run is.unchanged is.started in
+    let same : work plan is.acyclic.0 found.0 ≡ work plan is.acyclic.0 nodes = sym (work_map token_of plan is.acyclic.0 found.0) ∙ ap (work plan is.acyclic.0) found.1.plain in
+    let after = run_events (network_apply traced_kind) (network_of plan found.0) (rounds plan n) in
+    let both : ◌≡◌ {A = Outcome (Network Token)} (after.0, map_network token_of after.1) (Ok tt, ended) = sym (run_plain (network_of plan found.0) (rounds plan n)) ∙ ap (λ ns. run_events (network_apply plain_kind) (network_of plan ns) (rounds plan n)) found.1.plain ∙ end in
+    let told : after.0 ≡ Ok tt = ap (λ (z : Outcome (Network Token)). z.0) both in
+    let whole : ◌≡◌ {A = Outcome (Network Traced)} after (Ok tt, after.1) = ap (λ o. (o, after.1)) told in
+    let quiet = (rounds_deliver image (network_of plan (map start_node starts)) (network_of plan found.0) after.1 events is.acyclic.0 n is_plan is.accepted is.acyclic.1 (starts_are plan image starts is.set) found.1.run is.unchanged sent balance
+    (started_traced plan starts nodes events is_plan is.run found.0 found.1.plain started) (subst (λ k. k < n) (sym same) few) whole).0 in
+    let last : map_network token_of after.1 ≡ ended = ap (λ (z : Outcome (Network Token)). z.1) both in
+    subst IsQuiet last (All-map IsQuietNode (map_node token_of) after.1.nodes (λ k d inside. quiet_map token_of (get_or after.1.nodes k d) (quiet k d inside)))

@@ -1,0 +1,70 @@
+-- In a run in which nobody changes a network each node stays started.
+use Rattle.c104_control.specs.Reading.{read_command}
+use Rattle.c104_describe.specs.Plans.{Plan}
+use Rattle.c104_event.specs.declared.events.Event.{Event}
+use Rattle.c104_link.proofs.MadeSteps.{from_place_made, given}
+use Rattle.c104_link.specs.Steps.{step_at, yield_step_at}
+use Rattle.c104_net.proofs.CommandEvents.{SameSides, read_sides}
+use Rattle.c104_net.proofs.RunSteps.{done_step_is}
+use Rattle.c104_net.proofs.WorkEvents.{AreStarted, started_at, started_set, event_started}
+use Rattle.c104_net.specs.Network.{Network, network_of, network_step, terminal_place}
+use Rattle.c104_net.specs.Nodes.{Node, node_control, node_send}
+use Rattle.c104_net.specs.Runs.{IsDoneRun}
+use Rattle.c104_net.specs.Standstill.{IsStarted, IsStartedNode, IsStartedSwitch}
+use Rattle.c104_net.specs.Terminals.{terminal_send}
+use Rattle.c104_net.specs.Unchanged.{IsUnchanged, MayHappen}
+use Rattle.c104_switch.specs.Actions.{Reply}
+use Rattle.c104_switch.specs.Control.{switch_control}
+use Rattle.c104_switch.specs.Switch.{Switch}
+use Rattle.c104_token.specs.Kinds.{Kind}
+use Rattle.c104_token.specs.declared.packets.Packet.{Packet}
+use Rattle.std.proofs.Common.{List, Option, Some, [], ap, length, slice_get, slice_set, subst, sym, ℕ, ◌∙◌, ◌∷◌, ◌≡◌}
+use Rattle.std.proofs.lemmas.Option.{some_pair_parts}
+use Rattle.c104_event.specs.declared.events.Event.TheVariants as event
+use Rattle.c104_net.specs.declared.node.NodeOf.TheVariants as node
+use Rattle.c104_switch.specs.declared.actions.ReplyOf.TheVariants as reply
+
+module _ {A : Type 0} where
+  sides_started : (S T : Switch A) → SameSides S T → IsStartedSwitch S → IsStartedSwitch T
+  sides_started S T same a = record {
+    started = same.started a.started;
+    settings = ap length same.settings ∙ a.settings;
+    inputs = ap length same.inputs ∙ a.inputs;
+    outputs = ap length same.outputs ∙ a.outputs;
+    room = λ l p is. a.room l p (ap (λ ps. slice_get ps l) (sym same.inputs) ∙ is);
+  }
+
+  send_started : (kind : Kind A) (t : ℕ) (p : Packet) (n m : Node A) → node_send kind t p n ≡ Some m → IsStartedNode n → IsStartedNode m
+  send_started kind t p (node.Switch S) m e a = absurd (cc)
+  send_started kind t p (node.Terminal T) m e a = let d : node.Terminal (terminal_send kind t p T) ≡ m = cc in subst IsStartedNode d a
+
+module _ {A : Type 0} (kind : Kind A) (plan : Plan) (nodes : List (Node A)) (started : AreStarted nodes) where
+  step_started : (e : Event) (r : Reply) (net' : Network A) → MayHappen e r → network_step kind (network_of plan nodes) e ≡ Some (r, net') → IsStarted net'
+  step_started (event.Cross p) r net' may is = event_started kind plan nodes started (event.Cross p) r net' tt is
+  step_started (event.Credit p) r net' may is = event_started kind plan nodes started (event.Credit p) r net' tt is
+  step_started (event.Input s l word) r net' may is = event_started kind plan nodes started (event.Input s l word) r net' tt is
+  step_started (event.Claim s i o) r net' may is = event_started kind plan nodes started (event.Claim s i o) r net' tt is
+  step_started (event.Drain t) r net' may is = event_started kind plan nodes started (event.Drain t) r net' tt is
+  step_started (event.Send t p) r net' may is = given (step_at nodes (terminal_place plan t) (node_send kind t p)) _ (r, net') is (λ after ea e2.
+      (let all = started_at nodes (terminal_place plan t) (node_send kind t p) after ea (send_started kind t p) started in
+      let d : network_of plan after ≡ net' = (some_pair_parts reply.Done r (network_of plan after) net' e2).1 in subst IsStarted d all))
+  step_started (event.Control s bytes) r net' may is = given (yield_step_at nodes s (node_control bytes)) _ (r, net') is (λ v ev e2.
+      from_place_made nodes s (node_control bytes) v ev (λ n y en ey hv. by_node n y en ey v hv e2))
+    where
+      by_node : (n : Node A) (y : List ℕ × Node A) → slice_get nodes s ≡ Some n → node_control bytes n ≡ Some y → (v : List ℕ × List (Node A)) → ◌≡◌ {A = List ℕ × List (Node A)} (y.0, slice_set nodes s y.1) v → ◌≡◌ {A = Option (Reply × Network A)} (Some (reply.Control v.0, network_of plan v.1)) (Some (r, net')) → IsStarted net'
+      by_node (node.Terminal T) y en ey v hv e2 = absurd (cc)
+      by_node (node.Switch S) y en ey v hv e2 =
+          let parts = some_pair_parts (reply.Control v.0) r (network_of plan v.1) net' e2 in
+          let done = switch_control S bytes in
+          let dy : ◌≡◌ {A = List ℕ × Node A} (done.0, node.Switch done.1) y = cc in
+          let told : reply.Control done.0 ≡ r = ap (λ (z : List ℕ × Node A). reply.Control z.0) dy ∙ ap (λ (z : List ℕ × List (Node A)). reply.Control z.0) hv ∙ parts.0 in
+          let same = read_sides S (read_command bytes) may.0 (λ e. may.1 (sym told ∙ ap reply.Control e)) in
+          let one : IsStartedNode (node.Switch done.1) = sides_started S done.1 same (started s (node.Switch S) en) in
+          let dv : slice_set nodes s (node.Switch done.1) ≡ v.1 = ap (λ (w : List ℕ × Node A). slice_set nodes s w.1) dy ∙ ap (λ (w : List ℕ × List (Node A)). w.1) hv in
+          subst IsStarted parts.1 (subst AreStarted dv (started_set nodes s (node.Switch done.1) started one))
+
+-- each event of the run keeps it
+pub run_started : {A : Type 0} (kind : Kind A) (net ended : Network A) (events : List (Event × Reply)) → IsDoneRun kind net events ended → IsUnchanged events → IsStarted net → IsStarted ended
+run_started kind net ended [] is all started = subst IsStarted (sym is) started
+run_started {A} kind net ended (e ∷ events) is all started =
+    run_started kind is.0 ended events is.3 all.1 (step_started kind net.plan net.nodes started e.0 e.1 is.0 all.0 (done_step_is kind net is.0 e.0 e.1 is.1 is.2))

@@ -1,0 +1,330 @@
+-- Events of a round leave less work, and each switch started.
+use Rattle.c104_check.specs.declared.ports.SwitchPort.{SwitchPort}
+use Rattle.c104_describe.specs.Plans.{IsPlan, Plan}
+use Rattle.c104_describe.specs.Wiring.{peer}
+use Rattle.c104_describe.specs.declared.ports.Port.{Port}
+use Rattle.c104_event.specs.declared.events.Event.{Event}
+use Rattle.c104_link.proofs.MadeSteps.{at_place_made, from_place_made, given, length-at_place, place_after_set, required, with_place_made}
+use Rattle.c104_link.specs.Buffers.{Incoming, Outgoing, incoming_accept, incoming_grant, outgoing_credited, outgoing_emit, outgoing_put, without_first}
+use Rattle.c104_link.specs.Steps.{joint_step_at, step_at, yield_step_at}
+use Rattle.c104_net.proofs.BalanceWires.{peer_back}
+use Rattle.c104_net.proofs.LinkActs.{Matches, first_some, leave_same, credit_out_same}
+use Rattle.c104_net.proofs.PlanWires.{matches}
+use Rattle.c104_net.proofs.WorkSteps.{claim_work, credit_in_work, credit_out_work, drain_work, enter_work, far_of, input_set, leave_work, own, sum_set, turn_work}
+use Rattle.c104_net.specs.Balance.{AreInPlace, is_switch}
+use Rattle.c104_net.specs.Ends.{end_of}
+use Rattle.c104_net.specs.Network.{Network, network_of, network_step, terminal_place}
+use Rattle.c104_net.specs.Nodes.{Node, node_claim, node_credit_in, node_credit_out, node_drain, node_enter, node_input, node_leave}
+use Rattle.c104_net.specs.Standstill.{IsStarted, IsStartedNode, IsStartedSwitch}
+use Rattle.c104_net.specs.Terminals.{Terminal, terminal_credit_in, terminal_credit_out, terminal_drain, terminal_enter, terminal_leave}
+use Rattle.c104_net.specs.Wires.{nodes_credit, nodes_cross}
+use Rattle.c104_net.specs.Work.{level, node_work, work}
+use Rattle.c104_regs.specs.declared.settings.Settings.{Settings}
+use Rattle.c104_switch.specs.Actions.{Reply}
+use Rattle.c104_switch.specs.Claims.{input_claim, inputs_claim, put_header, streaming_input, switch_claim}
+use Rattle.c104_switch.specs.Group.{is_in_group}
+use Rattle.c104_switch.specs.Switch.{Input, Switch, input_accept, input_grant, is_owned, switch_credit_in, switch_credit_out, switch_enter, switch_leave, with_sides}
+use Rattle.c104_switch.specs.Turns.{header_turn, input_after_token, input_turn, phase_after_token, random_turn, switch_input, turn_by_phase}
+use Rattle.c104_switch.specs.declared.phase.Phase.{Phase}
+use Rattle.c104_switch.specs.declared.phase.Phase.TheVariants.{Fresh, Head, Sinking, Stream, Want}
+use Rattle.c104_token.specs.Kinds.{Kind}
+use Rattle.c104_token.specs.Tokens.{is_end}
+use Rattle.std.proofs.Common.{List, Option, Some, [], ap, arith, false, length, map, nat_le, nat_lt, not, refl, slice_get, slice_set, subst, sym, true, ℕ, ⊎_elim, ◌&&◌, ◌++◌, ◌+◌, ◌-◌, ◌<◌, ◌∙◌, ◌∷◌, ◌≡◌, ◌≤◌}
+use Rattle.std.proofs.lemmas.Bool.{cases_Bool}
+use Rattle.std.proofs.lemmas.List.{length-set}
+use Rattle.std.proofs.lemmas.Option.{some_pair_parts}
+use Rattle.c104_event.specs.declared.events.Event.TheVariants as event
+use Rattle.c104_net.specs.declared.node.NodeOf.TheVariants as node
+use Rattle.c104_describe.specs.declared.ports.Port.TheVariants as port
+use Rattle.c104_switch.specs.declared.actions.ReplyOf.TheVariants as reply
+
+-- an event of a round
+abbrev pub IsOfRound : Event → Type 0
+IsOfRound (event.Cross p) = Unit {0}
+IsOfRound (event.Credit p) = Unit {0}
+IsOfRound (event.Input s l word) = Unit {0}
+IsOfRound (event.Claim s i o) = Unit {0}
+IsOfRound (event.Drain t) = Unit {0}
+IsOfRound (event.Send t p) = ⊥
+IsOfRound (event.Control s bytes) = ⊥
+
+-- what each way of a packet goes down, and no input puts a random header
+pub record AreFalling {A : Type 0} (plan : Plan) (rank : SwitchPort → ℕ) (nodes : List (Node A)) : Type 0 where
+  pub plain : (s i : ℕ) (S : Switch A) (t : Settings) → slice_get nodes s ≡ Some (node.Switch S) → slice_get S.settings i ≡ Some t → t.randomize ≡ false
+  pub streams : (s i o : ℕ) (S : Switch A) (p : Input A) → slice_get nodes s ≡ Some (node.Switch S) → slice_get S.inputs i ≡ Some p → p.phase ≡ Stream o → far_of plan rank (port.Switch s o) + 1 ≤ own plan rank (port.Switch s i)
+  pub wants : (s i o g : ℕ) (S : Switch A) (p : Input A) (b : List A) → slice_get nodes s ≡ Some (node.Switch S) → slice_get S.inputs i ≡ Some p → p.phase ≡ Want b g → is_in_group S.settings g o ≡ true → (0 < length b) × (far_of plan rank (port.Switch s o) + 1 ≤ own plan rank (port.Switch s i))
+
+module _ {A : Type 0} (kind : Kind A) (plan : Plan) (is_plan : IsPlan plan) (rank : SwitchPort → ℕ) (nodes : List (Node A)) (placed : AreInPlace plan nodes) (falling : AreFalling plan rank nodes) where
+  node_set : (k : ℕ) (n m : Node A) (all : List (Node A)) → slice_get all k ≡ Some n → work plan rank (slice_set all k m) + node_work plan rank k n ≡ work plan rank all + node_work plan rank k m
+  node_set k n m all e = sum_set (node_work plan rank) all k n m e
+
+  abbrev pub Less : Network A → Type 0
+  Less net' = work plan rank net'.nodes + 1 ≤ work plan rank nodes
+
+  -- what is left where one node has less
+  one_less : (k : ℕ) (n m : Node A) → slice_get nodes k ≡ Some n → node_work plan rank k m + 1 ≤ node_work plan rank k n → work plan rank (slice_set nodes k m) + 1 ≤ work plan rank nodes
+  one_less k n m e less = let all = node_set k n m nodes e in omega (arith, all, less)
+
+  left_is : (told r : Reply) (after : List (Node A)) (net' : Network A) → ◌≡◌ {A = Option (Reply × Network A)} (Some (told, network_of plan after)) (Some (r, net')) → work plan rank after + 1 ≤ work plan rank nodes → Less net'
+  left_is told r after net' e less = let d : network_of plan after ≡ net' = (some_pair_parts told r (network_of plan after) net' e).1 in subst Less d less
+
+  cross_less : (P : Port) (r : Reply) (net' : Network A) → network_step kind (network_of plan nodes) (event.Cross P) ≡ Some (r, net') → Less net'
+  cross_less P r net' e =
+      given (peer plan P) _ (r, net') e (λ Q eQ e1.
+      given (nodes_cross nodes (end_of plan P) (end_of plan Q)) _ (r, net') e1 (λ c ec e2.
+      given (yield_step_at nodes (end_of plan P).node (node_leave (end_of plan P).link)) _ c ec (λ v ev f1.
+      given (step_at v.1 (end_of plan Q).node (node_enter v.0 (end_of plan Q).link)) _ c f1 (λ after ea f2.
+      from_place_made nodes (end_of plan P).node (node_leave (end_of plan P).link) v ev (λ n y en ey hv.
+      at_place_made v.1 (end_of plan Q).node (node_enter v.0 (end_of plan Q).link) after ea (λ m m' em em' hm.
+      (let near : Matches P n = matches plan is_plan nodes placed P Q n eQ en in
+      let mid : slice_set nodes (end_of plan P).node y.1 ≡ v.1 = ap (λ (z : A × List (Node A)). z.1) hv in
+      let kinds = (leave_same plan nodes P n y en near ey).2.kinds_are in
+      let kinds' : map is_switch v.1 ≡ map is_switch nodes = ap (map is_switch) (sym mid) ∙ kinds in
+      let far : Matches Q m = matches plan is_plan v.1 (kinds' ∙ placed) Q P m (peer_back plan is_plan P Q eQ) em in
+      let one = leave_work plan rank P n y near ey in
+      let two = enter_work plan rank Q v.0 m m' far em' in
+      let first = node_set (end_of plan P).node n y.1 nodes en in
+      let second = node_set (end_of plan Q).node m m' v.1 em in
+      let same : far_of plan rank P ≡ own plan rank Q = ap (level plan rank) eQ in
+      let a : work plan rank (slice_set nodes (end_of plan P).node y.1) ≡ work plan rank v.1 = ap (work plan rank) mid in
+      let b : work plan rank (slice_set v.1 (end_of plan Q).node m') ≡ work plan rank after = ap (work plan rank) hm in
+      let d : (v.0, after) ≡ c = cc in
+      left_is (reply.Token (kind.plain c.0)) r c.1 net' e2 (subst (λ (z : A × List (Node A)). work plan rank z.1 + 1 ≤ work plan rank nodes) d (omega (arith, one, two, first, second, same, a, b))))))))))
+
+  credit_less : (P : Port) (r : Reply) (net' : Network A) → network_step kind (network_of plan nodes) (event.Credit P) ≡ Some (r, net') → Less net'
+  credit_less P r net' e =
+      given (peer plan P) _ (r, net') e (λ Q eQ e1.
+      given (nodes_credit nodes (end_of plan P) (end_of plan Q)) _ (r, net') e1 (λ after ec e2.
+      given (step_at nodes (end_of plan P).node (node_credit_out (end_of plan P).link)) _ after ec (λ mid ev f1.
+      at_place_made nodes (end_of plan P).node (node_credit_out (end_of plan P).link) mid ev (λ n n' en en' hv.
+      at_place_made mid (end_of plan Q).node (node_credit_in (end_of plan Q).link) after f1 (λ m m' em em' hm.
+      (let near : Matches P n = matches plan is_plan nodes placed P Q n eQ en in
+      let kinds = (credit_out_same plan nodes P n n' en near en').kinds_are in
+      let kinds' : map is_switch mid ≡ map is_switch nodes = ap (map is_switch) (sym hv) ∙ kinds in
+      let far : Matches Q m = matches plan is_plan mid (kinds' ∙ placed) Q P m (peer_back plan is_plan P Q eQ) em in
+      let one = credit_out_work plan rank P n n' near en' in
+      let two = credit_in_work plan rank Q m m' far em' in
+      let first = node_set (end_of plan P).node n n' nodes en in
+      let second = node_set (end_of plan Q).node m m' mid em in
+      let a : work plan rank (slice_set nodes (end_of plan P).node n') ≡ work plan rank mid = ap (work plan rank) hv in
+      let b : work plan rank (slice_set mid (end_of plan Q).node m') ≡ work plan rank after = ap (work plan rank) hm in
+      left_is reply.Done r after net' e2 (omega (arith, one, two, first, second, a, b))))))))
+
+  drain_less : (t : ℕ) (r : Reply) (net' : Network A) → network_step kind (network_of plan nodes) (event.Drain t) ≡ Some (r, net') → Less net'
+  drain_less t r net' e =
+      given (yield_step_at nodes (terminal_place plan t) node_drain) _ (r, net') e (λ v ev e2.
+      from_place_made nodes (terminal_place plan t) node_drain v ev (λ n y en ey hv.
+      (let one = one_less (terminal_place plan t) n y.1 en (drain_work plan rank (terminal_place plan t) n y ey) in
+      left_is (reply.Token (kind.plain v.0)) r v.1 net' e2 (subst (λ (z : A × List (Node A)). work plan rank z.1 + 1 ≤ work plan rank nodes) hv one))))
+
+  input_less : (s i word : ℕ) (r : Reply) (net' : Network A) → network_step kind (network_of plan nodes) (event.Input s i word) ≡ Some (r, net') → Less net'
+  input_less s i word r net' e =
+      given (step_at nodes s (node_input kind i word)) _ (r, net') e (λ ended ea e2.
+      at_place_made nodes s (node_input kind i word) ended ea (λ n n' en en' hv. left_is reply.Done r ended net' e2 (subst (λ z. work plan rank z + 1 ≤ work plan rank nodes) hv (one_less s n n' en (by_node n n' en en')))))
+    where
+      by_node : (n n' : Node A) → slice_get nodes s ≡ Some n → node_input kind i word n ≡ Some n' → node_work plan rank s n' + 1 ≤ node_work plan rank s n
+      by_node (node.Terminal T) n' en en' = absurd (cc)
+      by_node (node.Switch S) n' en en' =
+          given (switch_input kind S i word) _ n' en' (λ S' eS' d0.
+          required S.started _ S' eS' (λ h f1.
+          given (slice_get S.settings i) _ S' f1 (λ t et f2.
+          given (joint_step_at S.inputs i (λ p. input_turn kind t word p S.outputs)) _ S' f2 (λ v ev f3.
+          with_place_made S.inputs i (λ p. input_turn kind t word p S.outputs) v ev (λ p y ep ey d1.
+          given (slice_get p.buffer.items 0) _ y ey (λ x ex f4.
+          (let less = turn_work plan rank kind s i S t word p x y p.phase (falling.plain s i S t en et) (λ o streams. falling.streams s i o S p en ep streams) refl (first_some p.buffer.items x ex) f4 in
+          let all = input_set plan rank s S i p y.0 ep in
+          let b : with_sides S v ≡ S' = cc in let c : node.Switch S' ≡ n' = cc in
+          let d : ◌≡◌ {A = Node A} (node.Switch (with_sides S (slice_set S.inputs i y.0, y.1))) n' = ap (λ (z : List (Input A) × List (Outgoing A)). node.Switch (with_sides S z)) d1 ∙ ap node.Switch b ∙ c in
+          subst (λ z. node_work plan rank s z + 1 ≤ node_work plan rank s (node.Switch S)) d (omega (arith, less, all)))))))))
+
+  claim_less : (s i o : ℕ) (r : Reply) (net' : Network A) → network_step kind (network_of plan nodes) (event.Claim s i o) ≡ Some (r, net') → Less net'
+  claim_less s i o r net' e =
+      given (step_at nodes s (node_claim i o)) _ (r, net') e (λ ended ea e2.
+      at_place_made nodes s (node_claim i o) ended ea (λ n n' en en' hv. left_is reply.Done r ended net' e2 (subst (λ z. work plan rank z + 1 ≤ work plan rank nodes) hv (one_less s n n' en (by_node n n' en en')))))
+    where
+      by_node : (n n' : Node A) → slice_get nodes s ≡ Some n → node_claim i o n ≡ Some n' → node_work plan rank s n' + 1 ≤ node_work plan rank s n
+      by_node (node.Terminal T) n' en en' = absurd (cc)
+      by_node (node.Switch S) n' en en' =
+          given (switch_claim S i o) _ n' en' (λ S' eS' d0.
+          required S.started _ S' eS' (λ h f1.
+          given (inputs_claim S.settings S.inputs S.outputs i o) _ S' f1 (λ v ev f3.
+          required (not (is_owned S.inputs o)) _ v ev (λ free f4.
+          with_place_made S.inputs i (λ p. input_claim S.settings p S.outputs o p.phase) v f4 (λ p y ep ey d1.
+          (let less = claim_work plan rank kind s i S o p y p.phase (λ b g wants group. falling.wants s i o g S p b en ep wants group) refl ey in
+          let all = input_set plan rank s S i p y.0 ep in
+          let b : with_sides S v ≡ S' = cc in let c : node.Switch S' ≡ n' = cc in
+          let d : ◌≡◌ {A = Node A} (node.Switch (with_sides S (slice_set S.inputs i y.0, y.1))) n' = ap (λ (z : List (Input A) × List (Outgoing A)). node.Switch (with_sides S z)) d1 ∙ ap node.Switch b ∙ c in
+          subst (λ z. node_work plan rank s z + 1 ≤ node_work plan rank s (node.Switch S)) d (omega (arith, less, all))))))))
+
+  -- each event of a round that is done leaves less
+  pub event_less : (e : Event) (r : Reply) (net' : Network A) → IsOfRound e → network_step kind (network_of plan nodes) e ≡ Some (r, net') → Less net'
+  event_less (event.Cross P) r net' of is = cross_less P r net' is
+  event_less (event.Credit P) r net' of is = credit_less P r net' is
+  event_less (event.Input s i word) r net' of is = input_less s i word r net' is
+  event_less (event.Claim s i o) r net' of is = claim_less s i o r net' is
+  event_less (event.Drain t) r net' of is = drain_less t r net' is
+  event_less (event.Send t p) r net' of is = absurd of
+  event_less (event.Control s bytes) r net' of is = absurd of
+
+-- what keeps a node started
+module _ {A : Type 0} where
+  module _ (S : Switch A) (started : IsStartedSwitch S) where
+    started_sides : (l : ℕ) (p r : Input A) (qs : List (Outgoing A)) → slice_get S.inputs l ≡ Some p → r.buffer.cap ≡ p.buffer.cap → length qs ≡ length S.outputs → IsStartedSwitch (with_sides S (slice_set S.inputs l r, qs))
+    started_sides l p r qs is same long = record {
+      started = started.started;
+      settings = started.settings;
+      inputs = length-set S.inputs l r ∙ started.inputs;
+      outputs = long ∙ started.outputs;
+      room = λ k q here. ⊎_elim
+          (λ (h : (l ≡ k) × (r ≡ q)). subst (λ (z : Input A). 8 ≤ z.buffer.cap) h.1 (subst (λ n. 8 ≤ n) (sym same) (started.room l p is)))
+          (λ h. started.room k q h)
+          (place_after_set S.inputs l k r q here);
+    }
+
+    started_outputs : (qs : List (Outgoing A)) → length qs ≡ length S.outputs → IsStartedSwitch (with_sides S (S.inputs, qs))
+    started_outputs qs long = record { started = started.started; settings = started.settings; inputs = started.inputs; outputs = long ∙ started.outputs; room = started.room }
+
+  accept_cap : (x : A) (b c : Incoming A) → incoming_accept x b ≡ Some c → c.cap ≡ b.cap
+  accept_cap x b c e = required (nat_lt 0 b.granted) _ c e (λ h f. (let d : record { cap = b.cap; items = b.items ++ x ∷ []; granted = b.granted - 1 } ≡ c = cc in sym (ap (λ (z : Incoming A). z.cap) d)))
+
+  grant_cap : (b c : Incoming A) → incoming_grant b ≡ Some c → c.cap ≡ b.cap
+  grant_cap b c e = required (nat_le (length b.items + b.granted + 8) b.cap) _ c e (λ h f. (let d : record { cap = b.cap; items = b.items; granted = b.granted + 8 } ≡ c = cc in sym (ap (λ (z : Incoming A). z.cap) d)))
+
+  enter_started : (x : A) (l : ℕ) (n m : Node A) → node_enter x l n ≡ Some m → IsStartedNode n → IsStartedNode m
+  enter_started x l (node.Switch S) m e a =
+      given (switch_enter S l x) _ m e (λ S' f1 f2. given (step_at S.inputs l (input_accept x)) _ S' f1 (λ ps g1 g2. at_place_made S.inputs l (input_accept x) ps g1 (λ p p' ep h1 h2. given (incoming_accept x p.buffer) _ p' h1 (λ b eb h3.
+      (let d : node.Switch (with_sides S (slice_set S.inputs l (record p { buffer = b }), S.outputs)) ≡ m = cc in
+      subst IsStartedNode d (started_sides S a l p (record p { buffer = b }) S.outputs ep (accept_cap x p.buffer b eb) refl))))))
+  enter_started x l (node.Terminal T) m e a =
+      given (terminal_enter x T) _ m e (λ T' f1 f2. given (incoming_accept x T.input) _ T' f1 (λ b eb g2.
+      (let d : node.Terminal (record T { input = b }) ≡ m = cc in subst IsStartedNode d (subst (λ n. 8 ≤ n) (sym (accept_cap x T.input b eb)) a))))
+
+  leave_started : (l : ℕ) (n : Node A) (r : A × Node A) → node_leave l n ≡ Some r → IsStartedNode n → IsStartedNode r.1
+  leave_started l (node.Switch S) r e a =
+      given (switch_leave S l) _ r e (λ v f1 f2. given (yield_step_at S.outputs l outgoing_emit) _ v f1 (λ qs g1 g2. from_place_made S.outputs l outgoing_emit qs g1 (λ q y eq ey h2.
+      (let d1 : ◌≡◌ {A = A × Switch A} (y.0, with_sides S (S.inputs, slice_set S.outputs l y.1)) v = ap (λ (z : A × List (Outgoing A)). (z.0, with_sides S (S.inputs, z.1))) h2 ∙ cc in
+      let d : ◌≡◌ {A = A × Node A} (y.0, node.Switch (with_sides S (S.inputs, slice_set S.outputs l y.1))) r = ap (λ (z : A × Switch A). (z.0, node.Switch z.1)) d1 ∙ cc in
+      subst (λ (z : A × Node A). IsStartedNode z.1) d (started_outputs S a (slice_set S.outputs l y.1) (length-set S.outputs l y.1))))))
+  leave_started l (node.Terminal T) r e a =
+      given (terminal_leave T) _ r e (λ v f1 f2. given (outgoing_emit T.output) _ v f1 (λ y ey g2.
+      (let d1 : ◌≡◌ {A = A × Terminal A} (y.0, record T { output = y.1 }) v = cc in
+      let d : ◌≡◌ {A = A × Node A} (y.0, node.Terminal (record T { output = y.1 })) r = ap (λ (z : A × Terminal A). (z.0, node.Terminal z.1)) d1 ∙ cc in
+      subst (λ (z : A × Node A). IsStartedNode z.1) d a)))
+
+  credit_out_started : (l : ℕ) (n m : Node A) → node_credit_out l n ≡ Some m → IsStartedNode n → IsStartedNode m
+  credit_out_started l (node.Switch S) m e a =
+      given (switch_credit_out S l) _ m e (λ S' f1 f2. required S.started _ S' f1 (λ started f0. given (step_at S.inputs l input_grant) _ S' f0 (λ ps g1 g2. at_place_made S.inputs l input_grant ps g1 (λ p p' ep h1 h2. given (incoming_grant p.buffer) _ p' h1 (λ b eb h3.
+      (let d : node.Switch (with_sides S (slice_set S.inputs l (record p { buffer = b }), S.outputs)) ≡ m = cc in
+      subst IsStartedNode d (started_sides S a l p (record p { buffer = b }) S.outputs ep (grant_cap p.buffer b eb) refl)))))))
+  credit_out_started l (node.Terminal T) m e a =
+      given (terminal_credit_out T) _ m e (λ T' f1 f2. given (incoming_grant T.input) _ T' f1 (λ b eb g2.
+      (let d : node.Terminal (record T { input = b }) ≡ m = cc in subst IsStartedNode d (subst (λ n. 8 ≤ n) (sym (grant_cap T.input b eb)) a))))
+
+  credit_in_started : (l : ℕ) (n m : Node A) → node_credit_in l n ≡ Some m → IsStartedNode n → IsStartedNode m
+  credit_in_started l (node.Switch S) m e a =
+      given (switch_credit_in S l) _ m e (λ S' f1 f2. given (step_at S.outputs l outgoing_credited) _ S' f1 (λ qs g1 g2. at_place_made S.outputs l outgoing_credited qs g1 (λ q q' eq h1 h2.
+      (let d : node.Switch (with_sides S (S.inputs, slice_set S.outputs l q')) ≡ m = cc in
+      subst IsStartedNode d (started_outputs S a (slice_set S.outputs l q') (length-set S.outputs l q'))))))
+  credit_in_started l (node.Terminal T) m e a =
+      given (terminal_credit_in T) _ m e (λ T' f1 f2. given (outgoing_credited T.output) _ T' f1 (λ q eq g2.
+      (let d : node.Terminal (record T { output = q }) ≡ m = cc in subst IsStartedNode d a)))
+
+  drain_started : (n : Node A) (r : A × Node A) → node_drain n ≡ Some r → IsStartedNode n → IsStartedNode r.1
+  drain_started (node.Switch S) r e a = absurd (cc)
+  drain_started (node.Terminal T) r e a = given (terminal_drain T) _ r e (λ z ez g1. given (slice_get T.input.items 0) _ z ez (λ x ex g2.
+      (let T' : Terminal A = record T { input = without_first T.input; arrived = T.arrived ++ x ∷ [] } in
+      let dz : ◌≡◌ {A = A × Terminal A} (x, T') z = cc in
+      let d : ◌≡◌ {A = A × Node A} (x, node.Terminal T') r = ap (λ (w : A × Terminal A). (w.0, node.Terminal w.1)) dz ∙ cc in
+      subst (λ (z : A × Node A). IsStartedNode z.1) d a)))
+
+  -- a turn and a claim keep the capacity of the buffer, and how many outputs there are
+  abbrev Keeps : Input A → List (Outgoing A) → Input A × List (Outgoing A) → Type 0
+  Keeps p qs r = (r.0.buffer.cap ≡ p.buffer.cap) × (length r.1 ≡ length qs)
+
+  header_cap : (kind : Kind A) (t : Settings) (p : Input A) (b : List A) (x : A) → (header_turn kind t p b x).buffer.cap ≡ p.buffer.cap
+  header_cap kind t p b x = ⊎_elim (λ (m : is_end (kind.plain x) ≡ true). rw m refl) (λ (m : is_end (kind.plain x) ≡ false). rw m refl) (cases_Bool (is_end (kind.plain x)))
+
+  turn_keeps : (kind : Kind A) (t : Settings) (word : ℕ) (p : Input A) (qs : List (Outgoing A)) (x : A) (ph : Phase (List A)) (r : Input A × List (Outgoing A)) → turn_by_phase kind t word p qs ph x ≡ Some r → Keeps p qs r
+  turn_keeps kind t word p qs x Fresh r e = ⊎_elim
+      (λ (h : (t.randomize && not (is_end (kind.plain x))) ≡ true). (let f : Some (random_turn kind t word p, qs) ≡ Some r = rw h at e in let d : (random_turn kind t word p, qs) ≡ r = cc in subst (Keeps p qs) d (refl, refl)))
+      (λ (h : (t.randomize && not (is_end (kind.plain x))) ≡ false). (let f : Some (header_turn kind t p [] x, qs) ≡ Some r = rw h at e in let d : (header_turn kind t p [] x, qs) ≡ r = cc in subst (Keeps p qs) d (header_cap kind t p [] x, refl)))
+      (cases_Bool (t.randomize && not (is_end (kind.plain x))))
+  turn_keeps kind t word p qs x (Head b) r e = let d : (header_turn kind t p b x, qs) ≡ r = cc in subst (Keeps p qs) d (header_cap kind t p b x, refl)
+  turn_keeps kind t word p qs x (Want b g) r e = absurd (cc)
+  turn_keeps kind t word p qs x (Stream o) r e = given (step_at qs o (outgoing_put x)) _ r e (λ rs f1 f2.
+      (let d : (input_after_token p (phase_after_token kind x (Stream o)) false false, rs) ≡ r = cc in subst (Keeps p qs) d (refl, length-at_place qs o (outgoing_put x) rs f1)))
+  turn_keeps kind t word p qs x Sinking r e = let d : (input_after_token p (phase_after_token kind x Sinking) false false, qs) ≡ r = cc in subst (Keeps p qs) d (refl, refl)
+
+  claim_keeps : (settings : List Settings) (p : Input A) (qs : List (Outgoing A)) (o : ℕ) (ph : Phase (List A)) (r : Input A × List (Outgoing A)) → input_claim settings p qs o ph ≡ Some r → Keeps p qs r
+  claim_keeps settings p qs o Fresh r e = absurd (cc)
+  claim_keeps settings p qs o (Head b) r e = absurd (cc)
+  claim_keeps settings p qs o (Stream q) r e = absurd (cc)
+  claim_keeps settings p qs o Sinking r e = absurd (cc)
+  claim_keeps settings p qs o (Want b g) r e = required (is_in_group settings g o) _ r e (λ group f0. given (slice_get settings o) _ r f0 (λ t et f1. given (step_at qs o (put_header t b)) _ r f1 (λ rs f2 f3.
+      (let d : (streaming_input p o, rs) ≡ r = cc in subst (Keeps p qs) d (refl, length-at_place qs o (put_header t b) rs f2)))))
+
+  input_started : (kind : Kind A) (i word : ℕ) (n m : Node A) → node_input kind i word n ≡ Some m → IsStartedNode n → IsStartedNode m
+  input_started kind i word (node.Terminal T) m e a = absurd (cc)
+  input_started kind i word (node.Switch S) m e a =
+      given (switch_input kind S i word) _ m e (λ S' eS' d0.
+      required S.started _ S' eS' (λ h f1.
+      given (slice_get S.settings i) _ S' f1 (λ t et f2.
+      given (joint_step_at S.inputs i (λ p. input_turn kind t word p S.outputs)) _ S' f2 (λ v ev f3.
+      with_place_made S.inputs i (λ p. input_turn kind t word p S.outputs) v ev (λ p y ep ey d1.
+      given (slice_get p.buffer.items 0) _ y ey (λ x ex f4.
+      (let k = turn_keeps kind t word p S.outputs x p.phase y f4 in
+      let b : with_sides S v ≡ S' = cc in let c : node.Switch S' ≡ m = cc in
+      let d : ◌≡◌ {A = Node A} (node.Switch (with_sides S (slice_set S.inputs i y.0, y.1))) m = ap (λ (z : List (Input A) × List (Outgoing A)). node.Switch (with_sides S z)) d1 ∙ ap node.Switch b ∙ c in
+      subst IsStartedNode d (started_sides S a i p y.0 y.1 ep k.0 k.1))))))))
+
+  claim_started : (i o : ℕ) (n m : Node A) → node_claim i o n ≡ Some m → IsStartedNode n → IsStartedNode m
+  claim_started i o (node.Terminal T) m e a = absurd (cc)
+  claim_started i o (node.Switch S) m e a =
+      given (switch_claim S i o) _ m e (λ S' eS' d0.
+      required S.started _ S' eS' (λ h f1.
+      given (inputs_claim S.settings S.inputs S.outputs i o) _ S' f1 (λ v ev f3.
+      required (not (is_owned S.inputs o)) _ v ev (λ free f4.
+      with_place_made S.inputs i (λ p. input_claim S.settings p S.outputs o p.phase) v f4 (λ p y ep ey d1.
+      (let k = claim_keeps S.settings p S.outputs o p.phase y ey in
+      let b : with_sides S v ≡ S' = cc in let c : node.Switch S' ≡ m = cc in
+      let d : ◌≡◌ {A = Node A} (node.Switch (with_sides S (slice_set S.inputs i y.0, y.1))) m = ap (λ (z : List (Input A) × List (Outgoing A)). node.Switch (with_sides S z)) d1 ∙ ap node.Switch b ∙ c in
+      subst IsStartedNode d (started_sides S a i p y.0 y.1 ep k.0 k.1)))))))
+
+  abbrev pub AreStarted : List (Node A) → Type 0
+  AreStarted nodes = (k : ℕ) (n : Node A) → slice_get nodes k ≡ Some n → IsStartedNode n
+
+  pub started_set : (nodes : List (Node A)) (k : ℕ) (m : Node A) → AreStarted nodes → IsStartedNode m → AreStarted (slice_set nodes k m)
+  started_set nodes k m all one j n e = ⊎_elim (λ (h : (k ≡ j) × (m ≡ n)). subst IsStartedNode h.1 one) (λ h. all j n h) (place_after_set nodes k j m n e)
+
+  pub started_at : (nodes : List (Node A)) (k : ℕ) (f : Node A → Option (Node A)) (after : List (Node A)) → step_at nodes k f ≡ Some after → ((n m : Node A) → f n ≡ Some m → IsStartedNode n → IsStartedNode m) → AreStarted nodes → AreStarted after
+  started_at nodes k f after e keeps all = at_place_made nodes k f after e (λ n m en em hv. subst AreStarted hv (started_set nodes k m all (keeps n m em (all k n en))))
+
+  started_from : (nodes : List (Node A)) (k : ℕ) (f : Node A → Option (A × Node A)) (v : A × List (Node A)) → yield_step_at nodes k f ≡ Some v → ((n : Node A) (r : A × Node A) → f n ≡ Some r → IsStartedNode n → IsStartedNode r.1) → AreStarted nodes → AreStarted v.1
+  started_from nodes k f v e keeps all = from_place_made nodes k f v e (λ n y en ey hv. subst (λ (z : A × List (Node A)). AreStarted z.1) hv (started_set nodes k y.1 all (keeps n y ey (all k n en))))
+
+module _ {A : Type 0} (kind : Kind A) (plan : Plan) (nodes : List (Node A)) (started : AreStarted nodes) where
+  started_left : (told r : Reply) (after : List (Node A)) (net' : Network A) → ◌≡◌ {A = Option (Reply × Network A)} (Some (told, network_of plan after)) (Some (r, net')) → AreStarted after → IsStarted net'
+  started_left told r after net' e all = let d : network_of plan after ≡ net' = (some_pair_parts told r (network_of plan after) net' e).1 in subst IsStarted d all
+
+  -- each event of a round keeps each node started
+  pub event_started : (e : Event) (r : Reply) (net' : Network A) → IsOfRound e → network_step kind (network_of plan nodes) e ≡ Some (r, net') → IsStarted net'
+  event_started (event.Cross P) r net' of e =
+      given (peer plan P) _ (r, net') e (λ Q eQ e1.
+      given (nodes_cross nodes (end_of plan P) (end_of plan Q)) _ (r, net') e1 (λ c ec e2.
+      given (yield_step_at nodes (end_of plan P).node (node_leave (end_of plan P).link)) _ c ec (λ v ev f1.
+      given (step_at v.1 (end_of plan Q).node (node_enter v.0 (end_of plan Q).link)) _ c f1 (λ after ea f2.
+      (let mid = started_from nodes (end_of plan P).node (node_leave (end_of plan P).link) v ev (leave_started (end_of plan P).link) started in
+      let last = started_at v.1 (end_of plan Q).node (node_enter v.0 (end_of plan Q).link) after ea (enter_started v.0 (end_of plan Q).link) mid in
+      let d : (v.0, after) ≡ c = cc in
+      started_left (reply.Token (kind.plain c.0)) r c.1 net' e2 (subst (λ (z : A × List (Node A)). AreStarted z.1) d last))))))
+  event_started (event.Credit P) r net' of e =
+      given (peer plan P) _ (r, net') e (λ Q eQ e1.
+      given (nodes_credit nodes (end_of plan P) (end_of plan Q)) _ (r, net') e1 (λ after ec e2.
+      given (step_at nodes (end_of plan P).node (node_credit_out (end_of plan P).link)) _ after ec (λ mid ev f1.
+      (let first = started_at nodes (end_of plan P).node (node_credit_out (end_of plan P).link) mid ev (credit_out_started (end_of plan P).link) started in
+      started_left reply.Done r after net' e2 (started_at mid (end_of plan Q).node (node_credit_in (end_of plan Q).link) after f1 (credit_in_started (end_of plan Q).link) first)))))
+  event_started (event.Input s i word) r net' of e = given (step_at nodes s (node_input kind i word)) _ (r, net') e (λ after ea e2. started_left reply.Done r after net' e2 (started_at nodes s (node_input kind i word) after ea (input_started kind i word) started))
+  event_started (event.Claim s i o) r net' of e = given (step_at nodes s (node_claim i o)) _ (r, net') e (λ after ea e2. started_left reply.Done r after net' e2 (started_at nodes s (node_claim i o) after ea (claim_started i o) started))
+  event_started (event.Drain t) r net' of e = given (yield_step_at nodes (terminal_place plan t) node_drain) _ (r, net') e (λ v ev e2. started_left (reply.Token (kind.plain v.0)) r v.1 net' e2 (started_from nodes (terminal_place plan t) node_drain v ev drain_started started))
+  event_started (event.Send t p) r net' of e = absurd of
+  event_started (event.Control s bytes) r net' of e = absurd of

@@ -1,0 +1,225 @@
+-- Rounds go on until the network is quiet: each round that does something leaves less work.
+use Rattle.c104_check.specs.Routes.{routes_of}
+use Rattle.c104_check.specs.Walks.{port_of}
+use Rattle.c104_check.specs.declared.ports.SwitchPort.{SwitchPort}
+use Rattle.c104_describe.proofs.RangeLists.{all_of_each, each_append}
+use Rattle.c104_describe.specs.PlanImage.{Image}
+use Rattle.c104_describe.specs.Plans.{IsPlan, Plan}
+use Rattle.c104_describe.specs.Wiring.{peer}
+use Rattle.c104_describe.specs.declared.ports.Port.{Port}
+use Rattle.c104_event.specs.declared.events.Event.{Event}
+use Rattle.c104_event.specs.declared.faults.EventFault.{EventFault}
+use Rattle.c104_net.proofs.BalanceEvents.{applied_steady}
+use Rattle.c104_net.proofs.LinkEvents.{world_of}
+use Rattle.c104_net.proofs.NodeViews.{phases}
+use Rattle.c104_net.proofs.PacketInvariant.{IsChosen, IsLabelled, Suits, group_at}
+use Rattle.c104_net.proofs.PlanWires.{wired}
+use Rattle.c104_net.proofs.Promises.{IsSettled, one, set_is}
+use Rattle.c104_net.proofs.RoundMembers.{still_of}
+use Rattle.c104_net.proofs.RoundRuns.{run_append, run_from, undone_leaves}
+use Rattle.c104_net.proofs.RunSteps.{done_step_is}
+use Rattle.c104_net.proofs.SentBytes.{SendsBytes}
+use Rattle.c104_net.proofs.StillPorts.{all_quiet, depends_on}
+use Rattle.c104_net.proofs.WorkEvents.{AreStarted, AreFalling, IsOfRound, event_started, event_less}
+use Rattle.c104_net.proofs.WorkSteps.{far_of, own}
+use Rattle.c104_net.specs.Balance.{IsSteady}
+use Rattle.c104_net.specs.EventRuns.{Outcome, run_events, unless_fault}
+use Rattle.c104_net.specs.Network.{Network, network_apply, network_of, network_step}
+use Rattle.c104_net.specs.Nodes.{Node}
+use Rattle.c104_net.specs.Quiet.{IsQuiet}
+use Rattle.c104_net.specs.Rounds.{all_claims, all_drains, claims_of, link_numbers, round, rounds, switch_claims, turn_at, wired_ports}
+use Rattle.c104_net.specs.Standstill.{IsStarted, IsUnready}
+use Rattle.c104_check.specs.ChannelDependencies.{IsRanking}
+use Rattle.c104_net.specs.Traced.{traced_kind}
+use Rattle.c104_net.specs.Unchanged.{MayHappen}
+use Rattle.c104_net.specs.Work.{work}
+use Rattle.c104_net.specs.declared.traced.Traced.{Traced}
+use Rattle.c104_regs.specs.declared.settings.Settings.{Settings}
+use Rattle.c104_switch.specs.Actions.{Reply, is_ready}
+use Rattle.c104_switch.specs.Group.{is_in_group}
+use Rattle.c104_switch.specs.Switch.{Input, Switch}
+use Rattle.c104_switch.specs.declared.phase.Phase.TheVariants.{Stream, Want}
+use Rattle.std.specs.List.{AllByRecursion, flat_map, range_with_len}
+use Rattle.std.proofs.Common.{Bool, Err, List, Ok, Result, Some, [], ap, arith, false, inl, inr, length, map, refl, slice_get, subst, suc, sym, true, zero, ℕ, ⊎_elim, ◌++◌, ◌+◌, ◌<◌, ◌∙◌, ◌∷◌, ◌≡◌, ◌≤◌, ◌⊎◌}
+use Rattle.c104_event.specs.declared.events.Event.TheVariants as event
+use Rattle.c104_net.specs.declared.node.NodeOf.TheVariants as node
+use Rattle.c104_describe.specs.declared.ports.Port.TheVariants as port
+use Rattle.c104_switch.specs.declared.actions.ReplyOf.TheVariants as reply
+
+-- all events of a round are events of a round
+module _ {X Y : Type 0} (P : Y → Type 0) where
+  each_map : (f : X → Y) → ((x : X) → P (f x)) → (xs : List X) → AllByRecursion P (map f xs)
+  each_map f h [] = tt
+  each_map f h (x ∷ xs) = (h x, each_map f h xs)
+
+  each_flat : (f : X → List Y) → ((x : X) → AllByRecursion P (f x)) → (xs : List X) → AllByRecursion P (flat_map f xs)
+  each_flat f h [] = tt
+  each_flat f h (x ∷ xs) = each_append P (f x) (flat_map f xs) (h x) (each_flat f h xs)
+
+turns_of : (p : Port) → AllByRecursion IsOfRound (turn_at p)
+turns_of (port.Switch s l) = (tt, tt)
+turns_of (port.Terminal t) = tt
+
+of_round : (plan : Plan) → AllByRecursion IsOfRound (round plan)
+of_round plan =
+    let credits = each_map IsOfRound event.Credit (λ p. tt) (wired_ports plan) in
+    let crosses = each_map IsOfRound event.Cross (λ p. tt) (wired_ports plan) in
+    let turns = each_flat IsOfRound turn_at turns_of (wired_ports plan) in
+    let claims = each_flat IsOfRound switch_claims (λ s. each_flat IsOfRound (claims_of s) (λ i. each_map IsOfRound (event.Claim s i) (λ o. tt) link_numbers) link_numbers) (range_with_len 0 (length plan.switches)) in
+    let drains = each_map IsOfRound event.Drain (λ t. tt) (range_with_len 0 (length plan.terminals)) in
+    let a : List Event = map event.Credit (wired_ports plan) in
+    let b : List Event = map event.Cross (wired_ports plan) in
+    let c : List Event = flat_map turn_at (wired_ports plan) in
+    let d : List Event = all_claims (length plan.switches) in
+    let e : List Event = all_drains (length plan.terminals) in
+    each_append IsOfRound (a ++ b ++ c ++ d) e (each_append IsOfRound (a ++ b ++ c) d (each_append IsOfRound (a ++ b) c (each_append IsOfRound a b credits crosses) turns) claims) drains
+
+may_happen : (e : Event) (r : Reply) → IsOfRound e → MayHappen e r
+may_happen (event.Cross p) r of = tt
+may_happen (event.Credit p) r of = tt
+may_happen (event.Input s l word) r of = tt
+may_happen (event.Claim s i o) r of = tt
+may_happen (event.Drain t) r of = tt
+may_happen (event.Send t p) r of = tt
+may_happen (event.Control s bytes) r of = absurd of
+
+sends_none : (e : Event) → IsOfRound e → SendsBytes e
+sends_none (event.Cross p) of = tt
+sends_none (event.Credit p) of = tt
+sends_none (event.Input s l word) of = tt
+sends_none (event.Claim s i o) of = tt
+sends_none (event.Drain t) of = tt
+sends_none (event.Send t p) of = absurd of
+sends_none (event.Control s bytes) of = absurd of
+
+not_ready : (r : Reply) → is_ready r ≡ false → r ≡ reply.NotReady
+not_ready reply.Done is = absurd (cc is)
+not_ready reply.NotReady is = refl
+not_ready (reply.Token x) is = absurd (cc is)
+not_ready (reply.Control bytes) is = absurd (cc is)
+
+module _ (plan : Plan) (image : Image) (is_plan : IsPlan plan) (labelled : IsLabelled (routes_of plan image)) (rank : SwitchPort → ℕ) (falls : IsRanking (routes_of plan image) rank) where
+  goes_down : (s i l o : ℕ) (R : Port) → IsChosen (routes_of plan image) (port.Switch s i) l → group_at (routes_of plan image) (port.Switch s i) l o ≡ true → peer plan (port.Switch s o) ≡ Some R → far_of plan rank (port.Switch s o) + 1 ≤ own plan rank (port.Switch s i)
+  goes_down s i l o (port.Terminal t) chosen group wire = rw wire (omega arith)
+  goes_down s i l o (port.Switch s' i') chosen group wire =
+      let r = falls (port_of s i) (port_of s' i') (depends_on (routes_of plan image) (wired plan is_plan) s i l o s' i' chosen group wire) in
+      rw wire (omega (arith, r))
+
+  falling : (nodes : List (Node Traced)) → IsSettled plan image is_plan labelled nodes → AreFalling plan rank nodes
+  falling nodes good = record { plain = plain; streams = streams; wants = wants }
+    where
+      plain : (s i : ℕ) (S : Switch Traced) (t : Settings) → slice_get nodes s ≡ Some (node.Switch S) → slice_get S.settings i ≡ Some t → t.randomize ≡ false
+      plain s i S t here set = labelled.accepted.none_random (port_of s i) t (ap (λ l. slice_get l i) (sym (set_is plan image is_plan labelled nodes good.set s S here)) ∙ set)
+
+      streams : (s i o : ℕ) (S : Switch Traced) (p : Input Traced) → slice_get nodes s ≡ Some (node.Switch S) → slice_get S.inputs i ≡ Some p → p.phase ≡ Stream o → far_of plan rank (port.Switch s o) + 1 ≤ own plan rank (port.Switch s i)
+      streams s i o S p here input e =
+          let phase : phases plan nodes (port.Switch s i) ≡ Stream o = rw (here, input) e in
+          let u : Suits (routes_of plan image) (world_of plan image nodes).book good.holds.0 (port.Switch s i) (Stream o) = rw phase at (good.holds.1.suits (port.Switch s i)) in
+          goes_down s i u.4 o u.1 u.5 u.6 u.2
+
+      wants : (s i o g : ℕ) (S : Switch Traced) (p : Input Traced) (b : List Traced) → slice_get nodes s ≡ Some (node.Switch S) → slice_get S.inputs i ≡ Some p → p.phase ≡ Want b g → is_in_group S.settings g o ≡ true → (0 < length b) × (far_of plan rank (port.Switch s o) + 1 ≤ own plan rank (port.Switch s i))
+      wants s i o g S p b here input e group =
+          let phase : phases plan nodes (port.Switch s i) ≡ Want b g = rw (here, input) e in
+          let u : Suits (routes_of plan image) (world_of plan image nodes).book good.holds.0 (port.Switch s i) (Want b g) = rw phase at (good.holds.1.suits (port.Switch s i)) in
+          let among : group_at (routes_of plan image) (port.Switch s i) g o ≡ true = ap (λ l. is_in_group l g o) (sym (set_is plan image is_plan labelled nodes good.set s S here)) ∙ group in
+          let out = u.2 o among in
+          (omega (arith, u.3, labelled.positive), goes_down s i g o out.0 u.4 among out.1)
+
+  -- what a run of such events leaves: less work, or all as it was, where none of them was ready
+  record Goes (nodes : List (Node Traced)) (es : List Event) (ended : Network Traced) : Type 0 where
+    nodes' : List (Node Traced)
+    is : network_of plan nodes' ≡ ended
+    good : IsSettled plan image is_plan labelled nodes'
+    started : AreStarted nodes'
+    steady : IsSteady (network_of plan nodes')
+    less : (work plan rank nodes' + 1 ≤ work plan rank nodes) ⊎ ((nodes' ≡ nodes) × AllByRecursion (IsUnready traced_kind (network_of plan nodes)) es)
+
+  abbrev pub Run : Network Traced → List Event → Network Traced → Type 0
+  Run net es ended = ◌≡◌ {A = Outcome (Network Traced)} (run_events (network_apply traced_kind) net es) (Ok tt, ended)
+
+  goes_on : (nodes : List (Node Traced)) (e : Event) (es : List Event) (ended : Network Traced) → IsOfRound e → IsSettled plan image is_plan labelled nodes → AreStarted nodes → IsSteady (network_of plan nodes) →
+      ((next : List (Node Traced)) → IsSettled plan image is_plan labelled next → AreStarted next → IsSteady (network_of plan next) → Run (network_of plan next) es ended → Goes next es ended) →
+      (answer : Result Reply EventFault) (next : Network Traced) → ◌≡◌ {A = Result Reply EventFault × Network Traced} (answer, next) (network_apply traced_kind (network_of plan nodes) e) →
+      ◌≡◌ {A = Outcome (Network Traced)} (unless_fault answer next (λ n. run_events (network_apply traced_kind) n es)) (Ok tt, ended) → Goes nodes (e ∷ es) ended
+  goes_on nodes e es ended of good started steady later (Err f) next due is = let told : ◌≡◌ {A = Result (Unit {0}) EventFault} (Err f) (Ok tt) = ap (λ (z : Outcome (Network Traced)). z.0) is in absurd (cc)
+  goes_on nodes e es ended of good started steady later (Ok r) next due is = by_ready (is_ready r) refl
+    where
+      by_ready : (b : Bool) → is_ready r ≡ b → Goes nodes (e ∷ es) ended
+      by_ready false k =
+          let stays : next ≡ network_of plan nodes = undone_leaves traced_kind (network_of plan nodes) next e r k (inl due) in
+          let unready : IsUnready traced_kind (network_of plan nodes) e = sym (ap (λ (z : Result Reply EventFault × Network Traced). z.0) due) ∙ ap Ok (not_ready r k) in
+          let g = later nodes good started steady (subst (λ n. Run n es ended) stays is) in
+          record {
+            nodes' = g.nodes';
+            is = g.is;
+            good = g.good;
+            started = g.started;
+            steady = g.steady;
+            less = ⊎_elim (λ (h : work plan rank g.nodes' + 1 ≤ work plan rank nodes). inl h) (λ (h : (g.nodes' ≡ nodes) × AllByRecursion (IsUnready traced_kind (network_of plan nodes)) es). inr (h.0, (unready, h.1))) g.less;
+          }
+      by_ready true k =
+          let made : network_step traced_kind (network_of plan nodes) e ≡ Some (r, next) = done_step_is traced_kind (network_of plan nodes) next e r due k in
+          let n1 = one plan image is_plan labelled nodes next e r (may_happen e r of) (sends_none e of) made good in
+          let started1 : AreStarted n1.0 = subst IsStarted (sym n1.1) (event_started traced_kind plan nodes started e r next of made) in
+          let steady1 : IsSteady (network_of plan n1.0) = subst IsSteady (sym n1.1) (applied_steady traced_kind plan is_plan nodes steady e (Ok r) next (inl due)) in
+          let less1 : work plan rank n1.0 + 1 ≤ work plan rank nodes = subst (λ (n : Network Traced). work plan rank n.nodes + 1 ≤ work plan rank nodes) (sym n1.1) (event_less traced_kind plan is_plan rank nodes good.placed (falling nodes good) e r next of made) in
+          let g = later n1.0 n1.2 started1 steady1 (subst (λ n. Run n es ended) (sym n1.1) is) in
+          record {
+            nodes' = g.nodes';
+            is = g.is;
+            good = g.good;
+            started = g.started;
+            steady = g.steady;
+            less = inl (⊎_elim
+                (λ (h : work plan rank g.nodes' + 1 ≤ work plan rank n1.0). omega (arith, h, less1))
+                (λ (h : (g.nodes' ≡ n1.0) × AllByRecursion (IsUnready traced_kind (network_of plan n1.0)) es). let same : work plan rank g.nodes' ≡ work plan rank n1.0 = ap (work plan rank) h.0 in omega (arith, same, less1))
+                g.less);
+          }
+
+  goes : (es : List Event) (nodes : List (Node Traced)) (ended : Network Traced) → AllByRecursion IsOfRound es → IsSettled plan image is_plan labelled nodes → AreStarted nodes → IsSteady (network_of plan nodes) → Run (network_of plan nodes) es ended → Goes nodes es ended
+  goes [] nodes ended of good started steady is = record { nodes' = nodes; is = ap (λ (z : Outcome (Network Traced)). z.1) is; good = good; started = started; steady = steady; less = inr (refl, tt) }
+  goes (e ∷ es) nodes ended of good started steady is = goes_on nodes e es ended of.0 good started steady (λ next. goes es next ended of.1) (network_apply traced_kind (network_of plan nodes) e).0 (network_apply traced_kind (network_of plan nodes) e).1 refl is
+
+  -- a round that leaves no less work leaves all as it was, and finds it quiet
+  round_quiet : (nodes : List (Node Traced)) → IsSettled plan image is_plan labelled nodes → AreStarted nodes → IsSteady (network_of plan nodes) → AllByRecursion (IsUnready traced_kind (network_of plan nodes)) (round plan) → IsQuiet (network_of plan nodes)
+  round_quiet nodes good started steady all = all_quiet plan image is_plan labelled nodes good steady started (still_of traced_kind (network_of plan nodes) is_plan (all_of_each (IsUnready traced_kind (network_of plan nodes)) (round plan) all)) rank falls
+
+  -- a round that changes nothing changes nothing again
+  stays : (net : Network Traced) → Run net (round plan) net → (n : ℕ) → Run net (rounds plan n) net
+  stays net is zero = refl
+  stays net is (suc n) = run_from (network_apply traced_kind) net net (round plan) (rounds plan n) is ∙ stays net is n
+
+  -- a network in which all is settled and quiet
+  pub record IsAtRest (ended : Network Traced) : Type 0 where
+    pub nodes : List (Node Traced)
+    pub is : network_of plan nodes ≡ ended
+    pub good : IsSettled plan image is_plan labelled nodes
+    pub quiet : IsQuiet (network_of plan nodes)
+
+  abbrev pub Rest : ℕ → Type 0
+  Rest n = (nodes : List (Node Traced)) (ended : Network Traced) → IsSettled plan image is_plan labelled nodes → AreStarted nodes → IsSteady (network_of plan nodes) → work plan rank nodes < n → Run (network_of plan nodes) (rounds plan n) ended → IsAtRest ended
+
+  one_more : (n : ℕ) → Rest n → Rest (suc n)
+  one_more n later nodes ended good started steady few is =
+      by_first (run_events (network_apply traced_kind) (network_of plan nodes) (round plan)).0 (run_events (network_apply traced_kind) (network_of plan nodes) (round plan)).1 refl
+      (sym (run_append (network_apply traced_kind) (round plan) (rounds plan n) (network_of plan nodes)) ∙ is)
+    where
+      by_first : (answer : Result (Unit {0}) EventFault) (mid : Network Traced) → ◌≡◌ {A = Outcome (Network Traced)} (run_events (network_apply traced_kind) (network_of plan nodes) (round plan)) (answer, mid) →
+          ◌≡◌ {A = Outcome (Network Traced)} (unless_fault answer mid (λ next. run_events (network_apply traced_kind) next (rounds plan n))) (Ok tt, ended) → IsAtRest ended
+      by_first (Err f) mid first rest = let told : ◌≡◌ {A = Result (Unit {0}) EventFault} (Err f) (Ok tt) = ap (λ (z : Outcome (Network Traced)). z.0) rest in absurd (cc)
+      by_first (Ok u) mid first rest =
+          let g = goes (round plan) nodes mid (of_round plan) good started steady first in
+          ⊎_elim
+          (λ (h : work plan rank g.nodes' + 1 ≤ work plan rank nodes). later g.nodes' ended g.good g.started g.steady (omega (arith, h, few)) (subst (λ net. Run net (rounds plan n) ended) (sym g.is) rest))
+          (λ (h : (g.nodes' ≡ nodes) × AllByRecursion (IsUnready traced_kind (network_of plan nodes)) (round plan)).
+          let same : mid ≡ network_of plan nodes = sym g.is ∙ ap (network_of plan) h.0 in
+          let again : Run (network_of plan nodes) (round plan) (network_of plan nodes) = subst (λ net. Run (network_of plan nodes) (round plan) net) same first in
+          let last : Run (network_of plan nodes) (rounds plan n) ended = subst (λ net. Run net (rounds plan n) ended) same rest in
+          let end : network_of plan nodes ≡ ended = ap (λ (z : Outcome (Network Traced)). z.1) (sym (stays (network_of plan nodes) again n) ∙ last) in
+          record { nodes = nodes; is = end; good = good; quiet = round_quiet nodes good started steady h.1 })
+          g.less
+
+  -- more rounds than there is work leave the network quiet
+  pub rounds_rest : (n : ℕ) → Rest n
+  rounds_rest zero = λ nodes ended good started steady few is. absurd (omega (arith, few))
+  rounds_rest (suc n) = one_more n (rounds_rest n)

@@ -1,0 +1,101 @@
+-- What is so of a network that is accepted, that nobody changed, and whose channels don't depend on one another in a
+-- cycle: it has no deadlock.
+--     IsAcyclicNet image net      such a network, with its record
+--     NothingDone net      no event of a round is done
+--     IsFreeOfDeadlock net      what follows
+--     EndsWithoutDeadlock run      the same of a finished run
+use Rattle.std.specs.Prelude.{ℕ, ◌+◌, ◌*◌, ◌≡◌, ◌<◌, ◌≤◌, ◌⊎◌, All, false, true, List, Some, Ok, Err, map, slice_get}
+use Rattle.c104_check.specs.ChannelDependencies.{IsAcyclic, IsRanking}
+use Rattle.c104_check.specs.Routes.{IsAccepted, Routes, routes_of}
+use Rattle.c104_check.specs.declared.ports.SwitchPort.{SwitchPort}
+use Rattle.c104_describe.specs.PlanImage.{Fits, Image}
+use Rattle.c104_event.specs.declared.events.Event.{Event}
+use Rattle.c104_event.specs.declared.events.Event.TheVariants as event
+use Rattle.c104_event.specs.declared.faults.EventFault.TheVariants as fault
+use Rattle.c104_net.specs.declared.acts.Entry.{Entry}
+use Rattle.c104_net.specs.Deliveries.{Promise}
+use Rattle.c104_net.specs.Finished.{network_finish}
+use Rattle.c104_net.specs.FinishedRecords.{FinishedRecord}
+use Rattle.c104_net.specs.NetRecords.{NetRecord, is_done, is_trace_full}
+use Rattle.c104_net.specs.Network.{network_of}
+use Rattle.c104_net.specs.Nodes.{Node}
+use Rattle.c104_net.specs.Quiet.{IsQuiet}
+use Rattle.c104_net.specs.RecordedRuns.{RecordsRounds, record_apply}
+use Rattle.c104_net.specs.Rounds.{round}
+use Rattle.c104_net.specs.Runs.{IsDoneRun, IsRunRecord}
+use Rattle.c104_net.specs.Standstill.{IsDeadlocked, IsStartedStart, StandsStill}
+use Rattle.c104_net.specs.Starts.{start_node}
+use Rattle.c104_net.specs.Traced.{Traced, traced_kind}
+use Rattle.c104_net.specs.TracedRuns.{map_node}
+use Rattle.c104_net.specs.Unchanged.{AreStartsOf, IsUnchanged}
+use Rattle.c104_net.specs.Work.{most_weight, room_held, tokens_held, work, work_bound}
+use Rattle.c104_switch.specs.Actions.{Reply}
+use Rattle.c104_token.specs.Kinds.{plain_kind}
+use Rattle.c104_token.specs.declared.tokens.Token.{Token}
+
+-- A network with its record whose labels the check accepts, and whose channels don't depend on one another in a cycle:
+-- its run began with the image's settings and with every switch started, and nobody changed the network since.
+pub record IsAcyclicNet (image : Image) (net : NetRecord) : Type 0 where
+  pub fits : Fits image net.network.plan
+  pub accepted : IsAccepted (routes_of net.network.plan image)
+  pub acyclic : IsAcyclic (routes_of net.network.plan image)
+  pub set : AreStartsOf net.network.plan image net.starts
+  pub started : All IsStartedStart net.starts
+  -- whichever events the traces tell
+  pub unchanged : (events : List (Event × Reply)) → IsRunRecord plain_kind net.network.plan (map start_node net.starts) net.network.nodes net.traces net.count events → IsUnchanged events
+
+-- an event isn't done: it is answered with NotReady, or refused
+abbrev pub IsUndone : NetRecord → Event → Type 0
+IsUndone net e = is_done (record_apply net e).0 ≡ false
+
+-- no event of a round is done
+abbrev pub NothingDone : NetRecord → Type 0
+NothingDone net = All (IsUndone net) (round net.network.plan)
+
+-- a terminal refuses a token, since it keeps all that arrive and has no room for more
+abbrev pub HasFullInbox : NetRecord → Type 0
+HasFullInbox net = (t : ℕ) × ((record_apply net (event.Drain t)).0 ≡ Err fault.InboxFull)
+
+-- the trace of some node may have no further entry
+abbrev pub HasFullTrace : NetRecord → Type 0
+HasFullTrace net = (k : ℕ) × (trace : List Entry) × (slice_get net.traces k ≡ Some trace) × (is_trace_full trace ≡ true)
+
+-- nothing stands anywhere, and each packet that was sent with a whole header that has an owner was received by it: the
+-- run was one of tokens that tell where they came from, and its end keeps the promise
+pub record IsAllDelivered (routes : Routes) (net : NetRecord) : Type 0 where
+  pub quiet : IsQuiet net.network
+  pub events : List (Event × Reply)
+  pub traced : List (Node Traced)
+  pub run : IsDoneRun traced_kind (network_of net.network.plan (map start_node net.starts)) events (network_of net.network.plan traced)
+  pub plain : map (map_node (λ (x : Traced). x.token)) traced ≡ net.network.nodes
+  pub promise : Promise routes (network_of net.network.plan traced)
+
+-- after so many rounds that no event refused, all is delivered
+abbrev pub RoundsDeliver : Routes → NetRecord → ℕ → Type 0
+RoundsDeliver routes net n = (after : NetRecord) → RecordsRounds net n (Ok tt) after → IsAllDelivered routes after
+
+-- such a network has no deadlock
+pub record HasNoDeadlock (image : Image) (net : NetRecord) : Type 0 where
+  -- where no event of a round is done, the network is quiet, or waits for its user: an inbox or a trace is full
+  pub no_deadlock : NothingDone net → IsQuiet net.network ⊎ (HasFullInbox net ⊎ HasFullTrace net)
+  -- where each is answered with NotReady, it is quiet
+  pub never : IsDeadlocked plain_kind net.network → ⊥
+  pub stands_quiet : StandsStill plain_kind net.network → IsQuiet net.network
+  -- more rounds than work, by any ranks that fall along the dependencies, deliver all
+  pub rounds_deliver : (rank : SwitchPort → ℕ) → IsRanking (routes_of net.network.plan image) rank → (n : ℕ) → work net.network.plan rank net.network.nodes < n → RoundsDeliver (routes_of net.network.plan image) net n
+  -- and so do more rounds than the bound of work
+  pub rounds_suffice : (n : ℕ) → work_bound net.network.plan net.network.nodes < n → RoundsDeliver (routes_of net.network.plan image) net n
+  -- which is at most so much for each token, and the room that buffers could still grant
+  pub bounded : work_bound net.network.plan net.network.nodes ≤ tokens_held net.network.nodes * most_weight net.network.plan + room_held net.network.nodes
+
+-- what is so of every network with its record
+abbrev pub IsFreeOfDeadlock : NetRecord → Type 0
+IsFreeOfDeadlock net = (image : Image) → IsAcyclicNet image net → HasNoDeadlock image net
+
+-- the same of a run that is finished: of the events that its traces tell, and the nodes at its end
+pub record EndsWithoutDeadlock (run : FinishedRecord) : Type 0 where
+  pub events : List (Event × Reply)
+  pub nodes : List (Node Token)
+  pub told : IsRunRecord plain_kind run.finished.plan (map start_node run.starts) nodes run.traces run.count events
+  pub ended : run.finished ≡ network_finish (network_of run.finished.plan nodes)
+  pub stands_quiet : (image : Image) → IsAccepted (routes_of run.finished.plan image) → IsAcyclic (routes_of run.finished.plan image) → AreStartsOf run.finished.plan image run.starts → All IsStartedStart run.starts → IsUnchanged events → StandsStill plain_kind (network_of run.finished.plan nodes) → IsQuiet (network_of run.finished.plan nodes)
