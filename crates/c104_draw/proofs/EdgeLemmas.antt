@@ -6,14 +6,8 @@ use Rattle.std.specs.List.{position_from}
 use Rattle.c104_describe.specs.declared.ports.Port.{Port}
 use Rattle.c104_describe.specs.declared.ports.Port.TheVariants as port
 use Rattle.c104_describe.specs.PlanImage.{Image}
-use Rattle.c104_describe.specs.Plans.{Plan}
-use Rattle.c104_check.specs.Reach.{NetworkHeader, routes_for}
-use Rattle.c104_check.specs.Routes.{routes_of}
-use Rattle.c104_check.specs.declared.faults.CheckFault.{CheckFault}
-use Rattle.c104_check.specs.declared.ports.SwitchPort.{SwitchPort}
 use Rattle.c104_draw.specs.Drawings.{DrawnWire, Stroke}
-use Rattle.c104_draw.specs.Edges.{are_alike, are_mates, fault_walk, first_beside, is_beside, is_same, marking_of}
-use Rattle.c104_draw.specs.Marks.{marking_by}
+use Rattle.c104_draw.specs.Edges.{are_alike, are_mates, first_beside, is_beside, is_same}
 use Rattle.c104_draw.proofs.ListLemmas.{map_more, mapped_next}
 
 clash_at : (n : ℕ) (b : Bool) (rest : Option ℕ) → b ≡ true → (if b then Some n else rest) ≡ None → ⊥
@@ -62,7 +56,3 @@ is_some_beside image ws k d below none =
 pub edges_next : (image : Image) (ws : List DrawnWire) (k edge : ℕ) (d : DrawnWire) (made new : List ℕ) → k < length ws → map Some made ≡ map (first_beside image ws) (take k ws) → Some edge ≡ first_beside image ws (slice_index_or ws k d) → new ≡ made ++ edge ∷ [] → map Some new ≡ map (first_beside image ws) (take (k + 1) ws)
 edges_next image ws k edge d made new below are one is =
     mapped_next (first_beside image ws) ws k d (map Some made) (map Some new) (Some edge) below are one (ap (map Some) is ∙ map_more Some made edge)
-
--- what is marked by where a header may come is what is marked in the network
-pub marking_same : (x : NetworkHeader) (plan : Plan) (image : Image) (header : ℕ) (why : Option CheckFault) (walk : List SwitchPort) → routes_for x ≡ routes_of plan image → x.header ≡ header → walk ≡ fault_walk why → marking_by x walk ≡ marking_of plan image header why
-marking_same x plan image header why walk a b c = λ i. record { routes = a i; header = b i; walk = c i }

@@ -1,3 +1,4 @@
 pub mod Drawings
 pub mod Edges
 pub mod Marks
+pub mod CycleDrawings

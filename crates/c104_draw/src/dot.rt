@@ -32,7 +32,33 @@ pub fn drawing_text(
     title: &str,
 ) -> Result<String, AllocError> {
     let frame = Frame::of(alloc, plan)?;
+    framed_text(alloc, plan, image, drawing, title, &frame)
+}
+
+/// The same where the nodes stand in a frame.
+fn framed_text(
+    alloc: Global,
+    plan: &Plan,
+    image: &Image,
+    drawing: &Drawing,
+    title: &str,
+    frame: &Frame,
+) -> Result<String, AllocError> {
     let mut text = String::new(alloc);
+    add_head(alloc, &mut text, frame, title)?;
+    add_nodes(alloc, &mut text, plan, image, drawing, frame)?;
+    add_edges(alloc, &mut text, plan, drawing, frame, !title.is_empty())?;
+    text.push_str("}\n")?;
+    Ok(text)
+}
+
+/// What stands before the nodes joins the text.
+fn add_head(
+    alloc: Global,
+    text: &mut String,
+    frame: &Frame,
+    title: &str,
+) -> Result<(), AllocError> {
     text.push_str(HEAD)?;
     if !frame.hangs() {
         text.push_str(PLACED)?;
@@ -44,10 +70,7 @@ pub fn drawing_text(
         let line = format!(in alloc; "  label=\"{title}\"\n")?;
         text.push_str(line.as_str())?;
     }
-    add_nodes(alloc, &mut text, plan, image, drawing, &frame)?;
-    add_edges(alloc, &mut text, plan, drawing, &frame, !title.is_empty())?;
-    text.push_str("}\n")?;
-    Ok(text)
+    Ok(())
 }
 
 /// The lines of the nodes join the text.

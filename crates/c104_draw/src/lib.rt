@@ -2,9 +2,11 @@
 //!
 //! [`draw`] gives the [`Drawing`] of a network: its nodes, which are its switches and terminals, its wires, and
 //! which wires are drawn as one edge. [`draw_header`] marks in it the ways of a header: the links that it may
-//! take, its owner, and the walk by which it is refused, if it is.
+//! take, its owner, and the walk by which it is refused, if it is. [`draw_cycle`] marks a cycle of channel
+//! dependencies.
 #![tactic(auto)]
 
+mod cycles;
 mod dot;
 mod drawings;
 mod edges;
@@ -14,6 +16,7 @@ mod nodes;
 mod pictures;
 mod wires;
 
+pub use cycles::draw_cycle;
 pub use dot::drawing_text;
 pub use drawings::{DrawnNode, DrawnWire, Node, Stroke};
 pub use pictures::{Drawing, HeaderDrawing, draw, draw_header};

@@ -88,7 +88,7 @@ fn is_red(to: Port, reach: &Reach<'_>, walk: &[SwitchPort]) -> bool
 }
 
 /// Whether an input is among those of a walk.
-fn is_among(walk: &[SwitchPort], at: SwitchPort) -> bool
+pub(crate) fn is_among(walk: &[SwitchPort], at: SwitchPort) -> bool
     ensures { result ≡ is_met at walk.now }
 {
     walk.iter()

@@ -1,9 +1,11 @@
 //! Pictures.
-ghost use Rattle.std.specs.Prelude.{◌≡◌, Some, None, IfOk, MatchOption};
-ghost use Rattle.c104_check.specs.Reach.{IsNeverRefused, TellsFirst};
+ghost use Rattle.std.specs.Prelude.{◌≡◌, map, Some, None, IfOk, MatchOption};
+ghost use Rattle.c104_check.specs.Reach.{IsNeverRefused, TellsFirst, routes_for};
 ghost use Rattle.c104_check.specs.Routes.{routes_of};
 ghost use Rattle.c104_describe.specs.PlanImage.{Fits};
-ghost use Rattle.c104_draw.specs.Edges.{IsDrawing, fault_walk, marking_of};
+ghost use Rattle.c104_draw.specs.Drawings.{drawn_nodes};
+ghost use Rattle.c104_draw.specs.Edges.{IsDrawing, fault_walk, first_beside, marking_of};
+ghost use Rattle.c104_draw.specs.Marks.{marking_by};
 
 use crate::drawings::{DrawnNode, DrawnWire};
 use crate::edges::edges_of;
@@ -75,15 +77,9 @@ pub struct HeaderDrawing {
 pub fn draw(alloc: Global, plan: &Plan, image: &Image) -> Result<Drawing, NoMemory>
     ensures { IfOk result (IsDrawing plan.now image.now None) }
 {
-    let nodes = drawn_nodes(alloc, plan, None)?;
     let wires = drawn_wires(alloc, plan)?;
     let wires = plain_wires(alloc, wires.as_slice())?;
-    let edges = edges_of(alloc, image, wires.as_slice())?;
-    Ok(Drawing {
-        nodes,
-        wires,
-        edges,
-    })
+    drawing_of(alloc, plan, image, None, wires)
 }
 
 /// The same with the ways of a header: bold are the links by which it may leave an input to which it may come
@@ -102,17 +98,62 @@ pub fn draw_header(
         (TellsFirst (routes_of plan.now image.now) header)) }
 {
     let reach = Reach::new(alloc, plan, image, header)?;
+    draw_reach(alloc, plan, image, &reach)
+}
+
+/// The same of where the header may come.
+fn draw_reach(
+    alloc: Global,
+    plan: &Plan,
+    image: &Image,
+    reach: &Reach<'_>,
+) -> Result<HeaderDrawing, NoMemory>
+    ensures drawing { IfOk result (λ drawn. IsDrawing plan.now image.now
+        (Some (marking_by reach.now (fault_walk drawn.fault))) drawn.drawing) }
+    ensures fault { IfOk result (λ drawn. MatchOption drawn.fault
+        (IsNeverRefused (routes_for reach.now) reach.now.header)
+        (TellsFirst (routes_for reach.now) reach.now.header)) }
+{
     let fault = reach.refusal(alloc)?;
-    let nodes = drawn_nodes(alloc, plan, reach.owner())?;
+    let drawing = draw_walk(alloc, plan, image, reach, fault_walk(&fault))?;
+    Ok(HeaderDrawing { drawing, fault })
+}
+
+/// The picture in which the ways of a header are marked, and a walk.
+fn draw_walk(
+    alloc: Global,
+    plan: &Plan,
+    image: &Image,
+    reach: &Reach<'_>,
+    walk: &[SwitchPort],
+) -> Result<Drawing, NoMemory>
+    ensures { IfOk result (IsDrawing plan.now image.now (Some (marking_by reach.now walk.now))) }
+{
     let wires = drawn_wires(alloc, plan)?;
-    let wires = marked_wires(alloc, wires.as_slice(), &reach, fault_walk(&fault))?;
+    let wires = marked_wires(alloc, wires.as_slice(), reach, walk)?;
+    drawing_of(alloc, plan, image, reach.owner(), wires)
+}
+
+/// The picture with these wires, as they are marked, in which the terminal that owns a header is filled.
+pub(crate) fn drawing_of(
+    alloc: Global,
+    plan: &Plan,
+    image: &Image,
+    owner: Option<usize>,
+    wires: Vec<DrawnWire>,
+) -> Result<Drawing, NoMemory>
+    ensures nodes { IfOk result (λ drawing. drawing.nodes ≡ drawn_nodes plan.now owner) }
+    ensures wires { IfOk result (λ drawing. drawing.wires ≡ wires.items) }
+    ensures edges { IfOk result (λ drawing.
+        map Some drawing.edges ≡ map (first_beside image.now wires.items) wires.items) }
+{
+    let nodes = drawn_nodes(alloc, plan, owner)?;
     let edges = edges_of(alloc, image, wires.as_slice())?;
-    let drawing = Drawing {
+    Ok(Drawing {
         nodes,
         wires,
         edges,
-    };
-    Ok(HeaderDrawing { drawing, fault })
+    })
 }
 
 /// The walk that a fault tells, if it tells one.
