@@ -15,21 +15,53 @@ use std::alloc::Global;
 /// The most terminals.
 const MAX_TERMINALS: usize = 256;
 
+/// The words with which lines begin, each with what its line is, and how many words that has.
+const FORMS: [(&[u8], DescriptionMistake, usize); 12] = [
+    (b"switch", DescriptionMistake::SwitchLine, 2),
+    (b"terminal", DescriptionMistake::TerminalLine, 3),
+    (b"wire", DescriptionMistake::WireLine, 3),
+    (b"header", DescriptionMistake::HeaderLine, 2),
+    (b"buffer", DescriptionMistake::BufferLine, 2),
+    (b"continue", DescriptionMistake::ContinueLine, 2),
+    (b"delete", DescriptionMistake::DeleteLine, 2),
+    (b"base", DescriptionMistake::BaseLine, 3),
+    (b"row", DescriptionMistake::RowLine, 4),
+    (b"label", DescriptionMistake::LabelLine, 3),
+    (b"mesh", DescriptionMistake::MeshLine, 4),
+    (b"cube", DescriptionMistake::CubeLine, 3),
+];
+
 /// What is told of a description with such a fault. None where the fault isn't this description's, and out
 /// of memory.
 pub fn description_message(alloc: Global, description: &[u8], fault: PlanFault) -> Option<String> {
     if fault.line == 0 {
-        let mistake = Mistake::new(DescriptionMistake::TooLong.sentence(), None);
-        return mistake.text(alloc).ok();
+        return told(DescriptionMistake::TooLong, None).text(alloc).ok();
     }
-    let lines = cut_lines(alloc, description).ok()?;
-    let line = lines.as_slice().get(fault.line - 1)?;
-    let line = uncommented(line);
-    let words = cut_words(alloc, line).ok()?;
+    let number = fault.line - 1;
     // The lines before have no fault.
-    let before = read_description(alloc, front_lines(description, fault.line - 1)).ok()?;
-    let mistake = find_mistake(fault.kind, words.as_slice(), &before);
-    mistake.text(alloc).ok()
+    let before = read_description(alloc, front_lines(description, number)).ok()?;
+    line_message(alloc, description, number, fault.kind, &before)
+}
+
+/// What is told of such a fault of the line of this number, from 0, behind lines that make this plan.
+fn line_message(
+    alloc: Global,
+    description: &[u8],
+    number: usize,
+    kind: PlanFaultKind,
+    before: &Plan,
+) -> Option<String> {
+    let lines = cut_lines(alloc, description).ok()?;
+    let line = lines.as_slice().get(number)?;
+    words_message(alloc, line, kind, before)
+}
+
+/// The same of the line itself.
+fn words_message(alloc: Global, line: &[u8], kind: PlanFaultKind, before: &Plan) -> Option<String> {
+    let words = cut_words(alloc, uncommented(line)).ok()?;
+    find_mistake(kind, words.as_slice(), before)
+        .text(alloc)
+        .ok()
 }
 
 /// So many lines of a text, with their line feeds.
@@ -91,21 +123,12 @@ fn first_word_mistake<'a>(words: &[&'a [u8]]) -> Mistake<'a> {
 
 /// What a line is that begins with the word, and how many words it has.
 fn form_of(first: &[u8]) -> (DescriptionMistake, usize) {
-    match first {
-        b"switch" => (DescriptionMistake::SwitchLine, 2),
-        b"terminal" => (DescriptionMistake::TerminalLine, 3),
-        b"wire" => (DescriptionMistake::WireLine, 3),
-        b"header" => (DescriptionMistake::HeaderLine, 2),
-        b"buffer" => (DescriptionMistake::BufferLine, 2),
-        b"continue" => (DescriptionMistake::ContinueLine, 2),
-        b"delete" => (DescriptionMistake::DeleteLine, 2),
-        b"base" => (DescriptionMistake::BaseLine, 3),
-        b"row" => (DescriptionMistake::RowLine, 4),
-        b"label" => (DescriptionMistake::LabelLine, 3),
-        b"mesh" => (DescriptionMistake::MeshLine, 4),
-        b"cube" => (DescriptionMistake::CubeLine, 3),
-        _ => (DescriptionMistake::NoWord, 0),
+    for (word, form, count) in FORMS {
+        if word == first {
+            return (form, count);
+        }
     }
+    (DescriptionMistake::NoWord, 0)
 }
 
 /// A wrong byte, a wrong count of words, or a port without a dot or with a second one.
@@ -146,13 +169,26 @@ fn number_mistake<'a>(words: &[&'a [u8]]) -> Mistake<'a> {
     let Some(first) = word_at(words, 0) else {
         return told(DescriptionMistake::NoWord, None);
     };
+    match unlinked_port(first, words) {
+        Some(port) => told(DescriptionMistake::NoLink, Some(port)),
+        None => value_mistake(first, words),
+    }
+}
+
+/// The first port of a line whose link is none.
+fn unlinked_port<'a>(first: &[u8], words: &[&'a [u8]]) -> Option<&'a [u8]> {
     for port in ports_of(first, words) {
         if let Some(port) = port
             && !has_link(port)
         {
-            return told(DescriptionMistake::NoLink, Some(port));
+            return Some(port);
         }
     }
+    None
+}
+
+/// A number that is none, or out of its range, where all links are some.
+fn value_mistake<'a>(first: &[u8], words: &[&'a [u8]]) -> Mistake<'a> {
     match first {
         b"terminal" => label_mistake(words),
         b"continue" => told(DescriptionMistake::NoContinuing, word_at(words, 1)),
@@ -195,12 +231,22 @@ fn unnamed<'a>(words: &[&'a [u8]]) -> Option<&'a [u8]> {
     if first == b"label".as_slice() {
         return word_at(words, 2);
     }
-    if matches!(first, b"switch" | b"terminal" | b"delete") {
+    if is_before_name(first) {
         let name = word_at(words, 1)?;
         if !is_name(name) {
             return Some(name);
         }
     }
+    unnamed_port(first, words)
+}
+
+/// Whether a name without a link stands behind the first word.
+fn is_before_name(first: &[u8]) -> bool {
+    matches!(first, b"switch" | b"terminal" | b"delete")
+}
+
+/// The first port of a line whose switch's name is none.
+fn unnamed_port<'a>(first: &[u8], words: &[&'a [u8]]) -> Option<&'a [u8]> {
     for port in ports_of(first, words) {
         if let Some(port) = port
             && !is_name(name_of(port))

@@ -3,8 +3,9 @@
 //! An answer names a fault by its number and name. A message says what was wanted, and about which word:
 //! `description_message` of a faulty description, `fault_message` of a faulty line of a script and
 //! `refusal_message` of a refused one, and `register_message` of one whose register is refused. `reason_message`
-//! says why what a line asked isn't ready, and `leftover_messages` at the end of a run what didn't arrive. The
-//! sentences are tables: one for descriptions, one for scripts, and one for what isn't ready.
+//! says why what a line asked isn't ready, `standstill_message` who waits for whom where nothing can move, and
+//! `leftover_messages` at the end of a run what didn't arrive. The sentences are tables: one for descriptions, one for
+//! scripts, and one for what isn't ready.
 //!
 //! Who types a script may ask between its lines: `is_question` tells such a line, and `question_message` what
 //! lines there are, or how a node of the network stands.
@@ -25,6 +26,8 @@ mod reasons;
 mod script_mistakes;
 mod scripts;
 mod shown_nodes;
+mod standstill;
+mod waiting;
 mod words;
 
 pub use description_mistakes::DescriptionMistake;
@@ -35,3 +38,4 @@ pub use questions::{is_question, question_message};
 pub use reasons::reason_message;
 pub use script_mistakes::ScriptMistake;
 pub use scripts::{fault_message, refusal_message, register_message};
+pub use standstill::standstill_message;

@@ -6,6 +6,7 @@ ghost use Rattle.c104_explain.specs.Questions.{asks, is_question};
 use crate::nearest::nearest_node;
 use crate::script_mistakes::ScriptMistake;
 use crate::shown_nodes::{switch_text, terminal_text};
+use crate::waiting::waiting_text;
 use crate::words::Mistake;
 use c104_describe::{cut_words, first_word, uncommented};
 use c104_net::Net;
@@ -29,10 +30,14 @@ verify                      whether all that can be set reads as it was loaded
 help                        lists these lines
 show SWITCH                 tells how each wired link stands
 show TERMINAL               tells how a terminal stands
+show waiting                tells which outputs inputs hold and want
 A PORT is a terminal, or a switch with a link, as A.0. A `#` begins a comment.";
 
 /// What a line `show` is.
-const SHOW_FORM: &str = "the line is `show SWITCH` or `show TERMINAL`";
+const SHOW_FORM: &str = "the line is `show SWITCH`, `show TERMINAL` or `show waiting`";
+
+/// What is shown of the inputs that wait, unless a node has this name.
+const WAITING: &[u8] = b"waiting";
 
 /// Whether a line is a question of people's, and none of a script: its first word is `help` or `show`.
 #[tactic(auto, unfolding(crate::specs::Questions::is_question))]
@@ -67,7 +72,7 @@ fn answer_text(alloc: Global, net: &Net, words: &[&[u8]]) -> Result<String, Allo
     }
 }
 
-/// How the node of this name stands, or that there is none.
+/// How the node of this name stands, or that there is none; where none has the name, `waiting` is another question.
 fn node_text(alloc: Global, net: &Net, name: &[u8]) -> Result<String, AllocError> {
     let plan = net.plan();
     if let Some(switch) = plan.switch_number(name) {
@@ -76,7 +81,19 @@ fn node_text(alloc: Global, net: &Net, name: &[u8]) -> Result<String, AllocError
     if let Some(terminal) = plan.terminal_number(name) {
         return terminal_text(alloc, net, terminal);
     }
+    if name == WAITING {
+        return waiting_answer(alloc, net);
+    }
     Mistake::new(ScriptMistake::NoNode.sentence(), Some(name))
         .near(nearest_node(plan, name))
         .text(alloc)
+}
+
+/// Which outputs the inputs hold and want.
+fn waiting_answer(alloc: Global, net: &Net) -> Result<String, AllocError> {
+    let text = waiting_text(alloc, net)?;
+    if text.is_empty() {
+        return format!(in alloc; "no input holds an output, and none wants one");
+    }
+    Ok(text)
 }

@@ -106,16 +106,16 @@ fn form_of(first: &[u8]) -> ScriptMistake {
     }
 }
 
-/// Whether a line may have so many words.
-fn may_have(first: &[u8], count: usize) -> bool {
-    match first {
-        b"send" => count >= 2,
-        b"drain" | b"cross" | b"credit" | b"rounds" | b"link" | b"table" => count == 2,
-        b"input" => count == 2 || count == 3,
-        b"claim" | b"poke" => count == 4,
-        b"peek" => count == 3,
-        b"verify" => count == 1,
-        _ => 2 <= count && count <= MAX_CONTROL_WORDS,
+/// Whether a line of this form may have so many words.
+fn may_have(form: ScriptMistake, count: usize) -> bool {
+    match form {
+        ScriptMistake::SendLine => count >= 2,
+        ScriptMistake::InputLine => count == 2 || count == 3,
+        ScriptMistake::ClaimLine | ScriptMistake::PokeLine => count == 4,
+        ScriptMistake::ControlLine => 2 <= count && count <= MAX_CONTROL_WORDS,
+        ScriptMistake::PeekLine => count == 3,
+        ScriptMistake::VerifyLine => count == 1,
+        _ => count == 2,
     }
 }
 
@@ -128,16 +128,19 @@ fn shape_mistake<'a>(words: &[&'a [u8]]) -> Mistake<'a> {
     let Some(first) = word_at(words, 0) else {
         return told(ScriptMistake::NoWord, None);
     };
-    if may_have(first, words.len()) {
+    let form = form_of(first);
+    if may_have(form, words.len()) {
         return told(ScriptMistake::NoPort, word_at(words, 1));
     }
-    told(form_of(first), Some(first))
+    told(form, Some(first))
 }
 
 /// A number that is none, or out of its range.
 fn number_mistake<'a>(words: &[&'a [u8]]) -> Mistake<'a> {
+    if word_at(words, 0) == Some(b"rounds".as_slice()) {
+        return told(ScriptMistake::NoRounds, word_at(words, 1));
+    }
     match words {
-        [b"rounds", count, ..] => told(ScriptMistake::NoRounds, Some(*count)),
         [_, node, ..] if has_dot(node) && link_of(node).is_none() => {
             told(ScriptMistake::NoLink, Some(*node))
         }

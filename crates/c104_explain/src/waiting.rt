@@ -1,0 +1,176 @@
+//! Which inputs of a network have a packet on its way, and what each of these waits for, in words.
+
+use crate::reasons::port_text;
+use c104_describe::Port;
+use c104_event::Event;
+use c104_net::{Net, Reason};
+use c104_switch::{LINKS, LinkView, Phase, Unready};
+use std::alloc::{AllocError, Global};
+
+/// The most tokens that an output holds.
+const OUTPUT_CAP: usize = 8;
+
+/// An input of a switch.
+#[derive(Clone, Copy)]
+struct Input {
+    switch: usize,
+    link: usize,
+}
+
+impl Input {
+    /// A port of the same switch.
+    fn beside(self, link: usize) -> Port {
+        Port::Switch(self.switch, link)
+    }
+}
+
+/// A line for each output that an input holds for its packet, and for each that one wants for its header, by switch
+/// and link. Nothing where no input does.
+pub(crate) fn waiting_text(alloc: Global, net: &Net) -> Result<String, AllocError> {
+    let mut text = String::new(alloc);
+    for switch in 0..net.plan().switches().len() {
+        add_switch(alloc, net, switch, &mut text)?;
+    }
+    Ok(text)
+}
+
+/// The lines of a switch's inputs join the text.
+fn add_switch(
+    alloc: Global,
+    net: &Net,
+    switch: usize,
+    text: &mut String,
+) -> Result<(), AllocError> {
+    for link in 0..LINKS {
+        if let Some(view) = net.view_link(switch, link) {
+            add_input(alloc, net, Input { switch, link }, &view, text)?;
+        }
+    }
+    Ok(())
+}
+
+/// The lines of an input join the text.
+fn add_input(
+    alloc: Global,
+    net: &Net,
+    input: Input,
+    view: &LinkView,
+    text: &mut String,
+) -> Result<(), AllocError> {
+    match &view.phase {
+        Phase::Stream(output) => add_held(alloc, net, input, *output, text),
+        Phase::Want(header, _) => add_wanted(alloc, net, input, header.value(), text),
+        Phase::Fresh | Phase::Head(_) | Phase::Sinking => Ok(()),
+    }
+}
+
+/// The line of an output that an input holds joins the text: where it leads, and whether it is full.
+fn add_held(
+    alloc: Global,
+    net: &Net,
+    input: Input,
+    output: usize,
+    text: &mut String,
+) -> Result<(), AllocError> {
+    let plan = net.plan();
+    let output = input.beside(output);
+    let end = match plan.peer(output) {
+        Some(other) => port_text(alloc, plan, other)?,
+        None => String::new(alloc),
+    };
+    let full = if is_full(net, output) {
+        " and is full"
+    } else {
+        ""
+    };
+    let own = port_text(alloc, plan, input.beside(input.link))?;
+    let output = port_text(alloc, plan, output)?;
+    let line = format!(in alloc; "{own} holds {output}, which leads to {end}{full}")?;
+    add_line(text, line.as_str())
+}
+
+/// Whether an output holds as many tokens as it may.
+fn is_full(net: &Net, output: Port) -> bool {
+    let Port::Switch(switch, link) = output else {
+        return false;
+    };
+    match net.view_link(switch, link) {
+        Some(view) => view.output_level >= OUTPUT_CAP,
+        None => false,
+    }
+}
+
+/// The lines of the outputs that an input wants for a header join the text.
+fn add_wanted(
+    alloc: Global,
+    net: &Net,
+    input: Input,
+    header: u32,
+    text: &mut String,
+) -> Result<(), AllocError> {
+    for output in 0..LINKS {
+        add_wish(alloc, net, input, output, header, text)?;
+    }
+    Ok(())
+}
+
+/// The line of an output that an input wants for a header joins the text, if it is of the group that it wants.
+fn add_wish(
+    alloc: Global,
+    net: &Net,
+    input: Input,
+    output: usize,
+    header: u32,
+    text: &mut String,
+) -> Result<(), AllocError> {
+    let claim = Event::Claim {
+        switch: input.switch,
+        input: input.link,
+        output,
+    };
+    let Some(state) = state_text(alloc, net, input, net.why(&claim))? else {
+        return Ok(());
+    };
+    let plan = net.plan();
+    let own = port_text(alloc, plan, input.beside(input.link))?;
+    let output = port_text(alloc, plan, input.beside(output))?;
+    let line = format!(in alloc; "{own} wants {output} for the header {header}, {state}")?;
+    add_line(text, line.as_str())
+}
+
+/// How an output stands, by why an input doesn't get it. None where it isn't one that the input wants.
+fn state_text(
+    alloc: Global,
+    net: &Net,
+    input: Input,
+    reason: Option<Reason>,
+) -> Result<Option<String>, AllocError> {
+    let text = match reason {
+        None => format!(in alloc; "and it is free")?,
+        Some(
+            Reason {
+                unready: Unready::Owned(owner),
+                ..
+            },
+        ) => {
+            let owner = port_text(alloc, net.plan(), input.beside(owner))?;
+            format!(in alloc; "and {owner} holds it")?
+        }
+        Some(
+            Reason {
+                unready: Unready::NoRoomForHeader,
+                ..
+            },
+        ) => { format!(in alloc; "which has no room for it")? }
+        Some(_) => return Ok(None),
+    };
+    Ok(Some(text))
+}
+
+/// A line joins the text.
+fn add_line(text: &mut String, line: &str) -> Result<(), AllocError> {
+    if !text.is_empty() {
+        text.push('\n')?;
+    }
+    text.push_str(line)
+}
