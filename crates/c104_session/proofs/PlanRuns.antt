@@ -7,13 +7,14 @@ use Rattle.c104_describe.specs.PlanImage.{Image}
 use Rattle.c104_net.specs.FinishedRecords.{record_finish}
 use Rattle.c104_stream.specs.declared.halt.Halt.{Halt}
 use Rattle.c104_stream.specs.declared.halt.Halt.TheVariants as halt
+use Rattle.c104_session.specs.declared.session.Ended.{Ended}
 use Rattle.c104_session.specs.declared.session.Session.{Session}
 use Rattle.c104_session.specs.declared.asker.Asker.{Asker}
 use Rattle.c104_session.specs.Lines.{is_long}
 use Rattle.c104_stream.specs.Writing.{AppendsPrefix}
 use Rattle.c104_session.specs.Shown.{script_outcome, output_with_summary, new_session, summary}
 use Rattle.c104_script.specs.Texts.{script_too_long}
-use Rattle.c104_session.specs.Runs.{AnswersScript, RunsPlan}
+use Rattle.c104_session.specs.Runs.{AnswersScript, EndsRun, RunsPlan}
 use Rattle.std.proofs.KnownBytes.{Appends-trans}
 use Rattle.c104_stream.proofs.Prefixes.{prefix_next, prefix_longer}
 
@@ -28,7 +29,7 @@ ended_text true r = refl
 ended_text false r = refl
 
 -- the script came to no end
-pub plan_stops : (asker : Asker) (plan : Plan) (image : Image) (all left held holds : Option (List ℕ)) (after : Session) (kind : Halt) → AnswersScript (new_session asker plan image) all left held holds after (Err kind) → RunsPlan asker plan image all left held holds (Err kind)
+plan_stops : (asker : Asker) (plan : Plan) (image : Image) (all left held holds : Option (List ℕ)) (after : Session) (kind : Halt) → AnswersScript (new_session asker plan image) all left held holds after (Err kind) → RunsPlan asker plan image all left held holds (Err kind)
 plan_stops asker plan image None left held holds after kind stopped = tt
 plan_stops asker plan image (Some script) left held holds after halt.CannotRead stopped = stopped
 plan_stops asker plan image (Some script) left held holds after halt.CannotWrite stopped =
@@ -37,7 +38,7 @@ plan_stops asker plan image (Some script) left held holds after halt.CannotWrite
 plan_stops asker plan image (Some script) left held holds after halt.NoMemory stopped = stopped
 
 -- the script is too long, and that was written, or a prefix of it
-pub long_ends : (asker : Asker) (plan : Plan) (image : Image) (all left held now holds : Option (List ℕ)) (after : Session) → AnswersScript (new_session asker plan image) all left held now after (Ok true) → Appends now holds script_too_long → RunsPlan asker plan image all left held holds (Ok true)
+long_ends : (asker : Asker) (plan : Plan) (image : Image) (all left held now holds : Option (List ℕ)) (after : Session) → AnswersScript (new_session asker plan image) all left held now after (Ok true) → Appends now holds script_too_long → RunsPlan asker plan image all left held holds (Ok true)
 long_ends asker plan image None left held now holds after answered wrote = tt
 long_ends asker plan image (Some script) left held now holds after answered wrote =
     let r : List ℕ × Session = script_outcome (new_session asker plan image) script in (
@@ -45,14 +46,14 @@ long_ends asker plan image (Some script) left held now holds after answered wrot
       ap (λ long. (output_with_summary long r).1) answered.0,
     )
 
-pub long_stops : (asker : Asker) (plan : Plan) (image : Image) (all left held now holds : Option (List ℕ)) (after : Session) → AnswersScript (new_session asker plan image) all left held now after (Ok true) → AppendsPrefix now holds script_too_long → RunsPlan asker plan image all left held holds (Err halt.CannotWrite)
+long_stops : (asker : Asker) (plan : Plan) (image : Image) (all left held now holds : Option (List ℕ)) (after : Session) → AnswersScript (new_session asker plan image) all left held now after (Ok true) → AppendsPrefix now holds script_too_long → RunsPlan asker plan image all left held holds (Err halt.CannotWrite)
 long_stops asker plan image None left held now holds after answered wrote = tt
 long_stops asker plan image (Some script) left held now holds after answered wrote =
     let r : List ℕ × Session = script_outcome (new_session asker plan image) script in
     subst (λ long. AppendsPrefix held holds (output_with_summary long r).0) answered.0 (prefix_next held now holds r.0 script_too_long answered.2 wrote)
 
 -- the summary was written, or a prefix of it
-pub summary_ends : (asker : Asker) (plan : Plan) (image : Image) (all left held now holds : Option (List ℕ)) (after : Session) → AnswersScript (new_session asker plan image) all left held now after (Ok false) → Appends now holds (summary (record_finish after.net)) → RunsPlan asker plan image all left held holds (Ok after.faulty)
+summary_ends : (asker : Asker) (plan : Plan) (image : Image) (all left held now holds : Option (List ℕ)) (after : Session) → AnswersScript (new_session asker plan image) all left held now after (Ok false) → Appends now holds (summary (record_finish after.net)) → RunsPlan asker plan image all left held holds (Ok after.faulty)
 summary_ends asker plan image None left held now holds after answered wrote = tt
 summary_ends asker plan image (Some script) left held now holds after answered wrote =
     let r : List ℕ × Session = script_outcome (new_session asker plan image) script in (
@@ -60,18 +61,36 @@ summary_ends asker plan image (Some script) left held now holds after answered w
       ap (λ (s : Session). s.faulty) answered.1 ∙ ap (λ long. (output_with_summary long r).1) answered.0,
     )
 
-pub summary_stops : (asker : Asker) (plan : Plan) (image : Image) (all left held now holds : Option (List ℕ)) (after : Session) → AnswersScript (new_session asker plan image) all left held now after (Ok false) → AppendsPrefix now holds (summary (record_finish after.net)) → RunsPlan asker plan image all left held holds (Err halt.CannotWrite)
+summary_stops : (asker : Asker) (plan : Plan) (image : Image) (all left held now holds : Option (List ℕ)) (after : Session) → AnswersScript (new_session asker plan image) all left held now after (Ok false) → AppendsPrefix now holds (summary (record_finish after.net)) → RunsPlan asker plan image all left held holds (Err halt.CannotWrite)
 summary_stops asker plan image None left held now holds after answered wrote = tt
 summary_stops asker plan image (Some script) left held now holds after answered wrote =
     let r : List ℕ × Session = script_outcome (new_session asker plan image) script in
     subst (λ long. AppendsPrefix held holds (output_with_summary long r).0) answered.0 (prefix_next held now holds r.0 (summary (record_finish r.1.net)) answered.2 (subst (λ (s : Session). AppendsPrefix now holds (summary (record_finish s.net))) answered.1 wrote))
 
 -- memory for the summary was refused
-pub summary_unmade : (asker : Asker) (plan : Plan) (image : Image) (all left held now : Option (List ℕ)) (after : Session) → AnswersScript (new_session asker plan image) all left held now after (Ok false) → RunsPlan asker plan image all left held now (Err halt.NoMemory)
-summary_unmade asker plan image None left held now after answered = tt
-summary_unmade asker plan image (Some script) left held now after answered =
+summary_unmade : (asker : Asker) (plan : Plan) (image : Image) (all left held now : Option (List ℕ)) (after : Session) (long : Bool) → AnswersScript (new_session asker plan image) all left held now after (Ok long) → RunsPlan asker plan image all left held now (Err halt.NoMemory)
+summary_unmade asker plan image None left held now after long answered = tt
+summary_unmade asker plan image (Some script) left held now after long answered =
     let all : List ℕ = (script_outcome (new_session asker plan image) script).0 in
     record { written = all; unwritten = []; grew = answered.2; is_prefix = sym (append-nil all) }
+
+-- what follows the answers was written, or a prefix of it; or the script came to no end
+pub run_ends : (asker : Asker) (plan : Plan) (image : Image) (all left held now holds : Option (List ℕ)) (after : Session) (ended : Ended) (answered result : Result Bool Halt) → AnswersScript (new_session asker plan image) all left held now after answered → ended.run ≡ record_finish after.net → ended.faulty ≡ after.faulty
+    → EndsRun answered ended now holds result → RunsPlan asker plan image all left held holds result
+run_ends asker plan image all left held now holds after ended (Err kind) result answers is_run is_faulty ends =
+    let stopped : RunsPlan asker plan image all left held now (Err kind) = plan_stops asker plan image all left held now after kind answers in
+    subst (λ r. RunsPlan asker plan image all left held holds r) (sym ends.0) (subst (λ h. RunsPlan asker plan image all left held h (Err kind)) (sym ends.1) stopped)
+run_ends asker plan image all left held now holds after ended (Ok true) (Ok refused) answers is_run is_faulty ends =
+    subst (λ r. RunsPlan asker plan image all left held holds (Ok r)) (sym ends.0) (long_ends asker plan image all left held now holds after answers ends.1)
+run_ends asker plan image all left held now holds after ended (Ok false) (Ok refused) answers is_run is_faulty ends =
+    subst (λ r. RunsPlan asker plan image all left held holds (Ok r)) (sym (ends.0 ∙ is_faulty))
+    (summary_ends asker plan image all left held now holds after answers (subst (λ run. Appends now holds (summary run)) is_run ends.1))
+run_ends asker plan image all left held now holds after ended (Ok long) (Err halt.CannotRead) answers is_run is_faulty ends = absurd ends
+run_ends asker plan image all left held now holds after ended (Ok true) (Err halt.CannotWrite) answers is_run is_faulty ends = long_stops asker plan image all left held now holds after answers ends
+run_ends asker plan image all left held now holds after ended (Ok false) (Err halt.CannotWrite) answers is_run is_faulty ends =
+    summary_stops asker plan image all left held now holds after answers (subst (λ run. AppendsPrefix now holds (summary run)) is_run ends)
+run_ends asker plan image all left held now holds after ended (Ok long) (Err halt.NoMemory) answers is_run is_faulty ends =
+    subst (λ h. RunsPlan asker plan image all left held h (Err halt.NoMemory)) (sym ends) (summary_unmade asker plan image all left held now after long answers)
 
 -- the session by its plan, and what the answer says by its test
 pub of_plan : (asker : Asker) (plan : Plan) (image : Image) (all left held holds : Option (List ℕ)) (session after : Session) (result : Result Bool Halt) → session ≡ new_session asker plan image → AnswersScript session all left held holds after result → AnswersScript (new_session asker plan image) all left held holds after result

@@ -1,27 +1,34 @@
 -- How a script that is run on a network ends, and what is written then, where its reader and its writer
 -- tell their bytes.
-use Rattle.std.specs.Prelude.{ℕ, ◌≡◌, ⊤, Bool, List, [], ◌++◌, Option, Some, None, Result, Ok, Err}
+use Rattle.std.specs.Prelude.{ℕ, ◌≡◌, ◌||◌, ⊤, Bool, true, false, List, [], ◌++◌, Option, Some, None, Result, Ok, Err}
 use Rattle.std.specs.Io.KnownBytes.{Appends, Keeps}
 use Rattle.c104_describe.specs.Plans.{Plan}
 use Rattle.c104_describe.specs.PlanImage.{Image}
+use Rattle.c104_net.specs.FinishedRecords.{FinishedRecord}
+use Rattle.c104_script.specs.Texts.{script_too_long}
 use Rattle.c104_stream.specs.declared.halt.Halt.{Halt}
 use Rattle.c104_stream.specs.declared.halt.Halt.TheVariants as halt
+use Rattle.c104_session.specs.declared.session.Ended.{Ended}
 use Rattle.c104_session.specs.declared.session.Session.{Session}
 use Rattle.c104_session.specs.declared.asker.Asker.{Asker}
 use Rattle.c104_session.specs.Lines.{whole_lines, is_long}
 use Rattle.c104_stream.specs.Writing.{AppendsAndKeeps, AppendsPrefix}
-use Rattle.c104_session.specs.Shown.{line_outcome, lines_outcome, script_outcome, new_session, run_output}
+use Rattle.c104_session.specs.Shown.{line_outcome, lines_outcome, script_outcome, new_session, run_output, summary}
 
 -- a line was answered, and the answer joined what is kept, which may have been written by that
 abbrev pub AnswersLine : Session → ℕ → List ℕ → Option (List ℕ) → Option (List ℕ) → List ℕ → List ℕ → Session → Type 0
 AnswersLine session number line held holds kept keeps after = (after ≡ (line_outcome number session line).1) × AppendsAndKeeps held holds keeps (kept ++ (line_outcome number session line).0)
 
--- the answering of a line stopped: out of memory, and what was kept is written or kept; or the writer
--- failed, and a prefix of what was kept and of the answer was written
+-- a text doesn't join what is kept: out of memory, and what was kept is written or kept; or the writer
+-- failed, and a prefix of what was kept and of the text was written
+abbrev pub TextStops : List ℕ → Option (List ℕ) → Option (List ℕ) → List ℕ → List ℕ → Halt → Type 0
+TextStops text held holds kept keeps halt.CannotRead = ⊥
+TextStops text held holds kept keeps halt.CannotWrite = (keeps ≡ []) × AppendsPrefix held holds (kept ++ text)
+TextStops text held holds kept keeps halt.NoMemory = AppendsAndKeeps held holds keeps kept
+
+-- the answering of a line stopped, so that its answer doesn't join what is kept
 abbrev pub LineStops : Session → ℕ → List ℕ → Option (List ℕ) → Option (List ℕ) → List ℕ → List ℕ → Halt → Type 0
-LineStops session number line held holds kept keeps halt.CannotRead = ⊥
-LineStops session number line held holds kept keeps halt.CannotWrite = (keeps ≡ []) × AppendsPrefix held holds (kept ++ (line_outcome number session line).0)
-LineStops session number line held holds kept keeps halt.NoMemory = AppendsAndKeeps held holds keeps kept
+LineStops session number line held holds kept keeps kind = TextStops (line_outcome number session line).0 held holds kept keeps kind
 
 -- no further byte was read: what was kept is written before the reader fails, or a prefix of it where
 -- the writer fails
@@ -69,6 +76,24 @@ LinesEnd session script left held holds keeps after (Err halt.NoMemory) = KeepsP
 abbrev pub AnswersLines : Session → Option (List ℕ) → Option (List ℕ) → Option (List ℕ) → Option (List ℕ) → List ℕ → Session → Result Bool Halt → Type 0
 AnswersLines session None left held holds keeps after result = ⊤
 AnswersLines session (Some script) left held holds keeps after result = LinesEnd session script left held holds keeps after result
+
+-- what follows the answers: that the script is too long, or the summary of its run
+abbrev pub end_text : Bool → FinishedRecord → List ℕ
+end_text true run = script_too_long
+end_text false run = summary run
+
+-- a text is written; or a prefix of it where the writer fails, and nothing where memory runs out
+abbrev pub WritesText : List ℕ → Option (List ℕ) → Option (List ℕ) → Result (Unit {0}) Halt → Type 0
+WritesText text held holds (Ok u) = Appends held holds text
+WritesText text held holds (Err halt.CannotRead) = ⊥
+WritesText text held holds (Err halt.CannotWrite) = AppendsPrefix held holds text
+WritesText text held holds (Err halt.NoMemory) = holds ≡ held
+
+-- a run ended whose script was answered so: what follows the answers is written, but not where the answering stopped
+abbrev pub EndsRun : Result Bool Halt → Ended → Option (List ℕ) → Option (List ℕ) → Result Bool Halt → Type 0
+EndsRun (Err kind) ended held holds result = (result ≡ Err kind) × (holds ≡ held)
+EndsRun (Ok long) ended held holds (Ok refused) = (refused ≡ (long || ended.faulty)) × Appends held holds (end_text long ended.run)
+EndsRun (Ok long) ended held holds (Err kind) = WritesText (end_text long ended.run) held holds (Err kind)
 
 -- a script of whoever asks was run on the network of a plan with an image
 abbrev pub PlanEnds : Asker → Plan → Image → List ℕ → Option (List ℕ) → Option (List ℕ) → Option (List ℕ) → Result Bool Halt → Type 0

@@ -1,10 +1,11 @@
 //! A script, read and answered line by line.
-ghost use Rattle.std.specs.Prelude.{ℕ, ◌≡◌, List, [], IfOk, MatchResult};
+ghost use Rattle.std.specs.Prelude.{ℕ, ◌≡◌, ◌++◌, List, [], IfOk, MatchResult, OnOk};
 ghost use Rattle.std.specs.Io.KnownBytes.{prepend_known};
 ghost use Rattle.c104_stream.specs.Reading.{GivesByte};
 ghost use Rattle.c104_stream.specs.Writing.{AppendsAndKeeps};
 ghost use Rattle.c104_session.specs.Lines.{script_lines, AreOnlyLines, JoinsLine};
-ghost use Rattle.c104_session.specs.Runs.{AnswersLine, AnswersLines, AnswersScript, LineStops, ReadStops};
+ghost use Rattle.c104_session.specs.Runs.{AnswersLine, AnswersLines, AnswersScript, LineStops, ReadStops, TextStops};
+ghost use Rattle.c104_session.specs.Shown.{shown};
 
 use crate::explaining::explain_line;
 use crate::progress::Progress;
@@ -15,6 +16,15 @@ use c104_stream::{Ahead, Halt, Kept};
 use c104_token::NoMemory;
 use std::alloc::Global;
 use std::io::{Read, Write};
+
+/// What a line came to.
+#[derive(Drop)]
+pub(crate) struct Answered {
+    /// What answers it. None where it asks nothing.
+    pub(crate) answer: Option<Answer>,
+    /// How many of the rounds that it asks for have changed something.
+    pub(crate) rounds: u32,
+}
 
 /// The most bytes of a script: 16 MiB.
 pub const MAX_SCRIPT: usize = 16_777_216;
@@ -63,6 +73,13 @@ pub fn answer_script_explained<S: Read, W: Write, M: Messages>(
     Ok(is_long)
 }
 
+/// What a script's line is read into, and what its answer is printed into.
+#[derive(Drop)]
+struct Buffers {
+    line: Vec<u8>,
+    answer: Vec<u8>,
+}
+
 /// Answers the lines of a script, of which the last answers may be kept.
 fn answer_lines<S: Read, W: Write, M: Messages>(
     alloc: Global,
@@ -77,55 +94,57 @@ fn answer_lines<S: Read, W: Write, M: Messages>(
     ensures { AnswersLines session.old (prepend_known ahead.old (S.remaining script.old))
         (S.remaining script.new) (W.contents writer.old) (W.contents writer.new) kept.new session.new result }
 {
-    let mut line = Vec::new(alloc);
-    let mut answer = Vec::new(alloc);
+    let mut buffers = Buffers {
+        line: Vec::new(alloc),
+        answer: Vec::new(alloc),
+    };
+    read_and_answer(
+        alloc,
+        session,
+        ahead,
+        script,
+        &mut buffers,
+        kept,
+        writer,
+        messages,
+    )
+}
+
+/// The same, line by line in these buffers.
+fn read_and_answer<S: Read, W: Write, M: Messages>(
+    alloc: Global,
+    session: &mut Session,
+    ahead: &mut Ahead,
+    script: &mut S,
+    buffers: &mut Buffers,
+    kept: &mut Kept,
+    writer: &mut W,
+    messages: &mut M,
+) -> Result<bool, Halt>
+    requires kept { kept.old ≡ [] }
+    requires line { buffers.old.line.items ≡ [] }
+    ensures { AnswersLines session.old (prepend_known ahead.old (S.remaining script.old))
+        (S.remaining script.new) (W.contents writer.old) (W.contents writer.new) kept.new session.new result }
+{
     let mut number = 1;
     let mut left = MAX_SCRIPT;
     while left > 0 {
         let Some(byte) = next_byte(ahead, script, kept, writer)? else {
-            answer_line(
-                alloc,
-                session,
-                number,
-                line.as_slice(),
-                &mut answer,
-                kept,
-                writer,
-                messages,
-            )?;
+            answer_line(alloc, session, number, buffers, kept, writer, messages)?;
             return Ok(false);
         };
         left -= 1;
         if byte == b'\n' {
-            answer_line(
-                alloc,
-                session,
-                number,
-                line.as_slice(),
-                &mut answer,
-                kept,
-                writer,
-                messages,
-            )?;
-            line.clear();
+            answer_line(alloc, session, number, buffers, kept, writer, messages)?;
             number += 1;
         } else {
-            left -= add_bytes(ahead, &mut line, byte, left)?;
+            left -= add_bytes(ahead, &mut buffers.line, byte, left)?;
         }
     }
     match next_byte(ahead, script, kept, writer)? {
         Some(_) => Ok(true),
         None => {
-            answer_line(
-                alloc,
-                session,
-                number,
-                line.as_slice(),
-                &mut answer,
-                kept,
-                writer,
-                messages,
-            )?;
+            answer_line(alloc, session, number, buffers, kept, writer, messages)?;
             Ok(false)
         }
     }
@@ -152,9 +171,42 @@ fn next_byte<S: Read, W: Write>(
     Ok(next)
 }
 
+/// Does what the line in the buffers asks. The line that answers it joins what is kept. Then what is to be told of it
+/// is told, and the buffer is empty for the next line.
+fn answer_line<W: Write, M: Messages>(
+    alloc: Global,
+    session: &mut Session,
+    number: usize,
+    buffers: &mut Buffers,
+    kept: &mut Kept,
+    writer: &mut W,
+    messages: &mut M,
+) -> Result<(), Halt>
+    ensures answered { MatchResult result
+        (λ _. AnswersLine session.old number buffers.old.line.items
+        (W.contents writer.old) (W.contents writer.new) kept.old kept.new session.new)
+        (λ halt. LineStops session.old number buffers.old.line.items
+        (W.contents writer.old) (W.contents writer.new) kept.old kept.new halt) }
+    ensures cleared { OnOk result (buffers.new.line.items ≡ []) }
+{
+    let Buffers { line, answer: text } = buffers;
+    answer_and_explain(
+        alloc,
+        session,
+        number,
+        line.as_slice(),
+        text,
+        kept,
+        writer,
+        messages,
+    )?;
+    line.clear();
+    Ok(())
+}
+
 /// Does what a line asks. The line that answers it joins what is kept; the text is where it is printed. Then
 /// what is to be told of it is told.
-fn answer_line<W: Write, M: Messages>(
+fn answer_and_explain<W: Write, M: Messages>(
     alloc: Global,
     session: &mut Session,
     number: usize,
@@ -170,9 +222,9 @@ fn answer_line<W: Write, M: Messages>(
         (λ halt. LineStops session.old number line.now
         (W.contents writer.old) (W.contents writer.new) kept.old kept.new halt) }
 {
-    let answer = give_answer(alloc, session, number, line, text, kept, writer, messages)?;
+    let answered = give_answer(alloc, session, number, line, text, kept, writer, messages)?;
     explain_line(
-        alloc, session, number, line, &answer, kept, writer, messages,
+        alloc, session, number, line, &answered, kept, writer, messages,
     )?;
     Ok(())
 }
@@ -188,21 +240,40 @@ fn give_answer<W: Write, M: Messages>(
     kept: &mut Kept,
     writer: &mut W,
     messages: &mut M,
-) -> Result<Option<Answer>, Halt>
+) -> Result<Answered, Halt>
     ensures { MatchResult result
         (λ _. AnswersLine session.old number line.now
         (W.contents writer.old) (W.contents writer.new) kept.old kept.new session.new)
         (λ halt. LineStops session.old number line.now
         (W.contents writer.old) (W.contents writer.new) kept.old kept.new halt) }
 {
-    text.clear();
     let mut progress = Progress::of_line(number, messages);
     let answer = session.answer_watched(alloc, line, &mut progress)?;
-    if let Some(answer) = &answer {
+    let rounds = progress.done();
+    keep_answer(number, &answer, text, kept, writer)?;
+    Ok(Answered { answer, rounds })
+}
+
+/// The line of an answer, if there is one, joins what is kept; the text is where it is printed.
+fn keep_answer<W: Write>(
+    number: usize,
+    answer: &Option<Answer>,
+    text: &mut Vec<u8>,
+    kept: &mut Kept,
+    writer: &mut W,
+) -> Result<(), Halt>
+    ensures { MatchResult result
+        (λ _. AppendsAndKeeps (W.contents writer.old) (W.contents writer.new) kept.new
+        (kept.old ++ shown number answer.now))
+        (λ halt. TextStops (shown number answer.now)
+        (W.contents writer.old) (W.contents writer.new) kept.old kept.new halt) }
+{
+    text.clear();
+    if let Some(answer) = answer {
         add_answer(number, answer, text)?;
     }
     kept.add(writer, text.as_slice())?;
-    Ok(answer)
+    Ok(())
 }
 
 /// A byte joins the line, and so does what is read ahead of that line, but no more than so many bytes. Says

@@ -4,8 +4,10 @@ ghost use Rattle.std.specs.String.{string_bytes};
 ghost use Rattle.c104_stream.specs.Writing.{AppendsAndKeeps, AppendsPrefix};
 ghost use Rattle.c104_session.specs.Told.{MayTell, TellsReason};
 
+use crate::answering::Answered;
 use crate::questions::answer_question;
 use crate::session::Session;
+use crate::standing::explain_standstill;
 use c104_explain::{
     About, Messages, fault_message, reason_message, refusal_message, register_message,
 };
@@ -22,7 +24,7 @@ pub(crate) fn explain_line<W: Write, M: Messages>(
     session: &Session,
     number: usize,
     line: &[u8],
-    answer: &Option<Answer>,
+    answered: &Answered,
     kept: &mut Kept,
     writer: &mut W,
     messages: &mut M,
@@ -34,7 +36,17 @@ pub(crate) fn explain_line<W: Write, M: Messages>(
     if !messages.are_wanted() {
         return Ok(());
     }
-    match answer {
+    match &answered.answer {
+        Some(Answer::Replied(Reply::Done)) => explain_standstill(
+            alloc,
+            session,
+            number,
+            line,
+            answered.rounds,
+            kept,
+            writer,
+            messages,
+        ),
         Some(answer) => explain_answer(
             alloc, session, number, line, answer, kept, writer, messages,
         ),

@@ -21,6 +21,7 @@ mod progress;
 mod questions;
 mod runs;
 mod session;
+mod standing;
 mod starting;
 mod summary;
 mod tools;

@@ -1,15 +1,20 @@
 //! A script, run on the network of a plan.
+ghost use Rattle.std.specs.Prelude.{◌≡◌};
 ghost use Rattle.std.specs.Io.KnownBytes.{prepend_known};
-ghost use Rattle.c104_describe.specs.PlanImage.{Fits};
-ghost use Rattle.c104_session.specs.Runs.{RunsPlan};
+ghost use Rattle.c104_describe.specs.PlanImage.{Fits, Image as TheImage};
+ghost use Rattle.c104_describe.specs.Plans.{Plan as ThePlan};
+ghost use Rattle.c104_session.specs.Runs.{EndsRun, RunsPlan, WritesText, end_text};
+ghost use Rattle.c104_session.specs.Shown.{new_session};
+ghost use Rattle.c104_session.specs.declared.asker.Asker.{Asker as TheAsker};
 ghost use Rattle.c104_session.specs.declared.asker.Asker.TheVariants as who;
 
 use crate::answering::answer_script_explained;
 use crate::asker::Asker;
-use crate::session::Session;
+use crate::session::{Ended, Session};
 use crate::summary::summary_text;
 use c104_describe::{Image, Plan};
 use c104_explain::{About, Messages, Silent, leftover_messages};
+use c104_net::Run;
 use c104_stream::{Ahead, Halt, write_whole};
 use std::alloc::Global;
 use std::io::{Read, Write};
@@ -60,19 +65,58 @@ pub fn run_plan_explained<S: Read, W: Write, M: Messages>(
         (prepend_known ahead.old (S.remaining script.old)) (S.remaining script.new)
         (W.contents writer.old) (W.contents writer.new) result }
 {
-    let mut session = Session::new(alloc, asker, plan, image)?;
+    let session = Session::new(alloc, asker, plan, image)?;
+    run_session(alloc, session, ahead, script, writer, messages)
+}
+
+/// Runs a script on a network that is before its first line.
+fn run_session<S: Read, W: Write, M: Messages>(
+    alloc: Global,
+    session: Session,
+    ahead: &mut Ahead,
+    script: &mut S,
+    writer: &mut W,
+    messages: &mut M,
+) -> Result<bool, Halt>
+    ensures { (asker : TheAsker) (plan : ThePlan) (image : TheImage) → session ≡ new_session asker plan image →
+        RunsPlan asker plan image (prepend_known ahead.old (S.remaining script.old)) (S.remaining script.new)
+        (W.contents writer.old) (W.contents writer.new) result }
+{
+    let mut session = session;
     let answered = answer_script_explained(alloc, &mut session, ahead, script, writer, messages);
     let leftovers = leftovers_of(alloc, &session, messages);
     let ended = session.finish();
-    if answered? {
+    end_run(alloc, answered, &ended, &leftovers, writer, messages)
+}
+
+/// Ends a run whose script was answered so: writes what follows the answers, and tells what didn't arrive.
+fn end_run<W: Write, M: Messages>(
+    alloc: Global,
+    answered: Result<bool, Halt>,
+    ended: &Ended,
+    leftovers: &Option<Vec<String>>,
+    writer: &mut W,
+    messages: &mut M,
+) -> Result<bool, Halt>
+    ensures { EndsRun answered ended.now (W.contents writer.old) (W.contents writer.new) result }
+{
+    let is_long = answered?;
+    write_end(alloc, is_long, &ended.run, writer)?;
+    tell_all(leftovers, messages);
+    Ok(is_long || ended.faulty)
+}
+
+/// Writes what follows the answers: that the script is too long, or the summary of its run.
+fn write_end<W: Write>(alloc: Global, is_long: bool, run: &Run, writer: &mut W) -> Result<(), Halt>
+    ensures { WritesText (end_text is_long run.now) (W.contents writer.old) (W.contents writer.new) result }
+{
+    if is_long {
         write_whole(writer, b"script too long\n")?;
-        tell_all(&leftovers, messages);
-        return Ok(true);
+        return Ok(());
     }
-    let summary = summary_text(alloc, &ended.run)?;
+    let summary = summary_text(alloc, run)?;
     write_whole(writer, summary.as_slice())?;
-    tell_all(&leftovers, messages);
-    Ok(ended.faulty)
+    Ok(())
 }
 
 /// What is to be told at the end of what didn't arrive.

@@ -21,17 +21,31 @@ use std::alloc::Global;
 /// came: the packet, the terminal that sent it, and its number among those that this terminal sent, from 0. It is
 /// made whole before any of it is written, so that none of it is where memory runs out. The only error is out of
 /// memory.
-#[tactic(auto, unfolding(crate::specs::Shown::summary))]
 pub fn summary_text(alloc: Global, run: &Run) -> Result<Vec<u8>, NoMemory>
     ensures { IfOk result (λ text. text.items ≡ summary run.now) }
 {
     let origins = run.origins(alloc)?;
     let mut text = Vec::new(alloc);
+    add_terminals(alloc, run, origins.as_slice(), &mut text)?;
+    Ok(text)
+}
+
+/// The lines of the packets that each terminal received join the text.
+#[tactic(auto, unfolding(crate::specs::Shown::summary))]
+fn add_terminals(
+    alloc: Global,
+    run: &Run,
+    origins: &[Vec<Origin>],
+    text: &mut Vec<u8>,
+) -> Result<(), NoMemory>
+    requires { AreOrigins run.now (map (λ (list : Kept TheOrigin). list.items) origins.now) }
+    ensures { OnOk result (text.new.items ≡ text.old.items ++ summary run.now) }
+{
     for (number, terminal) in run.plan().terminals().iter().enumerate() {
         let name = terminal.name.as_bytes();
-        add_terminal(alloc, run, number, name, origins.as_slice(), &mut text)?;
+        add_terminal(alloc, run, number, name, origins, text)?;
     }
-    Ok(text)
+    Ok(())
 }
 
 /// The lines of the packets that a terminal received join the text.

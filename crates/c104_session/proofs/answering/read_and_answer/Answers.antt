@@ -1,7 +1,7 @@
 use Rattle.std.proofs.Common.{arith}
 use Rattle.c104_session.proofs.ScriptEnds.{err_is, read_halts, byte_halts, line_halts, last_halts, script_ends, script_is_long}
-use Rattle.c104_session.proofs.ScriptSoFar.{reached_bytes, reached_line, reached_on, reached_text}
-use Rattle.c104_session.proofs.answering.answer_lines.Goals as goal
+use Rattle.c104_session.proofs.ScriptSoFar.{reached_bytes, reached_line, reached_on}
+use Rattle.c104_session.proofs.answering.read_and_answer.Goals as goal
 
 pub returns-in_err-byte : goal.returns-in_err-byte
 returns-in_err-byte g c =
@@ -11,18 +11,18 @@ pub returns-in_err-answer_line : goal.returns-in_err-answer_line
 returns-in_err-answer_line g c =
     let ended = rw c.in_default.is at c.in_ok-byte.ensures.0 in
     rw (err_is _ _ c.from_residual-in_err-answer_line.ensures)
-    (last_halts _ _ _ _ _ _ _ _ _ _ _ _ _ _ _ c.in_err-answer_line.field-0.0 (reached_text _ _ c.as_slice.ensures.value (reached_on c.loop-left.invariant _ _ c.in_ok-byte.ensures.1)) ended c.in_err-answer_line.ensures)
+    (last_halts _ _ _ _ _ _ _ _ _ _ _ _ _ _ _ c.in_err-answer_line.field-0.0 (reached_on c.loop-left.invariant _ _ c.in_ok-byte.ensures.1) ended c.in_err-answer_line.ensures.answered)
 
 pub returns-in_default : goal.returns-in_default
 returns-in_default g c =
     let ended = rw c.in_default.is at c.in_ok-byte.ensures.0 in
-    script_ends _ _ _ _ _ _ _ _ _ _ _ _ _ _ _ (reached_text _ _ c.as_slice.ensures.value (reached_on c.loop-left.invariant _ _ c.in_ok-byte.ensures.1)) ended c.in_ok-answer_line.ensures.0 c.in_ok-answer_line.ensures.1
+    script_ends _ _ _ _ _ _ _ _ _ _ _ _ _ _ _ (reached_on c.loop-left.invariant _ _ c.in_ok-byte.ensures.1) ended c.in_ok-answer_line.ensures.answered.0 c.in_ok-answer_line.ensures.answered.1
 
 pub returns-in_err-answer_line-2 : goal.returns-in_err-answer_line-2
 returns-in_err-answer_line-2 g c =
     let took = rw (c.in-Some.is, c.if-byte-eq10.true) at c.in_ok-byte.ensures.0 in
     rw (err_is _ _ c.from_residual-in_err-answer_line-2.ensures)
-    (line_halts _ _ _ _ _ _ _ _ _ _ _ _ _ _ _ c.in_err-answer_line-2.field-0.0 (reached_text _ _ c.as_slice-then-byte-eq10.ensures.value (reached_on c.loop-left.invariant _ _ c.in_ok-byte.ensures.1)) (omega arith) took c.in_err-answer_line-2.ensures)
+    (line_halts _ _ _ _ _ _ _ _ _ _ _ _ _ _ _ c.in_err-answer_line-2.field-0.0 (reached_on c.loop-left.invariant _ _ c.in_ok-byte.ensures.1) (omega arith) took c.in_err-answer_line-2.ensures.answered)
 
 pub returns-in_err-left : goal.returns-in_err-left
 returns-in_err-left g c =
@@ -32,8 +32,8 @@ returns-in_err-left g c =
 pub loop-left-preserved-then-byte-eq10 : goal.loop-left-preserved-then-byte-eq10
 loop-left-preserved-then-byte-eq10 g c =
     let took = rw (c.in-Some.is, c.if-byte-eq10.true) at c.in_ok-byte.ensures.0 in
-    let a = reached_line (reached_text _ _ c.as_slice-then-byte-eq10.ensures.value (reached_on c.loop-left.invariant _ _ c.in_ok-byte.ensures.1)) _ _ _ _ (omega arith) took c.in_ok-answer_line-2.ensures.0 c.in_ok-answer_line-2.ensures.1 in
-    rw (c.clear.ensures.items) a
+    let a = reached_line (reached_on c.loop-left.invariant _ _ c.in_ok-byte.ensures.1) _ _ _ _ (omega arith) took c.in_ok-answer_line-2.ensures.answered.0 c.in_ok-answer_line-2.ensures.answered.1 in
+    rw (c.in_ok-answer_line-2.ensures.cleared) a
 
 pub loop-left-preserved : goal.loop-left-preserved
 loop-left-preserved g c =
@@ -53,9 +53,9 @@ pub returns-in_err-answer_line-in-None : goal.returns-in_err-answer_line-in-None
 returns-in_err-answer_line-in-None g c =
     let ended = rw c.in-None.is at c.in_ok-next_byte.ensures.0 in
     rw (err_is _ _ c.from_residual-in_err-answer_line-in-None.ensures)
-    (last_halts _ _ _ _ _ _ _ _ _ _ _ _ _ _ _ c.in_err-answer_line-in-None.field-0.0 (reached_text _ _ c.as_slice-in-None.ensures.value (reached_on c.loop-left.invariant _ _ c.in_ok-next_byte.ensures.1)) ended c.in_err-answer_line-in-None.ensures)
+    (last_halts _ _ _ _ _ _ _ _ _ _ _ _ _ _ _ c.in_err-answer_line-in-None.field-0.0 (reached_on c.loop-left.invariant _ _ c.in_ok-next_byte.ensures.1) ended c.in_err-answer_line-in-None.ensures.answered)
 
-pub returns : goal.returns
-returns g c =
+pub returns-in_ok-answer_line-in-None : goal.returns-in_ok-answer_line-in-None
+returns-in_ok-answer_line-in-None g c =
     let ended = rw c.in-None.is at c.in_ok-next_byte.ensures.0 in
-    script_ends _ _ _ _ _ _ _ _ _ _ _ _ _ _ _ (reached_text _ _ c.as_slice-in-None.ensures.value (reached_on c.loop-left.invariant _ _ c.in_ok-next_byte.ensures.1)) ended c.in_ok-answer_line-in-None.ensures.0 c.in_ok-answer_line-in-None.ensures.1
+    script_ends _ _ _ _ _ _ _ _ _ _ _ _ _ _ _ (reached_on c.loop-left.invariant _ _ c.in_ok-next_byte.ensures.1) ended c.in_ok-answer_line-in-None.ensures.answered.0 c.in_ok-answer_line-in-None.ensures.answered.1
