@@ -1,3 +1,4 @@
 mod Refusals
 mod ImageLines
 mod ReadFaults
+mod CycleLemmas

@@ -1,12 +1,14 @@
--- How each command ends where a description gives no network with labels.
-use Rattle.std.proofs.Common.{ℕ, List, Option, None, Some, Result, Err, true, refl, inl}
+-- How each command ends where a description gives no network with labels, or one whose labels are refused.
+use Rattle.std.proofs.Common.{ℕ, Bool, List, Option, None, Some, Result, Err, Ok, true, refl, inl}
 use Rattle.c104_describe.specs.Plans.{Plan}
+use Rattle.c104_describe.specs.PlanImage.{Image}
 use Rattle.c104_describe.specs.declared.faults.PlanFault.{PlanFault}
 use Rattle.c104_commands.specs.declared.setups.SetupFault.{SetupFault}
 use Rattle.c104_commands.specs.declared.status.Status.{Status}
 use Rattle.c104_commands.specs.declared.status.Status.TheVariants as status
 use Rattle.c104_commands.specs.Setups.{ComesTo, IsOutOfMemory, RefusalEnds, refused_text}
-use Rattle.c104_commands.specs.Checks.{CheckEnds}
+use Rattle.c104_commands.specs.Checks.{CheckEnds, LabelRefusalEnds}
+use Rattle.c104_commands.specs.Cycles.{CyclesEnd}
 use Rattle.c104_commands.specs.Draws.{DrawEnds}
 use Rattle.c104_commands.specs.Labels.{LabelEnds}
 use Rattle.c104_session.specs.declared.asker.Asker.{Asker}
@@ -43,3 +45,24 @@ description_refused asker due why script left held holds status.NoMemory comes e
 pub run_refused : (asker : Asker) (due : Result Plan PlanFault) (why : SetupFault) (script left held holds : Option (List ℕ)) (ended : Status) → ((IsOutOfMemory why → ⊥) → ComesTo due (Err why)) → RefusalEnds why held holds ended → RunsDescription asker due script left held holds ended
 run_refused asker due why None left held holds ended comes ends = tt
 run_refused asker due why (Some script) left held holds ended comes ends = description_refused asker due why script left held holds ended comes ends
+
+pub cycles_refused : (all : Bool) (due : Result Plan PlanFault) (why : SetupFault) (held holds : Option (List ℕ)) (ended : Status) → ((IsOutOfMemory why → ⊥) → ComesTo due (Err why)) → RefusalEnds why held holds ended → CyclesEnd all due held holds ended
+cycles_refused all due why held holds status.Done comes ends = absurd ends
+cycles_refused all due why held holds status.Refused comes ends = (Err why, comes ends.0, refused_text why, (refl, refl), ends.1)
+cycles_refused all due why held holds (status.CannotRead n) comes ends = absurd ends
+cycles_refused all due why held holds status.CannotWrite comes ends = (Err why, comes ends.0, refused_text why, true, (refl, refl), ends.1)
+cycles_refused all due why held holds status.NoMemory comes ends = ends
+
+pub check_label_refused : (due : Result Plan PlanFault) (plan : Plan) (image : Image) (held holds : Option (List ℕ)) (ended : Status) → ComesTo due (Ok (plan, image)) → LabelRefusalEnds plan image held holds ended → CheckEnds due held holds ended
+check_label_refused due plan image held holds status.Done comes ends = absurd ends
+check_label_refused due plan image held holds status.Refused comes ends = (Ok (plan, image), comes, ends.0, ends.1, ends.2)
+check_label_refused due plan image held holds (status.CannotRead n) comes ends = absurd ends
+check_label_refused due plan image held holds status.CannotWrite comes ends = (Ok (plan, image), comes, ends.0, true, ends.1, ends.2)
+check_label_refused due plan image held holds status.NoMemory comes ends = ends
+
+pub cycles_label_refused : (all : Bool) (due : Result Plan PlanFault) (plan : Plan) (image : Image) (held holds : Option (List ℕ)) (ended : Status) → ComesTo due (Ok (plan, image)) → LabelRefusalEnds plan image held holds ended → CyclesEnd all due held holds ended
+cycles_label_refused all due plan image held holds status.Done comes ends = absurd ends
+cycles_label_refused all due plan image held holds status.Refused comes ends = (Ok (plan, image), comes, ends.0, inl (ends.1, refl), ends.2)
+cycles_label_refused all due plan image held holds (status.CannotRead n) comes ends = absurd ends
+cycles_label_refused all due plan image held holds status.CannotWrite comes ends = (Ok (plan, image), comes, ends.0, true, inl (ends.1, refl), ends.2)
+cycles_label_refused all due plan image held holds status.NoMemory comes ends = ends

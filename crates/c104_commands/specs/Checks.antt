@@ -26,6 +26,15 @@ pub record IsRefusedBy (plan : Plan) (image : Image) (text : List ℕ) : Type 0 
   pub line : text ≡ check_fault_text plan why
   pub shape : is_labelled_shape plan.shape ≡ false
 
+-- how a command ends where the labels of a plan with an image are refused, and what it has written then: the line
+-- that tells the first fault, or a prefix of it where the writer failed, or nothing where it is out of memory
+abbrev pub LabelRefusalEnds : Plan → Image → Option (List ℕ) → Option (List ℕ) → Status → Type 0
+LabelRefusalEnds plan image held holds status.Done = ⊥
+LabelRefusalEnds plan image held holds status.Refused = (text : List ℕ) × IsRefusedBy plan image text × Appends held holds text
+LabelRefusalEnds plan image held holds (status.CannotRead n) = ⊥
+LabelRefusalEnds plan image held holds status.CannotWrite = (text : List ℕ) × IsRefusedBy plan image text × AppendsPrefix held holds text
+LabelRefusalEnds plan image held holds status.NoMemory = Keeps held holds
+
 -- what a check prints, by what its description comes to, and whether that is refused, itself or its labels
 abbrev pub Prints : SetupResult → List ℕ → Bool → Type 0
 Prints (Err why) text refused = (text ≡ refused_text why) × (refused ≡ true)

@@ -7,3 +7,6 @@ pub mod ImageTexts
 pub mod Labels
 pub mod Advice
 pub mod Draws
+pub mod CycleTexts
+pub mod Cycles
+pub mod CycleAdvice

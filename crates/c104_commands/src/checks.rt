@@ -8,9 +8,10 @@ ghost use Rattle.c104_describe.specs.PlanText.{read_description};
 ghost use Rattle.c104_describe.specs.Plans.{Plan as ThePlan};
 ghost use Rattle.c104_describe.specs.declared.faults.PlanFault.{PlanFault as ThePlanFault};
 ghost use Rattle.c104_label.specs.Images.{is_labelled_shape};
-ghost use Rattle.c104_commands.specs.Checks.{CheckEnds, ChecksText};
+ghost use Rattle.c104_commands.specs.Checks.{CheckEnds, ChecksText, LabelRefusalEnds};
 ghost use Rattle.c104_commands.specs.Setups.{ComesTo};
 
+use crate::accepted::cycle_advice;
 use crate::advice::check_advice;
 use crate::setups::{Setup, refuse, set_up};
 use crate::status::Status;
@@ -73,6 +74,7 @@ fn check_description<W: Write, M: Messages>(
 }
 
 /// Checks the labels of a network.
+#[tactic(auto, using(crate::proofs::Refusals::check_label_refused))]
 fn check_setup<W: Write, M: Messages>(
     alloc: Global,
     setup: &Setup,
@@ -86,17 +88,47 @@ fn check_setup<W: Write, M: Messages>(
         → CheckEnds due (W.contents writer.old) (W.contents writer.new) result }
 {
     match check(alloc, &setup.plan, &setup.image) {
-        Ok(_) => match write_whole(writer, b"accepted\n") {
-            Ok(()) => Status::Done,
-            Err(_) => Status::CannotWrite,
-        },
+        Ok(_) => accept_labels(alloc, setup, writer, messages),
         Err(CheckFault::NoMemory) => Status::NoMemory,
         Err(fault) => refuse_labels(alloc, setup, &fault, writer, messages),
     }
 }
 
-/// Tells why the labels of a network are refused.
-fn refuse_labels<W: Write, M: Messages>(
+/// Tells that the labels of a network are accepted.
+fn accept_labels<W: Write, M: Messages>(
+    alloc: Global,
+    setup: &Setup,
+    writer: &mut W,
+    messages: &mut M,
+) -> Status
+    requires fits { Fits setup.now.image setup.now.plan }
+    requires accepted { IsAccepted (routes_of setup.now.plan setup.now.image) }
+    ensures { (due : Result ThePlan ThePlanFault) → ComesTo due (Ok (setup.now.plan, setup.now.image))
+        → CheckEnds due (W.contents writer.old) (W.contents writer.new) result }
+{
+    let Ok(()) = write_whole(writer, b"accepted\n") else {
+        return Status::CannotWrite;
+    };
+    if messages.are_wanted() {
+        tell_of_cycles(alloc, setup, messages);
+    }
+    Status::Done
+}
+
+/// Tells people whether packets can come to be held for good in a network whose labels are accepted, line by line,
+/// where there is memory for it.
+fn tell_of_cycles<M: Messages>(alloc: Global, setup: &Setup, messages: &mut M)
+    requires fits { Fits setup.now.image setup.now.plan }
+    requires accepted { IsAccepted (routes_of setup.now.plan setup.now.image) }
+{
+    let Ok(advice) = cycle_advice(alloc, &setup.plan, &setup.image) else {
+        return;
+    };
+    tell_lines(advice.as_str(), messages);
+}
+
+/// Tells why the labels of a network are refused, which ends any command that checks them.
+pub(crate) fn refuse_labels<W: Write, M: Messages>(
     alloc: Global,
     setup: &Setup,
     fault: &CheckFault,
@@ -107,8 +139,8 @@ fn refuse_labels<W: Write, M: Messages>(
     requires cause { IsCause (routes_of setup.now.plan setup.now.image) fault.now }
     requires told { fault.now ≢ check_fault.NoMemory }
     requires shape { is_labelled_shape setup.now.plan.shape ≡ false }
-    ensures { (due : Result ThePlan ThePlanFault) → ComesTo due (Ok (setup.now.plan, setup.now.image))
-        → CheckEnds due (W.contents writer.old) (W.contents writer.new) result }
+    ensures { LabelRefusalEnds setup.now.plan setup.now.image
+        (W.contents writer.old) (W.contents writer.new) result }
 {
     let Ok(text) = check_fault_text(alloc, &setup.plan, fault) else {
         return Status::NoMemory;
@@ -130,7 +162,12 @@ fn advise<M: Messages>(alloc: Global, setup: &Setup, fault: &CheckFault, message
     let Ok(advice) = check_advice(alloc, &setup.plan, &setup.image, fault) else {
         return;
     };
-    for line in advice.as_str().lines() {
+    tell_lines(advice.as_str(), messages);
+}
+
+/// Tells people each line of an advice.
+fn tell_lines<M: Messages>(advice: &str, messages: &mut M) {
+    for line in advice.lines() {
         messages.tell(About::Description, line);
     }
 }

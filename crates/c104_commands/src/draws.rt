@@ -7,16 +7,13 @@ ghost use Rattle.c104_describe.specs.declared.faults.PlanFault.{PlanFault as The
 ghost use Rattle.c104_commands.specs.Draws.{DrawEnds, DrawsText};
 ghost use Rattle.c104_commands.specs.Setups.{ComesTo};
 
+use crate::pictures::{Marks, picture_text};
 use crate::setups::{Setup, refuse, set_up};
 use crate::status::Status;
-use crate::texts::check_fault_text;
-use c104_check::CheckFault;
-use c104_describe::{MAX_DESCRIPTION, Plan};
-use c104_draw::{draw, draw_header, drawing_text};
+use c104_describe::MAX_DESCRIPTION;
 use c104_explain::{Messages, Silent};
 use c104_stream::{Halt, read_up_to, write_whole};
-use c104_token::NoMemory;
-use std::alloc::{AllocError, Global};
+use std::alloc::Global;
 use std::io::{Read, Write};
 
 /// Reads a description and draws its network; writes the picture as a text for Graphviz, or why the network isn't
@@ -56,11 +53,55 @@ pub fn draw_explained<D: Read, W: Write, M: Messages>(
     ensures { DrawsText (D.remaining description.old)
         (W.contents writer.old) (W.contents writer.new) result }
 {
+    let marks = match header {
+        Some(header) => Marks::Header(header),
+        None => Marks::Nothing,
+    };
+    draw_marked(alloc, description, marks, writer, messages)
+}
+
+/// The same of a description's network in which a cycle of channel dependencies is marked, if `cycles_command` finds
+/// one, under a title that tells it.
+pub fn draw_cycles_command<D: Read, W: Write>(
+    alloc: Global,
+    description: &mut D,
+    writer: &mut W,
+) -> Status
+    ensures { DrawsText (D.remaining description.old)
+        (W.contents writer.old) (W.contents writer.new) result }
+{
+    draw_cycles_explained(alloc, description, writer, &mut Silent)
+}
+
+/// The same, and tells people why the description is refused.
+pub fn draw_cycles_explained<D: Read, W: Write, M: Messages>(
+    alloc: Global,
+    description: &mut D,
+    writer: &mut W,
+    messages: &mut M,
+) -> Status
+    ensures { DrawsText (D.remaining description.old)
+        (W.contents writer.old) (W.contents writer.new) result }
+{
+    draw_marked(alloc, description, Marks::Cycle, writer, messages)
+}
+
+/// Reads a description and draws its network, in which this is marked.
+fn draw_marked<D: Read, W: Write, M: Messages>(
+    alloc: Global,
+    description: &mut D,
+    marks: Marks,
+    writer: &mut W,
+    messages: &mut M,
+) -> Status
+    ensures { DrawsText (D.remaining description.old)
+        (W.contents writer.old) (W.contents writer.new) result }
+{
     let text = match read_up_to(alloc, MAX_DESCRIPTION, description) {
         Ok(text) => text,
         Err(fault) => return Status::of_halt(Halt::from(fault), 0),
     };
-    draw_description(alloc, text.as_slice(), header, writer, messages)
+    draw_description(alloc, text.as_slice(), marks, writer, messages)
 }
 
 /// Draws the network of a description that is read.
@@ -68,7 +109,7 @@ pub fn draw_explained<D: Read, W: Write, M: Messages>(
 fn draw_description<W: Write, M: Messages>(
     alloc: Global,
     description: &[u8],
-    header: Option<u32>,
+    marks: Marks,
     writer: &mut W,
     messages: &mut M,
 ) -> Status
@@ -76,58 +117,22 @@ fn draw_description<W: Write, M: Messages>(
         (W.contents writer.old) (W.contents writer.new) result }
 {
     match set_up(alloc, description) {
-        Ok(setup) => draw_setup(alloc, &setup, header, writer),
+        Ok(setup) => draw_setup(alloc, &setup, marks, writer),
         Err(fault) => refuse(alloc, description, fault, writer, messages),
     }
 }
 
 /// Draws a network.
-fn draw_setup<W: Write>(alloc: Global, setup: &Setup, header: Option<u32>, writer: &mut W) -> Status
+fn draw_setup<W: Write>(alloc: Global, setup: &Setup, marks: Marks, writer: &mut W) -> Status
     requires { Fits setup.now.image setup.now.plan }
     ensures { (due : Result ThePlan ThePlanFault) → ComesTo due (Ok (setup.now.plan, setup.now.image))
         → DrawEnds due (W.contents writer.old) (W.contents writer.new) result }
 {
-    let Ok(text) = picture_text(alloc, setup, header) else {
+    let Ok(text) = picture_text(alloc, &setup.plan, &setup.image, marks) else {
         return Status::NoMemory;
     };
     match write_whole(writer, text.as_bytes()) {
         Ok(()) => Status::Done,
         Err(_) => Status::CannotWrite,
-    }
-}
-
-/// The text of a network's picture, in which the ways of a header are marked if one is given.
-fn picture_text(alloc: Global, setup: &Setup, header: Option<u32>) -> Result<String, NoMemory>
-    requires { Fits setup.now.image setup.now.plan }
-{
-    let plan = &setup.plan;
-    let image = &setup.image;
-    let Some(header) = header else {
-        let drawing = draw(alloc, plan, image)?;
-        let text = drawing_text(alloc, plan, image, &drawing, "")?;
-        return Ok(text);
-    };
-    let drawn = draw_header(alloc, plan, image, header)?;
-    let title = header_title(alloc, plan, header, &drawn.fault)?;
-    let text = drawing_text(
-        alloc,
-        plan,
-        image,
-        &drawn.drawing,
-        title.as_str().trim_end(),
-    )?;
-    Ok(text)
-}
-
-/// The title of a header's picture: the line of its fault, if it is refused.
-fn header_title(
-    alloc: Global,
-    plan: &Plan,
-    header: u32,
-    fault: &Option<CheckFault>,
-) -> Result<String, AllocError> {
-    match fault {
-        Some(fault) => check_fault_text(alloc, plan, fault),
-        None => format!(in alloc; "header {header}"),
     }
 }

@@ -12,9 +12,9 @@ use std::alloc::{AllocError, Global};
 
 /// Which row of an input covers a header.
 #[derive(Clone, Copy, Debug)]
-struct Covering {
+pub(crate) struct Covering {
     /// The first that does, if one does.
-    row: Option<PlanRow>,
+    pub(crate) row: Option<PlanRow>,
     /// Where its interval begins; where none does, where that of a further row would.
     low: u32,
     /// How many rows the input has.
@@ -38,7 +38,7 @@ pub(crate) fn row_change(
 }
 
 /// The first row of an input that covers a header.
-fn find_covering(plan: &Plan, port: Port, header: u32) -> Covering {
+pub(crate) fn find_covering(plan: &Plan, port: Port, header: u32) -> Covering {
     let mut covering = Covering {
         row: None,
         low: base_of(plan, port),
@@ -73,7 +73,7 @@ fn covering_with(covering: Covering, row: PlanRow, header: u32) -> Covering {
 }
 
 /// Where the first interval of an input's table begins.
-fn base_of(plan: &Plan, port: Port) -> u32 {
+pub(crate) fn base_of(plan: &Plan, port: Port) -> u32 {
     for base in plan.bases() {
         if base.port.is_same(port) {
             return base.base;

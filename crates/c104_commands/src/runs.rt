@@ -12,9 +12,9 @@ ghost use Rattle.c104_commands.specs.declared.status.Status.TheVariants as statu
 ghost use Rattle.c104_commands.specs.Setups.{ComesTo};
 ghost use Rattle.c104_commands.specs.Runs.{RunsParts, RunsDescription, RunsText};
 
-use crate::setups::{Setup, refuse, set_up};
+use crate::setups::{Setup, drop_plan, refuse, set_up};
 use crate::status::Status;
-use c104_describe::MAX_DESCRIPTION;
+use c104_describe::{Image, MAX_DESCRIPTION, Plan};
 use c104_explain::{Behind, Messages, Silent};
 use c104_script::read_first_part;
 use c104_session::{Asker, run_plan_explained};
@@ -195,7 +195,30 @@ fn run_setup<S: Read, W: Write, M: Messages>(
     ensures of_script { (n : ℕ) → result ≡ status.CannotRead n → n ≡ 1 }
 {
     let Setup { plan, image } = setup;
-    match run_plan_explained(alloc, asker, &plan, image, ahead, script, writer, messages) {
+    let status = run_image(alloc, asker, &plan, image, ahead, script, writer, messages);
+    drop_plan(plan);
+    status
+}
+
+/// The same of a plan and an image that fits it.
+fn run_image<S: Read, W: Write, M: Messages>(
+    alloc: Global,
+    asker: Asker,
+    plan: &Plan,
+    image: Image,
+    ahead: &mut Ahead,
+    script: &mut S,
+    writer: &mut W,
+    messages: &mut M,
+) -> Status
+    requires { Fits image plan.now }
+    ensures runs { (due : Result ThePlan ThePlanFault) → ComesTo due (Ok (plan.now, image))
+        → RunsDescription asker due
+        (prepend_known ahead.old (S.remaining script.old)) (S.remaining script.new)
+        (W.contents writer.old) (W.contents writer.new) result }
+    ensures of_script { (n : ℕ) → result ≡ status.CannotRead n → n ≡ 1 }
+{
+    match run_plan_explained(alloc, asker, plan, image, ahead, script, writer, messages) {
         Ok(false) => Status::Done,
         Ok(true) => Status::Refused,
         Err(halt) => Status::of_halt(halt, 1),

@@ -50,9 +50,15 @@ pub(crate) fn set_up(alloc: Global, description: &[u8]) -> Result<Setup, SetupFa
     };
     match image_of(alloc, &plan) {
         Ok(image) => Ok(Setup { plan, image }),
-        Err(fault) => Err(SetupFault::Labels(fault)),
+        Err(fault) => {
+            drop_plan(plan);
+            Err(SetupFault::Labels(fault))
+        }
     }
 }
+
+/// Drops a plan. A function of its own, so that all that a plan owns is dropped in one place.
+pub(crate) fn drop_plan(_plan: Plan) {}
 
 /// Tells why a description gives no network with labels, which ends any command.
 pub(crate) fn refuse<W: Write, M: Messages>(

@@ -1,0 +1,103 @@
+//! What people are told of labels that are accepted: whether packets can come to be held for good.
+ghost use Rattle.std.specs.Prelude.{◌≡◌, IfOk};
+ghost use Rattle.std.specs.String.{string_bytes};
+ghost use Rattle.c104_check.specs.ChannelDependencies.{IsCycle};
+ghost use Rattle.c104_check.specs.Routes.{IsAccepted, routes_of};
+ghost use Rattle.c104_describe.specs.PlanImage.{Fits};
+ghost use Rattle.c104_commands.specs.CycleAdvice.{TellsOfCycle, TellsOfCycles, cycle_sentence, no_cycle_text};
+
+use crate::cycle_breaks::cycle_change;
+use crate::cycle_texts::cycle_text;
+use c104_check::{
+    ChannelDependency, DependencyEdge, RanksOrCycle, channel_dependencies, find_cycle,
+};
+use c104_describe::{Image, Plan};
+use c104_token::NoMemory;
+use std::alloc::{AllocError, Global};
+
+/// Tells people of accepted labels whether packets can come to be held for good, by the names of the plan: a line
+/// that they can't, since there is no cycle of channel dependencies; or lines that say that they can, and by which
+/// cycle, and then those that break it, if one row was found that does. These are `replace: LINE` and then `by: LINE`,
+/// once or more. It fails only when out of memory.
+pub fn cycle_advice(alloc: Global, plan: &Plan, image: &Image) -> Result<String, NoMemory>
+    requires fits { Fits image.now plan.now }
+    requires accepted { IsAccepted (routes_of plan.now image.now) }
+    ensures { IfOk result (λ text.
+        TellsOfCycles plan.now (routes_of plan.now image.now) (string_bytes text)) }
+{
+    let found = find_cycle(alloc, plan, image)?;
+    match found {
+        RanksOrCycle::Ranks(_ranks) => {
+            let text = no_cycle_text(alloc)?;
+            Ok(text)
+        }
+        RanksOrCycle::Cycle(cycle) => {
+            advice_on(alloc, plan, image, cycle.dependencies.as_slice())
+        }
+    }
+}
+
+/// The sentence on a network without a cycle.
+fn no_cycle_text(alloc: Global) -> Result<String, AllocError>
+    ensures { IfOk result (λ text. string_bytes text ≡ no_cycle_text) }
+{
+    format!(in alloc;
+        "no cycle of channel dependencies: under rounds every packet with a whole header arrives, as long as no inbox or trace is full\n"
+    )
+}
+
+/// The same of a network with this cycle.
+fn advice_on(
+    alloc: Global,
+    plan: &Plan,
+    image: &Image,
+    cycle: &[ChannelDependency],
+) -> Result<String, NoMemory>
+    requires fits { Fits image.now plan.now }
+    requires accepted { IsAccepted (routes_of plan.now image.now) }
+    requires cycle { IsCycle (routes_of plan.now image.now) cycle.now }
+    ensures { IfOk result (λ text.
+        TellsOfCycle plan.now (routes_of plan.now image.now) (string_bytes text)) }
+{
+    let edges = channel_dependencies(alloc, plan, image)?;
+    let more = break_text(alloc, plan, cycle, edges.as_slice())?;
+    let text = cycle_sentence(alloc, plan, cycle, more.as_str())?;
+    Ok(text)
+}
+
+/// The sentence on a cycle, and what follows it.
+fn cycle_sentence(
+    alloc: Global,
+    plan: &Plan,
+    cycle: &[ChannelDependency],
+    more: &str,
+) -> Result<String, AllocError>
+    ensures { IfOk result (λ text. string_bytes text ≡ cycle_sentence plan.now cycle.now more.now) }
+{
+    let line = cycle_text(alloc, plan, cycle)?;
+    format!(in alloc;
+        "packets can come to wait for one another for good, though with groups of links they need not: {line}{more}"
+    )
+}
+
+/// What breaks a cycle, if that is known. The edges are all dependencies of the network.
+fn break_text(
+    alloc: Global,
+    plan: &Plan,
+    cycle: &[ChannelDependency],
+    edges: &[DependencyEdge],
+) -> Result<String, NoMemory> {
+    let change = cycle_change(alloc, plan, cycle, edges)?;
+    let what = what_breaks(change.is_empty());
+    let text = format!(in alloc; "{what}\n{change}")?;
+    Ok(text)
+}
+
+/// What stands before the lines that break a cycle, or in their place.
+fn what_breaks(is_unknown: bool) -> &'static str {
+    if is_unknown {
+        "where one of these headers goes another way before it comes there, the cycle is broken; no single row was found that does it"
+    } else {
+        "this breaks the cycle, and leads each packet to its terminal:"
+    }
+}
