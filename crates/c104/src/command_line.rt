@@ -15,6 +15,9 @@ const ABOUT_DEBUG: &str = "Runs a script that is typed, or that a program sends,
 const ABOUT_CHECK: &str =
     "Checks the labels of a description: whether each header comes to its owner";
 
+const ABOUT_CYCLES: &str =
+    "Looks for a cycle of channel dependencies, without which no accepted network locks up";
+
 const ABOUT_LABEL: &str = "Shows the labels of a description, and the registers that lead to them";
 
 const ABOUT_DRAW: &str = "Draws the network of a description, as a text for Graphviz";
@@ -38,16 +41,17 @@ Examples:
   c104 < examples/first-network.txt   both in one text
   c104 debug network.txt              a description from a file, and a script as you type it
   c104 check network.txt              whether its packets can go astray
+  c104 cycles network.txt             whether they can wait for one another for good
   c104 label network.txt              which labels and registers it gives
   c104 draw network.txt | dot -Tsvg   its picture
 
 Where standard error is a terminal, or under --explain, it is told there what is wrong
-with a line or with labels, why an event isn't ready, and what didn't arrive. Standard
-output is the same.
+with a line or with labels, why an event isn't ready, who waits for whom where nothing
+moves, and what didn't arrive. Standard output is the same.
 
 Exit status:
   0  done, also where an event was refused
-  1  the description, its labels or a line of the script was refused
+  1  the description, its labels or a line of the script was refused, or a cycle was found
   2  the command line is wrong
   3  a file can't be opened or read, or the output can't be written
   4  no memory";
@@ -60,8 +64,9 @@ const TEACHING_DEBUG: &str =
     "The script is read from standard input, and each line is answered before the next is
 read. Where standard input and standard error are terminals, a prompt with the line's
 number stands there, and two more words may be typed: `help` lists the lines that there
-are, and `show` with a switch or a terminal tells how its links stand. Such a line is
-counted, has no answer and changes nothing.";
+are, `show` with a switch or a terminal tells how its links stand, and `show waiting`
+which outputs the inputs hold and want. Such a line is counted, has no answer and
+changes nothing.";
 
 const TEACHING_CHECK: &str =
     "The labels of a terminal are the headers that are to come to it, from every
@@ -70,7 +75,19 @@ be dropped where it comes in. Prints `accepted`, or the first fault, with the
 header, the terminal that it comes from, and the inputs on its way.
 
 On a terminal, or under --explain, standard error says where the header goes wrong
-and, where some rows or labels do, which lines of the description mend it.";
+and, where some rows or labels do, which lines of the description mend it; and of
+labels that are accepted, whether packets can come to wait for one another for good.";
+
+const TEACHING_CYCLES: &str =
+    "One input depends on another where a packet that comes in at the one may have to
+wait until what came in at the other has gone on. Where the labels are accepted and no
+inputs depend on one another in a cycle, `rounds` brings each packet with a whole
+header to its terminal, unless that is full or a trace is; where they do, packets can
+come to wait for one another for good. Prints `acyclic`, or `cycle` and its inputs,
+each with a header by which it depends on the next, the last on the first, and ends
+with exit status 1. Labels that check refuses are answered as there.
+
+With --all each dependency stands before, on a line of its own.";
 
 const TEACHING_LABEL: &str =
     "For each terminal a line with its first label and how many it has, in decimal;
@@ -84,7 +101,9 @@ links stand in the same order at both ends. A mesh stands on its grid and a cube
 its drawn cube; all else hangs from its tree's root, or from its first switch.
 
 With a header, the links that it may take are bold, its owner is filled, and where
-check refuses it the walk is red and the title tells the fault.";
+check refuses it the walk is red and the title tells the fault.
+
+With --cycles, a cycle that the command cycles finds is red, and the title tells it.";
 
 /// What the command line asks for, and whether people are to be told of what goes wrong wherever standard error
 /// goes.
@@ -130,6 +149,13 @@ pub enum Order<'a> {
         /// The description's path.
         description: &'a str,
     },
+    /// The search for a cycle of channel dependencies.
+    Cycles {
+        /// The description's path.
+        description: &'a str,
+        /// Whether all dependencies are listed.
+        all: bool,
+    },
     /// The labels of a description.
     Label {
         /// The description's path.
@@ -141,6 +167,11 @@ pub enum Order<'a> {
         description: &'a str,
         /// The header whose ways are marked, if one is.
         header: Option<u16>,
+    },
+    /// The picture of a description's network, with a cycle of channel dependencies.
+    DrawCycle {
+        /// The description's path.
+        description: &'a str,
     },
 }
 
@@ -159,8 +190,15 @@ impl<'a> Order<'a> {
         if command == CHECK {
             return Order::Check { description };
         }
+        if command == CYCLES {
+            let all = given.get_flag(ALL);
+            return Order::Cycles { description, all };
+        }
         if command == LABEL {
             return Order::Label { description };
+        }
+        if command == DRAW && given.get_flag(CYCLES) {
+            return Order::DrawCycle { description };
         }
         if command == DRAW {
             let header = given.get_one(HEADER);
@@ -184,7 +222,8 @@ impl<'a> Order<'a> {
         match self {
             Order::RunText => STANDARD_INPUT,
             Order::Check { description } | Order::Label { description } => description,
-            Order::Draw { description, .. } => description,
+            Order::Draw { description, .. } | Order::Cycles { description, .. } => description,
+            Order::DrawCycle { description } => description,
             Order::RunFiles { description, .. } | Order::Debug { description } if number == 0 => {
                 description
             }
@@ -200,6 +239,9 @@ const RUN: &str = "run";
 const DEBUG: &str = "debug";
 
 const CHECK: &str = "check";
+
+/// The name of a command, and of an option of `draw`.
+const CYCLES: &str = "cycles";
 
 const LABEL: &str = "label";
 
@@ -225,92 +267,130 @@ const HEADER: &str = "header";
 
 const HEADER_HELP: &str = "Marks the ways of a header, 0 to 65535";
 
+const CYCLES_HELP: &str = "Marks a cycle of channel dependencies";
+
+/// The option of all dependencies.
+const ALL: &str = "all";
+
+const ALL_HELP: &str = "Lists each dependency before";
+
 const DESCRIPTION_HELP: &str = "The description: a file, or - for standard input";
 
 /// All that the program takes. The only error is out of memory.
 fn command_line<'a>(alloc: Global) -> Result<Command<'a>, AllocError> {
-    let command = Command::new(alloc, "c104")
-        .bin_name("c104")?
-        .version(VERSION)
-        .about(ABOUT)
-        .after_help(TEACHING)
-        .arg(explain_option(alloc))?
-        .subcommand(run_command(alloc)?)?
-        .subcommand(debug_command(alloc)?)?
-        .subcommand(check_command(alloc)?)?
-        .subcommand(label_command(alloc)?)?
-        .subcommand(draw_command(alloc)?)?;
-    Ok(command)
+    let subcommands = subcommands(alloc)?;
+    program(alloc)?.subcommands(subcommands)
 }
 
-/// `--explain`, before or behind any command.
-fn explain_option<'a>(alloc: Global) -> Arg<'a> {
-    Arg::new(alloc, EXPLAIN)
-        .long(EXPLAIN)
-        .help(EXPLAIN_HELP)
-        .action(ArgAction::SetTrue)
-        .global(true)
+/// The program, without its subcommands.
+fn program<'a>(alloc: Global) -> Result<Command<'a>, AllocError> {
+    command(alloc, "c104", ABOUT, TEACHING)
+        .version(VERSION)
+        .bin_name("c104")?
+        .arg(explain_option(alloc))
+}
+
+/// The subcommands, as help lists them.
+fn subcommands<'a>(alloc: Global) -> Result<Vec<Command<'a>>, AllocError> {
+    let mut commands = Vec::new(alloc);
+    add_subcommands(alloc, &mut commands)?;
+    Ok(commands)
+}
+
+/// The subcommands join others.
+fn add_subcommands<'a>(alloc: Global, commands: &mut Vec<Command<'a>>) -> Result<(), AllocError> {
+    add(commands, run_command(alloc))?;
+    add(
+        commands,
+        description_command(alloc, DEBUG, ABOUT_DEBUG, TEACHING_DEBUG),
+    )?;
+    add(
+        commands,
+        description_command(alloc, CHECK, ABOUT_CHECK, TEACHING_CHECK),
+    )?;
+    add(commands, cycles_command(alloc))?;
+    add(
+        commands,
+        description_command(alloc, LABEL, ABOUT_LABEL, TEACHING_LABEL),
+    )?;
+    add(commands, draw_command(alloc))
+}
+
+/// A command joins others, if there was memory for it.
+fn add<'a>(
+    commands: &mut Vec<Command<'a>>,
+    command: Result<Command<'a>, AllocError>,
+) -> Result<(), AllocError> {
+    commands.push(command?)?;
+    Ok(())
 }
 
 /// `run [DESC SCRIPT]`: neither of the two stands without the other.
 fn run_command<'a>(alloc: Global) -> Result<Command<'a>, AllocError> {
-    let description = Arg::new(alloc, DESCRIPTION)
-        .help(DESCRIPTION_HELP)
-        .requires_arg(SCRIPT)?;
-    let script = Arg::new(alloc, SCRIPT).help("The script: a file, or - for standard input");
-    Command::new(alloc, RUN)
-        .about(ABOUT_RUN)
-        .after_help(TEACHING_RUN)
+    let description = description_argument(alloc).requires_arg(SCRIPT)?;
+    command(alloc, RUN, ABOUT_RUN, TEACHING_RUN)
         .arg(description)?
-        .arg(script)
+        .arg(script_argument(alloc))
 }
 
-/// `debug DESC`.
-fn debug_command<'a>(alloc: Global) -> Result<Command<'a>, AllocError> {
-    let description = Arg::new(alloc, DESCRIPTION)
-        .help(DESCRIPTION_HELP)
-        .required(true);
-    Command::new(alloc, DEBUG)
-        .about(ABOUT_DEBUG)
-        .after_help(TEACHING_DEBUG)
-        .arg(description)
+/// `cycles DESC [--all]`.
+fn cycles_command<'a>(alloc: Global) -> Result<Command<'a>, AllocError> {
+    description_command(alloc, CYCLES, ABOUT_CYCLES, TEACHING_CYCLES)?.arg(flag(
+        alloc, ALL, ALL_HELP,
+    ))
 }
 
-/// `check DESC`.
-fn check_command<'a>(alloc: Global) -> Result<Command<'a>, AllocError> {
-    let description = Arg::new(alloc, DESCRIPTION)
-        .help(DESCRIPTION_HELP)
-        .required(true);
-    Command::new(alloc, CHECK)
-        .about(ABOUT_CHECK)
-        .after_help(TEACHING_CHECK)
-        .arg(description)
-}
-
-/// `label DESC`.
-fn label_command<'a>(alloc: Global) -> Result<Command<'a>, AllocError> {
-    let description = Arg::new(alloc, DESCRIPTION)
-        .help(DESCRIPTION_HELP)
-        .required(true);
-    Command::new(alloc, LABEL)
-        .about(ABOUT_LABEL)
-        .after_help(TEACHING_LABEL)
-        .arg(description)
-}
-
-/// `draw DESC [--header N]`.
+/// `draw DESC [--header N | --cycles]`.
 fn draw_command<'a>(alloc: Global) -> Result<Command<'a>, AllocError> {
-    let description = Arg::new(alloc, DESCRIPTION)
-        .help(DESCRIPTION_HELP)
-        .required(true);
-    let header = Arg::new(alloc, HEADER)
+    let cycles = flag(alloc, CYCLES, CYCLES_HELP).conflicts_with(HEADER)?;
+    description_command(alloc, DRAW, ABOUT_DRAW, TEACHING_DRAW)?
+        .arg(header_option(alloc))?
+        .arg(cycles)
+}
+
+/// An option without a value.
+fn flag<'a>(alloc: Global, name: &'a str, help: &'a str) -> Arg<'a> {
+    Arg::new(alloc, name)
+        .long(name)
+        .help(help)
+        .action(ArgAction::SetTrue)
+}
+
+/// A command that takes a description alone, as `debug DESC`.
+fn description_command<'a>(
+    alloc: Global,
+    name: &'a str,
+    about: &'a str,
+    teaching: &'a str,
+) -> Result<Command<'a>, AllocError> {
+    command(alloc, name, about, teaching).arg(description_argument(alloc).required(true))
+}
+
+/// A command, and what help says of it before and behind its arguments.
+fn command<'a>(alloc: Global, name: &'a str, about: &'a str, teaching: &'a str) -> Command<'a> {
+    Command::new(alloc, name).about(about).after_help(teaching)
+}
+
+/// `--explain`, before or behind any command.
+fn explain_option<'a>(alloc: Global) -> Arg<'a> {
+    flag(alloc, EXPLAIN, EXPLAIN_HELP).global(true)
+}
+
+/// `DESC`.
+fn description_argument<'a>(alloc: Global) -> Arg<'a> {
+    Arg::new(alloc, DESCRIPTION).help(DESCRIPTION_HELP)
+}
+
+/// `SCRIPT`.
+fn script_argument<'a>(alloc: Global) -> Arg<'a> {
+    Arg::new(alloc, SCRIPT).help("The script: a file, or - for standard input")
+}
+
+/// `--header N`.
+fn header_option<'a>(alloc: Global) -> Arg<'a> {
+    Arg::new(alloc, HEADER)
         .long(HEADER)
         .value_name("N")
         .value_parser(value_parser!(u16))
-        .help(HEADER_HELP);
-    Command::new(alloc, DRAW)
-        .about(ABOUT_DRAW)
-        .after_help(TEACHING_DRAW)
-        .arg(description)?
-        .arg(header)
+        .help(HEADER_HELP)
 }

@@ -12,9 +12,10 @@ mod told;
 mod typed;
 
 pub use c104_commands::{
-    Status, check_command, check_explained, debug_command, debug_explained, debug_terminal,
-    draw_command, draw_explained, draw_header_command, label_command, label_explained, run,
-    run_explained, run_text, run_text_explained,
+    Status, check_command, check_explained, cycles_command, cycles_explained, debug_command,
+    debug_explained, debug_terminal, draw_command, draw_cycles_command, draw_cycles_explained,
+    draw_explained, draw_header_command, label_command, label_explained, run, run_explained,
+    run_text, run_text_explained,
 };
 use clap::error::ErrorKind;
 use command_line::{Order, Words};
@@ -87,11 +88,13 @@ fn do_order(rt: &HostRuntime, order: Order<'_>, told: &mut Told<'_>) -> Status {
         } => run_files(rt, description, script, told),
         Order::Debug { description } => debug_file(rt, description, told),
         Order::Check { description } => check_file(rt, description, told),
+        Order::Cycles { description, all } => search_file(rt, description, all, told),
         Order::Label { description } => label_file(rt, description, told),
         Order::Draw {
             description,
             header,
         } => draw_file(rt, description, header, told),
+        Order::DrawCycle { description } => draw_cycle_file(rt, description, told),
     }
 }
 
@@ -148,6 +151,15 @@ fn check_file(rt: &HostRuntime, description: &str, told: &mut Told<'_>) -> Statu
     check_explained(rt.alloc(), &mut description, &mut io::writer(rt), told)
 }
 
+/// Looks for a cycle of channel dependencies in the network of a description's file.
+fn search_file(rt: &HostRuntime, description: &str, all: bool, told: &mut Told<'_>) -> Status {
+    let opened: io::Result<HostSource> = Source::open(rt, description);
+    let Ok(mut description) = opened else {
+        return Status::CannotRead(0);
+    };
+    cycles_explained(rt.alloc(), &mut description, all, &mut io::writer(rt), told)
+}
+
 /// Labels the network of a description's file.
 fn label_file(rt: &HostRuntime, description: &str, told: &mut Told<'_>) -> Status {
     let opened: io::Result<HostSource> = Source::open(rt, description);
@@ -179,6 +191,15 @@ fn draw_file(
         &mut io::writer(rt),
         told,
     )
+}
+
+/// Draws the network of a description's file with a cycle of channel dependencies.
+fn draw_cycle_file(rt: &HostRuntime, description: &str, told: &mut Told<'_>) -> Status {
+    let opened: io::Result<HostSource> = Source::open(rt, description);
+    let Ok(mut description) = opened else {
+        return Status::CannotRead(0);
+    };
+    draw_cycles_explained(rt.alloc(), &mut description, &mut io::writer(rt), told)
 }
 
 /// Says on standard error what failed, and gives the exit status.
