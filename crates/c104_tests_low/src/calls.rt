@@ -10,6 +10,9 @@ pub fn plan_of(alloc: Global, text: &[u8]) -> Option<Plan> {
     read_description(alloc, text).ok()
 }
 
+/// Lets go of a plan. Whoever owns one hands it over here, since to drop one is dear to prove.
+pub fn drop_plan(_plan: Plan) {}
+
 /// What is printed of a plan.
 pub fn printed(alloc: Global, plan: &Plan) -> Option<String> {
     print_plan(alloc, plan).ok()
@@ -47,10 +50,17 @@ pub fn image(alloc: Global, plan: &Plan, maker: Maker) -> Result<Image, LabelFau
     }
 }
 
+/// The same with nothing said of why there is none.
+fn some_image(alloc: Global, plan: &Plan, maker: Maker) -> Option<Image> {
+    image(alloc, plan, maker).ok()
+}
+
 /// The image of a description.
 pub fn described(alloc: Global, text: &[u8], maker: Maker) -> Option<Image> {
     let plan = plan_of(alloc, text)?;
-    image(alloc, &plan, maker).ok()
+    let image = some_image(alloc, &plan, maker);
+    drop_plan(plan);
+    image
 }
 
 /// The table of a link.

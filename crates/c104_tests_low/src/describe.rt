@@ -1,4 +1,4 @@
-use crate::calls::{peer, plan_of, printed};
+use crate::calls::{drop_plan, peer, plan_of, printed};
 use c104_describe::{Plan, Port};
 use std::alloc::Global;
 
@@ -9,7 +9,9 @@ fn prints(alloc: Global, text: &[u8], expected: &str) -> bool {
     let Some(plan) = plan_of(alloc, text) else {
         return false;
     };
-    is_printed(alloc, &plan, expected)
+    let result = is_printed(alloc, &plan, expected);
+    drop_plan(plan);
+    result
 }
 
 fn is_printed(alloc: Global, plan: &Plan, expected: &str) -> bool {
@@ -19,12 +21,14 @@ fn is_printed(alloc: Global, plan: &Plan, expected: &str) -> bool {
     text.as_str() == expected
 }
 
-/// Whether a description's plan has so many wires, and the links of a switch, from link 0 on, lead to these ends.
+/// Whether a description's plan has this count of wires, and the links of a switch, from link 0 on, lead to these ends.
 fn fills(alloc: Global, text: &[u8], wires: usize, switch: usize, ends: &[Option<Port>]) -> bool {
     let Some(plan) = plan_of(alloc, text) else {
         return false;
     };
-    is_filled(&plan, wires, switch, ends)
+    let result = is_filled(&plan, wires, switch, ends);
+    drop_plan(plan);
+    result
 }
 
 fn is_filled(plan: &Plan, wires: usize, switch: usize, ends: &[Option<Port>]) -> bool {

@@ -1,4 +1,4 @@
-use crate::calls::{Maker, image, peer, plan_of, table};
+use crate::calls::{Maker, drop_plan, image, peer, plan_of, table};
 use c104_check::{CheckFault, check};
 use c104_describe::{Image, Plan, Port};
 use c104_interval::Select;
@@ -42,10 +42,17 @@ fn accepts(alloc: Global, text: &[u8], is_mesh: bool) -> bool {
     let Some(plan) = plan_of(alloc, text) else {
         return false;
     };
+    let result = accepts_plan(alloc, &plan, is_mesh);
+    drop_plan(plan);
+    result
+}
+
+/// The same of a plan.
+fn accepts_plan(alloc: Global, plan: &Plan, is_mesh: bool) -> bool {
     if is_mesh {
-        accepts_mesh(alloc, &plan)
+        accepts_mesh(alloc, plan)
     } else {
-        accepts_cube(alloc, &plan)
+        accepts_cube(alloc, plan)
     }
 }
 
@@ -60,7 +67,9 @@ fn goes(
     let Some(plan) = plan_of(alloc, text) else {
         return false;
     };
-    goes_over(alloc, &plan, ends, header, inputs)
+    let result = goes_over(alloc, &plan, ends, header, inputs);
+    drop_plan(plan);
+    result
 }
 
 /// The same of a plan.

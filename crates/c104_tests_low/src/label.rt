@@ -1,4 +1,4 @@
-use crate::calls::{Maker, image, plan_of};
+use crate::calls::{Maker, drop_plan, image, plan_of};
 use c104_describe::Plan;
 use c104_interval::{Row, Select, Table};
 use c104_label::{LabelFault, cube_tables, is_cube, is_mesh, mesh_tables};
@@ -22,7 +22,9 @@ fn refuses(alloc: Global, text: &[u8], maker: Maker) -> bool {
     let Some(plan) = plan_of(alloc, text) else {
         return false;
     };
-    is_refused(alloc, &plan, maker)
+    let result = is_refused(alloc, &plan, maker);
+    drop_plan(plan);
+    result
 }
 
 fn is_refused(alloc: Global, plan: &Plan, maker: Maker) -> bool {

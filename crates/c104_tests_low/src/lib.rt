@@ -13,6 +13,8 @@ mod control;
 #[cfg(test)]
 mod crossbar;
 #[cfg(test)]
+mod cycles;
+#[cfg(test)]
 mod describe;
 #[cfg(test)]
 mod faults;

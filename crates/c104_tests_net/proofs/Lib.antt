@@ -1,3 +1,4 @@
 pub mod CalmSteps
 pub mod CalmRuns
 pub mod NamedPackets
+pub mod DeliveredRuns

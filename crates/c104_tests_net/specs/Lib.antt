@@ -1,1 +1,2 @@
 pub mod CalmNets
+pub mod DeliveredNets

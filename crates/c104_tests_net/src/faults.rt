@@ -10,6 +10,15 @@ fn message_of<F: Display>(alloc: Global, fault: &F) -> Result<String, Fail> {
     Ok(format!(in alloc; "{fault}")?)
 }
 
+/// The number and the name of a fault.
+fn event_name(fault: EventFault) -> (u8, &'static str) {
+    (fault.number(), fault.name())
+}
+
+fn load_name(fault: LoadFault) -> (u8, &'static str) {
+    (fault.number(), fault.name())
+}
+
 /// The fault has this message.
 fn has_message<F: Display>(
     rt: &impl Abort,
@@ -68,11 +77,21 @@ fn tell_events(
     rows: &[(EventFault, u8, &str, &str)],
 ) -> Result<(), Fail> {
     for (fault, number, name, message) in rows {
-        let told = fault.number() == *number && fault.name() == *name;
-        assert!(rt; told, "{name}");
-        has_message(rt, alloc, fault, message)?;
+        tell_event(rt, alloc, fault, (*number, *name), message)?;
     }
     Ok(())
+}
+
+fn tell_event(
+    rt: &impl Abort,
+    alloc: Global,
+    fault: &EventFault,
+    due: (u8, &str),
+    message: &str,
+) -> Result<(), Fail> {
+    let (_, name) = due;
+    assert!(rt; event_name(*fault) == due, "{name}");
+    has_message(rt, alloc, fault, message)
 }
 
 #[test]
@@ -134,9 +153,19 @@ fn tell_tools(
     rows: &[(LoadFault, u8, &str, &str)],
 ) -> Result<(), Fail> {
     for (fault, number, name, message) in rows {
-        let told = fault.number() == *number && fault.name() == *name;
-        assert!(rt; told, "{name}");
-        has_message(rt, alloc, fault, message)?;
+        tell_tool(rt, alloc, fault, (*number, *name), message)?;
     }
     Ok(())
+}
+
+fn tell_tool(
+    rt: &impl Abort,
+    alloc: Global,
+    fault: &LoadFault,
+    due: (u8, &str),
+    message: &str,
+) -> Result<(), Fail> {
+    let (_, name) = due;
+    assert!(rt; load_name(*fault) == due, "{name}");
+    has_message(rt, alloc, fault, message)
 }

@@ -1,5 +1,5 @@
 //! Tests of networks and tools, in modules by what they test, and one for the texts of their faults.
-//! `named_packets` cites the theorem about packets as a caller does.
+//! `named_packets` cites the theorem about packets as a caller does, and `deadlock` the theorem about deadlock.
 //!
 //! A crate with tests is proved twice, so the tests stand in crates of their own and the others have none. What
 //! a contract says needs no test. These show what no contract can: that a call which takes memory succeeds where
@@ -11,6 +11,8 @@
 mod calls;
 #[cfg(test)]
 mod crossings;
+#[cfg(test)]
+mod deadlock;
 #[cfg(test)]
 mod faults;
 #[cfg(test)]

@@ -159,7 +159,7 @@ fn send_again(
 
 /// A network of a plan with an image's settings.
 #[tactic(auto, using(crate::proofs::CalmSteps::placed_calm))]
-fn placed(alloc: Global, plan: &Plan, image: &Image) -> Result<Net, PlaceFault>
+pub fn placed(alloc: Global, plan: &Plan, image: &Image) -> Result<Net, PlaceFault>
     ensures { IfOk result (λ net. IsCalm plan.now image.now net) }
 {
     let net = Net::placed(alloc, plan, image)?;
@@ -181,7 +181,7 @@ fn send_twice(alloc: Global, net: &mut Net, count: u32) -> Result<(), Fail>
 }
 
 /// A terminal sends a packet.
-fn send(net: &mut Net, terminal: usize, packet: Packet) -> Result<(), EventFault>
+pub fn send(net: &mut Net, terminal: usize, packet: Packet) -> Result<(), EventFault>
     ensures { (plan : ThePlan) → (image : TheImage) → IsCalm plan image net.old → IsCalm plan image net.new }
 {
     // The proof reads here that what is sent is bytes.
