@@ -13,7 +13,7 @@
 
 program := build/c104
 example := examples/first-network.txt
-cases := run_cases description_cases check_cases label_cases draw_cases explain_cases debug_cases large_cases stream_cases refused_calls documents
+cases := run_cases description_cases check_cases cycle_cases label_cases draw_cases explain_cases debug_cases large_cases stream_cases refused_calls documents
 sources := $(shell find crates crates.txt -path '*/out' -prune -o -type f -print)
 
 PREFIX ?= /usr/local
