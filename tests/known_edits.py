@@ -1,9 +1,9 @@
 """What earlier runs on this machine found of edits: those that the prover has refused, by a sum of all that they were tried on.
 
 That is the crate's files and its line of crates.txt, the files of the crates below it, the toolchain, the edit, and the
-files of this tool. The results are kept where rt keeps what it proved, which is root's alone. What came about beside a run of
-`rt ci`, which had built the libraries itself, counts anywhere; what came about over a checkout's own libraries counts
-for such runs alone.
+files of this tool. The results are kept in a folder that is the user's alone. What came about beside a run of `rt ci`,
+which had built the libraries itself, counts anywhere; what came about over a checkout's own libraries counts for such
+runs alone.
 """
 
 import contextlib
@@ -18,7 +18,7 @@ import toolchain
 
 rt = toolchain.rt
 HERE = os.path.dirname(os.path.abspath(__file__))
-PLACE = os.path.join(rt.STORE, 'c104-edits')
+PLACE = os.path.join(toolchain.STORE, 'edits')
 # How many results are kept, each of a few hundred bytes.
 MOST = 20_000
 GATE, CHECKOUT = 'gate', 'checkout'
@@ -28,7 +28,7 @@ def place():
     """The folder of what is kept, or None where nothing can be kept."""
     with contextlib.suppress(OSError):
         os.makedirs(PLACE, 0o700, exist_ok=True)
-        if all(stat.S_ISDIR(it.st_mode) and it.st_uid == os.geteuid() for it in map(os.lstat, (rt.STORE, PLACE))):
+        if all(stat.S_ISDIR(it.st_mode) and it.st_uid == os.geteuid() for it in map(os.lstat, (toolchain.STORE, PLACE))):
             return PLACE if os.access(PLACE, os.W_OK) else None
     return None
 
@@ -50,7 +50,7 @@ def sum_of_tool():
 
 def state_of(crate):
     """What tells whether a file of a crate, or of one below, was touched."""
-    return [rt.touched(it) for it in [crate, *crate.below()]]
+    return [toolchain.touched(it) for it in [crate, *crate.below()]]
 
 
 def are_its_own(crate):
@@ -66,7 +66,7 @@ class KnownEdits:
         self.crate, self.at = crate, place() if by_gate or are_its_own(crate) else None
         self.kind, self.kinds = (GATE, [GATE]) if by_gate else (CHECKOUT, [GATE, CHECKOUT])
         self.is_anew, self.state = is_anew, state_of(crate)
-        self.sum = repr((rt.stamp_of(crate, {}), sum_of_tool())) if self.at else None
+        self.sum = repr((toolchain.sum_below(crate), sum_of_tool())) if self.at else None
 
     def path(self, edit, kind):
         return os.path.join(self.at, hashlib.sha256(repr((self.sum, kind, edit.label, edit.text)).encode()).hexdigest())

@@ -2,9 +2,12 @@
 
 The command rt checks a crate where it stands and builds its libraries itself. What is tried here is a
 changed copy, often right after `rt ci`. So rt's own Python files are loaded: the words for a check, and
-what a crate stands on, are those that rt uses.
+what a crate stands on, are those that rt uses. Kits differ in what else these files have, so what they lack
+in one or the other stands here.
 """
 
+import contextlib
+import hashlib
 import importlib.machinery
 import importlib.util
 import os
@@ -17,6 +20,8 @@ import time
 from times import wait_for
 
 TOP = os.path.dirname(os.path.dirname(os.path.abspath(__file__)))
+# What is kept for later runs on this machine.
+STORE = os.path.join(os.environ.get('XDG_CACHE_HOME') or os.path.expanduser('~/.cache'), 'c104')
 # A check that reached the prover ends in a line that begins so.
 LAST_LINES = ('logic=', 'only=')
 # The most memory that a check of many copies has been seen to take.
@@ -45,6 +50,45 @@ def start():
 def crates(top=TOP):
     """The crates of a repository, lowest first."""
     return rt.rtlib.crates_below(top)
+
+
+def share_work():
+    """Has rt take what other copies of the repository on this machine have proved, where the kit keeps that."""
+    if hasattr(rt, 'share_work'):
+        rt.share_work(is_alone=True)
+
+
+def files_of(crate):
+    """The files that the prover reads of a crate, in order."""
+    for part in rt.rtlib.PARTS:
+        for at, folders, names in os.walk(os.path.join(crate.folder, part)):
+            folders.sort()
+            yield from (os.path.join(at, it) for it in sorted(names))
+
+
+def touched(crate):
+    """What tells whether a file of a crate was touched."""
+    with contextlib.suppress(OSError):
+        found = [(it, os.stat(it)) for it in files_of(crate)]
+        return [(path, it.st_mtime_ns, it.st_ino, it.st_size) for path, it in found]
+    return None
+
+
+def sum_below(crate):
+    """A sum of all that the proof of a crate rests on: its files, those of the crates below it, what stands on what, and the
+    toolchain."""
+    version = subprocess.run(['rt', 'version'], check=True, stdout=subprocess.PIPE).stdout
+    found = hashlib.sha256(version)
+    for it in [crate, *crate.below()]:
+        found.update(repr((it.name, [dep.name for dep in it.below()], sorted(it.of_kit))).encode())
+        for file in files_of(it):
+            found.update(repr((os.path.relpath(file, it.folder), rt.rtlib.sum_of(file))).encode())
+    return found.hexdigest()
+
+
+def copy_kept(folder, to):
+    """Copies what checks have kept, for checks that are to change nothing of it."""
+    shutil.copytree(folder, to, copy_function=shutil.copyfile)
 
 
 def missing_library(crate):
