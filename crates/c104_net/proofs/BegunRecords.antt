@@ -1,8 +1,7 @@
 -- Nodes with their records begin a run where they are quiet.
-use Rattle.std.proofs.Common.{◌≡◌, ◌∙◌, ◌+◌, ◌≤◌, ◌<◌, ℕ, zero, suc, inl, inr, All, true, false, List, [], ◌∷◌, Option, Some, None, length, map, slice_get, slice_set, refl, sym, ap, subst, arith}
+use Rattle.std.proofs.Common.{◌≡◌, ◌∙◌, ℕ, All, true, false, List, [], ◌∷◌, Option, Some, None, length, map, slice_get, refl, sym, ap, subst, arith}
 use Rattle.std.proofs.lemmas.Option.{slice_get-map}
 use Rattle.std.specs.Option.{option_map}
-use Rattle.c104_link.proofs.MadeSteps.{place_after_set, All-place}
 use Rattle.c104_link.specs.Buffers.{Outgoing}
 use Rattle.c104_link.specs.Steps.{◌>>=◌}
 use Rattle.c104_switch.specs.Actions.{Reply}
@@ -21,20 +20,15 @@ use Rattle.c104_net.specs.declared.acts.ActOf.TheVariants as act
 use Rattle.c104_net.specs.declared.acts.Entry.{Entry}
 use Rattle.c104_net.specs.declared.node.NodeOf.TheVariants as node
 use Rattle.c104_net.specs.Acts.{done_by, token_by, node_act}
-use Rattle.c104_describe.specs.Plans.{Plan}
 use Rattle.c104_net.specs.Balance.{is_switch, IsSteady}
 use Rattle.c104_net.specs.Network.{network_of, Network}
-use Rattle.c104_net.specs.NetRecords.{begun_record, fresh_record, net_record, node_start, node_state, node_trace, IsNetRecord, IsWithinLimit}
+use Rattle.c104_net.specs.NetRecords.{fresh_record, IsNetRecord, IsWithinLimit}
 use Rattle.c104_net.specs.Nodes.{as_switch, as_terminal, Node}
-use Rattle.c104_net.specs.Quiet.{network_begin, node_begin, IsQuietInput, IsQuietNode, IsQuietOutput}
-use Rattle.c104_net.specs.Records.{IsNodeRun, NodeRecord}
+use Rattle.c104_net.specs.Quiet.{node_begin, IsQuietInput, IsQuietNode, IsQuietOutput}
+use Rattle.c104_net.specs.Records.{IsNodeRun}
 use Rattle.c104_net.specs.Starts.{start_node, start_of}
 use Rattle.c104_net.specs.Terminals as terminal
-use Rattle.std.proofs.lemmas.Bool.{cases_eq}
 use Rattle.std.proofs.lemmas.List.Elements.{All-head, All-map, All-tail}
-use Rattle.c104_net.proofs.Crossing.{get_set_other}
-use Rattle.c104_net.proofs.QuietNodes.{begun_steady}
-use Rattle.c104_net.proofs.RecordSteps.{same_record}
 
 module _ {A : Type 0} where
   inputs_back : (ps : List (Input A)) (qs : List (Outgoing A)) → length ps ≡ length qs → All IsQuietInput ps → map start_input (link_starts ps qs) ≡ ps
@@ -57,15 +51,15 @@ module _ {A : Type 0} where
       ap (λ x. x ∷ map start_output (link_starts ps qs)) one ∙ ap (λ xs. q ∷ xs) (outputs_back ps qs (omega (arith, same)) (All-tail IsQuietOutput q qs quiet))
 
 -- where no token stands, a node at the start that it is at stands as it begins a run
-pub switch_stands : (s : switch.Switch Token) → length s.inputs ≡ length s.outputs → IsQuietNode (node.Switch s) → start_node (start_of (node.Switch s)) ≡ node_begin (node.Switch s)
-switch_stands s same quiet =
-    ap (λ (ps : List (Input Token)). node.Switch (record s { inputs = ps; outputs = map start_output (link_starts s.inputs s.outputs) })) (inputs_back s.inputs s.outputs same quiet.0)
-    ∙ ap (λ (qs : List (Outgoing Token)). node.Switch (record s { outputs = qs })) (outputs_back s.inputs s.outputs same quiet.1)
+pub switch_stands : {A : Type 0} (s : switch.Switch A) → length s.inputs ≡ length s.outputs → IsQuietNode (node.Switch s) → start_node (start_of (node.Switch s)) ≡ node_begin (node.Switch s)
+switch_stands {A} s same quiet =
+    ap (λ (ps : List (Input A)). node.Switch (record s { inputs = ps; outputs = map start_output (link_starts s.inputs s.outputs) })) (inputs_back s.inputs s.outputs same quiet.0)
+    ∙ ap (λ (qs : List (Outgoing A)). node.Switch (record s { outputs = qs })) (outputs_back s.inputs s.outputs same quiet.1)
 
-pub terminal_stands : (t : terminal.Terminal Token) → IsQuietNode (node.Terminal t) → start_node (start_of (node.Terminal t)) ≡ node_begin (node.Terminal t)
-terminal_stands t quiet =
-    ap (λ (xs : List Token). node.Terminal (record { input = record { cap = t.input.cap; items = xs; granted = t.input.granted }; output = record { items = []; credit = t.output.credit }; sent = []; arrived = [] })) (sym quiet.0)
-    ∙ ap (λ (xs : List Token). node.Terminal (record { input = t.input; output = record { items = xs; credit = t.output.credit }; sent = []; arrived = [] })) (sym quiet.1)
+pub terminal_stands : {A : Type 0} (t : terminal.Terminal A) → IsQuietNode (node.Terminal t) → start_node (start_of (node.Terminal t)) ≡ node_begin (node.Terminal t)
+terminal_stands {A} t quiet =
+    ap (λ (xs : List A). node.Terminal (record { input = record { cap = t.input.cap; items = xs; granted = t.input.granted }; output = record { items = []; credit = t.output.credit }; sent = []; arrived = [] })) (sym quiet.0)
+    ∙ ap (λ (xs : List A). node.Terminal (record { input = t.input; output = record { items = xs; credit = t.output.credit }; sent = []; arrived = [] })) (sym quiet.1)
 
 -- an act leaves a node of the same kind
 module _ (r : Reply) (m : Node Token) where
@@ -114,51 +108,6 @@ pub run_kind : (from to : Node Token) (entries : List Entry) → IsNodeRun from 
 run_kind from to [] run = ap is_switch run
 run_kind from to (e ∷ entries) run = run_kind run.1 to entries run.4 ∙ act_kind e.reply run.1 run.0 e.act from run.3
 
--- the nodes that have yet to begin are quiet
-pub waits_on : (nodes : List (NodeRecord × ℕ)) (i : ℕ) (y : NodeRecord × ℕ) → ((k : ℕ) (n : NodeRecord × ℕ) → i ≤ k → slice_get nodes k ≡ Some n → IsQuietNode n.0.state) → (k : ℕ) (n : NodeRecord × ℕ) → i + 1 ≤ k → slice_get (slice_set nodes i y) k ≡ Some n → IsQuietNode n.0.state
-waits_on nodes i y waits = λ k n after here. waits k n (omega (arith, after)) (sym (get_set_other nodes i k y (λ same. absurd (let no : ⊥ = omega (arith, same, after) in no))) ∙ here)
-
-pub waits_first : (nodes : List (NodeRecord × ℕ)) → All IsQuietNode (map node_state nodes) → (k : ℕ) (n : NodeRecord × ℕ) → slice_get nodes k ≡ Some n → IsQuietNode n.0.state
-waits_first nodes all k n here = All-place IsQuietNode (map node_state nodes) k n.0.state (slice_get-map node_state nodes k ∙ ap (option_map node_state) here) all
-
--- those that have begun stand at their starts
-pub stand_on : (nodes : List (NodeRecord × ℕ)) (i : ℕ) (y : NodeRecord × ℕ) → y.0.state ≡ start_node y.0.start → ((k : ℕ) (n : NodeRecord × ℕ) → k < i → slice_get nodes k ≡ Some n → n.0.state ≡ start_node n.0.start) → (k : ℕ) (n : NodeRecord × ℕ) → k < i + 1 → slice_get (slice_set nodes i y) k ≡ Some n → n.0.state ≡ start_node n.0.start
-stand_on nodes i y here before = λ k n below at.
-    elim (cases_eq i k) [
-      | inl same ↦ elim (place_after_set nodes i k y n at) [ inl is ↦ subst (λ (m : NodeRecord × ℕ). m.0.state ≡ start_node m.0.start) is.1 here | inr old ↦ subst (λ (m : NodeRecord × ℕ). m.0.state ≡ start_node m.0.start) (set_there nodes i k y n same at) here ]
-      | inr other ↦ before k n (omega (arith, below, other)) (sym (get_set_other nodes i k y other) ∙ at)
-    ]
-  where
-    set_there : (nodes : List (NodeRecord × ℕ)) (i k : ℕ) (y n : NodeRecord × ℕ) → i ≡ k → slice_get (slice_set nodes i y) k ≡ Some n → y ≡ n
-    set_there [] i k y n same at = cc
-    set_there (x ∷ nodes) zero zero y n same at = cc
-    set_there (x ∷ nodes) zero (suc k) y n same at = absurd (let no : ⊥ = omega (arith, same) in no)
-    set_there (x ∷ nodes) (suc i) zero y n same at = absurd (let no : ⊥ = omega (arith, same) in no)
-    set_there (x ∷ nodes) (suc i) (suc k) y n same at = set_there nodes i k y n (omega (arith, same)) at
-
-pub all_stand : (nodes : List (NodeRecord × ℕ)) → ((k : ℕ) (n : NodeRecord × ℕ) → slice_get nodes k ≡ Some n → n.0.state ≡ start_node n.0.start) → map start_node (map node_start nodes) ≡ map node_state nodes
-all_stand [] stand = refl
-all_stand (n ∷ nodes) stand = ap (λ x. x ∷ map start_node (map node_start nodes)) (sym (stand 0 n refl)) ∙ ap (λ xs. n.0.state ∷ xs) (all_stand nodes (λ k m here. stand (suc k) m here))
-
--- what such nodes show
-start_kept : (n : Node Token) → start_of n ≡ start_of (node_begin n)
-start_kept (node.Switch s) = refl
-start_kept (node.Terminal t) = refl
-
-pub begun_shown : (new old : List (NodeRecord × ℕ)) → map (λ (n : NodeRecord × ℕ). n.0) new ≡ map (λ (n : NodeRecord × ℕ). begun_record n.0) old →
-    (map node_state new ≡ map node_begin (map node_state old)) × (map node_start new ≡ map start_of (map node_begin (map node_state old))) × (map node_trace new ≡ map (λ n. []) (map node_begin (map node_state old)))
-begun_shown [] [] is = (refl, refl, refl)
-begun_shown [] (m ∷ old) is = cc
-begun_shown (n ∷ new) [] is = cc
-begun_shown (n ∷ new) (m ∷ old) is =
-    let first : n.0 ≡ begun_record m.0 = cc in
-    let rest : map (λ (n : NodeRecord × ℕ). n.0) new ≡ map (λ (n : NodeRecord × ℕ). begun_record n.0) old = cc in
-    let others = begun_shown new old rest in (
-      ap (λ x. x ∷ map node_state new) (ap (λ (r : NodeRecord). r.state) first) ∙ ap (λ xs. node_begin m.0.state ∷ xs) others.0,
-      ap (λ x. x ∷ map node_start new) (ap (λ (r : NodeRecord). r.start) first ∙ start_kept m.0.state) ∙ ap (λ xs. start_of (node_begin m.0.state) ∷ xs) others.1,
-      ap (λ x. x ∷ map node_trace new) (ap (λ (r : NodeRecord). r.trace) first) ∙ ap (λ xs. [] ∷ xs) others.2,
-    )
-
 abbrev no_entries : Node Token → List Entry
 no_entries n = []
 
@@ -178,16 +127,3 @@ fresh_kept net steady stand = record {
   within = All-map IsWithinLimit no_entries net.nodes (λ i d inside. omega arith);
   counted = omega arith;
 }
-
--- nodes that have begun are a network with its record where a run starts
-module _ (plan : Plan) (new old : List (NodeRecord × ℕ)) (begun : map (λ (n : NodeRecord × ℕ). n.0) new ≡ map (λ (n : NodeRecord × ℕ). begun_record n.0) old) where
-  pub begun_is : net_record plan new 0 ≡ fresh_record (network_begin (network_of plan (map node_state old)))
-  begun_is =
-      let are = begun_shown new old begun in
-      same_record (net_record plan new 0) (fresh_record (network_begin (network_of plan (map node_state old)))) (ap (network_of plan) are.0) are.1 are.2 refl
-
-  pub begun_kept : map start_node (map node_start new) ≡ map node_state new → IsSteady (network_of plan (map node_state old)) → IsNetRecord (net_record plan new 0)
-  begun_kept stand steady =
-      let are = begun_shown new old begun in
-      let net : Network Token = network_of plan (map node_state old) in
-      subst IsNetRecord (sym begun_is) (fresh_kept (network_begin net) (begun_steady net steady) (ap (map start_node) (sym are.1) ∙ stand ∙ are.0))

@@ -15,6 +15,8 @@ use Rattle.c104_describe.specs.PlanImage.{Image}
 use Rattle.c104_net.specs.declared.acts.Entry.{Entry}
 use Rattle.c104_net.specs.Nodes.{Node}
 use Rattle.c104_net.specs.Network.{network_of, new_network, placed_network}
+use Rattle.c104_net.specs.RecordedNets.{IsRecordedNet}
+use Rattle.c104_net.specs.RecordedPlaces.{node_reading}
 use Rattle.c104_net.specs.Records.{NodeRecord}
 use Rattle.c104_net.specs.Balance.{IsSteady}
 use Rattle.c104_net.specs.Starts.{start_node, start_of}
@@ -101,6 +103,10 @@ module _ (plan wires : Plan) (nodes : List (Node Token)) (list : List (NodeRecor
         within = subst (All IsWithinLimit) (sym are.2) (All-map IsWithinLimit no_entries nodes (λ i d inside. omega arith));
         counted = omega arith;
       }
+
+  -- and so does the type of it
+  pub net_first : IsSteady (network_of plan nodes) → IsRecordedNet node_reading wires list 0
+  net_first steady = let kept = record_first steady in record { kept = kept; events = kept.told.0; told = kept.told.1 }
 
   -- and it is the one that was made, where a run starts
   pub first_is : net_record wires list 0 ≡ fresh_record (network_of plan nodes)

@@ -94,3 +94,16 @@ pub mod RecordedRounds
 pub mod WorkBounds
 mod UndoneRounds
 pub mod DeadlockFree
+pub mod Waiting
+pub mod SentCounts
+pub mod TaggedRuns
+pub mod KnownTokens
+pub mod RecordedStages
+pub mod Walks
+pub mod RecordedNets
+pub mod RecordedPlaces
+pub mod RecordedBegins
+pub mod RecordedViews
+pub mod TracedFirsts
+pub mod TracedOrigins
+pub mod TracedArrivals

@@ -145,7 +145,7 @@ module _ (run : FinishedRecord) (is_plan : IsPlan run.finished.plan) (kept : IsK
   left_first leaders n marked = all_left run.finished.plan run.starts kept.nodes run.traces run.count kept.events traced.0 leaders (replicate run.count 0) n is_plan kept.started.in_place kept.told traced.1 marked (length-replicate run.count 0)
 
 -- where the nodes stand in place, so do those of the traced run
-kinds_plain : {A B : Type 0} (f : A → B) (nodes : List (Node A)) → map is_switch (map (map_node f) nodes) ≡ map is_switch nodes
+pub kinds_plain : {A B : Type 0} (f : A → B) (nodes : List (Node A)) → map is_switch (map (map_node f) nodes) ≡ map is_switch nodes
 kinds_plain f [] = refl
 kinds_plain f (node.Switch s ∷ nodes) = ap (λ bs. true ∷ bs) (kinds_plain f nodes)
 kinds_plain f (node.Terminal t ∷ nodes) = ap (λ bs. false ∷ bs) (kinds_plain f nodes)
@@ -204,7 +204,7 @@ module _ (run : FinishedRecord) (is_plan : IsPlan run.finished.plan) (kept : IsK
   traced_placed = sym (kinds_plain (λ (x : Traced). x.token) (traced run is_plan kept).0) ∙ ap (map is_switch) (traced run is_plan kept).1.plain ∙ kept.placed
 
   -- over tokens that tell where they came from the run ends where the events that its traces tell lead
-  ends_traced : traced_end run ≡ network_of run.finished.plan (traced run is_plan kept).0
+  pub ends_traced : traced_end run ≡ network_of run.finished.plan (traced run is_plan kept).0
   unfolding traced_end
   ends_traced =
       ap (λ (events : List Event). (run_events (network_apply traced_kind) (network_of run.finished.plan (map start_node run.starts)) events).1)

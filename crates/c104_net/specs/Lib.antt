@@ -41,3 +41,8 @@ pub mod RunOrigins
 pub mod Standstill
 pub mod Work
 pub mod DeadlockFreedom
+pub mod Outboxes
+pub mod Tagged
+pub mod TracedRecords
+pub mod RecordedNets
+pub mod RecordedPlaces

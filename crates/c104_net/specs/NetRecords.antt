@@ -13,7 +13,7 @@ use Rattle.c104_net.specs.Nodes.{Node}
 use Rattle.c104_net.specs.Network.{Network, network_of, AnswersWith}
 use Rattle.c104_net.specs.Records.{NodeRecord}
 use Rattle.c104_net.specs.Runs.{IsRunRecord}
-use Rattle.c104_net.specs.Quiet.{network_begin, node_begin}
+use Rattle.c104_net.specs.Quiet.{network_begin}
 use Rattle.c104_net.specs.Starts.{start_node, start_of}
 use Rattle.c104_net.specs.Traces.{event_deeds, event_full, is_switch_place, kept_of, noted_all, trace_limit}
 
@@ -55,11 +55,7 @@ first_record n = (n, n, [])
 abbrev pub fresh_record : Network Token → NetRecord
 fresh_record net = record { network = net; starts = map start_of net.nodes; traces = map (λ n. []) net.nodes; count = 0 }
 
--- a node with its record where a run starts, and such a network after it was asked to begin one: it has
--- begun, or stands as it was
-abbrev pub begun_record : NodeRecord → NodeRecord
-begun_record n = record { state = node_begin n.state; start = start_of n.state; trace = [] }
-
+-- a network with its record after it was asked to begin a run: it has begun, or stands as it was
 abbrev pub record_begun_if : Bool → NetRecord → NetRecord
 record_begun_if true r = fresh_record (network_begin r.network)
 record_begun_if false r = r

@@ -8,37 +8,48 @@
 //!
 //! A network can't be dropped, since its switches hold claims: `finish` ends it, and gives a `Run`, which
 //! keeps the plan, the starts, the entries, and what had arrived at each of the terminals. `Run::origins` tells
-//! which packet each received packet was. A `PlaceFault` is why a network was not made, and a `Reason` why an
-//! event isn't ready, and where. `view_link` and `view_terminal` show how a link of a switch and how a terminal
-//! stands. `rounds` does the events of all parts in turn, again and again; a `Watch` is
-//! told how far they are.
+//! which packet each received packet was. A `TracedNet` does and answers what a `Net` does, and counts entries in place
+//! of keeping them: its tokens tell which packet each was as they arrive (`TracedNet::origins`). Both are a
+//! `RecordedNet`, each of its own kind of place.
+//!
+//! A `PlaceFault` is why a network was not made, and a `Reason` why an event isn't ready, and where. `view_link` and
+//! `view_terminal` show how a link of a switch and how a terminal stands. `rounds` does the events of all parts in turn,
+//! again and again; a `Watch` is told how far they are.
 #![tactic(auto)]
 
 mod acts;
 mod bare_net;
 mod bare_run;
+mod counted;
 mod ends;
 mod events;
 mod faults;
+mod history;
 mod leading;
 mod net;
 mod node;
 mod origins;
 mod place;
+mod place_views;
 mod places;
 mod port_part;
 mod reason;
 mod reasons;
 mod recorded;
+mod recorded_net;
+mod recorded_place;
 mod recording;
 mod replays;
 mod rounds;
 mod run;
 mod run_parts;
 mod sent_packet;
+mod standstill;
 mod starts;
+mod tagged;
 mod terminal;
 mod traced;
+mod traced_net;
 mod watch;
 mod wire_acts;
 mod wires;
@@ -49,9 +60,12 @@ pub use faults::PlaceFault;
 pub use net::Net;
 pub use origins::{Origin, origin_of, origins_of};
 pub use reason::Reason;
+pub use recorded_net::RecordedNet;
+pub use recorded_place::RecordedPlace;
 pub use run::Run;
 pub use sent_packet::SentPacket;
 pub use starts::{NodeStart, all_started};
 pub use terminal::{TerminalStart, TerminalView};
 pub use traced::{Source, Traced};
+pub use traced_net::TracedNet;
 pub use watch::{Unwatched, Watch};

@@ -8,59 +8,31 @@ ghost use Rattle.c104_describe.specs.Plans.{IsPlan};
 ghost use Rattle.c104_net.specs.Finished.{run_arrived};
 ghost use Rattle.c104_net.specs.FinishedRecords.{HaveRunRoom, record_finish};
 ghost use Rattle.c104_net.specs.Network.{network_arrived, new_network, placed_network};
-ghost use Rattle.c104_net.specs.NetRecords.{fresh_record, is_done, ticket_after, IsNetRecord, RecordsEvent};
-ghost use Rattle.c104_net.specs.RecordedRuns.{AnswersRecord, DoneLaw};
+ghost use Rattle.c104_net.specs.NetRecords.{fresh_record, IsNetRecord};
 ghost use Rattle.c104_net.specs.WiredActs.{IsRecordedAt};
 
 mod answers;
-mod asking;
 mod beginning;
 mod deadlock;
-mod rounds;
-mod standstill;
-mod viewing;
 mod work;
 
 use crate::acts::Entry;
-use crate::events::happen;
 use crate::faults::PlaceFault;
-use crate::place::Place;
+use crate::place_views::arrived_at;
 use crate::recorded::Node;
-use crate::recording::{place_new_recorded, place_recorded, retire_recorded};
+use crate::recorded_net::RecordedNet;
+use crate::recorded_place::retire_places;
+use crate::recording::{place_new_recorded, place_recorded};
 use crate::run::Run;
 use crate::run_parts::{RunParts, parts_of};
 use crate::wires::Wires;
 use c104_describe::{Image, Plan};
-use c104_event::{Event, EventFault};
-use c104_switch::Reply;
 use c104_token::{NoMemory, Token};
 use std::alloc::Global;
-use std::marker::Model;
 
-/// A network of plain tokens whose nodes keep where they started and what they did since.
-pub struct Net {
-    wires: Wires,
-    // The switches in order, and then the terminals.
-    places: Vec<Node>,
-    // How many events were done.
-    count: u64,
-    // Room for what is left at the end, so that `finish` takes no memory.
-    room: RunParts,
-}
-
-impl Model for Net {
-    ghost use Rattle.std.specs.Vec.{vec_capacity};
-    ghost use Rattle.c104_net.specs.FinishedRecords.{HaveRunRoom};
-    ghost use Rattle.c104_net.specs.NetRecords.{net_record, IsNetRecord, NetRecord};
-
-    ghost Value = { NetRecord };
-
-    ghost view = { λ net. net_record net.wires net.places.items net.count };
-
-    ghost invariant = { λ net. IsNetRecord (net_record net.wires net.places.items net.count)
-        × HaveRunRoom net.wires net.room.starts.items net.room.traces.items net.room.terminals.items
-        (vec_capacity net.room.starts) (vec_capacity net.room.traces) (vec_capacity net.room.terminals) };
-}
+/// A network of plain tokens whose nodes keep where they started and what they did since. It has room for what is left
+/// at the end, so that `finish` takes no memory.
+pub type Net = RecordedNet<Token, Node>;
 
 impl Net {
     /// A network of this plan, each switch of which is reset and not started, no token anywhere, and
@@ -78,7 +50,7 @@ impl Net {
                 room: frame.room,
             }),
             Err(error) => {
-                retire_recorded(places);
+                retire_places(places);
                 Err(error)
             }
         }
@@ -115,7 +87,7 @@ impl Net {
                 room: frame.room,
             }),
             Err(error) => {
-                retire_recorded(places);
+                retire_places(places);
                 Err(error)
             }
         }
@@ -148,35 +120,12 @@ impl Net {
         }
     }
 
-    /// Lets go of the network.
-    pub fn retire(self) {
-        let Net {
-            wires: _,
-            places,
-            count: _,
-            room: _,
-        } = self;
-        retire_recorded(places);
-    }
-
-    /// The plan of the network.
-    pub fn plan(&self) -> &Plan
-        ensures { result.now ≡ self.now.network.plan }
-    {
-        self.wires.plan()
-    }
-
     /// The tokens that arrived at a terminal since the start, in order. None where the plan has no
     /// such terminal.
     pub fn arrived(&self, terminal: usize) -> Option<&[Token]>
         ensures { option_copied result ≡ network_arrived self.now.network terminal }
     {
-        let plan = self.wires.plan();
-        if terminal >= plan.terminals().len() {
-            return None;
-        }
-        let place = plan.switches().len() + terminal;
-        self.places.get(place)?.node().arrived()
+        arrived_at(&self.wires, self.places.as_slice(), terminal)
     }
 
     /// What the node at a place did since its start, in order. None where there is no such node.
@@ -192,22 +141,6 @@ impl Net {
             Some(found) => Some(found.trace()),
             None => None,
         }
-    }
-
-    /// Does an event and answers what came of it, or NotReady where one of its conditions doesn't hold; or refuses
-    /// it. Where it was done, each node that acted has one entry more, with the event's number among those that were
-    /// done; else nothing has changed.
-    ///
-    /// The first of these is answered: NoNode, NoLink, NotWired, TooLong; NotReady; OutboxFull, InboxFull, TraceFull,
-    /// NoMemory. The order is this emulator's own.
-    pub fn apply(&mut self, event: &Event) -> Result<Reply, EventFault>
-        ensures recorded { RecordsEvent self.old event.now result self.new }
-        ensures due { AnswersRecord self.old event.now result self.new }
-        ensures done { DoneLaw }
-    {
-        let answer = happen(&self.wires, self.places.as_mut_slice(), self.count, event);
-        self.count = ticket_after(self.count, was_done(&answer));
-        answer
     }
 }
 
@@ -233,24 +166,5 @@ impl Frame {
         let copy = plan.clone()?;
         let wires = Wires::new(alloc, copy)?;
         Ok(Frame { wires, room })
-    }
-}
-
-/// How many events were done, after one that may have been.
-// Saturating: no network comes near the end, since its traces are full long before.
-fn ticket_after(count: u64, done: bool) -> u64
-    ensures { result ≡ ticket_after count done }
-{
-    if done { count.saturating_add(1) } else { count }
-}
-
-/// Whether an event that was answered so was done.
-fn was_done(answer: &Result<Reply, EventFault>) -> bool
-    ensures { result ≡ is_done answer.now }
-{
-    match answer {
-        Ok(Reply::NotReady) => false,
-        Ok(_) => true,
-        Err(_) => false,
     }
 }

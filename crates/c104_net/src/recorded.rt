@@ -3,14 +3,14 @@ ghost use Rattle.std.specs.Prelude.{◌≡◌, ◌∷◌, []};
 ghost use Rattle.std.specs.Option.{option_to_list};
 ghost use Rattle.c104_net.specs.Finished.{terminals_of};
 ghost use Rattle.c104_net.specs.Balance.{is_switch};
-ghost use Rattle.c104_net.specs.NetRecords.{begun_record};
-ghost use Rattle.c104_net.specs.Quiet.{node_begin, IsQuietNode};
 ghost use Rattle.c104_net.specs.Starts.{start_node, start_of};
 ghost use Rattle.c104_net.specs.Records.{IsRecorded};
 
 use crate::acts::{Act, Entry, same_reply};
 use crate::node::NodeOf;
 use crate::place::Place;
+use crate::recorded_place::RecordedPlace;
+use crate::run_parts::RunParts;
 use crate::starts::NodeStart;
 use crate::terminal::TerminalOf;
 use c104_switch::Reply;
@@ -59,18 +59,6 @@ impl Node {
         }
     }
 
-    /// Retires a switch, or gives the terminal. What was kept is let go of.
-    pub fn retire(self) -> Option<TerminalOf<Token>>
-        ensures { option_to_list result ≡ terminals_of (self.0.state ∷ []) }
-    {
-        let Node {
-            core,
-            start: _,
-            trace: _,
-        } = self;
-        core.retire()
-    }
-
     /// Retires a switch, or gives the terminal; and where the node started, and what it did since.
     pub fn finish(self) -> (Option<TerminalOf<Token>>, NodeStart, Items<Entry>)
         ensures terminal { option_to_list result.0 ≡ terminals_of (self.0.state ∷ []) }
@@ -80,19 +68,6 @@ impl Node {
     {
         let Node { core, start, trace } = self;
         (core.retire(), start, Items::new(trace))
-    }
-
-    /// Starts a run where the node stands, if it is quiet: what it sent and what arrived is forgotten, and
-    /// what it did. It takes no memory.
-    pub fn begin(&mut self)
-        requires { IsQuietNode self.old.0.state }
-        ensures begun { self.new.0 ≡ begun_record self.old.0 }
-        ensures stands { self.new.0.state ≡ start_node self.new.0.start }
-    {
-        write_start(&self.core, &mut self.start);
-        stands(&self.core);
-        self.core.begin();
-        self.trace.clear();
     }
 
     /// Where the node started.
@@ -128,19 +103,6 @@ fn write_start(core: &NodeOf<Token>, start: &mut NodeStart)
             NodeStart::Switch(_) => unreachable!(),
             NodeStart::Terminal(start) => terminal.write_start(start),
         },
-    }
-}
-
-/// A node that is quiet stands at the start that it is at, as it begins a run.
-fn stands(core: &NodeOf<Token>)
-    ensures { IsQuietNode core.now → start_node (start_of core.now) ≡ node_begin core.now }
-{
-    match core {
-        NodeOf::Switch(switch) => {
-            // The proof reads by this name what every switch keeps.
-            let _started = switch.started();
-        }
-        NodeOf::Terminal(_) => (),
     }
 }
 
@@ -210,5 +172,38 @@ impl Place<Token> for Node {
             seat: None,
         });
         Ok(reply)
+    }
+}
+
+impl RecordedPlace<Token> for Node {
+    ghost use Rattle.std.specs.Vec.{vec_capacity};
+    ghost use Rattle.c104_net.specs.FinishedRecords.{HaveRunRoom};
+    ghost use Rattle.c104_net.specs.RecordedPlaces.{node_keeps};
+
+    // Room for what is left at the end, so that `finish` takes no memory.
+    type Room = RunParts;
+
+    ghost shown = { λ n. n.0.state };
+
+    ghost begun_at = { λ n. n.0.start };
+
+    ghost fits = { λ plan room. HaveRunRoom plan room.starts.items room.traces.items room.terminals.items
+        (vec_capacity room.starts) (vec_capacity room.traces) (vec_capacity room.terminals) };
+
+    ghost keeps_record = { node_keeps };
+
+    fn begin(&mut self) {
+        write_start(&self.core, &mut self.start);
+        self.core.begin();
+        self.trace.clear();
+    }
+
+    fn retire(self) {
+        let Node {
+            core,
+            start: _,
+            trace: _,
+        } = self;
+        core.retire();
     }
 }

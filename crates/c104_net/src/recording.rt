@@ -102,11 +102,3 @@ fn add_terminals(alloc: Global, plan: &Plan, list: &mut Vec<Node>) -> Result<(),
     }
     Ok(())
 }
-
-/// Lets go of nodes.
-pub fn retire_recorded(mut list: Vec<Node>) {
-    while let Some(node) = list.pop() {
-        node.retire();
-    }
-    list.destroy_empty();
-}

@@ -1,12 +1,11 @@
 //! A terminal: where packets are sent and received.
-ghost use Rattle.std.specs.Prelude.{◌≡◌, ◌↔◌, ◌<◌, ◌≤◌, ◌+◌, ◌++◌, [], length, map, is_some, IfOk, IsTrue, OnOk, OnErr};
-ghost use Rattle.std.specs.VecDeque.{deque_len, deque_capacity};
+ghost use Rattle.std.specs.Prelude.{◌≡◌, ◌↔◌, ◌<◌, ◌≤◌, ◌+◌, [], length, map, is_some, IfOk, IsTrue, OnOk, OnErr};
 ghost use Rattle.c104_token.specs.declared.text.TheConstants.{MAX_PACKET_BYTES};
-ghost use Rattle.c104_token.specs.declared.tokens.Token.TheVariants.{Byte};
 ghost use Rattle.c104_link.specs.Buffers.{IsValidCap};
 ghost use Rattle.c104_link.specs.Steps.{bool_outcome, option_outcome};
 ghost use Rattle.c104_net.specs.Terminals.{new_terminal, terminal_enter, terminal_leave, terminal_credit_out, terminal_credit_in, terminal_drain};
-ghost use Rattle.c104_net.specs.Terminals.{terminal_begin, terminal_send, sent_from, sent_tokens};
+ghost use Rattle.c104_net.specs.Outboxes.{waiting_taken};
+ghost use Rattle.c104_net.specs.Terminals.{terminal_begin, terminal_send};
 
 mod reasons;
 mod starts;
@@ -16,35 +15,47 @@ use c104_link::{CREDIT_LIMIT, InBufferOf, TOKENS_OF_A_GRANT};
 use c104_token::{NoMemory, Packet, Token, TokenKind};
 pub use starts::TerminalStart;
 use std::alloc::Global;
-use std::collections::VecDeque;
 use std::marker::Model;
 pub use views::TerminalView;
 
+/// A packet of a terminal, with the terminal's number, which a token may tell.
+#[derive(Drop)]
+pub struct TerminalPacket {
+    pub packet: Packet,
+    pub terminal: usize,
+}
+
 /// A terminal, with its end of the wire.
+// The tokens that wait to go out are kept nowhere: they are those of the packets from `next` on, without the first
+// `place` tokens of that one. A token is made when it goes out. So a packet costs its bytes once, whatever a token takes.
 #[derive(Drop)]
 pub struct TerminalOf<T: TokenKind> {
     input: InBufferOf<T>,
-    outbox: VecDeque<T>,
+    sent: Vec<TerminalPacket>,
+    next: usize,
+    place: usize,
+    waiting: usize,
     credit: usize,
-    sent: Vec<Packet>,
     arrived: Vec<T>,
 }
 
 impl<T: TokenKind> Model for TerminalOf<T> {
-    ghost use Rattle.std.specs.Prelude.{◌≤◌};
+    ghost use Rattle.std.specs.Prelude.{◌≤◌, map};
     ghost use Rattle.c104_link.specs.declared.outgoing.TheConstants.{CREDIT_LIMIT};
+    ghost use Rattle.c104_net.specs.Outboxes.{IsOutbox, packet_of, waiting_from};
     ghost use Rattle.c104_net.specs.Terminals.{Terminal};
 
     ghost Value = { Terminal T };
 
     ghost view = { λ t. record {
       input = t.input;
-      output = record { items = t.outbox.items; credit = t.credit };
-      sent = t.sent.items;
+      output = record { items = waiting_from T.kind t.next t.place t.sent.items; credit = t.credit };
+      sent = map packet_of t.sent.items;
       arrived = t.arrived.items;
     } };
 
-    ghost invariant = { λ t. t.credit ≤ CREDIT_LIMIT };
+    ghost invariant = { λ t. (t.credit ≤ CREDIT_LIMIT)
+        × IsOutbox T.kind t.next t.place t.waiting t.sent.items };
 }
 
 impl<T: TokenKind> TerminalOf<T> {
@@ -57,9 +68,11 @@ impl<T: TokenKind> TerminalOf<T> {
         let input = InBufferOf::new(alloc, cap)?;
         Ok(TerminalOf {
             input,
-            outbox: VecDeque::new(alloc),
-            credit: 0,
             sent: Vec::new(alloc),
+            next: 0,
+            place: 0,
+            waiting: 0,
+            credit: 0,
             arrived: Vec::new(alloc),
         })
     }
@@ -68,20 +81,24 @@ impl<T: TokenKind> TerminalOf<T> {
     pub fn waiting(&self) -> usize
         ensures { result ≡ length self.now.output.items }
     {
-        self.outbox.len()
+        self.waiting
     }
 
     /// Whether no token came in that hasn't arrived, and none waits to go out.
     pub fn is_quiet(&self) -> bool
         ensures { IsTrue result ↔ ((self.now.input.items ≡ []) × (self.now.output.items ≡ [])) }
     {
-        self.input.is_empty() && self.outbox.is_empty()
+        self.input.is_empty() && self.waiting == 0
     }
 
-    /// Forgets what was sent and what arrived.
+    /// Forgets what was sent and what arrived, where nothing waits.
     pub fn begin(&mut self)
+        requires { self.old.output.items ≡ [] }
         ensures { self.new ≡ terminal_begin self.old }
     {
+        self.next = 0;
+        self.place = 0;
+        self.waiting = 0;
         self.sent.clear();
         self.arrived.clear();
     }
@@ -116,16 +133,48 @@ impl<T: TokenKind> TerminalOf<T> {
         if self.credit == 0 {
             return None;
         }
-        let token = self.outbox.pop_front()?;
+        let token = self.take_waiting()?;
         self.credit -= 1;
         Some(token)
+    }
+
+    /// The first token that waits is taken. None where none waits.
+    #[inline(always)]
+    #[tactic(auto, using(crate::proofs::Waiting::takes_none))]
+    fn take_waiting(&mut self) -> Option<T>
+        ensures { (result, self.new) ≡ waiting_taken self.old }
+    {
+        let posted = self.sent.get(self.next)?;
+        let bytes = posted.packet.bytes.as_slice();
+        if self.place < bytes.len() {
+            let token = T::sent(
+                posted.terminal,
+                self.next,
+                self.place,
+                Token::Byte(bytes[self.place]),
+            );
+            self.place += 1;
+            self.waiting -= 1;
+            Some(token)
+        } else {
+            let token = T::sent(
+                posted.terminal,
+                self.next,
+                self.place,
+                posted.packet.mark.token(),
+            );
+            self.next += 1;
+            self.place = 0;
+            self.waiting -= 1;
+            Some(token)
+        }
     }
 
     /// Whether `leave` would let a token out.
     pub fn can_leave(&self) -> bool
         ensures { result ≡ is_some (terminal_leave self.now) }
     {
-        self.credit > 0 && !self.outbox.is_empty()
+        self.credit > 0 && self.waiting > 0
     }
 
     /// The terminal grants eight more tokens. False where its input buffer has no room for them.
@@ -194,41 +243,18 @@ impl<T: TokenKind> TerminalOf<T> {
         ensures kept { OnErr result (self.new ≡ self.old) }
     {
         let copy = packet.clone()?;
+        let Some(waiting) = self.waiting.checked_add(packet.bytes.as_slice().len() + 1) else {
+            return Err(NoMemory);
+        };
         self.sent.reserve(1)?;
-        self.outbox.reserve(packet.bytes.as_slice().len() + 1)?;
-        put_packet(&mut self.outbox, terminal, self.sent.len(), packet);
-        let Ok(()) = self.sent.push(copy) else {
+        let Ok(()) = self.sent.push(TerminalPacket {
+            packet: copy,
+            terminal,
+        })
+        else {
             unreachable!();
         };
+        self.waiting = waiting;
         Ok(())
-    }
-}
-
-/// The tokens of a packet join a list that has room for them.
-fn put_packet<T: TokenKind>(
-    outbox: &mut VecDeque<T>,
-    terminal: usize,
-    number: usize,
-    packet: &Packet,
-)
-    requires room { deque_len outbox.old + (length packet.now.bytes + 1)
-        ≤ deque_capacity outbox.old }
-    ensures { outbox.new.items ≡ outbox.old.items ++ sent_tokens T.kind terminal number packet.now }
-{
-    let bytes = packet.bytes.as_slice();
-    put_bytes(outbox, terminal, number, bytes);
-    let end = T::sent(terminal, number, bytes.len(), packet.mark.token());
-    outbox.push_back_reserved(end);
-}
-
-/// The tokens of a packet's bytes join a list that has room for them and for one more.
-fn put_bytes<T: TokenKind>(outbox: &mut VecDeque<T>, terminal: usize, number: usize, bytes: &[u8])
-    requires { deque_len outbox.old + (length bytes.now + 1) ≤ deque_capacity outbox.old }
-    ensures items { outbox.new.items
-        ≡ outbox.old.items ++ sent_from T.kind terminal number 0 (map Byte bytes.now) }
-    ensures room { deque_len outbox.new < deque_capacity outbox.new }
-{
-    for (place, byte) in bytes.iter().enumerate() {
-        outbox.push_back_reserved(T::sent(terminal, number, place, Token::Byte(*byte)));
     }
 }

@@ -2,6 +2,7 @@
 ghost use Rattle.std.specs.Prelude.{◌≡◌, ◌↔◌, IsTrue};
 ghost use Rattle.c104_switch.specs.Views.{link_view};
 ghost use Rattle.c104_net.specs.Quiet.{is_quiet_view, node_begin, IsQuietNode, IsQuietSwitch};
+ghost use Rattle.c104_net.specs.Starts.{start_node, start_of};
 
 use crate::node::NodeOf;
 use c104_switch::{LINKS, Phase, SwitchOf};
@@ -18,12 +19,19 @@ impl<T: TokenKind> NodeOf<T> {
         }
     }
 
-    /// Forgets what was sent and what arrived, if the node is a terminal.
+    /// Begins a run where the node stands, if it is quiet: it forgets what was sent and what arrived, if it is a
+    /// terminal. Then it stands at the start that it is at.
+    #[tactic(auto, using(crate::proofs::BegunRecords::switch_stands, crate::proofs::BegunRecords::terminal_stands))]
     pub fn begin(&mut self)
-        ensures { self.new ≡ node_begin self.old }
+        requires { IsQuietNode self.old }
+        ensures begun { self.new ≡ node_begin self.old }
+        ensures stands { self.new ≡ start_node (start_of self.old) }
     {
         match self {
-            NodeOf::Switch(_) => (),
+            NodeOf::Switch(switch) => {
+                // The proof reads by this name what every switch keeps.
+                let _started = switch.started();
+            }
             NodeOf::Terminal(terminal) => terminal.begin(),
         }
     }

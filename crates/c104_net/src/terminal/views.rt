@@ -32,7 +32,7 @@ impl<T: TokenKind> TerminalOf<T> {
         ensures { result ≡ terminal_view self.now }
     {
         TerminalView {
-            waiting: self.outbox.len(),
+            waiting: self.waiting,
             undrained: self.input.len(),
             credit: self.credit,
             granted: self.input.granted(),

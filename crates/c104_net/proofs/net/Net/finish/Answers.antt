@@ -12,19 +12,19 @@ use Rattle.c104_net.proofs.net.Net.finish.Goals as goal
 
 pub parts_of-parts-requires-clause-start_room : goal.parts_of-parts-requires-clause-start_room
 parts_of-parts-requires-clause-start_room c =
-    let counted = nodes_counted c.self.inside.wires (map node_state c.self.inside.places.items) c.self.invariant.0.steady.in_place in
+    let counted = nodes_counted c.self.inside.wires (map node_state c.self.inside.places.items) c.self.invariant.0.kept.steady.in_place in
     let same = length-map c.self.inside.places.items node_state in
     omega (arith, counted, same, c.self.invariant.1.starts_fit)
 
 pub parts_of-parts-requires-clause-trace_room : goal.parts_of-parts-requires-clause-trace_room
 parts_of-parts-requires-clause-trace_room c =
-    let counted = nodes_counted c.self.inside.wires (map node_state c.self.inside.places.items) c.self.invariant.0.steady.in_place in
+    let counted = nodes_counted c.self.inside.wires (map node_state c.self.inside.places.items) c.self.invariant.0.kept.steady.in_place in
     let same = length-map c.self.inside.places.items node_state in
     omega (arith, counted, same, c.self.invariant.1.traces_fit)
 
 pub parts_of-parts-requires-clause-terminal_room : goal.parts_of-parts-requires-clause-terminal_room
 parts_of-parts-requires-clause-terminal_room c =
-    let counted = terminals_counted c.self.inside.wires (map node_state c.self.inside.places.items) c.self.invariant.0.steady.in_place in
+    let counted = terminals_counted c.self.inside.wires (map node_state c.self.inside.places.items) c.self.invariant.0.kept.steady.in_place in
     omega (arith, counted, c.self.invariant.1.terminals_fit)
 
 -- the run is what this network leaves
@@ -32,7 +32,7 @@ left_is : (c : goal.After-into_plan) → ◌≡◌ {A = FinishedRecord} (record 
 left_is c = finish_is c.self.inside.wires c.into_plan.result c.self.inside.places.items c.self.inside.count c.parts_of-parts.result.terminals.items c.parts_of-parts.result.starts.items c.parts_of-parts.result.traces.items c.into_plan.ensures c.parts_of-parts.ensures.terminals c.parts_of-parts.ensures.starts c.parts_of-parts.ensures.traces
 
 pub invariant_of-result : goal.invariant_of-result
-invariant_of-result c = record { net = net_record c.self.inside.wires c.self.inside.places.items c.self.inside.count; kept = c.self.invariant.0; left = left_is c; recorded = all_recorded c.self.inside.wires c.plan-plan.ensures.kept c.self.inside.places.items c.self.inside.count c.parts_of-parts.ensures.recorded c.self.invariant.0 }
+invariant_of-result c = record { net = net_record c.self.inside.wires c.self.inside.places.items c.self.inside.count; kept = c.self.invariant.0.kept; left = left_is c; recorded = all_recorded c.self.inside.wires c.plan-plan.ensures.kept c.self.inside.places.items c.self.inside.count c.parts_of-parts.ensures.recorded c.self.invariant.0.kept }
 
 pub returns-clause-left : goal.returns-clause-left
 returns-clause-left c = left_is c ∙ ap record_finish c.self.view_is
@@ -40,5 +40,5 @@ returns-clause-left c = left_is c ∙ ap record_finish c.self.view_is
 pub returns-clause-arrived : goal.returns-clause-arrived
 returns-clause-arrived c = λ t.
     ap (λ (r : FinishedRecord). run_arrived r.finished t) (left_is c)
-    ∙ arrived_same (network_of c.self.inside.wires (map node_state c.self.inside.places.items)) c.self.invariant.0.steady.in_place t
+    ∙ arrived_same (network_of c.self.inside.wires (map node_state c.self.inside.places.items)) c.self.invariant.0.kept.steady.in_place t
     ∙ ap (λ (r : NetRecord). network_arrived r.network t) c.self.view_is

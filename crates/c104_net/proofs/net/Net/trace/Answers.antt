@@ -13,7 +13,7 @@ returns-in-Some-clause-recorded c =
     let inside : c.args.node < length c.deref.result.now = grind (arith, nat_tests, c.in-Some.ensures.lookup.0) in
     let read : slice_get c.deref.result.now c.args.node ≡ Some c.in-Some.found.now = slice_get_read c.deref.result.now (length c.deref.result.now) c.args.node c.in-Some.found.now refl inside c.in-Some.ensures.lookup.1 in
     let at : slice_get c.self.inside.places.items c.args.node ≡ Some c.in-Some.found.now = ap (λ (xs : List (NodeRecord × ℕ)). slice_get xs c.args.node) (sym c.deref.ensures.value) ∙ read in
-    subst (λ r. IsRecordedAt r c.args.node) c.self.view_is (recorded_at c.self.inside.wires c.plan-plan.ensures.kept c.self.inside.places.items c.self.inside.count c.args.node (Some c.in-Some.found.now) at c.trace.ensures.recorded c.self.invariant.0)
+    subst (λ r. IsRecordedAt r c.args.node) c.self.view_is (recorded_at c.self.inside.wires c.plan-plan.ensures.kept c.self.inside.places.items c.self.inside.count c.args.node (Some c.in-Some.found.now) at c.trace.ensures.recorded c.self.invariant.0.kept)
 
 -- there is no such node
 none : (c : goal.In-None) → slice_get c.self.inside.places.items c.args.node ≡ None
@@ -28,4 +28,4 @@ returns-in-None-clause-trace c =
 
 pub returns-in-None-clause-recorded : goal.returns-in-None-clause-recorded
 returns-in-None-clause-recorded c =
-    subst (λ r. IsRecordedAt r c.args.node) c.self.view_is (recorded_at c.self.inside.wires c.plan-plan.ensures.kept c.self.inside.places.items c.self.inside.count c.args.node None (none c) tt c.self.invariant.0)
+    subst (λ r. IsRecordedAt r c.args.node) c.self.view_is (recorded_at c.self.inside.wires c.plan-plan.ensures.kept c.self.inside.places.items c.self.inside.count c.args.node None (none c) tt c.self.invariant.0.kept)

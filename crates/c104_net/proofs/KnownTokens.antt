@@ -1,0 +1,160 @@
+-- In a run from a start whose traces are within their limit, each terminator that arrives tells its packet, and in numbers
+-- that its eight bytes have room for. So what is kept of it tells the same packet.
+use Rattle.std.proofs.Common.{◌≡◌, ◌∙◌, ◌≤◌, ◌<◌, ◌%◌, ◌+◌, ◌++◌, ℕ, suc, zero, Bool, true, false, List, [], ◌∷◌, Option, Some, None, Result, Ok, if◌then◌else◌, length, map, nat_lt, slice_get, refl, sym, ap, subst, arith}
+use Rattle.std.proofs.lemmas.Bool.{true≢false}
+use Rattle.std.proofs.lemmas.Bool.Decides.{nat_tests}
+use Rattle.std.proofs.lemmas.Option.{slice_get-map}
+use Rattle.std.specs.Option.{option_map}
+use Rattle.c104_token.specs.Kinds.{Kind}
+use Rattle.c104_token.specs.declared.tokens.Token.{Token}
+use Rattle.c104_token.specs.declared.tokens.Token.TheVariants.{Byte}
+use Rattle.c104_token.specs.declared.tokens.Token.TheVariants as token
+use Rattle.c104_switch.specs.Actions.{Reply, is_ready}
+use Rattle.c104_describe.specs.Plans.{Plan}
+use Rattle.c104_event.specs.declared.events.Event.{Event}
+use Rattle.c104_event.specs.declared.events.Event.TheVariants as event
+use Rattle.c104_event.specs.declared.faults.EventFault.{EventFault}
+use Rattle.c104_event.specs.declared.faults.EventFault.TheVariants as fault
+use Rattle.c104_net.specs.declared.node.NodeOf.TheVariants as node
+use Rattle.c104_net.specs.declared.starts.NodeStart.{NodeStart}
+use Rattle.c104_net.specs.Finished.{terminals_of}
+use Rattle.c104_net.specs.Tagged.{tag, tagged_origins, TaggedToken}
+use Rattle.c104_net.specs.Network.{network_apply, network_of, network_step, event_fault, node_fault, terminal_place, Network}
+use Rattle.c104_net.specs.Nodes.{Node}
+use Rattle.c104_net.specs.Origins.{origins_in, AreSure, IsSure, Origin}
+use Rattle.c104_net.specs.Runs.{run_deeds, IsDoneRun}
+use Rattle.c104_net.specs.Starts.{start_node}
+use Rattle.c104_net.specs.Terminals.{Terminal}
+use Rattle.c104_net.specs.Traced.{sent_token, traced_kind, Source, Traced}
+use Rattle.c104_net.specs.TracedRuns.{map_network, map_node}
+use Rattle.c104_net.specs.Traces.{event_deeds, is_switch_place, Deed}
+use Rattle.c104_net.proofs.TaggedRuns.{origins_same, IsSmall}
+use Rattle.c104_net.proofs.RoundJoins.{apply_plan}
+use Rattle.c104_net.proofs.RunOrigins.{terminal_origins}
+use Rattle.c104_net.proofs.RunSteps.{done_possible, done_step_is}
+use Rattle.c104_net.proofs.SentCounts.{bounded_on, counts, low_number, sent_count, step_counts, AddsSent, IsBounded}
+use Rattle.c104_net.proofs.StartMaps.{starts_same}
+use Rattle.c104_net.proofs.StepMaps.{apply_alike, IsSentAlike}
+
+-- a token with what is known of it
+abbrev pub Known : Type 0
+Known = (x : Traced) × IsSure x × IsSmall x
+
+abbrev pub known_of : Known → Traced
+known_of x = x.0
+
+small_sent : (t n j : ℕ) (x : Token) → t < 65536 → n < 4294967296 → IsSmall (sent_token t n j x)
+small_sent t n j x terminal number = record {
+  terminal = λ s is. (let same : record { terminal = t; number = n; place = j } ≡ s = cc in subst (λ (s : Source). s.terminal < 65536) same terminal);
+  number = λ s is. (let same : record { terminal = t; number = n; place = j } ≡ s = cc in subst (λ (s : Source). s.number < 4294967296) same number);
+}
+
+small_none : (x : Token) → IsSmall (record { token = x; source = None })
+small_none x = record { terminal = λ s is. absurd (let no : ⊥ = cc in no); number = λ s is. absurd (let no : ⊥ = cc in no) }
+
+sure_sent : (t n j : ℕ) (x : Token) → IsSure (sent_token t n j x)
+sure_sent t n j x = λ e. (record { terminal = t; number = n; place = j }, refl)
+
+within_terminal : (t : ℕ) → t % 65536 < 65536
+within_terminal t = grind arith
+
+within_number : (n : ℕ) → n % 4294967296 < 4294967296
+within_number n = grind arith
+
+abbrev known_sent : ℕ → ℕ → ℕ → Token → Known
+known_sent t n j x = (
+  sent_token (t % 65536) (n % 4294967296) j x,
+  sure_sent (t % 65536) (n % 4294967296) j x,
+  small_sent (t % 65536) (n % 4294967296) j x (within_terminal t) (within_number n),
+)
+
+abbrev known_random : Token → Known
+known_random (Byte b) = (record { token = Byte b; source = None }, (λ e. absurd (true≢false (sym e))), small_none (Byte b))
+known_random token.Eop = known_sent 0 0 0 token.Eop
+known_random token.Eom = known_sent 0 0 0 token.Eom
+
+abbrev known_kind : Kind Known
+known_kind = record { plain = λ x. x.0.token; random = λ place x. known_random x; sent = known_sent }
+
+plain_known : (x : Known) → traced_kind.plain (known_of x) ≡ known_kind.plain x
+plain_known x = refl
+
+random_known : (j b : ℕ) → traced_kind.random j (Byte b) ≡ known_of (known_kind.random j (Byte b))
+random_known j b = refl
+
+-- a terminal that no fault is about is there
+terminal_there : (count n : ℕ) (other : Option EventFault) → node_fault count n other ≡ None → n < count
+terminal_there count n other is = by_test (nat_lt n count) refl is
+  where
+    by_test : (b : Bool) → nat_lt n count ≡ b → (if b then other else Some fault.NoNode) ≡ None → n < count
+    by_test true inside is = grind (arith, nat_tests)
+    by_test false inside is = absurd (cc)
+
+sent_alike : (t n j : ℕ) (x : Token) → t < 65536 → n < 4294967296 → sent_token t n j x ≡ sent_token (t % 65536) (n % 4294967296) j x
+sent_alike t n j x terminal number =
+    let one : t ≡ t % 65536 = grind (arith, terminal) in
+    let two : n ≡ n % 4294967296 = grind (arith, number) in
+    ap (λ (k : ℕ). sent_token k n j x) one ∙ ap (λ (k : ℕ). sent_token (t % 65536) k j x) two
+
+-- what an event of such a run sends has small numbers
+alike : (net : Network Known) (e : Event) (r : Reply) (ticket : ℕ) (rest : List Deed) → length net.plan.terminals ≤ 65536 → event_fault net.plan e ≡ None → is_ready r ≡ true → IsBounded (counts (map (map_node known_of) net.nodes)) (event_deeds (is_switch_place net.plan) net.plan ticket e r ++ rest) → IsSentAlike known_of known_kind traced_kind plain_known random_known net e
+alike net (event.Cross p) r ticket rest few possible ready bound = tt
+alike net (event.Credit p) r ticket rest few possible ready bound = tt
+alike net (event.Input s l word) r ticket rest few possible ready bound = tt
+alike net (event.Claim s i o) r ticket rest few possible ready bound = tt
+alike net (event.Control s bytes) r ticket rest few possible ready bound = tt
+alike net (event.Drain t) r ticket rest few possible ready bound = tt
+alike net (event.Send t packet) r ticket rest few possible ready bound = λ T at j x.
+    let inside : t < length net.plan.terminals = terminal_there (length net.plan.terminals) t _ possible in
+    let there : slice_get (counts (map (map_node known_of) net.nodes)) (terminal_place net.plan t) ≡ Some (length T.sent) =
+    slice_get-map sent_count (map (map_node known_of) net.nodes) (terminal_place net.plan t)
+    ∙ ap (option_map sent_count) (slice_get-map (map_node known_of) net.nodes (terminal_place net.plan t) ∙ ap (option_map (map_node known_of)) at) in
+    let low = low_number net.plan t packet ticket r (counts (map (map_node known_of) net.nodes)) rest (length T.sent) ready bound there in
+    sent_alike t (length T.sent) j x (omega (arith, inside, few)) (omega (arith, low))
+
+-- a run whose entries are within their limit is one of tokens of which it is known
+known_run : (net : Network Known) (ended : Network Traced) (ticket : ℕ) (events : List (Event × Reply)) → length net.plan.terminals ≤ 65536 → IsBounded (counts (map (map_node known_of) net.nodes)) (run_deeds net.plan ticket events) → IsDoneRun traced_kind (map_network known_of net) events ended → (last : Network Known) × (map_network known_of last ≡ ended)
+known_run net ended ticket [] few bound is = (net, sym is)
+known_run net ended ticket (e ∷ events) few bound is =
+    let here : Network Traced = map_network known_of net in
+    let possible : event_fault net.plan e.0 ≡ None = done_possible traced_kind here is.0 e.0 e.1 is.1 in
+    let made : network_step traced_kind here e.0 ≡ Some (e.1, is.0) = done_step_is traced_kind here is.0 e.0 e.1 is.1 is.2 in
+    let adds : AddsSent net.plan e.0 (counts here.nodes) (counts is.0.nodes) = step_counts traced_kind net.plan here.nodes e.0 (e.1, is.0) made in
+    let on : IsBounded (counts is.0.nodes) (run_deeds net.plan (suc ticket) events) = bounded_on net.plan e.0 ticket e.1 (counts here.nodes) (counts is.0.nodes) (run_deeds net.plan (suc ticket) events) is.2 adds bound in
+    let same : ◌≡◌ {A = Result Reply EventFault × Network Traced} (Ok e.1, is.0) ((network_apply known_kind net e.0).0, map_network known_of (network_apply known_kind net e.0).1) =
+    is.1 ∙ apply_alike known_of known_kind traced_kind plain_known random_known net e.0 (alike net e.0 e.1 ticket (run_deeds net.plan (suc ticket) events) few possible is.2 bound) in
+    let after : Network Known = (network_apply known_kind net e.0).1 in
+    let next : is.0 ≡ map_network known_of after = ap (λ (z : Result Reply EventFault × Network Traced). z.1) same in
+    let plan_same : after.plan ≡ net.plan = apply_plan known_kind net e.0 in
+    known_run after ended (suc ticket) events
+    (subst (λ (p : Plan). length p.terminals ≤ 65536) (sym plan_same) few)
+    (subst (λ (p : Plan). IsBounded (counts (map (map_node known_of) after.nodes)) (run_deeds p (suc ticket) events)) (sym plan_same) (subst (λ (n : Network Traced). IsBounded (counts n.nodes) (run_deeds net.plan (suc ticket) events)) next on))
+    (subst (λ n. IsDoneRun traced_kind n events ended) next is.3)
+
+all_sure : (l : List Known) → AreSure (map known_of l)
+all_sure [] k x e = absurd (let no : ⊥ = cc in no)
+all_sure (y ∷ l) zero x e = let d : y.0 ≡ x = cc in subst IsSure d y.1
+all_sure (y ∷ l) (suc k) x e = all_sure l k x e
+
+all_small : (l : List Known) (k : ℕ) (x : Traced) → slice_get (map known_of l) k ≡ Some x → IsSmall x
+all_small [] k x e = absurd (let no : ⊥ = cc in no)
+all_small (y ∷ l) zero x e = let d : y.0 ≡ x = cc in subst IsSmall d y.2
+all_small (y ∷ l) (suc k) x e = all_small l k x e
+
+-- the packets that the terminators at a terminal tell
+abbrev pub tagged_lists : Terminal TaggedToken → List Origin
+tagged_lists t = tagged_origins t.arrived
+
+known_lists : (nodes : List (Node Known)) → map tagged_lists (terminals_of (map (map_node tag) (map (map_node known_of) nodes))) ≡ map terminal_origins (terminals_of (map (map_node known_of) nodes))
+known_lists [] = refl
+known_lists (node.Switch s ∷ nodes) = known_lists nodes
+known_lists (node.Terminal t ∷ nodes) =
+    ap (λ l. l ∷ map tagged_lists (terminals_of (map (map_node tag) (map (map_node known_of) nodes)))) (origins_same (map known_of t.arrived) (all_sure t.arrived) (all_small t.arrived))
+    ∙ ap (λ ls. origins_in (map known_of t.arrived) ∷ ls) (known_lists nodes)
+
+-- what is kept of the tokens that arrived in a run from a start tells the same packets
+pub lists_same : (plan : Plan) (starts : List NodeStart) (events : List (Event × Reply)) (ended : Network Traced) → length plan.terminals ≤ 65536 → IsBounded (counts (map (start_node {A = Traced}) starts)) (run_deeds plan 0 events) → IsDoneRun traced_kind (network_of plan (map start_node starts)) events ended → map tagged_lists (terminals_of (map (map_node tag) ended.nodes)) ≡ map terminal_origins (terminals_of ended.nodes)
+lists_same plan starts events ended few bound is =
+    let from : map (start_node {A = Traced}) starts ≡ map (map_node known_of) (map (start_node {A = Known}) starts) = sym (starts_same known_of starts) in
+    let run = known_run (network_of plan (map start_node starts)) ended 0 events few (subst (λ (ns : List (Node Traced)). IsBounded (counts ns) (run_deeds plan 0 events)) from bound) (subst (λ (ns : List (Node Traced)). IsDoneRun traced_kind (network_of plan ns) events ended) from is) in
+    subst (λ (n : Network Traced). map tagged_lists (terminals_of (map (map_node tag) n.nodes)) ≡ map terminal_origins (terminals_of n.nodes)) run.1 (known_lists run.0.nodes)

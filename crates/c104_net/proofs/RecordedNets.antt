@@ -1,0 +1,192 @@
+-- A network whose nodes are seen with their records goes on by events.
+use Rattle.std.proofs.Common.{◌≡◌, ◌∙◌, ℕ, Bool, true, false, List, [], ◌∷◌, Option, Some, None, Result, is_some, IfOk, map, option_map, inl, inr, refl, sym, ap, subst}
+use Rattle.c104_token.specs.declared.tokens.Token.{Token}
+use Rattle.c104_token.specs.declared.tokens.Token.TheVariants.{Byte}
+use Rattle.c104_token.specs.Kinds.{Kind, plain_kind}
+use Rattle.c104_switch.specs.Actions.{Reply, is_ready}
+use Rattle.c104_describe.specs.Plans.{Plan, IsPlan}
+use Rattle.c104_event.specs.declared.events.Event.{Event}
+use Rattle.c104_event.specs.declared.faults.EventFault.{EventFault}
+use Rattle.c104_net.specs.declared.acts.Entry.{Entry}
+use Rattle.c104_net.specs.declared.starts.NodeStart.{NodeStart}
+use Rattle.c104_net.specs.EventRuns.{Answers, EventsEnd}
+use Rattle.c104_net.specs.Network.{limit_fault, limited_node, Network, network_of, network_step, AnswersWith, WouldBeDone}
+use Rattle.c104_net.specs.NetRecords.{is_done, is_trace_full, ticket_after, IsNetRecord, NetRecord, RecordsEvent}
+use Rattle.c104_net.specs.RecordedNets.{places_record, IsReading, IsRecordedNet, KeepsTokens, Reading}
+use Rattle.c104_net.specs.RecordedRuns.{record_apply, record_at, AnswersRecord}
+use Rattle.c104_net.specs.Stages.{stage_apply, stage_of, Stage}
+use Rattle.c104_net.specs.Traces.{event_deeds, event_full, is_switch_at, is_switch_place, kept_of, noted_all}
+use Rattle.c104_net.specs.TracedRuns.{map_node}
+use Rattle.c104_net.proofs.FirstRecords.{map_twice}
+use Rattle.c104_net.proofs.NetRecording.{kept_same}
+use Rattle.c104_net.proofs.RecordedStages.{after_plan, apply_plain, plain_network, plain_stage, record_plain, stage_on, switches_plain, IsRecordedStage}
+use Rattle.c104_net.proofs.RoundRuns.{ends_keep, ends_seen, Applied}
+use Rattle.c104_net.proofs.RunRecords.{in_place}
+use Rattle.c104_net.proofs.StageSteps.{fulls_kept, stage_answers}
+use Rattle.c104_net.proofs.StepMaps.{limit_map, limited_map, step_map}
+
+-- a list that is mapped by two functions that agree
+pub map_same : {X Y : Type 0} (f g : X → Y) → ((x : X) → f x ≡ g x) → (xs : List X) → map f xs ≡ map g xs
+map_same f g same [] = refl
+map_same f g same (x ∷ xs) = ap (λ y. y ∷ map f xs) (same x) ∙ ap (λ ys. g x ∷ ys) (map_same f g same xs)
+
+somes_same : (xs ys : List NodeStart) → map Some xs ≡ map Some ys → xs ≡ ys
+somes_same [] [] is = refl
+somes_same [] (y ∷ ys) is = cc
+somes_same (x ∷ xs) [] is = cc
+somes_same (x ∷ xs) (y ∷ ys) is =
+    let first : x ≡ y = cc in
+    let rest : map Some xs ≡ map Some ys = cc in
+    ap (λ z. z ∷ xs) first ∙ ap (λ zs. y ∷ zs) (somes_same xs ys rest)
+
+abbrev record_of : Network Token → List NodeStart → List (List Entry) → ℕ → NetRecord
+record_of network starts traces count = record { network = network; starts = starts; traces = traces; count = count }
+
+module _ {A P : Type 0} (v : Reading A P) where
+  abbrev pub some_start : P → Option NodeStart
+  some_start p = Some (v.start p)
+
+  -- the stage that such places show
+  abbrev pub places_stage : Plan → List P → ℕ → Stage A
+  places_stage plan places count = stage_of v.state some_start v.trace plan places count
+
+  somes_shown : (places : List P) → map some_start places ≡ map Some (map v.start places)
+  somes_shown places = sym (map_twice Some v.start places)
+
+  same_starts : (plan : Plan) (places : List P) (count : ℕ) (starts : List NodeStart) → IsRecordedStage v.kind starts (places_stage plan places count) → starts ≡ map v.start places
+  same_starts plan places count starts is = sym (somes_same (map v.start places) starts (sym (somes_shown places) ∙ is.begun))
+
+module _ {A P : Type 0} (v : Reading A P) (reads : IsReading v) where
+  -- what places show over plain tokens
+  pub states_shown : (places : List P) → map (map_node v.kind.plain) (map v.state places) ≡ map v.shown places
+  states_shown places = map_twice (map_node v.kind.plain) v.state places ∙ map_same (λ p. map_node v.kind.plain (v.state p)) v.shown (λ p. sym (reads.plain p)) places
+
+  -- over plain tokens their stage is that of the network
+  pub places_plain : (plan : Plan) (places : List P) (count : ℕ) → record_at (map v.start places) (plain_stage v.kind (places_stage v plan places count)) ≡ places_record v plan places count
+  places_plain plan places count = ap (λ ns. record_of (network_of plan ns) (map v.start places) (map v.trace places) count) (states_shown places)
+
+  stage_kept : (plan : Plan) (places : List P) (count : ℕ) → IsRecordedNet v plan places count → IsRecordedStage v.kind (map v.start places) (places_stage v plan places count)
+  stage_kept plan places count is = record {
+    begun = somes_shown v places;
+    kept = subst IsNetRecord (sym (places_plain plan places count)) is.kept;
+    events = is.events;
+    told = is.told;
+  }
+
+  net_kept : (plan : Plan) (places : List P) (count : ℕ) → IsRecordedStage v.kind (map v.start places) (places_stage v plan places count) → IsRecordedNet v plan places count
+  net_kept plan places count is = record {
+    kept = subst IsNetRecord (places_plain plan places count) is.kept;
+    events = is.events;
+    told = is.told;
+  }
+
+  module _ (plan : Plan) (is_plan : IsPlan plan) (old new : List P) (count counted : ℕ) (before : IsRecordedNet v plan old count) where
+    abbrev starts : List NodeStart
+    starts = map v.start old
+
+    abbrev from : Stage A
+    from = places_stage v plan old count
+
+    abbrev to : Stage A
+    to = places_stage v plan new counted
+
+    -- what is left of a stage is what is left of the network
+    end_kept : IsRecordedStage v.kind starts to → IsRecordedNet v plan new counted
+    end_kept is = net_kept plan new counted (subst (λ ss. IsRecordedStage v.kind ss to) (same_starts v plan new counted starts is) is)
+
+    end_plain : IsRecordedStage v.kind starts to → record_at starts (plain_stage v.kind to) ≡ places_record v plan new counted
+    end_plain is = ap (λ ss. record_at ss (plain_stage v.kind to)) (same_starts v plan new counted starts is) ∙ places_plain plan new counted
+
+    -- one event
+    answers_kept : (e : Event) (answer : Result Reply EventFault) → Answers (stage_apply v.kind true) from e answer to → IsRecordedStage v.kind starts to
+    answers_kept e answer (inl due) = subst (IsRecordedStage v.kind starts) (sym (ap (λ (d : Applied (Stage A)). d.1) due)) (stage_on v.kind reads.tokens starts from e is_plan (stage_kept plan old count before))
+    answers_kept e answer (inr refused) = subst (IsRecordedStage v.kind starts) (sym refused.2) (stage_kept plan old count before)
+
+    answers_seen : (e : Event) (answer : Result Reply EventFault) → Answers (stage_apply v.kind true) from e answer to → AnswersRecord (record_at starts (plain_stage v.kind from)) e answer (record_at starts (plain_stage v.kind to))
+    answers_seen e answer (inl due) = inl (ap (λ (d : Applied (Stage A)). (d.0, record_at starts (plain_stage v.kind d.1))) due ∙ record_plain v.kind reads.tokens starts from e)
+    answers_seen e answer (inr refused) = inr (refused.0, ap (λ (d : Applied NetRecord). is_done d.0) (sym (record_plain v.kind reads.tokens starts from e)) ∙ refused.1, ap (λ s. record_at starts (plain_stage v.kind s)) refused.2)
+
+    module _ (e : Event) (answer : Result Reply EventFault) (stepped : Answers (stage_apply v.kind true) from e answer to) where
+      pub event_on : IsRecordedNet v plan new counted
+      event_on = end_kept (answers_kept e answer stepped)
+
+      pub event_answers : AnswersRecord (places_record v plan old count) e answer (places_record v plan new counted)
+      event_answers =
+          subst (λ r. AnswersRecord r e answer (places_record v plan new counted)) (places_plain plan old count)
+          (subst (λ r. AnswersRecord (record_at starts (plain_stage v.kind from)) e answer r) (end_plain (answers_kept e answer stepped)) (answers_seen e answer stepped))
+
+    -- events in turn
+    module _ (events : List Event) (result : Result (Unit {0}) EventFault) (ends : EventsEnd (stage_apply v.kind true) from events result to) where
+      ends_kept : IsRecordedStage v.kind starts to
+      ends_kept =
+          (ends_keep (stage_apply v.kind true) (λ s. IsPlan s.network.plan × IsRecordedStage v.kind starts s)
+          (λ s e holds. (subst IsPlan (sym (after_plan v.kind reads.tokens starts s e holds.0 holds.1)) holds.0, stage_on v.kind reads.tokens starts s e holds.0 holds.1))
+          from to events result (is_plan, stage_kept plan old count before) ends).1
+
+      pub events_on : IsRecordedNet v plan new counted
+      events_on = end_kept ends_kept
+
+      pub events_end : EventsEnd record_apply (places_record v plan old count) events result (places_record v plan new counted)
+      events_end =
+          subst (λ r. EventsEnd record_apply r events result (places_record v plan new counted)) (places_plain plan old count)
+          (subst (λ r. EventsEnd record_apply (record_at starts (plain_stage v.kind from)) events result r) (end_plain ends_kept)
+          (ends_seen (stage_apply v.kind true) record_apply (λ s. record_at starts (plain_stage v.kind s)) (record_plain v.kind reads.tokens starts) from to events result ends))
+
+-- what an event over any kind of token answers and leaves is what it does over plain tokens
+module _ {A : Type 0} (kind : Kind A) (tokens : KeepsTokens kind) (net after : Network A) (e : Event) where
+  some_map : {X Y : Type 0} (f : X → Y) (o : Option X) → is_some (option_map f o) ≡ is_some o
+  some_map f None = refl
+  some_map f (Some x) = refl
+
+  random_plain : (j b : ℕ) → ◌≡◌ {A = Token} (Byte b) (kind.plain (kind.random j (Byte b)))
+  random_plain j b = sym (tokens.random j (Byte b))
+
+  sent_plain : (t n j : ℕ) (x : Token) → x ≡ kind.plain (kind.sent t n j x)
+  sent_plain t n j x = sym (tokens.sent t n j x)
+
+  would_plain : WouldBeDone kind net e → WouldBeDone plain_kind (plain_network kind net) e
+  would_plain would = (
+    would.0,
+    ap is_some (step_map kind.plain kind plain_kind (λ x. refl) random_plain sent_plain net e) ∙ some_map _ (network_step kind net e) ∙ would.1,
+    ap (λ n. limit_fault n e) (limited_map kind.plain kind plain_kind (λ x. refl) random_plain sent_plain net e) ∙ limit_map kind.plain kind plain_kind (λ x. refl) random_plain sent_plain (limited_node net e) e ∙ would.2,
+  )
+
+  pub answers_plain : (full : Bool) (answer : Result Reply EventFault) → AnswersWith kind full net e answer after → AnswersWith plain_kind full (plain_network kind net) e answer (plain_network kind after)
+  answers_plain full answer (inl due) = inl (ap (λ (d : Applied (Network A)). (d.0, plain_network kind d.1)) due ∙ sym (apply_plain kind tokens net e))
+  answers_plain full answer (inr refused) = inr (refused.0, would_plain refused.1, ap (plain_network kind) refused.2)
+
+module _ {A P : Type 0} (v : Reading A P) (reads : IsReading v) (plan : Plan) (is_plan : IsPlan plan) (old new : List P) (count : ℕ) (before : IsRecordedNet v plan old count) (e : Event) (answer : Result Reply EventFault)
+    (answers : AnswersWith v.kind (event_full plan (map (λ (p : P). is_trace_full (v.trace p)) old) e) (network_of plan (map v.state old)) e answer (network_of plan (map v.state new)))
+    (free : IfOk answer (λ r. is_ready r ≡ true → event_full plan (map (λ (p : P). is_trace_full (v.trace p)) old) e ≡ false))
+    (begun : map (some_start v) new ≡ map (some_start v) old)
+    (noted : map v.trace new ≡ noted_all true (map v.trace old) (kept_of (event_deeds (is_switch_at (map v.state old)) plan count e) answer)) where
+  abbrev fulls : List Bool
+  fulls = map (λ (p : P). is_trace_full (v.trace p)) old
+
+  pub stepped : (counted : ℕ) → counted ≡ ticket_after count (is_done answer) → Answers (stage_apply v.kind true) (places_stage v plan old count) e answer (places_stage v plan new counted)
+  stepped counted told =
+      stage_answers v.kind true (places_stage v plan old count) (places_stage v plan new counted) (event_full plan fulls e) e
+      (ap (λ fs. event_full plan fs e) (fulls_kept (λ (p : P). is_trace_full (v.trace p)) v.trace true (λ p. refl) old))
+      answer (begun, noted, told) answers free
+
+  fulls_told : fulls ≡ map is_trace_full (map v.trace old)
+  fulls_told = sym (map_twice is_trace_full v.trace old)
+
+  -- over plain tokens it is told of the same places
+  places_told : (k : ℕ) → is_switch_at (map v.state old) k ≡ is_switch_place plan k
+  places_told k = sym (switches_plain v.kind (map v.state old) k) ∙ ap (λ ns. is_switch_at ns k) (states_shown v reads old) ∙ in_place plan (map v.shown old) before.kept.steady.in_place k
+
+  answered : AnswersWith plain_kind (event_full plan fulls e) (network_of plan (map v.shown old)) e answer (network_of plan (map v.shown new))
+  answered =
+      subst (λ ns. AnswersWith plain_kind (event_full plan fulls e) (network_of plan ns) e answer (network_of plan (map v.shown new))) (states_shown v reads old)
+      (subst (λ ns. AnswersWith plain_kind (event_full plan fulls e) (network_of plan (map (map_node v.kind.plain) (map v.state old))) e answer (network_of plan ns)) (states_shown v reads new)
+      (answers_plain v.kind reads.tokens (network_of plan (map v.state old)) (network_of plan (map v.state new)) e (event_full plan fulls e) answer answers))
+
+  pub event_records : RecordsEvent (places_record v plan old count) e answer (places_record v plan new (ticket_after count (is_done answer)))
+  event_records = record {
+    answers = subst (λ fs. AnswersWith plain_kind (event_full plan fs e) (network_of plan (map v.shown old)) e answer (network_of plan (map v.shown new))) fulls_told answered;
+    free = subst (λ fs. IfOk answer (λ r. is_ready r ≡ true → event_full plan fs e ≡ false)) fulls_told free;
+    traces = noted ∙ ap (noted_all true (map v.trace old)) (kept_same (is_switch_at (map v.state old)) (is_switch_place plan) places_told plan count e answer);
+    starts = somes_same (map v.start new) (map v.start old) (sym (somes_shown v new) ∙ begun ∙ somes_shown v old);
+    count = refl;
+  }

@@ -1,0 +1,236 @@
+-- How many packets each node has sent: a Send that is done adds one at its terminal, and nothing else changes it. So the
+-- number of a packet is lower than the most entries of a trace.
+use Rattle.std.proofs.Common.{◌≡◌, ◌∙◌, ◌≤◌, ◌+◌, ◌++◌, ℕ, suc, zero, Bool, true, false, All, List, [], ◌∷◌, Option, Some, None, if◌then◌else◌, inl, inr, length, length-append, map, nat_eq, option_map, slice_get, slice_set, refl, sym, ap, subst, arith}
+use Rattle.std.proofs.lemmas.Bool.{cases_eq}
+use Rattle.std.proofs.lemmas.Bool.Decides.{nat_tests}
+use Rattle.std.proofs.lemmas.List.{map-set}
+use Rattle.std.proofs.lemmas.Option.{slice_get-map}
+use Rattle.c104_token.specs.declared.tokens.Token.{Token}
+use Rattle.c104_token.specs.declared.packets.Packet.{Packet}
+use Rattle.c104_token.specs.Kinds.{Kind}
+use Rattle.c104_link.specs.Buffers as buffer
+use Rattle.c104_link.specs.Steps.{step_at, yield_step_at}
+use Rattle.c104_link.proofs.MadeSteps.{given, at_place_made, from_place_made, All-place}
+use Rattle.c104_switch.specs.Actions.{Reply, is_ready}
+use Rattle.c104_switch.specs.declared.actions.ReplyOf.TheVariants as reply
+use Rattle.c104_switch.specs.Switch as switch
+use Rattle.c104_switch.specs.Turns as turns
+use Rattle.c104_switch.specs.Claims as claims
+use Rattle.c104_switch.specs.Control as controls
+use Rattle.c104_describe.specs.Plans.{Plan}
+use Rattle.c104_describe.specs.Wiring.{peer}
+use Rattle.c104_event.specs.declared.events.Event.{Event}
+use Rattle.c104_event.specs.declared.events.Event.TheVariants as event
+use Rattle.c104_net.specs.declared.acts.ActOf.{ActOf}
+use Rattle.c104_net.specs.declared.acts.ActOf.TheVariants as act
+use Rattle.c104_net.specs.declared.acts.Entry.{Entry}
+use Rattle.c104_net.specs.declared.node.NodeOf.TheVariants.{Switch, Terminal}
+use Rattle.c104_net.specs.declared.starts.NodeStart.{NodeStart}
+use Rattle.c104_net.specs.declared.starts.NodeStart.TheVariants as start
+use Rattle.c104_net.specs.Ends.{end_of}
+use Rattle.c104_net.specs.Network.{Network, network_of, network_step, terminal_place}
+use Rattle.c104_net.specs.NetRecords.{IsWithinLimit}
+use Rattle.c104_net.specs.Nodes.{Node, node_claim, node_control, node_credit_in, node_credit_out, node_drain, node_enter, node_input, node_leave, node_send}
+use Rattle.c104_net.specs.Runs.{at_node}
+use Rattle.c104_net.specs.Starts.{start_node}
+use Rattle.c104_net.specs.Terminals as terminal
+use Rattle.c104_net.specs.Traces.{entry_of, event_deeds, is_switch_place, lone_deed, trace_limit, Deed}
+use Rattle.c104_net.specs.Wires.{nodes_credit, nodes_cross}
+use Rattle.c104_net.proofs.Crossing.{get_set_other, get_set_same}
+
+module _ {A : Type 0} where
+  abbrev pub sent_count : Node A → ℕ
+  sent_count (Switch s) = 0
+  sent_count (Terminal t) = length t.sent
+
+  abbrev pub counts : List (Node A) → List ℕ
+  counts nodes = map sent_count nodes
+
+  -- each step of one node but Send keeps the number
+  leave_keeps : (l : ℕ) (n : Node A) (r : A × Node A) → node_leave l n ≡ Some r → sent_count r.1 ≡ sent_count n
+  leave_keeps l (Switch s) r is = given (switch.switch_leave s l) _ r is (λ v out last.
+      let two : ◌≡◌ {A = A × Node A} (v.0, Switch v.1) r = cc in
+      ap (λ (r : A × Node A). sent_count r.1) (sym two))
+  leave_keeps l (Terminal t) r is = given (terminal.terminal_leave t) _ r is (λ v out last. given (buffer.outgoing_emit t.output) _ v out (λ w left more.
+      let one : ◌≡◌ {A = A × terminal.Terminal A} (w.0, terminal.with_output t w.1) v = cc in
+      let two : ◌≡◌ {A = A × Node A} (v.0, Terminal v.1) r = cc in
+      ap (λ (r : A × Node A). sent_count r.1) (sym two) ∙ ap (λ (v : A × terminal.Terminal A). length v.1.sent) (sym one)))
+
+  enter_keeps : (x : A) (l : ℕ) (n m : Node A) → node_enter x l n ≡ Some m → sent_count m ≡ sent_count n
+  enter_keeps x l (Switch s) m is = given (switch.switch_enter s l x) _ m is (λ s' made last. let two : ◌≡◌ {A = Node A} (Switch s') m = cc in ap sent_count (sym two))
+  enter_keeps x l (Terminal t) m is = given (terminal.terminal_enter x t) _ m is (λ t' made last. given (buffer.incoming_accept x t.input) _ t' made (λ b came more.
+      let one : terminal.with_input t b ≡ t' = cc in
+      let two : ◌≡◌ {A = Node A} (Terminal t') m = cc in
+      ap sent_count (sym two) ∙ ap (λ (t : terminal.Terminal A). length t.sent) (sym one)))
+
+  credit_out_keeps : (l : ℕ) (n m : Node A) → node_credit_out l n ≡ Some m → sent_count m ≡ sent_count n
+  credit_out_keeps l (Switch s) m is = given (switch.switch_credit_out s l) _ m is (λ s' made last. let two : ◌≡◌ {A = Node A} (Switch s') m = cc in ap sent_count (sym two))
+  credit_out_keeps l (Terminal t) m is = given (terminal.terminal_credit_out t) _ m is (λ t' made last. given (buffer.incoming_grant t.input) _ t' made (λ b came more.
+      let one : terminal.with_input t b ≡ t' = cc in
+      let two : ◌≡◌ {A = Node A} (Terminal t') m = cc in
+      ap sent_count (sym two) ∙ ap (λ (t : terminal.Terminal A). length t.sent) (sym one)))
+
+  credit_in_keeps : (l : ℕ) (n m : Node A) → node_credit_in l n ≡ Some m → sent_count m ≡ sent_count n
+  credit_in_keeps l (Switch s) m is = given (switch.switch_credit_in s l) _ m is (λ s' made last. let two : ◌≡◌ {A = Node A} (Switch s') m = cc in ap sent_count (sym two))
+  credit_in_keeps l (Terminal t) m is = given (terminal.terminal_credit_in t) _ m is (λ t' made last. given (buffer.outgoing_credited t.output) _ t' made (λ b came more.
+      let one : terminal.with_output t b ≡ t' = cc in
+      let two : ◌≡◌ {A = Node A} (Terminal t') m = cc in
+      ap sent_count (sym two) ∙ ap (λ (t : terminal.Terminal A). length t.sent) (sym one)))
+
+  input_keeps : (kind : Kind A) (i word : ℕ) (n m : Node A) → node_input kind i word n ≡ Some m → sent_count m ≡ sent_count n
+  input_keeps kind i word (Switch s) m is = given (turns.switch_input kind s i word) _ m is (λ s' made last. let two : ◌≡◌ {A = Node A} (Switch s') m = cc in ap sent_count (sym two))
+  input_keeps kind i word (Terminal t) m is = cc
+
+  claim_keeps : (i o : ℕ) (n m : Node A) → node_claim i o n ≡ Some m → sent_count m ≡ sent_count n
+  claim_keeps i o (Switch s) m is = given (claims.switch_claim s i o) _ m is (λ s' made last. let two : ◌≡◌ {A = Node A} (Switch s') m = cc in ap sent_count (sym two))
+  claim_keeps i o (Terminal t) m is = cc
+
+  control_keeps : (bytes : List ℕ) (n : Node A) (r : List ℕ × Node A) → node_control bytes n ≡ Some r → sent_count r.1 ≡ sent_count n
+  control_keeps bytes (Switch s) r is =
+      let same : ◌≡◌ {A = List ℕ × Node A} ((controls.switch_control s bytes).0, Switch (controls.switch_control s bytes).1) r = cc in
+      ap (λ (r : List ℕ × Node A). sent_count r.1) (sym same)
+  control_keeps bytes (Terminal t) r is = cc
+
+  drain_keeps : (n : Node A) (r : A × Node A) → node_drain n ≡ Some r → sent_count r.1 ≡ sent_count n
+  drain_keeps (Switch s) r is = cc
+  drain_keeps (Terminal t) r is = given (terminal.terminal_drain t) _ r is (λ v came last. given (slice_get t.input.items 0) _ v came (λ x here more.
+      let arrived : terminal.Terminal A = record t { input = buffer.without_first t.input; arrived = t.arrived ++ x ∷ [] } in
+      let one : ◌≡◌ {A = A × terminal.Terminal A} (x, arrived) v = cc in
+      let two : ◌≡◌ {A = A × Node A} (v.0, Terminal v.1) r = cc in
+      ap (λ (r : A × Node A). sent_count r.1) (sym two) ∙ ap (λ (v : A × terminal.Terminal A). length v.1.sent) (sym one)))
+
+  send_adds : (kind : Kind A) (number : ℕ) (packet : Packet) (n m : Node A) → node_send kind number packet n ≡ Some m → sent_count m ≡ suc (sent_count n)
+  send_adds kind number packet (Switch s) m is = cc
+  send_adds kind number packet (Terminal t) m is =
+      let one : ◌≡◌ {A = Node A} (Terminal (terminal.terminal_send kind number packet t)) m = cc in
+      let more : length (t.sent ++ packet ∷ []) ≡ length t.sent + 1 = length-append t.sent (packet ∷ []) in
+      let last : length t.sent + 1 ≡ suc (length t.sent) = omega arith in
+      ap sent_count (sym one) ∙ more ∙ last
+
+  -- so of the nodes
+  set_counts : (nodes : List (Node A)) (i : ℕ) (n m : Node A) → slice_get nodes i ≡ Some n → sent_count m ≡ sent_count n → counts (slice_set nodes i m) ≡ counts nodes
+  set_counts [] i n m is keeps = refl
+  set_counts (o ∷ nodes) zero n m is keeps =
+      let same : o ≡ n = cc in
+      ap (λ c. c ∷ counts nodes) (keeps ∙ ap sent_count (sym same))
+  set_counts (o ∷ nodes) (suc i) n m is keeps = ap (λ cs. sent_count o ∷ cs) (set_counts nodes i n m is keeps)
+
+  step_kept : (nodes : List (Node A)) (i : ℕ) (f : Node A → Option (Node A)) (after : List (Node A)) → step_at nodes i f ≡ Some after → ((n m : Node A) → f n ≡ Some m → sent_count m ≡ sent_count n) → counts after ≡ counts nodes
+  step_kept nodes i f after is keeps = at_place_made nodes i f after is (λ n m here made set. ap counts (sym set) ∙ set_counts nodes i n m here (keeps n m made))
+
+  yield_kept : {Y : Type 0} (nodes : List (Node A)) (i : ℕ) (f : Node A → Option (Y × Node A)) (r : Y × List (Node A)) → yield_step_at nodes i f ≡ Some r → ((n : Node A) (y : Y × Node A) → f n ≡ Some y → sent_count y.1 ≡ sent_count n) → counts r.1 ≡ counts nodes
+  yield_kept {Y} nodes i f r is keeps = from_place_made nodes i f r is (λ n y here made set. ap (λ (z : Y × List (Node A)). counts z.1) (sym set) ∙ set_counts nodes i n y.1 here (keeps n y made))
+
+  cross_kept : (nodes : List (Node A)) (k l j i : ℕ) (v : A × List (Node A)) → nodes_cross nodes (record { node = k; link = l }) (record { node = j; link = i }) ≡ Some v → counts v.1 ≡ counts nodes
+  cross_kept nodes k l j i v is = given (yield_step_at nodes k (node_leave l)) _ v is (λ r left more. given (step_at r.1 j (node_enter r.0 i)) _ v more (λ after entered last.
+      let same : ◌≡◌ {A = A × List (Node A)} (r.0, after) v = cc in
+      ap (λ (z : A × List (Node A)). counts z.1) (sym same) ∙ step_kept r.1 j (node_enter r.0 i) after entered (enter_keeps r.0 i) ∙ yield_kept nodes k (node_leave l) r left (leave_keeps l)))
+
+  credit_kept : (nodes : List (Node A)) (k l j i : ℕ) (v : List (Node A)) → nodes_credit nodes (record { node = k; link = l }) (record { node = j; link = i }) ≡ Some v → counts v ≡ counts nodes
+  credit_kept nodes k l j i v is = given (step_at nodes k (node_credit_out l)) _ v is (λ mid left more.
+      step_kept mid j (node_credit_in i) v more (credit_in_keeps i) ∙ step_kept nodes k (node_credit_out l) mid left (credit_out_keeps l))
+
+-- what an event does to the numbers
+abbrev pub AddsSent : Plan → Event → List ℕ → List ℕ → Type 0
+AddsSent plan (event.Cross p) before after = after ≡ before
+AddsSent plan (event.Credit p) before after = after ≡ before
+AddsSent plan (event.Input s l word) before after = after ≡ before
+AddsSent plan (event.Claim s i o) before after = after ≡ before
+AddsSent plan (event.Control s bytes) before after = after ≡ before
+AddsSent plan (event.Send t packet) before after = (c : ℕ) × (slice_get before (terminal_place plan t) ≡ Some c) × (after ≡ slice_set before (terminal_place plan t) (suc c))
+AddsSent plan (event.Drain t) before after = after ≡ before
+
+module _ {A : Type 0} (kind : Kind A) (plan : Plan) (nodes : List (Node A)) where
+  by_last : (told : Reply) (after : List (Node A)) (r : Reply × Network A) (P : List ℕ → Type 0) → ◌≡◌ {A = Option (Reply × Network A)} (Some (told, network_of plan after)) (Some r) → P (counts after) → P (counts r.1.nodes)
+  by_last told after r P is holds =
+      let same : ◌≡◌ {A = Reply × Network A} (told, network_of plan after) r = cc in
+      subst (λ (r : Reply × Network A). P (counts r.1.nodes)) same holds
+
+  pub step_counts : (e : Event) (r : Reply × Network A) → network_step kind (network_of plan nodes) e ≡ Some r → AddsSent plan e (counts nodes) (counts r.1.nodes)
+  step_counts (event.Cross p) r is = given (peer plan p) _ r is (λ q wired more. given (nodes_cross nodes (end_of plan p) (end_of plan q)) _ r more (λ v made last.
+      by_last (reply.Token (kind.plain v.0)) v.1 r (λ cs. cs ≡ counts nodes) last (cross_kept nodes (end_of plan p).node (end_of plan p).link (end_of plan q).node (end_of plan q).link v made)))
+  step_counts (event.Credit p) r is = given (peer plan p) _ r is (λ q wired more. given (nodes_credit nodes (end_of plan p) (end_of plan q)) _ r more (λ v made last.
+      by_last reply.Done v r (λ cs. cs ≡ counts nodes) last (credit_kept nodes (end_of plan p).node (end_of plan p).link (end_of plan q).node (end_of plan q).link v made)))
+  step_counts (event.Input s l word) r is = given (step_at nodes s (node_input kind l word)) _ r is (λ v made last.
+      by_last reply.Done v r (λ cs. cs ≡ counts nodes) last (step_kept nodes s (node_input kind l word) v made (input_keeps kind l word)))
+  step_counts (event.Claim s i o) r is = given (step_at nodes s (node_claim i o)) _ r is (λ v made last.
+      by_last reply.Done v r (λ cs. cs ≡ counts nodes) last (step_kept nodes s (node_claim i o) v made (claim_keeps i o)))
+  step_counts (event.Control s bytes) r is = given (yield_step_at nodes s (node_control bytes)) _ r is (λ v made last.
+      by_last (reply.Control v.0) v.1 r (λ cs. cs ≡ counts nodes) last (yield_kept nodes s (node_control bytes) v made (control_keeps bytes)))
+  step_counts (event.Send t packet) r is = given (step_at nodes (terminal_place plan t) (node_send kind t packet)) _ r is (λ v made last.
+      by_last reply.Done v r (λ cs. AddsSent plan (event.Send t packet) (counts nodes) cs) last (at_place_made nodes (terminal_place plan t) (node_send kind t packet) v made (λ n m here step set. (
+        sent_count n,
+        slice_get-map sent_count nodes (terminal_place plan t) ∙ ap (option_map sent_count) here,
+        ap counts (sym set) ∙ set_there (terminal_place plan t) m ∙ ap (slice_set (counts nodes) (terminal_place plan t)) (send_adds kind t packet n m step),
+      ))))
+    where
+      set_there : (k : ℕ) (m : Node A) → counts (slice_set nodes k m) ≡ slice_set (counts nodes) k (sent_count m)
+      set_there k m = rw (map-set sent_count nodes k m) refl
+  step_counts (event.Drain t) r is = given (yield_step_at nodes (terminal_place plan t) node_drain) _ r is (λ v made last.
+      by_last (reply.Token (kind.plain v.0)) v.1 r (λ cs. cs ≡ counts nodes) last (yield_kept nodes (terminal_place plan t) node_drain v made drain_keeps))
+
+-- as many packets as were sent, and as many entries as are to come, are within the limit of a trace
+abbrev pub IsBounded : List ℕ → List Deed → Type 0
+IsBounded cs ds = (k c : ℕ) → slice_get cs k ≡ Some c → c + length (at_node k ds) ≤ trace_limit
+
+at_more : (k : ℕ) (ds rest : List Deed) → length (at_node k rest) ≤ length (at_node k (ds ++ rest))
+at_more k [] rest = omega arith
+at_more k (d ∷ ds) rest = by_place (at_more k ds rest) (nat_eq d.0 k)
+  where
+    by_place : length (at_node k rest) ≤ length (at_node k (ds ++ rest)) → (b : Bool) → length (at_node k rest) ≤ length (if b then d.1 ∷ at_node k (ds ++ rest) else at_node k (ds ++ rest))
+    by_place less true = omega (arith, less)
+    by_place less false = less
+
+lone_first : (ticket k : ℕ) (a : ActOf Token) (r : Reply) (rest : List Deed) → is_ready r ≡ true → at_node k (lone_deed ticket k a r ++ rest) ≡ entry_of ticket a r ∷ at_node k rest
+lone_first ticket k a r rest ready =
+    let same : nat_eq k k ≡ true = grind (arith, nat_tests) in
+    ap (λ b. at_node k ((if b then (k, entry_of ticket a r) ∷ [] else []) ++ rest)) ready ∙ ap (λ b. if b then entry_of ticket a r ∷ at_node k rest else at_node k rest) same
+
+later : (cs after : List ℕ) (ds rest : List Deed) → after ≡ cs → IsBounded cs (ds ++ rest) → IsBounded after rest
+later cs after ds rest same bound = λ k c at. (let one = bound k c (ap (λ xs. slice_get xs k) (sym same) ∙ at) in let more = at_more k ds rest in omega (arith, one, more))
+
+-- a packet that is sent has a number below the limit
+pub low_number : (plan : Plan) (t : ℕ) (packet : Packet) (ticket : ℕ) (r : Reply) (cs : List ℕ) (rest : List Deed) (c : ℕ) → is_ready r ≡ true → IsBounded cs (event_deeds (is_switch_place plan) plan ticket (event.Send t packet) r ++ rest) → slice_get cs (terminal_place plan t) ≡ Some c → c + suc (length (at_node (terminal_place plan t) rest)) ≤ trace_limit
+low_number plan t packet ticket r cs rest c ready bound at =
+    let one = bound (terminal_place plan t) c at in
+    subst (λ (es : List Entry). c + length es ≤ trace_limit) (lone_first ticket (terminal_place plan t) (act.Send packet) r rest ready) one
+
+-- an event that was done keeps them within the limit
+pub bounded_on : (plan : Plan) (e : Event) (ticket : ℕ) (r : Reply) (cs after : List ℕ) (rest : List Deed) → is_ready r ≡ true → AddsSent plan e cs after → IsBounded cs (event_deeds (is_switch_place plan) plan ticket e r ++ rest) → IsBounded after rest
+bounded_on plan (event.Cross p) ticket r cs after rest ready adds bound = later cs after _ rest adds bound
+bounded_on plan (event.Credit p) ticket r cs after rest ready adds bound = later cs after _ rest adds bound
+bounded_on plan (event.Input s l word) ticket r cs after rest ready adds bound = later cs after _ rest adds bound
+bounded_on plan (event.Claim s i o) ticket r cs after rest ready adds bound = later cs after _ rest adds bound
+bounded_on plan (event.Control s bytes) ticket r cs after rest ready adds bound = later cs after _ rest adds bound
+bounded_on plan (event.Drain t) ticket r cs after rest ready adds bound = later cs after _ rest adds bound
+bounded_on plan (event.Send t packet) ticket r cs after rest ready adds bound = λ k c at.
+    elim (cases_eq (terminal_place plan t) k) [
+      | inl same ↦ subst (λ (j : ℕ). c + length (at_node j rest) ≤ trace_limit) same (
+          let there : slice_get after (terminal_place plan t) ≡ Some (suc adds.0) = ap (λ xs. slice_get xs (terminal_place plan t)) adds.2 ∙ get_set_same cs (terminal_place plan t) adds.0 (suc adds.0) adds.1 in
+          let both : Some c ≡ Some (suc adds.0) = sym at ∙ ap (slice_get after) (sym same) ∙ there in
+          let is : c ≡ suc adds.0 = cc in
+          let low = low_number plan t packet ticket r cs rest adds.0 ready bound adds.1 in
+          omega (arith, low, is))
+      | inr other ↦ (
+          let before : slice_get cs k ≡ Some c = sym (get_set_other cs (terminal_place plan t) k (suc adds.0) other) ∙ ap (λ xs. slice_get xs k) (sym adds.2) ∙ at in
+          let one = bound k c before in
+          let more = at_more k (event_deeds (is_switch_place plan) plan ticket (event.Send t packet) r) rest in
+          omega (arith, one, more))
+    ]
+
+-- at a start nothing was sent
+none_sent : (A : Type 0) (starts : List NodeStart) (k c : ℕ) → slice_get (counts (map (start_node {A = A}) starts)) k ≡ Some c → c ≡ 0
+none_sent A [] k c is = cc
+none_sent A (start.Switch s ∷ starts) zero c is = cc
+none_sent A (start.Terminal t ∷ starts) zero c is = cc
+none_sent A (s ∷ starts) (suc k) c is = none_sent A starts k c is
+
+pub bounded_first : (A : Type 0) (starts : List NodeStart) (traces : List (List Entry)) (deeds : List Deed) → ((k : ℕ) → slice_get traces k ≡ option_map (λ (n : Node A). at_node k deeds) (slice_get (map start_node starts) k)) → All IsWithinLimit traces → IsBounded (counts (map (start_node {A = A}) starts)) deeds
+bounded_first A starts traces deeds told within = λ k c at. by_start k c (slice_get (map (start_node {A = A}) starts) k) refl (sym (slice_get-map sent_count (map (start_node {A = A}) starts) k) ∙ at) (none_sent A starts k c at)
+  where
+    by_start : (k c : ℕ) (o : Option (Node A)) → slice_get (map (start_node {A = A}) starts) k ≡ o → option_map sent_count (slice_get (map (start_node {A = A}) starts) k) ≡ Some c → c ≡ 0 → c + length (at_node k deeds) ≤ trace_limit
+    by_start k c None here at none = let no : None ≡ Some c = sym (ap (option_map sent_count) here) ∙ at in cc
+    by_start k c (Some n) here at none =
+        let there : slice_get traces k ≡ Some (at_node k deeds) = told k ∙ ap (option_map (λ (n : Node A). at_node k deeds)) here in
+        let one : length (at_node k deeds) ≤ trace_limit = All-place IsWithinLimit traces k (at_node k deeds) there within in
+        omega (arith, one, none)

@@ -1,0 +1,184 @@
+-- The origins that the tagged tokens of a network tell are those of its run.
+use Rattle.std.proofs.Common.{◌≡◌, ◌∙◌, ◌≤◌, ◌++◌, ◌<◌, ◌+◌, ℕ, zero, suc, All, List, [], ◌∷◌, Option, Some, None, Result, get_or, length, map, slice_get, take, refl, sym, ap, subst, arith, append-nil, inl, inr}
+use Rattle.std.proofs.lemmas.Bool.{cases_eq}
+use Rattle.std.proofs.lemmas.List.{map-append, map_more}
+use Rattle.std.proofs.lemmas.Option.{slice_get-map}
+use Rattle.std.specs.Option.{option_map}
+use Rattle.c104_token.specs.declared.tokens.Token.{Token}
+use Rattle.c104_token.specs.Kinds.{plain_kind}
+use Rattle.c104_switch.specs.Actions.{Reply}
+use Rattle.c104_describe.specs.Plans.{Plan, IsPlan}
+use Rattle.c104_event.specs.declared.events.Event.{Event}
+use Rattle.c104_event.specs.declared.faults.EventFault.{EventFault}
+use Rattle.c104_net.specs.declared.acts.Entry.{Entry}
+use Rattle.c104_net.specs.declared.node.NodeOf.TheVariants as node
+use Rattle.c104_net.specs.declared.starts.NodeStart.{NodeStart}
+use Rattle.c104_net.specs.EventRuns.{run_events}
+use Rattle.c104_net.specs.Finished.{network_finish, terminals_of}
+use Rattle.c104_net.specs.FinishedRecords.{record_finish, FinishedRecord}
+use Rattle.c104_net.specs.Network.{network_apply, network_of, Network}
+use Rattle.c104_net.specs.NetRecords.{IsWithinLimit, NetRecord}
+use Rattle.c104_net.specs.Nodes.{node_arrived, Node}
+use Rattle.c104_net.specs.Origins.{Origin}
+use Rattle.c104_net.specs.RunOrigins.{AreOrigins}
+use Rattle.c104_net.specs.Runs.{at_node, run_deeds, IsDoneRun, IsRunRecord}
+use Rattle.c104_net.specs.Starts.{start_node}
+use Rattle.c104_net.specs.Tagged.{tag, tagged_kind, tagged_origins, TaggedToken}
+use Rattle.c104_net.specs.Traced.{traced_kind, Traced}
+use Rattle.c104_net.specs.TracedRuns.{map_network, map_node, IsTracedRun}
+use Rattle.c104_net.specs.TracedEnds.{traced_end}
+use Rattle.c104_net.specs.RecordedNets.{places_record, IsRecordedNet}
+use Rattle.c104_net.specs.RecordedPlaces.{counted_keeps, counted_reading}
+use Rattle.c104_net.specs.TracedRecords.{traced_start, traced_state, traced_trace, IsFit, TracedRecord}
+use Rattle.c104_net.proofs.Finishing.{terminals_append}
+use Rattle.c104_net.proofs.RecordedNets.{states_shown}
+use Rattle.c104_net.proofs.RunOrigins.{ends_traced, origins_lent, terminal_origins, IsKeptRun}
+use Rattle.c104_net.proofs.SentBytes.{run_bytes, IsFitEntry}
+use Rattle.c104_net.proofs.StartMaps.{starts_same}
+use Rattle.c104_net.proofs.StepMaps.{apply_map}
+use Rattle.c104_net.proofs.ToldEvents.{events_told}
+use Rattle.c104_net.proofs.TracedRuns.{run_after, traced_from}
+use Rattle.c104_net.proofs.TaggedRuns.{tagged_apply, tagged_plain, plain_network, token_of}
+use Rattle.c104_net.proofs.KnownTokens.{lists_same, tagged_lists}
+use Rattle.c104_net.proofs.SentCounts.{bounded_first}
+
+-- the origins of what arrived at the terminals among nodes
+abbrev pub arrived_origins : List TracedRecord → List (List Origin)
+arrived_origins nodes = map tagged_lists (terminals_of (map traced_state nodes))
+
+origins_one : (n : Node TaggedToken) (tokens : List TaggedToken) → Some tokens ≡ node_arrived n → map tagged_lists (terminals_of (n ∷ [])) ≡ tagged_origins tokens ∷ []
+origins_one (node.Switch s) tokens is = cc
+origins_one (node.Terminal t) tokens is = let same : tokens ≡ t.arrived = cc in ap (λ ts. tagged_origins ts ∷ []) (sym same)
+
+origins_none : (n : Node TaggedToken) → None ≡ node_arrived n → map tagged_lists (terminals_of (n ∷ [])) ≡ []
+origins_none (node.Switch s) is = refl
+origins_none (node.Terminal t) is = cc
+
+-- those of one node more
+next_origins : (nodes : List TracedRecord) (i : ℕ) (n : TracedRecord) → i < length nodes → n ≡ get_or nodes i n → arrived_origins (take (i + 1) nodes) ≡ arrived_origins (take i nodes) ++ map tagged_lists (terminals_of (n.state ∷ []))
+next_origins nodes i n inside is =
+    ap (λ ns. map tagged_lists (terminals_of ns)) (map_more traced_state nodes i n inside ∙ ap (λ (m : TracedRecord). map traced_state (take i nodes) ++ m.state ∷ []) (sym is))
+    ∙ ap (map tagged_lists) (terminals_append (map traced_state (take i nodes)) (n.state ∷ []))
+    ∙ map-append tagged_lists (terminals_of (map traced_state (take i nodes))) (terminals_of (n.state ∷ []))
+
+pub origins_on : (nodes : List TracedRecord) (i : ℕ) (n : TracedRecord) (lists more : List (List Origin)) (tokens : List TaggedToken) (list : List Origin) → i < length nodes → n ≡ get_or nodes i n → Some tokens ≡ node_arrived n.state → list ≡ tagged_origins tokens → more ≡ lists ++ list ∷ [] → lists ≡ arrived_origins (take i nodes) → more ≡ arrived_origins (take (i + 1) nodes)
+origins_on nodes i n lists more tokens list inside is arrived list_is joined before =
+    joined ∙ ap (λ l. lists ++ l ∷ []) list_is ∙ ap (λ ls. ls ++ tagged_origins tokens ∷ []) before
+    ∙ ap (λ ls. arrived_origins (take i nodes) ++ ls) (sym (origins_one n.state tokens arrived)) ∙ sym (next_origins nodes i n inside is)
+
+pub origins_past : (nodes : List TracedRecord) (i : ℕ) (n : TracedRecord) (lists : List (List Origin)) → i < length nodes → n ≡ get_or nodes i n → None ≡ node_arrived n.state → lists ≡ arrived_origins (take i nodes) → lists ≡ arrived_origins (take (i + 1) nodes)
+origins_past nodes i n lists inside is none before =
+    before ∙ sym (append-nil (arrived_origins (take i nodes))) ∙ ap (λ ls. arrived_origins (take i nodes) ++ ls) (sym (origins_none n.state none)) ∙ sym (next_origins nodes i n inside is)
+
+-- the same of what nodes keep
+pub fit_on : (nodes : List TracedRecord) (i : ℕ) (n : TracedRecord) → slice_get nodes i ≡ Some n → All IsFit n.trace → ((k : ℕ) (m : TracedRecord) → k < i → slice_get nodes k ≡ Some m → All IsFit m.trace) → (k : ℕ) (m : TracedRecord) → k < i + 1 → slice_get nodes k ≡ Some m → All IsFit m.trace
+fit_on nodes i n there fit before = λ k m below at.
+    elim (cases_eq k i) [
+      | inl same ↦ (let one : Some m ≡ Some n = sym at ∙ ap (slice_get nodes) same ∙ there in let is : m ≡ n = cc in subst (λ (x : TracedRecord). All IsFit x.trace) (sym is) fit)
+      | inr differs ↦ before k m (omega (arith, below, differs)) at
+    ]
+
+fit_there : (nodes : List TracedRecord) → ((k : ℕ) (m : TracedRecord) → slice_get nodes k ≡ Some m → All IsFit m.trace) → (k : ℕ) (trace : List Entry) → slice_get (map traced_trace nodes) k ≡ Some trace → All IsFitEntry trace
+fit_there [] fit k trace at = cc
+fit_there (n ∷ nodes) fit zero trace at = let same : n.trace ≡ trace = cc in subst (λ (t : List Entry). All IsFitEntry t) same (fit 0 n refl)
+fit_there (n ∷ nodes) fit (suc k) trace at = fit_there nodes (λ j m here. fit (suc j) m here) k trace at
+
+-- what is told of each of a list, whatever it is
+option_same : {X Y Z : Type 0} (f : X → Y) (z : Z) (o : Option X) → option_map (λ (y : Y). z) (option_map f o) ≡ option_map (λ (x : X). z) o
+option_same f z None = refl
+option_same f z (Some x) = refl
+
+one_part : {X Y Z : Type 0} (f : X → Y) (z : Z) (xs : List X) (k : ℕ) → option_map (λ (y : Y). z) (slice_get (map f xs) k) ≡ option_map (λ (x : X). z) (slice_get xs k)
+one_part {Y = Y} f z xs k = ap (option_map (λ (y : Y). z)) (slice_get-map f xs k) ∙ option_same f z (slice_get xs k)
+
+-- a run over tagged tokens is one over plain tokens
+run_plain : (net ended : Network TaggedToken) (events : List (Event × Reply)) → IsDoneRun tagged_kind net events ended → IsDoneRun plain_kind (plain_network net) events (plain_network ended)
+run_plain net ended [] is = ap plain_network is
+run_plain net ended (e ∷ events) is = (
+  plain_network is.0,
+  ap (λ (d : Result Reply EventFault × Network TaggedToken). (d.0, plain_network d.1)) is.1 ∙ sym (apply_map token_of tagged_kind plain_kind (λ x. refl) (λ j b. refl) tagged_plain net e.0),
+  is.2,
+  run_plain is.0 ended events is.3,
+)
+
+-- a run over tokens that all tell where they came from is one over what is kept of them
+run_tagged : (net ended : Network Traced) (events : List (Event × Reply)) → IsDoneRun traced_kind net events ended → IsDoneRun tagged_kind (map_network tag net) events (map_network tag ended)
+run_tagged net ended [] is = ap (map_network tag) is
+run_tagged net ended (e ∷ events) is = (
+  map_network tag is.0,
+  ap (λ (d : Result Reply EventFault × Network Traced). (d.0, map_network tag d.1)) is.1 ∙ sym (tagged_apply net e.0),
+  is.2,
+  run_tagged is.0 ended events is.3,
+)
+
+module _ (plan : Plan) (is_plan : IsPlan plan) (nodes : List TracedRecord) (count : ℕ) (is : IsRecordedNet counted_reading plan nodes count) where
+  abbrev net : NetRecord
+  net = places_record counted_reading plan nodes count
+
+  abbrev run : FinishedRecord
+  run = record_finish net
+
+  abbrev here : Network TaggedToken
+  here = network_of plan (map traced_state nodes)
+
+  abbrev starts : List NodeStart
+  starts = map traced_start nodes
+
+  -- the events of the run lead there over plain tokens too
+  told_plain : IsRunRecord plain_kind plan (map start_node net.starts) net.network.nodes net.traces count is.events
+  told_plain =
+      let from : plain_network (network_of plan (map start_node starts)) ≡ network_of plan (map start_node net.starts) = ap (network_of plan) (starts_same token_of starts) in
+      let to : plain_network here ≡ net.network = ap (network_of plan) (states_shown counted_reading counted_keeps.reads nodes) in
+      record {
+        run = subst (λ n. IsDoneRun plain_kind n is.events net.network) from (subst (λ n. IsDoneRun plain_kind (plain_network (network_of plan (map start_node starts))) is.events n) to (run_plain (network_of plan (map start_node starts)) here is.events is.told.run));
+        told = λ k.
+            is.told.told k
+            ∙ one_part (start_node {A = TaggedToken}) (at_node k (run_deeds plan 0 is.events)) starts k ∙ sym (one_part (start_node {A = Token}) (at_node k (run_deeds plan 0 is.events)) starts k);
+        counted = is.told.counted;
+      }
+
+  -- the same run over tokens that all tell where they came from
+  again : (nodes : List (Node Traced)) × IsTracedRun plan starts is.events net.network.nodes nodes
+  again = traced_from plan starts net.network.nodes is.events told_plain.run
+
+  abbrev there : Network Traced
+  there = network_of plan again.0
+
+  -- it ends where the events that the traces tell lead
+  ends_there : traced_end run ≡ there
+  unfolding traced_end
+  ends_there =
+      ap (λ (events : List Event). (run_events (network_apply traced_kind) (network_of plan (map start_node net.starts)) events).1)
+      (events_told plan is_plan (map start_node net.starts) net.network.nodes net.traces count is.events told_plain is.kept.started.in_place)
+      ∙ run_after traced_kind (network_of plan (map start_node starts)) there is.events again.1.run
+
+  -- and what is kept of its tokens are the tokens of the nodes
+  tagged_there : map (map_node tag) again.0 ≡ map traced_state nodes
+  tagged_there =
+      let from : map_network tag (network_of plan (map start_node starts)) ≡ network_of plan (map start_node starts) = ap (network_of plan) (starts_same tag starts) in
+      let run : IsDoneRun tagged_kind (network_of plan (map start_node starts)) is.events (map_network tag there) = subst (λ (n : Network TaggedToken). IsDoneRun tagged_kind n is.events (map_network tag there)) from (run_tagged (network_of plan (map start_node starts)) there is.events again.1.run) in
+      ap (λ (n : Network TaggedToken). n.nodes) (sym (run_after tagged_kind (network_of plan (map start_node starts)) (map_network tag there) is.events run) ∙ run_after tagged_kind (network_of plan (map start_node starts)) here is.events is.told.run)
+
+  -- so they tell the same packets
+  lists_are : arrived_origins nodes ≡ map terminal_origins (terminals_of again.0)
+  lists_are =
+      let within : All IsWithinLimit (map traced_trace nodes) = is.kept.within in
+      let bound = bounded_first Traced starts (map traced_trace nodes) (run_deeds plan 0 is.events)
+      (λ k. is.told.told k ∙ one_part (start_node {A = TaggedToken}) (at_node k (run_deeds plan 0 is.events)) starts k ∙ sym (one_part (start_node {A = Traced}) (at_node k (run_deeds plan 0 is.events)) starts k)) within in
+      let few : length plan.terminals ≤ 65536 = omega (arith, is_plan.terminals.few) in
+      ap (λ ns. map tagged_lists (terminals_of ns)) (sym tagged_there) ∙ lists_same plan starts is.events there few bound again.1.run
+
+  module _ (fit : (k : ℕ) (m : TracedRecord) → slice_get nodes k ≡ Some m → All IsFit m.trace) where
+    kept : IsKeptRun run
+    kept = record {
+      events = is.kept.told.0;
+      nodes = net.network.nodes;
+      told = is.kept.told.1;
+      ended = refl;
+      placed = is.kept.steady.in_place;
+      started = is.kept.started;
+      sent = run_bytes plan (map start_node net.starts) net.network.nodes net.traces net.count is.kept.told.0 is.kept.started.in_place is.kept.told.1 (fit_there nodes fit);
+    }
+
+    pub traced_origins : (lists : List (List Origin)) → lists ≡ arrived_origins nodes → AreOrigins run lists
+    traced_origins lists are = origins_lent run is_plan kept there (network_finish there) lists (sym ends_there ∙ ends_traced run is_plan kept) refl (are ∙ lists_are)

@@ -1,0 +1,161 @@
+//! A node of tagged tokens, which counts what it did.
+//!
+//! A trace has room for so many entries, and an event is refused where it is full. To know that, a count is enough.
+ghost use Rattle.std.specs.Prelude.{◌≡◌, All, [], ◌∷◌};
+ghost use Rattle.std.specs.Option.{option_copied};
+ghost use Rattle.c104_net.specs.Nodes.{node_arrived};
+ghost use Rattle.c104_net.specs.TracedRecords.{IsFit, first_traced};
+
+use crate::acts::ActOf;
+use crate::history::History;
+use crate::node::NodeOf;
+use crate::place::Place;
+use crate::recorded::TRACE_LIMIT;
+use crate::recorded_place::RecordedPlace;
+use crate::tagged::TaggedToken;
+use c104_switch::ReplyOf;
+use c104_token::NoMemory;
+use std::marker::Model;
+
+/// A node of tagged tokens. Of what it did since its start it keeps how many entries a trace would have, at most
+/// `TRACE_LIMIT`; the entries themselves are in proofs alone.
+pub struct CountedNode {
+    core: NodeOf<TaggedToken>,
+    entries: usize,
+    history: History,
+}
+
+impl Model for CountedNode {
+    ghost use Rattle.c104_net.specs.TracedRecords.{IsCounted, TracedRecord};
+
+    ghost Value = { TracedRecord };
+
+    ghost view = { λ n. record { state = n.core; start = n.history.start; trace = n.history.trace } };
+
+    ghost invariant = { λ n.
+        IsCounted n.entries (record { state = n.core; start = n.history.start; trace = n.history.trace }) };
+}
+
+impl CountedNode {
+    /// A node that starts where it stands.
+    pub fn new(core: NodeOf<TaggedToken>) -> Self
+        ensures { result ≡ first_traced core }
+    {
+        let history = History::started(&core);
+        CountedNode {
+            core,
+            entries: 0,
+            history,
+        }
+    }
+
+    /// The tokens that arrived, if the node is a terminal.
+    pub fn arrived(&self) -> Option<&[TaggedToken]>
+        ensures arrived { option_copied result ≡ node_arrived self.now.state }
+        ensures fit { All IsFit self.now.trace }
+    {
+        // The proof reads what the type keeps by these names.
+        let _entries = self.entries;
+        self.core.arrived()
+    }
+}
+
+impl Place<TaggedToken> for CountedNode {
+    ghost use Rattle.std.specs.Prelude.{◌≡◌, ◌<◌, ◌++◌, ◌∷◌, [], Some, length, true, false, nat_le, is_some, OnOk, MatchResult};
+    ghost use Rattle.c104_net.specs.Acts.{IsWithinLimits, node_act, reply_outcome, wants_memory};
+    ghost use Rattle.c104_net.specs.Tagged.{tagged_kind};
+    ghost use Rattle.c104_net.specs.Traces.{kept_entry, trace_limit};
+
+    ghost state = { λ n. n.state };
+
+    ghost keeps = { true };
+
+    ghost trace = { λ n. n.trace };
+
+    ghost start = { λ n. Some n.start };
+
+    ghost full = { λ n. nat_le trace_limit (length n.trace) };
+
+    ghost has_room = { λ n. length n.trace < trace_limit };
+
+    #[inline(always)]
+    fn node(&self) -> &NodeOf<TaggedToken>
+        ensures { result.now ≡ self.now.state }
+    {
+        &self.core
+    }
+
+    #[inline(always)]
+    fn is_full(&self) -> bool
+        ensures { result ≡ nat_le trace_limit (length self.now.trace) }
+    {
+        self.entries >= TRACE_LIMIT
+    }
+
+    #[inline(always)]
+    fn room(&mut self) -> Result<(), NoMemory>
+        requires { nat_le trace_limit (length self.old.trace) ≡ false }
+        ensures same { self.new ≡ self.old }
+        ensures room { OnOk result (length self.new.trace < trace_limit) }
+    {
+        Ok(())
+    }
+
+    #[inline(always)]
+    fn act(
+        &mut self,
+        number: usize,
+        ticket: u64,
+        act: ActOf<TaggedToken>,
+    ) -> Result<ReplyOf<TaggedToken>, NoMemory>
+        requires short { IsWithinLimits act }
+        requires room { length self.old.trace < trace_limit }
+        requires ready { is_some (node_act tagged_kind number act self.old.state) ≡ true }
+        ensures acted { MatchResult result
+            (λ reply. (reply, self.new.state) ≡
+            reply_outcome (node_act tagged_kind number act self.old.state) self.old.state)
+            (λ _. self.new.state ≡ self.old.state) }
+        ensures trace { MatchResult result
+            (λ reply. self.new.trace ≡
+            self.old.trace ++ kept_entry tagged_kind ticket act reply ∷ [])
+            (λ _. self.new.trace ≡ self.old.trace) }
+        ensures start { self.new.start ≡ self.old.start }
+        ensures memory { MatchResult result (λ _. Unit {0}) (λ _. wants_memory act ≡ true) }
+    {
+        let reply = self.core.act(number, &act)?;
+        self.history = self.history.with(&ticket, &act, &reply);
+        self.entries += 1;
+        Ok(reply)
+    }
+}
+
+impl RecordedPlace<TaggedToken> for CountedNode {
+    ghost use Rattle.c104_net.specs.RecordedPlaces.{counted_keeps};
+    ghost use Rattle.c104_net.specs.TracedRecords.{plain_node};
+
+    // A count leaves nothing at the end.
+    type Room = ();
+
+    ghost shown = { λ n. plain_node n.state };
+
+    ghost begun_at = { λ n. n.start };
+
+    ghost fits = { λ plan room. Unit {0} };
+
+    ghost keeps_record = { counted_keeps };
+
+    fn begin(&mut self) {
+        self.history = History::started(&self.core);
+        self.entries = 0;
+        self.core.begin();
+    }
+
+    fn retire(self) {
+        let CountedNode {
+            core,
+            entries: _,
+            history: _,
+        } = self;
+        core.retire();
+    }
+}

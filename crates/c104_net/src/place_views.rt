@@ -1,0 +1,135 @@
+//! What places of nodes tell of themselves: registers, what can be seen of links and terminals, what arrived, and
+//! whether all is quiet. Whatever is kept beside a node, it is asked in the same way.
+ghost use Rattle.std.specs.Prelude.{◌≡◌, ◌↔◌, map, All, IsTrue};
+ghost use Rattle.std.specs.Option.{option_copied};
+ghost use Rattle.c104_net.specs.Network.{network_arrived, network_of, network_peek};
+ghost use Rattle.c104_net.specs.Nodes.{nodes_arrived, nodes_peek};
+ghost use Rattle.c104_net.specs.Quiet.{IsQuietNode};
+ghost use Rattle.c104_net.specs.Views.{network_link_view, network_terminal_view, nodes_link_view, nodes_terminal_view};
+
+use crate::place::Place;
+use crate::terminal::TerminalView;
+use crate::wires::Wires;
+use c104_switch::LinkView;
+use c104_token::TokenKind;
+
+/// The value of a register of a switch. None where the plan has no such switch, or no register has the address.
+pub fn peek_at<T: TokenKind, P: Place<T>>(
+    wires: &Wires,
+    places: &[P],
+    switch: usize,
+    addr: u16,
+) -> Option<u32>
+    ensures { result ≡ network_peek (network_of wires.now (map P.state places.now)) switch addr }
+{
+    if switch >= wires.plan().switches().len() {
+        return None;
+    }
+    peek_place(places, switch, addr)
+}
+
+/// The value of a register of the node at a place.
+fn peek_place<T: TokenKind, P: Place<T>>(places: &[P], place: usize, addr: u16) -> Option<u32>
+    ensures { result ≡ nodes_peek (map P.state places.now) place addr }
+{
+    match places.get(place) {
+        Some(found) => found.node().peek(addr),
+        None => None,
+    }
+}
+
+/// What can be seen of a link of a switch. None where the plan has no such switch, or a switch no such link.
+pub fn view_link_at<T: TokenKind, P: Place<T>>(
+    wires: &Wires,
+    places: &[P],
+    switch: usize,
+    link: usize,
+) -> Option<LinkView>
+    ensures { result ≡ network_link_view T.kind (network_of wires.now (map P.state places.now)) switch link }
+{
+    if switch >= wires.plan().switches().len() {
+        return None;
+    }
+    view_link_place(places, switch, link)
+}
+
+/// What can be seen of a link of the node at a place.
+fn view_link_place<T: TokenKind, P: Place<T>>(
+    places: &[P],
+    place: usize,
+    link: usize,
+) -> Option<LinkView>
+    ensures { result ≡ nodes_link_view T.kind (map P.state places.now) place link }
+{
+    match places.get(place) {
+        Some(found) => found.node().view_link(link),
+        None => None,
+    }
+}
+
+/// What can be seen of a terminal. None where the plan has no such terminal.
+pub fn view_terminal_at<T: TokenKind, P: Place<T>>(
+    wires: &Wires,
+    places: &[P],
+    terminal: usize,
+) -> Option<TerminalView>
+    ensures { result ≡ network_terminal_view (network_of wires.now (map P.state places.now)) terminal }
+{
+    let plan = wires.plan();
+    if terminal >= plan.terminals().len() {
+        return None;
+    }
+    let place = plan.switches().len() + terminal;
+    view_terminal_place(places, place)
+}
+
+/// What can be seen of the node at a place, if it is a terminal.
+fn view_terminal_place<T: TokenKind, P: Place<T>>(
+    places: &[P],
+    place: usize,
+) -> Option<TerminalView>
+    ensures { result ≡ nodes_terminal_view (map P.state places.now) place }
+{
+    match places.get(place) {
+        Some(found) => found.node().view_terminal(),
+        None => None,
+    }
+}
+
+/// The tokens that arrived at a terminal, in order. None where the plan has no such terminal.
+pub fn arrived_at<'a, T: TokenKind, P: Place<T>>(
+    wires: &Wires,
+    places: &'a [P],
+    terminal: usize,
+) -> Option<&'a [T]>
+    ensures { option_copied result ≡ network_arrived (network_of wires.now (map P.state places.now)) terminal }
+{
+    let plan = wires.plan();
+    if terminal >= plan.terminals().len() {
+        return None;
+    }
+    let place = plan.switches().len() + terminal;
+    arrived_place(places, place)
+}
+
+/// The tokens that arrived at the node at a place, if it is a terminal.
+fn arrived_place<T: TokenKind, P: Place<T>>(places: &[P], place: usize) -> Option<&[T]>
+    ensures { option_copied result ≡ nodes_arrived (map P.state places.now) place }
+{
+    match places.get(place) {
+        Some(found) => found.node().arrived(),
+        None => None,
+    }
+}
+
+/// Whether all of these nodes are quiet.
+pub fn are_quiet<T: TokenKind, P: Place<T>>(places: &[P]) -> bool
+    ensures { IsTrue result ↔ All IsQuietNode (map P.state places.now) }
+{
+    for place in places {
+        if !place.node().is_quiet() {
+            return false;
+        }
+    }
+    true
+}

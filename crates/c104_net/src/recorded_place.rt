@@ -1,0 +1,51 @@
+//! A place of a network that in contracts keeps a record: where its node started, and what it did since.
+ghost use Rattle.std.specs.Prelude.{◌≡◌, List, Option, []};
+ghost use Rattle.c104_token.specs.declared.tokens.Token.{Token as TheToken};
+ghost use Rattle.c104_describe.specs.Plans.{Plan as ThePlan};
+ghost use Rattle.c104_net.specs.Nodes.{Node};
+ghost use Rattle.c104_net.specs.Quiet.{node_begin, IsQuietNode};
+ghost use Rattle.c104_net.specs.RecordedNets.{reading, KeepsRecord};
+ghost use Rattle.c104_net.specs.Starts.{start_node, start_of};
+ghost use Rattle.c104_net.specs.declared.starts.NodeStart.{NodeStart as TheStart};
+
+use crate::place::Place;
+use c104_token::TokenKind;
+
+/// A place whose node is seen with its record, over plain tokens. Whether the entries are kept when it runs, or only
+/// counted, is left to each kind of place.
+pub trait RecordedPlace<T: TokenKind>: Place<T> {
+    /// What a network of such places has beside them.
+    type Room: Drop;
+
+    /// The node over plain tokens.
+    ghost shown: { Self → Node TheToken };
+
+    /// Where the node started.
+    ghost begun_at: { Self → TheStart };
+
+    /// What a network of this plan has beside its places is enough.
+    ghost fits: { ThePlan → Self.Room → Type 0 };
+
+    /// Starts a run where the node stands, if it is quiet: what it sent and what arrived is forgotten, and
+    /// what it did. It takes no memory.
+    fn begin(&mut self)
+        requires { IsQuietNode (Self.state self.old) }
+        ensures begun { Self.state self.new ≡ node_begin (Self.state self.old) }
+        ensures start { begun_at self.new ≡ start_of (Self.state self.old) }
+        ensures trace { Self.trace self.new ≡ [] }
+        ensures stands { Self.state self.new ≡ start_node (begun_at self.new) };
+
+    /// Lets go of the node, and of what is kept of it.
+    fn retire(self);
+
+    /// The place keeps the record that is seen.
+    ghost keeps_record: { KeepsRecord (reading T.kind Self.state shown begun_at Self.trace) Self.keeps Self.start Self.full };
+}
+
+/// Lets go of places.
+pub fn retire_places<T: TokenKind, P: RecordedPlace<T>>(mut list: Vec<P>) {
+    while let Some(place) = list.pop() {
+        place.retire();
+    }
+    list.destroy_empty();
+}

@@ -1,0 +1,77 @@
+//! A network of tagged tokens, whose nodes count what they do.
+//!
+//! It is for runs of which nobody reads the traces. The tokens tell the origins of the packets that arrived, so nothing
+//! has to be run a second time to know them, and no entry is kept.
+ghost use Rattle.std.specs.Prelude.{◌≡◌, map, IfOk};
+ghost use Rattle.std.specs.Global.{Vec as Kept};
+ghost use Rattle.c104_net.specs.NetRecords.{fresh_record};
+ghost use Rattle.c104_net.specs.Network.{new_network};
+ghost use Rattle.c104_net.specs.Origins.{Origin as TheOrigin};
+ghost use Rattle.c104_net.specs.FinishedRecords.{record_finish};
+ghost use Rattle.c104_net.specs.RunOrigins.{AreOrigins};
+
+mod arriving;
+mod nodes;
+
+use crate::counted::CountedNode;
+use crate::origins::Origin;
+use crate::recorded_net::RecordedNet;
+use crate::recorded_place::retire_places;
+use crate::tagged::{TaggedToken, tagged_origins};
+use crate::wires::Wires;
+use c104_describe::Plan;
+use c104_token::NoMemory;
+use nodes::add_new_nodes;
+use std::alloc::Global;
+
+/// A network of tokens that tell where their packets came from. Of what its nodes did it keeps how many entries their
+/// traces would have, and no entry.
+///
+/// Of the value that it is in contracts the nodes and the count are there when it runs; `starts` and `traces` are erased,
+/// and are what a `Net` would keep.
+pub type TracedNet = RecordedNet<TaggedToken, CountedNode>;
+
+impl TracedNet {
+    /// A network of this plan, each switch of which is reset and not started, no token anywhere, and
+    /// nothing done yet. The only error is out of memory.
+    pub fn new(alloc: Global, plan: &Plan) -> Result<Self, NoMemory>
+        ensures { IfOk result (λ net. net ≡ fresh_record (new_network plan.now)) }
+    {
+        // The proof reads here what every plan keeps.
+        let _switches = plan.switches();
+        let copy = plan.clone()?;
+        let wires = Wires::new(alloc, copy)?;
+        let mut places = Vec::new(alloc);
+        match add_new_nodes(alloc, plan, &mut places) {
+            Ok(()) => Ok(TracedNet {
+                wires,
+                places,
+                count: 0,
+                room: (),
+            }),
+            Err(error) => {
+                retire_places(places);
+                Err(error)
+            }
+        }
+    }
+
+    /// For each terminal of the plan, in order, the origins of the packets whose terminators arrived there, in the
+    /// order of their arrival. The tokens tell them. The only error is out of memory.
+    pub fn origins(&self, alloc: Global) -> Result<Vec<Vec<Origin>>, NoMemory>
+        ensures { IfOk result (λ lists.
+            AreOrigins (record_finish self.now) (map (λ (list : Kept TheOrigin). list.items) lists.items)) }
+    {
+        // The proof reads here what every plan keeps, and the count by its name.
+        let _plan = self.wires.plan();
+        let _count = self.count;
+        let mut lists = Vec::new(alloc);
+        let places = self.places.as_slice();
+        for place in places {
+            if let Some(arrived) = place.arrived() {
+                lists.push(tagged_origins(alloc, arrived)?)?;
+            }
+        }
+        Ok(lists)
+    }
+}
