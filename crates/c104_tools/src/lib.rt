@@ -2,7 +2,8 @@
 //!
 //! - [`ControlPort`] is what takes commands for switches by number. It tells which were asked and
 //!   what was answered, and it may show its switches. All that follows is proved once, of every port.
-//! - A network whose nodes keep what they do (`Net`) is such a port.
+//! - A network with its record is such a port: one whose nodes keep what they do (`Net`), and one that in contracts is
+//!   such a network (`TracedNet`).
 //! - [`load`] resets each switch, pokes what an image keeps, and starts each switch. [`verify`] reads
 //!   every register that can be written and compares it with the image.
 //! - [`read_link`] reads what a link tells of itself, [`read_table`] an input's table, and
