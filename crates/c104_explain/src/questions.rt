@@ -9,7 +9,7 @@ use crate::shown_nodes::{switch_text, terminal_text};
 use crate::waiting::waiting_text;
 use crate::words::Mistake;
 use c104_describe::{cut_words, first_word, uncommented};
-use c104_net::Net;
+use c104_net::TracedNet;
 use std::alloc::{AllocError, Global};
 
 /// The lines of a script, each with what it asks, and the questions.
@@ -58,13 +58,13 @@ fn asks(word: Option<&[u8]>) -> bool
 }
 
 /// What answers a question about a network, which may have several lines. None out of memory.
-pub fn question_message(alloc: Global, net: &Net, line: &[u8]) -> Option<String> {
+pub fn question_message(alloc: Global, net: &TracedNet, line: &[u8]) -> Option<String> {
     let words = cut_words(alloc, uncommented(line)).ok()?;
     answer_text(alloc, net, words.as_slice()).ok()
 }
 
 /// What answers a question of these words.
-fn answer_text(alloc: Global, net: &Net, words: &[&[u8]]) -> Result<String, AllocError> {
+fn answer_text(alloc: Global, net: &TracedNet, words: &[&[u8]]) -> Result<String, AllocError> {
     match words {
         [b"show", name] => node_text(alloc, net, name),
         [b"show", ..] => Mistake::new(SHOW_FORM, None).text(alloc),
@@ -73,7 +73,7 @@ fn answer_text(alloc: Global, net: &Net, words: &[&[u8]]) -> Result<String, Allo
 }
 
 /// How the node of this name stands, or that there is none; where none has the name, `waiting` is another question.
-fn node_text(alloc: Global, net: &Net, name: &[u8]) -> Result<String, AllocError> {
+fn node_text(alloc: Global, net: &TracedNet, name: &[u8]) -> Result<String, AllocError> {
     let plan = net.plan();
     if let Some(switch) = plan.switch_number(name) {
         return switch_text(alloc, net, switch);
@@ -90,7 +90,7 @@ fn node_text(alloc: Global, net: &Net, name: &[u8]) -> Result<String, AllocError
 }
 
 /// Which outputs the inputs hold and want.
-fn waiting_answer(alloc: Global, net: &Net) -> Result<String, AllocError> {
+fn waiting_answer(alloc: Global, net: &TracedNet) -> Result<String, AllocError> {
     let text = waiting_text(alloc, net)?;
     if text.is_empty() {
         return format!(in alloc; "no input holds an output, and none wants one");

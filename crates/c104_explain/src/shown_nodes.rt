@@ -2,12 +2,16 @@
 
 use crate::reasons::port_text;
 use c104_describe::{Plan, Port};
-use c104_net::Net;
+use c104_net::TracedNet;
 use c104_switch::{LINKS, LinkView, Phase};
 use std::alloc::{AllocError, Global};
 
 /// How each link of a switch stands that has a wire: a line for each.
-pub(crate) fn switch_text(alloc: Global, net: &Net, switch: usize) -> Result<String, AllocError> {
+pub(crate) fn switch_text(
+    alloc: Global,
+    net: &TracedNet,
+    switch: usize,
+) -> Result<String, AllocError> {
     let plan = net.plan();
     let mut text = String::new(alloc);
     for link in 0..LINKS {
@@ -79,7 +83,7 @@ fn owner_text(alloc: Global, owner: Option<usize>) -> Result<String, AllocError>
 /// How a terminal stands, in one line.
 pub(crate) fn terminal_text(
     alloc: Global,
-    net: &Net,
+    net: &TracedNet,
     terminal: usize,
 ) -> Result<String, AllocError> {
     let plan = net.plan();
@@ -91,9 +95,9 @@ pub(crate) fn terminal_text(
         Some(other) => port_text(alloc, plan, other)?,
         None => String::new(alloc),
     };
-    let arrived = match net.arrived(terminal) {
-        Some(tokens) => tokens.len(),
-        None => 0,
+    let arrived = match net.arrived(alloc, terminal) {
+        Ok(Some(tokens)) => tokens.len(),
+        Ok(None) | Err(_) => 0,
     };
     let waiting = view.waiting;
     let credit = view.credit;

@@ -3,7 +3,7 @@
 use crate::reasons::port_text;
 use c104_describe::Port;
 use c104_event::Event;
-use c104_net::{Net, Reason};
+use c104_net::{Reason, TracedNet};
 use c104_switch::{LINKS, LinkView, Phase, Unready};
 use std::alloc::{AllocError, Global};
 
@@ -26,7 +26,7 @@ impl Input {
 
 /// A line for each output that an input holds for its packet, and for each that one wants for its header, by switch
 /// and link. Nothing where no input does.
-pub(crate) fn waiting_text(alloc: Global, net: &Net) -> Result<String, AllocError> {
+pub(crate) fn waiting_text(alloc: Global, net: &TracedNet) -> Result<String, AllocError> {
     let mut text = String::new(alloc);
     for switch in 0..net.plan().switches().len() {
         add_switch(alloc, net, switch, &mut text)?;
@@ -37,7 +37,7 @@ pub(crate) fn waiting_text(alloc: Global, net: &Net) -> Result<String, AllocErro
 /// The lines of a switch's inputs join the text.
 fn add_switch(
     alloc: Global,
-    net: &Net,
+    net: &TracedNet,
     switch: usize,
     text: &mut String,
 ) -> Result<(), AllocError> {
@@ -52,7 +52,7 @@ fn add_switch(
 /// The lines of an input join the text.
 fn add_input(
     alloc: Global,
-    net: &Net,
+    net: &TracedNet,
     input: Input,
     view: &LinkView,
     text: &mut String,
@@ -67,7 +67,7 @@ fn add_input(
 /// The line of an output that an input holds joins the text: where it leads, and whether it is full.
 fn add_held(
     alloc: Global,
-    net: &Net,
+    net: &TracedNet,
     input: Input,
     output: usize,
     text: &mut String,
@@ -90,7 +90,7 @@ fn add_held(
 }
 
 /// Whether an output holds as many tokens as it may.
-fn is_full(net: &Net, output: Port) -> bool {
+fn is_full(net: &TracedNet, output: Port) -> bool {
     let Port::Switch(switch, link) = output else {
         return false;
     };
@@ -103,7 +103,7 @@ fn is_full(net: &Net, output: Port) -> bool {
 /// The lines of the outputs that an input wants for a header join the text.
 fn add_wanted(
     alloc: Global,
-    net: &Net,
+    net: &TracedNet,
     input: Input,
     header: u32,
     text: &mut String,
@@ -117,7 +117,7 @@ fn add_wanted(
 /// The line of an output that an input wants for a header joins the text, if it is of the group that it wants.
 fn add_wish(
     alloc: Global,
-    net: &Net,
+    net: &TracedNet,
     input: Input,
     output: usize,
     header: u32,
@@ -141,7 +141,7 @@ fn add_wish(
 /// How an output stands, by why an input doesn't get it. None where it isn't one that the input wants.
 fn state_text(
     alloc: Global,
-    net: &Net,
+    net: &TracedNet,
     input: Input,
     reason: Option<Reason>,
 ) -> Result<Option<String>, AllocError> {
