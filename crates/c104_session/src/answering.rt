@@ -7,9 +7,10 @@ ghost use Rattle.c104_session.specs.Lines.{script_lines, AreOnlyLines, JoinsLine
 ghost use Rattle.c104_session.specs.Runs.{AnswersLine, AnswersLines, AnswersScript, LineStops, ReadStops, TextStops};
 ghost use Rattle.c104_session.specs.Shown.{shown};
 
-use crate::explaining::explain_line;
+use crate::explaining::{ScriptLine, explain_line};
 use crate::progress::Progress;
 use crate::session::Session;
+use crate::tally::Tally;
 use c104_explain::{Messages, Silent};
 use c104_script::{Answer, add_answer};
 use c104_stream::{Ahead, Halt, Kept};
@@ -73,11 +74,18 @@ pub fn answer_script_explained<S: Read, W: Write, M: Messages>(
     Ok(is_long)
 }
 
-/// What a script's line is read into, and what its answer is printed into.
+/// What a script's line is read into, and what is kept for its answer and its message.
 #[derive(Drop)]
 struct Buffers {
     line: Vec<u8>,
-    answer: Vec<u8>,
+    output: Output,
+}
+
+/// What the answer to a line is printed into, and what the lines before it have done.
+#[derive(Drop)]
+struct Output {
+    text: Vec<u8>,
+    tally: Tally,
 }
 
 /// Answers the lines of a script, of which the last answers may be kept.
@@ -96,7 +104,10 @@ fn answer_lines<S: Read, W: Write, M: Messages>(
 {
     let mut buffers = Buffers {
         line: Vec::new(alloc),
-        answer: Vec::new(alloc),
+        output: Output {
+            text: Vec::new(alloc),
+            tally: Tally::new(),
+        },
     };
     read_and_answer(
         alloc,
@@ -189,13 +200,13 @@ fn answer_line<W: Write, M: Messages>(
         (W.contents writer.old) (W.contents writer.new) kept.old kept.new halt) }
     ensures cleared { OnOk result (buffers.new.line.items ≡ []) }
 {
-    let Buffers { line, answer: text } = buffers;
+    let Buffers { line, output } = buffers;
     answer_and_explain(
         alloc,
         session,
         number,
         line.as_slice(),
-        text,
+        output,
         kept,
         writer,
         messages,
@@ -204,14 +215,13 @@ fn answer_line<W: Write, M: Messages>(
     Ok(())
 }
 
-/// Does what a line asks. The line that answers it joins what is kept; the text is where it is printed. Then
-/// what is to be told of it is told.
+/// Does what a line asks. The line that answers it joins what is kept. Then what is to be told of it is told.
 fn answer_and_explain<W: Write, M: Messages>(
     alloc: Global,
     session: &mut Session,
     number: usize,
     line: &[u8],
-    text: &mut Vec<u8>,
+    output: &mut Output,
     kept: &mut Kept,
     writer: &mut W,
     messages: &mut M,
@@ -222,9 +232,11 @@ fn answer_and_explain<W: Write, M: Messages>(
         (λ halt. LineStops session.old number line.now
         (W.contents writer.old) (W.contents writer.new) kept.old kept.new halt) }
 {
+    let Output { text, tally } = output;
     let answered = give_answer(alloc, session, number, line, text, kept, writer, messages)?;
+    let line = ScriptLine { number, text: line };
     explain_line(
-        alloc, session, number, line, &answered, kept, writer, messages,
+        alloc, session, line, &answered, tally, kept, writer, messages,
     )?;
     Ok(())
 }

@@ -7,7 +7,8 @@ ghost use Rattle.c104_session.specs.Told.{MayTell, TellsReason};
 use crate::answering::Answered;
 use crate::questions::answer_question;
 use crate::session::Session;
-use crate::standing::explain_standstill;
+use crate::standing::{explain_done, message_of_done};
+use crate::tally::Tally;
 use c104_explain::{
     About, Messages, fault_message, reason_message, refusal_message, register_message,
 };
@@ -17,14 +18,23 @@ use c104_switch::Reply;
 use std::alloc::Global;
 use std::io::Write;
 
+/// A line of a script, with its number.
+#[derive(Clone, Copy)]
+pub(crate) struct ScriptLine<'a> {
+    /// Its number, from 1.
+    pub(crate) number: usize,
+    /// Its bytes, without the line feed.
+    pub(crate) text: &'a [u8],
+}
+
 /// Tells of a line that was answered so, if it was answered, and else answers it if it is a question, where anyone
-/// reads the messages: all that is kept is written before.
+/// reads the messages: all that is kept is written before. What was done joins the tally.
 pub(crate) fn explain_line<W: Write, M: Messages>(
     alloc: Global,
     session: &Session,
-    number: usize,
-    line: &[u8],
+    line: ScriptLine<'_>,
     answered: &Answered,
+    tally: &mut Tally,
     kept: &mut Kept,
     writer: &mut W,
     messages: &mut M,
@@ -37,20 +47,12 @@ pub(crate) fn explain_line<W: Write, M: Messages>(
         return Ok(());
     }
     match &answered.answer {
-        Some(Answer::Replied(Reply::Done)) => explain_standstill(
-            alloc,
-            session,
-            number,
-            line,
-            answered.rounds,
-            kept,
-            writer,
-            messages,
-        ),
-        Some(answer) => explain_answer(
-            alloc, session, number, line, answer, kept, writer, messages,
-        ),
-        None => answer_question(alloc, session, line, kept, writer, messages),
+        Some(Answer::Replied(Reply::Done | Reply::Control(_))) => {
+            let message = message_of_done(alloc, session, line.text, answered.rounds, tally);
+            explain_done(line.number, message, kept, writer, messages)
+        }
+        Some(answer) => explain_answer(alloc, session, line, answer, kept, writer, messages),
+        None => answer_question(alloc, session, line.text, kept, writer, messages),
     }
 }
 
@@ -58,8 +60,7 @@ pub(crate) fn explain_line<W: Write, M: Messages>(
 fn explain_answer<W: Write, M: Messages>(
     alloc: Global,
     session: &Session,
-    number: usize,
-    line: &[u8],
+    line: ScriptLine<'_>,
     answer: &Answer,
     kept: &mut Kept,
     writer: &mut W,
@@ -69,11 +70,11 @@ fn explain_answer<W: Write, M: Messages>(
     ensures prefix { OnErr result (AppendsPrefix (W.contents writer.old) (W.contents writer.new) kept.old) }
     ensures empty { OnErr result (kept.new ≡ []) }
 {
-    let Some(message) = answer_message(alloc, session, line, answer) else {
+    let Some(message) = answer_message(alloc, session, line.text, answer) else {
         return Ok(());
     };
     kept.flush(writer)?;
-    messages.tell(About::ScriptLine(number), message.as_str());
+    messages.tell(About::ScriptLine(line.number), message.as_str());
     Ok(())
 }
 

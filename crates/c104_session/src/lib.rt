@@ -1,7 +1,8 @@
 //! Scripts that are answered by a network.
 //!
-//! A `Session` is a network in the midst of a script: it keeps the `Net`, what was loaded there, and whether a
-//! line was faulty so far. It can't be dropped; `finish` gives what is left at its end, an `Ended`.
+//! A `Session` is a network in the midst of a script: it keeps the `TracedNet`, what was loaded there, and whether a
+//! line was faulty so far. It can't be dropped, and neither can what `finish` gives at its end, an `Ended` with the
+//! `EndedNet` that tells what arrived.
 //! `answer_script` answers the lines of a script as they are read, `summary_text` tells what arrived
 //! at each terminal, and `run_plan` does both on the network of a plan.
 //!
@@ -15,6 +16,7 @@
 
 mod answering;
 mod asker;
+mod ended;
 mod explaining;
 mod probing;
 mod progress;
@@ -24,10 +26,12 @@ mod session;
 mod standing;
 mod starting;
 mod summary;
+mod tally;
 mod tools;
 
 pub use answering::{MAX_SCRIPT, answer_script, answer_script_explained};
 pub use asker::Asker;
+pub use ended::EndedNet;
 pub use runs::{run_plan, run_plan_explained};
 pub use session::{Ended, Session};
 pub use summary::summary_text;

@@ -8,15 +8,21 @@ ghost use Rattle.c104_tools.specs.NetOutcomes.{net_link, net_poke, net_table, ne
 use crate::tools::{link_of_net, poke_net, table_of_net, verify_net};
 use c104_describe::{Image, Plan};
 use c104_event::EventFault;
-use c104_net::Net;
+use c104_net::TracedNet;
 use c104_regs::{LINKS, RegFault};
-use c104_script::{Answer, Finding, Probe};
+use c104_script::{Answer, Finding, FoundTable, Probe};
 use c104_switch::Reply;
 use c104_token::NoMemory;
 use c104_tools::{LinkNumbers, LoadFault};
+use std::alloc::Global;
 
 /// Reads or sets what the debugger is asked. The image is what was loaded. The only error is out of memory.
-pub(crate) fn answer_probe(net: &mut Net, image: &Image, probe: Probe) -> Result<Answer, NoMemory>
+pub(crate) fn answer_probe(
+    alloc: Global,
+    net: &mut TracedNet,
+    image: &Image,
+    probe: Probe,
+) -> Result<Answer, NoMemory>
     ensures { IfOk result (λ answer. ◌≡◌ {A = TheAnswer × TheNet}
         (answer, net.new) (probe_answer net.old image.now probe)) }
 {
@@ -28,7 +34,7 @@ pub(crate) fn answer_probe(net: &mut Net, image: &Image, probe: Probe) -> Result
             value,
         } => answer_poke(net, switch, addr, value),
         Probe::Link { switch, link } => answer_link(net, switch, link),
-        Probe::Table { switch, link } => answer_table(net, switch, link),
+        Probe::Table { switch, link } => answer_table(alloc, net, switch, link),
         Probe::Verify => answer_verify(net, image),
     }
 }
@@ -44,7 +50,12 @@ fn value_answer(value: Option<u32>) -> Answer
 }
 
 /// Sets a register.
-fn answer_poke(net: &mut Net, switch: usize, addr: u16, value: u32) -> Result<Answer, NoMemory>
+fn answer_poke(
+    net: &mut TracedNet,
+    switch: usize,
+    addr: u16,
+    value: u32,
+) -> Result<Answer, NoMemory>
     ensures { IfOk result (λ answer. ◌≡◌ {A = TheAnswer × TheNet} (answer, net.new)
         (tool_outcome set_answer (net_poke net.old switch addr value))) }
 {
@@ -56,7 +67,7 @@ fn answer_poke(net: &mut Net, switch: usize, addr: u16, value: u32) -> Result<An
 }
 
 /// Reads what a link tells of itself.
-fn answer_link(net: &mut Net, switch: usize, link: usize) -> Result<Answer, NoMemory>
+fn answer_link(net: &mut TracedNet, switch: usize, link: usize) -> Result<Answer, NoMemory>
     ensures { IfOk result (λ answer. ◌≡◌ {A = TheAnswer × TheNet}
         (answer, net.new) (link_outcome net.old switch link)) }
 {
@@ -86,7 +97,12 @@ fn link_answer(numbers: LinkNumbers) -> Answer
 }
 
 /// Reads an input's table.
-fn answer_table(net: &mut Net, switch: usize, link: usize) -> Result<Answer, NoMemory>
+fn answer_table(
+    alloc: Global,
+    net: &mut TracedNet,
+    switch: usize,
+    link: usize,
+) -> Result<Answer, NoMemory>
     ensures { IfOk result (λ answer. ◌≡◌ {A = TheAnswer × TheNet}
         (answer, net.new) (table_outcome net.old switch link)) }
 {
@@ -94,14 +110,17 @@ fn answer_table(net: &mut Net, switch: usize, link: usize) -> Result<Answer, NoM
         return Ok(Answer::Refused(EventFault::NoLink));
     }
     match table_of_net(net, switch, link) {
-        Ok(table) => Ok(Answer::Found(Finding::Table(table))),
+        Ok(table) => {
+            let found = FoundTable::new(alloc, table)?;
+            Ok(Answer::Found(Finding::Table(found)))
+        }
         Err(LoadFault::Port(EventFault::NoMemory)) => Err(NoMemory),
         Err(fault) => stopped_answer(net.plan(), fault),
     }
 }
 
 /// Sees whether the image is still loaded.
-fn answer_verify(net: &mut Net, image: &Image) -> Result<Answer, NoMemory>
+fn answer_verify(net: &mut TracedNet, image: &Image) -> Result<Answer, NoMemory>
     ensures { IfOk result (λ answer. ◌≡◌ {A = TheAnswer × TheNet} (answer, net.new)
         (tool_outcome verified_answer (net_verify net.old image.now))) }
 {

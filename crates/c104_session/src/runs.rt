@@ -10,11 +10,11 @@ ghost use Rattle.c104_session.specs.declared.asker.Asker.TheVariants as who;
 
 use crate::answering::answer_script_explained;
 use crate::asker::Asker;
+use crate::ended::EndedNet;
 use crate::session::{Ended, Session};
 use crate::summary::summary_text;
 use c104_describe::{Image, Plan};
 use c104_explain::{About, Messages, Silent, leftover_messages};
-use c104_net::Run;
 use c104_stream::{Ahead, Halt, write_whole};
 use std::alloc::Global;
 use std::io::{Read, Write};
@@ -86,7 +86,9 @@ fn run_session<S: Read, W: Write, M: Messages>(
     let answered = answer_script_explained(alloc, &mut session, ahead, script, writer, messages);
     let leftovers = leftovers_of(alloc, &session, messages);
     let ended = session.finish();
-    end_run(alloc, answered, &ended, &leftovers, writer, messages)
+    let came = end_run(alloc, answered, &ended, &leftovers, writer, messages);
+    ended.retire();
+    came
 }
 
 /// Ends a run whose script was answered so: writes what follows the answers, and tells what didn't arrive.
@@ -107,7 +109,12 @@ fn end_run<W: Write, M: Messages>(
 }
 
 /// Writes what follows the answers: that the script is too long, or the summary of its run.
-fn write_end<W: Write>(alloc: Global, is_long: bool, run: &Run, writer: &mut W) -> Result<(), Halt>
+fn write_end<W: Write>(
+    alloc: Global,
+    is_long: bool,
+    run: &EndedNet,
+    writer: &mut W,
+) -> Result<(), Halt>
     ensures { WritesText (end_text is_long run.now) (W.contents writer.old) (W.contents writer.new) result }
 {
     if is_long {

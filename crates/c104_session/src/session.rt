@@ -11,11 +11,12 @@ ghost use Rattle.c104_session.specs.Shown.{new_session, line_answer, request_ans
 ghost use Rattle.c104_session.specs.declared.session.Session.{Session as TheSession};
 
 use crate::asker::Asker;
+use crate::ended::EndedNet;
 use crate::probing::answer_probe;
 use crate::starting::start_net;
 use c104_describe::{Image, Plan};
 use c104_event::EventFault;
-use c104_net::{Net, Run, Unwatched, Watch};
+use c104_net::{TracedNet, Unwatched, Watch};
 use c104_script::{Answer, LineFault, Request, read_line};
 use c104_switch::Reply;
 use c104_token::NoMemory;
@@ -24,7 +25,7 @@ use std::alloc::Global;
 /// A network that a script is run on, or that a person asks line by line. It can't be let go of: `finish` ends it.
 pub struct Session {
     /// The network.
-    pub net: Net,
+    pub net: TracedNet,
     /// What was loaded into its switches.
     pub image: Image,
     /// Whether a line was faulty so far.
@@ -33,11 +34,10 @@ pub struct Session {
     pub asker: Asker,
 }
 
-/// What a script's run came to.
-#[derive(Drop)]
+/// What a script's run came to. It can't be dropped: `retire` lets go of its network.
 pub struct Ended {
     /// The run, at its end.
-    pub run: Run,
+    pub run: EndedNet,
     /// Whether a line was faulty.
     pub faulty: bool,
 }
@@ -70,7 +70,7 @@ impl Session {
             asker: _,
         } = self;
         Ended {
-            run: net.finish(),
+            run: EndedNet::new(net),
             faulty,
         }
     }
@@ -99,7 +99,7 @@ impl Session {
         match read_line(alloc, self.net.plan(), line) {
             Ok(None) => Ok(None),
             Ok(Some(request)) => {
-                let answer = self.answer_request(&request, watch)?;
+                let answer = self.answer_request(alloc, &request, watch)?;
                 Ok(Some(answer))
             }
             Err(LineFault::NoMemory) => Err(NoMemory),
@@ -113,6 +113,7 @@ impl Session {
     /// Does what a request says.
     fn answer_request<W: Watch>(
         &mut self,
+        alloc: Global,
         request: &Request,
         watch: &mut W,
     ) -> Result<Answer, NoMemory>
@@ -123,7 +124,7 @@ impl Session {
             Request::Asked(event) => self.net.apply(event),
             Request::Rounds(count) => do_rounds(&mut self.net, *count, watch),
             Request::Probed(probe) => {
-                return answer_probe(&mut self.net, &self.image, *probe);
+                return answer_probe(alloc, &mut self.net, &self.image, *probe);
             }
             Request::Refused(fault) => Err(*fault),
         };
@@ -135,8 +136,16 @@ impl Session {
     }
 }
 
+impl Ended {
+    /// Lets go of the network.
+    pub fn retire(self) {
+        let Ended { run, faulty: _ } = self;
+        run.retire();
+    }
+}
+
 /// Does so many rounds, up to the first event that is refused.
-fn do_rounds<W: Watch>(net: &mut Net, count: u32, watch: &mut W) -> Result<Reply, EventFault>
+fn do_rounds<W: Watch>(net: &mut TracedNet, count: u32, watch: &mut W) -> Result<Reply, EventFault>
     ensures { (◌≡◌ {A = Result TheReply TheFault × TheNet}
         (result, net.new) (rounds_outcome net.old count)) ⊎ (result ≡ Err fault.NoMemory) }
 {

@@ -1,22 +1,19 @@
-//! Messages about a network that stands still.
+//! What is told of a line that was done: where its rounds come to a network that stands still.
 ghost use Rattle.std.specs.Prelude.{◌≡◌, [], OnOk, OnErr};
 ghost use Rattle.c104_stream.specs.Writing.{AppendsAndKeeps, AppendsPrefix};
 
 use crate::session::Session;
+use crate::tally::Tally;
 use c104_explain::{About, Messages, standstill_message};
 use c104_script::{Request, read_line};
 use c104_stream::{CannotWrite, Kept};
 use std::alloc::Global;
 use std::io::Write;
 
-/// Tells that the network stands still, where so many of the rounds of a line changed something, the next changed
-/// nothing, and tokens are there: all that is kept is written before.
-pub(crate) fn explain_standstill<W: Write, M: Messages>(
-    alloc: Global,
-    session: &Session,
+/// Tells the message of a line that was done, if it has one: all that is kept is written before.
+pub(crate) fn explain_done<W: Write, M: Messages>(
     number: usize,
-    line: &[u8],
-    rounds: u32,
+    message: Option<String>,
     kept: &mut Kept,
     writer: &mut W,
     messages: &mut M,
@@ -25,7 +22,7 @@ pub(crate) fn explain_standstill<W: Write, M: Messages>(
     ensures prefix { OnErr result (AppendsPrefix (W.contents writer.old) (W.contents writer.new) kept.old) }
     ensures empty { OnErr result (kept.new ≡ []) }
 {
-    let Some(message) = message_of(alloc, session, line, rounds) else {
+    let Some(message) = message else {
         return Ok(());
     };
     kept.flush(writer)?;
@@ -33,16 +30,30 @@ pub(crate) fn explain_standstill<W: Write, M: Messages>(
     Ok(())
 }
 
-/// What is told of a line of which so many rounds changed something. None where it asks for no more rounds than these
-/// or for none, where no token is left, and out of memory.
-fn message_of(alloc: Global, session: &Session, line: &[u8], rounds: u32) -> Option<String> {
-    let Ok(Some(Request::Rounds(count))) = read_line(alloc, session.net.plan(), line) else {
-        return None;
-    };
-    if rounds >= count || session.net.quiet() {
-        return None;
+/// What is told of a line that was done, of which so many rounds changed something: that the network stands still,
+/// where the line asks for more rounds than these and tokens are left. Else what it did joins the tally. None where
+/// there is nothing to tell, and out of memory.
+pub(crate) fn message_of_done(
+    alloc: Global,
+    session: &Session,
+    line: &[u8],
+    rounds: u32,
+    tally: &mut Tally,
+) -> Option<String> {
+    match read_line(alloc, session.net.plan(), line) {
+        Ok(Some(Request::Rounds(count))) if rounds < count && !session.net.quiet() => {
+            standstill_message(alloc, &session.net, tally.sent())
+        }
+        Ok(Some(Request::Asked(event))) => {
+            tally.note(&event);
+            None
+        }
+        Ok(_) => None,
+        Err(_) => {
+            tally.forget();
+            None
+        }
     }
-    standstill_message(alloc, &session.net)
 }
 
 /// Tells each line of a message.

@@ -8,18 +8,18 @@ ghost use Rattle.c104_tools.specs.declared.faults.LoadFault.TheVariants as fault
 
 use crate::tools::load_net;
 use c104_describe::{Image, Plan};
-use c104_net::Net;
+use c104_net::TracedNet;
 use c104_token::NoMemory;
 use c104_tools::LoadFault;
 use std::alloc::Global;
 
 /// The network of a plan, into which an image that fits it was loaded, at the start of a run. The only error is
 /// out of memory.
-pub(crate) fn start_net(alloc: Global, plan: &Plan, image: &Image) -> Result<Net, NoMemory>
+pub(crate) fn start_net(alloc: Global, plan: &Plan, image: &Image) -> Result<TracedNet, NoMemory>
     requires { Fits image.now plan.now }
     ensures { IfOk result (λ net. net ≡ fresh_record (placed_network plan.now image.now)) }
 {
-    let mut net = Net::new(alloc, plan)?;
+    let mut net = TracedNet::new(alloc, plan)?;
     match begin_loaded(&mut net, plan, image) {
         Ok(()) => Ok(net),
         Err(NoMemory) => {
@@ -30,13 +30,13 @@ pub(crate) fn start_net(alloc: Global, plan: &Plan, image: &Image) -> Result<Net
 }
 
 /// Loads an image into a new network, and begins a run. The only error is out of memory.
-fn begin_loaded(net: &mut Net, plan: &Plan, image: &Image) -> Result<(), NoMemory>
+fn begin_loaded(net: &mut TracedNet, plan: &Plan, image: &Image) -> Result<(), NoMemory>
     requires fits { Fits image.now plan.now }
     requires new { net.old ≡ fresh_record (new_network plan.now) }
     ensures { IfOk result (λ _. net.new ≡ fresh_record (placed_network plan.now image.now)) }
 {
     // The proof reads what every network with its record keeps, and every plan.
-    let _trace = net.trace(0);
+    let _plan = net.told_plan();
     let _switches = plan.switches();
     match load_net(net, image) {
         Ok(()) => {

@@ -11,8 +11,9 @@ ghost use Rattle.c104_net.specs.declared.traced.Traced.{Traced as TheTraced};
 ghost use Rattle.c104_session.specs.Shown.{origin_text, packet_line, packets_text, summary};
 ghost use Rattle.c104_token.specs.Packets.{packet_tokens};
 
+use crate::ended::EndedNet;
 use c104_describe::Plan;
-use c104_net::{Origin, Run};
+use c104_net::Origin;
 use c104_token::{NoMemory, Packet, Token, cut_packets, print_packet};
 use itoa::Buffer;
 use std::alloc::Global;
@@ -21,7 +22,7 @@ use std::alloc::Global;
 /// came: the packet, the terminal that sent it, and its number among those that this terminal sent, from 0. It is
 /// made whole before any of it is written, so that none of it is where memory runs out. The only error is out of
 /// memory.
-pub fn summary_text(alloc: Global, run: &Run) -> Result<Vec<u8>, NoMemory>
+pub fn summary_text(alloc: Global, run: &EndedNet) -> Result<Vec<u8>, NoMemory>
     ensures { IfOk result (λ text. text.items ≡ summary run.now) }
 {
     let origins = run.origins(alloc)?;
@@ -34,7 +35,7 @@ pub fn summary_text(alloc: Global, run: &Run) -> Result<Vec<u8>, NoMemory>
 #[tactic(auto, unfolding(crate::specs::Shown::summary))]
 fn add_terminals(
     alloc: Global,
-    run: &Run,
+    run: &EndedNet,
     origins: &[Vec<Origin>],
     text: &mut Vec<u8>,
 ) -> Result<(), NoMemory>
@@ -51,7 +52,7 @@ fn add_terminals(
 /// The lines of the packets that a terminal received join the text.
 fn add_terminal(
     alloc: Global,
-    run: &Run,
+    run: &EndedNet,
     number: usize,
     name: &[u8],
     origins: &[Vec<Origin>],
@@ -62,10 +63,17 @@ fn add_terminal(
     ensures { OnOk result (text.new.items
         ≡ text.old.items ++ packets_text run.now.finished.plan name.now (arrived_at (traced_end run.now) number)) }
 {
-    let (Some(arrived), Some(origins)) = (run.arrived(number), origins.get(number)) else {
+    let (Some(arrived), Some(origins)) = (run.arrived(alloc, number)?, origins.get(number)) else {
         unreachable!();
     };
-    add_packets(alloc, run.plan(), name, arrived, origins.as_slice(), text)
+    add_packets(
+        alloc,
+        run.plan(),
+        name,
+        arrived.as_slice(),
+        origins.as_slice(),
+        text,
+    )
 }
 
 /// The lines of a terminal's whole packets join the text. The origins are those of the packets, in order.

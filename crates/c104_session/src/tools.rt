@@ -8,14 +8,14 @@ ghost use Rattle.c104_tools.specs.Outcomes.{Outcome, any_value, table_made, tabl
 
 use c104_describe::Image;
 use c104_interval::Table;
-use c104_net::Net;
+use c104_net::TracedNet;
 use c104_regs::LINKS;
 use c104_tools::{
     ControlPort, LinkNumbers, LoadFault, load, read_link, read_table, verify, write_register,
 };
 
 /// Loads an image into the switches.
-pub(crate) fn load_net(net: &mut Net, image: &Image) -> Result<(), LoadFault>
+pub(crate) fn load_net(net: &mut TracedNet, image: &Image) -> Result<(), LoadFault>
     ensures ends { EndsSo (net_load net.old image.now) result net.new }
     ensures loaded { net_switch_count net.old ≡ length image.now.settings → MatchResult result
         (λ _. net_switches net.new ≡ Some (each_with loaded (switches_of net.old.network.nodes) image.now.settings))
@@ -25,7 +25,12 @@ pub(crate) fn load_net(net: &mut Net, image: &Image) -> Result<(), LoadFault>
 }
 
 /// Sets the register of a switch at this address.
-pub(crate) fn poke_net(net: &mut Net, switch: usize, addr: u16, value: u32) -> Result<(), LoadFault>
+pub(crate) fn poke_net(
+    net: &mut TracedNet,
+    switch: usize,
+    addr: u16,
+    value: u32,
+) -> Result<(), LoadFault>
     ensures { EndsSo (net_poke net.old switch addr value) result net.new }
 {
     write_register(net, switch, addr, value)
@@ -33,7 +38,7 @@ pub(crate) fn poke_net(net: &mut Net, switch: usize, addr: u16, value: u32) -> R
 
 /// Reads what a link of a switch tells of itself.
 pub(crate) fn link_of_net(
-    net: &mut Net,
+    net: &mut TracedNet,
     switch: usize,
     link: usize,
 ) -> Result<LinkNumbers, LoadFault>
@@ -44,7 +49,11 @@ pub(crate) fn link_of_net(
 }
 
 /// Reads the table of an input of a switch.
-pub(crate) fn table_of_net(net: &mut Net, switch: usize, link: usize) -> Result<Table, LoadFault>
+pub(crate) fn table_of_net(
+    net: &mut TracedNet,
+    switch: usize,
+    link: usize,
+) -> Result<Table, LoadFault>
     requires { link < LINKS }
     ensures { EndsSo (net_table net.old switch link) result net.new }
 {
@@ -63,7 +72,7 @@ fn table_of<P: ControlPort>(port: &mut P, switch: usize, link: usize) -> Result<
 }
 
 /// Sees whether each register that can be set reads as the image has it.
-pub(crate) fn verify_net(net: &mut Net, image: &Image) -> Result<(), LoadFault>
+pub(crate) fn verify_net(net: &mut TracedNet, image: &Image) -> Result<(), LoadFault>
     ensures { EndsSo (net_verify net.old image.now) result net.new }
 {
     verify(net, image)

@@ -1,0 +1,46 @@
+//! What the lines of a run have done, as far as messages tell of it.
+
+use c104_event::Event;
+
+/// The bytes of the command that resets a switch.
+const RESET: [u8; 1] = [0x02];
+
+/// What the lines of a run have done.
+#[derive(Drop)]
+pub(crate) struct Tally {
+    sent: Option<usize>,
+}
+
+impl Tally {
+    /// Nothing was done so far.
+    pub(crate) fn new() -> Self {
+        Tally { sent: Some(0) }
+    }
+
+    /// How many packets were sent. None once a switch was reset, which may have thrown some away, and where memory was
+    /// short.
+    pub(crate) fn sent(&self) -> Option<usize> {
+        self.sent
+    }
+
+    /// An event was done.
+    pub(crate) fn note(&mut self, event: &Event) {
+        match event {
+            Event::Send { .. } => self.note_packet(),
+            Event::Control { bytes, .. } if bytes.as_slice() == RESET.as_slice() => self.forget(),
+            _ => {}
+        }
+    }
+
+    /// It isn't known any more how many packets were sent.
+    pub(crate) fn forget(&mut self) {
+        self.sent = None;
+    }
+
+    /// A packet was sent.
+    fn note_packet(&mut self) {
+        if let Some(sent) = self.sent {
+            self.sent = Some(sent.saturating_add(1));
+        }
+    }
+}
