@@ -4,6 +4,7 @@ ghost use Rattle.std.specs.List.{list_all};
 ghost use Rattle.c104_describe.specs.TextCut.{lines, uncommented_line, parts_words, line_words, is_plain_line};
 ghost use Rattle.c104_describe.specs.TextWords.{read_number, most_digits, is_name, is_name_byte, dots, IsInside};
 
+use smallvec::SmallVec;
 use std::alloc::{AllocError, Global};
 
 /// The most bytes of a name.
@@ -41,8 +42,11 @@ pub fn uncommented(line: &[u8]) -> &[u8]
     }
 }
 
+/// The words of a line. Most lines have few, and these need no memory of their own.
+pub type Words<'a> = SmallVec<&'a [u8], 4>;
+
 /// The words of a line, which spaces, tabs and carriage returns part. The only error is out of memory.
-pub fn cut_words<'a>(alloc: Global, line: &'a [u8]) -> Result<Vec<&'a [u8]>, AllocError>
+pub fn cut_words<'a>(alloc: Global, line: &'a [u8]) -> Result<Words<'a>, AllocError>
     ensures { IfOk result (λ list. map (λ word. word.now) list.items ≡ line_words line.now) }
 {
     line.split(|byte| parts_words(*byte))
@@ -70,8 +74,7 @@ fn parts_words(byte: u8) -> bool
 pub fn is_plain(line: &[u8]) -> bool
     ensures { result ≡ is_plain_line line.now }
 {
-    line.iter()
-        .all(|byte| matches!(*byte, b' '..=b'~' | b'\t' | b'\r'))
+    line.iter().all(|byte| (*byte >= b' ' && *byte <= b'~') || parts_words(*byte))
 }
 
 /// The value of a number, 1 to 7 decimal digits. None for every other word.

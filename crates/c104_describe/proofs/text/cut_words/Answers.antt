@@ -1,9 +1,18 @@
-use Rattle.std.proofs.Common.{rules, ◌==◌, length, not}
-use Rattle.std.proofs.lemmas.Iterator.Consumers.{map_from_collect, YieldsList-from_filter}
+use Rattle.std.proofs.Common.{rules, ◌≡◌, ◌∙◌, ◌==◌, ap, length, map, not, List, Option, Result, Ok, Err, IfOk}
+use Rattle.std.specs.Bool.{⊤}
+use Rattle.std.specs.Iterator.{DrainsIf}
+use Rattle.std.proofs.lemmas.Iterator.{items_from_drains, YieldsList}
+use Rattle.std.proofs.lemmas.Iterator.Consumers.{YieldsList-from_filter}
 use Rattle.std.proofs.lemmas.Iterator.Splits.{YieldsList-from_slice_split}
+use Rattle.smallvec.specs.SmallVec.{SmallVec}
 use borrow.Author.Tests.{tests}
 use Rattle.c104_describe.specs.TextCut.{parts_words}
 use Rattle.c104_describe.proofs.text.cut_words.Goals as goal
+
+-- what is collected is all that comes, read by v
+map_from_collect : {S A B E : Type 0} {steps : S → Option A → S → Type 0} {v : A → B} {s : S} {all : List B} (r : Result (SmallVec A) E) → IfOk r (λ w. (xs : List A) × DrainsIf steps ⊤ s xs × (w.items ≡ xs)) → YieldsList steps v s all → IfOk r (λ w. map v w.items ≡ all)
+map_from_collect {S} {A} {B} {E} {steps} {v} (Ok w) ran road = ap (map v) ran.2 ∙ items_from_drains ran.0 ran.1 road
+map_from_collect (Err x) ran road = tt
 
 -- the chain cuts the line where a byte parts words, and keeps the pieces that aren't empty
 pub returns : goal.returns
