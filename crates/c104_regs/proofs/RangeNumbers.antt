@@ -10,13 +10,13 @@ use Rattle.c104_regs.specs.Addresses.{IsRegister, register_takes}
 use Rattle.c104_regs.specs.declared.addresses.Register.TheVariants.{Mode, Base, Limit, Select}
 use Rattle.c104_regs.specs.Ranges.{IsInRange, IsTableInRange}
 use Rattle.c104_regs.specs.Settings.{Settings, plain_settings}
-use Rattle.c104_regs.specs.Values.{bit_value, register_read, reset_status, select_code, select_of}
+use Rattle.c104_regs.specs.Values.{bit_value, register_read, select_code, select_of}
 use Rattle.c104_regs.proofs.ValueLemmas.{by_writable}
 
--- what a row may select for now: a link that there is, or the sink
+-- what a row may select: a link that there is, to discard the header, or the sink
 abbrev pub IsSelectable : interval.Select → Type 0
 IsSelectable (Link l) = l < 32
-IsSelectable Discard = ⊥
+IsSelectable Discard = Unit {0}
 IsSelectable Sink = Unit {0}
 
 -- the numbers of a table
@@ -28,12 +28,12 @@ pub record AreTableNumbers (t : Table) : Type 0 where
 
 selectable_takes : (k : ℕ) (x : interval.Select) → IsSelectable x → IsTrue (register_takes (Select k) (select_code x))
 selectable_takes k (Link l) is = grind (arith, nat_tests)
-selectable_takes k Discard is = absurd is
+selectable_takes k Discard is = refl
 selectable_takes k Sink is = refl
 
 selectable_decoded : (x : interval.Select) → IsSelectable x → select_of (select_code x) ≡ x
 selectable_decoded (Link l) is = let small : nat_lt l 32 ≡ true = grind (arith, nat_tests) in rw small refl
-selectable_decoded Discard is = absurd is
+selectable_decoded Discard is = refl
 selectable_decoded Sink is = refl
 
 -- a table of such numbers is within the ranges of its registers
@@ -50,42 +50,34 @@ IsTableInRange-from t numbers = record {
   rows = numbers.rows;
 }
 
--- one-byte headers and no random ones leave of the mode deletion and the group
-mode_takes : (deletes continues : Bool) → IsTrue (register_takes Mode (bit_value false 1 + bit_value deletes 2 + bit_value false 4 + bit_value continues 8))
-mode_takes false false = refl
-mode_takes false true = refl
-mode_takes true false = refl
-mode_takes true true = refl
+-- four bits make a mode
+mode_takes : (two_byte deletes randomize continues : Bool) → IsTrue (register_takes Mode (bit_value two_byte 1 + bit_value deletes 2 + bit_value randomize 4 + bit_value continues 8))
+mode_takes false false false false = refl
+mode_takes false false false true = refl
+mode_takes false false true false = refl
+mode_takes false false true true = refl
+mode_takes false true false false = refl
+mode_takes false true false true = refl
+mode_takes false true true false = refl
+mode_takes false true true true = refl
+mode_takes true false false false = refl
+mode_takes true false false true = refl
+mode_takes true false true false = refl
+mode_takes true false true true = refl
+mode_takes true true false false = refl
+mode_takes true true false true = refl
+mode_takes true true true false = refl
+mode_takes true true true true = refl
 
--- settings with such a table, one-byte headers and no random ones
-pub IsInRange-from : (s : Settings) → s.two_byte ≡ false → s.randomize ≡ false → s.random_base < 65536 → s.random_range ≤ 65536 → IsTableInRange s.table → IsInRange s
-IsInRange-from s one_byte plain base range table = record {
+-- settings with such a table
+pub IsInRange-from : (s : Settings) → s.random_base < 65536 → s.random_range ≤ 65536 → IsTableInRange s.table → IsInRange s
+IsInRange-from s base range table = record {
   takes = λ status r is writable.
       by_writable (λ r. IsRegister r → IsTrue (register_takes r (register_read s status r)))
-      (λ _. rw (one_byte, plain) (mode_takes s.delete_header s.continue_group))
+      (λ _. mode_takes s.two_byte s.delete_header s.randomize s.continue_group)
       (λ _. grind (arith, nat_tests)) (λ _. grind (arith, nat_tests))
       (λ is. table.takes status Base is refl) (λ k is. table.takes status (Limit k) is refl) (λ k is. table.takes status (Select k) is refl)
       r writable is;
   selects = table.selects;
   rows = table.rows;
 }
-
--- the two tests of a mode tell of two of its bits
-mode_tests : (two_byte deletes randomize continues : Bool) → IsTrue (register_takes Mode (bit_value two_byte 1 + bit_value deletes 2 + bit_value randomize 4 + bit_value continues 8)) → (two_byte ≡ false) × (randomize ≡ false)
-mode_tests false deletes false continues fits = (refl, refl)
-mode_tests true false false false fits = cc
-mode_tests true false false true fits = cc
-mode_tests true false true false fits = cc
-mode_tests true false true true fits = cc
-mode_tests true true false false fits = cc
-mode_tests true true false true fits = cc
-mode_tests true true true false fits = cc
-mode_tests true true true true fits = cc
-mode_tests false false true false fits = cc
-mode_tests false false true true fits = cc
-mode_tests false true true false fits = cc
-mode_tests false true true true fits = cc
-
--- for now headers have one byte, and none are random
-pub plain_headers : (s : Settings) → IsInRange s → (s.two_byte ≡ false) × (s.randomize ≡ false)
-plain_headers s kept = mode_tests s.two_byte s.delete_header s.randomize s.continue_group (kept.takes reset_status Mode tt refl)

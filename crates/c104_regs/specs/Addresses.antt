@@ -68,15 +68,13 @@ is_writable_address DeviceId = false
 is_writable_address Started = false
 is_writable_address (AtLink l r) = (register_properties r).is_writable
 
--- whether register r may be set to v. Of the numbers that are no links a row can select the sink's
--- alone. For now the one to discard is refused there, and so is a mode with two-byte headers (bit 0) or
--- random headers (bit 2).
+-- whether register r may be set to v. Of the numbers that are no links a row can select that to discard and the
+-- sink's.
 abbrev pub register_takes : Register → ℕ → Bool
 register_takes r v = nat_le v (register_properties r).greatest && is_open r v
   where
     is_open : Register → ℕ → Bool
-    is_open Mode v = v % 2 == 0 && (v / 4) % 2 == 0
-    is_open (Select k) v = nat_lt v LINKS || v == SINK_CODE
+    is_open (Select k) v = nat_le v LINKS || v == SINK_CODE
     is_open r v = true
 
 -- the registers that stand at the first offsets, in order

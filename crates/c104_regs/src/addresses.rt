@@ -121,18 +121,16 @@ impl Register {
         }
     }
 
-    /// Whether a register that can be written may be set to this value. For now this is the one
-    /// place that refuses two-byte headers and random headers, bits 0 and 2 of the mode, and a row
-    /// that discards, 32.
+    /// Whether a register that can be written may be set to this value.
     pub fn takes(self, value: u32) -> bool
         requires { IsTrue (register_properties self).is_writable }
         ensures { result ≡ register_takes self value }
     {
         match self {
-            Register::Mode => value <= 0x0f && value % 2 == 0 && value / 4 % 2 == 0,
+            Register::Mode => value <= 0x0f,
             Register::RandomBase | Register::Base => value <= 0xffff,
             Register::RandomRange | Register::Limit(_) => value <= 0x10000,
-            Register::Select(_) => value < DISCARD_CODE || value == SINK_CODE,
+            Register::Select(_) => value <= DISCARD_CODE || value == SINK_CODE,
             _ => false,
         }
     }
