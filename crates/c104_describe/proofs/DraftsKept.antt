@@ -16,7 +16,7 @@ use Rattle.c104_describe.specs.PlanDrafts.{Draft, finished, has_settings, has_so
 use Rattle.c104_describe.specs.PlanLines.{after_from, header_line, buffer_line, label_line, in_draft, keyword_line, read_plan_words, read_plan_line, terminal_line}
 use Rattle.c104_describe.specs.PlanText.{draft_after_line, empty_draft, read_plan_lines}
 use Rattle.c104_describe.proofs.PlanKept.{with_header, with_buffer}
-use Rattle.c104_describe.proofs.PlanLinesKept.{IsBeside, IsHosting, IsNext, given, held, named_switch, number_within-is, switch_line-kept, terminal_line-kept, wire_line-kept, continue_line-kept, delete_line-kept, base_line-kept, row_line-kept, mesh_line-kept, cube_line-kept}
+use Rattle.c104_describe.proofs.PlanLinesKept.{IsBeside, IsHosting, IsNext, given, held, named_switch, number_within-is, switch_line-kept, terminal_line-kept, wire_line-kept, continue_line-kept, delete_line-kept, base_line-kept, row_line-kept, random_line-kept, mesh_line-kept, cube_line-kept}
 use Rattle.c104_describe.proofs.PlanRooted.{rooted_kept}
 
 -- with a root a plan is one that is made line by line, without `from` and without what labellers set
@@ -122,7 +122,7 @@ module _ (draft next : Draft) (all : IsDraft draft) where
           more = omega arith;
           terminals = refl;
         },
-        λ unset. record { continues = unset.continues; bases = unset.bases; rows = unset.rows },
+        λ unset. record { continues = unset.continues; bases = unset.bases; rows = unset.rows; randoms = unset.randoms },
       ))))
 
   buffer_line-kept : (word : List ℕ) → buffer_line draft word ≡ Ok next → IsDraft next
@@ -139,7 +139,7 @@ module _ (draft next : Draft) (all : IsDraft draft) where
           more = omega arith;
           terminals = refl;
         },
-        λ unset. record { continues = unset.continues; bases = unset.bases; rows = unset.rows },
+        λ unset. record { continues = unset.continues; bases = unset.bases; rows = unset.rows; randoms = unset.randoms },
       )))))
 
   label_line-kept : (style name : List ℕ) → draft.plan.shape ≡ Hand → draft.from_said ≡ false → IsUnset draft.plan → label_line draft style name ≡ Ok next → IsDraft next
@@ -174,12 +174,14 @@ module _ (draft next : Draft) (all : IsDraft draft) where
   labelling style name goes is =
       let parts = or_parts (not (is_by_hand draft.plan.shape)) (draft.from_said || has_settings draft.plan) goes in
       let rest = or_parts draft.from_said (has_settings draft.plan) parts.1 in
-      let set = or_parts (has_some draft.plan.continues) (has_some draft.plan.bases || has_some draft.plan.rows) rest.1 in
-      let last = or_parts (has_some draft.plan.bases) (has_some draft.plan.rows) set.1 in
+      let set = or_parts (has_some draft.plan.continues) (has_some draft.plan.bases || (has_some draft.plan.rows || has_some draft.plan.randoms)) rest.1 in
+      let tables = or_parts (has_some draft.plan.bases) (has_some draft.plan.rows || has_some draft.plan.randoms) set.1 in
+      let last = or_parts (has_some draft.plan.rows) (has_some draft.plan.randoms) tables.1 in
       label_line-kept style name (by_hand draft.plan.shape parts.0) rest.0 (record {
         continues = has_none draft.plan.continues set.0;
-        bases = has_none draft.plan.bases last.0;
-        rows = has_none draft.plan.rows last.1;
+        bases = has_none draft.plan.bases tables.0;
+        rows = has_none draft.plan.rows last.0;
+        randoms = has_none draft.plan.randoms last.1;
       }) is
 
   keyword_line-kept : (k : Keyword) (rest : List (List ℕ)) → is_mixed draft k rest ≡ false → keyword_line k draft rest ≡ Ok next → IsDraft next
@@ -214,6 +216,11 @@ module _ (draft next : Draft) (all : IsDraft draft) where
   keyword_line-kept keyword.Row (a ∷ b ∷ []) goes is = cc
   keyword_line-kept keyword.Row (at ∷ limit ∷ select ∷ []) goes is = setting goes _ is (λ plan hand made. row_line-kept draft.plan plan all.kept hand at limit select made)
   keyword_line-kept keyword.Row (a ∷ b ∷ c ∷ d ∷ more) goes is = cc
+  keyword_line-kept keyword.Random [] goes is = cc
+  keyword_line-kept keyword.Random (a ∷ []) goes is = cc
+  keyword_line-kept keyword.Random (a ∷ b ∷ []) goes is = cc
+  keyword_line-kept keyword.Random (at ∷ base ∷ range ∷ []) goes is = setting goes _ is (λ plan hand made. random_line-kept draft.plan plan all.kept hand at base range made)
+  keyword_line-kept keyword.Random (a ∷ b ∷ c ∷ d ∷ more) goes is = cc
   keyword_line-kept keyword.Label [] goes is = cc
   keyword_line-kept keyword.Label (a ∷ []) goes is = cc
   keyword_line-kept keyword.Label (style ∷ name ∷ []) goes is = labelling style name goes is
@@ -288,7 +295,7 @@ empty-kept = record {
     deletes = record { known = All-nil _; once = tt };
     bases = record { of_inputs = All-nil _; ranges = All-nil _; once = tt };
     rows = record { of_inputs = All-nil _; ranges = All-nil _; few = λ p. lit≤ tt };
-    randoms = refl;
+    randoms = record { of_inputs = All-nil _; ranges = All-nil _; once = tt };
   };
   counted = λ none hand. refl;
   rooted = tt;

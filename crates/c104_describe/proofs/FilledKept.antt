@@ -10,7 +10,7 @@ use Rattle.c104_describe.specs.declared.plans.Shape.TheVariants.{Mesh, Cube}
 use Rattle.c104_describe.specs.Ports.{Port, IsSwitchPort}
 use Rattle.c104_describe.specs.Layouts.{Layout, IsCube, IsMesh, cube, mesh, filled_name, filled_switches, filled_terminal, filled_terminals, filled_wires, wire_at, wire_to, wires_from}
 use Rattle.c104_describe.specs.PlanLines.{filled_plan}
-use Rattle.c104_describe.specs.Plans.{Plan, PlanBase, PlanRow, Shape, Terminal, AreBases, AreContinues, AreDeletes, AreRows, AreTerminals, IsLaterPort, IsOfShape, IsPlan, IsPlanWire, IsRange, IsUnset, host_port, rows_of}
+use Rattle.c104_describe.specs.Plans.{Plan, PlanBase, PlanRandom, PlanRow, Shape, Terminal, AreBases, AreContinues, AreDeletes, AreRandoms, AreRows, AreTerminals, IsLaterPort, IsOfShape, IsPlan, IsPlanWire, IsRange, IsUnset, host_port, rows_of}
 use Rattle.c104_describe.proofs.FilledLinks.{filled_links}
 use Rattle.c104_describe.proofs.FilledNames.{filled_names}
 use Rattle.c104_describe.proofs.LayoutJoins.{AreJoined, IsJoined, cube_is, mesh_is}
@@ -49,6 +49,7 @@ module _ (plan : Plan) (kept : IsPlan plan) (none : plan.switches ≡ []) where
     continues = none_at (λ p. p) plan.continues (All-weaker (IsLaterPort 0) (IsSwitchPort 0) later_one plan.continues (subst (λ n. All (IsLaterPort n) plan.continues) no_count kept.continues.later));
     bases = none_at (λ (b : PlanBase). b.port) plan.bases (subst (λ n. All (λ (b : PlanBase). IsSwitchPort n b.port) plan.bases) no_count kept.bases.of_inputs);
     rows = none_at (λ (r : PlanRow). r.port) plan.rows (subst (λ n. All (λ (r : PlanRow). IsSwitchPort n r.port) plan.rows) no_count kept.rows.of_inputs);
+    randoms = none_at (λ (r : PlanRandom). r.port) plan.randoms (subst (λ n. All (λ (r : PlanRandom). IsSwitchPort n r.port) plan.randoms) no_count kept.randoms.of_inputs);
   }
 
 no_continues : (n : ℕ) → AreContinues n []
@@ -63,6 +64,9 @@ no_bases n = record { of_inputs = All-nil _; ranges = All-nil _; once = tt }
 no_rows : (n : ℕ) → AreRows n []
 unfolding rows_of
 no_rows n = record { of_inputs = All-nil _; ranges = All-nil _; few = λ p. lit≤ tt }
+
+no_randoms : (n : ℕ) → AreRandoms n []
+no_randoms n = record { of_inputs = All-nil _; ranges = All-nil _; once = tt }
 
 -- What a layout gives
 
@@ -110,13 +114,13 @@ module _ (layout : Layout) (p : ℕ) (joined : AreJoined layout) (some : 0 < p) 
         deletes = subst (AreDeletes (length (filled_terminals layout p))) (sym (no_deletes plan kept none)) (none_deleted (length (filled_terminals layout p)));
         bases = subst (AreBases n) (sym unset.bases) (no_bases n);
         rows = subst (AreRows n) (sym unset.rows) (no_rows n);
-        randoms = kept.randoms;
+        randoms = subst (AreRandoms n) (sym unset.randoms) (no_randoms n);
       }
 
 module _ (plan : Plan) (kept : IsPlan plan) (none : plan.switches ≡ []) where
   -- a record rebuilt for the filled plan, of which these lists are as they were
   unset_in : (shape : Shape) (layout : Layout) (p : ℕ) → IsUnset (filled_plan shape layout p plan)
-  unset_in shape layout p = let unset = nothing_set plan kept none in record { continues = unset.continues; bases = unset.bases; rows = unset.rows }
+  unset_in shape layout p = let unset = nothing_set plan kept none in record { continues = unset.continues; bases = unset.bases; rows = unset.rows; randoms = unset.randoms }
 
   pub mesh_kept : (w h p : ℕ) → IsMesh w h p → IsPlan (filled_plan (Mesh w h p) (mesh w h) p plan)
   mesh_kept w h p is =

@@ -1,5 +1,5 @@
 -- What is set at the links of switches whose tables are given.
-use Rattle.std.proofs.Common.{◌≡◌, ℕ, ◌<◌, Bool, true, false, if◌then◌else◌, List, length, map, get_or, All, refl, ap, ◌∙◌, arith, lit<, lit≤, is_some}
+use Rattle.std.proofs.Common.{◌≡◌, ℕ, ◌<◌, Bool, true, false, if◌then◌else◌, List, length, map, get_or, All, ap, ◌∙◌, arith, is_some}
 use Rattle.std.proofs.lemmas.List.{get_or_default}
 use Rattle.std.proofs.lemmas.List.Elements.{All-map, All-same}
 use Rattle.std.proofs.lemmas.List.FromFn.{get_or-range_with_len, length-range_with_len, length-map-range_with_len}
@@ -15,7 +15,7 @@ use Rattle.c104_describe.specs.Plans.{IsPlan, IsRange, Plan}
 use Rattle.c104_describe.specs.PlanImage.{AreSettings, Fits, Image, IsImage, settings_of}
 use Rattle.c104_describe.specs.Wiring.{peer}
 use Rattle.c104_describe.specs.LabelledImages.{labelled_settings, labelled_switch, table_in}
-use Rattle.c104_describe.proofs.PlanSettings.{no_random, one_byte, settings_in_range}
+use Rattle.c104_describe.proofs.PlanSettings.{random_in_range, settings_in_range}
 
 -- what is set at a link of a switch with a table
 abbrev pub labelled_at : Plan → Table → ℕ → ℕ → Settings
@@ -27,9 +27,9 @@ unfolding labelled_switch
 labelled_last plan table switch links all = ap (λ n. map (labelled_at plan table switch) (range_with_len 0 n)) all
 
 with_table_in_range : (plan : Plan) (p : Port) (table : Table) → IsPlan plan → IsTableInRange table → IsInRange (record (settings_of plan p) { table = table })
-unfolding settings_of
 with_table_in_range plan p table kept within =
-    rw (no_random plan p kept) (IsInRange-from _ (one_byte plan p kept) refl (lit< tt) (lit≤ tt) within)
+    let numbers = random_in_range plan p kept in
+    IsInRange-from (record (settings_of plan p) { table = table }) numbers.0 numbers.1 within
 
 if_in_range : (used : Bool) (a b : Settings) → IsInRange a → IsInRange b → IsInRange (if used then a else b)
 if_in_range true a b here there = here

@@ -9,7 +9,7 @@ use Rattle.std.proofs.lemmas.Slice.Eq.{bytes_eq-Decides}
 use Rattle.std.proofs.lemmas.List.Quantifiers.{position-Some}
 use Rattle.c104_interval.specs.declared.intervals.TheConstants.{ROWS}
 use Rattle.c104_interval.specs.declared.intervals.Select.{Select}
-use Rattle.c104_interval.specs.declared.intervals.Select.TheVariants.{Link, Sink}
+use Rattle.c104_interval.specs.declared.intervals.Select.TheVariants.{Link, Discard, Sink}
 use Rattle.c104_describe.specs.declared.ports.Port.TheVariants as port
 use Rattle.c104_describe.specs.declared.words.Keyword.TheVariants as keyword
 use Rattle.c104_describe.specs.declared.faults.PlanFaultKind.TheVariants.{BadName, BadNumber, BadShape, LinkTaken, MixedStyle, NameTaken, SelfWire, TooMany, Twice, UnknownName, UnknownWord}
@@ -17,11 +17,11 @@ use Rattle.c104_describe.specs.TextCut.{uncommented_line, line_words, is_plain_l
 use Rattle.c104_describe.specs.TextWords.{read_number, is_name}
 use Rattle.c104_describe.specs.PlanFaults.{PlanFaultKind}
 use Rattle.c104_describe.specs.Ports.{Port, is_any_at}
-use Rattle.c104_describe.specs.Plans.{Plan, PlanBase, switch_number, terminal_number, is_taken, is_linked, is_continued, is_deleted, rows_of, next_first, most_switches, most_terminals, most_header_bytes, label_count, last_link, is_buffer_size}
+use Rattle.c104_describe.specs.Plans.{Plan, PlanBase, PlanRandom, switch_number, terminal_number, is_taken, is_linked, is_continued, is_deleted, rows_of, next_first, most_switches, most_terminals, most_header_bytes, label_count, last_link, is_buffer_size}
 use Rattle.c104_describe.specs.Checks.{◌>>=◌, ◌>>◌, require, value_or_fault}
 use Rattle.c104_describe.specs.PlanWords.{Keyword, keyword_of, range_words, select_word, number_within}
 use Rattle.c104_describe.specs.PlanDrafts.{Draft, is_mixed}
-use Rattle.c104_describe.specs.PlanLines.{label_line, mesh_line, cube_line, after_from, switch_line, terminal_line, wire_line, continue_line, delete_line, base_line, row_line, header_line, buffer_line, in_draft, keyword_line, read_plan_words, read_plan_line}
+use Rattle.c104_describe.specs.PlanLines.{label_line, mesh_line, cube_line, after_from, switch_line, terminal_line, wire_line, continue_line, delete_line, base_line, row_line, random_line, header_line, buffer_line, in_draft, keyword_line, read_plan_words, read_plan_line}
 use Rattle.c104_describe.specs.LineFaults.{LineParts, keyword_parts, terminal_parts, first_word_parts, line_parts, port_name, port_link, named_port, names_port, row_count, number_said, value_said, is_from_to, is_bad_number, selected_link, has_fault, IsLeastFault, IsFaultless}
 use Rattle.c104_describe.proofs.FaultOrder.{all_faults, applies, none_lesser, none_at_all}
 use Rattle.c104_describe.proofs.MixedLast.{first_fault, mixed_last}
@@ -82,11 +82,13 @@ module _ (plan : Plan) (at : List ℕ) (switch link : ℕ) (known : switch_numbe
 -- what a row selects
 select : {Y : Type 0} (later : Bool) (rest : Option PlanFaultKind) (word : List ℕ) (f : Select → Result Y PlanFaultKind) → ((s : Select) → error_of (f s) ≡ (if later then Some BadNumber else rest))
     → error_of (select_word word >>= f) ≡ (if is_bad_number (selected_link word) (is_from_to 0 last_link) || later then Some BadNumber else rest)
-select later rest word f go = by_test (bytes_eq word (codes "sink"))
+select later rest word f go = by_test (bytes_eq word (codes "sink")) (bytes_eq word (codes "discard"))
   where
-    by_test : (b : Bool) → error_of ((if b then Ok Sink else (number_within 0 last_link word >>= λ link. Ok (Link link))) >>= f) ≡ (if is_bad_number (if b then None else Some word) (is_from_to 0 last_link) || later then Some BadNumber else rest)
-    by_test true = go Sink
-    by_test false =
+    by_test : (sinks discards : Bool) → error_of ((if sinks then Ok Sink else (if discards then Ok Discard else (number_within 0 last_link word >>= λ link. Ok (Link link)))) >>= f)
+        ≡ (if is_bad_number (if sinks || discards then None else Some word) (is_from_to 0 last_link) || later then Some BadNumber else rest)
+    by_test true discards = go Sink
+    by_test false true = go Discard
+    by_test false false =
         ap error_of (after_both (number_within 0 last_link word) (λ link. Link link) f)
         ∙ number later rest 0 last_link word (λ link. f (Link link)) (λ link is within. go (Link link))
 
@@ -204,6 +206,19 @@ module _ (draft : Draft) where
       holds_as _ _ (nat_lt (length (rows_of (port.Switch switch link) draft.plan.rows)) ROWS) (nat_lt ROWS (row_count draft.plan at + 1)) TooMany _
       (ap (λ n. nat_lt ROWS (n + 1)) (counted draft.plan at switch link known is) ∙ one_more _ _) (λ room. refl)))))))
 
+  random_law : (at base range : List ℕ) → error_of (in_draft draft (random_line draft.plan at base range)) ≡ of_keyword (keyword_parts draft keyword.Random (at ∷ base ∷ range ∷ []))
+  random_law at base range =
+      of_draft draft _
+      ∙ port_first at _
+      ∙ cut _ _ at _ (
+      number _ _ 0 last_link (port_link at) _ (λ link is within.
+      number _ _ 0 0xffff base _ (λ first begins low.
+      number _ _ 0 label_count range _ (λ count counts few.
+      holds _ _ (is_name (port_name at)) BadName _ (λ named.
+      value _ _ (switch_number draft.plan (port_name at)) UnknownName _ (λ switch known.
+      lone _ (is_any_at (λ (r : PlanRandom). r.port) draft.plan.randoms (port.Switch switch link)) (names_port draft.plan (is_any_at (λ (r : PlanRandom). r.port) draft.plan.randoms) at) Twice _
+      (names draft.plan at switch link known is (is_any_at (λ (r : PlanRandom). r.port) draft.plan.randoms)) refl))))))
+
   label_law : (style name : List ℕ) → error_of (label_line draft style name) ≡ of_keyword (keyword_parts draft keyword.Label (style ∷ name ∷ []))
   label_law style name =
       holds _ _ (bytes_eq style (codes "tree")) BadShape _ (λ shaped.
@@ -249,6 +264,7 @@ module _ (draft : Draft) where
   keyword_law keyword.Delete (name ∷ []) = delete_law name
   keyword_law keyword.Base (at ∷ base ∷ []) = base_law at base
   keyword_law keyword.Row (at ∷ limit ∷ word ∷ []) = row_law at limit word
+  keyword_law keyword.Random (at ∷ base ∷ range ∷ []) = random_law at base range
   keyword_law keyword.Label (style ∷ name ∷ []) = label_law style name
   keyword_law keyword.Mesh (width ∷ height ∷ terminals ∷ []) = mesh_law width height terminals
   keyword_law keyword.Cube (dimensions ∷ terminals ∷ []) = cube_law dimensions terminals

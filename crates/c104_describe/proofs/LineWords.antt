@@ -16,6 +16,7 @@ more_words keyword.Continue draft a b c d more other = refl
 more_words keyword.Delete draft a b c d more other = refl
 more_words keyword.Base draft a b c d more other = refl
 more_words keyword.Row draft a b c d more other = refl
+more_words keyword.Random draft a b c d more other = refl
 more_words keyword.Label draft a b c d more other = refl
 more_words keyword.Mesh draft a b c d more other = refl
 more_words keyword.Cube draft a b c d more other = refl

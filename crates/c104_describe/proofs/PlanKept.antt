@@ -11,7 +11,7 @@ use Rattle.c104_describe.specs.TextWords.{is_name}
 use Rattle.c104_describe.specs.declared.ports.Port.TheVariants as port
 use Rattle.c104_describe.specs.Ports.{Port, Wire, is_port, both_ends, is_any_at, IsSwitchPort}
 use Rattle.c104_describe.specs.declared.plans.Shape.TheVariants.{Hand, Tree, Mesh, Cube}
-use Rattle.c104_describe.specs.Plans.{Plan, PlanBase, PlanRow, Shape, Terminal, IsOfShape, IsPlan, AreNames, AreTerminals, AreContinues, AreDeletes, AreBases, AreRows, IsPlanWire, IsLaterPort, IsRange, IsPlanSelect, names, host_port, linked_ports, is_taken, is_linked, is_continued, is_deleted, is_row_of, rows_of, is_buffer_size, label_count, most_switches, most_terminals, most_header_bytes}
+use Rattle.c104_describe.specs.Plans.{Plan, PlanBase, PlanRandom, PlanRow, Shape, Terminal, IsOfShape, IsPlan, AreNames, AreTerminals, AreContinues, AreDeletes, AreBases, AreRandoms, AreRows, IsPlanWire, IsLaterPort, IsRange, IsPlanSelect, names, host_port, linked_ports, is_taken, is_linked, is_continued, is_deleted, is_row_of, rows_of, is_buffer_size, label_count, most_switches, most_terminals, most_header_bytes}
 use Rattle.c104_describe.proofs.Distinct.{distinct_inserted, distinct_pushed}
 use Rattle.c104_describe.proofs.PortLemmas.{is_port-flips, is_port-true, once-pushed}
 
@@ -60,6 +60,13 @@ module _ (m n : ℕ) (more : m ≤ n) where
     few = are.few;
   }
 
+  randoms_of_more : (randoms : List PlanRandom) → AreRandoms m randoms → AreRandoms n randoms
+  randoms_of_more randoms are = record {
+    of_inputs = All-weaker (λ (r : PlanRandom). IsSwitchPort m r.port) (λ (r : PlanRandom). IsSwitchPort n r.port) (λ (r : PlanRandom) is. port_of_more r.port is) randoms are.of_inputs;
+    ranges = are.ranges;
+    once = are.once;
+  }
+
 -- the shape of a plan that is made line by line says nothing of it
 by_hand : (shape : Shape) (plan : Plan) → shape ≡ Hand → IsOfShape shape plan
 by_hand shape plan hand = subst (λ s. IsOfShape s plan) (sym hand) tt
@@ -91,7 +98,7 @@ module _ (plan : Plan) (kept : IsPlan plan) where
         deletes = kept.deletes;
         bases = bases_of_more _ _ more plan.bases kept.bases;
         rows = rows_of_more _ _ more plan.rows kept.rows;
-        randoms = kept.randoms;
+        randoms = randoms_of_more _ _ more plan.randoms kept.randoms;
       }
 
   names-terminal : (t : Terminal) → names plan.switches (plan.terminals ++ t ∷ []) ≡ names plan.switches plan.terminals ++ t.name ∷ []
@@ -167,13 +174,13 @@ module _ (plan : Plan) (kept : IsPlan plan) where
   -- what its shape says doesn't hang on its header length, its buffer size and its deletes
   of_shape : (header cap : ℕ) (deletes : List ℕ) (shape : Shape) → IsOfShape shape plan → IsOfShape shape (record plan { header = header; cap = cap; deletes = deletes })
   of_shape header cap deletes Hand is = tt
-  of_shape header cap deletes (Tree root) is = record { inside = is.inside; firsts = is.firsts; counts = is.counts; unset = record { continues = is.unset.continues; bases = is.unset.bases; rows = is.unset.rows } }
-  of_shape header cap deletes (Mesh w h p) is = (is.0, record { switches = is.1.switches; terminals = is.1.terminals; wires = is.1.wires; unset = record { continues = is.1.unset.continues; bases = is.1.unset.bases; rows = is.1.unset.rows } })
-  of_shape header cap deletes (Cube d p) is = (is.0, record { switches = is.1.switches; terminals = is.1.terminals; wires = is.1.wires; unset = record { continues = is.1.unset.continues; bases = is.1.unset.bases; rows = is.1.unset.rows } })
+  of_shape header cap deletes (Tree root) is = record { inside = is.inside; firsts = is.firsts; counts = is.counts; unset = record { continues = is.unset.continues; bases = is.unset.bases; rows = is.unset.rows; randoms = is.unset.randoms } }
+  of_shape header cap deletes (Mesh w h p) is = (is.0, record { switches = is.1.switches; terminals = is.1.terminals; wires = is.1.wires; unset = record { continues = is.1.unset.continues; bases = is.1.unset.bases; rows = is.1.unset.rows; randoms = is.1.unset.randoms } })
+  of_shape header cap deletes (Cube d p) is = (is.0, record { switches = is.1.switches; terminals = is.1.terminals; wires = is.1.wires; unset = record { continues = is.1.unset.continues; bases = is.1.unset.bases; rows = is.1.unset.rows; randoms = is.1.unset.randoms } })
 
   -- the same switches, terminals and wires, and what else is said of them
-  with_settings : {header cap : ℕ} {continues : List Port} {deletes : List ℕ} {bases : List PlanBase} {rows : List PlanRow} → IsOfShape plan.shape (record plan { header = header; cap = cap; continues = continues; deletes = deletes; bases = bases; rows = rows }) → (0 < header) × (header ≤ most_header_bytes) → is_buffer_size cap ≡ true → AreContinues (length plan.switches) continues → AreDeletes (length plan.terminals) deletes → AreBases (length plan.switches) bases → AreRows (length plan.switches) rows → IsPlan (record plan { header = header; cap = cap; continues = continues; deletes = deletes; bases = bases; rows = rows })
-  with_settings shape header cap continues deletes bases rows = record {
+  with_settings : {header cap : ℕ} {continues : List Port} {deletes : List ℕ} {bases : List PlanBase} {rows : List PlanRow} {randoms : List PlanRandom} → IsOfShape plan.shape (record plan { header = header; cap = cap; continues = continues; deletes = deletes; bases = bases; rows = rows; randoms = randoms }) → (0 < header) × (header ≤ most_header_bytes) → is_buffer_size cap ≡ true → AreContinues (length plan.switches) continues → AreDeletes (length plan.terminals) deletes → AreBases (length plan.switches) bases → AreRows (length plan.switches) rows → AreRandoms (length plan.switches) randoms → IsPlan (record plan { header = header; cap = cap; continues = continues; deletes = deletes; bases = bases; rows = rows; randoms = randoms })
+  with_settings shape header cap continues deletes bases rows randoms = record {
     header = header;
     cap = cap;
     shape = shape;
@@ -186,28 +193,28 @@ module _ (plan : Plan) (kept : IsPlan plan) where
     deletes = deletes;
     bases = bases;
     rows = rows;
-    randoms = kept.randoms;
+    randoms = randoms;
   }
 
   pub with_continue : (p : Port) → plan.shape ≡ Hand → IsLaterPort (length plan.switches) p → is_continued plan p ≡ false → IsPlan (record plan { continues = plan.continues ++ p ∷ [] })
   with_continue p hand later once = with_settings (by_hand plan.shape _ hand) kept.header kept.cap (record {
     later = All-push (IsLaterPort (length plan.switches)) plan.continues p kept.continues.later later;
     once = once-pushed (λ q. q) plan.continues p once kept.continues.once;
-  }) kept.deletes kept.bases kept.rows
+  }) kept.deletes kept.bases kept.rows kept.randoms
 
   pub with_delete : (terminal : ℕ) → terminal < length plan.terminals → is_deleted plan terminal ≡ false → IsPlan (record plan { deletes = plan.deletes ++ terminal ∷ [] })
   unfolding is_deleted
   with_delete terminal known once = with_settings (of_shape plan.header plan.cap (plan.deletes ++ terminal ∷ []) plan.shape kept.shape) kept.header kept.cap kept.continues (record {
     known = All-push (λ t. t < length plan.terminals) plan.deletes terminal kept.deletes.known known;
     once = distinct_pushed (λ t u. t == u) plan.deletes terminal once kept.deletes.once;
-  }) kept.bases kept.rows
+  }) kept.bases kept.rows kept.randoms
 
   pub with_base : (b : PlanBase) → plan.shape ≡ Hand → IsSwitchPort (length plan.switches) b.port → b.base < label_count → is_any_at (λ (c : PlanBase). c.port) plan.bases b.port ≡ false → IsPlan (record plan { bases = plan.bases ++ b ∷ [] })
   with_base b hand of_input range once = with_settings (by_hand plan.shape _ hand) kept.header kept.cap kept.continues kept.deletes (record {
     of_inputs = All-push (λ (c : PlanBase). IsSwitchPort (length plan.switches) c.port) plan.bases b kept.bases.of_inputs of_input;
     ranges = All-push (λ (c : PlanBase). c.base < label_count) plan.bases b kept.bases.ranges range;
     once = once-pushed (λ (c : PlanBase). c.port) plan.bases b once kept.bases.once;
-  }) kept.rows
+  }) kept.rows kept.randoms
 
   few-row_by : (r : PlanRow) (p : Port) (same : Bool) → is_port r.port p ≡ same → length (rows_of r.port plan.rows) < 36 → length (rows_of p plan.rows ++ cond same (r ∷ []) []) ≤ 36
   few-row_by r p true is room =
@@ -224,10 +231,17 @@ module _ (plan : Plan) (kept : IsPlan plan) where
     of_inputs = All-push (λ (q : PlanRow). IsSwitchPort (length plan.switches) q.port) plan.rows r kept.rows.of_inputs of_input;
     ranges = All-push (λ (q : PlanRow). (q.limit ≤ label_count) × IsPlanSelect q.select) plan.rows r kept.rows.ranges (limit, selectable);
     few = λ p. few-row r p room;
+  }) kept.randoms
+
+  pub with_random : (r : PlanRandom) → plan.shape ≡ Hand → IsSwitchPort (length plan.switches) r.port → r.base < label_count → r.range ≤ label_count → is_any_at (λ (q : PlanRandom). q.port) plan.randoms r.port ≡ false → IsPlan (record plan { randoms = plan.randoms ++ r ∷ [] })
+  with_random r hand of_input base range once = with_settings (by_hand plan.shape _ hand) kept.header kept.cap kept.continues kept.deletes kept.bases kept.rows (record {
+    of_inputs = All-push (λ (q : PlanRandom). IsSwitchPort (length plan.switches) q.port) plan.randoms r kept.randoms.of_inputs of_input;
+    ranges = All-push (λ (q : PlanRandom). (q.base < label_count) × (q.range ≤ label_count)) plan.randoms r kept.randoms.ranges (base, range);
+    once = once-pushed (λ (q : PlanRandom). q.port) plan.randoms r once kept.randoms.once;
   })
 
   pub with_header : (bytes : ℕ) → 0 < bytes → bytes ≤ most_header_bytes → IsPlan (record plan { header = bytes })
-  with_header bytes some few = with_settings (of_shape bytes plan.cap plan.deletes plan.shape kept.shape) (some, few) kept.cap kept.continues kept.deletes kept.bases kept.rows
+  with_header bytes some few = with_settings (of_shape bytes plan.cap plan.deletes plan.shape kept.shape) (some, few) kept.cap kept.continues kept.deletes kept.bases kept.rows kept.randoms
 
   pub with_buffer : (size : ℕ) → is_buffer_size size ≡ true → IsPlan (record plan { cap = size })
-  with_buffer size is_size = with_settings (of_shape plan.header size plan.deletes plan.shape kept.shape) kept.header is_size kept.continues kept.deletes kept.bases kept.rows
+  with_buffer size is_size = with_settings (of_shape plan.header size plan.deletes plan.shape kept.shape) kept.header is_size kept.continues kept.deletes kept.bases kept.rows kept.randoms

@@ -5,7 +5,7 @@ use Rattle.std.proofs.lemmas.Bool.Decides.{nat_tests}
 use Rattle.std.proofs.lemmas.List.Quantifiers.{position-Some}
 use Rattle.c104_interval.specs.declared.intervals.TheConstants.{ROWS}
 use Rattle.c104_interval.specs.declared.intervals.Select.{Select}
-use Rattle.c104_interval.specs.declared.intervals.Select.TheVariants.{Link, Sink}
+use Rattle.c104_interval.specs.declared.intervals.Select.TheVariants.{Link, Discard, Sink}
 use Rattle.c104_describe.specs.declared.ports.Port.TheVariants as port
 use Rattle.c104_describe.specs.declared.faults.PlanFaultKind.TheVariants.{BadName, BadNumber, LinkTaken, NameTaken, SelfWire, TooMany, Twice, UnknownName}
 use Rattle.c104_describe.specs.TextWords.{read_number, is_name}
@@ -13,12 +13,12 @@ use Rattle.c104_describe.specs.PlanFaults.{PlanFaultKind}
 use Rattle.c104_describe.specs.Ports.{Port, Wire, is_any_at}
 use Rattle.c104_describe.specs.declared.plans.Shape.TheVariants.{Hand, Mesh, Cube}
 use Rattle.c104_describe.specs.Layouts.{cube, mesh}
-use Rattle.c104_describe.specs.Plans.{Plan, PlanBase, PlanRow, Terminal, IsUnset, IsLaterPort, total_count, IsPlan, IsPlanSelect, IsPlanWire, switch_number, terminal_number, is_taken, is_linked, is_continued, is_deleted, rows_of, next_first, most_switches, most_terminals, label_count, last_link}
+use Rattle.c104_describe.specs.Plans.{Plan, PlanBase, PlanRandom, PlanRow, Terminal, IsUnset, IsLaterPort, total_count, IsPlan, IsPlanSelect, IsPlanWire, switch_number, terminal_number, is_taken, is_linked, is_continued, is_deleted, rows_of, next_first, most_switches, most_terminals, label_count, last_link}
 use Rattle.c104_describe.specs.Checks.{◌>>=◌, ◌>>◌, require, value_or_fault}
 use Rattle.c104_describe.specs.PlanWords.{number_within, number_or, port_sides, port_word, select_word}
 use Rattle.c104_describe.specs.PlanDrafts.{is_by_hand}
-use Rattle.c104_describe.specs.PlanLines.{switch_line, terminal_line, wire_line, continue_line, delete_line, base_line, row_line, filled_plan, mesh_line, cube_line}
-use Rattle.c104_describe.proofs.PlanKept.{with_switch, with_terminal, with_wire, with_continue, with_delete, with_base, with_row}
+use Rattle.c104_describe.specs.PlanLines.{switch_line, terminal_line, wire_line, continue_line, delete_line, base_line, row_line, random_line, filled_plan, mesh_line, cube_line}
+use Rattle.c104_describe.proofs.PlanKept.{with_switch, with_terminal, with_wire, with_continue, with_delete, with_base, with_row, with_random}
 use Rattle.c104_describe.proofs.FilledKept.{cube_kept, mesh_kept}
 use Rattle.c104_describe.proofs.LayoutNumbers.{power_small}
 
@@ -54,11 +54,12 @@ port_word-link word at is =
     subst IsLink made (omega arith)))
 
 select_word-is : (word : List ℕ) (select : Select) → select_word word ≡ Ok select → IsPlanSelect select
-select_word-is word select is = by_test (bytes_eq word (codes "sink")) is
+select_word-is word select is = by_test (bytes_eq word (codes "sink")) (bytes_eq word (codes "discard")) is
   where
-    by_test : (b : Bool) → (if b then Ok Sink else (number_within 0 last_link word >>= λ link. Ok (Link link))) ≡ Ok select → IsPlanSelect select
-    by_test true here = let made : Sink ≡ select = cc in subst IsPlanSelect made tt
-    by_test false here =
+    by_test : (sinks discards : Bool) → (if sinks then Ok Sink else (if discards then Ok Discard else (number_within 0 last_link word >>= λ link. Ok (Link link)))) ≡ Ok select → IsPlanSelect select
+    by_test true discards here = let made : Sink ≡ select = cc in subst IsPlanSelect made tt
+    by_test false true here = let made : Discard ≡ select = cc in subst IsPlanSelect made tt
+    by_test false false here =
         given (number_within 0 last_link word) _ select (IsPlanSelect select) here (λ link was here1.
         let low : link ≤ last_link = (number_within-is 0 last_link word link was).1 in
         let made : Link link ≡ select = cc in
@@ -130,7 +131,7 @@ module _ (plan next : Plan) (kept : IsPlan plan) (hand : plan.shape ≡ Hand) wh
           more = omega (arith, length-append plan.switches (name ∷ []));
           terminals = refl;
         },
-        λ unset. record { continues = unset.continues; bases = unset.bases; rows = unset.rows },
+        λ unset. record { continues = unset.continues; bases = unset.bases; rows = unset.rows; randoms = unset.randoms },
       ))))
 
   pub terminal_line-kept : (name word : List ℕ) (labels from : Option (List ℕ)) → terminal_line plan name word labels from ≡ Ok next → IsHosting from plan next
@@ -151,7 +152,7 @@ module _ (plan next : Plan) (kept : IsPlan plan) (hand : plan.shape ≡ Hand) wh
         kept = with_terminal plan kept t hand (and_parts (is_name name) (is_name at.0) named).0 (not-true _ free) (named_switch plan at.0 switch known, port_word-link word at was) (not-true _ unlinked) (ltb-true _ _ rooms.0) (omega arith, leb-true _ _ rooms.1);
         shape = refl;
         switches = refl;
-        unset = λ unset. record { continues = unset.continues; bases = unset.bases; rows = unset.rows };
+        unset = λ unset. record { continues = unset.continues; bases = unset.bases; rows = unset.rows; randoms = unset.randoms };
         counted = λ none so_far.
             let there : first ≡ next_first plan.terminals = begins_there (next_first plan.terminals) first from none begun in
             omega (arith, next_first-pushed plan.terminals t, total-pushed plan.terminals t, so_far, there);
@@ -182,7 +183,7 @@ module _ (plan next : Plan) (kept : IsPlan plan) (hand : plan.shape ≡ Hand) wh
           more = omega arith;
           terminals = refl;
         },
-        λ unset. record { continues = unset.continues; bases = unset.bases; rows = unset.rows },
+        λ unset. record { continues = unset.continues; bases = unset.bases; rows = unset.rows; randoms = unset.randoms },
       )))))))))))
 
   pub continue_line-kept : (word : List ℕ) → continue_line plan word ≡ Ok next → IsNext plan next
@@ -231,6 +232,24 @@ module _ (plan next : Plan) (kept : IsPlan plan) (hand : plan.shape ≡ Hand) wh
         terminals = refl;
       })))))))
 
+  pub random_line-kept : (word first many : List ℕ) → random_line plan word first many ≡ Ok next → IsNext plan next
+  random_line-kept word first many is =
+      given (port_word word) _ next (IsNext plan next) is (λ at was is1.
+      given (number_within 0 0xffff first) _ next (IsNext plan next) is1 (λ base begun is2.
+      given (number_within 0 label_count many) _ next (IsNext plan next) is2 (λ range numbered is3.
+      held (is_name at.0) BadName _ next (IsNext plan next) is3 (λ named is4.
+      given (value_or_fault (switch_number plan at.0) UnknownName) _ next (IsNext plan next) is4 (λ switch known is5.
+      held (not (is_any_at (λ (r : PlanRandom). r.port) plan.randoms (port.Switch switch at.1))) Twice _ next (IsNext plan next) is5 (λ once is6.
+      let r : PlanRandom = record { port = port.Switch switch at.1; base = base; range = range } in
+      let made : record plan { randoms = plan.randoms ++ r ∷ [] } ≡ next = cc in
+      let low : base ≤ 0xffff = (number_within-is 0 0xffff first base begun).1 in
+      subst (IsNext plan) made (record {
+        kept = with_random plan kept r hand (named_switch plan at.0 switch known, port_word-link word at was) (omega arith) (number_within-is 0 label_count many range numbered).1 (not-true _ once);
+        shape = refl;
+        more = omega arith;
+        terminals = refl;
+      })))))))
+
 -- lines that go with meshes and cubes too
 module _ (plan next : Plan) (kept : IsPlan plan) where
   pub delete_line-kept : (name : List ℕ) → delete_line plan name ≡ Ok next → IsBeside plan next
@@ -246,7 +265,7 @@ module _ (plan next : Plan) (kept : IsPlan plan) where
           more = omega arith;
           terminals = refl;
         },
-        λ unset. record { continues = unset.continues; bases = unset.bases; rows = unset.rows },
+        λ unset. record { continues = unset.continues; bases = unset.bases; rows = unset.rows; randoms = unset.randoms },
       ))))
 
   pub mesh_line-kept : (width height terminals : List ℕ) → plan.switches ≡ [] → mesh_line plan width height terminals ≡ Ok next → IsPlan next × is_by_hand next.shape ≡ false

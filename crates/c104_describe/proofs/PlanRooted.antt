@@ -44,7 +44,7 @@ module _ (plan : Plan) (kept : IsPlan plan) where
       inside = inside;
       firsts = All-map (λ (t : Terminal). t.first ≡ 0) without_first plan.terminals (λ k d within. refl);
       counts = omega (arith, total_same plan.terminals, counted, next_first-le plan.terminals kept.terminals.ranges);
-      unset = record { continues = unset.continues; bases = unset.bases; rows = unset.rows };
+      unset = record { continues = unset.continues; bases = unset.bases; rows = unset.rows; randoms = unset.randoms };
     };
     few_switches = kept.few_switches;
     names = subst AreNames (ap (λ names. plan.switches ++ names) (sym (same_names plan.terminals))) kept.names;

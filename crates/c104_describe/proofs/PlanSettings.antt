@@ -1,18 +1,16 @@
 -- What is set at the links of a plan's switches, made link by link and switch by switch.
-use Rattle.std.proofs.Common.{◌≡◌, ℕ, ◌+◌, List, [], ◌∷◌, ◌++◌, length, map, get_or, All, sym, ◌∙◌, ap, arith, lit<, lit≤, None, false, is_some, ◌==◌, ◌&&◌, ◌≤◌, refl}
+use Rattle.std.proofs.Common.{◌≡◌, ℕ, ◌+◌, ◌<◌, ◌≤◌, Bool, true, false, cond, List, [], ◌∷◌, ◌++◌, length, map, get_or, All, subst, sym, ◌∙◌, ap, arith, lit<, lit≤, Option, Some, None, refl}
 use Rattle.std.proofs.lemmas.List.{length-map}
-use Rattle.std.proofs.lemmas.List.Elements.{All-map, All-same}
+use Rattle.std.proofs.lemmas.List.Elements.{All-head, All-map, All-same, All-tail}
 use Rattle.std.proofs.lemmas.List.FromFn.{length-map-range_with_len, map-range_with_len_more}
 use Rattle.std.specs.List.{find, range_with_len}
-use Rattle.c104_regs.specs.Ranges.{IsInRange}
+use Rattle.c104_regs.specs.Ranges.{IsInRange, IsTableInRange}
 use Rattle.c104_regs.proofs.RangeNumbers.{IsInRange-from}
-use Rattle.c104_describe.specs.Wiring.{peer}
-use Rattle.std.proofs.lemmas.Bool.Decides.{nat_tests}
 use Rattle.c104_regs.specs.declared.settings.Settings.{Settings}
 use Rattle.c104_describe.specs.declared.ports.Port.TheVariants as port
 use Rattle.c104_describe.specs.Ports.{Port}
-use Rattle.c104_describe.specs.Plans.{IsPlan, Plan}
-use Rattle.c104_describe.specs.PlanImage.{AreSettings, Fits, Image, is_random_of, range_of, settings_of, switch_settings}
+use Rattle.c104_describe.specs.Plans.{IsPlan, Plan, PlanRandom}
+use Rattle.c104_describe.specs.PlanImage.{AreSettings, Fits, Image, is_random_of, plain_settings_of, range_of, settings_of, switch_settings, with_random}
 use Rattle.c104_describe.proofs.PlanTables.{table_in_range}
 
 -- one more value of a function
@@ -29,21 +27,36 @@ pub settings_last : (plan : Plan) (switch links : ℕ) → links ≡ 32 → map 
 unfolding switch_settings
 settings_last plan switch links all = ap (λ n. map (settings_at plan switch) (range_with_len 0 n)) all
 
--- a plan without random headers has none at a port
-pub no_random : (plan : Plan) (p : Port) → IsPlan plan → find (is_random_of p) plan.randoms ≡ None
-no_random plan p kept = ap (find (is_random_of p)) kept.randoms
+-- Random headers
 
--- a plan whose headers have one byte has no two-byte ones at a port
-pub one_byte : (plan : Plan) (p : Port) → IsPlan plan → (plan.header == 2 && is_some (peer plan p)) ≡ false
-one_byte plan p kept =
-    let few : plan.header ≤ 1 = kept.header.1 in
-    let no : (plan.header == 2) ≡ false = grind (arith, nat_tests) in
-    rw no refl
+-- settings whose random headers are within the ranges of their registers
+abbrev pub IsRandomInRange : Settings → Type 0
+IsRandomInRange s = (s.random_base < 65536) × (s.random_range ≤ 65536)
+
+-- they are, too, with the line of an input among these
+with_line : (lines : List PlanRandom) (p : Port) (s : Settings) → All (λ (r : PlanRandom). (r.base < 65536) × (r.range ≤ 65536)) lines → IsRandomInRange s → IsRandomInRange (with_random (find (is_random_of p) lines) s)
+with_line [] p s all own = own
+with_line (r ∷ lines) p s all own = by_test (is_random_of p r) (All-head (λ (x : PlanRandom). (x.base < 65536) × (x.range ≤ 65536)) r lines all) (with_line lines p s (All-tail (λ (x : PlanRandom). (x.base < 65536) × (x.range ≤ 65536)) r lines all) own)
+  where
+    by_test : (here : Bool) → (r.base < 65536) × (r.range ≤ 65536) → IsRandomInRange (with_random (find (is_random_of p) lines) s) → IsRandomInRange (with_random (cond here (Some r) (find (is_random_of p) lines)) s)
+    by_test true first rest = first
+    by_test false first rest = rest
+
+pub random_in_range : (plan : Plan) (p : Port) → IsPlan plan → IsRandomInRange (settings_of plan p)
+unfolding settings_of
+random_in_range plan p kept = with_line plan.randoms p (plain_settings_of plan p) kept.randoms.ranges (lit< tt, lit≤ tt)
+
+-- they leave the table as it is
+same_table : (line : Option PlanRandom) (s : Settings) → (with_random line s).table ≡ s.table
+same_table None s = refl
+same_table (Some random) s = refl
 
 pub settings_in_range : (plan : Plan) (p : Port) → IsPlan plan → IsInRange (settings_of plan p)
 unfolding settings_of
 settings_in_range plan p kept =
-    rw (no_random plan p kept) (IsInRange-from _ (one_byte plan p kept) refl (lit< tt) (lit≤ tt) (table_in_range plan p kept))
+    let numbers = random_in_range plan p kept in
+    let same = same_table (find (is_random_of p) plan.randoms) (plain_settings_of plan p) in
+    IsInRange-from (settings_of plan p) numbers.0 numbers.1 (subst IsTableInRange (sym same) (table_in_range plan p kept))
 
 -- a switch has settings for each of its links
 pub are_settings : (plan : Plan) (switch : ℕ) → IsPlan plan → AreSettings (switch_settings plan switch)

@@ -107,7 +107,7 @@ IsRowInRange row = (row.limit ≤ 65536) × IsSelectable row.select
 
 selectable : (select : Select) → IsPlanSelect select → IsSelectable select
 selectable (Link l) is = is
-selectable Discard is = absurd is
+selectable Discard is = tt
 selectable Sink is = tt
 
 -- a row at any place, past the end a reset one

@@ -4,10 +4,10 @@ use Rattle.c104_describe.specs.declared.plans.Shape.TheVariants.{Hand}
 use Rattle.c104_describe.specs.PlanDrafts.{has_some, is_by_hand}
 use Rattle.c104_describe.specs.Plans.{Plan, IsPlan}
 use Rattle.c104_describe.specs.PlanText.{empty_plan, plan_of_draft}
-use Rattle.c104_describe.specs.PlanPrint.{network_lines, switch_words, terminal_words, wire_words, continue_words, delete_words, base_words, row_words}
+use Rattle.c104_describe.specs.PlanPrint.{network_lines, switch_words, terminal_words, wire_words, continue_words, delete_words, base_words, row_words, random_words}
 use Rattle.c104_describe.proofs.PrintedText.{read_kind, read_lines_of_words}
-use Rattle.c104_describe.proofs.PrintedParts.{lines_after_bases, lines_after_deletes, lines_after_continues, lines_after_network}
-use Rattle.c104_describe.proofs.PrintedSteps.{draft_with, draft_by_hand, with_switches, with_terminals, with_wires, with_continues, with_deletes, with_bases, with_rows, switch_step, terminal_step, wire_step, continue_step, delete_step, base_step, row_step}
+use Rattle.c104_describe.proofs.PrintedParts.{lines_after_rows, lines_after_bases, lines_after_deletes, lines_after_continues, lines_after_network}
+use Rattle.c104_describe.proofs.PrintedSteps.{draft_with, draft_by_hand, with_switches, with_terminals, with_wires, with_continues, with_deletes, with_bases, with_rows, with_randoms, switch_step, terminal_step, wire_step, continue_step, delete_step, base_step, row_step, random_step}
 
 module _ (plan : Plan) (kept : IsPlan plan) (shape : plan.shape ≡ Hand) where
   hand : is_by_hand plan.shape ≡ true
@@ -25,6 +25,7 @@ module _ (plan : Plan) (kept : IsPlan plan) (shape : plan.shape ≡ Hand) where
       let at_deletes : ℕ = length plan.continues + at_continues in
       let at_bases : ℕ = length plan.deletes + at_deletes in
       let at_rows : ℕ = length plan.bases + at_bases in
+      let at_randoms : ℕ = length plan.rows + at_rows in
       ap plan_of_draft (
       read_kind switch_words (λ done. draft_with false None (with_switches plan kept done)) plan.switches (switch_step plan kept hand) n [] plan.switches (map (terminal_words plan) plan.terminals ++ (map (wire_words plan) plan.wires ++ lines_after_network plan)) refl
       ∙ read_kind (terminal_words plan) (λ done. draft_by_hand done (with_terminals plan kept done)) plan.terminals (λ done t more is. terminal_step plan kept done t more is hand) at_terminals [] plan.terminals (map (wire_words plan) plan.wires ++ lines_after_network plan) refl
@@ -32,8 +33,9 @@ module _ (plan : Plan) (kept : IsPlan plan) (shape : plan.shape ≡ Hand) where
       ∙ read_kind (continue_words plan) (λ done. draft_with said None (with_continues plan kept done)) plan.continues (continue_step plan kept said hand) at_continues [] plan.continues (lines_after_continues plan) refl
       ∙ read_kind (delete_words plan) (λ done. draft_with said None (with_deletes plan kept done)) plan.deletes (delete_step plan kept said None) at_deletes [] plan.deletes (lines_after_deletes plan) refl
       ∙ read_kind (base_words plan) (λ done. draft_with said None (with_bases plan kept done)) plan.bases (base_step plan kept said hand) at_bases [] plan.bases (lines_after_bases plan) refl
-      ∙ ap (λ last. read_lines_of_words at_rows last (draft_with said None (with_rows plan kept []))) (sym (append-nil (map (row_words plan) plan.rows)))
-      ∙ read_kind (row_words plan) (λ done. draft_with said None (with_rows plan kept done)) plan.rows (row_step plan kept said hand) at_rows [] plan.rows [] refl)
+      ∙ read_kind (row_words plan) (λ done. draft_with said None (with_rows plan kept done)) plan.rows (row_step plan kept said hand) at_rows [] plan.rows (lines_after_rows plan) refl
+      ∙ ap (λ last. read_lines_of_words at_randoms last (draft_with said None (with_randoms plan kept []))) (sym (append-nil (map (random_words plan) plan.randoms)))
+      ∙ read_kind (random_words plan) (λ done. draft_with said None (with_randoms plan kept done)) plan.randoms (random_step plan kept said hand) at_randoms [] plan.randoms [] refl)
 
   pub read_by_hand : (n : ℕ) → plan_of_draft (read_lines_of_words n (network_lines plan Hand ++ lines_after_network plan) (draft_with false None (record empty_plan { header = plan.header; cap = plan.cap }))) ≡ Ok plan
   read_by_hand n =
@@ -41,7 +43,7 @@ module _ (plan : Plan) (kept : IsPlan plan) (shape : plan.shape ≡ Hand) where
       let terminals = map (terminal_words plan) plan.terminals in
       let wires = map (wire_words plan) plan.wires in
       let begun : draft_with false None (record empty_plan { header = plan.header; cap = plan.cap }) ≡ draft_with false None (with_switches plan kept []) =
-      λ i. draft_with false None (record empty_plan { header = plan.header; cap = plan.cap; shape = sym shape i; randoms = sym kept.randoms i }) in
+      λ i. draft_with false None (record empty_plan { header = plan.header; cap = plan.cap; shape = sym shape i }) in
       (λ i. plan_of_draft (read_lines_of_words n (append_assoc (switches ++ terminals) wires (lines_after_network plan) i) (begun i)))
       ∙ ap (λ lines. plan_of_draft (read_lines_of_words n lines (draft_with false None (with_switches plan kept [])))) (append_assoc switches terminals (wires ++ lines_after_network plan))
       ∙ lists_read n

@@ -29,7 +29,6 @@ module _ (plan : Plan) (kept : IsPlan plan) where
       terminals = sym is.terminals i;
       wires = sym is.wires i;
       continues = sym is.unset.continues i;
-      randoms = sym kept.randoms i;
     }
 
     pub read_filled : (n : ℕ) (words : List (List ℕ)) → read_plan_words (draft_with false None begun) true words ≡ Ok (draft_with false None (filled_plan shape layout p begun))

@@ -1,13 +1,17 @@
 -- A plan's text is the header length and the buffer size, and then one kind after the other.
 use Rattle.std.proofs.Common.{◌≡◌, ℕ, List, [], ◌∷◌, ◌++◌, map, refl, sym, ap, ◌∙◌, append_assoc}
 use Rattle.c104_describe.specs.Plans.{Plan}
-use Rattle.c104_describe.specs.PlanPrint.{sentence, text_of, header_words, buffer_words, network_lines, continue_words, delete_words, base_words, row_words, plan_lines, plan_text}
+use Rattle.c104_describe.specs.PlanPrint.{sentence, text_of, header_words, buffer_words, network_lines, continue_words, delete_words, base_words, row_words, random_words, plan_lines, plan_text}
 
 -- The lines of a plan behind those of one kind, told from the last kind on
 
--- behind the bases: the rows
+-- behind the rows: the random headers
+abbrev pub lines_after_rows : Plan → List (List (List ℕ))
+lines_after_rows plan = map (random_words plan) plan.randoms
+
+-- behind the bases: the rows and what is behind these
 abbrev pub lines_after_bases : Plan → List (List (List ℕ))
-lines_after_bases plan = map (row_words plan) plan.rows
+lines_after_bases plan = map (row_words plan) plan.rows ++ lines_after_rows plan
 
 -- behind the deletes: the bases and what is behind these
 abbrev pub lines_after_deletes : Plan → List (List (List ℕ))
@@ -35,7 +39,9 @@ plan_lines-by_kinds plan =
     let continues : List (List (List ℕ)) = map (continue_words plan) plan.continues in
     let deletes : List (List (List ℕ)) = map (delete_words plan) plan.deletes in
     let bases : List (List (List ℕ)) = map (base_words plan) plan.bases in
-    append_assoc (begun ++ continues ++ deletes) bases (lines_after_bases plan)
+    let rows : List (List (List ℕ)) = map (row_words plan) plan.rows in
+    append_assoc (begun ++ continues ++ deletes ++ bases) rows (lines_after_rows plan)
+    ∙ append_assoc (begun ++ continues ++ deletes) bases (lines_after_bases plan)
     ∙ append_assoc (begun ++ continues) deletes (lines_after_deletes plan)
     ∙ append_assoc begun continues (lines_after_continues plan)
 
@@ -56,16 +62,18 @@ joined text next lines rest is =
 pub both_kinds : (text next last : List ℕ) (xs ys : List (List (List ℕ))) → next ≡ text ++ text_of xs → last ≡ next ++ text_of ys → last ≡ text ++ text_of (xs ++ ys)
 both_kinds text next last xs ys first second = second ∙ joined text next xs ys first
 
-module _ (plan : Plan) (begun network continues deletes bases rows : List ℕ) where
+module _ (plan : Plan) (begun network continues deletes bases rows randoms : List ℕ) where
   pub parts_are_text : begun ≡ text_of (header_words plan.header ∷ buffer_words plan.cap ∷ [])
       → network ≡ begun ++ text_of (network_lines plan plan.shape)
       → continues ≡ network ++ text_of (map (continue_words plan) plan.continues)
       → deletes ≡ continues ++ text_of (map (delete_words plan) plan.deletes)
       → bases ≡ deletes ++ text_of (map (base_words plan) plan.bases)
       → rows ≡ bases ++ text_of (map (row_words plan) plan.rows)
-      → rows ≡ plan_text plan
-  parts_are_text is_begun with_network with_continues with_deletes with_bases with_rows =
-      with_rows
+      → randoms ≡ rows ++ text_of (map (random_words plan) plan.randoms)
+      → randoms ≡ plan_text plan
+  parts_are_text is_begun with_network with_continues with_deletes with_bases with_rows with_randoms =
+      with_randoms
+      ∙ joined bases rows (map (row_words plan) plan.rows) (lines_after_rows plan) with_rows
       ∙ joined deletes bases (map (base_words plan) plan.bases) (lines_after_bases plan) with_bases
       ∙ joined continues deletes (map (delete_words plan) plan.deletes) (lines_after_deletes plan) with_deletes
       ∙ joined network continues (map (continue_words plan) plan.continues) (lines_after_continues plan) with_continues

@@ -112,14 +112,19 @@ differ_eq xs ys differ = by_test (bytes_eq xs ys) refl
 no_sink : (word : List ℕ) → list_all is_digit word ≡ true → bytes_eq word (codes "sink") ≡ false
 no_sink word digits = differ_eq word (codes "sink") (λ same. let bad : list_all is_digit (codes "sink") ≡ true = ap (list_all is_digit) (sym same) ∙ digits in cc)
 
+no_discard : (word : List ℕ) → list_all is_digit word ≡ true → bytes_eq word (codes "discard") ≡ false
+no_discard word digits = differ_eq word (codes "discard") (λ same. let bad : list_all is_digit (codes "discard") ≡ true = ap (list_all is_digit) (sym same) ∙ digits in cc)
+
 pub select_word-select : (select : Select) → IsPlanSelect select → select_word (select_text select) ≡ Ok select
 select_word-select (Link link) is =
-    (λ i. if no_sink (decimal link) (decimal_digits link (omega arith)) i then Ok Sink else (number_within 0 last_link (decimal link) >>= (λ l. Ok (Link l))))
+    let read = number_within 0 last_link (decimal link) >>= (λ l. Ok (Link l)) in
+    (λ i. if no_sink (decimal link) (decimal_digits link (omega arith)) i then Ok Sink else (if bytes_eq (decimal link) (codes "discard") then Ok Discard else read))
+    ∙ (λ i. if no_discard (decimal link) (decimal_digits link (omega arith)) i then Ok Discard else read)
     ∙ (λ i. link-decimal link is i >>= (λ l. Ok (Link l)))
-select_word-select Discard is = absurd is
+select_word-select Discard is = refl
 select_word-select Sink is = refl
 
 pub word-select : (select : Select) → IsPlanSelect select → is_word (select_text select) ≡ true
 word-select (Link link) is = word-decimal link (omega arith)
-word-select Discard is = absurd is
+word-select Discard is = refl
 word-select Sink is = refl

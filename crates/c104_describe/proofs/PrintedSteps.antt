@@ -15,11 +15,11 @@ use Rattle.c104_describe.specs.Distinctness.{AreDistinct}
 use Rattle.c104_describe.specs.declared.ports.Port.TheVariants as port
 use Rattle.c104_describe.specs.TextWords.{is_name}
 use Rattle.c104_describe.specs.Ports.{Port, Wire, is_port, is_any_at, both_ends, IsSwitchPort}
-use Rattle.c104_describe.specs.Plans.{Plan, PlanBase, PlanRow, Terminal, IsPlan, IsPlanSelect, IsPlanWire, IsLaterPort, IsRange, names, host_port, linked_ports, is_taken, is_linked, is_deleted, is_row_of, rows_of, switch_number, terminal_number, label_count}
+use Rattle.c104_describe.specs.Plans.{Plan, PlanBase, PlanRandom, PlanRow, Terminal, IsPlan, IsPlanSelect, IsPlanWire, IsLaterPort, IsRange, names, host_port, linked_ports, is_taken, is_linked, is_deleted, is_row_of, rows_of, switch_number, terminal_number, label_count}
 use Rattle.c104_describe.specs.PlanWords.{number_within, port_sides, port_word, select_word}
 use Rattle.c104_describe.specs.PlanDrafts.{Draft, has_some, is_by_hand}
 use Rattle.c104_describe.specs.PlanLines.{read_plan_words}
-use Rattle.c104_describe.specs.PlanPrint.{terminal_name, port_text, select_text, switch_words, terminal_words, wire_words, continue_words, delete_words, base_words, row_words}
+use Rattle.c104_describe.specs.PlanPrint.{terminal_name, port_text, select_text, switch_words, terminal_words, wire_words, continue_words, delete_words, base_words, row_words, random_words}
 use Rattle.c104_describe.proofs.DistinctPlaces.{All-here, fresh, distinct_front, distinct_back, distinct_mapped, position_at}
 use Rattle.c104_describe.proofs.PortLemmas.{is_port-refl}
 use Rattle.c104_describe.proofs.PrintedNumbers.{number_within-decimal}
@@ -48,25 +48,28 @@ module _ (plan : Plan) (kept : IsPlan plan) where
   -- The plan as it is while each kind is read
 
   abbrev pub with_switches : List (List ℕ) → Plan
-  with_switches done = record plan { switches = done; terminals = []; wires = []; continues = []; deletes = []; bases = []; rows = [] }
+  with_switches done = record plan { switches = done; terminals = []; wires = []; continues = []; deletes = []; bases = []; rows = []; randoms = [] }
 
   abbrev pub with_terminals : List Terminal → Plan
-  with_terminals done = record plan { terminals = done; wires = []; continues = []; deletes = []; bases = []; rows = [] }
+  with_terminals done = record plan { terminals = done; wires = []; continues = []; deletes = []; bases = []; rows = []; randoms = [] }
 
   abbrev pub with_wires : List Wire → Plan
-  with_wires done = record plan { wires = done; continues = []; deletes = []; bases = []; rows = [] }
+  with_wires done = record plan { wires = done; continues = []; deletes = []; bases = []; rows = []; randoms = [] }
 
   abbrev pub with_continues : List Port → Plan
-  with_continues done = record plan { continues = done; deletes = []; bases = []; rows = [] }
+  with_continues done = record plan { continues = done; deletes = []; bases = []; rows = []; randoms = [] }
 
   abbrev pub with_deletes : List ℕ → Plan
-  with_deletes done = record plan { deletes = done; bases = []; rows = [] }
+  with_deletes done = record plan { deletes = done; bases = []; rows = []; randoms = [] }
 
   abbrev pub with_bases : List PlanBase → Plan
-  with_bases done = record plan { bases = done; rows = [] }
+  with_bases done = record plan { bases = done; rows = []; randoms = [] }
 
   abbrev pub with_rows : List PlanRow → Plan
-  with_rows done = record plan { rows = done }
+  with_rows done = record plan { rows = done; randoms = [] }
+
+  abbrev pub with_randoms : List PlanRandom → Plan
+  with_randoms done = record plan { randoms = done }
 
   -- Switches
 
@@ -286,3 +289,23 @@ module _ (plan : Plan) (kept : IsPlan plan) where
   row_step said hand done r more is =
       let range : (r.limit ≤ label_count) × IsPlanSelect r.select = All-here (λ (x : PlanRow). (x.limit ≤ label_count) × IsPlanSelect x.select) plan.rows done r more is kept.rows.ranges in
       row_line said hand done r.port r.limit r.select (All-here (λ (x : PlanRow). IsSwitchPort (length plan.switches) x.port) plan.rows done r more is kept.rows.of_inputs) range.0 range.1 (row_room done r more is)
+
+  -- Random headers
+
+  random_line : (said : Bool) → is_by_hand plan.shape ≡ true → (done : List PlanRandom) (p : Port) (base range : ℕ) → IsSwitchPort (length plan.switches) p → base < label_count → range ≤ label_count → list_any (λ (r : PlanRandom). is_port r.port p) done ≡ false
+      → read_plan_words (draft_with said None (with_randoms done)) true (random_words plan (record { port = p; base = base; range = range })) ≡ Ok (draft_with said None (with_randoms (done ++ record { port = p; base = base; range = range } ∷ [])))
+  unfolding is_any_at switch_number
+  random_line said hand done (port.Terminal t) base range is low few free = absurd is
+  random_line said hand done (port.Switch s l) base range is low few free =
+      let base_read : number_within 0 0xffff (decimal base) ≡ Ok base = number_within-decimal 0 0xffff base (omega arith) (omega arith) (omega arith) in
+      let range_read : number_within 0 label_count (decimal range) ≡ Ok range = number_within-decimal 0 label_count range (omega arith) few (omega arith) in
+      rw (port_read s l is, base_read, range_read, port_named s l is, port_number s l is, free, hand) refl
+
+  pub random_step : (said : Bool) → is_by_hand plan.shape ≡ true → (done : List PlanRandom) (r : PlanRandom) (more : List PlanRandom) → done ++ r ∷ more ≡ plan.randoms
+      → read_plan_words (draft_with said None (with_randoms done)) true (random_words plan r) ≡ Ok (draft_with said None (with_randoms (done ++ r ∷ [])))
+  random_step said hand done r more is =
+      let same : PlanRandom → PlanRandom → Bool = λ (x : PlanRandom) (y : PlanRandom). is_port x.port y.port in
+      let differ : AreDistinct same plan.randoms = distinct_mapped is_port (λ (x : PlanRandom). x.port) plan.randoms kept.randoms.once in
+      let range : (r.base < label_count) × (r.range ≤ label_count) = All-here (λ (x : PlanRandom). (x.base < label_count) × (x.range ≤ label_count)) plan.randoms done r more is kept.randoms.ranges in
+      random_line said hand done r.port r.base r.range (All-here (λ (x : PlanRandom). IsSwitchPort (length plan.switches) x.port) plan.randoms done r more is kept.randoms.of_inputs) range.0 range.1
+      (fresh same done r more (subst (AreDistinct same) (sym is) differ))

@@ -43,7 +43,7 @@ module _ (plan : Plan) (kept : IsPlan plan) (root : ℕ) (shape : plan.shape ≡
   read_kept = counted_kept plan root kept tree
 
   unset : IsUnset read
-  unset = record { continues = tree.unset.continues; bases = tree.unset.bases; rows = tree.unset.rows }
+  unset = record { continues = tree.unset.continues; bases = tree.unset.bases; rows = tree.unset.rows; randoms = tree.unset.randoms }
 
   -- the line of the root, and then there are the deletes alone
   root_step : read_plan_words (draft_with false None (with_wires read read_kept plan.wires)) true (label_words plan root) ≡ Ok (draft_with false (Some root) (with_wires read read_kept plan.wires))
@@ -93,7 +93,4 @@ module _ (plan : Plan) (kept : IsPlan plan) (root : ℕ) (shape : plan.shape ≡
       ∙ (λ i. switches ++ (map (counted_words read) read.terminals ++ (map (wire_words read) read.wires ++ (label_words plan root ∷ (sym (same_deletes plan plan.deletes) i ++ [])))))
 
   pub read_tree : (n : ℕ) → plan_of_draft (read_lines_of_words n (network_lines plan (Tree root) ++ lines_after_network plan) (draft_with false None (record empty_plan { header = plan.header; cap = plan.cap }))) ≡ Ok plan
-  read_tree n =
-      let begun : draft_with false None (record empty_plan { header = plan.header; cap = plan.cap }) ≡ draft_with false None (with_switches read read_kept []) =
-      λ i. draft_with false None (record empty_plan { header = plan.header; cap = plan.cap; randoms = sym kept.randoms i }) in
-      (λ i. plan_of_draft (read_lines_of_words n (lines_are i) (begun i))) ∙ lists_read n
+  read_tree n = ap (λ lines. plan_of_draft (read_lines_of_words n lines (draft_with false None (with_switches read read_kept [])))) lines_are ∙ lists_read n

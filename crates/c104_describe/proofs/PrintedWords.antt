@@ -10,10 +10,10 @@ use Rattle.c104_describe.specs.declared.ports.Port.TheVariants as port
 use Rattle.c104_describe.specs.declared.plans.Shape.TheVariants.{Hand, Tree, Mesh, Cube}
 use Rattle.c104_describe.specs.TextWords.{is_name}
 use Rattle.c104_describe.specs.Ports.{Port, Wire, IsSwitchPort}
-use Rattle.c104_describe.specs.Plans.{Plan, PlanBase, PlanRow, Shape, Terminal, IsOfShape, IsPlan, IsPlanSelect, IsPlanWire, IsLaterPort, IsRange, host_port, label_count, is_buffer_size}
-use Rattle.c104_describe.specs.PlanPrint.{port_text, switch_name, switch_words, terminal_words, counted_words, wire_words, label_words, network_lines, continue_words, delete_words, base_words, row_words}
+use Rattle.c104_describe.specs.Plans.{Plan, PlanBase, PlanRandom, PlanRow, Shape, Terminal, IsOfShape, IsPlan, IsPlanSelect, IsPlanWire, IsLaterPort, IsRange, host_port, label_count, is_buffer_size}
+use Rattle.c104_describe.specs.PlanPrint.{port_text, switch_name, switch_words, terminal_words, counted_words, wire_words, label_words, network_lines, continue_words, delete_words, base_words, row_words, random_words}
 use Rattle.c104_describe.proofs.PrintedText.{are_words, is_word}
-use Rattle.c104_describe.proofs.PrintedParts.{lines_by_kinds, lines_after_bases, lines_after_continues, lines_after_deletes, lines_after_network}
+use Rattle.c104_describe.proofs.PrintedParts.{lines_by_kinds, lines_after_rows, lines_after_bases, lines_after_continues, lines_after_deletes, lines_after_network}
 use Rattle.c104_describe.proofs.PrintedNumbers.{word-decimal}
 use Rattle.c104_describe.proofs.PrintedPorts.{word-name, word-port, word-select}
 use Rattle.c104_describe.proofs.PrintedSteps.{name_of, switch_named, port_named, port_printed, terminal_named, delete_printed}
@@ -68,6 +68,9 @@ module _ (plan : Plan) (kept : IsPlan plan) where
   words_row : (r : PlanRow) → IsSwitchPort (length plan.switches) r.port × ((r.limit ≤ label_count) × IsPlanSelect r.select) → list_all is_word (row_words plan r) ≡ true
   words_row r is = λ i. word_at r.port is.0 i && (word-decimal r.limit (omega (arith, is.1.0)) i && (word-select r.select is.1.1 i && true))
 
+  words_random : (r : PlanRandom) → IsSwitchPort (length plan.switches) r.port × ((r.base < label_count) × (r.range ≤ label_count)) → list_all is_word (random_words plan r) ≡ true
+  words_random r is = λ i. word_at r.port is.0 i && (word-decimal r.base (omega (arith, is.1.0)) i && (word-decimal r.range (omega (arith, is.1.1)) i && true))
+
   -- a root's name
   pub root_printed : (root : ℕ) → root < length plan.switches → switch_name plan root ≡ name_of plan kept root
   root_printed root inside = ap (λ name. unwrap_or name []) (slice_get-get_or plan.switches root [] inside)
@@ -112,6 +115,7 @@ module _ (plan : Plan) (kept : IsPlan plan) where
       let n : ℕ = length plan.switches in
       let header = word-decimal plan.header (omega (arith, kept.header.1)) in
       let cap = word-decimal plan.cap (omega (arith, small_buffer plan.cap kept.cap)) in
+      let randoms = words_kind (random_words plan) (λ (r : PlanRandom). IsSwitchPort n r.port × ((r.base < label_count) × (r.range ≤ label_count))) words_random plan.randoms (λ k d inside. (kept.randoms.of_inputs k d inside, kept.randoms.ranges k d inside)) in
       let rows = words_kind (row_words plan) (λ (r : PlanRow). IsSwitchPort n r.port × ((r.limit ≤ label_count) × IsPlanSelect r.select)) words_row plan.rows (λ k d inside. (kept.rows.of_inputs k d inside, kept.rows.ranges k d inside)) in
       let bases = words_kind (base_words plan) (λ (b : PlanBase). IsSwitchPort n b.port × (b.base < label_count)) words_base plan.bases (λ k d inside. (kept.bases.of_inputs k d inside, kept.bases.ranges k d inside)) in
       let deletes = words_kind (delete_words plan) (λ t. t < length plan.terminals) words_delete plan.deletes kept.deletes.known in
@@ -119,5 +123,6 @@ module _ (plan : Plan) (kept : IsPlan plan) where
       let rest = words_both (network_lines plan plan.shape) (lines_after_network plan) (words_network plan.shape kept.shape)
       (words_both (map (continue_words plan) plan.continues) (lines_after_continues plan) continues
       (words_both (map (delete_words plan) plan.deletes) (lines_after_deletes plan) deletes
-      (words_both (map (base_words plan) plan.bases) (lines_after_bases plan) bases rows))) in
+      (words_both (map (base_words plan) plan.bases) (lines_after_bases plan) bases
+      (words_both (map (row_words plan) plan.rows) (lines_after_rows plan) rows randoms)))) in
       λ i. (header i && true) && ((cap i && true) && rest i)

@@ -16,7 +16,7 @@ use Rattle.c104_describe.specs.PlanFaults.{PlanFaultKind, plan_fault_number}
 use Rattle.c104_describe.specs.Ports.{Port, is_any_at}
 use Rattle.c104_describe.specs.PlanWords.{Keyword, keyword_of, range_words}
 use Rattle.c104_describe.specs.PlanDrafts.{Draft, is_mixed}
-use Rattle.c104_describe.specs.Plans.{Plan, PlanBase, switch_number, terminal_number, is_taken, is_linked, is_continued, is_deleted, rows_of, next_first, most_switches, most_terminals, most_header_bytes, label_count, last_link, is_buffer_size}
+use Rattle.c104_describe.specs.Plans.{Plan, PlanBase, PlanRandom, switch_number, terminal_number, is_taken, is_linked, is_continued, is_deleted, rows_of, next_first, most_switches, most_terminals, most_header_bytes, label_count, last_link, is_buffer_size}
 
 -- what stands before and behind a word's one dot; all stands before it where it hasn't one
 abbrev pub sides_at : List ℕ → Dots → List ℕ × List ℕ
@@ -64,9 +64,9 @@ row_count plan word = option_map_or (λ p. length (rows_of p plan.rows)) (named_
 abbrev pub is_from_to : ℕ → ℕ → ℕ → Bool
 is_from_to least most value = nat_le least value && nat_le value most
 
--- the word for a number in the place of a row's select: none where that is `sink`
+-- the word for a number in the place of a row's select: none where that is `sink` or `discard`
 abbrev pub selected_link : List ℕ → Option (List ℕ)
-selected_link word = if bytes_eq word (codes "sink") then None else Some word
+selected_link word = if bytes_eq word (codes "sink") || bytes_eq word (codes "discard") then None else Some word
 
 -- what a line says, in a row of the format's table
 pub record LineParts : Type 0 where
@@ -167,6 +167,11 @@ keyword_parts draft keyword.Row (at ∷ limit ∷ select ∷ []) = record no_par
   ports = at ∷ [];
   numbers = (Some limit, is_from_to 0 label_count) ∷ (selected_link select, is_from_to 0 last_link) ∷ [];
   counts = (row_count draft.plan at + 1, ROWS) ∷ [];
+}
+keyword_parts draft keyword.Random (at ∷ base ∷ range ∷ []) = record no_parts {
+  ports = at ∷ [];
+  numbers = (Some base, is_from_to 0 0xffff) ∷ (Some range, is_from_to 0 label_count) ∷ [];
+  is_said = names_port draft.plan (is_any_at (λ (r : PlanRandom). r.port) draft.plan.randoms) at;
 }
 keyword_parts draft keyword.Label (style ∷ name ∷ []) = record no_parts {
   is_shaped = bytes_eq style (codes "tree");

@@ -54,10 +54,10 @@ says_from (name ∷ at ∷ rest) = is_begun (range_words rest)
 
 -- whether a plan has lines that set something at links
 abbrev pub has_settings : Plan → Bool
-has_settings plan = has_some plan.continues || (has_some plan.bases || has_some plan.rows)
+has_settings plan = has_some plan.continues || (has_some plan.bases || (has_some plan.rows || has_some plan.randoms))
 
 -- whether a line, by what its first word says and the words after it, doesn't go with the lines before it:
--- `label` goes with neither `continue`, `base`, `row` nor a terminal's `from`, and `mesh` and `cube` give all
+-- `label` goes with neither `continue`, `base`, `row`, `random` nor a terminal's `from`, and `mesh` and `cube` give all
 -- of a network but its headers, buffers and deletes. Each line of another kind gives or names a switch.
 abbrev pub is_mixed : Draft → Keyword → List (List ℕ) → Bool
 is_mixed draft keyword.Switch rest = not (is_by_hand draft.plan.shape)
@@ -66,6 +66,7 @@ is_mixed draft keyword.Wire rest = not (is_by_hand draft.plan.shape)
 is_mixed draft keyword.Continue rest = not (is_by_hand draft.plan.shape) || is_some draft.root
 is_mixed draft keyword.Base rest = not (is_by_hand draft.plan.shape) || is_some draft.root
 is_mixed draft keyword.Row rest = not (is_by_hand draft.plan.shape) || is_some draft.root
+is_mixed draft keyword.Random rest = not (is_by_hand draft.plan.shape) || is_some draft.root
 is_mixed draft keyword.Label rest = not (is_by_hand draft.plan.shape) || (draft.from_said || has_settings draft.plan)
 is_mixed draft keyword.Mesh rest = has_some draft.plan.switches
 is_mixed draft keyword.Cube rest = has_some draft.plan.switches

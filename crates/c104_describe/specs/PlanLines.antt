@@ -16,7 +16,7 @@ use Rattle.c104_describe.specs.declared.plans.Shape.TheVariants.{Mesh, Cube}
 use Rattle.c104_describe.specs.Layouts.{Layout, mesh, cube, filled_switches, filled_terminals, filled_wires}
 pub use Rattle.c104_describe.specs.PlanDrafts.{Draft}
 use Rattle.c104_describe.specs.PlanDrafts.{is_mixed}
-use Rattle.c104_describe.specs.Plans.{Plan, Shape, PlanBase, switch_number, terminal_number, is_taken, is_linked, is_continued, is_deleted, rows_of, next_first, most_switches, most_terminals, most_header_bytes, label_count, last_link, is_buffer_size}
+use Rattle.c104_describe.specs.Plans.{Plan, Shape, PlanBase, PlanRandom, switch_number, terminal_number, is_taken, is_linked, is_continued, is_deleted, rows_of, next_first, most_switches, most_terminals, most_header_bytes, label_count, last_link, is_buffer_size}
 
 -- `switch N`
 abbrev pub switch_line : Plan → List ℕ → Result Plan PlanFaultKind
@@ -113,6 +113,23 @@ row_line plan word limit select = do
     } ∷ [];
   })
 
+-- `random S.l base range`: packets that come in at that input get a random header, one of these
+abbrev pub random_line : Plan → List ℕ → List ℕ → List ℕ → Result Plan PlanFaultKind
+random_line plan word base range = do
+  named ← port_word word
+  base ← number_within 0 0xffff base
+  range ← number_within 0 label_count range
+  require (is_name named.0) BadName
+  switch ← value_or_fault (switch_number plan named.0) UnknownName
+  require (not (is_any_at (λ (r : PlanRandom). r.port) plan.randoms (port.Switch switch named.1))) Twice
+  Ok (record plan {
+    randoms = plan.randoms ++ record {
+      port = port.Switch switch named.1;
+      base = base;
+      range = range;
+    } ∷ [];
+  })
+
 -- `header n`: the length of headers
 abbrev pub header_line : Draft → List ℕ → Result Draft PlanFaultKind
 header_line draft bytes = do
@@ -183,6 +200,7 @@ keyword_line keyword.Continue draft (at ∷ []) = in_draft draft (continue_line 
 keyword_line keyword.Delete draft (name ∷ []) = in_draft draft (delete_line draft.plan name)
 keyword_line keyword.Base draft (at ∷ base ∷ []) = in_draft draft (base_line draft.plan at base)
 keyword_line keyword.Row draft (at ∷ limit ∷ select ∷ []) = in_draft draft (row_line draft.plan at limit select)
+keyword_line keyword.Random draft (at ∷ base ∷ range ∷ []) = in_draft draft (random_line draft.plan at base range)
 keyword_line keyword.Label draft (style ∷ name ∷ []) = label_line draft style name
 keyword_line keyword.Mesh draft (width ∷ height ∷ terminals ∷ []) = in_draft draft (mesh_line draft.plan width height terminals)
 keyword_line keyword.Cube draft (dimensions ∷ terminals ∷ []) = in_draft draft (cube_line draft.plan dimensions terminals)

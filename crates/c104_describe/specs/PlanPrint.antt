@@ -8,7 +8,7 @@ use Rattle.c104_interval.specs.declared.intervals.Select.TheVariants.{Link, Disc
 use Rattle.c104_describe.specs.declared.ports.Port.TheVariants as port
 use Rattle.c104_describe.specs.Ports.{Port, Wire}
 use Rattle.c104_describe.specs.declared.plans.Shape.TheVariants.{Hand, Tree, Mesh, Cube}
-use Rattle.c104_describe.specs.Plans.{Plan, Shape, PlanBase, PlanRow, Terminal, host_port}
+use Rattle.c104_describe.specs.Plans.{Plan, Shape, PlanBase, PlanRandom, PlanRow, Terminal, host_port}
 
 -- words with a space (0x20) between neighbours
 abbrev pub sentence : List (List ℕ) → List ℕ
@@ -96,6 +96,10 @@ base_words plan b = codes "base" ∷ port_text plan b.port ∷ decimal b.base �
 abbrev pub row_words : Plan → PlanRow → List (List ℕ)
 row_words plan r = codes "row" ∷ port_text plan r.port ∷ decimal r.limit ∷ select_text r.select ∷ []
 
+-- the line of an input's random headers
+abbrev pub random_words : Plan → PlanRandom → List (List ℕ)
+random_words plan r = codes "random" ∷ port_text plan r.port ∷ decimal r.base ∷ decimal r.range ∷ []
+
 -- the lines of a network by its plan's shape, each kind in the order of its list, and what a name stands for
 -- before what names it. What a labeller gives isn't said, and of a mesh and a cube nothing but its sizes
 abbrev pub network_lines : Plan → Shape → List (List (List ℕ))
@@ -105,7 +109,7 @@ network_lines plan (Tree root) =
 network_lines plan (Mesh w h p) = mesh_words w h p ∷ []
 network_lines plan (Cube d p) = cube_words d p ∷ []
 
--- the lines of a plan. For now none has random headers, so these have no line
+-- the lines of a plan
 abbrev pub plan_lines : Plan → List (List (List ℕ))
 plan_lines plan =
     header_words plan.header
@@ -115,6 +119,7 @@ plan_lines plan =
     ++ map (delete_words plan) plan.deletes
     ++ map (base_words plan) plan.bases
     ++ map (row_words plan) plan.rows
+    ++ map (random_words plan) plan.randoms
 
 -- the text of a plan
 abbrev pub plan_text : Plan → List ℕ

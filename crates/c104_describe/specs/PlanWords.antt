@@ -2,7 +2,7 @@
 use Rattle.std.specs.Prelude.{ℕ, ◌+◌, ◌&&◌, List, [], ◌∷◌, take, drop, nat_le, bytes_eq, codes, if◌then◌else◌, Option, Some, None, Result, Ok, Err}
 use Rattle.std.specs.Map.{lookup}
 use Rattle.c104_interval.specs.declared.intervals.Select.{Select}
-use Rattle.c104_interval.specs.declared.intervals.Select.TheVariants.{Link, Sink}
+use Rattle.c104_interval.specs.declared.intervals.Select.TheVariants.{Link, Discard, Sink}
 use Rattle.c104_describe.specs.declared.text.Dots.{Dots}
 use Rattle.c104_describe.specs.declared.text.Dots.TheVariants.{Without, At, Several}
 pub use Rattle.c104_describe.specs.declared.words.Keyword.{Keyword}
@@ -28,6 +28,7 @@ keywords =
     ∷ (codes "label", keyword.Label)
     ∷ (codes "mesh", keyword.Mesh)
     ∷ (codes "cube", keyword.Cube)
+    ∷ (codes "random", keyword.Random)
     ∷ []
 
 -- what the first word of a line says
@@ -46,13 +47,14 @@ abbrev pub number_or : ℕ → ℕ → ℕ → Option (List ℕ) → Result ℕ 
 number_or other least most None = Ok other
 number_or other least most (Some word) = number_within least most word
 
--- what a row selects: a link of the switch, or `sink`
+-- what a row selects: a link of the switch, `discard` or `sink`
 abbrev pub select_word : List ℕ → Result Select PlanFaultKind
 select_word word =
     if bytes_eq word (codes "sink") then Ok Sink
+    else (if bytes_eq word (codes "discard") then Ok Discard
     else (do
       link ← number_within 0 last_link word
-      Ok (Link link))
+      Ok (Link link)))
 
 -- the two sides of a word's one dot, by where it is
 abbrev pub sides_of_dots : List ℕ → Dots → Result (List ℕ × List ℕ) PlanFaultKind

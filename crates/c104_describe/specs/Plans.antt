@@ -106,7 +106,7 @@ most_switches = MAX_SWITCHES
 abbrev pub most_terminals : ℕ
 most_terminals = MAX_TERMINALS
 
--- how many bytes a header may have: for now one
+-- how many bytes a header may have
 abbrev pub most_header_bytes : ℕ
 most_header_bytes = MAX_HEADER_BYTES
 
@@ -122,10 +122,10 @@ last_link = LINKS - 1
 abbrev pub is_buffer_size : ℕ → Bool
 is_buffer_size n = (n % 8 == 0) && (nat_le 8 n && nat_le n 64)
 
--- a row may select a link of the switch, or the sink
+-- a row may select a link of the switch, or discard the header, or drop the packet
 abbrev pub IsPlanSelect : Select → Type 0
 IsPlanSelect (Link link) = link < LINKS
-IsPlanSelect Discard = ⊥
+IsPlanSelect Discard = Unit {0}
 IsPlanSelect Sink = Unit {0}
 
 -- a range of labels, by its first and how many they are
@@ -175,11 +175,18 @@ pub record AreRows (switches : ℕ) (rows : List PlanRow) : Type 0 where
   pub ranges : All (λ (r : PlanRow). (r.limit ≤ label_count) × IsPlanSelect r.select) rows
   pub few : (p : Port) → length (rows_of p rows) ≤ ROWS
 
+-- random headers of inputs
+pub record AreRandoms (switches : ℕ) (randoms : List PlanRandom) : Type 0 where
+  pub of_inputs : All (λ (r : PlanRandom). IsSwitchPort switches r.port) randoms
+  pub ranges : All (λ (r : PlanRandom). (r.base < label_count) × (r.range ≤ label_count)) randoms
+  pub once : AreOncePerPort (λ (r : PlanRandom). r.port) randoms
+
 -- nothing is set at links by lines of their own: labellers do
 pub record IsUnset (plan : Plan) : Type 0 where
   pub continues : plan.continues ≡ []
   pub bases : plan.bases ≡ []
   pub rows : plan.rows ≡ []
+  pub randoms : plan.randoms ≡ []
 
 -- how many labels terminals have in all
 abbrev pub total_count : List Terminal → ℕ
@@ -207,7 +214,7 @@ IsOfShape (Tree root) plan = IsTreePlan root plan
 IsOfShape (Mesh w h p) plan = IsMesh w h p × IsFilled (mesh w h) p plan
 IsOfShape (Cube d p) plan = IsCube d p × IsFilled (cube d) p plan
 
--- what the type of a plan keeps. For now none has random headers.
+-- what the type of a plan keeps
 pub record IsPlan (plan : Plan) : Type 0 where
   pub header : (0 < plan.header) × (plan.header ≤ most_header_bytes)
   pub cap : IsTrue (is_buffer_size plan.cap)
@@ -221,4 +228,4 @@ pub record IsPlan (plan : Plan) : Type 0 where
   pub deletes : AreDeletes (length plan.terminals) plan.deletes
   pub bases : AreBases (length plan.switches) plan.bases
   pub rows : AreRows (length plan.switches) plan.rows
-  pub randoms : plan.randoms ≡ []
+  pub randoms : AreRandoms (length plan.switches) plan.randoms

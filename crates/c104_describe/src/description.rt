@@ -21,8 +21,8 @@ pub const MAX_DESCRIPTION: usize = 1_048_576;
 /// Reads the description of a network, by this emulator's own grammar.
 ///
 /// Its lines are `switch N`, `terminal N S.l [labels n] [from f]`, `wire S.l S.l`, `header n`,
-/// `buffer n`, `continue S.l`, `delete T`, `base S.l n`, `row S.l limit select`, `label tree S`,
-/// `mesh w h p` and `cube d p`; `#` begins a comment.
+/// `buffer n`, `continue S.l`, `delete T`, `base S.l n`, `row S.l limit select`,
+/// `random S.l base range`, `label tree S`, `mesh w h p` and `cube d p`; `#` begins a comment.
 ///
 /// TooLong at line 0 where the text has more than 1 MiB, whatever its lines say; else the first
 /// faulty line, with the least of its faults; or NoMemory at line 0 when out of memory.

@@ -48,7 +48,9 @@ impl Draft {
             Keyword::Header | Keyword::Buffer | Keyword::Delete => false,
             Keyword::Switch | Keyword::Wire => is_filled,
             Keyword::Terminal => is_filled || (self.root.is_some() && says_from(rest)),
-            Keyword::Continue | Keyword::Base | Keyword::Row => is_filled || self.root.is_some(),
+            Keyword::Continue | Keyword::Base | Keyword::Row | Keyword::Random => {
+                is_filled || self.root.is_some()
+            }
             Keyword::Label => is_filled || self.from_said || self.parts.has_settings(),
             Keyword::Mesh | Keyword::Cube => self.parts.switches.len() != 0,
         }

@@ -15,9 +15,10 @@ use c104_regs::{LINKS, Settings};
 use c104_token::NoMemory;
 use std::alloc::{AllocError, Global};
 
-/// The image that a plan's own lines give: each terminal's range, the links at which headers are
-/// deleted, those that continue a group, and the rows of each input, row by row from 0 on. All
-/// else is as after a reset. The only error is out of memory.
+/// The image that a plan's own lines give: each terminal's range, two-byte headers at wired links where the
+/// plan has them, the links at which headers are deleted, those that continue a group, the rows of each
+/// input, row by row from 0 on, and its random headers. All else is as after a reset. The only error is out
+/// of memory.
 pub fn hand_image(alloc: Global, plan: &Plan) -> Result<Image, NoMemory>
     ensures image { IfOk result (λ image. image ≡ hand_image plan.now) }
     ensures fits { IfOk result (λ image. Fits image plan.now) }

@@ -8,10 +8,10 @@
 //!
 //! An `Image` holds the labels of each terminal, and for each switch what is set at its 32 links,
 //! within the ranges of the registers. `Image::new` gives one with the plan's labels and nothing
-//! set, and `hand_image` that of the plan's own `base`, `row`, `continue` and `delete` lines; both
-//! fit the plan. `Image::set` sets a register by its address, and `Image::values` are the values
-//! that aren't those after a reset. Each switch is a `SwitchImage`, and an `ImageFault` is why a
-//! value or a range isn't set.
+//! set, and `hand_image` that of the plan's own `base`, `row`, `random`, `continue` and `delete`
+//! lines; both fit the plan. `Image::set` sets a register by its address, and `Image::values` are
+//! the values that aren't those after a reset. Each switch is a `SwitchImage`, and an `ImageFault`
+//! is why a value or a range isn't set.
 //!
 //! `print_plan` prints a plan as a description, which gives that plan.
 //!
@@ -29,6 +29,7 @@ mod image_faults;
 mod labelled;
 mod limits;
 mod lines;
+mod link_lines;
 mod name_index;
 mod names;
 mod parts;
@@ -62,6 +63,6 @@ const _: () = prove!(limits::MAX_SWITCHES == 64);
 
 const _: () = prove!(limits::MAX_TERMINALS == 256);
 
-const _: () = prove!(limits::MAX_HEADER_BYTES == 1);
+const _: () = prove!(limits::MAX_HEADER_BYTES == 2);
 
 const _: () = prove!(limits::LABELS == 0x10000);

@@ -8,8 +8,8 @@ pub(crate) const MAX_SWITCHES: usize = 64;
 /// The most terminals of a plan.
 pub(crate) const MAX_TERMINALS: usize = 256;
 
-/// The most bytes of a header: for now one.
-pub(crate) const MAX_HEADER_BYTES: u32 = 1;
+/// The most bytes of a header.
+pub(crate) const MAX_HEADER_BYTES: u32 = 2;
 
 /// How many labels there are, and the highest limit of a row: how many values a header of two bytes
 /// has.

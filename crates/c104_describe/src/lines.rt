@@ -1,7 +1,7 @@
 //! Descriptions, line by line.
-ghost use Rattle.std.specs.Prelude.{◌≡◌, [], ◌∷◌, ◌++◌, map, option_map, OnOk};
+ghost use Rattle.std.specs.Prelude.{◌≡◌, [], ◌∷◌, map, option_map};
 ghost use Rattle.c104_describe.specs.PlanLines.{read_plan_line, read_plan_words, keyword_line, header_line, buffer_line};
-ghost use Rattle.c104_describe.specs.PlanLines.{base_line, continue_line, delete_line, label_line, row_line, switch_line, terminal_line, wire_line};
+ghost use Rattle.c104_describe.specs.PlanLines.{delete_line, label_line, switch_line, terminal_line, wire_line};
 ghost use Rattle.c104_describe.specs.PlanParts.{draft_of, plan_of};
 ghost use Rattle.c104_describe.specs.Plans.{IsPlan};
 ghost use Rattle.c104_describe.specs.PlanText.{ReadsLine};
@@ -11,17 +11,17 @@ use crate::drafts::Draft;
 use crate::faults::PlanFaultKind;
 use crate::fills::{set_cube, set_mesh};
 use crate::limits::{LABELS, MAX_HEADER_BYTES, MAX_SWITCHES, MAX_TERMINALS, is_buffer_size};
+use crate::link_lines::{add, add_base, add_continue, add_random, add_row};
 use crate::names::Name;
 use crate::parts::Parts;
-use crate::plans::{PlanBase, PlanRow, Terminal};
+use crate::plans::Terminal;
 use crate::ports::{Port, Wire};
 use crate::text::{cut_words, is_name, is_plain, read_number, uncommented};
 use crate::words::{
     Keyword, RangeWords, cut_port, read_keyword, read_link, read_number_or, read_number_within,
-    read_port, read_range, read_select,
+    read_port, read_range,
 };
-use c104_interval::ROWS;
-use std::alloc::{AllocError, Global};
+use std::alloc::Global;
 
 /// Reads a line after those before it.
 pub(crate) fn read_line(alloc: Global, draft: &mut Draft, line: &[u8]) -> Result<(), PlanFaultKind>
@@ -154,6 +154,7 @@ fn read_three_words(
 {
     match keyword {
         Keyword::Row => add_row(&mut draft.parts, first, second, third),
+        Keyword::Random => add_random(&mut draft.parts, first, second, third),
         Keyword::Mesh => set_mesh(alloc, &mut draft.parts, first, second, third),
         _ => Err(PlanFaultKind::BadShape),
     }
@@ -251,28 +252,6 @@ fn add_wire(parts: &mut Parts, here: &[u8], there: &[u8]) -> Result<(), PlanFaul
     Ok(())
 }
 
-/// Reads `continue S.l`. Link 0 has no link before it.
-fn add_continue(parts: &mut Parts, port: &[u8]) -> Result<(), PlanFaultKind>
-    ensures { ReadsLine result (plan_of parts.new) (continue_line (plan_of parts.old) port.now) }
-{
-    let port = read_port(port)?;
-    if port.link == 0 {
-        return Err(PlanFaultKind::BadNumber);
-    }
-    if !is_name(port.name) {
-        return Err(PlanFaultKind::BadName);
-    }
-    let Some(switch) = parts.switch_number(port.name) else {
-        return Err(PlanFaultKind::UnknownName);
-    };
-    let port = Port::Switch(switch, port.link);
-    if parts.is_continued(port) {
-        return Err(PlanFaultKind::Twice);
-    }
-    add(&mut parts.continues, port)?;
-    Ok(())
-}
-
 /// Reads `delete T`.
 fn add_delete(parts: &mut Parts, name: &[u8]) -> Result<(), PlanFaultKind>
     ensures { ReadsLine result (plan_of parts.new) (delete_line (plan_of parts.old) name.now) }
@@ -287,55 +266,6 @@ fn add_delete(parts: &mut Parts, name: &[u8]) -> Result<(), PlanFaultKind>
         return Err(PlanFaultKind::Twice);
     }
     add(&mut parts.deletes, terminal)?;
-    Ok(())
-}
-
-/// Reads `base S.l n`.
-fn add_base(parts: &mut Parts, port: &[u8], base: &[u8]) -> Result<(), PlanFaultKind>
-    ensures { ReadsLine result (plan_of parts.new)
-        (base_line (plan_of parts.old) port.now base.now) }
-{
-    let port = read_port(port)?;
-    let base = read_number_within(0, LABELS - 1, base)?;
-    if !is_name(port.name) {
-        return Err(PlanFaultKind::BadName);
-    }
-    let Some(switch) = parts.switch_number(port.name) else {
-        return Err(PlanFaultKind::UnknownName);
-    };
-    let port = Port::Switch(switch, port.link);
-    if parts.has_base(port) {
-        return Err(PlanFaultKind::Twice);
-    }
-    add(&mut parts.bases, PlanBase { port, base })?;
-    Ok(())
-}
-
-/// Reads `row S.l limit select`.
-fn add_row(parts: &mut Parts, port: &[u8], limit: &[u8], select: &[u8]) -> Result<(), PlanFaultKind>
-    requires { IsPlan (plan_of parts.old) }
-    ensures { ReadsLine result (plan_of parts.new)
-        (row_line (plan_of parts.old) port.now limit.now select.now) }
-{
-    let port = read_port(port)?;
-    let limit = read_number_within(0, LABELS, limit)?;
-    let select = read_select(select)?;
-    if !is_name(port.name) {
-        return Err(PlanFaultKind::BadName);
-    }
-    let Some(switch) = parts.switch_number(port.name) else {
-        return Err(PlanFaultKind::UnknownName);
-    };
-    let port = Port::Switch(switch, port.link);
-    if parts.row_count(port) >= ROWS {
-        return Err(PlanFaultKind::TooMany);
-    }
-    let row = PlanRow {
-        port,
-        limit,
-        select,
-    };
-    parts.rows.push(row)?;
     Ok(())
 }
 
@@ -386,13 +316,5 @@ fn set_buffer(draft: &mut Draft, size: &[u8]) -> Result<(), PlanFaultKind>
     }
     draft.parts.cap = size as usize;
     draft.buffer_said = true;
-    Ok(())
-}
-
-/// A value joins a list at its end.
-fn add<T: Drop>(list: &mut Vec<T>, value: T) -> Result<(), AllocError>
-    ensures { OnOk result (list.new.items ≡ list.old.items ++ value ∷ []) }
-{
-    list.push(value)?;
     Ok(())
 }

@@ -51,7 +51,7 @@ impl Parts {
     ghost use Rattle.std.specs.List.{list_any};
     ghost use Rattle.std.specs.Prelude.{◌||◌};
     ghost use Rattle.c104_describe.specs.Ports.{Wire as TheWire, is_any_at, is_port, IsSwitchPort};
-    ghost use Rattle.c104_describe.specs.Plans.{Terminal as TheTerminal, PlanBase as TheBase, switch_number, terminal_number};
+    ghost use Rattle.c104_describe.specs.Plans.{Terminal as TheTerminal, PlanBase as TheBase, PlanRandom as TheRandom, switch_number, terminal_number};
     ghost use Rattle.c104_describe.specs.Plans.{host_port, is_taken, is_linked, is_continued, is_deleted, next_first, rows_of, AreTerminals, label_count, most_switches};
     ghost use Rattle.c104_describe.specs.PlanDrafts.{has_settings};
     ghost use Rattle.c104_describe.specs.PlanParts.{plan_of};
@@ -235,11 +235,22 @@ impl Parts {
         self.bases.iter().any(|base| base.port.is_same(port))
     }
 
+    /// Whether an input has random headers.
+    #[tactic(auto, unfolding(crate::specs::Ports::is_any_at))]
+    pub(crate) fn has_random(&self, port: Port) -> bool
+        ensures { result ≡ is_any_at (λ (r : TheRandom). r.port) (plan_of self.now).randoms port }
+    {
+        self.randoms.iter().any(|random| random.port.is_same(port))
+    }
+
     /// Whether lines set something at links.
     pub(crate) fn has_settings(&self) -> bool
         ensures { result ≡ has_settings (plan_of self.now) }
     {
-        !self.continues.is_empty() || !self.bases.is_empty() || !self.rows.as_slice().is_empty()
+        !self.continues.is_empty()
+            || !self.bases.is_empty()
+            || !self.rows.as_slice().is_empty()
+            || !self.randoms.is_empty()
     }
 
     /// How many rows an input has.

@@ -147,7 +147,7 @@ impl Plan {
         self.parts.terminals.as_slice()
     }
 
-    /// How many bytes the headers have at wired links: 1, and in time 2.
+    /// How many bytes the headers have at wired links: 1 or 2.
     pub fn header(&self) -> usize
         ensures header { result ≡ self.now.header }
         ensures kept { IsPlan self.now }

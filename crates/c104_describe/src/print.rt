@@ -3,20 +3,20 @@ ghost use Rattle.std.specs.Prelude.{◌≡◌, ◌≤◌, ◌++◌, ◌∷◌, [
 ghost use Rattle.std.specs.String.{string_bytes};
 ghost use Rattle.c104_describe.specs.declared.plans.Shape.TheVariants.{Hand, Tree};
 ghost use Rattle.c104_describe.specs.PlanPrint.{buffer_words, counted_words, header_words, label_words, network_lines, plan_text, port_text, select_text, sentence, switch_name, switch_words, terminal_name, text_of};
-ghost use Rattle.c104_describe.specs.PlanPrint.{terminal_words, wire_words, continue_words, delete_words, base_words, row_words};
+ghost use Rattle.c104_describe.specs.PlanPrint.{terminal_words, wire_words, continue_words, delete_words, base_words, random_words, row_words};
 ghost use Rattle.c104_describe.specs.PlanText.{most_bytes, read_description};
 
-use crate::plans::{Plan, PlanRow, Shape, Terminal};
+use crate::plans::{Plan, PlanRandom, PlanRow, Shape, Terminal};
 use crate::ports::Port;
 use c104_interval::Select;
 use c104_token::NoMemory;
 use std::alloc::{AllocError, Global};
 
 /// Prints a plan as a description: `header n` and `buffer n`, then the network, and then the `continue`,
-/// `delete`, `base` and `row` lines, each kind in the order of its list. The network is one `mesh` or `cube`
-/// line, or `switch`, `terminal` and `wire` lines, each kind in the order of its list, and behind these the
-/// `label` line where there was one. A terminal's line says how many labels its range has, and where it begins
-/// unless there is a `label` line.
+/// `delete`, `base`, `row` and `random` lines, each kind in the order of its list. The network is one `mesh`
+/// or `cube` line, or `switch`, `terminal` and `wire` lines, each kind in the order of its list, and behind
+/// these the `label` line where there was one. A terminal's line says how many labels its range has, and
+/// where it begins unless there is a `label` line.
 ///
 /// Of what is printed `read_description` gives that very plan, if it has at most 1 MiB.
 #[tactic(auto, using(crate::proofs::PrintedPlans::read_back))]
@@ -43,6 +43,7 @@ fn add_parts(alloc: Global, text: &mut String, plan: &Plan) -> Result<(), AllocE
     add_deletes(alloc, text, plan)?;
     add_bases(alloc, text, plan)?;
     add_rows(alloc, text, plan)?;
+    add_randoms(alloc, text, plan)?;
     Ok(())
 }
 
@@ -242,6 +243,34 @@ fn add_row(alloc: Global, text: &mut String, plan: &Plan, row: &PlanRow) -> Resu
     let limit = row.limit;
     let select = select_text(alloc, row.select)?;
     let line = format!(in alloc; "row {port} {limit} {select}\n")?;
+    text.push_str(line.as_str())
+}
+
+/// The lines of the random headers join the text.
+fn add_randoms(alloc: Global, text: &mut String, plan: &Plan) -> Result<(), AllocError>
+    ensures { OnOk result (string_bytes text.new ≡
+        string_bytes text.old ++ text_of (map (random_words plan.now) plan.now.randoms)) }
+{
+    for random in plan.randoms() {
+        add_random(alloc, text, plan, random)?;
+    }
+    Ok(())
+}
+
+/// The line of an input's random headers joins the text.
+fn add_random(
+    alloc: Global,
+    text: &mut String,
+    plan: &Plan,
+    random: &PlanRandom,
+) -> Result<(), AllocError>
+    ensures { OnOk result (string_bytes text.new ≡
+        string_bytes text.old ++ (sentence (random_words plan.now random.now) ++ 0x0a ∷ [])) }
+{
+    let port = port_text(alloc, plan, random.port)?;
+    let base = random.base;
+    let range = random.range;
+    let line = format!(in alloc; "random {port} {base} {range}\n")?;
     text.push_str(line.as_str())
 }
 

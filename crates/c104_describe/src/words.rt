@@ -24,13 +24,14 @@ pub(crate) enum Keyword {
     Delete,
     Base,
     Row,
+    Random,
     Label,
     Mesh,
     Cube,
 }
 
 /// The words with which lines begin, the most frequent first.
-const KEYWORDS: [(&[u8], Keyword); 12] = [
+const KEYWORDS: [(&[u8], Keyword); 13] = [
     (b"row", Keyword::Row),
     (b"base", Keyword::Base),
     (b"wire", Keyword::Wire),
@@ -43,6 +44,7 @@ const KEYWORDS: [(&[u8], Keyword); 12] = [
     (b"label", Keyword::Label),
     (b"mesh", Keyword::Mesh),
     (b"cube", Keyword::Cube),
+    (b"random", Keyword::Random),
 ];
 
 /// What a word asks for. None where no line begins with it.
@@ -92,12 +94,15 @@ pub(crate) fn read_number_or(
     }
 }
 
-/// What a row selects: the number of a link, or `sink`.
+/// What a row selects: the number of a link, `discard` or `sink`.
 pub(crate) fn read_select(word: &[u8]) -> Result<Select, PlanFaultKind>
     ensures { result ≡ select_word word.now }
 {
     if word == b"sink".as_slice() {
         return Ok(Select::Sink);
+    }
+    if word == b"discard".as_slice() {
+        return Ok(Select::Discard);
     }
     let link = read_number_within(0, LAST_LINK, word)?;
     Ok(Select::Link(link as u8))
