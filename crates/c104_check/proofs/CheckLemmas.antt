@@ -1,17 +1,17 @@
 -- A network is accepted exactly where no test refuses it.
-use Rattle.std.proofs.Common.{◌≡◌, ◌≢◌, ℕ, ◌<◌, inl, inr, Bool, true, false, Result, Ok, Err, MatchResult, IfOk, IfErr, refl, sym, subst, ◌∙◌, arith}
+use Rattle.std.proofs.Common.{◌≡◌, ◌≢◌, ℕ, ◌<◌, inl, inr, Bool, true, false, Option, Some, None, Result, Ok, Err, MatchResult, IfOk, IfErr, refl, sym, subst, ◌∙◌, arith}
 use Rattle.std.proofs.lemmas.Bool.{cases_Bool, cases_eq, cases_lt, cases_order}
 use Rattle.c104_regs.specs.Settings.{header_length}
 use Rattle.c104_check.specs.declared.acceptance.Accepted.{Accepted}
 use Rattle.c104_check.specs.declared.faults.CheckFault.{CheckFault}
 use Rattle.c104_check.specs.declared.faults.CheckFault.TheVariants as fault
 use Rattle.c104_check.specs.declared.faults.WalkFault.TheVariants as walk
-use Rattle.c104_check.specs.Checks.{DeletesInside, HasLarge, IsCause, IsFirstRefused, IsMixed, IsPlain, Meet, NoneLarge, NoneMeet, Shown}
-use Rattle.c104_check.specs.Refusals.{AllLand}
-use Rattle.c104_check.specs.Routes.{IsAccepted, Owns, Routes, SwitchPort, header_count}
+use Rattle.c104_check.specs.Checks.{DeletesInside, HasLarge, IsCause, IsFirstRefused, IsMixed, IsPlain, IsRandomInside, Meet, NoneLarge, NoneMeet, Shown}
+use Rattle.c104_check.specs.Routes.{IsAccepted, IsRandomIn, IsRandomized, Lands, LandsBehind, Owns, Routes, SwitchPort, TerminalLands, header_count, most_hops, owner, to_port}
+use Rattle.c104_describe.specs.declared.ports.Port.{Port}
+use Rattle.c104_describe.specs.declared.ports.Port.TheVariants as port
 use Rattle.c104_check.specs.Trails.{IsNetwork}
 use Rattle.c104_check.specs.Walks.{WalkFault}
-use Rattle.c104_check.proofs.RouteLemmas.{never_random}
 
 module _ (routes : Routes) (net : IsNetwork routes) where
   apart_of : NoneMeet routes → (t u h : ℕ) → Owns routes t h → Owns routes u h → t ≡ u
@@ -30,14 +30,19 @@ module _ (routes : Routes) (net : IsNetwork routes) where
   false_of : (b : Bool) → (b ≡ true → ⊥) → b ≡ false
   false_of b not = elim (cases_Bool b) [ inl is ↦ absurd (not is) | inr is ↦ is ]
 
-  pub accepted_of : IsPlain routes → AllLand routes → IsAccepted routes
+  outside_of : (p : SwitchPort) → IsRandomized routes p → (IsRandomInside routes p → ⊥) → (o : Option Port) → routes.peer (to_port p) ≡ o → (t : ℕ) × (routes.peer (to_port p) ≡ Some (port.Terminal t))
+  outside_of p random none None at = absurd (none (random, λ t is. let clash : None ≡ Some (port.Terminal t) = sym at ∙ is in cc))
+  outside_of p random none (Some (port.Switch s l)) at = absurd (none (random, λ t is. let clash : Some (port.Switch s l) ≡ Some (port.Terminal t) = sym at ∙ is in cc))
+  outside_of p random none (Some (port.Terminal t)) at = (t, at)
+
+  pub accepted_of : IsPlain routes → ((t : ℕ) → TerminalLands routes t) → IsAccepted routes
   accepted_of plain land = record {
     apart = apart_of plain.meet;
     small = small_of plain.large;
     one_length = λ p other x wired set. length_of (header_length x) routes.header (λ differ. plain.mixed p (other, x, wired, set, differ));
     none_deleted = λ p q x wired set. false_of x.delete_header (λ deletes. plain.deletes p (q, x, wired, set, deletes));
-    none_random = λ p x set. never_random routes p x net set;
-    entries = λ t h p entry below. land t h below p entry;
+    random_outside = λ p random. outside_of p random (plain.random p) (routes.peer (to_port p)) refl;
+    entries = land;
   }
 
   no_pair : IsAccepted routes → (t u : ℕ) → t < u → Meet routes t u → ⊥
@@ -52,8 +57,24 @@ module _ (routes : Routes) (net : IsNetwork routes) where
   no_deleting : IsAccepted routes → (p : SwitchPort) → DeletesInside routes p → ⊥
   no_deleting are p (q, x, wired, set, deletes) = let not = are.none_deleted p q x wired set in let clash : true ≡ false = sym deletes ∙ not in absurd cc
 
+  no_inside : IsAccepted routes → (p : SwitchPort) → IsRandomInside routes p → ⊥
+  no_inside are p inside = let outside = are.random_outside p inside.0 in inside.1 outside.0 outside.1
+
+  -- what lands behind a portal comes where it should, but for random headers
+  behind_lands : (q : SwitchPort) (h : ℕ) (o : Option ℕ) → (o ≡ None → IsRandomIn routes h → ⊥) → LandsBehind routes h q o → Lands routes h q o
+  behind_lands q h None not lands = lands (not refl)
+  behind_lands q h (Some t) not lands = lands
+
   no_refused : IsAccepted routes → (why : WalkFault) (shown : Shown) → IsFirstRefused routes why shown → ⊥
-  no_refused are why shown refused = refused.fails (are.entries shown.entry shown.header refused.entry refused.wired refused.below)
+  no_refused are why shown refused =
+      let all = are.entries shown.entry refused.entry refused.wired in
+      elim refused.here [
+        | inl own ↦ own.refused.fails (all.own own.plain shown.header refused.below)
+        | inr other ↦ elim other [
+          | inl random ↦ random.fails (most_hops routes) (all.random shown.header random.random)
+          | inr behind ↦ behind.refused.fails (behind_lands behind.portal shown.header (owner routes shown.header) behind.not_random (all.portals behind.portal behind.is_portal shown.header refused.below))
+        ]
+      ]
 
   -- so of an accepted network no cause is told but want of memory
   pub accepted_cause : IsAccepted routes → (why : CheckFault) → IsCause routes why → why ≡ fault.NoMemory
@@ -61,6 +82,7 @@ module _ (routes : Routes) (net : IsNetwork routes) where
   accepted_cause are (fault.LabelTooLarge t) large = absurd (no_large are t large.1.0)
   accepted_cause are (fault.MixedHeaders p) mixed = absurd (no_mixed are p mixed.2.0)
   accepted_cause are (fault.DeleteInside p) deletes = absurd (no_deleting are p deletes.3.0)
+  accepted_cause are (fault.RandomInside p) inside = absurd (no_inside are p inside.4.0)
   accepted_cause are (fault.WrongEnd shown) refused = absurd (no_refused are walk.WrongEnd shown refused.1)
   accepted_cause are (fault.DeadEnd shown) refused = absurd (no_refused are walk.DeadEnd shown refused.1)
   accepted_cause are (fault.Loop shown) refused = absurd (no_refused are walk.Loop shown refused.1)

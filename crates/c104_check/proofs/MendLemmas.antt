@@ -1,21 +1,24 @@
 -- Steps of refused walks that lead wrong, and what mends them.
-use Rattle.std.proofs.Common.{◌≡◌, ℕ, suc, ◌+◌, ◌-◌, ◌<◌, ◌≤◌, ◌&&◌, true, false, nat_le, List, ◌∷◌, drop, drop-cons, length, slice_index_or, [], Option, Some, None, refl, sym, ap, subst, ◌∙◌, arith}
+use Rattle.std.proofs.Common.{◌≡◌, MatchOption, ℕ, suc, ◌+◌, ◌-◌, ◌<◌, ◌≤◌, ◌&&◌, true, false, nat_le, List, ◌∷◌, drop, drop-cons, length, slice_index_or, [], Option, Some, None, refl, sym, ap, subst, ◌∙◌, arith}
 use Rattle.std.specs.List.{AllByRecursion}
 use Rattle.std.proofs.lemmas.Bool.{le-leb}
 use Rattle.std.proofs.lemmas.Bool.Decides.{nat_tests}
 use Rattle.std.proofs.lemmas.List.Folds.{list_any_at}
 use Rattle.std.proofs.lemmas.Option.{get_or_from_slice_get, slice_get-get_or}
-use Rattle.c104_interval.specs.declared.intervals.Select.TheVariants.{Link}
+use Rattle.c104_interval.specs.declared.intervals.Select.TheVariants.{Link, Sink}
 use Rattle.c104_describe.specs.declared.ports.Port.{Port}
 use Rattle.c104_describe.specs.declared.ports.Port.TheVariants as port
 use Rattle.c104_check.specs.declared.faults.Shown.{Shown}
 use Rattle.c104_check.specs.declared.walks.Halt.{Halt}
 use Rattle.c104_check.specs.declared.walks.Halt.TheVariants.{Fault}
-use Rattle.c104_check.specs.Mends.{IsFollowedBy, IsMisstep, LandsBy, LeavesBy, NoGroupLeads, NoMend, is_wrong}
-use Rattle.c104_check.specs.Routes.{Leads, Routes, SwitchPort, is_in_group, owner, select}
+use Rattle.c104_check.specs.Mends.{IsFollowedBy, IsMend, IsMisstep, IsThere, IsWalkKind, IsWrongWay, LandsBy, Mend, Misstep, NoGroupLeads, NoMend, NoMisstep, NoStepFrom, NoWrongWay, WalkKind, goal_of, is_wrong}
+use Rattle.c104_check.specs.Routes.{Routes, SwitchPort, is_in_group, owner, select}
+use Rattle.c104_check.specs.Shown.{Comes}
 use Rattle.c104_check.specs.Trails.{IsInput, IsNetwork}
 use Rattle.c104_check.specs.Walking.{IsHalt, fault_on}
-use Rattle.c104_check.specs.Walks.{WalkFault, is_met, is_port}
+use Rattle.c104_check.specs.declared.walks.Goal.TheVariants.{Owner}
+use Rattle.c104_check.specs.Walks.{Goal, WalkFault, is_met, is_port}
+use Rattle.c104_check.proofs.WalkKindLemmas.{one_goal}
 use Rattle.c104_check.proofs.TrailLemmas.{All-found, trail_first}
 use Rattle.c104_check.proofs.Walked.{good_clear, is_port-refl}
 
@@ -49,45 +52,68 @@ between_true first last o low high = rw (le-leb first o low, le-leb o last high)
 pub between_parts : (first last o : ℕ) → (nat_le first o && nat_le o last) ≡ true → (first ≤ o) × (o ≤ last)
 between_parts first last o is = (grind (arith, nat_tests), grind (arith, nat_tests))
 
-module _ (routes : Routes) (shown : Shown) (n : ℕ) (at last : SwitchPort) (followed : IsFollowedBy shown.walk n at) (is_last : IsFollowedBy shown.walk 0 last) (o : Option ℕ) (owned : o ≡ owner routes shown.header) where
-  pub no_link : ((g : ℕ) → select routes at.switch at.link shown.header ≡ Some (Link g) → ⊥) → is_wrong last o None ≡ true → IsMisstep routes shown n (record { owner = o; at = at; link = None; peer = None })
-  no_link none wrong = record {
-    owned = owned;
-    followed = followed;
-    leaves = none;
-    last = last;
-    is_last = is_last;
-    wrong = wrong;
-  }
-
-  pub by_link : (g first high link : ℕ) (other : Option Port) → select routes at.switch at.link shown.header ≡ Some (Link g) → ((l : ℕ) → is_in_group routes at.switch g l ≡ (nat_le first l && nat_le l high)) → first ≤ link → link ≤ high → other ≡ routes.peer (port.Switch at.switch link) → is_wrong last o (routes.peer (port.Switch at.switch link)) ≡ true → IsMisstep routes shown n (record { owner = o; at = at; link = Some link; peer = other })
-  by_link g first high link other selects members low top wired wrong = record {
-    owned = owned;
-    followed = followed;
-    leaves = (g, selects, members link ∙ between_true first high link low top, sym wired);
-    last = last;
-    is_last = is_last;
-    wrong = ap (is_wrong last o) wired ∙ wrong;
-  }
-
-pub wrong_end : (last : SwitchPort) (o : Option ℕ) → is_wrong last o None ≡ true
+pub wrong_end : (last : SwitchPort) (goal : Option Goal) → is_wrong last goal None ≡ true
 wrong_end last None = refl
-wrong_end last (Some t) = refl
+wrong_end last (Some goal) = refl
 
--- a way from an input that selects a link, over none of whose group it comes where it shouldn't
-pub not_wrong : (routes : Routes) (h g first high : ℕ) (p last : SwitchPort) (t link : Option ℕ) (other : Option Port) → select routes p.switch p.link h ≡ Some (Link g) → ((l : ℕ) → is_in_group routes p.switch g l ≡ (nat_le first l && nat_le l high)) → ((l : ℕ) → first ≤ l → l ≤ high → is_wrong last t (routes.peer (port.Switch p.switch l)) ≡ false) → LeavesBy routes h p link other → is_wrong last t other ≡ false
-not_wrong routes h g first high p last t None other selects members right leaves = absurd (leaves g selects)
-not_wrong routes h g first high p last t (Some l) other selects members right leaves =
+pub no_link : (routes : Routes) (h : ℕ) (goal : Option Goal) (at last : SwitchPort) → ((g : ℕ) → select routes at.switch at.link h ≡ Some (Link g) → ⊥) → (IsThere routes h goal at → ⊥) → IsWrongWay routes h goal at last None None
+no_link routes h goal at last none away = ((none, away), wrong_end last goal)
+
+pub by_link : (routes : Routes) (h : ℕ) (goal : Option Goal) (at last : SwitchPort) (g first high link : ℕ) (other : Option Port) → select routes at.switch at.link h ≡ Some (Link g) → ((l : ℕ) → is_in_group routes at.switch g l ≡ (nat_le first l && nat_le l high)) → first ≤ link → link ≤ high → other ≡ routes.peer (port.Switch at.switch link) → is_wrong last goal (routes.peer (port.Switch at.switch link)) ≡ true → IsWrongWay routes h goal at last (Some link) other
+by_link routes h goal at last g first high link other selects members low top wired wrong =
+    ((g, selects, members link ∙ between_true first high link low top, sym wired), ap (is_wrong last goal) wired ∙ wrong)
+
+-- an input that selects no link, where it should come
+pub none_there : (routes : Routes) (h : ℕ) (goal : Option Goal) (at last : SwitchPort) → ((g : ℕ) → select routes at.switch at.link h ≡ Some (Link g) → ⊥) → IsThere routes h goal at → NoWrongWay routes h goal at last
+none_there routes h goal at last none there None other leaves = absurd (leaves.1 there)
+none_there routes h goal at last none there (Some l) other leaves = absurd (none leaves.0 leaves.1)
+
+-- an input that selects a link, over none of whose group it comes where it shouldn't
+pub not_wrong : (routes : Routes) (h : ℕ) (goal : Option Goal) (at last : SwitchPort) (g first high : ℕ) → select routes at.switch at.link h ≡ Some (Link g) → ((l : ℕ) → is_in_group routes at.switch g l ≡ (nat_le first l && nat_le l high)) → ((l : ℕ) → first ≤ l → l ≤ high → is_wrong last goal (routes.peer (port.Switch at.switch l)) ≡ false) → NoWrongWay routes h goal at last
+not_wrong routes h goal at last g first high selects members right None other leaves = absurd (leaves.0 g selects)
+not_wrong routes h goal at last g first high selects members right (Some l) other leaves =
     let both : Some (Link g) ≡ Some (Link leaves.0) = sym selects ∙ leaves.1 in
     let same : leaves.0 ≡ g = cc in
-    let member : (nat_le first l && nat_le l high) ≡ true = sym (members l) ∙ ap (λ x. is_in_group routes p.switch x l) (sym same) ∙ leaves.2 in
+    let member : (nat_le first l && nat_le l high) ≡ true = sym (members l) ∙ ap (λ x. is_in_group routes at.switch x l) (sym same) ∙ leaves.2 in
     let within = between_parts first high l member in
-    ap (is_wrong last t) (sym leaves.3) ∙ right l within.0 within.1
+    ap (is_wrong last goal) (sym leaves.3) ∙ right l within.0 within.1
+
+-- a step that is wrong, and none where its input and the walk's last are these
+pub is_misstep : (routes : Routes) (shown : Shown) (n : ℕ) (kind : WalkKind) (o : Option ℕ) (goal : Option Goal) (at last : SwitchPort) (link : Option ℕ) (other : Option Port) → IsWalkKind routes shown kind → o ≡ owner routes shown.header → goal ≡ goal_of kind o → IsFollowedBy shown.walk n at → IsFollowedBy shown.walk 0 last → IsWrongWay routes shown.header goal at last link other → IsMisstep routes shown n (record { kind = kind; owner = o; at = at; link = link; peer = other })
+is_misstep routes shown n kind o goal at last link other of_kind owned due followed is_last wrong = record {
+  kind = of_kind;
+  owned = owned;
+  followed = followed;
+  last = last;
+  is_last = is_last;
+  wrong = subst (λ (x : Option Goal). IsWrongWay routes shown.header x at last link other) due wrong;
+}
+
+pub no_step : (routes : Routes) (shown : Shown) (n : ℕ) (kind : WalkKind) (o : Option ℕ) (goal : Option Goal) (at end p last : SwitchPort) → o ≡ owner routes shown.header → goal ≡ goal_of kind o → at ≡ p → end ≡ last → NoWrongWay routes shown.header goal at end → NoWrongWay routes shown.header (goal_of kind (owner routes shown.header)) p last
+no_step routes shown n kind o goal at end p last owned due from to none =
+    let mine : NoWrongWay routes shown.header goal p last = subst (λ (x : SwitchPort). NoWrongWay routes shown.header goal p x) to (subst (λ (x : SwitchPort). NoWrongWay routes shown.header goal x end) from none) in
+    subst (λ (x : Option Goal). NoWrongWay routes shown.header x p last) (due ∙ ap (goal_of kind) owned) mine
+
+-- a walk's header has one goal, so what is found with one is found with all
+pub one_step : (routes : Routes) (shown : Shown) (n : ℕ) (kind : WalkKind) (found : Option Misstep) → IsWalkKind routes shown kind → MatchOption found (NoStepFrom routes shown n (goal_of kind (owner routes shown.header))) (IsMisstep routes shown n) → MatchOption found (NoMisstep routes shown n) (IsMisstep routes shown n)
+one_step routes shown n kind None of_kind none = λ other of_other. subst (NoStepFrom routes shown n) (one_goal routes shown kind other (owner routes shown.header) of_kind of_other) none
+one_step routes shown n kind (Some step) of_kind is = is
+
+-- the mend of a header without a goal
+pub stray_mend : (routes : Routes) (shown : Shown) (kind : WalkKind) (found : Option Mend) → IsWalkKind routes shown kind → goal_of kind (owner routes shown.header) ≡ None → MatchOption found ((p : SwitchPort) → is_met p shown.walk ≡ false) (λ mend. (is_met mend.at shown.walk ≡ true) × (mend.select ≡ Sink)) → MatchOption found (NoMend routes shown) (IsMend routes shown)
+stray_mend routes shown kind None of_kind due none = λ mend is. let clash : true ≡ false = sym is.met ∙ none mend.at in absurd cc
+stray_mend routes shown kind (Some mend) of_kind due is = record {
+  kind = kind;
+  of_kind = of_kind;
+  met = is.0;
+  lands = subst (λ (x : Option Goal). LandsBy routes shown.header x mend.at.switch mend.select) (sym due) is.1;
+}
 
 -- no mend is at the inputs of a walk, at none of which a group leads to the owner
-pub no_mend : (routes : Routes) (shown : Shown) (t : ℕ) (xs : List SwitchPort) → xs ≡ shown.walk → owner routes shown.header ≡ Some t → AllByRecursion (λ p. NoGroupLeads routes shown.header t p.switch) xs → NoMend routes shown
-no_mend routes shown t xs same owned none = λ mend is.
-    let lands : LandsBy routes shown.header (Some t) mend.at.switch mend.select = subst (λ o. LandsBy routes shown.header o mend.at.switch mend.select) owned is.lands in
+pub no_mend : (routes : Routes) (shown : Shown) (kind : WalkKind) (t : ℕ) (xs : List SwitchPort) → xs ≡ shown.walk → IsWalkKind routes shown kind → goal_of kind (owner routes shown.header) ≡ Some (Owner t) → AllByRecursion (λ p. NoGroupLeads routes shown.header t p.switch) xs → NoMend routes shown
+no_mend routes shown kind t xs same of_kind owned none = λ mend is.
+    let due : goal_of is.kind (owner routes shown.header) ≡ Some (Owner t) = one_goal routes shown is.kind kind (owner routes shown.header) is.of_kind of_kind ∙ owned in
+    let lands : LandsBy routes shown.header (Some (Owner t)) mend.at.switch mend.select = subst (λ (x : Option Goal). LandsBy routes shown.header x mend.at.switch mend.select) due is.lands in
     All-found (λ p. NoGroupLeads routes shown.header t p.switch) xs mend.at none (ap (is_met mend.at) same ∙ is.met) lands.0 lands.2
 
 -- one more input, from a walk's end
@@ -99,10 +125,10 @@ all_more P xs k d inside here behind =
     ap (λ i. drop i xs) at ∙ drop-cons xs (length xs - 1 - k) d (omega (arith, inside)) ∙ ap (λ i. slice_index_or xs (length xs - 1 - k) d ∷ drop i xs) next in
     subst (AllByRecursion P) (sym parts) (here, behind)
 
--- a walk from an input that leads to the owner isn't refused
-pub leads_on : (routes : Routes) (h t : ℕ) (walk new : List SwitchPort) (p : SwitchPort) (halt : Halt) (why : WalkFault) → IsNetwork routes → IsInput (length routes.settings) p → walk ≡ [] → halt ≡ Fault why → IsHalt halt (fault_on routes h t walk p) new → (k : ℕ) × Leads routes h t k p.switch p.link → ⊥
-leads_on routes h t walk new p halt why net here empty is halts leads =
-    let found : fault_on routes h t walk p ≡ Some (why, new) = subst (λ x. IsHalt x (fault_on routes h t walk p) new) is halts in
-    let none : fault_on routes h t walk p ≡ None = ap (λ (xs : List SwitchPort). fault_on routes h t xs p) empty ∙ good_clear routes h t (p ∷ []) p net here (trail_first routes h p here) leads in
+-- a walk from an input from where a header comes where it should isn't refused
+pub comes_on : (routes : Routes) (h : ℕ) (goal : Goal) (walk new : List SwitchPort) (p : SwitchPort) (halt : Halt) (why : WalkFault) → IsNetwork routes → IsInput (length routes.settings) p → walk ≡ [] → halt ≡ Fault why → IsHalt halt (fault_on routes h goal walk p) new → (k : ℕ) × Comes routes h goal k p.switch p.link → ⊥
+comes_on routes h goal walk new p halt why net here empty is halts comes =
+    let found : fault_on routes h goal walk p ≡ Some (why, new) = subst (λ x. IsHalt x (fault_on routes h goal walk p) new) is halts in
+    let none : fault_on routes h goal walk p ≡ None = ap (λ (xs : List SwitchPort). fault_on routes h goal xs p) empty ∙ good_clear routes h goal (p ∷ []) p net here (trail_first routes h p here) comes in
     let clash = sym none ∙ found in
     absurd cc

@@ -1,21 +1,22 @@
 -- Headers that are refused, and those that come where they should.
-use Rattle.std.proofs.Common.{◌≡◌, ℕ, ◌<◌, ◌≤◌, ◌+◌, ◌*◌, ◌-◌, inl, inr, [], ◌∷◌, length, Option, Some, None, MatchOption, refl, sym, ap, subst, ◌∙◌, arith}
+use Rattle.std.proofs.Common.{◌≡◌, ℕ, ◌<◌, ◌+◌, ◌*◌, ◌-◌, inl, inr, true, false, List, [], ◌∷◌, length, slice_get, is_some, Option, Some, None, MatchOption, refl, sym, ap, subst, ◌∙◌, arith}
 use Rattle.std.proofs.lemmas.Bool.{cases_lt}
 use Rattle.c104_describe.specs.declared.ports.Port.{Port}
 use Rattle.c104_describe.specs.declared.ports.Port.TheVariants as port
-use Rattle.c104_check.specs.Checks.{IsFirstRefused}
-use Rattle.c104_check.specs.Refusals.{AllLand, IsFirstOf, IsRefusal, LandsBefore, LandsFrom, Refusal}
-use Rattle.c104_check.specs.Routes.{IsEntryOf, Lands, Routes, SwitchPort, header_count, owner}
+use Rattle.c104_check.specs.Checks.{IsRefusedAt, Shown}
+use Rattle.c104_check.specs.Refusals.{AllLand, IsFirstIn, IsFirstOf, IsRefusal, IsSpared, LandSoFar, LandsBefore, LandsFrom, Refusal, Start}
+use Rattle.c104_check.specs.Routes.{IsEntryOf, IsRandomIn, Lands, Routes, SwitchPort, header_count, owner}
 use Rattle.c104_check.specs.Trails.{IsInput, IsNetwork}
 use Rattle.c104_check.specs.Walking.{fault_on}
-use Rattle.c104_check.specs.Walks.{fault_at, first_fault, port_of}
+use Rattle.c104_check.specs.declared.walks.Goal.TheVariants.{Owner}
+use Rattle.c104_check.specs.Walks.{WalkFault, fault_at, first_fault, port_of}
 use Rattle.c104_check.proofs.ShownLemmas.{fault_lands, fault_shown, shown_fails, shown_never}
 
 -- a walk that goes on to an entry is the whole walk
-pub entry_is : (routes : Routes) (h t : ℕ) (p : SwitchPort) → fault_on routes h t [] p ≡ fault_at routes h p (Some t)
+pub entry_is : (routes : Routes) (h t : ℕ) (p : SwitchPort) → fault_on routes h (Owner t) [] p ≡ fault_at routes h p (Some t)
 entry_is routes h t p =
     let k : 32 * length routes.settings + 1 - 1 ≡ 32 * length routes.settings = omega arith in
-    ap (λ n. first_fault routes h t n (p ∷ []) p) k
+    ap (λ n. first_fault routes h (Owner t) n (p ∷ []) p) k
 
 switch_of : Option Port → ℕ
 switch_of (Some (port.Switch s l)) = s
@@ -36,74 +37,105 @@ entry_same routes t p q a b =
     let l : p.link ≡ q.link = ap link_of both in
     ap (λ x. port_of x p.link) s ∙ ap (λ x. port_of q.switch x) l
 
-pub lands_from : (routes : Routes) (h t : ℕ) (p : SwitchPort) (o : Option ℕ) → IsNetwork routes → IsEntryOf routes t p → owner routes h ≡ o → fault_at routes h p o ≡ None → LandsFrom routes h t
-lands_from routes h t p o net entry own is q there =
-    subst (λ x. Lands routes h q x) (sym own) (subst (λ x. Lands routes h x o) (entry_same routes t p q entry there) (fault_lands routes h p o net is))
+-- some start, for a place past the last
+abbrev pub no_start : Start
+no_start = record { terminal = 0; at = port_of 0 0; behind = false }
 
-pub refusal_from : (routes : Routes) (h t : ℕ) (p : SwitchPort) (o : Option ℕ) (refusal : Refusal) → IsNetwork routes → IsInput (length routes.settings) p → IsEntryOf routes t p → owner routes h ≡ o → refusal.shown.entry ≡ t → refusal.shown.header ≡ h → fault_at routes h p o ≡ Some (refusal.why, refusal.shown.walk) → IsRefusal routes h t refusal
-refusal_from routes h t p o refusal net here entry own terminal header is =
-    let found : fault_at routes h p (owner routes h) ≡ Some (refusal.why, refusal.shown.walk) = ap (fault_at routes h p) own ∙ is in
-    let shows = fault_shown routes h p refusal.why refusal.shown.walk (owner routes h) net here found in
+Some-start : (x y : Start) → Some x ≡ Some y → x ≡ y
+Some-start x y is = cc
+
+pub lands_from : (routes : Routes) (starts : List Start) (h k : ℕ) (start : Start) (o : Option ℕ) → IsNetwork routes → slice_get starts k ≡ Some start → owner routes h ≡ o → fault_at routes h start.at o ≡ None → LandsFrom routes starts h k
+lands_from routes starts h k start o net at own is other there =
+    inl (subst (λ (x : Start). Lands routes h x.at (owner routes h)) (Some-start start other (sym at ∙ there)) (subst (Lands routes h start.at) (sym own) (fault_lands routes h start.at o net is)))
+
+pub spared_from : (routes : Routes) (starts : List Start) (h k : ℕ) (start : Start) → slice_get starts k ≡ Some start → owner routes h ≡ None → start.behind ≡ true → IsRandomIn routes h → LandsFrom routes starts h k
+spared_from routes starts h k start at own behind random other there =
+    inr (own, subst (λ (x : Start). x.behind ≡ true) (Some-start start other (sym at ∙ there)) behind, random)
+
+pub refused_at : (routes : Routes) (h : ℕ) (q : SwitchPort) (o : Option ℕ) (why : WalkFault) (shown : Shown) → IsNetwork routes → IsInput (length routes.settings) q → owner routes h ≡ o → shown.header ≡ h → fault_at routes h q o ≡ Some (why, shown.walk) → IsRefusedAt routes q why shown
+refused_at routes h q o why shown net here own is found =
+    let x = shown.header in
+    let owned : owner routes x ≡ o = ap (owner routes) is ∙ own in
+    let first : fault_at routes x q (owner routes x) ≡ Some (why, shown.walk) = ap (fault_at routes x q) owned ∙ ap (λ n. fault_at routes n q o) is ∙ found in
+    let shows = fault_shown routes x q why shown.walk (owner routes x) net here first in
     record {
-      terminal = terminal;
-      header = header;
-      entry = p;
-      wired = entry;
       shows = shows;
-      first = found;
-      fails = shown_fails routes h p refusal.why refusal.shown.walk (owner routes h) here shows;
-      never_leads = shown_never routes h p refusal.why refusal.shown.walk (owner routes h) here shows;
+      first = first;
+      fails = shown_fails routes x q why shown.walk (owner routes x) here shows;
+      never_leads = shown_never routes x q why shown.walk (owner routes x) here shows;
     }
+
+pub refusal_from : (routes : Routes) (starts : List Start) (h k : ℕ) (start : Start) (o : Option ℕ) (refusal : Refusal) → IsNetwork routes → IsInput (length routes.settings) start.at → slice_get starts k ≡ Some start → owner routes h ≡ o → refusal.start ≡ k → refusal.shown.entry ≡ start.terminal → refusal.shown.header ≡ h → fault_at routes h start.at o ≡ Some (refusal.why, refusal.shown.walk) → (IsSpared routes h start → ⊥) → IsRefusal routes starts h k refusal
+refusal_from routes starts h k start o refusal net here at own number terminal header is not_spared = record {
+  number = number;
+  start = start;
+  at = at;
+  terminal = terminal;
+  header = header;
+  refused = refused_at routes h start.at o refusal.why refusal.shown net here own header is;
+  not_spared = not_spared;
+}
+
+-- one with an owner is not spared
+pub owned_spared : (routes : Routes) (h t : ℕ) (start : Start) → owner routes h ≡ Some t → IsSpared routes h start → ⊥
+owned_spared routes h t start own spared = let clash : Some t ≡ None = sym own ∙ spared.0 in cc
+
+-- Start by start
+
+pub lands_next : (routes : Routes) (starts : List Start) (h n : ℕ) → LandsBefore routes starts h n → LandsFrom routes starts h n → LandsBefore routes starts h (n + 1)
+lands_next routes starts h n before here k start below at =
+    elim (cases_lt k n) [
+      | inl lower ↦ before k start lower at
+      | inr not ↦ let same : k ≡ n = omega (arith, below, not) in here start (ap (slice_get starts) (sym same) ∙ at)
+    ]
+
+pub first_of_starts : (routes : Routes) (starts : List Start) (h k n : ℕ) (refusal : Refusal) → k < n → LandsBefore routes starts h k → IsRefusal routes starts h k refusal → IsFirstOf routes starts h n refusal
+first_of_starts routes starts h k n refusal below before refused =
+    let at = refused.number in
+    record {
+      inside = omega (arith, at, below);
+      before = subst (LandsBefore routes starts h) (sym at) before;
+      refused = subst (λ x. IsRefusal routes starts h x refusal) (sym at) refused;
+    }
+
+-- what was found at the next start
+pub first_found : (routes : Routes) (starts : List Start) (h k n : ℕ) (found : Option Refusal) → is_some found ≡ true → k < n → LandsBefore routes starts h k → MatchOption found (LandsFrom routes starts h k) (IsRefusal routes starts h k) → MatchOption found (LandsBefore routes starts h n) (IsFirstOf routes starts h n)
+first_found routes starts h k n None some below before is = absurd cc
+first_found routes starts h k n (Some refusal) some below before is = first_of_starts routes starts h k n refusal below before is
 
 -- Header by header
 
--- the first of what was refused so far, at the terminals before n nothing was
-abbrev pub IsFirstSoFar : Routes → ℕ → ℕ → Option Refusal → Type 0
-IsFirstSoFar routes h n None = n ≡ length routes.ranges
-IsFirstSoFar routes h n (Some refusal) =
-    (n ≡ refusal.shown.entry) × (refusal.shown.header < h) × IsRefusal routes refusal.shown.header refusal.shown.entry refusal × ((g : ℕ) → g < refusal.shown.header → LandsFrom routes g refusal.shown.entry)
+-- the first of what was refused so far, at the starts before n nothing was
+abbrev pub IsFirstSoFar : Routes → List Start → ℕ → ℕ → Option Refusal → Type 0
+IsFirstSoFar routes starts h n None = n ≡ length starts
+IsFirstSoFar routes starts h n (Some refusal) =
+    (n ≡ refusal.start) × (refusal.shown.header < h) × IsRefusal routes starts refusal.shown.header refusal.start refusal × ((g : ℕ) → g < refusal.shown.header → LandsFrom routes starts g refusal.start)
 
-abbrev pub LandSoFar : Routes → ℕ → ℕ → Type 0
-LandSoFar routes h n = (g : ℕ) → g < h → LandsBefore routes g n
+pub so_far_kept : (routes : Routes) (starts : List Start) (h n : ℕ) (first : Option Refusal) → IsFirstSoFar routes starts h n first → IsFirstSoFar routes starts (h + 1) n first
+so_far_kept routes starts h n None is = is
+so_far_kept routes starts h n (Some refusal) (at, below, refused, lower) = (at, omega (arith, below), refused, lower)
 
-pub so_far_kept : (routes : Routes) (h n : ℕ) (first : Option Refusal) → IsFirstSoFar routes h n first → IsFirstSoFar routes (h + 1) n first
-so_far_kept routes h n None is = is
-so_far_kept routes h n (Some refusal) (at, below, refused, lower) = (at, omega (arith, below), refused, lower)
-
-pub land_kept : (routes : Routes) (h n : ℕ) → LandSoFar routes h n → LandsBefore routes h n → LandSoFar routes (h + 1) n
-land_kept routes h n before here g below =
+pub land_kept : (routes : Routes) (starts : List Start) (h n : ℕ) → LandSoFar routes starts h n → LandsBefore routes starts h n → LandSoFar routes starts (h + 1) n
+land_kept routes starts h n before here g below =
     elim (cases_lt g h) [
       | inl lower ↦ before g lower
-      | inr not ↦ let same : g ≡ h = omega (arith, below, not) in subst (λ x. LandsBefore routes x n) (sym same) here
+      | inr not ↦ let same : g ≡ h = omega (arith, below, not) in subst (λ x. LandsBefore routes starts x n) (sym same) here
     ]
 
-pub so_far_next : (routes : Routes) (h n : ℕ) (refusal : Refusal) → LandSoFar routes h n → IsFirstOf routes h n refusal → IsFirstSoFar routes (h + 1) refusal.shown.entry (Some refusal)
-so_far_next routes h n refusal before is =
+pub so_far_next : (routes : Routes) (starts : List Start) (h n : ℕ) (refusal : Refusal) → LandSoFar routes starts h n → IsFirstOf routes starts h n refusal → IsFirstSoFar routes starts (h + 1) refusal.start (Some refusal)
+so_far_next routes starts h n refusal before is =
     let same = is.refused.header in
-    (refl, omega (arith, same), subst (λ x. IsRefusal routes x refusal.shown.entry refusal) (sym same) is.refused, λ g lower. before g (omega (arith, lower, same)) refusal.shown.entry is.inside)
+    (refl, omega (arith, same), subst (λ x. IsRefusal routes starts x refusal.start refusal) (sym same) is.refused, λ g lower start at. before g (omega (arith, lower, same)) refusal.start start is.inside at)
 
-pub land_next : (routes : Routes) (h n : ℕ) (refusal : Refusal) → LandSoFar routes h n → IsFirstOf routes h n refusal → LandSoFar routes (h + 1) refusal.shown.entry
-land_next routes h n refusal before is =
-    land_kept routes h refusal.shown.entry (λ g lower t below. let inside = is.inside in before g lower t (omega (arith, below, inside))) is.before
+pub land_next : (routes : Routes) (starts : List Start) (h n : ℕ) (refusal : Refusal) → LandSoFar routes starts h n → IsFirstOf routes starts h n refusal → LandSoFar routes starts (h + 1) refusal.start
+land_next routes starts h n refusal before is =
+    land_kept routes starts h refusal.start (λ g lower k start below at. let inside = is.inside in before g lower k start (omega (arith, below, inside)) at) is.before
 
-pub all_land : (routes : Routes) (h n : ℕ) → IsNetwork routes → header_count routes ≤ h → n ≡ length routes.ranges → LandSoFar routes h n → AllLand routes
-all_land routes h n net all count before t g below p entry =
-    let inside = net.terminals t p entry in
-    before g (omega (arith, below, all)) t (omega (arith, inside, count)) p entry
-
-pub first_refused_is : (routes : Routes) (h n : ℕ) (refusal : Refusal) → h ≡ header_count routes → LandSoFar routes h n → IsFirstSoFar routes h n (Some refusal) → IsFirstRefused routes refusal.why refusal.shown
-first_refused_is routes h n refusal all before (at, below, refused, lower) = record {
-  entry = refused.entry;
-  wired = refused.wired;
+pub refused_end : (routes : Routes) (starts : List Start) (h n : ℕ) (first : Option Refusal) → h ≡ header_count routes → LandSoFar routes starts h n → IsFirstSoFar routes starts h n first → MatchOption first (AllLand routes starts) (IsFirstIn routes starts)
+refused_end routes starts h n None all before is = λ g below k start inside at. before g (omega (arith, below, all)) k start (omega (arith, inside, is)) at
+refused_end routes starts h n (Some refusal) all before (at, below, refused, lower) = record {
   below = omega (arith, below, all);
-  terminals_before = λ t g p less entry small. before g (omega (arith, small, all)) t (omega (arith, less, at)) p entry;
-  headers_before = λ g less. lower g less refused.entry refused.wired;
-  shows = refused.shows;
-  first = refused.first;
-  fails = refused.fails;
-  never_leads = refused.never_leads;
+  before = λ g less k start inside there. before g (omega (arith, less, all)) k start (omega (arith, inside, at)) there;
+  lower = lower;
+  refused = refused;
 }
-
-pub refused_end : (routes : Routes) (h n : ℕ) (first : Option Refusal) → IsNetwork routes → h ≡ header_count routes → LandSoFar routes h n → IsFirstSoFar routes h n first → MatchOption first (AllLand routes) (λ refusal. IsFirstRefused routes refusal.why refusal.shown)
-refused_end routes h n None net all before is = all_land routes h n net (omega (arith, all)) is before
-refused_end routes h n (Some refusal) net all before is = first_refused_is routes h n refusal all before is

@@ -14,14 +14,14 @@ use Rattle.c104_regs.specs.Groups.{continues, continues_at}
 use Rattle.c104_regs.specs.Ranges.{IsInRange}
 use Rattle.c104_regs.specs.declared.settings.Settings.{Settings}
 use Rattle.c104_regs.specs.Values.{select_code, select_of}
-use Rattle.c104_regs.proofs.RangeNumbers.{plain_headers}
 use Rattle.c104_describe.specs.declared.ports.Port.{Port}
 use Rattle.c104_describe.specs.declared.ports.Port.TheVariants as port
 use Rattle.c104_describe.specs.PlanImage.{AreSettings}
-use Rattle.c104_check.specs.Routes.{Arrives, Leads, Routes, SwitchPort, is_in_group, link_settings, or_no_settings, select, settings_at}
+use Rattle.c104_check.specs.Routes.{Arrives, IsPortal, Leads, Routes, SwitchPort, is_in_group, or_no_settings, select, settings_at}
 use Rattle.c104_check.specs.Shown.{Follows, MayLeave}
 use Rattle.c104_check.specs.Trails.{IsInput, IsNetwork}
-use Rattle.c104_check.specs.Walks.{peers_that, ways_of}
+use Rattle.c104_check.specs.Walks.{Goal, discarded, peers_that, ways_of}
+use Rattle.c104_check.specs.declared.walks.Goal.TheVariants.{Owner, Portal}
 
 -- A selected link is one of the 32
 
@@ -169,11 +169,15 @@ among_leaves routes h g p e at among =
 peers_same : (xs ys : List (Option Port)) → Some xs ≡ Some ys → xs ≡ ys
 peers_same xs ys is = cc
 
-pub ways_leave : (routes : Routes) (h : ℕ) (p : SwitchPort) (es : List (Option Port)) (e : Option Port) (o : Option Select) → select routes p.switch p.link h ≡ o → ways_of routes p.switch o ≡ Some es → IsAmong e es → MayLeave routes h p e
-ways_leave routes h p es e None at is among = absurd cc
-ways_leave routes h p es e (Some Discard) at is among = absurd cc
-ways_leave routes h p es e (Some Sink) at is among = absurd cc
-ways_leave routes h p es e (Some (Link g)) at is among = among_leaves routes h g p e at (subst (IsAmong e) (sym (peers_same (group_peers routes p.switch g) es is)) among)
+no_ways : (t : Goal) (es : List (Option Port)) (e : Option Port) → discarded t ≡ Some es → IsAmong e es → ⊥
+no_ways (Owner t) es e is among = absurd cc
+no_ways Portal es e is among = subst (λ (xs : List (Option Port)). IsAmong e xs) (sym (peers_same [] es is)) among
+
+pub ways_leave : (routes : Routes) (h : ℕ) (t : Goal) (p : SwitchPort) (es : List (Option Port)) (e : Option Port) (o : Option Select) → select routes p.switch p.link h ≡ o → ways_of routes t p.switch o ≡ Some es → IsAmong e es → MayLeave routes h p e
+ways_leave routes h t p es e None at is among = absurd cc
+ways_leave routes h t p es e (Some Discard) at is among = absurd (no_ways t es e is among)
+ways_leave routes h t p es e (Some Sink) at is among = absurd cc
+ways_leave routes h t p es e (Some (Link g)) at is among = among_leaves routes h g p e at (subst (IsAmong e) (sym (peers_same (group_peers routes p.switch g) es is)) among)
 
 -- where the header leads on, each link of the group arrives
 pub leaves_arrives : (routes : Routes) (h t k : ℕ) (p : SwitchPort) (e : Option Port) → MayLeave routes h p e → Leads routes h t (suc k) p.switch p.link → Arrives (Leads routes h t k) t e
@@ -184,7 +188,8 @@ leaves_arrives routes h t k p e (g, o, at, joined, is) (g', at', all) =
 pub within : (routes : Routes) (h : ℕ) (p q : SwitchPort) → IsNetwork routes → Follows routes h p q → IsInput (length routes.settings) q
 within routes h p q net (g, o, at, joined, is) = net.inputs (port.Switch p.switch o) q is
 
--- No link that is within range puts random headers before packets
-
-pub never_random : (routes : Routes) (p : SwitchPort) (x : Settings) → IsNetwork routes → link_settings routes.settings p ≡ Some x → x.randomize ≡ false
-never_random routes p x net is = (plain_headers x (in_range (settings_at routes p.switch) p.link x (are_there routes p.switch p.link x net is).1 is)).1
+-- a portal is an input
+pub portal_input : (routes : Routes) (p q : SwitchPort) → IsNetwork routes → IsPortal routes p q → IsInput (length routes.settings) q
+portal_input routes p q net (r, m, random, reaches, discards) =
+    let found = selects_at routes q.switch q.link r Discard discards in
+    is_input routes q found.0 net found.1

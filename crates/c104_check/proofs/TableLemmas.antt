@@ -4,17 +4,18 @@ use Rattle.std.proofs.lemmas.List.{length-map, take_more}
 use Rattle.std.proofs.lemmas.List.FromFn.{get_or-map-range_with_len, length-map-range_with_len}
 use Rattle.std.proofs.lemmas.Option.{get_or_from_slice_get, slice_get-get_or, slice_get-map, slice_get_read, slice_get_within}
 use Rattle.std.specs.Int.{bit_at}
-use Rattle.c104_interval.specs.declared.intervals.Select.TheVariants.{Link}
+use Rattle.c104_interval.specs.declared.intervals.Select.TheVariants.{Link, Discard}
 use Rattle.c104_crossbar.specs.Groups.{AreMembers, group_contains, has_bit}
 use Rattle.c104_regs.specs.Groups.{continue_bits, continues_at}
 use Rattle.c104_regs.specs.Settings.{header_length}
 use Rattle.c104_regs.specs.declared.settings.Settings.{Settings}
 use Rattle.c104_regs.proofs.ContinueLemmas.{bit-continues_at, bit_at-continue_bits}
 use Rattle.c104_describe.specs.declared.ports.Port.{Port}
-use Rattle.c104_check.specs.Checks.{DeletesInside, HasLarge, IsMixed, Meet}
-use Rattle.c104_check.specs.Routes.{Routes, SwitchPort, has_label, is_in_group, header_count, length_at, length_or_one, link_peers, link_settings, or_no_settings, place, port_at, select, settings_at, settings_in, to_port}
+use Rattle.c104_check.specs.Checks.{DeletesInside, HasLarge, IsMixed, IsRandomInside, Meet}
+use Rattle.c104_check.specs.Routes.{IsRandomized, Routes, SwitchPort, has_label, is_in_group, header_count, length_at, length_or_one, link_peers, link_settings, or_no_settings, place, port_at, select, settings_at, settings_in, to_port}
 use Rattle.c104_check.specs.Trails.{AreWays, IsInput, IsNetwork}
-use Rattle.c104_check.specs.Walks.{peers_that, ways_of}
+use Rattle.c104_check.specs.Walks.{Goal, peers_that, ways_of}
+use Rattle.c104_check.specs.declared.walks.Goal.TheVariants.{Portal}
 use Rattle.c104_check.proofs.LinkLemmas.{at_place, place_below}
 use Rattle.c104_check.proofs.RangeLemmas.{is_large, large_is, owns_has}
 use Rattle.c104_check.proofs.RouteLemmas.{is_input}
@@ -72,14 +73,17 @@ group_members routes s g word first last is members o =
     let tests : has_bit word ≡ continues_at xs = λ i l. bit l i in
     ap (λ f. group_contains f g o) (sym tests) ∙ members o
 
-pub ways_link : (routes : Routes) (h g first last : ℕ) (p : SwitchPort) → select routes p.switch p.link h ≡ Some (Link g) → ((o : ℕ) → is_in_group routes p.switch g o ≡ between first last o) → first ≤ last → last < 32 → AreWays routes h p first last
-ways_link routes h g first last p at members order below =
+pub ways_link : (routes : Routes) (h : ℕ) (t : Goal) (g first last : ℕ) (p : SwitchPort) → select routes p.switch p.link h ≡ Some (Link g) → ((o : ℕ) → is_in_group routes p.switch g o ≡ between first last o) → first ≤ last → last < 32 → AreWays routes h t p first (last + 1)
+ways_link routes h t g first last p at members order below =
     let same : is_in_group routes p.switch g ≡ between first last = λ i o. members o i in
     record {
-      in_order = order;
-      below = below;
-      are = ap (ways_of routes p.switch) at ∙ ap (λ test. Some (peers_that routes p.switch test 0 32)) same ∙ ap Some (run_is routes p.switch first last below order);
+      below = omega (arith, below);
+      are = ap (ways_of routes t p.switch) at ∙ ap (λ test. Some (peers_that routes p.switch test 0 32)) same ∙ ap Some (run_is routes p.switch first last below order);
     }
+
+-- a portal, which has no ways on
+pub ways_portal : (routes : Routes) (h : ℕ) (p : SwitchPort) → select routes p.switch p.link h ≡ Some Discard → AreWays routes h Portal p 0 0
+ways_portal routes h p at = record { below = omega arith; are = ap (ways_of routes Portal p.switch) at }
 
 -- Labels, over what is read of the ranges
 
@@ -114,6 +118,12 @@ mixed_input routes net p (other, x, wired, set, differ) = is_input routes p x ne
 
 pub deleting_input : (routes : Routes) → IsNetwork routes → (p : SwitchPort) → DeletesInside routes p → IsInput (length routes.settings) p
 deleting_input routes net p (q, x, wired, set, deletes) = is_input routes p x net set
+
+pub random_input : (routes : Routes) → IsNetwork routes → (p : SwitchPort) → IsRandomInside routes p → IsInput (length routes.settings) p
+random_input routes net p ((x, set, random), inside) = is_input routes p x net set
+
+pub randomized_input : (routes : Routes) → IsNetwork routes → (p : SwitchPort) → IsRandomized routes p → IsInput (length routes.settings) p
+randomized_input routes net p (x, set, random) = is_input routes p x net set
 
 -- Lists that are made
 

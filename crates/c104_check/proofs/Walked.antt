@@ -1,5 +1,5 @@
 -- The steps of a walk in code.
-use Rattle.std.proofs.Common.{◌≡◌, ℕ, suc, ◌<◌, ◌≤◌, ◌+◌, ◌*◌, ◌-◌, ◌==◌, ◌⊎◌, inl, inr, Bool, true, false, ◌||◌, List, [], ◌∷◌, ◌++◌, length, slice_index_or, slice_set, if◌then◌else◌, Option, Some, None, refl, sym, ap, subst, ◌∙◌, arith}
+use Rattle.std.proofs.Common.{◌≡◌, ℕ, suc, ◌<◌, ◌≤◌, ◌+◌, ◌*◌, ◌-◌, ◌⊎◌, inl, inr, Bool, true, false, ◌||◌, List, [], ◌∷◌, ◌++◌, length, slice_index_or, slice_set, if◌then◌else◌, Option, Some, None, refl, sym, ap, subst, ◌∙◌, arith}
 use Rattle.std.proofs.lemmas.Bool.{cases_eq, cases_Bool, eq-eqb}
 use Rattle.std.proofs.lemmas.Grind.{get_or-set_at}
 use Rattle.std.proofs.lemmas.List.{get_or-set_other, length-append, length-set}
@@ -11,53 +11,53 @@ use Rattle.c104_check.specs.declared.walks.Halt.TheVariants.{Fault, NoMemory}
 use Rattle.c104_check.specs.declared.walks.Mark.{Mark}
 use Rattle.c104_check.specs.declared.walks.Mark.TheVariants.{New, Met, Good}
 use Rattle.c104_check.specs.declared.walks.Way.TheVariants.{Home, On, Astray}
-use Rattle.c104_check.specs.Routes.{Leads, Routes, SwitchPort, place, select, to_port}
-use Rattle.c104_check.specs.Shown.{Follows}
+use Rattle.c104_check.specs.Routes.{Routes, SwitchPort, place, select, to_port}
+use Rattle.c104_check.specs.Shown.{Comes, Follows}
 use Rattle.c104_check.specs.Trails.{AreWays, IsInput, IsNetwork, IsTrail, run_peers}
 use Rattle.c104_check.specs.Walking.{AreGood, IsHalt, TellMet, fault_from, fault_on, mark_at, tells_met, way_of}
-use Rattle.c104_check.specs.Walks.{Found, WalkFault, at_peer, at_peers, at_ways, first_fault, first_of, is_met, is_port, port_of, ways}
+use Rattle.c104_check.specs.Walks.{Found, Goal, WalkFault, at_peer, at_peers, at_ways, first_fault, first_of, is_home, is_met, is_port, port_of, ways}
 use Rattle.c104_check.proofs.RouteLemmas.{IsAmong, ways_leave}
 use Rattle.c104_check.proofs.RunLemmas.{run_among}
 use Rattle.c104_check.proofs.TrailLemmas.{is_port-true, trail_room}
 use Rattle.c104_check.proofs.WalkLemmas.{Leads-from, clear}
 
 -- what is found from an input that lengthens a walk
-abbrev pub further : Routes → ℕ → ℕ → List SwitchPort → List SwitchPort → SwitchPort → Found
+abbrev pub further : Routes → ℕ → Goal → List SwitchPort → List SwitchPort → SwitchPort → Found
 further routes h t walk = first_fault routes h t (32 * length routes.settings - length walk)
 
-pub fault_unfolds : (routes : Routes) (h t : ℕ) (walk : List SwitchPort) (p : SwitchPort) → IsTrail routes h walk p → fault_from routes h t walk p ≡ at_ways (further routes h t walk) t walk (ways routes h p)
+pub fault_unfolds : (routes : Routes) (h : ℕ) (t : Goal) (walk : List SwitchPort) (p : SwitchPort) → IsTrail routes h walk p → fault_from routes h t walk p ≡ at_ways (further routes h t walk) t walk (ways routes h t p)
 fault_unfolds routes h t walk p trail =
     let short = trail_room routes h walk p trail in
     let more : 32 * length routes.settings + 1 - length walk ≡ suc (32 * length routes.settings - length walk) = omega (arith, short) in
     ap (λ k. first_fault routes h t k walk p) more
 
-pub further_is : (routes : Routes) (h t : ℕ) (walk : List SwitchPort) (q : SwitchPort) → further routes h t walk (walk ++ (q ∷ [])) q ≡ fault_from routes h t (walk ++ (q ∷ [])) q
+pub further_is : (routes : Routes) (h : ℕ) (t : Goal) (walk : List SwitchPort) (q : SwitchPort) → further routes h t walk (walk ++ (q ∷ [])) q ≡ fault_from routes h t (walk ++ (q ∷ [])) q
 further_is routes h t walk q =
     let e = length-append walk (q ∷ []) in
     let same : 32 * length routes.settings - length walk ≡ 32 * length routes.settings + 1 - length (walk ++ (q ∷ [])) = omega (arith, e) in
     ap (λ k. first_fault routes h t k (walk ++ (q ∷ [])) q) same
 
 -- what is found where a link leads to an input is what is found on the walk that goes on to it
-pub on_is : (routes : Routes) (h t : ℕ) (walk : List SwitchPort) (q : SwitchPort) → at_peer (further routes h t walk) t walk (Some (port.Switch q.switch q.link)) ≡ fault_on routes h t walk q
+pub on_is : (routes : Routes) (h : ℕ) (t : Goal) (walk : List SwitchPort) (q : SwitchPort) → at_peer (further routes h t walk) t walk (Some (port.Switch q.switch q.link)) ≡ fault_on routes h t walk q
 on_is routes h t walk q = ap (λ x. if is_met q walk then Some (Loop, walk ++ (q ∷ [])) else x) (further_is routes h t walk q)
 
-pub on_new : (routes : Routes) (h t : ℕ) (walk : List SwitchPort) (q : SwitchPort) → is_met q walk ≡ false → fault_on routes h t walk q ≡ fault_from routes h t (walk ++ (q ∷ [])) q
+pub on_new : (routes : Routes) (h : ℕ) (t : Goal) (walk : List SwitchPort) (q : SwitchPort) → is_met q walk ≡ false → fault_on routes h t walk q ≡ fault_from routes h t (walk ++ (q ∷ [])) q
 on_new routes h t walk q new = rw new refl
 
 -- from an input that leads to t there is no fault
-pub good_clear : (routes : Routes) (h t : ℕ) (walk : List SwitchPort) (p : SwitchPort) → IsNetwork routes → IsInput (length routes.settings) p → IsTrail routes h walk p → (j : ℕ) × Leads routes h t j p.switch p.link → fault_from routes h t walk p ≡ None
+pub good_clear : (routes : Routes) (h : ℕ) (t : Goal) (walk : List SwitchPort) (p : SwitchPort) → IsNetwork routes → IsInput (length routes.settings) p → IsTrail routes h walk p → (j : ℕ) × Comes routes h t j p.switch p.link → fault_from routes h t walk p ≡ None
 good_clear routes h t walk p net here trail leads =
     let short = trail_room routes h walk p trail in
     clear routes h t net (32 * length routes.settings + 1 - length walk) walk p trail here (omega (arith, short)) leads.0 leads.1
 
-pub clear_good : (routes : Routes) (h t : ℕ) (walk : List SwitchPort) (p : SwitchPort) → IsNetwork routes → fault_from routes h t walk p ≡ None → (k : ℕ) × Leads routes h t k p.switch p.link
+pub clear_good : (routes : Routes) (h : ℕ) (t : Goal) (walk : List SwitchPort) (p : SwitchPort) → IsNetwork routes → fault_from routes h t walk p ≡ None → (k : ℕ) × Comes routes h t k p.switch p.link
 clear_good routes h t walk p net is = (32 * length routes.settings + 1 - length walk, Leads-from routes h t net (32 * length routes.settings + 1 - length walk) walk p is)
 
 -- what is still to be found at the links from one on, before an end
-abbrev pub pending : Routes → ℕ → ℕ → ℕ → List SwitchPort → ℕ → ℕ → Found
+abbrev pub pending : Routes → ℕ → Goal → ℕ → List SwitchPort → ℕ → ℕ → Found
 pending routes h t s walk end link = at_peers (further routes h t walk) t walk (run_peers routes s link (end - link))
 
-module _ (routes : Routes) (h t s : ℕ) (walk : List SwitchPort) (end link : ℕ) (below : link < end) where
+module _ (routes : Routes) (h : ℕ) (t : Goal) (s : ℕ) (walk : List SwitchPort) (end link : ℕ) (below : link < end) where
   pending_next : pending routes h t s walk end link ≡ first_of (at_peer (further routes h t walk) t walk (routes.peer (port.Switch s link))) (pending routes h t s walk end (link + 1))
   pending_next =
       let count : end - link ≡ suc (end - (link + 1)) = omega (arith, below) in
@@ -74,7 +74,7 @@ module _ (routes : Routes) (h t s : ℕ) (walk : List SwitchPort) (end link : �
       let found : at_peer (further routes h t walk) t walk (routes.peer (port.Switch s link)) ≡ None = ap (at_peer (further routes h t walk) t walk) here ∙ is in
       sym (pending_next ∙ ap (λ x. first_of x (pending routes h t s walk end (link + 1))) found) ∙ rest
 
-pub pending_end : (routes : Routes) (h t s : ℕ) (walk : List SwitchPort) (end link : ℕ) (p : SwitchPort) → end ≤ link → pending routes h t s walk end link ≡ fault_from routes h t walk p → fault_from routes h t walk p ≡ None
+pub pending_end : (routes : Routes) (h : ℕ) (t : Goal) (s : ℕ) (walk : List SwitchPort) (end link : ℕ) (p : SwitchPort) → end ≤ link → pending routes h t s walk end link ≡ fault_from routes h t walk p → fault_from routes h t walk p ≡ None
 pending_end routes h t s walk end link p past rest =
     let none : end - link ≡ 0 = omega (arith, past) in
     sym rest ∙ ap (λ n. at_peers (further routes h t walk) t walk (run_peers routes s link n)) none
@@ -88,18 +88,18 @@ terminal_stops : (walk : List SwitchPort) (why : WalkFault) (b : Bool) → (if b
 terminal_stops walk why true is = absurd cc
 terminal_stops walk why false is = let same : WrongEnd ≡ why = cc in ap (λ f. found_at f walk) same
 
-pub way_stops : (further : List SwitchPort → SwitchPort → Found) (t : ℕ) (walk : List SwitchPort) (e : Option Port) (why : WalkFault) → way_of t e ≡ Astray why → at_peer further t walk e ≡ Some (why, walk)
+pub way_stops : (further : List SwitchPort → SwitchPort → Found) (t : Goal) (walk : List SwitchPort) (e : Option Port) (why : WalkFault) → way_of t e ≡ Astray why → at_peer further t walk e ≡ Some (why, walk)
 way_stops further t walk None why is = let same : DeadEnd ≡ why = cc in ap (λ f. found_at f walk) same
-way_stops further t walk (Some (port.Terminal u)) why is = terminal_stops walk why (u == t) is
+way_stops further t walk (Some (port.Terminal u)) why is = terminal_stops walk why (is_home t u) is
 way_stops further t walk (Some (port.Switch s i)) why is = absurd cc
 
 terminal_home : (walk : List SwitchPort) (b : Bool) → (if b then Home else Astray WrongEnd) ≡ Home → (if b then None else found_at WrongEnd walk) ≡ None
 terminal_home walk true is = refl
 terminal_home walk false is = absurd cc
 
-pub way_home : (further : List SwitchPort → SwitchPort → Found) (t : ℕ) (walk : List SwitchPort) (e : Option Port) → way_of t e ≡ Home → at_peer further t walk e ≡ None
+pub way_home : (further : List SwitchPort → SwitchPort → Found) (t : Goal) (walk : List SwitchPort) (e : Option Port) → way_of t e ≡ Home → at_peer further t walk e ≡ None
 way_home further t walk None is = absurd cc
-way_home further t walk (Some (port.Terminal u)) is = terminal_home walk (u == t) is
+way_home further t walk (Some (port.Terminal u)) is = terminal_home walk (is_home t u) is
 way_home further t walk (Some (port.Switch s i)) is = absurd cc
 
 terminal_on : (q : SwitchPort) (b : Bool) → (if b then Home else Astray WrongEnd) ≡ On q → ⊥
@@ -109,19 +109,19 @@ terminal_on q false is = cc
 port_same : (s i : ℕ) (q : SwitchPort) → On (port_of s i) ≡ On q → port_of s i ≡ q
 port_same s i q is = cc
 
-pub way_on : (t : ℕ) (e : Option Port) (q : SwitchPort) → way_of t e ≡ On q → e ≡ Some (to_port q)
+pub way_on : (t : Goal) (e : Option Port) (q : SwitchPort) → way_of t e ≡ On q → e ≡ Some (to_port q)
 way_on t None q is = absurd cc
-way_on t (Some (port.Terminal u)) q is = absurd (terminal_on q (u == t) is)
+way_on t (Some (port.Terminal u)) q is = absurd (terminal_on q (is_home t u) is)
 way_on t (Some (port.Switch s i)) q is = ap (λ x. Some (to_port x)) (port_same s i q is)
 
 -- a walk that went on, and stopped later
-pub later_halts : (routes : Routes) (h t : ℕ) (walk new : List SwitchPort) (q : SwitchPort) (halt : Halt) → IsHalt halt (fault_on routes h t walk q) new → (found : Found) → ((f : WalkFault × List SwitchPort) → at_peer (further routes h t walk) t walk (Some (port.Switch q.switch q.link)) ≡ Some f → found ≡ Some f) → IsHalt halt found new
+pub later_halts : (routes : Routes) (h : ℕ) (t : Goal) (walk new : List SwitchPort) (q : SwitchPort) (halt : Halt) → IsHalt halt (fault_on routes h t walk q) new → (found : Found) → ((f : WalkFault × List SwitchPort) → at_peer (further routes h t walk) t walk (Some (port.Switch q.switch q.link)) ≡ Some f → found ≡ Some f) → IsHalt halt found new
 later_halts routes h t walk new q (Fault why) is found stop = stop (why, new) (on_is routes h t walk q ∙ is)
 later_halts routes h t walk new q NoMemory is found stop = tt
 
 -- Marks
 
-place-same : (n : ℕ) (p q : SwitchPort) → IsInput n p → IsInput n q → place p ≡ place q → p ≡ q
+pub place-same : (n : ℕ) (p q : SwitchPort) → IsInput n p → IsInput n q → place p ≡ place q → p ≡ q
 place-same n p q (ps, pl) (qs, ql) same =
     let e : p.switch * 32 + p.link ≡ q.switch * 32 + q.link = same in
     let s : p.switch ≡ q.switch = omega (arith, pl, ql, e) in
@@ -156,7 +156,7 @@ met_others (x ∷ walk) p q other = ap (λ b. is_port q x || b) (met_others walk
 
 module _ (routes : Routes) (marks : List Mark) (walk : List SwitchPort) (p : SwitchPort) (here : IsInput (length routes.settings) p) (inside : place p < length marks) where
   -- an input that joins the walk
-  pub met_good : (h t : ℕ) → AreGood routes h t marks → AreGood routes h t (slice_set marks (place p) Met)
+  pub met_good : (h : ℕ) (t : Goal) → AreGood routes h t marks → AreGood routes h t (slice_set marks (place p) Met)
   met_good h t good q there is =
       elim (mark_set (length routes.settings) marks p q Met here there inside) [
         | inl (same, now) ↦ absurd (let clash : Met ≡ Good = sym now ∙ is in cc)
@@ -171,10 +171,10 @@ module _ (routes : Routes) (marks : List Mark) (walk : List SwitchPort) (p : Swi
       ]
 
   -- and one that leaves it, and is good
-  pub good_good : (h t : ℕ) → (k : ℕ) × Leads routes h t k p.switch p.link → AreGood routes h t marks → AreGood routes h t (slice_set marks (place p) Good)
+  pub good_good : (h : ℕ) (t : Goal) → (k : ℕ) × Comes routes h t k p.switch p.link → AreGood routes h t marks → AreGood routes h t (slice_set marks (place p) Good)
   good_good h t leads good q there is =
       elim (mark_set (length routes.settings) marks p q Good here there inside) [
-        | inl (same, now) ↦ subst (λ (x : SwitchPort). (k : ℕ) × Leads routes h t k x.switch x.link) (sym same) leads
+        | inl (same, now) ↦ subst (λ (x : SwitchPort). (k : ℕ) × Comes routes h t k x.switch x.link) (sym same) leads
         | inr (differ, now) ↦ good q there (sym now ∙ is)
       ]
 
@@ -190,21 +190,21 @@ module _ (routes : Routes) (marks : List Mark) (walk : List SwitchPort) (p : Swi
 pub fresh_of : (routes : Routes) (marks : List Mark) (walk : List SwitchPort) (p : SwitchPort) (k : ℕ) → TellMet routes marks walk → IsInput (length routes.settings) p → k ≡ place p → tells_met (slice_index_or marks k New) ≡ false → is_met p walk ≡ false
 fresh_of routes marks walk p k tells here at is = sym (tells p here) ∙ ap (λ n. tells_met (slice_index_or marks n New)) (sym at) ∙ is
 
-pub good_on : (routes : Routes) (h t : ℕ) (marks : List Mark) (walk : List SwitchPort) (p : SwitchPort) → IsNetwork routes → IsInput (length routes.settings) p → (is_met p walk ≡ false → IsTrail routes h (walk ++ (p ∷ [])) p) → AreGood routes h t marks → TellMet routes marks walk → mark_at marks p ≡ Good → fault_on routes h t walk p ≡ None
+pub good_on : (routes : Routes) (h : ℕ) (t : Goal) (marks : List Mark) (walk : List SwitchPort) (p : SwitchPort) → IsNetwork routes → IsInput (length routes.settings) p → (is_met p walk ≡ false → IsTrail routes h (walk ++ (p ∷ [])) p) → AreGood routes h t marks → TellMet routes marks walk → mark_at marks p ≡ Good → fault_on routes h t walk p ≡ None
 good_on routes h t marks walk p net here trail good tells is =
     let new : is_met p walk ≡ false = sym (tells p here) ∙ ap tells_met is in
     on_new routes h t walk p new ∙ good_clear routes h t (walk ++ (p ∷ [])) p net here (trail new) (good p here is)
 
 -- what is found on the walk that went on, once it is known of the walk as it is then
-pub stops_on : (routes : Routes) (h t : ℕ) (walk w l : List SwitchPort) (p : SwitchPort) (found : Found) → is_met p walk ≡ false → w ≡ walk ++ (p ∷ []) → l ≡ w → fault_from routes h t l p ≡ found → fault_on routes h t walk p ≡ found
+pub stops_on : (routes : Routes) (h : ℕ) (t : Goal) (walk w l : List SwitchPort) (p : SwitchPort) (found : Found) → is_met p walk ≡ false → w ≡ walk ++ (p ∷ []) → l ≡ w → fault_from routes h t l p ≡ found → fault_on routes h t walk p ≡ found
 stops_on routes h t walk w l p found new is same at = on_new routes h t walk p new ∙ ap (λ x. fault_from routes h t x p) (sym (same ∙ is)) ∙ at
 
 pub trail_of : (routes : Routes) (h : ℕ) (walk w : List SwitchPort) (p : SwitchPort) → (is_met p walk ≡ false → IsTrail routes h (walk ++ (p ∷ [])) p) → is_met p walk ≡ false → w ≡ walk ++ (p ∷ []) → IsTrail routes h w p
 trail_of routes h walk w p trail new is = subst (λ x. IsTrail routes h x p) (sym is) (trail new)
 
 -- a link of the group leads to an input
-pub follows_by : (routes : Routes) (h link first last : ℕ) (p q : SwitchPort) → AreWays routes h p first last → first ≤ link → link < last + 1 → routes.peer (port.Switch p.switch link) ≡ Some (port.Switch q.switch q.link) → Follows routes h p q
-follows_by routes h link first last p q ways low high leads = ways_leave routes h p (run_peers routes p.switch first (last + 1 - first)) (Some (port.Switch q.switch q.link)) (select routes p.switch p.link h) refl ways.are (subst (λ e. IsAmong e (run_peers routes p.switch first (last + 1 - first))) leads (run_among routes p.switch link (last + 1 - first) first low (omega (arith, low, high))))
+pub follows_by : (routes : Routes) (h : ℕ) (t : Goal) (link first end : ℕ) (p q : SwitchPort) → AreWays routes h t p first end → first ≤ link → link < end → routes.peer (port.Switch p.switch link) ≡ Some (port.Switch q.switch q.link) → Follows routes h p q
+follows_by routes h t link first end p q ways low high leads = ways_leave routes h t p (run_peers routes p.switch first (end - first)) (Some (port.Switch q.switch q.link)) (select routes p.switch p.link h) refl ways.are (subst (λ e. IsAmong e (run_peers routes p.switch first (end - first))) leads (run_among routes p.switch link (end - first) first low (omega (arith, low, high))))
 
 pub marks_length : (marks : List Mark) (k : ℕ) (m : Mark) → length (slice_set marks k m) ≡ length marks
 marks_length marks k m = length-set marks k m

@@ -5,7 +5,7 @@
 --     IsCycle routes dependencies      inputs each of which depends on the next, and the last on the first
 use Rattle.std.specs.Prelude.{ℕ, ◌≡◌, ◌<◌, ◌≤◌, ◌*◌, List, [], ◌∷◌, Some, length}
 use Rattle.c104_check.specs.Reach.{IsReached}
-use Rattle.c104_check.specs.Routes.{Routes, SwitchPort, owner}
+use Rattle.c104_check.specs.Routes.{IsRandomized, Routes, SwitchPort, owner}
 use Rattle.c104_check.specs.Shown.{Follows}
 -- an input, and a header by which it depends on the next
 pub use Rattle.c104_check.specs.declared.cycles.ChannelDependency.{ChannelDependency}
@@ -17,6 +17,11 @@ DependsBy routes h p q = (t : ℕ) × (owner routes h ≡ Some t) × IsReached r
 -- some header may. A group of links gives a dependency over each of them, since a packet may take any.
 abbrev pub Depends : Routes → SwitchPort → SwitchPort → Type 0
 Depends routes p q = (h : ℕ) × DependsBy routes h p q
+
+-- random headers are put before packets at no input. Where they are, packets also wait by these, and from portals on by
+-- their own headers; so what is concluded of packets from the dependencies here takes this as a premise.
+abbrev pub IsNeverRandomized : Routes → Type 0
+IsNeverRandomized routes = (p : SwitchPort) → IsRandomized routes p → ⊥
 
 -- ranks of the inputs, which fall along every dependency
 abbrev pub IsRanking : Routes → (SwitchPort → ℕ) → Type 0

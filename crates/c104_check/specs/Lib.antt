@@ -6,9 +6,13 @@ pub mod CheckFaults
 pub mod Trails
 pub mod Walking
 pub mod Refusals
+pub mod Breaks
+pub mod Portals
+pub mod Starts
 pub mod Tables
 pub mod Mends
 pub mod Reach
+pub mod Parts
 pub mod Ranks
 pub mod ChannelDependencies
 pub mod Dependencies

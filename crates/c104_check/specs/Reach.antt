@@ -8,9 +8,6 @@ use Rattle.c104_interval.specs.declared.intervals.Select.TheVariants.{Link}
 use Rattle.c104_regs.specs.declared.registers.TheConstants.{LINKS}
 use Rattle.c104_describe.specs.declared.ports.Port.{Port}
 use Rattle.c104_describe.specs.declared.ports.Port.TheVariants as port
-use Rattle.c104_check.specs.declared.faults.CheckFault.{CheckFault}
-use Rattle.c104_check.specs.Checks.{fault_of}
-use Rattle.c104_check.specs.Refusals.{IsFirstOf, LandsBefore, Refusal}
 use Rattle.c104_check.specs.Routes.{IsEntryOf, Routes, SwitchPort, is_in_group, select}
 use Rattle.c104_check.specs.Shown.{Follows}
 use Rattle.c104_check.specs.Trails.{Checked, IsInput, Reaches, routes_in}
@@ -39,28 +36,14 @@ MayTake routes h p q =
 abbrev pub IsTaken : Routes → ℕ → SwitchPort → Type 0
 IsTaken routes h q = (p : SwitchPort) × IsReached routes h p × MayTake routes h p q
 
--- the header is refused at the input of no terminal
-abbrev pub IsNeverRefused : Routes → ℕ → Type 0
-IsNeverRefused routes h = LandsBefore routes h (length routes.ranges)
-
--- a fault tells how the header is refused at the first terminal where it is
-abbrev pub TellsFirst : Routes → ℕ → CheckFault → Type 0
-TellsFirst routes h fault =
-    (refusal : Refusal) × (fault ≡ fault_of refusal.why refusal.shown) × IsFirstOf routes h (length routes.ranges) refusal
-
 -- these are the inputs to which the header may come
 abbrev pub AreReached : Routes → ℕ → List SwitchPort → Type 0
 AreReached routes h inputs = (p : SwitchPort) → (is_met p inputs ≡ true) ↔ IsReached routes h p
 
--- some of them, none of them twice
-pub record AreFound (routes : Routes) (h : ℕ) (inputs : List SwitchPort) : Type 0 where
+-- inputs of the network, none of them twice
+pub record AreDistinctInputs (routes : Routes) (inputs : List SwitchPort) : Type 0 where
   pub inside : AllByRecursion (IsInput (length routes.settings)) inputs
   pub once : IsDistinct is_port inputs
-  pub reached : AllByRecursion (IsReached routes h) inputs
-
--- the inputs of all terminals are among these
-abbrev pub HaveEntries : Routes → List SwitchPort → Type 0
-HaveEntries routes inputs = (t : ℕ) (p : SwitchPort) → IsEntryOf routes t p → is_met p inputs ≡ true
 
 -- the inputs to which the header may go from p are
 abbrev pub HaveFollowers : Routes → ℕ → List SwitchPort → SwitchPort → Type 0
@@ -71,9 +54,9 @@ abbrev pub HaveAllFollowers : Routes → ℕ → List SwitchPort → ℕ → Typ
 HaveAllFollowers routes h inputs done =
     (k : ℕ) (p : SwitchPort) → k < done → slice_get inputs k ≡ Some p → HaveFollowers routes h inputs p
 
--- inputs to which others were added behind
-abbrev pub IsLonger : List SwitchPort → List SwitchPort → Type 0
-IsLonger old new = (more : List SwitchPort) × (new ≡ old ++ more)
+-- inputs to which others were added behind, of which this holds
+abbrev pub IsLongerBy : (SwitchPort → Type 0) → List SwitchPort → List SwitchPort → Type 0
+IsLongerBy P old new = (more : List SwitchPort) × (new ≡ old ++ more) × AllByRecursion P more
 
 -- an input joins others, unless it is among them
 abbrev pub with_input : List SwitchPort → SwitchPort → List SwitchPort

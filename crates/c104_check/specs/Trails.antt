@@ -1,5 +1,5 @@
 -- What is known of a walk while it is walked.
-use Rattle.std.specs.Prelude.{◌≡◌, ℕ, zero, suc, ◌+◌, ◌-◌, ◌<◌, ◌≤◌, List, length, map, slice_get, Option, Some}
+use Rattle.std.specs.Prelude.{◌≡◌, ℕ, ◌-◌, ◌<◌, ◌≤◌, List, length, map, slice_get, Option, Some}
 use Rattle.std.specs.List.{AllByRecursion, IsDistinct, range_with_len}
 use Rattle.c104_regs.specs.declared.registers.TheConstants.{LINKS}
 use Rattle.c104_regs.specs.declared.settings.Settings.{Settings}
@@ -7,9 +7,9 @@ use Rattle.c104_describe.specs.declared.ports.Port.{Port}
 use Rattle.c104_describe.specs.declared.ports.Port.TheVariants as port
 use Rattle.c104_describe.specs.Plans.{Plan, most_switches}
 use Rattle.c104_describe.specs.PlanImage.{AreSettings, Image}
+pub use Rattle.c104_check.specs.Routes.{Reaches}
 use Rattle.c104_check.specs.Routes.{IsEntryOf, Routes, SwitchPort, routes_of, to_port}
-use Rattle.c104_check.specs.Shown.{Follows}
-use Rattle.c104_check.specs.Walks.{is_port, ways}
+use Rattle.c104_check.specs.Walks.{Goal, is_port, ways}
 
 -- a plan and an image that are checked, and what of them decides where packets go
 pub record Checked : Type 0 where
@@ -27,23 +27,18 @@ IsInput n p = (p.switch < n) × (p.link < LINKS)
 abbrev pub run_peers : Routes → ℕ → ℕ → ℕ → List (Option Port)
 run_peers routes s from count = map (λ o. routes.peer (port.Switch s o)) (range_with_len from count)
 
--- header h selects the links from one to another at input p, none of them past the switch's last
-pub record AreWays (routes : Routes) (h : ℕ) (p : SwitchPort) (first last : ℕ) : Type 0 where
-  pub in_order : first ≤ last
-  pub below : last < LINKS
-  pub are : ways routes h p ≡ Some (run_peers routes p.switch first (last + 1 - first))
+-- header h may leave input p by the links from one up to an end, none of them past the switch's last
+pub record AreWays (routes : Routes) (h : ℕ) (t : Goal) (p : SwitchPort) (first end : ℕ) : Type 0 where
+  pub below : end ≤ LINKS
+  pub are : ways routes h t p ≡ Some (run_peers routes p.switch first (end - first))
 
--- wires lead to inputs of the network, what is set is within its ranges, and each terminal has an entry
+-- wires go both ways and lead to inputs of the network, what is set is within its ranges, and each terminal has an entry
 pub record IsNetwork (routes : Routes) : Type 0 where
+  pub back : (p q : Port) → routes.peer p ≡ Some q → routes.peer q ≡ Some p
   pub inputs : (p : Port) (q : SwitchPort) → routes.peer p ≡ Some (to_port q) → IsInput (length routes.settings) q
   pub settings : (s : ℕ) (all : List Settings) → slice_get routes.settings s ≡ Some all → AreSettings all
   pub few : length routes.settings ≤ most_switches
   pub terminals : (t : ℕ) (p : SwitchPort) → IsEntryOf routes t p → t < length routes.ranges
-
--- a header may go from input x over so many wires to input p
-abbrev pub Reaches : Routes → ℕ → ℕ → SwitchPort → SwitchPort → Type 0
-Reaches routes h zero x p = x ≡ p
-Reaches routes h (suc m) x p = (z : SwitchPort) × Reaches routes h m x z × Follows routes h z p
 
 -- a walk up to p that meets no input twice
 pub record IsTrail (routes : Routes) (h : ℕ) (walk : List SwitchPort) (p : SwitchPort) : Type 0 where

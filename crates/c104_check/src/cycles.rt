@@ -70,6 +70,9 @@ pub enum RanksOrCycle {
 
 /// A cycle of dependencies in the accepted network of an image for a plan, or else ranks that fall along each
 /// dependency. There are never both. It fails only when out of memory.
+///
+/// Dependencies are those by headers that have owners, from the inputs of terminals on. Where random headers are put
+/// before packets there are others, by these and from the inputs that discard them on, of which nothing is told.
 pub fn find_cycle(alloc: Global, plan: &Plan, image: &Image) -> Result<RanksOrCycle, NoMemory>
     requires fits { Fits image.now plan.now }
     requires accepted { IsAccepted (routes_of plan.now image.now) }

@@ -25,7 +25,8 @@ pub struct DependencyEdge {
 }
 
 /// The dependencies of all inputs on one another in the accepted network of an image for a plan, in the order of the
-/// inputs and then of the links by which packets go on. It fails only when out of memory.
+/// inputs and then of the links by which packets go on. Those by random headers, and by headers behind these, aren't
+/// among them. It fails only when out of memory.
 pub fn channel_dependencies(
     alloc: Global,
     plan: &Plan,

@@ -1,13 +1,37 @@
 //! The tests of links.
+ghost use Rattle.std.specs.Prelude.{IfOk, MatchOption};
+ghost use Rattle.c104_describe.specs.PlanImage.{Fits};
+ghost use Rattle.c104_check.specs.ChannelDependencies.{IsNeverRandomized};
+ghost use Rattle.c104_check.specs.Checks.{IsFirstLink};
+ghost use Rattle.c104_check.specs.Routes.{IsRandomized, routes_of};
 
 use crate::ports::SwitchPort;
 use crate::routes::Routes;
-use c104_describe::Port;
+use c104_describe::{Image, Plan, Port};
 use c104_regs::LINKS;
+use c104_token::NoMemory;
+use std::alloc::Global;
+
+/// The first link where random headers are put before packets, by switch and then by link, in the network of an image
+/// for a plan, which it fits. None where none are put. It fails only when out of memory.
+pub fn first_randomized(
+    alloc: Global,
+    plan: &Plan,
+    image: &Image,
+) -> Result<Option<SwitchPort>, NoMemory>
+    requires { Fits image.now plan.now }
+    ensures { IfOk result (λ found. MatchOption found (IsNeverRandomized (routes_of plan.now image.now))
+        (IsFirstLink (IsRandomized (routes_of plan.now image.now)))) }
+{
+    let routes = Routes::new(alloc, plan, image)?;
+    Ok(routes.first_randomized())
+}
 
 impl<'a> Routes<'a> {
     ghost use Rattle.std.specs.Prelude.{◌↔◌, length, IsTrue, MatchOption};
-    ghost use Rattle.c104_check.specs.Checks.{DeletesInside, IsFirstLink, IsMixed, IsNoLink};
+    ghost use Rattle.c104_check.specs.ChannelDependencies.{IsNeverRandomized};
+    ghost use Rattle.c104_check.specs.Checks.{DeletesInside, IsFirstLink, IsMixed, IsNoLink, IsRandomInside};
+    ghost use Rattle.c104_check.specs.Routes.{IsRandomized};
     ghost use Rattle.c104_check.specs.Trails.{IsInput, routes_in};
 
     /// The first link that is wired and whose headers aren't as long as those of the first that is.
@@ -36,6 +60,53 @@ impl<'a> Routes<'a> {
             }
         }
         None
+    }
+
+    /// The first link where random headers are put before packets and which isn't a terminal's.
+    pub(crate) fn first_random(&self) -> Option<SwitchPort>
+        ensures { MatchOption result (IsNoLink (IsRandomInside (routes_in self.now)))
+            (IsFirstLink (IsRandomInside (routes_in self.now))) }
+    {
+        for place in 0..self.switch_count() * LINKS {
+            let at = SwitchPort::at(place);
+            if self.is_random_inside(at) {
+                return Some(at);
+            }
+        }
+        None
+    }
+
+    /// The first link where random headers are put before packets.
+    fn first_randomized(&self) -> Option<SwitchPort>
+        ensures { MatchOption result (IsNeverRandomized (routes_in self.now))
+            (IsFirstLink (IsRandomized (routes_in self.now))) }
+    {
+        for place in 0..self.switch_count() * LINKS {
+            let at = SwitchPort::at(place);
+            if self.is_randomized(at) {
+                return Some(at);
+            }
+        }
+        None
+    }
+
+    /// Whether random headers are put before packets at a link.
+    fn is_randomized(&self, at: SwitchPort) -> bool
+        requires { IsInput (length (routes_in self.now).settings) at }
+        ensures { IsTrue result ↔ IsRandomized (routes_in self.now) at }
+    {
+        self.settings(at).randomize
+    }
+
+    /// Whether random headers are put before packets at a link which isn't a terminal's.
+    fn is_random_inside(&self, at: SwitchPort) -> bool
+        requires { IsInput (length (routes_in self.now).settings) at }
+        ensures { IsTrue result ↔ IsRandomInside (routes_in self.now) at }
+    {
+        match self.peer(at) {
+            Some(Port::Terminal(_)) => false,
+            _ => self.settings(at).randomize,
+        }
     }
 
     /// Whether a link is wired and its headers aren't as long as those of the first that is.

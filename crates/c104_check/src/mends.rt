@@ -1,6 +1,6 @@
 //! What would mend a refused walk.
 ghost use Rattle.std.specs.Prelude.{◌≡◌, true, false, IfOk, MatchOption};
-ghost use Rattle.c104_interval.specs.declared.intervals.Select.TheVariants.{Sink};
+ghost use Rattle.c104_interval.specs.declared.intervals.Select.TheVariants.{Discard, Sink};
 ghost use Rattle.c104_describe.specs.PlanImage.{Fits};
 ghost use Rattle.c104_check.specs.Mends.{IsMend, NoMend};
 ghost use Rattle.c104_check.specs.Routes.{SwitchPort as ThePort, routes_of};
@@ -9,7 +9,8 @@ ghost use Rattle.c104_check.specs.Walks.{is_met};
 use crate::faults::Shown;
 use crate::ports::SwitchPort;
 use crate::routes::Routes;
-use crate::walks::{Halt, Mark, Way, way_of};
+use crate::walk_kinds::WalkKind;
+use crate::walks::{Goal, Halt, Mark, Way, way_of};
 use c104_crossbar::Group;
 use c104_describe::{Image, Plan};
 use c104_interval::Select;
@@ -23,12 +24,13 @@ pub struct Mend {
     /// The input, one of a refused walk.
     pub at: SwitchPort,
     /// What the header is to select there: a link of a group that leads to its owner by any choice, and
-    /// the sink where it has none.
+    /// the sink where it has none. Where it is a random one, it is to be discarded.
     pub select: Select,
 }
 
 /// What would mend a refused walk: at the last of its inputs from which some group leads the header to its
-/// owner, the first such group; and a header without an owner is to be dropped.
+/// owner, the first such group; and a header without an owner is to be dropped. A random header is to be discarded at
+/// the last input, whatever becomes there of others.
 ///
 /// None where no group does at any input of the walk. It fails only when out of memory.
 pub fn find_mend(
@@ -42,8 +44,10 @@ pub fn find_mend(
         (IsMend (routes_of plan.now image.now) shown.now)) }
 {
     let routes = Routes::new(alloc, plan, image)?;
-    match routes.owner(shown.header) {
-        Some(owner) => routes.mend_owned(alloc, shown, owner),
+    let kind = routes.walk_kind(alloc, shown)?;
+    match kind.goal(routes.owner(shown.header)) {
+        Some(Goal::Owner(owner)) => routes.mend_owned(alloc, shown, kind, owner),
+        Some(Goal::Portal) => Ok(mend_random(shown)),
         None => Ok(mend_stray(shown)),
     }
 }
@@ -51,18 +55,22 @@ pub fn find_mend(
 impl<'a> Routes<'a> {
     ghost use Rattle.std.specs.Prelude.{◌≡◌, ◌<◌, ◌≤◌, ◌↔◌, ℕ, length, Some, IfOk, IsTrue, MatchOption};
     ghost use Rattle.c104_regs.specs.declared.registers.TheConstants.{LINKS as THE_LINKS};
-    ghost use Rattle.c104_check.specs.Mends.{GroupLeads, IsMend, LeadsBy, NoGroupLeads, NoMend};
-    ghost use Rattle.c104_check.specs.Routes.{Leads, owner as owner_of};
+    ghost use Rattle.c104_check.specs.Mends.{GroupLeads, IsWalkKind, IsMend, LeadsBy, NoGroupLeads, NoMend, goal_of};
+    ghost use Rattle.c104_check.specs.Routes.{owner as owner_of};
+    ghost use Rattle.c104_check.specs.Shown.{Comes};
+    ghost use Rattle.c104_check.specs.declared.walks.Goal.TheVariants.{Owner};
     ghost use Rattle.c104_check.specs.Trails.{IsInput, IsNetwork, routes_in};
 
-    /// The same for a header with an owner.
+    /// The same for a header that should come to its owner.
     fn mend_owned(
         &self,
         alloc: Global,
         shown: &Shown,
+        kind: WalkKind,
         owner: usize,
     ) -> Result<Option<Mend>, NoMemory>
-        requires { owner_of (routes_in self.now) shown.now.header ≡ Some owner }
+        requires kind { IsWalkKind (routes_in self.now) shown.now kind }
+        requires owned { goal_of kind (owner_of (routes_in self.now) shown.now.header) ≡ Some (Owner owner) }
         ensures { IfOk result (λ found. MatchOption found (NoMend (routes_in self.now) shown.now)
             (IsMend (routes_in self.now) shown.now)) }
     {
@@ -137,29 +145,29 @@ impl<'a> Routes<'a> {
         ensures { IfOk result (λ leads. IsTrue leads
             ↔ LeadsBy (routes_in self.now) header owner link.switch link.link) }
     {
-        match way_of(self.peer(link), owner) {
+        match way_of(self.peer(link), Goal::Owner(owner)) {
             Way::Astray(_) => Ok(false),
             Way::Home => Ok(true),
-            Way::On(next) => self.leads_from(alloc, header, owner, next),
+            Way::On(next) => self.comes_from(alloc, header, Goal::Owner(owner), next),
         }
     }
 
-    /// Whether a header comes from an input to its owner.
-    fn leads_from(
+    /// Whether a header comes from an input where it should.
+    pub(crate) fn comes_from(
         &self,
         alloc: Global,
         header: u32,
-        owner: usize,
+        goal: Goal,
         at: SwitchPort,
     ) -> Result<bool, NoMemory>
         requires network { IsNetwork (routes_in self.now) }
         requires input { IsInput (length (routes_in self.now).settings) at }
-        ensures { IfOk result (λ leads. IsTrue leads
-            ↔ ((k : ℕ) × Leads (routes_in self.now) header owner k at.switch at.link)) }
+        ensures { IfOk result (λ comes. IsTrue comes
+            ↔ ((k : ℕ) × Comes (routes_in self.now) header goal k at.switch at.link)) }
     {
         let mut marks = vec![in alloc; Mark::New; self.switch_count() * LINKS]?;
         let mut walk = Vec::new(alloc);
-        match self.walk_on(header, owner, at, &mut walk, &mut marks) {
+        match self.walk_on(header, goal, at, &mut walk, &mut marks) {
             Ok(()) => Ok(true),
             Err(Halt::NoMemory) => Err(NoMemory),
             Err(Halt::Fault(_)) => Ok(false),
@@ -179,5 +187,20 @@ fn mend_stray(shown: &Shown) -> Option<Mend>
     Some(Mend {
         at: walk[0],
         select: Select::Sink,
+    })
+}
+
+/// What would mend the walk of a random header.
+fn mend_random(shown: &Shown) -> Option<Mend>
+    ensures { MatchOption result ((p : ThePort) → is_met p shown.now.walk ≡ false)
+        (λ mend. (is_met mend.at shown.now.walk ≡ true) × (mend.select ≡ Discard)) }
+{
+    let walk = shown.walk.as_slice();
+    if walk.is_empty() {
+        return None;
+    }
+    Some(Mend {
+        at: walk[walk.len() - 1],
+        select: Select::Discard,
     })
 }

@@ -95,8 +95,18 @@ fn mark(marks: &mut [bool], at: SwitchPort)
     }
 }
 
+/// An input joins others, unless it is among them.
+pub(crate) fn add_input(inputs: &mut Vec<SwitchPort>, at: SwitchPort) -> Result<(), NoMemory>
+    ensures { OnOk result (inputs.new.items ≡ with_input inputs.old.items at) }
+{
+    if !is_among(inputs, at) {
+        inputs.push(at)?;
+    }
+    Ok(())
+}
+
 /// Whether an input is among others.
-fn is_among(inputs: &[SwitchPort], at: SwitchPort) -> bool
+pub(crate) fn is_among(inputs: &[SwitchPort], at: SwitchPort) -> bool
     ensures { result ≡ is_met at inputs.now }
 {
     inputs

@@ -1,0 +1,129 @@
+-- Random headers that come to portals, one after another.
+use Rattle.std.proofs.Common.{◌≡◌, ℕ, zero, suc, ◌<◌, ◌+◌, ◌-◌, ◌*◌, inl, inr, Bool, true, false, List, [], ◌∷◌, ◌++◌, length, is_some, Option, Some, None, Result, Ok, Err, IfOk, MatchOption, refl, sym, ap, subst, ◌∙◌, arith}
+use Rattle.std.proofs.lemmas.Bool.{cases_lt}
+use Rattle.c104_token.specs.declared.faults.NoMemory.{NoMemory}
+use Rattle.std.specs.List.{AllByRecursion}
+use Rattle.c104_describe.specs.declared.ports.Port.TheVariants as port
+use Rattle.c104_check.specs.declared.walks.Goal.TheVariants.{Portal}
+use Rattle.c104_check.specs.Breaks.{AreBreaks, IsBreak, IsWired, is_marked}
+use Rattle.c104_check.specs.Portals.{is_random_at, met_below, met_from, met_here, met_if}
+use Rattle.c104_check.specs.Refusals.{Refusal}
+use Rattle.c104_check.specs.Routes.{Homes, IsEntryOf, IsRandomAt, Routes, SwitchPort, header_count, most_hops, to_port}
+use Rattle.c104_check.specs.Shown.{IsShownRandom}
+use Rattle.c104_check.specs.Starts.{AreKnown, HomeBelow, IsFirstRandomAt, IsRefusedRandom, add_all}
+use Rattle.c104_check.specs.Trails.{IsInput, IsNetwork}
+use Rattle.c104_check.specs.Walking.{fault_on}
+use Rattle.c104_check.specs.Walks.{first_fault, is_met, random_fault}
+use Rattle.c104_check.proofs.BreakLemmas.{homes_alike, random_before}
+use Rattle.c104_check.proofs.PortalLemmas.{add_append, add_in, add_known, met_alike}
+use Rattle.c104_check.proofs.RandomLemmas.{random_at_tells, random_at_told}
+use Rattle.c104_check.proofs.ShownLemmas.{random_shown, shown_homes}
+
+pub random_is : (routes : Routes) (r : ℕ) (p : SwitchPort) → fault_on routes r Portal [] p ≡ random_fault routes r p
+random_is routes r p =
+    let k : 32 * length routes.settings + 1 - 1 ≡ 32 * length routes.settings = omega arith in
+    ap (λ n. first_fault routes r Portal n (p ∷ []) p) k
+
+pub refused_random : (routes : Routes) (t : ℕ) (p : SwitchPort) (r : ℕ) (refusal : Refusal) → IsNetwork routes → IsInput (length routes.settings) p → refusal.shown.entry ≡ t → refusal.shown.header ≡ r → random_fault routes r p ≡ Some (refusal.why, refusal.shown.walk) → IsRefusedRandom routes t p r refusal
+refused_random routes t p r refusal net here terminal header is =
+    let shows = random_shown routes r p refusal.why refusal.shown.walk net here is in
+    record { terminal = terminal; header = header; shows = shows; first = is; fails = λ k homes. shown_homes routes r k p refusal.why refusal.shown.walk shows homes }
+
+pub wired_entry : (routes : Routes) (t : ℕ) (p : SwitchPort) → IsNetwork routes → IsEntryOf routes t p → IsWired routes p
+wired_entry routes t p net entry = (port.Terminal t, net.back (port.Terminal t) (to_port p) entry)
+
+home_next : (routes : Routes) (p : SwitchPort) (h : ℕ) → HomeBelow routes p h → (IsRandomAt routes p h → Homes routes h (most_hops routes) p.switch p.link) → HomeBelow routes p (h + 1)
+home_next routes p h before here r below random =
+    elim (cases_lt r h) [
+      | inl lower ↦ before r lower random
+      | inr past ↦
+          let same : r ≡ h = omega (arith, below, past) in
+          subst (λ n. Homes routes n (most_hops routes) p.switch p.link) (sym same) (here (subst (IsRandomAt routes p) same random))
+    ]
+
+-- a header that isn't random there
+pub plain_next : (routes : Routes) (p : SwitchPort) (h : ℕ) → is_random_at routes p h ≡ false → HomeBelow routes p h → HomeBelow routes p (h + 1)
+plain_next routes p h not before = home_next routes p h before (λ random. let clash : true ≡ false = sym (random_at_told routes p h random) ∙ not in absurd cc)
+
+pub plain_met : (routes : Routes) (p : SwitchPort) (h : ℕ) (old : List SwitchPort) → is_random_at routes p h ≡ false → old ≡ add_all old (met_here routes p h)
+plain_met routes p h old not = rw not refl
+
+-- one that is no break
+All-right : {X : Type 0} (P : X → Type 0) (xs ys : List X) → AllByRecursion P (xs ++ ys) → AllByRecursion P ys
+All-right P [] ys all = all
+All-right P (x ∷ xs) ys all = All-right P xs ys all.1
+
+pub no_zero : (routes : Routes) (marks : List Bool) → AreBreaks routes marks → 0 < header_count routes → is_marked marks 0 ≡ false → ⊥
+no_zero routes marks are some not = let first : is_marked marks 0 ≡ true = (are.marked 0 some).1 (inl refl) in let clash : true ≡ false = sym first ∙ not in absurd cc
+
+pub quiet_of : (routes : Routes) (marks : List Bool) (h : ℕ) → AreBreaks routes marks → h < header_count routes → is_marked marks h ≡ false → IsBreak routes h → ⊥
+quiet_of routes marks h are below not breaks = let first : is_marked marks h ≡ true = (are.marked h below).1 breaks in let clash : true ≡ false = sym first ∙ not in absurd cc
+
+pub quiet_next : (routes : Routes) (marks : List Bool) (p : SwitchPort) (h : ℕ) → IsNetwork routes → AreBreaks routes marks → h < header_count routes → is_marked marks h ≡ false → IsWired routes p → HomeBelow routes p h → HomeBelow routes p (h + 1)
+quiet_next routes marks p zero net are below not wired before = absurd (no_zero routes marks are below not)
+quiet_next routes marks p (suc g) net are below not wired before =
+    let quiet = quiet_of routes marks (suc g) are below not in
+    home_next routes p (suc g) before (λ random. homes_alike routes g net quiet (most_hops routes) p wired (before g (omega arith) (random_before routes g p quiet random)))
+
+pub quiet_met : (routes : Routes) (marks : List Bool) (p : SwitchPort) (h : ℕ) (old : List SwitchPort) → IsNetwork routes → AreBreaks routes marks → h < header_count routes → is_marked marks h ≡ false → is_random_at routes p h ≡ true → IsWired routes p → AreKnown old (met_below routes p h) → old ≡ add_all old (met_here routes p h)
+quiet_met routes marks p zero old net are below not random wired known = absurd (no_zero routes marks are below not)
+quiet_met routes marks p (suc g) old net are below not random wired known =
+    let quiet = quiet_of routes marks (suc g) are below not in
+    let earlier : is_random_at routes p g ≡ true = random_at_told routes p g (random_before routes g p quiet (random_at_tells routes p (suc g) below random)) in
+    let there : AreKnown old (met_here routes p g) = All-right (λ q. is_met q old ≡ true) (met_below routes p g) (met_here routes p g) known in
+    let all : AreKnown old (met_from routes g (most_hops routes) p) = subst (λ b. AreKnown old (met_if b (met_from routes g (most_hops routes) p))) earlier there in
+    let same = met_alike routes g net quiet (most_hops routes) p wired in
+    let here : met_here routes p (suc g) ≡ met_from routes g (most_hops routes) p = ap (λ b. met_if b (met_from routes (suc g) (most_hops routes) p)) random ∙ same in
+    sym (ap (add_all old) here ∙ add_known (met_from routes g (most_hops routes) p) old all)
+
+-- and one that is walked with
+pub walked_next : (routes : Routes) (t : ℕ) (p : SwitchPort) (h : ℕ) (found : Option Refusal) → h < header_count routes → is_random_at routes p h ≡ true → HomeBelow routes p h → MatchOption found (Homes routes h (most_hops routes) p.switch p.link) (IsRefusedRandom routes t p h) → MatchOption found (HomeBelow routes p (h + 1)) (IsFirstRandomAt routes t p)
+walked_next routes t p h None below random before is = home_next routes p h before (λ there. is)
+walked_next routes t p h (Some refusal) below random before is = record {
+  terminal = is.terminal;
+  below = subst (λ n. n < header_count routes) (sym is.header) below;
+  refused = record {
+    random = subst (IsRandomAt routes p) (sym is.header) (random_at_tells routes p h below random);
+    before = λ r low. before r (subst (λ n. r < n) is.header low);
+    shows = subst (λ n. IsShownRandom routes n p refusal.why refusal.shown.walk) (sym is.header) is.shows;
+    first = subst (λ n. random_fault routes n p ≡ Some (refusal.why, refusal.shown.walk)) (sym is.header) is.first;
+    fails = subst (λ n. (k : ℕ) → Homes routes n k p.switch p.link → ⊥) (sym is.header) is.fails;
+  };
+}
+
+pub walked_result : (routes : Routes) (t : ℕ) (p : SwitchPort) (h : ℕ) (result : Result (Option Refusal) NoMemory) → h < header_count routes → is_random_at routes p h ≡ true → HomeBelow routes p h → IfOk result (λ found. MatchOption found (Homes routes h (most_hops routes) p.switch p.link) (IsRefusedRandom routes t p h)) → IfOk result (λ found. MatchOption found (HomeBelow routes p (h + 1)) (IsFirstRandomAt routes t p))
+walked_result routes t p h (Ok found) below random before is = walked_next routes t p h found below random before is
+walked_result routes t p h (Err x) below random before is = tt
+
+pub walked_met : (routes : Routes) (p : SwitchPort) (h : ℕ) (old new : List SwitchPort) → is_random_at routes p h ≡ true → new ≡ add_all old (met_from routes h (most_hops routes) p) → new ≡ add_all old (met_here routes p h)
+walked_met routes p h old new random is = is ∙ sym (ap (λ b. add_all old (met_if b (met_from routes h (most_hops routes) p))) random)
+
+-- Header by header
+
+pub met_next : (routes : Routes) (p : SwitchPort) (h : ℕ) (init old new : List SwitchPort) → old ≡ add_all init (met_below routes p h) → new ≡ add_all old (met_here routes p h) → new ≡ add_all init (met_below routes p (h + 1))
+met_next routes p h init old new before is =
+    let up : suc h ≡ h + 1 = omega arith in
+    is ∙ ap (λ (xs : List SwitchPort). add_all xs (met_here routes p h)) before ∙ sym (add_append (met_below routes p h) (met_here routes p h) init) ∙ ap (λ n. add_all init (met_below routes p n)) up
+
+pub known_all : (init now xs : List SwitchPort) → now ≡ add_all init xs → AreKnown now xs
+known_all init now xs is = subst (λ (ys : List SwitchPort). AreKnown ys xs) (sym is) (add_in xs init)
+
+pub first_kept : (routes : Routes) (t : ℕ) (p : SwitchPort) (h : ℕ) (found : Option Refusal) (P : Type 0) → is_some found ≡ true → MatchOption found (HomeBelow routes p h) (IsFirstRandomAt routes t p) → MatchOption found P (IsFirstRandomAt routes t p)
+first_kept routes t p h None P some is = absurd cc
+first_kept routes t p h (Some refusal) P some is = is
+
+pub none_kept : (A B : Type 0) (found : Option Refusal) → is_some found ≡ true → (found ≡ None → A) → found ≡ None → B
+none_kept A B None some is none = absurd cc
+none_kept A B (Some refusal) some is none = absurd cc
+
+pub home_none : (routes : Routes) (t : ℕ) (p : SwitchPort) (h : ℕ) (found : Option Refusal) → is_some found ≡ false → MatchOption found (HomeBelow routes p h) (IsFirstRandomAt routes t p) → HomeBelow routes p h
+home_none routes t p h None none is = is
+home_none routes t p h (Some refusal) none is = absurd cc
+
+pub is_none_of : (found : Option Refusal) → is_some found ≡ false → found ≡ None
+is_none_of None is = refl
+is_none_of (Some refusal) is = absurd cc
+
+pub homes_of : (routes : Routes) (t r : ℕ) (p : SwitchPort) (found : Option Refusal) → is_some found ≡ false → MatchOption found (Homes routes r (most_hops routes) p.switch p.link) (IsRefusedRandom routes t p r) → Homes routes r (most_hops routes) p.switch p.link
+homes_of routes t r p None none is = is
+homes_of routes t r p (Some refusal) none is = absurd cc

@@ -1,0 +1,114 @@
+-- Random headers.
+use Rattle.std.proofs.Common.{◌≡◌, ℕ, suc, ◌<◌, ◌≤◌, ◌+◌, ◌*◌, ◌-◌, ◌%◌, ◌⊎◌, inl, inr, Bool, true, false, ◌&&◌, nat_lt, cond, length, Option, Some, None, refl, sym, ap, subst, ◌∙◌, arith}
+use Rattle.std.proofs.lemmas.Bool.{cases_lt, ltb-true, lt-ltb}
+use Rattle.c104_regs.specs.declared.settings.Settings.{Settings}
+use Rattle.c104_check.specs.Portals.{is_random, is_random_at, is_random_set}
+use Rattle.c104_check.specs.Routes.{IsEntryOf, IsRandom, IsRandomAt, IsRandomIn, Routes, SwitchPort, header_count, link_settings, random_count}
+use Rattle.c104_check.specs.Trails.{IsNetwork}
+use Rattle.c104_check.proofs.RefusalLemmas.{entry_same}
+
+-- how many headers there are
+abbrev pub IsCount : ℕ → Type 0
+IsCount count = (count ≡ 256) ⊎ (count ≡ 65536)
+
+count_of : (b : Bool) → IsCount (256 * (cond b 256 1))
+count_of true = inr refl
+count_of false = inl refl
+
+pub counts : (routes : Routes) → IsCount (header_count routes)
+counts routes = count_of (nat_lt 1 routes.header)
+
+-- Round and round
+
+pub round_small : (base n r : ℕ) → r < 256 → (r + 256 - base % 256) % 256 < n → r ≡ (base + (r + 256 - base % 256) % 256) % 256
+round_small base n r low is = omega (arith, low)
+
+pub round_large : (base n r : ℕ) → r < 65536 → (r + 65536 - base % 65536) % 65536 < n → r ≡ (base + (r + 65536 - base % 65536) % 65536) % 65536
+round_large base n r low is = omega (arith, low)
+
+pub back_small : (base n k r : ℕ) → k < n → r ≡ (base + k) % 256 → (r + 256 - base % 256) % 256 < n
+back_small base n k r low is = omega (arith, low, is)
+
+pub back_large : (base n k r : ℕ) → k < n → r ≡ (base + k) % 65536 → (r + 65536 - base % 65536) % 65536 < n
+back_large base n k r low is = omega (arith, low, is)
+
+pub on_small : (base k g : ℕ) → suc g < 256 → g ≡ (base + k) % 256 → suc g ≡ (base + (k + 1)) % 256
+on_small base k g low is = omega (arith, low, is)
+
+pub on_large : (base k g : ℕ) → suc g < 65536 → g ≡ (base + k) % 65536 → suc g ≡ (base + (k + 1)) % 65536
+on_large base k g low is = omega (arith, low, is)
+
+pub before_small : (base k g : ℕ) → suc g ≡ (base + (k + 1)) % 256 → g ≡ (base + k) % 256
+before_small base k g is = omega (arith, is)
+
+pub before_large : (base k g : ℕ) → suc g ≡ (base + (k + 1)) % 65536 → g ≡ (base + k) % 65536
+before_large base k g is = omega (arith, is)
+
+-- The test
+
+and_both : (a b : Bool) → (a && b) ≡ true → (a ≡ true) × (b ≡ true)
+and_both true b is = (refl, is)
+and_both false b is = absurd cc
+
+round_by : (count base n r : ℕ) → IsCount count → r < count → (r + count - base % count) % count < n → r ≡ (base + (r + count - base % count) % count) % count
+round_by count base n r (inl small) low is = subst (λ c. r ≡ (base + (r + c - base % c) % c) % c) (sym small) (round_small base n r (omega (arith, low, small)) (subst (λ c. (r + c - base % c) % c < n) small is))
+round_by count base n r (inr large) low is = subst (λ c. r ≡ (base + (r + c - base % c) % c) % c) (sym large) (round_large base n r (omega (arith, low, large)) (subst (λ c. (r + c - base % c) % c < n) large is))
+
+back_by : (count base n k r : ℕ) → IsCount count → k < n → r ≡ (base + k) % count → (r + count - base % count) % count < n
+back_by count base n k r (inl small) low is = subst (λ c. (r + c - base % c) % c < n) (sym small) (back_small base n k r low (subst (λ c. r ≡ (base + k) % c) small is))
+back_by count base n k r (inr large) low is = subst (λ c. (r + c - base % c) % c < n) (sym large) (back_large base n k r low (subst (λ c. r ≡ (base + k) % c) large is))
+
+random_tells : (count : ℕ) (x : Settings) (r : ℕ) → IsCount count → r < count → is_random count x r ≡ true → IsRandom count x r
+random_tells count x r size below is =
+    let both = and_both x.randomize (nat_lt ((r + count - x.random_base % count) % count) (random_count x)) is in
+    let low = ltb-true ((r + count - x.random_base % count) % count) (random_count x) both.1 in
+    (both.0, ((r + count - x.random_base % count) % count, low, round_by count x.random_base (random_count x) r size below low))
+
+random_told : (count : ℕ) (x : Settings) (r : ℕ) → IsCount count → IsRandom count x r → is_random count x r ≡ true
+random_told count x r size (random, (k, low, is)) =
+    let near = lt-ltb ((r + count - x.random_base % count) % count) (random_count x) (back_by count x.random_base (random_count x) k r size low is) in
+    rw random near
+
+set_tells : (count r : ℕ) (o : Option Settings) → IsCount count → r < count → is_random_set count o r ≡ true → (x : Settings) × (o ≡ Some x) × IsRandom count x r
+set_tells count r None size below is = absurd cc
+set_tells count r (Some x) size below is = (x, refl, random_tells count x r size below is)
+
+set_told : (count r : ℕ) (o : Option Settings) (x : Settings) → IsCount count → o ≡ Some x → IsRandom count x r → is_random_set count o r ≡ true
+set_told count r o x size at random = ap (λ (y : Option Settings). is_random_set count y r) at ∙ random_told count x r size random
+
+pub random_at_tells : (routes : Routes) (p : SwitchPort) (r : ℕ) → r < header_count routes → is_random_at routes p r ≡ true → IsRandomAt routes p r
+random_at_tells routes p r below is = set_tells (header_count routes) r (link_settings routes.settings p) (counts routes) below is
+
+pub random_at_told : (routes : Routes) (p : SwitchPort) (r : ℕ) → IsRandomAt routes p r → is_random_at routes p r ≡ true
+random_at_told routes p r (x, set, random) = set_told (header_count routes) r (link_settings routes.settings p) x (counts routes) set random
+
+mod_below : (count n : ℕ) → IsCount count → n % count < count
+mod_below count n (inl small) = subst (λ c. n % c < c) (sym small) (omega arith)
+mod_below count n (inr large) = subst (λ c. n % c < c) (sym large) (omega arith)
+
+-- each is a header
+pub random_header : (routes : Routes) (p : SwitchPort) (r : ℕ) → IsRandomAt routes p r → r < header_count routes
+random_header routes p r (x, set, (random, (k, low, is))) = subst (λ n. n < header_count routes) (sym is) (mod_below (header_count routes) (x.random_base + k) (counts routes))
+
+pub random_is_header : (routes : Routes) (r : ℕ) → IsRandomIn routes r → r < header_count routes
+random_is_header routes r (t, p, entry, random) = random_header routes p r random
+
+-- At the inputs of terminals
+
+-- it is one at none of the first so many
+abbrev pub NoneRandomBefore : Routes → ℕ → ℕ → Type 0
+NoneRandomBefore routes h n = (t : ℕ) (p : SwitchPort) → t < n → IsEntryOf routes t p → IsRandomAt routes p h → ⊥
+
+pub none_random_next : (routes : Routes) (h n : ℕ) (p : SwitchPort) → IsEntryOf routes n p → is_random_at routes p h ≡ false → NoneRandomBefore routes h n → NoneRandomBefore routes h (n + 1)
+none_random_next routes h n p entry not none t q below wired random =
+    elim (cases_lt t n) [
+      | inl lower ↦ none t q lower wired random
+      | inr past ↦
+          let same : t ≡ n = omega (arith, below, past) in
+          let here : q ≡ p = entry_same routes n q p (subst (λ x. IsEntryOf routes x q) same wired) entry in
+          let told = random_at_told routes p h (subst (λ (x : SwitchPort). IsRandomAt routes x h) here random) in
+          let clash : true ≡ false = sym told ∙ not in absurd cc
+    ]
+
+pub none_random : (routes : Routes) (h n : ℕ) → IsNetwork routes → length routes.ranges ≤ n → NoneRandomBefore routes h n → IsRandomIn routes h → ⊥
+none_random routes h n net past none (t, p, entry, random) = let low = net.terminals t p entry in none t p (omega (arith, low, past)) entry random

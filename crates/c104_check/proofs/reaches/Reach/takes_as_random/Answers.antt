@@ -1,0 +1,23 @@
+use Rattle.std.proofs.Common.{◌≡◌, ◌↔◌, false, IsTrue, List, length, sym, subst}
+use Rattle.std.specs.List.{AllByRecursion}
+use Rattle.c104_check.specs.ChannelDependencies.{IsNeverRandomized}
+use Rattle.c104_check.specs.Parts.{IsTakenAsRandom}
+use Rattle.c104_check.specs.Reach.{NetworkHeader, routes_for}
+use Rattle.c104_check.specs.Routes.{SwitchPort}
+use Rattle.c104_check.specs.Trails.{IsInput, routes_in}
+use Rattle.c104_check.proofs.PartLemmas.{random_taken, none_taken}
+use Rattle.c104_check.proofs.reaches.Reach.takes_as_random.Goals as goal
+
+pub takes_from-requires : goal.takes_from-requires
+takes_from-requires c = subst (λ (xs : List SwitchPort). AllByRecursion (IsInput (length (routes_in c.self.inside.routes).settings)) xs) (sym c.as_slice.ensures.value) c.self.invariant.random_inside
+
+pub returns-clause-taken : goal.returns-clause-taken
+returns-clause-taken c =
+    subst (λ (x : NetworkHeader). IsTrue c.takes_from.result ↔ IsTakenAsRandom (routes_for x) x.header c.args.link) c.self.view_is
+    (random_taken (routes_in c.self.inside.routes) c.self.inside.header c.self.inside.ways.random.items c.as_slice.result.now c.args.link c.takes_from.result c.as_slice.ensures.value c.self.invariant.as_random c.takes_from.ensures)
+
+pub returns-clause-plain : goal.returns-clause-plain
+returns-clause-plain c =
+    subst (λ (x : NetworkHeader). IsNeverRandomized (routes_for x) → c.takes_from.result ≡ false) c.self.view_is
+    (none_taken (routes_in c.self.inside.routes) c.self.inside.header c.args.link c.takes_from.result
+    (random_taken (routes_in c.self.inside.routes) c.self.inside.header c.self.inside.ways.random.items c.as_slice.result.now c.args.link c.takes_from.result c.as_slice.ensures.value c.self.invariant.as_random c.takes_from.ensures))
