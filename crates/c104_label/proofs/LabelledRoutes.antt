@@ -1,6 +1,6 @@
 -- What decides where packets go in a network whose switches have tables that are given, as those of labels.
-use Rattle.std.proofs.Common.{◌≡◌, ℕ, zero, suc, ◌<◌, ◌≤◌, ◌+◌, ◌-◌, ◌*◌, ◌==◌, inl, inr, Bool, true, false, if◌then◌else◌, is_some, nat_le, nat_lt, List, [], ◌∷◌, length, map, position, slice_get, option_map, All, Option, Some, None, refl, sym, ap, ◌∙◌, arith}
-use Rattle.std.specs.List.{list_any, range_with_len}
+use Rattle.std.proofs.Common.{◌≡◌, ℕ, zero, suc, ◌<◌, ◌≤◌, ◌+◌, ◌-◌, ◌*◌, ◌==◌, inl, inr, Bool, true, false, if◌then◌else◌, is_some, nat_le, nat_lt, List, [], ◌∷◌, length, map, slice_get, option_map, All, Option, Some, None, refl, sym, ap, ◌∙◌, arith}
+use Rattle.std.specs.List.{find, list_any, range_with_len}
 use Rattle.std.proofs.lemmas.Bool.{cases_Bool, cases_lt}
 use Rattle.std.proofs.lemmas.Bool.Decides.{nat_tests}
 use Rattle.std.proofs.lemmas.Option.{slice_get_past}
@@ -11,27 +11,24 @@ use Rattle.c104_interval.specs.declared.intervals.Table.{Table}
 use Rattle.c104_crossbar.specs.Groups.{group_contains, is_joined_run}
 use Rattle.c104_regs.specs.Groups.{continues, continues_at}
 use Rattle.c104_regs.specs.Ranges.{IsTableInRange}
-use Rattle.c104_regs.specs.Settings.{header_length}
 use Rattle.c104_regs.specs.declared.settings.Settings.{Settings}
-use Rattle.c104_regs.proofs.RangeNumbers.{plain_headers}
+use Rattle.c104_describe.specs.declared.plans.PlanRandom.{PlanRandom}
 use Rattle.c104_describe.specs.declared.plans.Terminal.{Terminal}
 use Rattle.c104_describe.specs.declared.ports.Port.{Port}
 use Rattle.c104_describe.specs.declared.ports.Port.TheVariants as port
 use Rattle.c104_describe.specs.LabelledImages.{labelled_image, labelled_settings, labelled_switch, table_in}
-use Rattle.c104_describe.specs.PlanImage.{AreSettings, Image, settings_of}
+use Rattle.c104_describe.specs.PlanImage.{AreSettings, is_random_of, plain_settings_of, settings_of, with_random}
 use Rattle.c104_describe.specs.Plans.{IsPlan, Plan, deletes_at, host_port, is_continued, is_on}
 use Rattle.c104_describe.specs.Ports.{is_any_at}
 use Rattle.c104_describe.specs.Wiring.{peer}
 use Rattle.c104_describe.proofs.LabelledSettings.{are_labelled, labelled_at, labelled_fits}
-use Rattle.c104_describe.proofs.PlanSettings.{no_random}
 use Rattle.c104_describe.proofs.PortLemmas.{is_port-true}
 use Rattle.c104_describe.proofs.RangeLists.{all_range}
 use Rattle.c104_describe.proofs.Wires.{wiring}
 use Rattle.c104_check.specs.declared.ports.SwitchPort.{SwitchPort}
-use Rattle.c104_check.specs.Routes.{Routes, header_count, is_in_group, length_at, length_or_one, link_peers, link_settings, or_no_settings, port_at, routes_of, select, settings_at, to_port}
+use Rattle.c104_check.specs.Routes.{IsRandomized, Routes, header_count, is_in_group, link_settings, or_no_settings, routes_of, select, settings_at, to_port}
 use Rattle.c104_check.specs.Trails.{IsNetwork}
 use Rattle.c104_check.proofs.NetworkLemmas.{network_of}
-use Rattle.c104_check.proofs.RouteLemmas.{are_there, in_range}
 use Rattle.c104_label.proofs.MappedRanges.{map_at, map_was}
 
 -- Where no link continues a group, each link is a group by itself
@@ -46,27 +43,9 @@ group_alone continue g o none = elim (cases_Bool (nat_le g o)) [
   | inr t ↦ rw t (joined_none continue o (g - o) none ∙ (let e : (g - o == 0) ≡ (o == g) = grind (arith, nat_tests) in e))
 ]
 
--- Headers of all networks have one byte, for now
+-- Headers
 
-one_byte : (routes : Routes) (q : SwitchPort) (x : Settings) → IsNetwork routes → link_settings routes.settings q ≡ Some x → header_length x ≡ 1
-one_byte routes q x net is =
-    let plain = plain_headers x (in_range (settings_at routes q.switch) q.link x (are_there routes q.switch q.link x net is).1 is) in
-    rw (plain.0) refl
-
-header_is : (routes : Routes) (o : Option ℕ) → IsNetwork routes → length_at routes.settings o ≡ 1
-header_is routes None net = refl
-header_is routes (Some k) net = by (link_settings routes.settings (port_at k)) refl
-  where
-    by : (o : Option Settings) → link_settings routes.settings (port_at k) ≡ o → length_or_one o ≡ 1
-    by None is = refl
-    by (Some x) is = one_byte routes (port_at k) x net is
-
--- so they are equally long at all links
-pub same_length : (plan : Plan) (image : Image) (q : SwitchPort) (x : Settings) → IsNetwork (routes_of plan image) → link_settings image.settings q ≡ Some x → header_length x ≡ (routes_of plan image).header
-same_length plan image q x net is =
-    one_byte (routes_of plan image) q x net is ∙ sym (header_is (routes_of plan image) (position (λ o. is_some o) (link_peers (peer plan) (length image.settings))) net)
-
--- there are at least so many
+-- there are at least so many, of whatever length
 pub headers_many : (routes : Routes) → 256 ≤ header_count routes
 headers_many routes = many (nat_lt 1 routes.header)
   where
@@ -84,13 +63,34 @@ with_table_continues : (b : Bool) (s : Settings) (t : Table) → (if b then reco
 with_table_continues true s t = refl
 with_table_continues false s t = refl
 
-deletes_own : (plan : Plan) (t : Table) (p : Port) → IsPlan plan → (labelled_settings plan t p).delete_header ≡ deletes_at plan p
-unfolding labelled_settings settings_of
-deletes_own plan t p kept = with_table_deletes (is_some (peer plan p)) _ t ∙ rw (no_random plan p kept) refl
+with_random_deletes : (o : Option PlanRandom) (s : Settings) → (with_random o s).delete_header ≡ s.delete_header
+with_random_deletes None s = refl
+with_random_deletes (Some random) s = refl
 
-continues_own : (plan : Plan) (t : Table) (p : Port) → IsPlan plan → (labelled_settings plan t p).continue_group ≡ is_continued plan p
+with_random_continues : (o : Option PlanRandom) (s : Settings) → (with_random o s).continue_group ≡ s.continue_group
+with_random_continues None s = refl
+with_random_continues (Some random) s = refl
+
+deletes_own : (plan : Plan) (t : Table) (p : Port) → (labelled_settings plan t p).delete_header ≡ deletes_at plan p
 unfolding labelled_settings settings_of
-continues_own plan t p kept = with_table_continues (is_some (peer plan p)) _ t ∙ rw (no_random plan p kept) refl
+deletes_own plan t p = with_table_deletes (is_some (peer plan p)) _ t ∙ with_random_deletes (find (is_random_of p) plan.randoms) (plain_settings_of plan p)
+
+continues_own : (plan : Plan) (t : Table) (p : Port) → (labelled_settings plan t p).continue_group ≡ is_continued plan p
+unfolding labelled_settings settings_of
+continues_own plan t p = with_table_continues (is_some (peer plan p)) _ t ∙ with_random_continues (find (is_random_of p) plan.randoms) (plain_settings_of plan p)
+
+with_table_randomizes : (b : Bool) (s : Settings) (t : Table) → (if b then record s { table = t } else s).randomize ≡ s.randomize
+with_table_randomizes true s t = refl
+with_table_randomizes false s t = refl
+
+-- where no line of a plan says so, an input has no random headers
+pub settings_plain : (plan : Plan) (p : Port) → plan.randoms ≡ [] → (settings_of plan p).randomize ≡ false
+unfolding settings_of
+settings_plain plan p unset = ap (λ randoms. (with_random (find (is_random_of p) randoms) (plain_settings_of plan p)).randomize) unset
+
+plain_own : (plan : Plan) (t : Table) (p : Port) → plan.randoms ≡ [] → (labelled_settings plan t p).randomize ≡ false
+unfolding labelled_settings
+plain_own plan t p unset = with_table_randomizes (is_some (peer plan p)) _ t ∙ settings_plain plan p unset
 
 none_continued : (plan : Plan) (p : Port) → plan.continues ≡ [] → is_continued plan p ≡ false
 unfolding is_any_at
@@ -167,17 +167,23 @@ module _ (plan : Plan) (ranges : List (ℕ × ℕ)) (tables : List Table) where
       ap (option_map (λ (settings : Settings). table.select settings.table h)) found ∙ (rw wired refl)
 
   -- a link is a group by itself where no line says that one continues another
-  pub alone : (s g o : ℕ) → IsPlan plan → plan.continues ≡ [] → s < length plan.switches → is_in_group routes s g o ≡ (o == g)
+  pub alone : (s g o : ℕ) → plan.continues ≡ [] → s < length plan.switches → is_in_group routes s g o ≡ (o == g)
   unfolding labelled_switch
-  alone s g o kept unset lt = group_alone (continues_at (settings_at routes s)) g o none
+  alone s g o unset lt = group_alone (continues_at (settings_at routes s)) g o none
     where
       none : (l : ℕ) → continues_at (settings_at routes s) l ≡ false
       none l = ap (λ xs. continues_at xs l) (settings_are s lt) ∙ elim (cases_lt l 32) [
-        | inl below ↦ ap continues (map_at (at s) 32 l below) ∙ continues_own plan (table_in tables s) (port.Switch s l) kept ∙ none_continued plan (port.Switch s l) unset
+        | inl below ↦ ap continues (map_at (at s) 32 l below) ∙ continues_own plan (table_in tables s) (port.Switch s l) ∙ none_continued plan (port.Switch s l) unset
         | inr past ↦ ap continues (slice_get_past (map (at s) (range_with_len 0 32)) l (let e : length (map (at s) (range_with_len 0 32)) ≡ 32 = length-map-range_with_len (at s) 0 32 in omega (arith, e, past)))
       ]
 
   -- headers aren't deleted at a port that is wired to a switch
   pub keeps : (q other : SwitchPort) (x : Settings) → IsPlan plan → routes.peer (to_port q) ≡ Some (to_port other) → link_settings routes.settings q ≡ Some x → x.delete_header ≡ false
   keeps q other x kept wired is =
-      ap (λ (y : Settings). y.delete_header) (link_was q x is) ∙ deletes_own plan (table_in tables q.switch) (to_port q) kept ∙ none_deleted plan (to_port q) other.switch other.link kept wired
+      ap (λ (y : Settings). y.delete_header) (link_was q x is) ∙ deletes_own plan (table_in tables q.switch) (to_port q) ∙ none_deleted plan (to_port q) other.switch other.link kept wired
+
+  -- no link puts random headers before packets where no line of the plan says so
+  pub not_randomized : (q : SwitchPort) → plan.randoms ≡ [] → IsRandomized routes q → ⊥
+  not_randomized q unset random =
+      let plain = ap (λ (y : Settings). y.randomize) (link_was q random.0 random.1) ∙ plain_own plan (table_in tables q.switch) (to_port q) unset in
+      let clash : true ≡ false = sym random.2 ∙ plain in absurd cc

@@ -26,7 +26,7 @@ use Rattle.c104_label.specs.TreeLabels.{Place, forest_labels, labels_behind, net
 use Rattle.c104_label.specs.TreeImages.{HasLabel, IsBehind, IsTreeImage, SelectsInTree, most_labels, plan_labels, total_count}
 use Rattle.c104_label.proofs.ForestLemmas.{AllSwitches, AllSwitches-at, grown_switches, met_first, met_right, or_parts, switches_room, switches_root}
 use Rattle.c104_label.proofs.LabelledRoutes.{alone, settings_count}
-use Rattle.c104_label.proofs.TreeAccepted.{is_network, one_byte_labels, owned, small_of, tree_plan}
+use Rattle.c104_label.proofs.TreeAccepted.{is_network, owned, small_of, tree_plan}
 use Rattle.c104_label.proofs.TreePlaces.{Stands, either_case, if_case}
 use Rattle.c104_label.proofs.TreeTables.{place_known, standing}
 use Rattle.c104_label.proofs.VisitLemmas.{ends_inside}
@@ -81,7 +81,7 @@ tree_rank plan root forest q = rank_by plan root forest q.switch (peer plan (to_
 one_port : (a b : ℕ) (q : SwitchPort) → Some (port.Switch a b) ≡ Some (to_port q) → (a ≡ q.switch) × (b ≡ q.link)
 one_port a b q e = let x : a ≡ q.switch = cc in let y : b ≡ q.link = cc in (x, y)
 
-module _ (plan : Plan) (kept : IsPlan plan) (root : ℕ) (is_tree : IsTreePlan root plan) (forest : Forest) (spans : IsSpanning plan root forest) (few : plan_labels plan root forest ≤ 256) where
+module _ (plan : Plan) (kept : IsPlan plan) (root : ℕ) (is_tree : IsTreePlan root plan) (forest : Forest) (spans : IsSpanning plan root forest) (few : plan_labels plan root forest ≤ most_labels plan) where
   abbrev net : Routes
   net = tree_routes plan root forest
 
@@ -249,7 +249,7 @@ module _ (plan : Plan) (kept : IsPlan plan) (root : ℕ) (is_tree : IsTreePlan r
   goes_on h t a b owns reached (g, o, sel, group, wire) =
       let at = reached_wired h a reached in
       let there = (wiring plan kept).inside (to_port a) at.0 at.1 in
-      let one : o ≡ g = eqb-true o g (sym (alone plan (all_ranges plan root forest) (all_tables plan root forest) a.switch g o kept is_tree.unset.continues there.0) ∙ group) in
+      let one : o ≡ g = eqb-true o g (sym (alone plan (all_ranges plan root forest) (all_tables plan root forest) a.switch g o is_tree.unset.continues there.0) ∙ group) in
       let picks : Some (table.select (switch_table plan root forest a.switch) h) ≡ Some (Link g) = sym (selects_at plan kept is_tree.unset.continues root forest spans a.switch a.link h at.0 at.1) ∙ sel in
       let pick : table.select (switch_table plan root forest a.switch) h ≡ Link g = cc in
       record { link = o; back = (wiring plan kept).back (port.Switch a.switch o) (to_port b) wire; goes = step h a.switch o b (owned_small h t owns) (pick ∙ ap Link (sym one)) wire }
@@ -330,7 +330,7 @@ rank_by_low plan root forest s (Some (port.Switch r b)) = by_test (nat_lt (below
     by_test true = omega arith
     by_test false = omega (arith, small)
 
-spanning_acyclic : (plan : Plan) (kept : IsPlan plan) (root : ℕ) (is_tree : IsTreePlan root plan) (forest : Forest) (spans : IsSpanning plan root forest) → plan_labels plan root forest ≤ 256 → IsAcyclic (tree_routes plan root forest)
+spanning_acyclic : (plan : Plan) (kept : IsPlan plan) (root : ℕ) (is_tree : IsTreePlan root plan) (forest : Forest) (spans : IsSpanning plan root forest) → plan_labels plan root forest ≤ most_labels plan → IsAcyclic (tree_routes plan root forest)
 spanning_acyclic plan kept root is_tree forest spans few =
     acyclic_by (tree_routes plan root forest) (tree_rank plan root forest) (is_network plan kept root is_tree forest spans few) (spanning_ranked plan kept root is_tree forest spans few) low
   where
@@ -343,6 +343,5 @@ spanning_acyclic plan kept root is_tree forest spans few =
 
 pub tree_acyclic : (plan : Plan) (root : ℕ) (forest : Forest) (image : Image) → IsPlan plan → plan.shape ≡ Tree root → IsTreeImage plan root forest image → total_count plan.terminals ≤ most_labels plan → IsAcyclic (routes_of plan image)
 tree_acyclic plan root forest image kept shape is few =
-    let most = one_byte_labels plan kept in
     let labels = is.labels in
-    subst (λ (other : Image). IsAcyclic (routes_of plan other)) (sym is.is) (spanning_acyclic plan kept root (tree_plan plan root kept shape) forest is.tree (omega (arith, labels, few, most)))
+    subst (λ (other : Image). IsAcyclic (routes_of plan other)) (sym is.is) (spanning_acyclic plan kept root (tree_plan plan root kept shape) forest is.tree (omega (arith, labels, few)))

@@ -1,11 +1,11 @@
 //! The image of a plan: of its own lines, or with tables of labels.
-ghost use Rattle.std.specs.Prelude.{◌≡◌, ◌↔◌, All, false, length, map, true, IfErr, IfOk, IsErrOf};
+ghost use Rattle.std.specs.Prelude.{◌≡◌, ◌↔◌, [], All, false, length, map, true, IfErr, IfOk, IsErrOf};
 ghost use Rattle.c104_regs.specs.Ranges.{IsTableInRange};
 ghost use Rattle.c104_describe.specs.LabelledImages.{labelled_image};
 ghost use Rattle.c104_describe.specs.PlanImage.{Fits, range_of};
 ghost use Rattle.c104_describe.specs.Plans.{IsPlan};
 ghost use Rattle.c104_check.specs.Routes.{IsAccepted, routes_of};
-ghost use Rattle.c104_check.specs.ChannelDependencies.{IsAcyclic};
+ghost use Rattle.c104_check.specs.ChannelDependencies.{IsAcyclic, IsNeverRandomized};
 ghost use Rattle.c104_label.specs.Crossings.{AreCrossings};
 ghost use Rattle.c104_label.specs.Images.{IsImageCause, IsImageOf, IsShapeCause, is_cube_shape, is_labelled_shape, is_mesh_shape, is_tree_shape};
 ghost use Rattle.c104_label.specs.declared.faults.LabelFault.TheVariants as fault;
@@ -24,12 +24,14 @@ use std::alloc::Global;
 ///
 /// A tree alone may be refused: NotConnected where wires don't lead from its root to each switch, then TooManyLabels
 /// where its terminals have more labels than there are headers. All may be NoMemory. The labels of a tree, a mesh
-/// and a cube need no check, and by them no inputs depend on one another in a cycle.
+/// and a cube need no check, and by them no inputs depend on one another in a cycle. No link puts random headers before
+/// packets where no line of the plan says so.
 pub fn image_of(alloc: Global, plan: &Plan) -> Result<Image, LabelFault>
     ensures image { IfOk result (λ image. IsImageOf plan.now image) }
     ensures fits { IfOk result (λ image. Fits image plan.now) }
     ensures accepted { is_labelled_shape plan.now.shape ≡ true → IfOk result (λ image. IsAccepted (routes_of plan.now image)) }
     ensures acyclic { is_labelled_shape plan.now.shape ≡ true → IfOk result (λ image. IsAcyclic (routes_of plan.now image)) }
+    ensures never_randomized { plan.now.randoms ≡ [] → IfOk result (λ image. IsNeverRandomized (routes_of plan.now image)) }
     ensures crossings { IfOk result (λ image. AreCrossings plan.now.shape (routes_of plan.now image)) }
     ensures refused { IfErr result (IsImageCause plan.now) }
 {
@@ -61,6 +63,7 @@ pub fn label_tree(alloc: Global, plan: &Plan) -> Result<Image, LabelFault>
     ensures fits { IfOk result (λ image. Fits image plan.now) }
     ensures accepted { IfOk result (λ image. IsAccepted (routes_of plan.now image)) }
     ensures acyclic { IfOk result (λ image. IsAcyclic (routes_of plan.now image)) }
+    ensures never_randomized { IfOk result (λ image. IsNeverRandomized (routes_of plan.now image)) }
     ensures shape { IsErrOf result fault.WrongShape ↔ (is_tree_shape plan.now.shape ≡ false) }
     ensures refused { IfErr result (IsShapeCause (is_tree_shape plan.now.shape) plan.now) }
 {
@@ -85,6 +88,7 @@ pub fn label_mesh(alloc: Global, plan: &Plan) -> Result<Image, LabelFault>
     ensures fits { IfOk result (λ image. Fits image plan.now) }
     ensures accepted { IfOk result (λ image. IsAccepted (routes_of plan.now image)) }
     ensures acyclic { IfOk result (λ image. IsAcyclic (routes_of plan.now image)) }
+    ensures never_randomized { IfOk result (λ image. IsNeverRandomized (routes_of plan.now image)) }
     ensures crossings { IfOk result (λ image. AreCrossings plan.now.shape (routes_of plan.now image)) }
     ensures shape { IsErrOf result fault.WrongShape ↔ (is_mesh_shape plan.now.shape ≡ false) }
     ensures refused { IfErr result (IsShapeCause (is_mesh_shape plan.now.shape) plan.now) }
@@ -114,6 +118,7 @@ pub fn label_cube(alloc: Global, plan: &Plan) -> Result<Image, LabelFault>
     ensures fits { IfOk result (λ image. Fits image plan.now) }
     ensures accepted { IfOk result (λ image. IsAccepted (routes_of plan.now image)) }
     ensures acyclic { IfOk result (λ image. IsAcyclic (routes_of plan.now image)) }
+    ensures never_randomized { IfOk result (λ image. IsNeverRandomized (routes_of plan.now image)) }
     ensures crossings { IfOk result (λ image. AreCrossings plan.now.shape (routes_of plan.now image)) }
     ensures shape { IsErrOf result fault.WrongShape ↔ (is_cube_shape plan.now.shape ≡ false) }
     ensures refused { IfErr result (IsShapeCause (is_cube_shape plan.now.shape) plan.now) }

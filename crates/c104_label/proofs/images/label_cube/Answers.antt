@@ -1,8 +1,10 @@
-use Rattle.std.proofs.Common.{sym, subst}
+use Rattle.std.proofs.Common.{refl, sym, subst}
 use Rattle.c104_check.specs.Routes.{routes_of}
 use Rattle.c104_label.specs.Crossings.{AreCrossings}
 use Rattle.c104_label.proofs.AcceptedCubes.{cube_accepted, cube_crossed}
 use Rattle.c104_label.proofs.CubeRanks.{cube_acyclic}
+use Rattle.c104_describe.specs.declared.plans.Shape.TheVariants.{Cube}
+use Rattle.c104_label.proofs.NeverRandomized.{by_shape}
 use Rattle.c104_label.proofs.images.label_cube.Goals as goal
 
 pub returns-in_ok-image-in-Cube-clause-accepted : goal.returns-in_ok-image-in-Cube-clause-accepted
@@ -19,4 +21,9 @@ returns-in_ok-image-in-Cube-clause-crossings c =
 pub returns-in_ok-image-in-Cube-clause-acyclic : goal.returns-in_ok-image-in-Cube-clause-acyclic
 returns-in_ok-image-in-Cube-clause-acyclic c =
     cube_acyclic c.args.plan.now c.in-Cube.dimensions c.in-Cube.terminals c.in_ok-image-in-Cube.image c.in-Cube.ensures.kept (sym c.in-Cube.ensures.shape)
+    (record { is = c.in_ok-image-in-Cube.ensures.image; tables = c.in_ok-image-in-Cube.ensures.labels })
+
+pub returns-in_ok-image-in-Cube-clause-never_randomized : goal.returns-in_ok-image-in-Cube-clause-never_randomized
+returns-in_ok-image-in-Cube-clause-never_randomized c =
+    by_shape c.args.plan.now c.in_ok-image-in-Cube.image (Cube c.in-Cube.dimensions c.in-Cube.terminals) c.in-Cube.ensures.kept c.in-Cube.ensures.shape refl
     (record { is = c.in_ok-image-in-Cube.ensures.image; tables = c.in_ok-image-in-Cube.ensures.labels })

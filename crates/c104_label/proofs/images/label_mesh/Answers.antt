@@ -1,8 +1,10 @@
-use Rattle.std.proofs.Common.{sym, subst}
+use Rattle.std.proofs.Common.{refl, sym, subst}
 use Rattle.c104_check.specs.Routes.{routes_of}
 use Rattle.c104_label.specs.Crossings.{AreCrossings}
 use Rattle.c104_label.proofs.AcceptedMeshes.{mesh_accepted, mesh_crossed}
 use Rattle.c104_label.proofs.MeshRanks.{mesh_acyclic}
+use Rattle.c104_describe.specs.declared.plans.Shape.TheVariants.{Mesh}
+use Rattle.c104_label.proofs.NeverRandomized.{by_shape}
 use Rattle.c104_label.proofs.images.label_mesh.Goals as goal
 
 pub returns-in_ok-image-in-Mesh-clause-accepted : goal.returns-in_ok-image-in-Mesh-clause-accepted
@@ -19,4 +21,9 @@ returns-in_ok-image-in-Mesh-clause-crossings c =
 pub returns-in_ok-image-in-Mesh-clause-acyclic : goal.returns-in_ok-image-in-Mesh-clause-acyclic
 returns-in_ok-image-in-Mesh-clause-acyclic c =
     mesh_acyclic c.args.plan.now c.in-Mesh.width c.in-Mesh.height c.in-Mesh.terminals c.in_ok-image-in-Mesh.image c.in-Mesh.ensures.kept (sym c.in-Mesh.ensures.shape)
+    (record { is = c.in_ok-image-in-Mesh.ensures.image; tables = c.in_ok-image-in-Mesh.ensures.labels })
+
+pub returns-in_ok-image-in-Mesh-clause-never_randomized : goal.returns-in_ok-image-in-Mesh-clause-never_randomized
+returns-in_ok-image-in-Mesh-clause-never_randomized c =
+    by_shape c.args.plan.now c.in_ok-image-in-Mesh.image (Mesh c.in-Mesh.width c.in-Mesh.height c.in-Mesh.terminals) c.in-Mesh.ensures.kept c.in-Mesh.ensures.shape refl
     (record { is = c.in_ok-image-in-Mesh.ensures.image; tables = c.in_ok-image-in-Mesh.ensures.labels })

@@ -1,0 +1,130 @@
+-- Headers are as long as the plan says at all links that are wired, and so equally long.
+use Rattle.std.proofs.Common.{◌≡◌, ℕ, ◌<◌, ◌≤◌, ◌*◌, ◌==◌, ◌&&◌, Bool, true, false, inl, inr, if◌then◌else◌, is_some, nat_lt, get_or, List, length, position, slice_get, Option, Some, None, refl, sym, ap, subst, ◌∙◌, arith}
+use Rattle.std.specs.List.{find, position_or_len}
+use Rattle.std.proofs.lemmas.Bool.{cases_lt}
+use Rattle.std.proofs.lemmas.Bool.Decides.{nat_tests}
+use Rattle.std.proofs.lemmas.List.FromFn.{length-map-range_with_len}
+use Rattle.std.proofs.lemmas.List.Quantifiers.{position-Some}
+use Rattle.std.proofs.lemmas.List.Sums.{fails_before_first}
+use Rattle.std.proofs.lemmas.Option.{get_or_from_slice_get, slice_get_within}
+use Rattle.c104_interval.specs.declared.intervals.Table.{Table}
+use Rattle.c104_regs.specs.Settings.{header_length}
+use Rattle.c104_regs.specs.declared.settings.Settings.{Settings}
+use Rattle.c104_describe.specs.declared.plans.PlanRandom.{PlanRandom}
+use Rattle.c104_describe.specs.declared.plans.Terminal.{Terminal}
+use Rattle.c104_describe.specs.declared.ports.Port.{Port}
+use Rattle.c104_describe.specs.declared.ports.Port.TheVariants as port
+use Rattle.c104_describe.specs.LabelledImages.{labelled_settings, labelled_switch, table_in}
+use Rattle.c104_describe.specs.PlanImage.{is_random_of, plain_settings_of, settings_of, with_random}
+use Rattle.c104_describe.specs.Plans.{IsPlan, Plan, host_port}
+use Rattle.c104_describe.specs.Wiring.{peer}
+use Rattle.c104_describe.proofs.LabelledSettings.{labelled_at}
+use Rattle.c104_describe.proofs.Wires.{wiring}
+use Rattle.c104_check.specs.declared.ports.SwitchPort.{SwitchPort}
+use Rattle.c104_check.specs.Routes.{Routes, header_count, length_at, length_or_one, link_peers, link_settings, place, port_at, to_port}
+use Rattle.c104_check.specs.Trails.{IsInput}
+use Rattle.c104_check.proofs.LinkLemmas.{at_place, input_at, place_below}
+use Rattle.c104_label.specs.TreeImages.{most_labels}
+use Rattle.c104_label.proofs.LabelledRoutes.{link_was, routes, settings_are, settings_count}
+use Rattle.c104_label.proofs.MappedRanges.{map_at}
+
+-- how many bytes a plan's headers have
+abbrev pub plan_bytes : Plan → ℕ
+plan_bytes plan = if plan.header == 2 then 2 else 1
+
+with_table_bytes : (b : Bool) (s : Settings) (t : Table) → (if b then record s { table = t } else s).two_byte ≡ s.two_byte
+with_table_bytes true s t = refl
+with_table_bytes false s t = refl
+
+with_random_bytes : (o : Option PlanRandom) (s : Settings) → (with_random o s).two_byte ≡ s.two_byte
+with_random_bytes None s = refl
+with_random_bytes (Some random) s = refl
+
+both_true : (b c : Bool) → c ≡ true → (b && c) ≡ b
+both_true true c is = is
+both_true false c is = refl
+
+two_byte_own : (plan : Plan) (t : Table) (p : Port) → is_some (peer plan p) ≡ true → (labelled_settings plan t p).two_byte ≡ (plan.header == 2)
+unfolding labelled_settings settings_of
+two_byte_own plan t p wired =
+    with_table_bytes (is_some (peer plan p)) _ t ∙ with_random_bytes (find (is_random_of p) plan.randoms) (plain_settings_of plan p) ∙ both_true (plan.header == 2) (is_some (peer plan p)) wired
+
+-- where no member of a list passes a test, this one doesn't
+pub none_passes : {X : Type 0} (test : X → Bool) (xs : List X) (k : ℕ) (x : X) → position test xs ≡ None → slice_get xs k ≡ Some x → test x ≡ true → ⊥
+none_passes test xs k x none at passes = elim (cases_lt (position_or_len test xs) (length xs)) [
+  | inl found ↦
+      let there : nat_lt (position_or_len test xs) (length xs) ≡ true = grind (arith, nat_tests, found) in
+      let is : position test xs ≡ Some (position_or_len test xs) = rw there refl in
+      let clash : None ≡ Some (position_or_len test xs) = sym none ∙ is in absurd cc
+  | inr past ↦
+      let within = slice_get_within xs k x at in
+      let fails : test (get_or xs k x) ≡ false = fails_before_first test xs k x (omega (arith, past, within)) in
+      let clash : true ≡ false = sym passes ∙ ap test (sym (get_or_from_slice_get xs k x x at)) ∙ fails in absurd cc
+]
+
+-- so where one does, there is a first
+first_passes : {X : Type 0} (test : X → Bool) (xs : List X) (k : ℕ) (x : X) → slice_get xs k ≡ Some x → test x ≡ true → (o : Option ℕ) → position test xs ≡ o → (j : ℕ) × (position test xs ≡ Some j)
+first_passes test xs k x at passes None is = absurd (none_passes test xs k x is at passes)
+first_passes test xs k x at passes (Some j) is = (j, is)
+
+-- there are as many headers as labels may be
+many_by : (plan : Plan) (n : ℕ) → n ≡ plan_bytes plan → most_labels plan ≤ 256 * (if nat_lt 1 n then 256 else 1)
+many_by plan n is = subst (λ m. most_labels plan ≤ 256 * (if nat_lt 1 m then 256 else 1)) (sym is) (by (plan.header == 2))
+  where
+    by : (b : Bool) → (if b then 65536 else 256) ≤ 256 * (if nat_lt 1 (if b then 2 else 1) then 256 else 1)
+    by true = omega arith
+    by false = omega arith
+
+module _ (plan : Plan) (ranges : List (ℕ × ℕ)) (tables : List Table) (kept : IsPlan plan) where
+  abbrev net : Routes
+  net = routes plan ranges tables
+
+  abbrev ends : List (Option Port)
+  ends = link_peers (peer plan) (length net.settings)
+
+  link_found : (q : SwitchPort) → q.switch < length plan.switches → q.link < 32 → link_settings net.settings q ≡ Some (labelled_at plan (table_in tables q.switch) q.switch q.link)
+  unfolding labelled_switch
+  link_found q lt few = ap (λ xs. slice_get xs q.link) (settings_are plan ranges tables q.switch lt) ∙ map_at (labelled_at plan (table_in tables q.switch) q.switch) 32 q.link few
+
+  bytes_at : (q : SwitchPort) (x : Settings) → is_some (peer plan (to_port q)) ≡ true → link_settings net.settings q ≡ Some x → header_length x ≡ plan_bytes plan
+  bytes_at q x wired is =
+      ap (λ (y : Settings). header_length y) (link_was plan ranges tables q x is) ∙ ap (λ (b : Bool). if b then 2 else 1) (two_byte_own plan (table_in tables q.switch) (to_port q) wired)
+
+  place_bytes : (k : ℕ) → k < length net.settings * 32 → is_some (peer plan (to_port (port_at k))) ≡ true → length_at net.settings (Some k) ≡ plan_bytes plan
+  place_bytes k below wired =
+      let here = input_at (length net.settings) k below in
+      let count = settings_count plan ranges tables in
+      let low = here.0 in
+      let found = link_found (port_at k) (omega (arith, low, count)) here.1 in
+      ap length_or_one found ∙ bytes_at (port_at k) (labelled_at plan (table_in tables (port_at k).switch) (port_at k).switch (port_at k).link) wired found
+
+  header_is : (q : SwitchPort) → IsInput (length net.settings) q → is_some (peer plan (to_port q)) ≡ true → net.header ≡ plan_bytes plan
+  header_is q here wired =
+      let below = place_below (length net.settings) q here in
+      let at : slice_get ends (place q) ≡ Some (peer plan (to_port q)) = map_at (λ k. peer plan (to_port (port_at k))) (length net.settings * 32) (place q) below ∙ ap (λ (p : SwitchPort). Some (peer plan (to_port p))) (at_place (length net.settings) q here) in
+      let first = first_passes (λ other. is_some other) ends (place q) (peer plan (to_port q)) at wired (position (λ other. is_some other) ends) refl in
+      let found = position-Some (λ other. is_some other) ends first.0 None first.1 in
+      let size : length ends ≡ length net.settings * 32 = length-map-range_with_len (λ k. peer plan (to_port (port_at k))) 0 (length net.settings * 32) in
+      let low = found.0 in
+      let inside : first.0 < length net.settings * 32 = omega (arith, low, size) in
+      let end : get_or ends first.0 None ≡ peer plan (to_port (port_at first.0)) = get_or_from_slice_get ends first.0 (peer plan (to_port (port_at first.0))) None (map_at (λ k. peer plan (to_port (port_at k))) (length net.settings * 32) first.0 inside) in
+      ap (length_at net.settings) first.1 ∙ place_bytes first.0 inside (sym (ap (λ (o : Option Port). is_some o) end) ∙ found.1)
+
+  is_input : (q : SwitchPort) (other : Port) → peer plan (to_port q) ≡ Some other → IsInput (length net.settings) q
+  is_input q other wired =
+      let there = (wiring plan kept).inside (to_port q) other wired in
+      let low = there.0 in
+      let count = settings_count plan ranges tables in
+      (omega (arith, low, count), there.1)
+
+  pub same_length : (q : SwitchPort) (other : Port) (x : Settings) → net.peer (to_port q) ≡ Some other → link_settings net.settings q ≡ Some x → header_length x ≡ net.header
+  same_length q other x wired is =
+      let some : is_some (peer plan (to_port q)) ≡ true = ap (λ (o : Option Port). is_some o) wired in
+      bytes_at q x some is ∙ sym (header_is q (is_input q other wired) some)
+
+  -- where there is a terminal, all labels may be headers
+  pub headers_many : (t : ℕ) (terminal : Terminal) → slice_get plan.terminals t ≡ Some terminal → most_labels plan ≤ header_count net
+  headers_many t terminal is =
+      let q : SwitchPort = record { switch = terminal.switch; link = terminal.link } in
+      let there : peer plan (to_port q) ≡ Some (port.Terminal t) = (wiring plan kept).back (port.Terminal t) (host_port terminal) ((wiring plan kept).host t terminal is) in
+      many_by plan net.header (header_is q (is_input q (port.Terminal t) there) (ap (λ (o : Option Port). is_some o) there))

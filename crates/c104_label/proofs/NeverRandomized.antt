@@ -1,0 +1,69 @@
+-- No link of an image of a plan puts random headers before packets where no line of the plan says so, as in each
+-- plan whose labels are made by its shape.
+use Rattle.std.proofs.Common.{◌≡◌, ◌∙◌, ℕ, Some, None, Result, Ok, Err, IfOk, [], inl, inr, length, map, slice_get, true, false, refl, sym, ap, subst, arith, ◌*◌, ◌^◌}
+use Rattle.std.proofs.lemmas.Bool.{cases_lt}
+use Rattle.std.proofs.lemmas.List.FromFn.{length-map-range_with_len}
+use Rattle.std.proofs.lemmas.Option.{slice_get_past}
+use Rattle.std.specs.List.{range_with_len}
+use Rattle.c104_check.specs.ChannelDependencies.{IsNeverRandomized}
+use Rattle.c104_check.specs.Routes.{or_no_settings, routes_of, settings_in}
+use Rattle.c104_describe.specs.PlanImage.{Image, hand_image, range_of, settings_of, switch_settings}
+use Rattle.c104_describe.specs.Plans.{IsOfShape, IsPlan, IsUnset, Plan}
+use Rattle.c104_describe.specs.declared.ports.Port.TheVariants as port
+use Rattle.c104_describe.specs.declared.plans.Shape.{Shape}
+use Rattle.c104_describe.specs.declared.plans.Shape.TheVariants.{Hand, Tree, Mesh, Cube}
+use Rattle.c104_label.proofs.LabelledRoutes.{not_randomized, settings_plain}
+use Rattle.c104_label.proofs.MappedRanges.{map_at, map_was}
+use Rattle.c104_label.specs.CubeLabels.{cube_table}
+use Rattle.c104_label.specs.Images.{IsImageBy, is_labelled_shape}
+use Rattle.c104_label.specs.MeshLabels.{mesh_table}
+use Rattle.c104_label.specs.Forests.{Forest}
+use Rattle.c104_label.specs.TreeImages.{IsTreeImage}
+use Rattle.c104_label.specs.TreeLabels.{switch_table, tree_range}
+use Rattle.c104_label.specs.declared.faults.LabelFault.{LabelFault}
+use Rattle.c104_regs.specs.declared.settings.Settings.{Settings}
+
+-- where labels are made by a plan's shape, its own lines set nothing at links
+unset_by : (plan : Plan) (shape : Shape) → is_labelled_shape shape ≡ true → IsOfShape shape plan → IsUnset plan
+unset_by plan Hand is of = absurd cc
+unset_by plan (Tree root) is of = of.unset
+unset_by plan (Mesh w h p) is of = of.1.unset
+unset_by plan (Cube d p) is of = of.1.unset
+
+-- so they say nothing of random headers
+none_random : (plan : Plan) (shape : Shape) → IsPlan plan → shape ≡ plan.shape → is_labelled_shape shape ≡ true → plan.randoms ≡ []
+none_random plan shape kept same is = (unset_by plan shape is (subst (λ s. IsOfShape s plan) (sym same) kept.shape)).randoms
+
+-- where a plan's own lines say what is set
+hand_plain : (plan : Plan) → plan.randoms ≡ [] → IsNeverRandomized (routes_of plan (hand_image plan))
+unfolding switch_settings
+hand_plain plan none q random = elim (cases_lt q.switch (length plan.switches)) [
+  | inl lt ↦
+      let here : settings_in (hand_image plan).settings q.switch ≡ switch_settings plan q.switch = ap or_no_settings (map_at (switch_settings plan) (length plan.switches) q.switch lt) in
+      let is = (map_was (λ link. settings_of plan (port.Switch q.switch link)) 32 q.link random.0 (ap (λ xs. slice_get xs q.link) (sym here) ∙ random.1)).1 in
+      let plain : random.0.randomize ≡ false = ap (λ (x : Settings). x.randomize) is ∙ settings_plain plan (port.Switch q.switch q.link) none in
+      let clash : true ≡ false = sym random.2 ∙ plain in absurd cc
+  | inr ge ↦
+      let many : length (hand_image plan).settings ≡ length plan.switches = length-map-range_with_len (switch_settings plan) 0 (length plan.switches) in
+      let empty : settings_in (hand_image plan).settings q.switch ≡ [] = ap or_no_settings (slice_get_past (hand_image plan).settings q.switch (omega (arith, many, ge))) in
+      let past : slice_get [] q.link ≡ None = slice_get_past {X = Settings} [] q.link (omega arith) in
+      let clash : None ≡ Some random.0 = sym past ∙ ap (λ xs. slice_get xs q.link) (sym empty) ∙ random.1 in absurd cc
+]
+
+pub never_by : (plan : Plan) (image : Image) (shape : Shape) → plan.randoms ≡ [] → IsImageBy shape plan image → IsNeverRandomized (routes_of plan image)
+never_by plan image Hand none is = subst (λ (i : Image). IsNeverRandomized (routes_of plan i)) (sym is) (hand_plain plan none)
+never_by plan image (Tree root) none made = subst (λ (i : Image). IsNeverRandomized (routes_of plan i)) (sym made.1.is)
+    (λ q random. not_randomized plan (map (tree_range plan root made.0) plan.terminals) (map (switch_table plan root made.0) (range_with_len 0 (length plan.switches))) q none random)
+never_by plan image (Mesh w h p) none made = subst (λ (i : Image). IsNeverRandomized (routes_of plan i)) (sym made.is)
+    (λ q random. not_randomized plan (map range_of plan.terminals) (map (mesh_table w h p) (range_with_len 0 (w * h))) q none random)
+never_by plan image (Cube d p) none made = subst (λ (i : Image). IsNeverRandomized (routes_of plan i)) (sym made.is)
+    (λ q random. not_randomized plan (map range_of plan.terminals) (map (cube_table d p) (range_with_len 0 (2 ^ d))) q none random)
+
+-- where labels are made by a plan's shape
+pub by_shape : (plan : Plan) (image : Image) (shape : Shape) → IsPlan plan → shape ≡ plan.shape → is_labelled_shape shape ≡ true → IsImageBy shape plan image → IsNeverRandomized (routes_of plan image)
+by_shape plan image shape kept same is made = never_by plan image shape (none_random plan shape kept same is) made
+
+-- and so what the tree's labeller answers
+pub result_plain : (plan : Plan) (root : ℕ) (r : Result Image LabelFault) → IsPlan plan → Tree root ≡ plan.shape → IfOk r (λ image. (forest : Forest) × IsTreeImage plan root forest image) → IfOk r (λ image. IsNeverRandomized (routes_of plan image))
+result_plain plan root (Ok image) kept same made = by_shape plan image (Tree root) kept same refl made
+result_plain plan root (Err why) kept same made = tt
