@@ -41,7 +41,9 @@ same_self true = refl
 same_self false = refl
 
 alike_self : (x : Stroke) → are_alike x x ≡ true
-alike_self x = both_true (is_same x.bold x.bold) (is_same x.red x.red) (same_self x.bold) (same_self x.red)
+alike_self x =
+    both_true (is_same x.bold x.bold && is_same x.dashed x.dashed) (is_same x.red x.red && is_same x.portal x.portal)
+    (both_true (is_same x.bold x.bold) (is_same x.dashed x.dashed) (same_self x.bold) (same_self x.dashed)) (both_true (is_same x.red x.red) (is_same x.portal x.portal) (same_self x.red) (same_self x.portal))
 
 beside_self : (image : Image) (w : DrawnWire) → is_beside image w w ≡ true
 beside_self image w =

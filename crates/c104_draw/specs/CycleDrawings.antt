@@ -18,7 +18,7 @@ is_in_cycle inputs (port.Terminal t) = false
 
 -- how the way to a port is drawn: red where it leads to an input of the cycle
 abbrev pub cycle_stroke : List SwitchPort → Port → Stroke
-cycle_stroke inputs to = record { bold = false; red = is_in_cycle inputs to }
+cycle_stroke inputs to = record { bold = false; dashed = false; red = is_in_cycle inputs to; portal = false }
 
 -- how a wire is drawn, by its two ways
 abbrev pub cycle_wire : List SwitchPort → Wire → DrawnWire

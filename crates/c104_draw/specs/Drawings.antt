@@ -9,7 +9,7 @@ use Rattle.c104_describe.specs.Plans.{Plan}
 use Rattle.c104_describe.specs.declared.ports.Port.{Port}
 use Rattle.c104_describe.specs.declared.ports.Wire.{Wire}
 use Rattle.c104_describe.specs.Wiring.{wires}
-use Rattle.c104_check.specs.Reach.{IsTaken}
+use Rattle.c104_check.specs.Parts.{IsDiscardedAt, IsTakenAsOwn, IsTakenAsRandom}
 use Rattle.c104_check.specs.Routes.{Routes, owner}
 use Rattle.c104_check.specs.declared.ports.SwitchPort.{SwitchPort}
 use Rattle.c104_check.specs.Walks.{is_met, port_of}
@@ -60,11 +60,24 @@ abbrev pub marked_owner : Option Marking → Option ℕ
 marked_owner None = None
 marked_owner (Some m) = owner m.routes m.header
 
--- the way from a port is bold: it is a link by which the header may leave an input to which it may come
+-- the way from a port is bold: it is a link by which the header may leave an input to which it may come as the own one
+-- of packets
 abbrev pub IsBold : Option Marking → Port → Type 0
 IsBold None p = ⊥
-IsBold (Some m) (port.Switch s o) = IsTaken m.routes m.header (port_of s o)
+IsBold (Some m) (port.Switch s o) = IsTakenAsOwn m.routes m.header (port_of s o)
 IsBold (Some m) (port.Terminal t) = ⊥
+
+-- it is dashed: the header may do so as a random one, on its way to a portal
+abbrev pub IsDashed : Option Marking → Port → Type 0
+IsDashed None p = ⊥
+IsDashed (Some m) (port.Switch s o) = IsTakenAsRandom m.routes m.header (port_of s o)
+IsDashed (Some m) (port.Terminal t) = ⊥
+
+-- a port is drawn as a portal: it is an input at which the header may be discarded as a random one
+abbrev pub IsDrawnPortal : Option Marking → Port → Type 0
+IsDrawnPortal None p = ⊥
+IsDrawnPortal (Some m) (port.Switch s i) = IsDiscardedAt m.routes m.header (port_of s i)
+IsDrawnPortal (Some m) (port.Terminal t) = ⊥
 
 -- the way to a port is red: it is an input of the walk
 abbrev pub is_red : Option Marking → Port → Bool
@@ -75,7 +88,9 @@ is_red (Some m) (port.Terminal t) = false
 -- how the way from a port to another is drawn
 pub record IsStroke (marking : Option Marking) (from to : Port) (stroke : Stroke) : Type 0 where
   pub bold : IsTrue stroke.bold ↔ IsBold marking from
+  pub dashed : IsTrue stroke.dashed ↔ IsDashed marking from
   pub red : stroke.red ≡ is_red marking to
+  pub portal : IsTrue stroke.portal ↔ IsDrawnPortal marking to
 
 -- how a wire is drawn, by its two ways
 pub record IsDrawn (marking : Option Marking) (drawn : DrawnWire) : Type 0 where

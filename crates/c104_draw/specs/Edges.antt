@@ -35,7 +35,7 @@ is_same true b = b
 is_same false b = not b
 
 abbrev pub are_alike : Stroke → Stroke → Bool
-are_alike x y = is_same x.bold y.bold && is_same x.red y.red
+are_alike x y = (is_same x.bold y.bold && is_same x.dashed y.dashed) && (is_same x.red y.red && is_same x.portal y.portal)
 
 -- two wires are drawn as one edge: at both ends they are on one port, or on links of one group, and their ways
 -- are drawn alike
@@ -60,7 +60,7 @@ pub record IsDrawing (plan : Plan) (image : Image) (marking : Option Marking) (d
   pub nodes : drawing.nodes ≡ drawn_nodes plan (marked_owner marking)
   -- each wire, once
   pub wires : map (λ (d : DrawnWire). d.wire) drawing.wires ≡ drawn_wires plan
-  -- bold and red where they should
+  -- bold, dashed and red where they should, with each portal of the header
   pub strokes : AllByRecursion (IsDrawn marking) drawing.wires
   -- each wire in one edge
   pub edges : map Some drawing.edges ≡ map (first_beside image drawing.wires) drawing.wires
@@ -76,6 +76,7 @@ fault_walk (Some (fault.RangesOverlap t u)) = []
 fault_walk (Some (fault.LabelTooLarge t)) = []
 fault_walk (Some (fault.MixedHeaders p)) = []
 fault_walk (Some (fault.DeleteInside p)) = []
+fault_walk (Some (fault.RandomInside p)) = []
 fault_walk (Some fault.NoMemory) = []
 
 -- a header in the network of an image for a plan, with the walk of its fault

@@ -58,7 +58,9 @@ fn cycle_stroke(to: Port, inputs: &[SwitchPort]) -> Stroke
 {
     Stroke {
         bold: false,
+        dashed: false,
         red: is_in_cycle(to, inputs),
+        portal: false,
     }
 }
 

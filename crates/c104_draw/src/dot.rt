@@ -19,11 +19,15 @@ const PLACED: &str = "  graph [layout=neato, inputscale=72, splines=line]\n";
 /// What stands besides where many terminals stand round a switch.
 const CROWDED: &str = "  edge [labeldistance=6, labelangle=-8]\n";
 
+/// What stands below the title of a picture in which a header's ways are dashed.
+const LEGEND: &str = "\\ndashed: as a random header, up to a diamond";
+
 /// The text of a picture of the network of an image for a plan, in the language of Graphviz, with a title.
 ///
 /// Each node and each edge has a line, and each name is quoted. A mesh stands on its grid, a cube on its drawn
 /// cube, and all else hangs from the root of its tree, or else from the first switch. Link numbers stand at both
-/// ends of an edge; wires that are drawn as one have theirs in the same order at both.
+/// ends of an edge; wires that are drawn as one have theirs in the same order at both. Where a header is drawn as
+/// a random one too, a line below the title says how.
 pub fn drawing_text(
     alloc: Global,
     plan: &Plan,
@@ -45,7 +49,7 @@ fn framed_text(
     frame: &Frame,
 ) -> Result<String, AllocError> {
     let mut text = String::new(alloc);
-    add_head(alloc, &mut text, frame, title)?;
+    add_head(alloc, &mut text, frame, title, legend(drawing))?;
     add_nodes(alloc, &mut text, plan, image, drawing, frame)?;
     add_edges(alloc, &mut text, plan, drawing, frame, !title.is_empty())?;
     text.push_str("}\n")?;
@@ -58,6 +62,7 @@ fn add_head(
     text: &mut String,
     frame: &Frame,
     title: &str,
+    legend: &str,
 ) -> Result<(), AllocError> {
     text.push_str(HEAD)?;
     if !frame.hangs() {
@@ -67,10 +72,24 @@ fn add_head(
         text.push_str(CROWDED)?;
     }
     if !title.is_empty() {
-        let line = format!(in alloc; "  label=\"{title}\"\n")?;
+        let line = format!(in alloc; "  label=\"{title}{legend}\"\n")?;
         text.push_str(line.as_str())?;
     }
     Ok(())
+}
+
+/// What stands below the title.
+fn legend(drawing: &Drawing) -> &'static str {
+    if drawing.wires().iter().any(|wire| has_random(wire)) {
+        LEGEND
+    } else {
+        ""
+    }
+}
+
+/// Whether a way over a wire is that of a random header.
+fn has_random(wire: &DrawnWire) -> bool {
+    (wire.onward.dashed || wire.onward.portal) || (wire.back.dashed || wire.back.portal)
 }
 
 /// The lines of the nodes join the text.
@@ -175,18 +194,21 @@ fn edge_line(
     let head_links = links_text(alloc, drawing, number, !turned)?;
     let head_links = head_links.as_str();
     let style = style_text(wire.onward, wire.back, marked);
+    let dashes = dashes_text(wire.onward, wire.back);
+    let head_shape = head_text(wire.onward);
+    let tail_shape = tail_text(wire.back);
     let level = if frame.is_level(wire.wire.here, wire.wire.there) {
         ", constraint=false"
     } else {
         ""
     };
     format!(in alloc;
-        "  \"{tail}\" -> \"{head}\" [taillabel=\"{tail_links}\", headlabel=\"{head_links}\"{style}{level}]\n"
+        "  \"{tail}\" -> \"{head}\" [taillabel=\"{tail_links}\", headlabel=\"{head_links}\"{style}{dashes}{head_shape}{tail_shape}{level}]\n"
     )
 }
 
-/// How an edge is drawn, by its two ways: bold ones with an arrow, and red those of a refused walk. Where one of two
-/// is red, its half of the edge is.
+/// How an edge is drawn, by its two ways: marked ones wide and with an arrow, and red those of a refused walk. Where
+/// one of two is red, its half of the edge is.
 fn style_text(onward: Stroke, back: Stroke, marked: bool) -> &'static str {
     match (is_marked(onward), is_marked(back)) {
         (true, true) => both_text(onward.red, back.red),
@@ -208,9 +230,51 @@ fn style_text(onward: Stroke, back: Stroke, marked: bool) -> &'static str {
     }
 }
 
-/// Whether a way is bold or red.
+/// Whether a way is marked at all.
 fn is_marked(stroke: Stroke) -> bool {
-    stroke.bold || stroke.red
+    (stroke.bold || stroke.red) || (stroke.dashed || stroke.portal)
+}
+
+/// An edge is dashed where random headers alone go over it.
+fn dashes_text(onward: Stroke, back: Stroke) -> &'static str {
+    if (is_random(onward) || is_random(back)) && !(is_own(onward) || is_own(back)) {
+        ", style=dashed"
+    } else {
+        ""
+    }
+}
+
+/// Whether a way is that of a random header.
+fn is_random(stroke: Stroke) -> bool {
+    stroke.dashed || stroke.portal
+}
+
+/// Whether a way is that of an own header.
+fn is_own(stroke: Stroke) -> bool {
+    stroke.bold || (stroke.red && !is_random(stroke))
+}
+
+/// The shape of the arrow at an edge's head, where it isn't that of an own header alone: a portal is a diamond, and the
+/// arrow of a random header is empty.
+fn head_text(onward: Stroke) -> &'static str {
+    match (onward.portal, onward.bold, onward.dashed) {
+        (true, true, _) => ", arrowhead=diamondnormal",
+        (true, false, _) => ", arrowhead=diamond",
+        (false, true, true) => ", arrowhead=normalonormal",
+        (false, false, true) => ", arrowhead=onormal",
+        (false, _, false) => "",
+    }
+}
+
+/// The same at its tail.
+fn tail_text(back: Stroke) -> &'static str {
+    match (back.portal, back.bold, back.dashed) {
+        (true, true, _) => ", arrowtail=diamondnormal",
+        (true, false, _) => ", arrowtail=diamond",
+        (false, true, true) => ", arrowtail=normalonormal",
+        (false, false, true) => ", arrowtail=onormal",
+        (false, _, false) => "",
+    }
 }
 
 /// How an edge is drawn of which both ways are marked, by whether they are red.

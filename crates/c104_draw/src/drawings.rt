@@ -23,10 +23,14 @@ pub struct DrawnNode {
 /// How one of the two ways over a wire is drawn.
 #[derive(Clone, Copy, Debug, PartialEq, Eq)]
 pub struct Stroke {
-    /// Whether the header may take it, from an input to which it may come.
+    /// Whether the header may take it as the own one of packets, from an input to which it may come so.
     pub bold: bool,
+    /// Whether the header may take it as a random one, on its way to a portal.
+    pub dashed: bool,
     /// Whether it leads to an input of the walk by which the header is refused.
     pub red: bool,
+    /// Whether it leads to a portal: an input at which the header may be discarded as a random one.
+    pub portal: bool,
 }
 
 /// A wire as it is drawn: from its terminal, or else from the switch that has the lower number.

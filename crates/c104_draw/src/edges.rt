@@ -85,5 +85,6 @@ fn are_joined(switch: &SwitchImage, link: usize, other: usize) -> bool
 fn are_alike(stroke: Stroke, other: Stroke) -> bool
     ensures { result ≡ are_alike stroke other }
 {
-    stroke.bold == other.bold && stroke.red == other.red
+    (stroke.bold == other.bold && stroke.dashed == other.dashed)
+        && (stroke.red == other.red && stroke.portal == other.portal)
 }

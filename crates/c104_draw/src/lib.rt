@@ -2,8 +2,8 @@
 //!
 //! [`draw`] gives the [`Drawing`] of a network: its nodes, which are its switches and terminals, its wires, and
 //! which wires are drawn as one edge. [`draw_header`] marks in it the ways of a header: the links that it may
-//! take, its owner, and the walk by which it is refused, if it is. [`draw_cycle`] marks a cycle of channel
-//! dependencies.
+//! take, as the own one of packets and as a random one, its portals, its owner, and the walk by which it is
+//! refused, if it is. [`draw_cycle`] marks a cycle of channel dependencies.
 #![tactic(auto)]
 
 mod cycles;

@@ -2,7 +2,7 @@
 ghost use Rattle.std.specs.Prelude.{◌≡◌, ◌↔◌, map, [], Some, None, IfOk, IsTrue};
 ghost use Rattle.std.specs.List.{AllByRecursion};
 ghost use Rattle.c104_check.specs.Walks.{is_met};
-ghost use Rattle.c104_draw.specs.Drawings.{DrawnWire as TheWire, IsBold, IsDrawn, IsStroke, is_red};
+ghost use Rattle.c104_draw.specs.Drawings.{DrawnWire as TheWire, IsBold, IsDashed, IsDrawn, IsDrawnPortal, IsStroke, is_red};
 ghost use Rattle.c104_draw.specs.Marks.{marking_by};
 
 use crate::drawings::{DrawnWire, Stroke};
@@ -63,16 +63,38 @@ fn stroke(from: Port, to: Port, reach: &Reach<'_>, walk: &[SwitchPort]) -> Strok
 {
     Stroke {
         bold: is_bold(from, reach),
+        dashed: is_dashed(from, reach),
         red: is_red(to, reach, walk),
+        portal: is_portal(to, reach),
     }
 }
 
-/// Whether the header may take the link of a port.
+/// Whether the header may take the link of a port as the own one of packets.
 fn is_bold(from: Port, reach: &Reach<'_>) -> bool
     ensures { IsTrue result ↔ IsBold (Some (marking_by reach.now [])) from }
 {
     match from {
         Port::Switch(switch, link) => reach.takes(SwitchPort { switch, link }),
+        Port::Terminal(_) => false,
+    }
+}
+
+/// Whether it may take it as a random one.
+fn is_dashed(from: Port, reach: &Reach<'_>) -> bool
+    ensures { IsTrue result ↔ IsDashed (Some (marking_by reach.now [])) from }
+{
+    match from {
+        Port::Switch(switch, link) => reach.takes_as_random(SwitchPort { switch, link }),
+        Port::Terminal(_) => false,
+    }
+}
+
+/// Whether a port is a portal of the header.
+fn is_portal(to: Port, reach: &Reach<'_>) -> bool
+    ensures { IsTrue result ↔ IsDrawnPortal (Some (marking_by reach.now [])) to }
+{
+    match to {
+        Port::Switch(switch, link) => reach.is_portal(SwitchPort { switch, link }),
         Port::Terminal(_) => false,
     }
 }
@@ -99,6 +121,8 @@ impl Stroke {
     /// The way of no header.
     const PLAIN: Stroke = Stroke {
         bold: false,
+        dashed: false,
         red: false,
+        portal: false,
     };
 }

@@ -1,6 +1,7 @@
 //! Pictures.
 ghost use Rattle.std.specs.Prelude.{◌≡◌, map, Some, None, IfOk, MatchOption};
-ghost use Rattle.c104_check.specs.Reach.{IsNeverRefused, TellsFirst, routes_for};
+ghost use Rattle.c104_check.specs.Parts.{IsNeverRefused, TellsFirst};
+ghost use Rattle.c104_check.specs.Reach.{routes_for};
 ghost use Rattle.c104_check.specs.Routes.{routes_of};
 ghost use Rattle.c104_describe.specs.PlanImage.{Fits};
 ghost use Rattle.c104_draw.specs.Drawings.{drawn_nodes};
@@ -82,8 +83,10 @@ pub fn draw(alloc: Global, plan: &Plan, image: &Image) -> Result<Drawing, NoMemo
     drawing_of(alloc, plan, image, None, wires)
 }
 
-/// The same with the ways of a header: bold are the links by which it may leave an input to which it may come
-/// from some terminal, filled is the terminal that owns it, and where it is refused the walk that shows why is red.
+/// The same with the ways of a header: bold are the links by which it may leave an input to which it may come as the
+/// own one of packets, dashed those that it may take as a random one, and its portals are drawn, the inputs at which
+/// it may then be discarded. Filled is the terminal that owns it, and where it is refused the walk that shows why is
+/// red. Where no random headers are put before packets, bold are its ways from all terminals, and nothing is dashed.
 pub fn draw_header(
     alloc: Global,
     plan: &Plan,
@@ -169,6 +172,7 @@ fn fault_walk(fault: &Option<CheckFault>) -> &[SwitchPort]
         Some(CheckFault::LabelTooLarge(_)) => &[],
         Some(CheckFault::MixedHeaders(_)) => &[],
         Some(CheckFault::DeleteInside(_)) => &[],
+        Some(CheckFault::RandomInside(_)) => &[],
         Some(CheckFault::NoMemory) => &[],
         None => &[],
     }

@@ -1,5 +1,6 @@
 use Rattle.std.proofs.Common.{ℕ, IfOk, MatchOption, subst}
-use Rattle.c104_check.specs.Reach.{IsNeverRefused, TellsFirst, routes_for}
+use Rattle.c104_check.specs.Parts.{IsNeverRefused, TellsFirst}
+use Rattle.c104_check.specs.Reach.{routes_for}
 use Rattle.c104_check.specs.Routes.{Routes}
 use Rattle.c104_draw.proofs.pictures.draw_header.Goals as goal
 
