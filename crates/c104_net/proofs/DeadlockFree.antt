@@ -56,6 +56,7 @@ module _ (net : NetRecord) (is_plan : IsPlan net.network.plan) (kept : IsNetReco
   acyclic_run = record {
     accepted = is.accepted;
     acyclic = is.acyclic;
+    never_randomized = is.never_randomized;
     set = is.set;
     started = starts_are_started Token plan net.starts is.started;
     steady = kept.started;
@@ -78,13 +79,13 @@ module _ (net : NetRecord) (is_plan : IsPlan net.network.plan) (kept : IsNetReco
       let found = traced_from plan net.starts net.network.nodes events kept.told.1.run in
       let mid : Network Traced = network_of plan found.0 in
       let balance = run_steady traced_kind (network_of plan (map start_node net.starts)) mid events is_plan found.1.run (still_steady Token Traced plan net.starts kept.started) in
-      let started = run_started plain_kind (network_of plan (map start_node net.starts)) net.network events kept.told.1.run (is.unchanged events kept.told.1) acyclic_run.started in
+      let started = run_started plain_kind routes (network_of plan (map start_node net.starts)) net.network events kept.told.1.run (is.unchanged events kept.told.1) acyclic_run.started in
       let same : work plan rank found.0 ≡ work plan rank net.network.nodes = sym (work_map token_of plan rank found.0) ∙ ap (work plan rank) found.1.plain in
       let after_traced = run_events (network_apply traced_kind) mid (rounds plan n) in
       let both : ◌≡◌ {A = Outcome (Network Token)} (after_traced.0, map_network token_of after_traced.1) (Ok tt, after.network) = sym (run_plain mid (rounds plan n)) ∙ ap (λ ns. run_events (network_apply plain_kind) (network_of plan ns) (rounds plan n)) found.1.plain ∙ end in
       let told : after_traced.0 ≡ Ok tt = ap (λ (z : Outcome (Network Token)). z.0) both in
       let whole : ◌≡◌ {A = Outcome (Network Traced)} after_traced (Ok tt, after_traced.1) = ap (λ o. (o, after_traced.1)) told in
-      let delivered = rounds_deliver image (network_of plan (map start_node net.starts)) mid after_traced.1 events rank n is_plan is.accepted falls (starts_are plan image net.starts is.set) found.1.run (is.unchanged events kept.told.1) sent balance
+      let delivered = rounds_deliver image (network_of plan (map start_node net.starts)) mid after_traced.1 events rank n is_plan is.accepted is.never_randomized falls (starts_are plan image net.starts is.set) found.1.run (is.unchanged events kept.told.1) sent balance
       (started_traced plan net.starts net.network.nodes events is_plan kept.told.1.run found.0 found.1.plain started) (subst (λ k. k < n) (sym same) few) whole in
       let more = done_of traced_kind (rounds plan n) mid after_traced.1 whole in (
         after_traced.1,

@@ -1,6 +1,7 @@
 -- Turns of inputs and claims of a traced run keep the invariant.
 use Rattle.c104_switch.specs.Group.{is_in_group}
-use Rattle.c104_check.specs.Routes.{routes_of, settings_at}
+use Rattle.c104_check.specs.Routes.{IsRandomized, routes_of, settings_at}
+use Rattle.c104_check.specs.Walks.{port_of}
 use Rattle.c104_describe.specs.PlanImage.{Image}
 use Rattle.c104_describe.specs.Plans.{Plan}
 use Rattle.c104_describe.specs.Wiring.{peer}
@@ -8,13 +9,14 @@ use Rattle.c104_describe.specs.declared.ports.Port.{Port}
 use Rattle.c104_link.proofs.MadeSteps.{at_place_made, given, required, with_place_made}
 use Rattle.c104_link.specs.Buffers.{Outgoing, outgoing_put, outgoing_put_all}
 use Rattle.c104_link.specs.Steps.{joint_step_at, step_at}
-use Rattle.c104_net.proofs.InputMoves.{HasRead, claim_step, decide_step, has_few, has_wire, head_step, short_step, sink_step, stream_step}
+use Rattle.c104_net.proofs.InputMoves.{HasRead, claim_step, decide_step, has_few, has_wire, head_step, random_step, short_step, sink_step, stream_step}
 use Rattle.c104_net.proofs.LinkActs.{first_some}
 use Rattle.c104_net.proofs.LinkEvents.{Leaves, StillHolds, kept_same, world_of, worlds}
 use Rattle.c104_net.proofs.NodeViews.{arrivals, arrivals_same, at_id, content_put, content_take, ins, ins_put, items_in, kinds_same, out_at, outs, outs_put, outs_same, part_set, phases, phases_put, sents_same, settings_same, terminal_fresh}
 use Rattle.c104_net.proofs.PacketInvariant.{Holds, IsLabelled, IsWired, kept_by}
 use Rattle.c104_net.proofs.PortChanges.{at, at_other}
-use Rattle.c104_net.proofs.TokenMoves.{claim_world, pass_world, read_world}
+use Rattle.c104_net.proofs.TokenMoves.{claim_world, pass_world, read_world, still_world}
+use Rattle.c104_net.proofs.RandomHeaders.{random_length}
 use Rattle.c104_net.specs.Deliveries.{deletes}
 use Rattle.c104_net.specs.Network.{Network, network_of, network_step}
 use Rattle.c104_net.specs.Nodes.{Node, node_claim, node_input}
@@ -25,15 +27,15 @@ use Rattle.c104_regs.specs.Settings.{header_length}
 use Rattle.c104_regs.specs.declared.settings.Settings.{Settings}
 use Rattle.c104_switch.specs.Actions.{Reply}
 use Rattle.c104_switch.specs.Claims.{input_claim, inputs_claim, put_header, streaming_input, switch_claim}
-use Rattle.c104_switch.specs.Headers.{header_value}
+use Rattle.c104_switch.specs.Headers.{decided_phase, header_value, is_sink, phase_after_header, random_header}
 use Rattle.c104_switch.specs.Phases.{is_stream}
 use Rattle.c104_switch.specs.Switch.{Input, Switch, is_owned, with_sides}
-use Rattle.c104_switch.specs.Turns.{header_turn, input_after_token, input_turn, phase_after_token, switch_input, turn_by_phase}
+use Rattle.c104_switch.specs.Turns.{header_turn, input_after_token, input_turn, phase_after_token, random_turn, switch_input, turn_by_phase}
 use Rattle.c104_switch.specs.declared.phase.Phase.{Phase}
 use Rattle.c104_switch.specs.declared.phase.Phase.TheVariants.{Fresh, Head, Sinking, Stream, Want}
 use Rattle.c104_token.specs.Tokens.{is_end}
-use Rattle.std.proofs.Common.{Bool, List, Option, Some, [], ap, append-nil, arith, drop, false, if◌then◌else◌, length, length-append, nat_le, nat_lt, not, refl, slice_get, slice_set, subst, suc, sym, true, zero, ℕ, ⊎_elim, ◌++◌, ◌+◌, ◌<◌, ◌==◌, ◌||◌, ◌∙◌, ◌∷◌, ◌≡◌, ◌≢◌}
-use Rattle.std.proofs.lemmas.Bool.{cases_Bool, eq-eqb, leb-false, leb-true, not-true, true≢false}
+use Rattle.std.proofs.Common.{Bool, List, Option, Some, [], ap, append-nil, arith, drop, false, if◌then◌else◌, inl, inr, length, length-append, nat_le, nat_lt, not, refl, slice_get, slice_set, subst, suc, sym, true, zero, ℕ, ⊎_elim, ◌&&◌, ◌++◌, ◌+◌, ◌<◌, ◌==◌, ◌||◌, ◌∙◌, ◌∷◌, ◌≡◌, ◌≢◌, ◌⊎◌}
+use Rattle.std.proofs.lemmas.Bool.{and_cases, and_parts, cases_Bool, eq-eqb, le-leb, leb-false, leb-true, not-false, not-true, true≢false}
 use Rattle.std.proofs.lemmas.Option.{some_pair_parts}
 use Rattle.c104_event.specs.declared.events.Event.TheVariants as event
 use Rattle.c104_net.specs.declared.node.NodeOf.TheVariants as node
@@ -72,17 +74,17 @@ module _ (plan : Plan) (image : Image) (labelled : IsLabelled (routes_of plan im
       HoldsAfter : Input Traced → Type 0
       HoldsAfter p' = Holds (routes_of plan image) (read_world (routes_of plan image) (world_of plan image nodes) (port.Switch s i) (p'.buffer.items ++ out_at (peer plan) (outs plan nodes) (port.Switch s i) (peer plan (port.Switch s i))) p'.phase)
 
-      header_kept : (ph : Phase (List Traced)) (b : List Traced) → p.phase ≡ ph → HasRead (routes_of plan image) labelled wired ph b → HoldsAfter (header_turn traced_kind s0 p b x)
+      header_kept : (ph : Phase (List Traced)) (b : List Traced) → p.phase ≡ ph → HasRead (routes_of plan image) labelled wired ph b → (ph ≡ Fresh → (is_end x.token ≡ true) ⊎ (IsRandomized (routes_of plan image) (port_of s i) → ⊥)) → HoldsAfter (header_turn traced_kind s0 p b x)
       unfolding HoldsAfter
-      header_kept ph b e h =
-          let wire = has_wire (routes_of plan image) labelled wired (world_of plan image nodes) holds.0 s i x (xs ++ out_at (peer plan) (outs plan nodes) (port.Switch s i) (peer plan (port.Switch s i))) holds.1 ph (phase_is ph e) content b h in
-          let few : length b < (routes_of plan image).header = has_few (routes_of plan image) labelled wired (world_of plan image nodes) holds.0 s i x (xs ++ out_at (peer plan) (outs plan nodes) (port.Switch s i) (peer plan (port.Switch s i))) holds.1 ph (phase_is ph e) content b h in
+      header_kept ph b e h plain =
+          let wire = has_wire (routes_of plan image) labelled wired (world_of plan image nodes) holds.0 s i x (xs ++ out_at (peer plan) (outs plan nodes) (port.Switch s i) (peer plan (port.Switch s i))) holds.1 ph (phase_is ph e) content b h plain in
+          let few : length b < (routes_of plan image).header = has_few (routes_of plan image) labelled wired (world_of plan image nodes) holds.0 s i x (xs ++ out_at (peer plan) (outs plan nodes) (port.Switch s i) (peer plan (port.Switch s i))) holds.1 ph (phase_is ph e) content b h plain in
           let len : header_length s0 ≡ (routes_of plan image).header = labelled.accepted.one_length (record { switch = s; link = i }) wire.0 s0 wire.1 own_settings in
           ⊎_elim
-          (λ (m : is_end x.token ≡ true). rw m (short_step (routes_of plan image) labelled wired (world_of plan image nodes) holds.0 s i x _ holds.1 ph (phase_is ph e) content b h m))
+          (λ (m : is_end x.token ≡ true). rw m (short_step (routes_of plan image) labelled wired (world_of plan image nodes) holds.0 s i x _ holds.1 ph (phase_is ph e) content b h plain m))
           (λ (m : is_end x.token ≡ false). rw m (⊎_elim
-          (λ (k : nat_le (header_length s0) (length (b ++ x ∷ [])) ≡ true). rw k (decide_step (routes_of plan image) labelled wired (world_of plan image nodes) holds.0 s i x _ holds.1 ph (phase_is ph e) content b h m (let f = few in let g = length-append b (x ∷ []) in let u = leb-true (header_length s0) (length (b ++ x ∷ [])) k in omega (arith, len)) (table.select s0.table (header_value traced_kind (b ++ x ∷ []))) (rw own_settings refl)))
-          (λ (k : nat_le (header_length s0) (length (b ++ x ∷ [])) ≡ false). rw k (head_step (routes_of plan image) labelled wired (world_of plan image nodes) holds.0 s i x _ holds.1 ph (phase_is ph e) content b h m (λ n. (let u = leb-false (header_length s0) (length (b ++ x ∷ [])) k in absurd (omega (arith, n, len))))))
+          (λ (k : nat_le (header_length s0) (length (b ++ x ∷ [])) ≡ true). rw k (decide_step (routes_of plan image) labelled wired (world_of plan image nodes) holds.0 s i x _ holds.1 ph (phase_is ph e) content b h plain m (let f = few in let g = length-append b (x ∷ []) in let u = leb-true (header_length s0) (length (b ++ x ∷ [])) k in omega (arith, len)) (table.select s0.table (header_value traced_kind (b ++ x ∷ []))) (rw own_settings refl)))
+          (λ (k : nat_le (header_length s0) (length (b ++ x ∷ [])) ≡ false). rw k (head_step (routes_of plan image) labelled wired (world_of plan image nodes) holds.0 s i x _ holds.1 ph (phase_is ph e) content b h plain m (λ n. (let u = leb-false (header_length s0) (length (b ++ x ∷ [])) k in absurd (omega (arith, n, len))))))
           (cases_Bool (nat_le (header_length s0) (length (b ++ x ∷ []))))))
           (cases_Bool (is_end x.token))
 
@@ -106,18 +108,38 @@ module _ (plan : Plan) (image : Image) (labelled : IsLabelled (routes_of plan im
 
       fresh_kept : (word : ℕ) (r : Input Traced × List (Outgoing Traced)) → p.phase ≡ Fresh → turn_by_phase traced_kind s0 word p S.outputs Fresh x ≡ Some r → HoldsWith r
       unfolding HoldsAfter HoldsWith
-      fresh_kept word r e f =
-          let plain : s0.randomize ≡ false = labelled.accepted.none_random (record { switch = s; link = i }) s0 own_settings in
-          let f' : Some (header_turn traced_kind s0 p [] x, S.outputs) ≡ Some r = rw plain at f in
-          let d : (header_turn traced_kind s0 p [] x, S.outputs) ≡ r = cc in
-          subst HoldsWith d (kept_same plan image _ _ (input_world (header_turn traced_kind s0 p [] x)) (header_kept Fresh [] e refl))
+      fresh_kept word r e f = ⊎_elim
+          (λ (m : (s0.randomize && not (is_end x.token)) ≡ true). random m)
+          (λ (m : (s0.randomize && not (is_end x.token)) ≡ false).
+          (let d : (header_turn traced_kind s0 p [] x, S.outputs) ≡ r = (let f' : Some (header_turn traced_kind s0 p [] x, S.outputs) ≡ Some r = rw m at f in cc) in
+          subst HoldsWith d (kept_same plan image _ _ (input_world (header_turn traced_kind s0 p [] x)) (header_kept Fresh [] e refl (λ k. plain m)))))
+          (cases_Bool (s0.randomize && not (is_end x.token)))
+        where
+          not_set : s0.randomize ≡ false → (y : Settings) → slice_get (settings_at (routes_of plan image) s) i ≡ Some y → y.randomize ≡ true → ⊥
+          not_set k y at random = let is : Some s0 ≡ Some y = sym own_settings ∙ at in let same : s0 ≡ y = cc in true≢false (sym random ∙ ap (λ (z : Settings). z.randomize) (sym same) ∙ k)
+
+          plain : (s0.randomize && not (is_end x.token)) ≡ false → (is_end x.token ≡ true) ⊎ (IsRandomized (routes_of plan image) (port_of s i) → ⊥)
+          plain m = ⊎_elim (λ (k : s0.randomize ≡ false). inr (λ z. not_set k z.0 z.1 z.2)) (λ k. inl (not-false (is_end x.token) k)) (and_cases s0.randomize (not (is_end x.token)) m)
+
+          random : (s0.randomize && not (is_end x.token)) ≡ true → HoldsWith r
+          random m =
+              let u = and_parts s0.randomize (not (is_end x.token)) m in
+              let rs = random_header traced_kind s0 word in
+              let sel = table.select s0.table (header_value traced_kind rs) in
+              let k : Holds (routes_of plan image) (still_world (routes_of plan image) (world_of plan image nodes) (port.Switch s i) (decided_phase rs sel)) = random_step (routes_of plan image) labelled wired (world_of plan image nodes) holds.0 s i x _ holds.1 Fresh (phase_is Fresh e) content s0 word own_settings u.0 refl sel (rw own_settings refl) in
+              let h : phase_after_header traced_kind s0 rs ≡ (decided_phase rs sel, is_sink sel) = rw (le-leb (header_length s0) (length rs) (let u = random_length s0 word 0 in omega (arith, u))) refl in
+              let p' = random_turn traced_kind s0 word p in
+              let d : (p', S.outputs) ≡ r = (let f' : Some (p', S.outputs) ≡ Some r = rw m at f in cc) in
+              let still : read_world (routes_of plan image) (world_of plan image nodes) (port.Switch s i) (p.buffer.items ++ out_at (peer plan) (outs plan nodes) (port.Switch s i) (peer plan (port.Switch s i))) (phase_after_header traced_kind s0 rs).0 ≡ still_world (routes_of plan image) (world_of plan image nodes) (port.Switch s i) (decided_phase rs sel) =
+              worlds plan image (at_id (world_of plan image nodes).content (port.Switch s i) _ (ap (λ l. l ++ out_at (peer plan) (outs plan nodes) (port.Switch s i) (peer plan (port.Switch s i))) is_first ∙ sym content)) (ap (λ (z : Phase (List Traced) × Bool). at (phases plan nodes) (port.Switch s i) z.0) h) refl in
+              subst HoldsWith d (kept_same plan image _ _ (input_world p' ∙ still) k)
 
       phase_kept : (word : ℕ) (r : Input Traced × List (Outgoing Traced)) (ph : Phase (List Traced)) → p.phase ≡ ph → turn_by_phase traced_kind s0 word p S.outputs ph x ≡ Some r → HoldsWith r
       unfolding HoldsAfter HoldsWith
       phase_kept word r Fresh e f = fresh_kept word r e f
       phase_kept word r (Head b) e f =
           let d : (header_turn traced_kind s0 p b x, S.outputs) ≡ r = cc in
-          subst HoldsWith d (kept_same plan image _ _ (input_world (header_turn traced_kind s0 p b x)) (header_kept (Head b) b e refl))
+          subst HoldsWith d (kept_same plan image _ _ (input_world (header_turn traced_kind s0 p b x)) (header_kept (Head b) b e refl (λ k. absurd (cc))))
       phase_kept word r (Want b l) e f = absurd (cc)
       phase_kept word r (Stream o) e f = given (step_at S.outputs o (outgoing_put x)) _ r f (λ rs f1 f2. at_place_made S.outputs o (outgoing_put x) rs f1 (λ q q' eq g d1. required (nat_lt (length q.items) 8) _ q' g (λ h g2.
           (let p' = input_after_token p (phase_after_token traced_kind x (Stream o)) false false in

@@ -107,3 +107,8 @@ pub mod RecordedViews
 pub mod TracedFirsts
 pub mod TracedOrigins
 pub mod TracedArrivals
+pub mod RandomOwners
+pub mod RandomHeaders
+mod RandomRuns
+mod RandomAccepted
+mod RandomPortals

@@ -28,7 +28,7 @@ use Rattle.c104_net.specs.Quiet.{IsQuiet, IsQuietNode}
 use Rattle.c104_net.specs.Rounds.{rounds}
 use Rattle.c104_net.specs.Runs.{IsDoneRun}
 use Rattle.c104_net.specs.Standstill.{IsStarted, IsAcyclicRun}
-use Rattle.c104_check.specs.ChannelDependencies.{IsRanking}
+use Rattle.c104_check.specs.ChannelDependencies.{IsNeverRandomized, IsRanking}
 use Rattle.c104_net.specs.Starts.{start_node}
 use Rattle.c104_net.specs.Traced.{traced_kind}
 use Rattle.c104_net.specs.TracedRuns.{map_incoming, map_input, map_network, map_node, map_outgoing}
@@ -98,12 +98,12 @@ run_plain net (e ∷ es) =
 
 -- from a traced run: after more rounds than there is work nothing stands anywhere, and all promises are kept, so that
 -- each packet with a whole header that has an owner was received by it
-pub rounds_deliver : (image : Image) (start mid ended : Network Traced) (events : List (Event × Reply)) (rank : SwitchPort → ℕ) (n : ℕ) → IsPlan start.plan → IsAccepted (routes_of start.plan image) → IsRanking (routes_of start.plan image) rank → IsStart image start → IsDoneRun traced_kind start events mid → IsUnchanged events → AreBytesSent events →
+pub rounds_deliver : (image : Image) (start mid ended : Network Traced) (events : List (Event × Reply)) (rank : SwitchPort → ℕ) (n : ℕ) → IsPlan start.plan → IsAccepted (routes_of start.plan image) → IsNeverRandomized (routes_of start.plan image) → IsRanking (routes_of start.plan image) rank → IsStart image start → IsDoneRun traced_kind start events mid → IsUnchanged (routes_of start.plan image) events → AreBytesSent events →
     IsSteady mid → IsStarted mid → work start.plan rank mid.nodes < n → ◌≡◌ {A = Outcome (Network Traced)} (run_events (network_apply traced_kind) mid (rounds start.plan n)) (Ok tt, ended) → IsQuiet ended × Promise (routes_of start.plan image) ended
-rounds_deliver image start mid ended events rank n is_plan accepted falls is_start is_run all sent steady started few is =
+rounds_deliver image start mid ended events rank n is_plan accepted never falls is_start is_run all sent steady started few is =
     let labelled : IsLabelled (routes_of start.plan image) = record { accepted = accepted; positive = header_positive start.plan image } in
     let k = each start.plan image is_plan labelled start.nodes mid events is_run all sent (starts start.plan image is_plan labelled start.nodes is_start) in
-    let r = rounds_rest start.plan image is_plan labelled rank falls n k.0 ended k.2 (subst IsStarted (sym k.1) started) (subst IsSteady (sym k.1) steady)
+    let r = rounds_rest start.plan image is_plan labelled never rank falls n k.0 ended k.2 (subst IsStarted (sym k.1) started) (subst IsSteady (sym k.1) steady)
     (subst (λ (net : Network Traced). work start.plan rank net.nodes < n) (sym k.1) few)
     (subst (λ net. ◌≡◌ {A = Outcome (Network Traced)} (run_events (network_apply traced_kind) net (rounds start.plan n)) (Ok tt, ended)) (sym k.1) is) in
     (subst IsQuiet r.is r.quiet, subst (Promise (routes_of start.plan image)) r.is (promised start.plan image is_plan labelled r.nodes r.good))
@@ -115,13 +115,13 @@ rounds_end plan image starts events nodes ended n is_plan is sent few end =
     let rank : SwitchPort → ℕ = is.acyclic.0 in
     let found = traced_from plan starts nodes events is.run in
     let balance = run_steady traced_kind (network_of plan (map start_node starts)) (network_of plan found.0) events is_plan found.1.run (still_steady Token Traced plan starts is.steady) in
-    let started = run_started plain_kind (network_of plan (map start_node starts)) (network_of plan nodes) events is.run is.unchanged is.started in
+    let started = run_started plain_kind (routes_of plan image) (network_of plan (map start_node starts)) (network_of plan nodes) events is.run is.unchanged is.started in
     let same : work plan is.acyclic.0 found.0 ≡ work plan is.acyclic.0 nodes = sym (work_map token_of plan is.acyclic.0 found.0) ∙ ap (work plan is.acyclic.0) found.1.plain in
     let after = run_events (network_apply traced_kind) (network_of plan found.0) (rounds plan n) in
     let both : ◌≡◌ {A = Outcome (Network Token)} (after.0, map_network token_of after.1) (Ok tt, ended) = sym (run_plain (network_of plan found.0) (rounds plan n)) ∙ ap (λ ns. run_events (network_apply plain_kind) (network_of plan ns) (rounds plan n)) found.1.plain ∙ end in
     let told : after.0 ≡ Ok tt = ap (λ (z : Outcome (Network Token)). z.0) both in
     let whole : ◌≡◌ {A = Outcome (Network Traced)} after (Ok tt, after.1) = ap (λ o. (o, after.1)) told in
-    let quiet = (rounds_deliver image (network_of plan (map start_node starts)) (network_of plan found.0) after.1 events is.acyclic.0 n is_plan is.accepted is.acyclic.1 (starts_are plan image starts is.set) found.1.run is.unchanged sent balance
+    let quiet = (rounds_deliver image (network_of plan (map start_node starts)) (network_of plan found.0) after.1 events is.acyclic.0 n is_plan is.accepted is.never_randomized is.acyclic.1 (starts_are plan image starts is.set) found.1.run is.unchanged sent balance
     (started_traced plan starts nodes events is_plan is.run found.0 found.1.plain started) (subst (λ k. k < n) (sym same) few) whole).0 in
     let last : map_network token_of after.1 ≡ ended = ap (λ (z : Outcome (Network Token)). z.1) both in
     subst IsQuiet last (All-map IsQuietNode (map_node token_of) after.1.nodes (λ k d inside. quiet_map token_of (get_or after.1.nodes k d) (quiet k d inside)))

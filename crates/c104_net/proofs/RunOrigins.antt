@@ -214,7 +214,7 @@ module _ (run : FinishedRecord) (is_plan : IsPlan run.finished.plan) (kept : IsK
   pub origins_are : AreOrigins run (map terminal_origins (terminals_of (traced run is_plan kept).0))
   origins_are =
       let found = traced run is_plan kept in
-      let promised : (image : Image) → IsAccepted (routes_of run.finished.plan image) → AreStartsOf run.finished.plan image run.starts → IsUnchanged kept.events → Promise (routes_of run.finished.plan image) (network_of run.finished.plan found.0) = λ image accepted are unchanged. headline image (network_of run.finished.plan (map start_node run.starts)) (network_of run.finished.plan found.0) kept.events is_plan accepted (starts_are run.finished.plan image run.starts are) found.1.run unchanged kept.sent in
+      let promised : (image : Image) → IsAccepted (routes_of run.finished.plan image) → AreStartsOf run.finished.plan image run.starts → IsUnchanged (routes_of run.finished.plan image) kept.events → Promise (routes_of run.finished.plan image) (network_of run.finished.plan found.0) = λ image accepted are unchanged. headline image (network_of run.finished.plan (map start_node run.starts)) (network_of run.finished.plan found.0) kept.events is_plan accepted (starts_are run.finished.plan image run.starts are) found.1.run unchanged kept.sent in
       let is : network_of run.finished.plan found.0 ≡ traced_end run = sym ends_traced in
       record {
         events = kept.events;

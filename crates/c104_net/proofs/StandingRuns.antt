@@ -1,4 +1,5 @@
 -- An accepted network that stands still is quiet: from its start, over plain tokens.
+use Rattle.c104_check.specs.Routes.{routes_of}
 use Rattle.c104_describe.specs.PlanImage.{Image}
 use Rattle.c104_describe.specs.Plans.{IsPlan, Plan}
 use Rattle.c104_event.specs.declared.events.Event.{Event}
@@ -90,8 +91,8 @@ pub stands_quiet : (plan : Plan) (image : Image) (starts : List NodeStart) (even
 stands_quiet plan image starts events nodes is_plan is sent still =
     let found = traced_from plan starts nodes events is.run in
     let balance = run_steady traced_kind (network_of plan (map start_node starts)) (network_of plan found.0) events is_plan found.1.run (still_steady Token Traced plan starts is.steady) in
-    let started = run_started plain_kind (network_of plan (map start_node starts)) (network_of plan nodes) events is.run is.unchanged is.started in
+    let started = run_started plain_kind (routes_of plan image) (network_of plan (map start_node starts)) (network_of plan nodes) events is.run is.unchanged is.started in
     quiet_plain plan starts nodes events is_plan is.run found.0 found.1.plain
-    (standstill image (network_of plan (map start_node starts)) (network_of plan found.0) events is_plan is.accepted is.acyclic (starts_are plan image starts is.set) found.1.run is.unchanged sent balance
+    (standstill image (network_of plan (map start_node starts)) (network_of plan found.0) events is_plan is.accepted is.acyclic is.never_randomized (starts_are plan image starts is.set) found.1.run is.unchanged sent balance
     (started_traced plan starts nodes events is_plan is.run found.0 found.1.plain started)
     (still_traced plan starts nodes events is_plan is.run found.0 found.1.plain (still_of plain_kind (network_of plan nodes) is_plan still)))

@@ -1,4 +1,5 @@
 -- In a run in which nobody changes a network each node stays started.
+use Rattle.c104_check.specs.Routes.{Routes}
 use Rattle.c104_control.specs.Reading.{read_command}
 use Rattle.c104_describe.specs.Plans.{Plan}
 use Rattle.c104_event.specs.declared.events.Event.{Event}
@@ -39,16 +40,16 @@ module _ {A : Type 0} where
   send_started kind t p (node.Terminal T) m e a = let d : node.Terminal (terminal_send kind t p T) ≡ m = cc in subst IsStartedNode d a
 
 module _ {A : Type 0} (kind : Kind A) (plan : Plan) (nodes : List (Node A)) (started : AreStarted nodes) where
-  step_started : (e : Event) (r : Reply) (net' : Network A) → MayHappen e r → network_step kind (network_of plan nodes) e ≡ Some (r, net') → IsStarted net'
-  step_started (event.Cross p) r net' may is = event_started kind plan nodes started (event.Cross p) r net' tt is
-  step_started (event.Credit p) r net' may is = event_started kind plan nodes started (event.Credit p) r net' tt is
-  step_started (event.Input s l word) r net' may is = event_started kind plan nodes started (event.Input s l word) r net' tt is
-  step_started (event.Claim s i o) r net' may is = event_started kind plan nodes started (event.Claim s i o) r net' tt is
-  step_started (event.Drain t) r net' may is = event_started kind plan nodes started (event.Drain t) r net' tt is
-  step_started (event.Send t p) r net' may is = given (step_at nodes (terminal_place plan t) (node_send kind t p)) _ (r, net') is (λ after ea e2.
+  step_started : (routes : Routes) (e : Event) (r : Reply) (net' : Network A) → MayHappen routes e r → network_step kind (network_of plan nodes) e ≡ Some (r, net') → IsStarted net'
+  step_started routes (event.Cross p) r net' may is = event_started kind plan nodes started (event.Cross p) r net' tt is
+  step_started routes (event.Credit p) r net' may is = event_started kind plan nodes started (event.Credit p) r net' tt is
+  step_started routes (event.Input s l word) r net' may is = event_started kind plan nodes started (event.Input s l word) r net' tt is
+  step_started routes (event.Claim s i o) r net' may is = event_started kind plan nodes started (event.Claim s i o) r net' tt is
+  step_started routes (event.Drain t) r net' may is = event_started kind plan nodes started (event.Drain t) r net' tt is
+  step_started routes (event.Send t p) r net' may is = given (step_at nodes (terminal_place plan t) (node_send kind t p)) _ (r, net') is (λ after ea e2.
       (let all = started_at nodes (terminal_place plan t) (node_send kind t p) after ea (send_started kind t p) started in
       let d : network_of plan after ≡ net' = (some_pair_parts reply.Done r (network_of plan after) net' e2).1 in subst IsStarted d all))
-  step_started (event.Control s bytes) r net' may is = given (yield_step_at nodes s (node_control bytes)) _ (r, net') is (λ v ev e2.
+  step_started routes (event.Control s bytes) r net' may is = given (yield_step_at nodes s (node_control bytes)) _ (r, net') is (λ v ev e2.
       from_place_made nodes s (node_control bytes) v ev (λ n y en ey hv. by_node n y en ey v hv e2))
     where
       by_node : (n : Node A) (y : List ℕ × Node A) → slice_get nodes s ≡ Some n → node_control bytes n ≡ Some y → (v : List ℕ × List (Node A)) → ◌≡◌ {A = List ℕ × List (Node A)} (y.0, slice_set nodes s y.1) v → ◌≡◌ {A = Option (Reply × Network A)} (Some (reply.Control v.0, network_of plan v.1)) (Some (r, net')) → IsStarted net'
@@ -64,7 +65,7 @@ module _ {A : Type 0} (kind : Kind A) (plan : Plan) (nodes : List (Node A)) (sta
           subst IsStarted parts.1 (subst AreStarted dv (started_set nodes s (node.Switch done.1) started one))
 
 -- each event of the run keeps it
-pub run_started : {A : Type 0} (kind : Kind A) (net ended : Network A) (events : List (Event × Reply)) → IsDoneRun kind net events ended → IsUnchanged events → IsStarted net → IsStarted ended
-run_started kind net ended [] is all started = subst IsStarted (sym is) started
-run_started {A} kind net ended (e ∷ events) is all started =
-    run_started kind is.0 ended events is.3 all.1 (step_started kind net.plan net.nodes started e.0 e.1 is.0 all.0 (done_step_is kind net is.0 e.0 e.1 is.1 is.2))
+pub run_started : {A : Type 0} (kind : Kind A) (routes : Routes) (net ended : Network A) (events : List (Event × Reply)) → IsDoneRun kind net events ended → IsUnchanged routes events → IsStarted net → IsStarted ended
+run_started kind routes net ended [] is all started = subst IsStarted (sym is) started
+run_started {A} kind routes net ended (e ∷ events) is all started =
+    run_started kind routes is.0 ended events is.3 all.1 (step_started kind net.plan net.nodes started routes e.0 e.1 is.0 all.0 (done_step_is kind net is.0 e.0 e.1 is.1 is.2))

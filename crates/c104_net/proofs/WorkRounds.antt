@@ -1,5 +1,5 @@
 -- Rounds go on until the network is quiet: each round that does something leaves less work.
-use Rattle.c104_check.specs.Routes.{routes_of}
+use Rattle.c104_check.specs.Routes.{Routes, routes_of}
 use Rattle.c104_check.specs.Walks.{port_of}
 use Rattle.c104_check.specs.declared.ports.SwitchPort.{SwitchPort}
 use Rattle.c104_describe.proofs.RangeLists.{all_of_each, each_append}
@@ -29,7 +29,7 @@ use Rattle.c104_net.specs.Nodes.{Node}
 use Rattle.c104_net.specs.Quiet.{IsQuiet}
 use Rattle.c104_net.specs.Rounds.{all_claims, all_drains, claims_of, link_numbers, round, rounds, switch_claims, turn_at, wired_ports}
 use Rattle.c104_net.specs.Standstill.{IsStarted, IsUnready}
-use Rattle.c104_check.specs.ChannelDependencies.{IsRanking}
+use Rattle.c104_check.specs.ChannelDependencies.{IsNeverRandomized, IsRanking}
 use Rattle.c104_net.specs.Traced.{traced_kind}
 use Rattle.c104_net.specs.Unchanged.{MayHappen}
 use Rattle.c104_net.specs.Work.{work}
@@ -41,6 +41,7 @@ use Rattle.c104_switch.specs.Switch.{Input, Switch}
 use Rattle.c104_switch.specs.declared.phase.Phase.TheVariants.{Stream, Want}
 use Rattle.std.specs.List.{AllByRecursion, flat_map, range_with_len}
 use Rattle.std.proofs.Common.{Bool, Err, List, Ok, Result, Some, [], ap, arith, false, inl, inr, length, map, refl, slice_get, subst, suc, sym, true, zero, ℕ, ⊎_elim, ◌++◌, ◌+◌, ◌<◌, ◌∙◌, ◌∷◌, ◌≡◌, ◌≤◌, ◌⊎◌}
+use Rattle.std.proofs.lemmas.Bool.{cases_Bool}
 use Rattle.c104_event.specs.declared.events.Event.TheVariants as event
 use Rattle.c104_net.specs.declared.node.NodeOf.TheVariants as node
 use Rattle.c104_describe.specs.declared.ports.Port.TheVariants as port
@@ -74,14 +75,14 @@ of_round plan =
     let e : List Event = all_drains (length plan.terminals) in
     each_append IsOfRound (a ++ b ++ c ++ d) e (each_append IsOfRound (a ++ b ++ c) d (each_append IsOfRound (a ++ b) c (each_append IsOfRound a b credits crosses) turns) claims) drains
 
-may_happen : (e : Event) (r : Reply) → IsOfRound e → MayHappen e r
-may_happen (event.Cross p) r of = tt
-may_happen (event.Credit p) r of = tt
-may_happen (event.Input s l word) r of = tt
-may_happen (event.Claim s i o) r of = tt
-may_happen (event.Drain t) r of = tt
-may_happen (event.Send t p) r of = tt
-may_happen (event.Control s bytes) r of = absurd of
+may_happen : (routes : Routes) (e : Event) (r : Reply) → IsOfRound e → MayHappen routes e r
+may_happen routes (event.Cross p) r of = tt
+may_happen routes (event.Credit p) r of = tt
+may_happen routes (event.Input s l word) r of = tt
+may_happen routes (event.Claim s i o) r of = tt
+may_happen routes (event.Drain t) r of = tt
+may_happen routes (event.Send t p) r of = absurd of
+may_happen routes (event.Control s bytes) r of = absurd of
 
 sends_none : (e : Event) → IsOfRound e → SendsBytes e
 sends_none (event.Cross p) of = tt
@@ -98,7 +99,7 @@ not_ready reply.NotReady is = refl
 not_ready (reply.Token x) is = absurd (cc is)
 not_ready (reply.Control bytes) is = absurd (cc is)
 
-module _ (plan : Plan) (image : Image) (is_plan : IsPlan plan) (labelled : IsLabelled (routes_of plan image)) (rank : SwitchPort → ℕ) (falls : IsRanking (routes_of plan image) rank) where
+module _ (plan : Plan) (image : Image) (is_plan : IsPlan plan) (labelled : IsLabelled (routes_of plan image)) (never : IsNeverRandomized (routes_of plan image)) (rank : SwitchPort → ℕ) (falls : IsRanking (routes_of plan image) rank) where
   goes_down : (s i l o : ℕ) (R : Port) → IsChosen (routes_of plan image) (port.Switch s i) l → group_at (routes_of plan image) (port.Switch s i) l o ≡ true → peer plan (port.Switch s o) ≡ Some R → far_of plan rank (port.Switch s o) + 1 ≤ own plan rank (port.Switch s i)
   goes_down s i l o (port.Terminal t) chosen group wire = rw wire (omega arith)
   goes_down s i l o (port.Switch s' i') chosen group wire =
@@ -109,13 +110,15 @@ module _ (plan : Plan) (image : Image) (is_plan : IsPlan plan) (labelled : IsLab
   falling nodes good = record { plain = plain; streams = streams; wants = wants }
     where
       plain : (s i : ℕ) (S : Switch Traced) (t : Settings) → slice_get nodes s ≡ Some (node.Switch S) → slice_get S.settings i ≡ Some t → t.randomize ≡ false
-      plain s i S t here set = labelled.accepted.none_random (port_of s i) t (ap (λ l. slice_get l i) (sym (set_is plan image is_plan labelled nodes good.set s S here)) ∙ set)
+      plain s i S t here set =
+          let there = ap (λ l. slice_get l i) (sym (set_is plan image is_plan labelled nodes good.set s S here)) ∙ set in
+          ⊎_elim (λ (k : t.randomize ≡ true). absurd (never (port_of s i) (t, there, k))) (λ (k : t.randomize ≡ false). k) (cases_Bool t.randomize)
 
       streams : (s i o : ℕ) (S : Switch Traced) (p : Input Traced) → slice_get nodes s ≡ Some (node.Switch S) → slice_get S.inputs i ≡ Some p → p.phase ≡ Stream o → far_of plan rank (port.Switch s o) + 1 ≤ own plan rank (port.Switch s i)
       streams s i o S p here input e =
           let phase : phases plan nodes (port.Switch s i) ≡ Stream o = rw (here, input) e in
           let u : Suits (routes_of plan image) (world_of plan image nodes).book good.holds.0 (port.Switch s i) (Stream o) = rw phase at (good.holds.1.suits (port.Switch s i)) in
-          goes_down s i u.4 o u.1 u.5 u.6 u.2
+          goes_down s i u.4 o u.1 (u.5 never) u.6 u.2
 
       wants : (s i o g : ℕ) (S : Switch Traced) (p : Input Traced) (b : List Traced) → slice_get nodes s ≡ Some (node.Switch S) → slice_get S.inputs i ≡ Some p → p.phase ≡ Want b g → is_in_group S.settings g o ≡ true → (0 < length b) × (far_of plan rank (port.Switch s o) + 1 ≤ own plan rank (port.Switch s i))
       wants s i o g S p b here input e group =
@@ -123,7 +126,7 @@ module _ (plan : Plan) (image : Image) (is_plan : IsPlan plan) (labelled : IsLab
           let u : Suits (routes_of plan image) (world_of plan image nodes).book good.holds.0 (port.Switch s i) (Want b g) = rw phase at (good.holds.1.suits (port.Switch s i)) in
           let among : group_at (routes_of plan image) (port.Switch s i) g o ≡ true = ap (λ l. is_in_group l g o) (sym (set_is plan image is_plan labelled nodes good.set s S here)) ∙ group in
           let out = u.2 o among in
-          (omega (arith, u.3, labelled.positive), goes_down s i g o out.0 u.4 among out.1)
+          (omega (arith, u.3, labelled.positive), goes_down s i g o out.0 (u.4 never) among out.1)
 
   -- what a run of such events leaves: less work, or all as it was, where none of them was ready
   record Goes (nodes : List (Node Traced)) (es : List Event) (ended : Network Traced) : Type 0 where
@@ -159,7 +162,7 @@ module _ (plan : Plan) (image : Image) (is_plan : IsPlan plan) (labelled : IsLab
           }
       by_ready true k =
           let made : network_step traced_kind (network_of plan nodes) e ≡ Some (r, next) = done_step_is traced_kind (network_of plan nodes) next e r due k in
-          let n1 = one plan image is_plan labelled nodes next e r (may_happen e r of) (sends_none e of) made good in
+          let n1 = one plan image is_plan labelled nodes next e r (may_happen (routes_of plan image) e r of) (sends_none e of) made good in
           let started1 : AreStarted n1.0 = subst IsStarted (sym n1.1) (event_started traced_kind plan nodes started e r next of made) in
           let steady1 : IsSteady (network_of plan n1.0) = subst IsSteady (sym n1.1) (applied_steady traced_kind plan is_plan nodes steady e (Ok r) next (inl due)) in
           let less1 : work plan rank n1.0 + 1 ≤ work plan rank nodes = subst (λ (n : Network Traced). work plan rank n.nodes + 1 ≤ work plan rank nodes) (sym n1.1) (event_less traced_kind plan is_plan rank nodes good.placed (falling nodes good) e r next of made) in
@@ -182,7 +185,7 @@ module _ (plan : Plan) (image : Image) (is_plan : IsPlan plan) (labelled : IsLab
 
   -- a round that leaves no less work leaves all as it was, and finds it quiet
   round_quiet : (nodes : List (Node Traced)) → IsSettled plan image is_plan labelled nodes → AreStarted nodes → IsSteady (network_of plan nodes) → AllByRecursion (IsUnready traced_kind (network_of plan nodes)) (round plan) → IsQuiet (network_of plan nodes)
-  round_quiet nodes good started steady all = all_quiet plan image is_plan labelled nodes good steady started (still_of traced_kind (network_of plan nodes) is_plan (all_of_each (IsUnready traced_kind (network_of plan nodes)) (round plan) all)) rank falls
+  round_quiet nodes good started steady all = all_quiet plan image is_plan labelled nodes good steady started (still_of traced_kind (network_of plan nodes) is_plan (all_of_each (IsUnready traced_kind (network_of plan nodes)) (round plan) all)) never rank falls
 
   -- a round that changes nothing changes nothing again
   stays : (net : Network Traced) → Run net (round plan) net → (n : ℕ) → Run net (rounds plan n) net

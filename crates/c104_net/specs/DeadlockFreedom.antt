@@ -5,7 +5,7 @@
 --     IsFreeOfDeadlock net      what follows
 --     EndsWithoutDeadlock run      the same of a finished run
 use Rattle.std.specs.Prelude.{ℕ, ◌+◌, ◌*◌, ◌≡◌, ◌<◌, ◌≤◌, ◌⊎◌, All, false, true, List, Some, Ok, Err, map, slice_get}
-use Rattle.c104_check.specs.ChannelDependencies.{IsAcyclic, IsRanking}
+use Rattle.c104_check.specs.ChannelDependencies.{IsAcyclic, IsNeverRandomized, IsRanking}
 use Rattle.c104_check.specs.Routes.{IsAccepted, Routes, routes_of}
 use Rattle.c104_check.specs.declared.ports.SwitchPort.{SwitchPort}
 use Rattle.c104_describe.specs.PlanImage.{Fits, Image}
@@ -33,16 +33,19 @@ use Rattle.c104_switch.specs.Actions.{Reply}
 use Rattle.c104_token.specs.Kinds.{plain_kind}
 use Rattle.c104_token.specs.declared.tokens.Token.{Token}
 
--- A network with its record whose labels the check accepts, and whose channels don't depend on one another in a cycle:
--- its run began with the image's settings and with every switch started, and nobody changed the network since.
+-- A network with its record whose labels the check accepts, whose channels don't depend on one another in a cycle, and
+-- where no link puts random headers before packets: its run began with the image's settings and with every switch
+-- started, and nobody changed the network since.
 pub record IsAcyclicNet (image : Image) (net : NetRecord) : Type 0 where
   pub fits : Fits image net.network.plan
   pub accepted : IsAccepted (routes_of net.network.plan image)
   pub acyclic : IsAcyclic (routes_of net.network.plan image)
+  -- the dependencies are those of packets that go by their own headers
+  pub never_randomized : IsNeverRandomized (routes_of net.network.plan image)
   pub set : AreStartsOf net.network.plan image net.starts
   pub started : All IsStartedStart net.starts
   -- whichever events the traces tell
-  pub unchanged : (events : List (Event × Reply)) → IsRunRecord plain_kind net.network.plan (map start_node net.starts) net.network.nodes net.traces net.count events → IsUnchanged events
+  pub unchanged : (events : List (Event × Reply)) → IsRunRecord plain_kind net.network.plan (map start_node net.starts) net.network.nodes net.traces net.count events → IsUnchanged (routes_of net.network.plan image) events
 
 -- an event isn't done: it is answered with NotReady, or refused
 abbrev pub IsUndone : NetRecord → Event → Type 0
@@ -98,4 +101,4 @@ pub record EndsWithoutDeadlock (run : FinishedRecord) : Type 0 where
   pub nodes : List (Node Token)
   pub told : IsRunRecord plain_kind run.finished.plan (map start_node run.starts) nodes run.traces run.count events
   pub ended : run.finished ≡ network_finish (network_of run.finished.plan nodes)
-  pub stands_quiet : (image : Image) → IsAccepted (routes_of run.finished.plan image) → IsAcyclic (routes_of run.finished.plan image) → AreStartsOf run.finished.plan image run.starts → All IsStartedStart run.starts → IsUnchanged events → StandsStill plain_kind (network_of run.finished.plan nodes) → IsQuiet (network_of run.finished.plan nodes)
+  pub stands_quiet : (image : Image) → IsAccepted (routes_of run.finished.plan image) → IsAcyclic (routes_of run.finished.plan image) → IsNeverRandomized (routes_of run.finished.plan image) → AreStartsOf run.finished.plan image run.starts → All IsStartedStart run.starts → IsUnchanged (routes_of run.finished.plan image) events → StandsStill plain_kind (network_of run.finished.plan nodes) → IsQuiet (network_of run.finished.plan nodes)
