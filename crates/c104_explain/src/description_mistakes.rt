@@ -18,6 +18,7 @@ pub enum DescriptionMistake {
     DeleteLine,
     BaseLine,
     RowLine,
+    RandomLine,
     LabelLine,
     MeshLine,
     CubeLine,
@@ -31,6 +32,8 @@ pub enum DescriptionMistake {
     NoBase,
     NoLimit,
     NoSelect,
+    NoRandomBase,
+    NoRandomRange,
     MeshSize,
     CubeSize,
     NoName,
@@ -48,6 +51,7 @@ pub enum DescriptionMistake {
     Rows,
     Sizes,
     Twice,
+    RandomTwice,
     Mixed,
 }
 
@@ -69,7 +73,7 @@ impl DescriptionMistake {
             }
             DescriptionMistake::NoWord => {
                 "a line begins with `switch`, `terminal`, `wire`, `row`, `base`, `continue`, `delete`, \
-                 `header`, `buffer`, `label`, `mesh` or `cube`"
+                 `random`, `header`, `buffer`, `label`, `mesh` or `cube`"
             }
             DescriptionMistake::WrongByte => {
                 "outside of a comment a byte is printable ASCII, a space, a tab or a carriage return"
@@ -80,12 +84,13 @@ impl DescriptionMistake {
                  `from FIRST`, or both in this order"
             }
             DescriptionMistake::WireLine => "the line is `wire SWITCH.LINK SWITCH.LINK`",
-            DescriptionMistake::HeaderLine => "the line is `header 1`",
+            DescriptionMistake::HeaderLine => "the line is `header 1` or `header 2`",
             DescriptionMistake::BufferLine => "the line is `buffer SIZE`",
             DescriptionMistake::ContinueLine => "the line is `continue SWITCH.LINK`",
             DescriptionMistake::DeleteLine => "the line is `delete TERMINAL`",
             DescriptionMistake::BaseLine => "the line is `base SWITCH.LINK FIRST`",
             DescriptionMistake::RowLine => "the line is `row SWITCH.LINK LIMIT SELECT`",
+            DescriptionMistake::RandomLine => "the line is `random SWITCH.LINK BASE RANGE`",
             DescriptionMistake::LabelLine => "the line is `label tree SWITCH`",
             DescriptionMistake::MeshLine => "the line is `mesh COLUMNS ROWS TERMINALS`",
             DescriptionMistake::CubeLine => "the line is `cube DIMENSIONS TERMINALS`",
@@ -98,13 +103,17 @@ impl DescriptionMistake {
             }
             DescriptionMistake::NoCount => "a terminal has 1 to 65536 labels",
             DescriptionMistake::NoFirst => "the first label is 0 to 65535",
-            DescriptionMistake::NoHeader => "a header has 1 byte",
+            DescriptionMistake::NoHeader => "a header has 1 or 2 bytes",
             DescriptionMistake::NoBuffer => {
                 "a buffer has room for 8, 16, 24, 32, 40, 48, 56 or 64 tokens"
             }
             DescriptionMistake::NoBase => "a base is 0 to 65535",
             DescriptionMistake::NoLimit => "a limit is 0 to 65536",
-            DescriptionMistake::NoSelect => "a row selects a link, 0 to 31, or `sink`",
+            DescriptionMistake::NoSelect => "a row selects a link, 0 to 31, `discard` or `sink`",
+            DescriptionMistake::NoRandomBase => "random headers begin at 0 to 65535",
+            DescriptionMistake::NoRandomRange => {
+                "the range of random headers is 0 to 65536, and at 0 the base alone is one"
+            }
             DescriptionMistake::MeshSize => {
                 "a mesh has 1 to 64 columns, 1 to 64 rows, and 1 to 28 terminals at each switch"
             }
@@ -132,9 +141,12 @@ impl DescriptionMistake {
             DescriptionMistake::Rows => "an input has at most 36 rows",
             DescriptionMistake::Sizes => "there are at most 64 switches and 256 terminals",
             DescriptionMistake::Twice => "this may be said once, and a line before says it",
+            DescriptionMistake::RandomTwice => {
+                "an input has one `random` line, and a line before is one of this input"
+            }
             DescriptionMistake::Mixed => {
                 "the line does not go with the lines before: beside `label` stands no `row`, `base`, \
-                 `continue` or `from`, and beside `mesh` or `cube` only `header`, `buffer` and `delete`"
+                 `random`, `continue` or `from`, and beside `mesh` or `cube` only `header`, `buffer` and `delete`"
             }
         }
     }

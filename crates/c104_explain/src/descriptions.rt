@@ -1,7 +1,9 @@
 //! What is told of a faulty description.
 
 use crate::description_mistakes::DescriptionMistake;
-use crate::nearest::{is_script_word, nearest_description_word, nearest_switch, nearest_terminal};
+use crate::nearest::{
+    is_script_word, nearest_description_word, nearest_select_word, nearest_switch, nearest_terminal,
+};
 use crate::words::{
     Mistake, has_dot, has_link, is_within, link_of, name_of, names_switch, names_terminal,
     unplain_word, word_at,
@@ -16,7 +18,7 @@ use std::alloc::Global;
 const MAX_TERMINALS: usize = 256;
 
 /// The words with which lines begin, each with what its line is, and how many words that has.
-const FORMS: [(&[u8], DescriptionMistake, usize); 12] = [
+const FORMS: [(&[u8], DescriptionMistake, usize); 13] = [
     (b"switch", DescriptionMistake::SwitchLine, 2),
     (b"terminal", DescriptionMistake::TerminalLine, 3),
     (b"wire", DescriptionMistake::WireLine, 3),
@@ -26,6 +28,7 @@ const FORMS: [(&[u8], DescriptionMistake, usize); 12] = [
     (b"delete", DescriptionMistake::DeleteLine, 2),
     (b"base", DescriptionMistake::BaseLine, 3),
     (b"row", DescriptionMistake::RowLine, 4),
+    (b"random", DescriptionMistake::RandomLine, 4),
     (b"label", DescriptionMistake::LabelLine, 3),
     (b"mesh", DescriptionMistake::MeshLine, 4),
     (b"cube", DescriptionMistake::CubeLine, 3),
@@ -91,7 +94,7 @@ fn find_mistake<'a>(kind: PlanFaultKind, words: &[&'a [u8]], before: &'a Plan) -
         PlanFaultKind::SelfWire => told(DescriptionMistake::SelfWire, word_at(words, 2)),
         PlanFaultKind::LinkTaken => link_mistake(words, before),
         PlanFaultKind::TooMany => count_mistake(words, before),
-        PlanFaultKind::Twice => told(DescriptionMistake::Twice, word_at(words, 0)),
+        PlanFaultKind::Twice => twice_mistake(words),
         PlanFaultKind::MixedStyle => told(DescriptionMistake::Mixed, word_at(words, 0)),
     }
 }
@@ -159,7 +162,7 @@ fn ports_of<'a>(first: &[u8], words: &[&'a [u8]]) -> [Option<&'a [u8]>; 2] {
     match first {
         b"terminal" => [word_at(words, 2), None],
         b"wire" => [word_at(words, 1), word_at(words, 2)],
-        b"continue" | b"base" | b"row" => [word_at(words, 1), None],
+        b"continue" | b"base" | b"row" | b"random" => [word_at(words, 1), None],
         _ => [None, None],
     }
 }
@@ -194,6 +197,7 @@ fn value_mistake<'a>(first: &[u8], words: &[&'a [u8]]) -> Mistake<'a> {
         b"continue" => told(DescriptionMistake::NoContinuing, word_at(words, 1)),
         b"base" => told(DescriptionMistake::NoBase, word_at(words, 2)),
         b"row" => row_mistake(words),
+        b"random" => random_mistake(words),
         b"buffer" => told(DescriptionMistake::NoBuffer, word_at(words, 1)),
         b"mesh" => told(DescriptionMistake::MeshSize, None),
         b"cube" => told(DescriptionMistake::CubeSize, None),
@@ -221,7 +225,34 @@ fn row_mistake<'a>(words: &[&'a [u8]]) -> Mistake<'a> {
         Some(limit) if !is_within(0, 65_536, limit) => {
             told(DescriptionMistake::NoLimit, Some(limit))
         }
-        _ => told(DescriptionMistake::NoSelect, word_at(words, 3)),
+        _ => select_mistake(word_at(words, 3)),
+    }
+}
+
+/// A select that is none.
+fn select_mistake(word: Option<&[u8]>) -> Mistake<'_> {
+    let mistake = told(DescriptionMistake::NoSelect, word);
+    match word {
+        Some(select) => mistake.near(nearest_select_word(select)),
+        None => mistake,
+    }
+}
+
+/// A base or a range of random headers that is none.
+fn random_mistake<'a>(words: &[&'a [u8]]) -> Mistake<'a> {
+    match word_at(words, 2) {
+        Some(base) if !is_within(0, 65_535, base) => {
+            told(DescriptionMistake::NoRandomBase, Some(base))
+        }
+        _ => told(DescriptionMistake::NoRandomRange, word_at(words, 3)),
+    }
+}
+
+/// A line that may stand once, and stands before.
+fn twice_mistake<'a>(words: &[&'a [u8]]) -> Mistake<'a> {
+    match word_at(words, 0) {
+        Some(b"random") => told(DescriptionMistake::RandomTwice, word_at(words, 1)),
+        first => told(DescriptionMistake::Twice, first),
     }
 }
 

@@ -21,6 +21,7 @@ mod leftovers;
 mod messages;
 mod nearest;
 mod questions;
+mod random_inputs;
 mod reason_sentences;
 mod reasons;
 mod script_mistakes;

@@ -34,7 +34,8 @@ pub(crate) fn reason_sentence(unready: Unready) -> &'static str
             "the output that the packet goes to is full; `cross` takes a token out of it"
         }
         Unready::WantsNothing => {
-            "the input wants no output; `input` has to read a header first, which selects a link"
+            "the input wants no output; `input` has to read a header first, or to put a random one there, which \
+             selects a link"
         }
         Unready::OutsideGroup(_) => "the header goes to another output, of the group of this link",
         Unready::Owned(_) => {

@@ -71,7 +71,7 @@ impl ScriptMistake {
             ScriptMistake::CrossLine => "the line is `cross TERMINAL` or `cross SWITCH.LINK`",
             ScriptMistake::CreditLine => "the line is `credit TERMINAL` or `credit SWITCH.LINK`",
             ScriptMistake::InputLine => {
-                "the line is `input SWITCH.LINK`, and behind it a number may stand"
+                "the line is `input SWITCH.LINK`, and behind it a number may stand, which picks a random header"
             }
             ScriptMistake::ClaimLine => "the line is `claim SWITCH INPUT OUTPUT`, as `claim A 0 1`",
             ScriptMistake::ControlLine => {

@@ -1,5 +1,6 @@
 //! How a node stands, in words.
 
+use crate::random_inputs::puts_random;
 use crate::reasons::port_text;
 use c104_describe::{Plan, Port};
 use c104_net::TracedNet;
@@ -22,7 +23,8 @@ pub(crate) fn switch_text(
             if !text.is_empty() {
                 text.push('\n')?;
             }
-            add_link(alloc, plan, (port, other), &view, &mut text)?;
+            let puts_random = puts_random(net, switch, link as u16);
+            add_link(alloc, plan, (port, other), &view, puts_random, &mut text)?;
         }
     }
     if text.is_empty() {
@@ -37,11 +39,12 @@ fn add_link(
     plan: &Plan,
     ports: (Port, Port),
     view: &LinkView,
+    puts_random: bool,
     text: &mut String,
 ) -> Result<(), AllocError> {
     let port = port_text(alloc, plan, ports.0)?;
     let other = port_text(alloc, plan, ports.1)?;
-    let phase = phase_text(alloc, view)?;
+    let phase = phase_text(alloc, view, puts_random)?;
     let owner = owner_text(alloc, view.owner)?;
     let came_in = view.input_level;
     let granted = view.granted;
@@ -54,9 +57,16 @@ fn add_link(
     text.push_str(line.as_str())
 }
 
-/// What an input does with its next token.
-fn phase_text(alloc: Global, view: &LinkView) -> Result<String, AllocError> {
+/// What an input does with its next token, which may put a random header before a packet.
+fn phase_text(
+    alloc: Global,
+    view: &LinkView,
+    puts_random: bool,
+) -> Result<String, AllocError> {
     match &view.phase {
+        Phase::Fresh if puts_random => {
+            format!(in alloc; "waits for a packet, before which it puts a random header")
+        }
         Phase::Fresh => format!(in alloc; "waits for a packet"),
         Phase::Head(_) => format!(in alloc; "reads a header"),
         Phase::Want(header, link) => {

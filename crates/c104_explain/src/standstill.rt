@@ -37,7 +37,7 @@ fn standstill_text(
     Ok(text)
 }
 
-/// How many tokens were sent and haven't arrived.
+/// How many tokens were sent and haven't arrived, and with them those of random headers that inputs put before packets.
 fn waiting_tokens(net: &TracedNet) -> usize {
     let mut tokens = 0usize;
     for switch in 0..net.plan().switches().len() {
