@@ -10,6 +10,8 @@ use Rattle.c104_describe.specs.PlanPrint.{port_text, select_text, terminal_name}
 use Rattle.c104_check.specs.Mends.{IsMisstepOf, NoMend, NoMisstepOf, TellsNoRefusal}
 use Rattle.c104_check.specs.Routes.{Routes, to_port}
 use Rattle.c104_check.specs.Walks.{is_met, port_of}
+use Rattle.c104_check.specs.declared.walk_kinds.WalkKind.{WalkKind}
+use Rattle.c104_check.specs.declared.walk_kinds.WalkKind.TheVariants.{Own, Random, Behind}
 use Rattle.c104_check.specs.declared.faults.CheckFault.{CheckFault}
 use Rattle.c104_check.specs.declared.faults.CheckFault.TheVariants as fault
 use Rattle.c104_check.specs.declared.faults.Shown.{Shown}
@@ -21,23 +23,44 @@ abbrev pub owner_text : Plan → Option ℕ → List ℕ
 owner_text plan None = codes "nobody"
 owner_text plan (Some t) = terminal_name plan t
 
+-- what a header is whose walk is of this kind, of packets of terminal t: one of its owner, or a random one; or one of its
+-- owner behind a random one, and where that is discarded
+abbrev pub due_text : Plan → ℕ → Option ℕ → WalkKind → List ℕ
+due_text plan t owner Own = codes " belongs to " ++ (owner_text plan owner ++ codes ", but ")
+due_text plan t owner (Random p) =
+    codes " is a random one, put before packets of " ++ (terminal_name plan t ++ (codes " at " ++ (port_text plan (to_port p) ++ codes ", and by any choice of a link has to come to an input that discards it, but ")))
+due_text plan t owner (Behind q) =
+    codes " belongs to " ++ (owner_text plan owner ++ (codes ", but behind a random header of " ++ (terminal_name plan t ++ (codes ", which " ++ (port_text plan (to_port q) ++ codes " discards, ")))))
+
+-- where it isn't sent on
+abbrev pub stop_text : WalkKind → List ℕ
+stop_text Own = codes " selects no link for it"
+stop_text (Random p) = codes " neither discards it nor selects a link for it"
+stop_text (Behind q) = codes " selects no link for it"
+
+-- a terminal where it shouldn't come
+abbrev pub terminal_text : Plan → WalkKind → ℕ → List ℕ
+terminal_text plan Own t = codes " to " ++ terminal_name plan t
+terminal_text plan (Random p) t = codes " to terminal " ++ (terminal_name plan t ++ codes ", which takes packets")
+terminal_text plan (Behind q) t = codes " to " ++ terminal_name plan t
+
 -- where a link leads: to nothing, to a terminal, or to a switch, which the walk may have met
-abbrev pub end_text : Plan → List SwitchPort → Option Port → List ℕ
-end_text plan walk None = codes ", which has no wire"
-end_text plan walk (Some (port.Terminal t)) = codes " to " ++ terminal_name plan t
-end_text plan walk (Some (port.Switch s l)) =
+abbrev pub end_text : Plan → List SwitchPort → WalkKind → Option Port → List ℕ
+end_text plan walk kind None = codes ", which has no wire"
+end_text plan walk kind (Some (port.Terminal t)) = terminal_text plan kind t
+end_text plan walk kind (Some (port.Switch s l)) =
     codes " to " ++ (port_text plan (port.Switch s l) ++ (if is_met (port_of s l) walk then codes ", where it has been" else []))
 
 -- a step that leads wrong: the input, and the link by which the header may leave
-abbrev pub way_text : Plan → List SwitchPort → SwitchPort → Option ℕ → Option Port → List ℕ
-way_text plan walk p None other = port_text plan (to_port p) ++ codes " selects no link for it"
-way_text plan walk p (Some o) other =
-    port_text plan (to_port p) ++ (codes " may send it by link " ++ (decimal o ++ end_text plan walk other))
+abbrev pub way_text : Plan → List SwitchPort → WalkKind → SwitchPort → Option ℕ → Option Port → List ℕ
+way_text plan walk kind p None other = port_text plan (to_port p) ++ stop_text kind
+way_text plan walk kind p (Some o) other =
+    port_text plan (to_port p) ++ (codes " may send it by link " ++ (decimal o ++ end_text plan walk kind other))
 
 -- the sentence on a header that goes wrong, and what follows it
 abbrev pub misstep_text : Plan → Shown → Misstep → List ℕ → List ℕ
 misstep_text plan shown step more =
-    codes "header " ++ (decimal shown.header ++ (codes " belongs to " ++ (owner_text plan step.owner ++ (codes ", but " ++ (way_text plan shown.walk step.at step.link step.peer ++ (codes "\n" ++ more))))))
+    codes "header " ++ (decimal shown.header ++ (due_text plan shown.entry step.owner step.kind ++ (way_text plan shown.walk step.kind step.at step.link step.peer ++ (codes "\n" ++ more))))
 
 -- the line of a row, after a word that says what is to be done with it
 abbrev pub row_text : List ℕ → Plan → SwitchPort → ℕ → Select → List ℕ
@@ -60,4 +83,5 @@ IsAdvice plan routes (fault.RangesOverlap t u) text = ⊤
 IsAdvice plan routes (fault.LabelTooLarge t) text = ⊤
 IsAdvice plan routes (fault.MixedHeaders p) text = ⊤
 IsAdvice plan routes (fault.DeleteInside p) text = ⊤
+IsAdvice plan routes (fault.RandomInside p) text = ⊤
 IsAdvice plan routes fault.NoMemory text = text ≡ []

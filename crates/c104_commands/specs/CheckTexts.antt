@@ -29,6 +29,7 @@ check_fault_place plan (fault.RangesOverlap t u) = terminal_name plan t ++ (code
 check_fault_place plan (fault.LabelTooLarge t) = terminal_name plan t
 check_fault_place plan (fault.MixedHeaders p) = port_text plan (to_port p)
 check_fault_place plan (fault.DeleteInside p) = port_text plan (to_port p)
+check_fault_place plan (fault.RandomInside p) = port_text plan (to_port p)
 check_fault_place plan (fault.WrongEnd shown) = shown_text plan shown
 check_fault_place plan (fault.DeadEnd shown) = shown_text plan shown
 check_fault_place plan (fault.Loop shown) = shown_text plan shown

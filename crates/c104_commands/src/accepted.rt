@@ -4,12 +4,14 @@ ghost use Rattle.std.specs.String.{string_bytes};
 ghost use Rattle.c104_check.specs.ChannelDependencies.{IsCycle};
 ghost use Rattle.c104_check.specs.Routes.{IsAccepted, routes_of};
 ghost use Rattle.c104_describe.specs.PlanImage.{Fits};
-ghost use Rattle.c104_commands.specs.CycleAdvice.{TellsOfCycle, TellsOfCycles, cycle_sentence, no_cycle_text};
+ghost use Rattle.c104_commands.specs.CycleAdvice.{TellsOfCycle, TellsOfCycles, TellsOfPlain, cycle_sentence, no_cycle_text, randomized_text};
 
 use crate::cycle_breaks::cycle_change;
 use crate::cycle_texts::cycle_text;
+use crate::texts::port_text;
 use c104_check::{
-    ChannelDependency, DependencyEdge, RanksOrCycle, channel_dependencies, find_cycle,
+    ChannelDependency, DependencyEdge, RanksOrCycle, SwitchPort, channel_dependencies, find_cycle,
+    first_randomized,
 };
 use c104_describe::{Image, Plan};
 use c104_token::NoMemory;
@@ -18,12 +20,42 @@ use std::alloc::{AllocError, Global};
 /// Tells people of accepted labels whether packets can come to be held for good, by the names of the plan: a line
 /// that they can't, since there is no cycle of channel dependencies; or lines that say that they can, and by which
 /// cycle, and then those that break it, if one row was found that does. These are `replace: LINE` and then `by: LINE`,
-/// once or more. It fails only when out of memory.
+/// once or more. Where random headers are put before packets it isn't known, and a line says that. It fails only when
+/// out of memory.
 pub fn cycle_advice(alloc: Global, plan: &Plan, image: &Image) -> Result<String, NoMemory>
     requires fits { Fits image.now plan.now }
     requires accepted { IsAccepted (routes_of plan.now image.now) }
     ensures { IfOk result (λ text.
         TellsOfCycles plan.now (routes_of plan.now image.now) (string_bytes text)) }
+{
+    match first_randomized(alloc, plan, image)? {
+        Some(port) => {
+            let text = randomized_text(alloc, plan, port)?;
+            Ok(text)
+        }
+        None => {
+            let text = plain_advice(alloc, plan, image)?;
+            Ok(text)
+        }
+    }
+}
+
+/// The sentence on a network where random headers are put before packets at a port.
+fn randomized_text(alloc: Global, plan: &Plan, port: SwitchPort) -> Result<String, AllocError>
+    ensures { IfOk result (λ text. string_bytes text ≡ randomized_text plan.now port) }
+{
+    let port = port_text(alloc, plan, port)?;
+    format!(in alloc;
+        "random headers are put before packets at {port}: of such a network it isn't known whether packets can come to wait for one another for good\n"
+    )
+}
+
+/// The same of a network where none are.
+fn plain_advice(alloc: Global, plan: &Plan, image: &Image) -> Result<String, NoMemory>
+    requires fits { Fits image.now plan.now }
+    requires accepted { IsAccepted (routes_of plan.now image.now) }
+    ensures { IfOk result (λ text.
+        TellsOfPlain plan.now (routes_of plan.now image.now) (string_bytes text)) }
 {
     let found = find_cycle(alloc, plan, image)?;
     match found {

@@ -4,13 +4,15 @@ ghost use Rattle.std.specs.String.{string_bytes};
 ghost use Rattle.c104_check.specs.Mends.{NoMend};
 ghost use Rattle.c104_check.specs.Routes.{routes_of};
 ghost use Rattle.c104_check.specs.Walks.{is_met};
-ghost use Rattle.c104_commands.specs.Advice.{IsAdvice, TellsStep, end_text, misstep_text, owner_text, way_text};
+ghost use Rattle.c104_commands.specs.Advice.{IsAdvice, TellsStep, due_text, end_text, misstep_text, owner_text, stop_text, terminal_text, way_text};
 ghost use Rattle.c104_describe.specs.PlanImage.{Fits};
 
-use crate::mending::{range_change, row_change};
+use crate::discarding::discarding_rows;
+use crate::mending::{mended, range_change, row_change};
 use crate::texts::{port_text, terminal_name};
-use c104_check::{CheckFault, Misstep, Shown, SwitchPort, find_mend, find_misstep};
+use c104_check::{CheckFault, Mend, Misstep, Shown, SwitchPort, WalkKind, find_mend, find_misstep};
 use c104_describe::{Image, Plan, Port};
+use c104_interval::Select;
 use c104_token::NoMemory;
 use std::alloc::{AllocError, Global};
 
@@ -20,7 +22,8 @@ use std::alloc::{AllocError, Global};
 /// once or more.
 ///
 /// What mends a fault of a walk is a select of the last of its inputs from which some group leads the header to
-/// its owner; where the ranges of two terminals meet or a label is no header it is another range. No line is
+/// its owner; of a random header it is a row that discards it at an input of its walk, where with that row the labels
+/// are accepted; where the ranges of two terminals meet or a label is no header it is another range. No line is
 /// given where there is none such, or where an input would have more than 36 rows. Of want of memory nothing is
 /// told. It fails only when out of memory.
 pub fn check_advice(
@@ -40,6 +43,7 @@ pub fn check_advice(
         CheckFault::LabelTooLarge(terminal) => large_advice(alloc, plan, *terminal),
         CheckFault::MixedHeaders(port) => mixed_advice(alloc, plan, *port),
         CheckFault::DeleteInside(port) => delete_advice(alloc, plan, *port),
+        CheckFault::RandomInside(port) => random_advice(alloc, plan, *port),
         CheckFault::WrongEnd(shown) => walk_advice(alloc, plan, image, fault, shown),
         CheckFault::DeadEnd(shown) => walk_advice(alloc, plan, image, fault, shown),
         CheckFault::Loop(shown) => walk_advice(alloc, plan, image, fault, shown),
@@ -95,6 +99,16 @@ fn delete_advice(alloc: Global, plan: &Plan, port: SwitchPort) -> Result<String,
     Ok(text)
 }
 
+/// A link that isn't a terminal's puts random headers before packets.
+fn random_advice(alloc: Global, plan: &Plan, port: SwitchPort) -> Result<String, NoMemory> {
+    let port = port_text(alloc, plan, port)?;
+    let port = port.as_str();
+    let text = format!(in alloc;
+        "no terminal is on {port}, but random headers are put before packets there\n"
+    )?;
+    Ok(text)
+}
+
 /// A header goes wrong.
 fn walk_advice(
     alloc: Global,
@@ -110,23 +124,47 @@ fn walk_advice(
     let Some(step) = find_misstep(alloc, plan, image, fault)? else {
         return Ok(String::new(alloc));
     };
-    let change = walk_change(alloc, plan, image, shown)?;
+    let change = walk_change(alloc, plan, image, shown, step.kind)?;
     let text = misstep_text(alloc, plan, shown, step, change.as_str())?;
     Ok(text)
 }
 
-/// The lines that mend a walk, if some do.
-fn walk_change(alloc: Global, plan: &Plan, image: &Image, shown: &Shown) -> Result<String, NoMemory>
+/// The lines that mend a walk of this kind, if some do.
+fn walk_change(
+    alloc: Global,
+    plan: &Plan,
+    image: &Image,
+    shown: &Shown,
+    kind: WalkKind,
+) -> Result<String, NoMemory>
     requires { Fits image.now plan.now }
     ensures { IfOk result (λ text.
         NoMend (routes_of plan.now image.now) shown.now → string_bytes text ≡ []) }
 {
     match find_mend(alloc, plan, image, shown)? {
         Some(mend) => {
-            let change = row_change(alloc, plan, shown.header, mend)?;
+            let change = mend_text(alloc, plan, shown, kind, mend)?;
             Ok(change)
         }
         None => Ok(String::new(alloc)),
+    }
+}
+
+/// The lines by which a header selects what mends its walk. Whether a random one may be discarded hangs on what
+/// becomes there of others, so that is tried.
+fn mend_text(
+    alloc: Global,
+    plan: &Plan,
+    shown: &Shown,
+    kind: WalkKind,
+    mend: Mend,
+) -> Result<String, NoMemory> {
+    match mend.select {
+        Select::Discard => discarding_rows(alloc, plan, shown),
+        Select::Link(_) | Select::Sink => {
+            let text = row_change(alloc, plan, mended(plan, shown.header, kind, mend))?;
+            Ok(text)
+        }
     }
 }
 
@@ -142,9 +180,38 @@ fn misstep_text(
         string_bytes text ≡ misstep_text plan.now shown.now step change.now) }
 {
     let header = shown.header;
-    let owner = owner_text(plan, step.owner);
+    let due = due_text(alloc, plan, shown.entry, step.owner, step.kind)?;
     let way = way_text(alloc, plan, shown, step)?;
-    format!(in alloc; "header {header} belongs to {owner}, but {way}\n{change}")
+    format!(in alloc; "header {header}{due}{way}\n{change}")
+}
+
+/// What a header is of a terminal's packets, by the kind of its walk.
+fn due_text(
+    alloc: Global,
+    plan: &Plan,
+    terminal: usize,
+    owner: Option<usize>,
+    kind: WalkKind,
+) -> Result<String, AllocError>
+    ensures { IfOk result (λ text. string_bytes text ≡ due_text plan.now terminal owner kind) }
+{
+    let name = terminal_name(plan, terminal);
+    let owner = owner_text(plan, owner);
+    match kind {
+        WalkKind::Own => format!(in alloc; " belongs to {owner}, but "),
+        WalkKind::Random(input) => {
+            let input = port_text(alloc, plan, input)?;
+            format!(in alloc;
+                " is a random one, put before packets of {name} at {input}, and by any choice of a link has to come to an input that discards it, but "
+            )
+        }
+        WalkKind::Behind(portal) => {
+            let portal = port_text(alloc, plan, portal)?;
+            format!(in alloc;
+                " belongs to {owner}, but behind a random header of {name}, which {portal} discards, "
+            )
+        }
+    }
 }
 
 /// The owner of a header.
@@ -160,15 +227,28 @@ fn owner_text(plan: &Plan, owner: Option<usize>) -> &str
 /// A step that leads wrong.
 fn way_text(alloc: Global, plan: &Plan, shown: &Shown, step: Misstep) -> Result<String, AllocError>
     ensures { IfOk result (λ text.
-        string_bytes text ≡ way_text plan.now shown.now.walk step.at step.link step.peer) }
+        string_bytes text ≡ way_text plan.now shown.now.walk step.kind step.at step.link step.peer) }
 {
     let at = port_text(alloc, plan, step.at)?;
     match step.link {
-        None => format!(in alloc; "{at} selects no link for it"),
+        None => {
+            let stop = stop_text(step.kind);
+            format!(in alloc; "{at}{stop}")
+        }
         Some(link) => {
-            let end = end_text(alloc, plan, shown.walk.as_slice(), step.peer)?;
+            let end = end_text(alloc, plan, shown.walk.as_slice(), step.kind, step.peer)?;
             format!(in alloc; "{at} may send it by link {link}{end}")
         }
+    }
+}
+
+/// Where a header isn't sent on, by the kind of its walk.
+fn stop_text(kind: WalkKind) -> &'static str
+    ensures { result.now ≡ stop_text kind }
+{
+    match kind {
+        WalkKind::Random(_) => " neither discards it nor selects a link for it",
+        WalkKind::Own | WalkKind::Behind(_) => " selects no link for it",
     }
 }
 
@@ -177,16 +257,14 @@ fn end_text(
     alloc: Global,
     plan: &Plan,
     walk: &[SwitchPort],
+    kind: WalkKind,
     peer: Option<Port>,
 ) -> Result<String, AllocError>
-    ensures { IfOk result (λ text. string_bytes text ≡ end_text plan.now walk.now peer) }
+    ensures { IfOk result (λ text. string_bytes text ≡ end_text plan.now walk.now kind peer) }
 {
     match peer {
         None => format!(in alloc; ", which has no wire"),
-        Some(Port::Terminal(terminal)) => {
-            let name = terminal_name(plan, terminal);
-            format!(in alloc; " to {name}")
-        }
+        Some(Port::Terminal(terminal)) => terminal_text(alloc, plan, kind, terminal),
         Some(Port::Switch(switch, link)) => {
             let port = SwitchPort { switch, link };
             let name = port_text(alloc, plan, port)?;
@@ -196,6 +274,22 @@ fn end_text(
                 format!(in alloc; " to {name}")
             }
         }
+    }
+}
+
+/// A terminal to which a link leads, and where a header shouldn't come, by the kind of its walk.
+fn terminal_text(
+    alloc: Global,
+    plan: &Plan,
+    kind: WalkKind,
+    terminal: usize,
+) -> Result<String, AllocError>
+    ensures { IfOk result (λ text. string_bytes text ≡ terminal_text plan.now kind terminal) }
+{
+    let name = terminal_name(plan, terminal);
+    match kind {
+        WalkKind::Random(_) => format!(in alloc; " to terminal {name}, which takes packets"),
+        WalkKind::Own | WalkKind::Behind(_) => format!(in alloc; " to {name}"),
     }
 }
 

@@ -24,6 +24,7 @@ mod cycle_breaks;
 mod cycle_texts;
 mod cycles;
 mod debugging;
+mod discarding;
 mod draws;
 mod images;
 mod labels;
@@ -33,6 +34,7 @@ mod runs;
 mod setups;
 mod status;
 mod texts;
+mod trials;
 
 pub use accepted::cycle_advice;
 pub use advice::check_advice;

@@ -40,6 +40,7 @@ fn place_text(alloc: Global, plan: &Plan, fault: &CheckFault) -> Result<String, 
         }
         CheckFault::MixedHeaders(port) => port_text(alloc, plan, *port),
         CheckFault::DeleteInside(port) => port_text(alloc, plan, *port),
+        CheckFault::RandomInside(port) => port_text(alloc, plan, *port),
         CheckFault::WrongEnd(shown) => shown_text(alloc, plan, shown),
         CheckFault::DeadEnd(shown) => shown_text(alloc, plan, shown),
         CheckFault::Loop(shown) => shown_text(alloc, plan, shown),
