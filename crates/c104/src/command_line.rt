@@ -71,8 +71,10 @@ changes nothing.";
 const TEACHING_CHECK: &str =
     "The labels of a terminal are the headers that are to come to it, from every
 terminal and by any choice of a link in a group; a header that is no label is to
-be dropped where it comes in. Prints `accepted`, or the first fault, with the
-header, the terminal that it comes from, and the inputs on its way.
+be dropped where it comes in. A random header, which an input puts before a packet,
+is to come to an input that discards it, and the packet goes on from there. Prints
+`accepted`, or the first fault, with the header, the terminal that it comes from, and
+the inputs on its way.
 
 On a terminal, or under --explain, standard error says where the header goes wrong
 and, where some rows or labels do, which lines of the description mend it; and of
@@ -85,7 +87,9 @@ inputs depend on one another in a cycle, `rounds` brings each packet with a whol
 header to its terminal, unless that is full or a trace is; where they do, packets can
 come to wait for one another for good. Prints `acyclic`, or `cycle` and its inputs,
 each with a header by which it depends on the next, the last on the first, and ends
-with exit status 1. Labels that check refuses are answered as there.
+with exit status 1. Labels that check refuses are answered as there. Where inputs put
+random headers before packets, what is printed says nothing of whether packets wait:
+only the ways of labels from the terminals on are looked at.
 
 With --all each dependency stands before, on a line of its own.";
 
