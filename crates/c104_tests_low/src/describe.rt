@@ -55,6 +55,16 @@ fn prints_lines(rt: HostRuntime) {
     assert!(rt; prints(rt.alloc(), text, expected));
 }
 
+/// So are two-byte headers and random ones, with the rows that discard them.
+#[test]
+fn prints_random_headers(rt: HostRuntime) {
+    let text = b"switch A\nrandom A.0 300 2\nrow A.0 300 0\nrow A.0 302 discard\n\
+        terminal a A.0 labels 300\nheader 2\n";
+    let expected = "header 2\nbuffer 16\nswitch A\nterminal a A.0 labels 300 from 0\n\
+        row A.0 300 0\nrow A.0 302 discard\nrandom A.0 300 2\n";
+    assert!(rt; prints(rt.alloc(), text, expected));
+}
+
 /// A plan that a labeller labels is printed without what it gives.
 #[test]
 fn prints_a_tree(rt: HostRuntime) {

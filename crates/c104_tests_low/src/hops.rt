@@ -135,9 +135,10 @@ fn over_a_cube(rt: HostRuntime) {
     assert!(rt; goes(rt.alloc(), CUBE, (3, 3), 3, [(3, 3)].as_slice()));
 }
 
-/// Labels are accepted where there is memory for it, also where headers are deleted at terminals.
+/// Labels are accepted where there is memory for it, also where headers are deleted at terminals, and where they have
+/// two bytes.
 #[test]
 fn accepted(rt: HostRuntime) {
     assert!(rt; accepts(rt.alloc(), b"mesh 3 2 1\ndelete t5\nbuffer 64\n", true));
-    assert!(rt; accepts(rt.alloc(), b"cube 3 2\ndelete t0\ndelete t15\n", false));
+    assert!(rt; accepts(rt.alloc(), b"cube 3 2\ndelete t15\nheader 2\n", false));
 }

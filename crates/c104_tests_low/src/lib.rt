@@ -9,6 +9,8 @@
 #[cfg(test)]
 mod calls;
 #[cfg(test)]
+mod check;
+#[cfg(test)]
 mod control;
 #[cfg(test)]
 mod crossbar;

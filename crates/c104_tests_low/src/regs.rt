@@ -5,15 +5,17 @@ fn settable(addr: u16, value: u32) -> Result<(), RegFault> {
     Registers::settable(addr, value)
 }
 
-/// Two-byte headers, random headers and discarding can't be set. Deleting headers and continuing a
-/// group can.
+/// A mode has four bits: two-byte headers, deleting headers, random headers and continuing a group.
+/// A row may select a link, discarding or the sink.
 #[test]
 fn values(rt: HostRuntime) {
     for (addr, value, answer) in [
-        (0x0100, 1, Err(RegFault::OutOfRange)),
-        (0x0100, 4, Err(RegFault::OutOfRange)),
-        (0x0180, 32, Err(RegFault::OutOfRange)),
-        (0x0100, 10, Ok(())),
+        (0x0100, 1, Ok(())),
+        (0x0100, 15, Ok(())),
+        (0x0100, 16, Err(RegFault::OutOfRange)),
+        (0x0180, 32, Ok(())),
+        (0x0180, 33, Err(RegFault::OutOfRange)),
+        (0x0180, 64, Ok(())),
     ] {
         assert!(rt; settable(addr, value) == answer, "{value}");
     }

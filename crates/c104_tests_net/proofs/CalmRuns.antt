@@ -1,5 +1,5 @@
 -- In a run whose traces tell of no change nobody changed the network, so its switches end as they started.
-use Rattle.c104_check.specs.Routes.{IsAccepted, routes_of, settings_at, settings_in}
+use Rattle.c104_check.specs.Routes.{IsAccepted, Routes, routes_of, settings_at, settings_in}
 use Rattle.c104_describe.specs.PlanImage.{Image}
 use Rattle.c104_describe.specs.Plans.{IsPlan, Plan}
 use Rattle.c104_event.specs.declared.events.Event.{Event}
@@ -45,64 +45,65 @@ use Rattle.c104_net.specs.declared.starts.NodeStart.TheVariants as start
 use Rattle.c104_switch.specs.declared.actions.ActionOf.TheVariants as action
 
 -- an event whose entry is calm
-was_calm : (plan : Plan) (ticket : ℕ) (e : Event) (r : Reply) (es : List Deed) → IsTold plan e r → All IsCalmEntry (at_node (event_place plan e) (event_deeds (is_switch_place plan) plan ticket e r ++ es)) → IsCalmDone e r
-was_calm plan ticket (event.Cross p) r es told all = tt
-was_calm plan ticket (event.Credit p) r es told all = tt
-was_calm plan ticket (event.Input s l word) r es told all = tt
-was_calm plan ticket (event.Claim s i o) r es told all = tt
-was_calm plan ticket (event.Control s bytes) r es told all = lone_is IsCalmEntry ticket s (act.Step (action.Control bytes)) r es told all
-was_calm plan ticket (event.Send t p) r es told all = lone_is IsCalmEntry ticket _ (act.Send p) r es told all
-was_calm plan ticket (event.Drain t) r es told all = tt
+was_calm : (routes : Routes) (plan : Plan) (ticket : ℕ) (e : Event) (r : Reply) (es : List Deed) → IsTold plan e r → All (IsCalmEntry routes) (at_node (event_place plan e) (event_deeds (is_switch_place plan) plan ticket e r ++ es)) → IsCalmDone routes e r
+was_calm routes plan ticket (event.Cross p) r es told all = tt
+was_calm routes plan ticket (event.Credit p) r es told all = tt
+was_calm routes plan ticket (event.Input s l word) r es told all = tt
+was_calm routes plan ticket (event.Claim s i o) r es told all = tt
+was_calm routes plan ticket (event.Control s bytes) r es told all = lone_is (IsCalmEntry routes) ticket s (act.Step (action.Control bytes)) r es told all
+was_calm routes plan ticket (event.Send t p) r es told all = lone_is (IsCalmEntry routes) ticket _ (act.Send p) r es told all
+was_calm routes plan ticket (event.Drain t) r es told all = tt
 
-may_happen : (e : Event) (r : Reply) → IsCalmDone e r → MayHappen e r
-may_happen (event.Cross p) r calm = tt
-may_happen (event.Credit p) r calm = tt
-may_happen (event.Input s l word) r calm = tt
-may_happen (event.Claim s i o) r calm = tt
-may_happen (event.Control s bytes) r calm = calm
-may_happen (event.Send t p) r calm = tt
-may_happen (event.Drain t) r calm = tt
+-- such an event may happen
+may_happen : (routes : Routes) (e : Event) (r : Reply) → IsCalmDone routes e r → MayHappen routes e r
+may_happen routes (event.Cross p) r calm = tt
+may_happen routes (event.Credit p) r calm = tt
+may_happen routes (event.Input s l word) r calm = tt
+may_happen routes (event.Claim s i o) r calm = tt
+may_happen routes (event.Control s bytes) r calm = calm
+may_happen routes (event.Send t p) r calm = λ q entry random has header. calm.1 has header
+may_happen routes (event.Drain t) r calm = tt
 
-sends_bytes : (e : Event) (r : Reply) → IsCalmDone e r → SendsBytes e
-sends_bytes (event.Cross p) r calm = tt
-sends_bytes (event.Credit p) r calm = tt
-sends_bytes (event.Input s l word) r calm = tt
-sends_bytes (event.Claim s i o) r calm = tt
-sends_bytes (event.Control s bytes) r calm = tt
-sends_bytes (event.Send t p) r calm = calm
-sends_bytes (event.Drain t) r calm = tt
+sends_bytes : (routes : Routes) (e : Event) (r : Reply) → IsCalmDone routes e r → SendsBytes e
+sends_bytes routes (event.Cross p) r calm = tt
+sends_bytes routes (event.Credit p) r calm = tt
+sends_bytes routes (event.Input s l word) r calm = tt
+sends_bytes routes (event.Claim s i o) r calm = tt
+sends_bytes routes (event.Control s bytes) r calm = tt
+sends_bytes routes (event.Send t p) r calm = calm.0
+sends_bytes routes (event.Drain t) r calm = tt
 
-abbrev AreCalm : List (Event × Reply) → Type 0
-AreCalm events = AllByRecursion (λ (e : Event × Reply). IsCalmDone e.0 e.1) events
+abbrev AreCalm : Routes → List (Event × Reply) → Type 0
+AreCalm routes events = AllByRecursion (λ (e : Event × Reply). IsCalmDone routes e.0 e.1) events
 
-unchanged_all : (events : List (Event × Reply)) → AreCalm events → IsUnchanged events
-unchanged_all [] each = tt
-unchanged_all (e ∷ events) each = (may_happen e.0 e.1 each.0, unchanged_all events each.1)
+unchanged_all : (routes : Routes) (events : List (Event × Reply)) → AreCalm routes events → IsUnchanged routes events
+unchanged_all routes [] each = tt
+unchanged_all routes (e ∷ events) each = (may_happen routes e.0 e.1 each.0, unchanged_all routes events each.1)
 
-bytes_all : (events : List (Event × Reply)) → AreCalm events → AreBytesSent events
-bytes_all [] each = tt
-bytes_all (e ∷ events) each = (sends_bytes e.0 e.1 each.0, bytes_all events each.1)
+bytes_all : (routes : Routes) (events : List (Event × Reply)) → AreCalm routes events → AreBytesSent events
+bytes_all routes [] each = tt
+bytes_all routes (e ∷ events) each = (sends_bytes routes e.0 e.1 each.0, bytes_all routes events each.1)
 
-module _ (plan : Plan) (starts : List NodeStart) (nodes : List (Node Token)) (traces : List (List Entry)) (count : ℕ) (events : List (Event × Reply)) (placed : AreInPlace {A = Token} plan (map start_node starts)) (calm : All IsCalmTrace traces) (told : IsRunRecord plain_kind plan (map start_node starts) nodes traces count events) where
+module _ (routes : Routes) (plan : Plan) (starts : List NodeStart) (nodes : List (Node Token)) (traces : List (List Entry)) (count : ℕ) (events : List (Event × Reply)) (placed : AreInPlace {A = Token} plan (map start_node starts)) (calm : All (IsCalmTrace routes) traces) (told : IsRunRecord plain_kind plan (map start_node starts) nodes traces count events) where
   -- the events of a run whose nodes did nothing that changes a register
-  calm_run : AreCalm events
-  calm_run = all_events IsCalmEntry plan (λ (e : Event × Reply). IsCalmDone e.0 e.1) (was_calm plan) (map start_node starts) nodes traces count events placed told (λ k trace at. All-place IsCalmTrace traces k trace at calm)
+  calm_run : AreCalm routes events
+  calm_run = all_events (IsCalmEntry routes) plan (λ (e : Event × Reply). IsCalmDone routes e.0 e.1) (was_calm routes plan) (map start_node starts) nodes traces count events placed told (λ k trace at. All-place (IsCalmTrace routes) traces k trace at calm)
 
-  pub unchanged : IsUnchanged events
-  unchanged = unchanged_all events calm_run
+  pub unchanged : IsUnchanged routes events
+  unchanged = unchanged_all routes events calm_run
 
   bytes_sent : AreBytesSent events
-  bytes_sent = bytes_all events calm_run
+  bytes_sent = bytes_all routes events calm_run
 
 module _ (plan : Plan) (image : Image) (is_plan : IsPlan plan) (accepted : IsAccepted (routes_of plan image)) where
   -- where such a run ended each switch is set as it was
-  still_set : (first : List NodeStart) (nodes : List (Node Token)) (traces : List (List Entry)) (count : ℕ) (events : List (Event × Reply)) → AreStartsOf plan image first → All IsCalmTrace traces → IsRunRecord plain_kind plan (map start_node first) nodes traces count events → (k : ℕ) (s : Switch Token) → slice_get nodes k ≡ Some (node.Switch s) → s.settings ≡ settings_in image.settings k
+  still_set : (first : List NodeStart) (nodes : List (Node Token)) (traces : List (List Entry)) (count : ℕ) (events : List (Event × Reply)) → AreStartsOf plan image first → All (IsCalmTrace (routes_of plan image)) traces → IsRunRecord plain_kind plan (map start_node first) nodes traces count events → (k : ℕ) (s : Switch Token) → slice_get nodes k ≡ Some (node.Switch s) → s.settings ≡ settings_in image.settings k
   still_set first nodes traces count events are calm told k s at =
       let labelled : IsLabelled (routes_of plan image) = record { accepted = accepted; positive = header_positive plan image } in
       let traced = traced_from plan first nodes events told.run in
       let begun : List (Node Traced) = map start_node first in
-      let quiet = unchanged plan first nodes traces count events are.in_place calm told in
-      let sent = bytes_sent plan first nodes traces count events are.in_place calm told in
+      let quiet = unchanged (routes_of plan image) plan first nodes traces count events are.in_place calm told in
+      let sent = bytes_sent (routes_of plan image) plan first nodes traces count events are.in_place calm told in
       let ended = each plan image is_plan labelled begun (network_of plan traced.0) events traced.1.run quiet sent (starts plan image is_plan labelled begun (starts_are plan image first are)) in
       let same : ended.0 ≡ traced.0 = ap (λ (net : Network Traced). net.nodes) ended.1 in
       let there : option_map (map_node (λ (x : Traced). x.token)) (slice_get traced.0 k) ≡ Some (node.Switch s) = sym (slice_get-map (map_node (λ (x : Traced). x.token)) traced.0 k) ∙ ap (λ ns. slice_get ns k) traced.1.plain ∙ at in
@@ -135,5 +136,5 @@ module _ (plan : Plan) (image : Image) (is_plan : IsPlan plan) (accepted : IsAcc
           in_place = subst (λ p. AreInPlace {A = Token} p (map start_node (map (start_of {A = Token}) (map node_begin old.network.nodes)))) calm.same_plan begun.started.in_place;
           set = set_again old.network.nodes (still_set old.starts old.network.nodes old.traces old.count kept.told.0 calm.starts calm.traces told);
         };
-        traces = no_entries (map node_begin old.network.nodes);
+        traces = no_entries (routes_of plan image) (map node_begin old.network.nodes);
       })

@@ -21,12 +21,12 @@ use Rattle.c104_net.specs.Traces.{Deed, crediting_deeds, crossing_deeds, end_cre
 use Rattle.c104_net.specs.declared.acts.ActOf.{ActOf}
 use Rattle.c104_net.specs.declared.acts.Entry.{Entry}
 use Rattle.c104_net.specs.declared.ends.End.{End}
-use Rattle.c104_check.specs.Routes.{settings_in}
+use Rattle.c104_check.specs.Routes.{Routes, routes_of, settings_in}
 use Rattle.c104_describe.specs.Wiring.{peer}
 use Rattle.c104_regs.specs.declared.settings.Settings.{Settings}
 use Rattle.c104_switch.specs.Actions.{Reply, is_ready}
 use Rattle.c104_switch.specs.Starts.{SwitchStart}
-use Rattle.c104_tests_net.specs.CalmNets.{IsCalm, IsCalmAct, IsCalmDone, IsCalmEntry, IsCalmEvent, IsCalmTrace}
+use Rattle.c104_tests_net.specs.CalmNets.{IsCalm, IsCalmAct, IsCalmDone, IsCalmEntry, IsCalmEvent, IsCalmTrace, IsNotRandom}
 use Rattle.c104_token.specs.Kinds.{plain_kind}
 use Rattle.c104_token.specs.declared.packets.Packet.{Packet}
 use Rattle.c104_token.specs.declared.tokens.Token.{Token}
@@ -41,61 +41,62 @@ use Rattle.c104_switch.specs.declared.actions.ReplyOf.TheVariants as reply
 use Rattle.c104_describe.specs.declared.ports.Port.TheVariants as port
 
 -- an entry that joins the traces
-noted_calm : (traces : List (List Entry)) (k : ℕ) (e : Entry) → IsCalmEntry e → All IsCalmTrace traces → All IsCalmTrace (noted_at true traces k e)
-noted_calm traces k e one all = by_trace (slice_get traces k) refl
-  where
-    by_trace : (o : Option (List Entry)) → slice_get traces k ≡ o → All IsCalmTrace (noted_in true traces k e o)
-    by_trace None is = all
-    by_trace (Some trace) is = All-set IsCalmTrace traces k (trace ++ e ∷ []) (All-append IsCalmEntry trace (e ∷ []) (All-place IsCalmTrace traces k trace is all) (All-cons IsCalmEntry e [] one (All-nil IsCalmEntry))) all
+module _ (routes : Routes) where
+  noted_calm : (traces : List (List Entry)) (k : ℕ) (e : Entry) → IsCalmEntry routes e → All (IsCalmTrace routes) traces → All (IsCalmTrace routes) (noted_at true traces k e)
+  noted_calm traces k e one all = by_trace (slice_get traces k) refl
+    where
+      by_trace : (o : Option (List Entry)) → slice_get traces k ≡ o → All (IsCalmTrace routes) (noted_in true traces k e o)
+      by_trace None is = all
+      by_trace (Some trace) is = All-set (IsCalmTrace routes) traces k (trace ++ e ∷ []) (All-append (IsCalmEntry routes) trace (e ∷ []) (All-place (IsCalmTrace routes) traces k trace is all) (All-cons (IsCalmEntry routes) e [] one (All-nil (IsCalmEntry routes)))) all
 
-abbrev IsCalmDeed : Deed → Type 0
-IsCalmDeed d = IsCalmEntry d.1
+  abbrev IsCalmDeed : Deed → Type 0
+  IsCalmDeed d = IsCalmEntry routes d.1
 
-all_noted : (ds : List Deed) (traces : List (List Entry)) → AllByRecursion IsCalmDeed ds → All IsCalmTrace traces → All IsCalmTrace (noted_all true traces ds)
-all_noted [] traces each all = all
-all_noted (d ∷ ds) traces each all = all_noted ds (noted_at true traces d.0 d.1) each.1 (noted_calm traces d.0 d.1 each.0 all)
+  all_noted : (ds : List Deed) (traces : List (List Entry)) → AllByRecursion IsCalmDeed ds → All (IsCalmTrace routes) traces → All (IsCalmTrace routes) (noted_all true traces ds)
+  all_noted [] traces each all = all
+  all_noted (d ∷ ds) traces each all = all_noted ds (noted_at true traces d.0 d.1) each.1 (noted_calm traces d.0 d.1 each.0 all)
 
 -- the entries of an event
-module _ (f : ℕ → Bool) (plan : Plan) (ticket : ℕ) where
-  lone_calm : (k : ℕ) (a : ActOf Token) (r : Reply) → IsCalmAct a r → AllByRecursion IsCalmDeed (lone_deed ticket k a r)
+module _ (routes : Routes) (f : ℕ → Bool) (plan : Plan) (ticket : ℕ) where
+  lone_calm : (k : ℕ) (a : ActOf Token) (r : Reply) → IsCalmAct routes a r → AllByRecursion (IsCalmDeed routes) (lone_deed ticket k a r)
   lone_calm k a r one = by_test (is_ready r)
     where
-      by_test : (b : Bool) → AllByRecursion IsCalmDeed (if b then (k, entry_of ticket a r) ∷ [] else [])
+      by_test : (b : Bool) → AllByRecursion (IsCalmDeed routes) (if b then (k, entry_of ticket a r) ∷ [] else [])
       by_test true = (one, tt)
       by_test false = tt
 
-  leave_calm : (b : Bool) (l : ℕ) (r : Reply) → IsCalmAct (end_leave b l) r
+  leave_calm : (b : Bool) (l : ℕ) (r : Reply) → IsCalmAct routes (end_leave b l) r
   leave_calm true l r = tt
   leave_calm false l r = tt
 
-  enter_calm : (x : Token) (b : Bool) (l : ℕ) (r : Reply) → IsCalmAct (end_enter x b l) r
+  enter_calm : (x : Token) (b : Bool) (l : ℕ) (r : Reply) → IsCalmAct routes (end_enter x b l) r
   enter_calm x true l r = tt
   enter_calm x false l r = tt
 
-  out_calm : (b : Bool) (l : ℕ) (r : Reply) → IsCalmAct (end_credit_out b l) r
+  out_calm : (b : Bool) (l : ℕ) (r : Reply) → IsCalmAct routes (end_credit_out b l) r
   out_calm true l r = tt
   out_calm false l r = tt
 
-  in_calm : (b : Bool) (l : ℕ) (r : Reply) → IsCalmAct (end_credit_in b l) r
+  in_calm : (b : Bool) (l : ℕ) (r : Reply) → IsCalmAct routes (end_credit_in b l) r
   in_calm true l r = tt
   in_calm false l r = tt
 
-  crossing_calm : (from : End) (r : Reply) (o : Option Port) → AllByRecursion IsCalmDeed (part [] (λ q. crossing_deeds f ticket from (end_of plan q) r) o)
+  crossing_calm : (from : End) (r : Reply) (o : Option Port) → AllByRecursion (IsCalmDeed routes) (part [] (λ q. crossing_deeds f ticket from (end_of plan q) r) o)
   crossing_calm from r None = tt
   crossing_calm from reply.Done (Some q) = tt
   crossing_calm from reply.NotReady (Some q) = tt
   crossing_calm from (reply.Token x) (Some q) = (leave_calm (f from.node) from.link (reply.Token x), (enter_calm x (f (end_of plan q).node) (end_of plan q).link reply.Done, tt))
   crossing_calm from (reply.Control bytes) (Some q) = tt
 
-  crediting_calm : (from : End) (r : Reply) (o : Option Port) → AllByRecursion IsCalmDeed (part [] (λ q. crediting_deeds f ticket from (end_of plan q) r) o)
+  crediting_calm : (from : End) (r : Reply) (o : Option Port) → AllByRecursion (IsCalmDeed routes) (part [] (λ q. crediting_deeds f ticket from (end_of plan q) r) o)
   crediting_calm from r None = tt
   crediting_calm from r (Some q) = by_test (is_ready r)
     where
-      by_test : (b : Bool) → AllByRecursion IsCalmDeed (if b then (from.node, entry_of ticket (end_credit_out (f from.node) from.link) reply.Done) ∷ ((end_of plan q).node, entry_of ticket (end_credit_in (f (end_of plan q).node) (end_of plan q).link) reply.Done) ∷ [] else [])
+      by_test : (b : Bool) → AllByRecursion (IsCalmDeed routes) (if b then (from.node, entry_of ticket (end_credit_out (f from.node) from.link) reply.Done) ∷ ((end_of plan q).node, entry_of ticket (end_credit_in (f (end_of plan q).node) (end_of plan q).link) reply.Done) ∷ [] else [])
       by_test true = (out_calm (f from.node) from.link reply.Done, (in_calm (f (end_of plan q).node) (end_of plan q).link reply.Done, tt))
       by_test false = tt
 
-  event_calm : (e : Event) (r : Reply) → IsCalmDone e r → AllByRecursion IsCalmDeed (event_deeds f plan ticket e r)
+  event_calm : (e : Event) (r : Reply) → IsCalmDone routes e r → AllByRecursion (IsCalmDeed routes) (event_deeds f plan ticket e r)
   event_calm (event.Cross p) r may = crossing_calm (end_of plan p) r (peer plan p)
   event_calm (event.Credit p) r may = crediting_calm (end_of plan p) r (peer plan p)
   event_calm (event.Input s l word) r may = lone_calm s (act.Step (action.Input l word)) r tt
@@ -104,22 +105,25 @@ module _ (f : ℕ → Bool) (plan : Plan) (ticket : ℕ) where
   event_calm (event.Send t p) r may = lone_calm _ (act.Send p) r may
   event_calm (event.Drain t) r may = lone_calm _ act.Drain r tt
 
-  kept_calm : (e : Event) (answer : Result Reply EventFault) → IsCalmEvent e → AllByRecursion IsCalmDeed (kept_of (event_deeds f plan ticket e) answer)
+  kept_calm : (e : Event) (answer : Result Reply EventFault) → IsCalmEvent routes e → AllByRecursion (IsCalmDeed routes) (kept_of (event_deeds f plan ticket e) answer)
   kept_calm e (Ok r) calm = event_calm e r (calm r)
   kept_calm e (Err f) calm = tt
 
 module _ (plan : Plan) (image : Image) where
+  abbrev net_routes : Routes
+  net_routes = routes_of plan image
+
   -- what an event leaves
-  record_calm : (net : NetRecord) (e : Event) → IsCalmEvent e → IsCalm plan image net → IsCalm plan image (record_apply net e).1
+  record_calm : (net : NetRecord) (e : Event) → IsCalmEvent net_routes e → IsCalm plan image net → IsCalm plan image (record_apply net e).1
   record_calm net e fine calm =
       let answer : Result Reply EventFault = (unless_full (stage_full true (record_stage net) e) net.network (network_apply plain_kind net.network e)).0 in
       record {
         same_plan = record_plan net e ∙ calm.same_plan;
         starts = calm.starts;
-        traces = all_noted (kept_of (event_deeds (is_switch_at net.network.nodes) net.network.plan net.count e) answer) net.traces (kept_calm (is_switch_at net.network.nodes) net.network.plan net.count e answer fine) calm.traces;
+        traces = all_noted net_routes (kept_of (event_deeds (is_switch_at net.network.nodes) net.network.plan net.count e) answer) net.traces (kept_calm net_routes (is_switch_at net.network.nodes) net.network.plan net.count e answer fine) calm.traces;
       }
 
-  pub event_kept : (old new : NetRecord) (e : Event) (answer : Result Reply EventFault) → IsCalmEvent e → AnswersRecord old e answer new → IsCalm plan image old → IsCalm plan image new
+  pub event_kept : (old new : NetRecord) (e : Event) (answer : Result Reply EventFault) → IsCalmEvent net_routes e → AnswersRecord old e answer new → IsCalm plan image old → IsCalm plan image new
   event_kept old new e answer fine is calm =
       elim is [
         | inl due ↦ subst (IsCalm plan image) (sym (ap (λ (a : Result Reply EventFault × NetRecord). a.1) due)) (record_calm old e fine calm)
@@ -127,11 +131,11 @@ module _ (plan : Plan) (image : Image) where
       ]
 
   -- what a packet that is sent leaves
-  pub send_kept : (old new : NetRecord) (t : ℕ) (p : Packet) (answer : Result Reply EventFault) → All (λ (b : ℕ). b < 256) p.bytes → AnswersRecord old (event.Send t p) answer new → IsCalm plan image old → IsCalm plan image new
-  send_kept old new t p answer bytes is calm = event_kept old new (event.Send t p) answer (λ r. bytes) is calm
+  pub send_kept : (old new : NetRecord) (t : ℕ) (p : Packet) (answer : Result Reply EventFault) → All (λ (b : ℕ). b < 256) p.bytes → IsNotRandom net_routes p → AnswersRecord old (event.Send t p) answer new → IsCalm plan image old → IsCalm plan image new
+  send_kept old new t p answer bytes not_random is calm = event_kept old new (event.Send t p) answer (λ r. (bytes, not_random)) is calm
 
   -- what a run of such events leaves
-  run_kept : (events : List Event) (net : NetRecord) → AllByRecursion IsCalmEvent events → IsCalm plan image net → IsCalm plan image (run_events record_apply net events).1
+  run_kept : (events : List Event) (net : NetRecord) → AllByRecursion (IsCalmEvent net_routes) events → IsCalm plan image net → IsCalm plan image (run_events record_apply net events).1
   run_kept [] net each calm = calm
   run_kept (e ∷ events) net each calm = by_answer (λ next kept. run_kept events next each.1 kept) (record_apply net e).0 (record_apply net e).1 (record_calm net e each.0 calm)
     where
@@ -139,49 +143,50 @@ module _ (plan : Plan) (image : Image) where
       by_answer more (Ok r) next kept = more next kept
       by_answer more (Err f) next kept = kept
 
-  first_of : (front rest : List Event) → AllByRecursion IsCalmEvent (front ++ rest) → AllByRecursion IsCalmEvent front
+  first_of : (front rest : List Event) → AllByRecursion (IsCalmEvent net_routes) (front ++ rest) → AllByRecursion (IsCalmEvent net_routes) front
   first_of [] rest each = tt
   first_of (e ∷ front) rest each = (each.0, first_of front rest each.1)
 
-  events_kept : (old new : NetRecord) (events : List Event) (result : Result (Unit {0}) EventFault) → AllByRecursion IsCalmEvent events → EventsEnd record_apply old events result new → IsCalm plan image old → IsCalm plan image new
+  events_kept : (old new : NetRecord) (events : List Event) (result : Result (Unit {0}) EventFault) → AllByRecursion (IsCalmEvent net_routes) events → EventsEnd record_apply old events result new → IsCalm plan image old → IsCalm plan image new
   events_kept old new events result each ends calm =
       elim ends [
         | inl due ↦ subst (IsCalm plan image) (sym (ap (λ (r : Outcome NetRecord). r.1) due)) (run_kept events old each calm)
-        | inr short ↦ subst (IsCalm plan image) (ap (λ (r : Outcome NetRecord). r.1) short.stands) (run_kept short.front old (first_of short.front (short.event ∷ short.rest) (subst (AllByRecursion IsCalmEvent) short.parts each)) calm)
+        | inr short ↦ subst (IsCalm plan image) (ap (λ (r : Outcome NetRecord). r.1) short.stands) (run_kept short.front old (first_of short.front (short.event ∷ short.rest) (subst (AllByRecursion (IsCalmEvent net_routes)) short.parts each)) calm)
       ]
 
 -- the events of rounds
-of_map : {X : Type 0} (f : X → Event) (xs : List X) → ((x : X) → IsCalmEvent (f x)) → AllByRecursion IsCalmEvent (map f xs)
-of_map f [] each = tt
-of_map f (x ∷ xs) each = (each x, of_map f xs each)
+module _ (routes : Routes) where
+  of_map : {X : Type 0} (f : X → Event) (xs : List X) → ((x : X) → IsCalmEvent routes (f x)) → AllByRecursion (IsCalmEvent routes) (map f xs)
+  of_map f [] each = tt
+  of_map f (x ∷ xs) each = (each x, of_map f xs each)
 
-of_flat : {X : Type 0} (f : X → List Event) (xs : List X) → ((x : X) → AllByRecursion IsCalmEvent (f x)) → AllByRecursion IsCalmEvent (flat_map f xs)
-of_flat f [] each = tt
-of_flat f (x ∷ xs) each = each_append IsCalmEvent (f x) (flat_map f xs) (each x) (of_flat f xs each)
+  of_flat : {X : Type 0} (f : X → List Event) (xs : List X) → ((x : X) → AllByRecursion (IsCalmEvent routes) (f x)) → AllByRecursion (IsCalmEvent routes) (flat_map f xs)
+  of_flat f [] each = tt
+  of_flat f (x ∷ xs) each = each_append (IsCalmEvent routes) (f x) (flat_map f xs) (each x) (of_flat f xs each)
 
-turn_calm : (p : Port) → AllByRecursion IsCalmEvent (turn_at p)
-turn_calm (port.Switch s l) = (λ r. tt, tt)
-turn_calm (port.Terminal t) = tt
+  turn_calm : (p : Port) → AllByRecursion (IsCalmEvent routes) (turn_at p)
+  turn_calm (port.Switch s l) = (λ r. tt, tt)
+  turn_calm (port.Terminal t) = tt
 
-round_calm : (plan : Plan) → AllByRecursion IsCalmEvent (round plan)
-round_calm plan =
-    let ports : List Port = wired_ports plan in
-    let drains : AllByRecursion IsCalmEvent (all_drains (length plan.terminals)) = of_map event.Drain (range_with_len 0 (length plan.terminals)) (λ t r. tt) in
-    let claims : AllByRecursion IsCalmEvent (all_claims (length plan.switches)) = of_flat switch_claims (range_with_len 0 (length plan.switches)) (λ s. of_flat (claims_of s) link_numbers (λ i. of_map (event.Claim s i) link_numbers (λ o r. tt))) in
-    let turns : AllByRecursion IsCalmEvent (flat_map turn_at ports) = of_flat turn_at ports turn_calm in
-    let credits : AllByRecursion IsCalmEvent (map event.Credit ports) = of_map event.Credit ports (λ p r. tt) in
-    let crossings : AllByRecursion IsCalmEvent (map event.Cross ports) = of_map event.Cross ports (λ p r. tt) in
-    let moved = each_append IsCalmEvent (map event.Credit ports) (map event.Cross ports) credits crossings in
-    let turned = each_append IsCalmEvent (map event.Credit ports ++ map event.Cross ports) (flat_map turn_at ports) moved turns in
-    let claimed = each_append IsCalmEvent ((map event.Credit ports ++ map event.Cross ports) ++ flat_map turn_at ports) (all_claims (length plan.switches)) turned claims in
-    each_append IsCalmEvent (((map event.Credit ports ++ map event.Cross ports) ++ flat_map turn_at ports) ++ all_claims (length plan.switches)) (all_drains (length plan.terminals)) claimed drains
+  round_calm : (plan : Plan) → AllByRecursion (IsCalmEvent routes) (round plan)
+  round_calm plan =
+      let ports : List Port = wired_ports plan in
+      let drains : AllByRecursion (IsCalmEvent routes) (all_drains (length plan.terminals)) = of_map event.Drain (range_with_len 0 (length plan.terminals)) (λ t r. tt) in
+      let claims : AllByRecursion (IsCalmEvent routes) (all_claims (length plan.switches)) = of_flat switch_claims (range_with_len 0 (length plan.switches)) (λ s. of_flat (claims_of s) link_numbers (λ i. of_map (event.Claim s i) link_numbers (λ o r. tt))) in
+      let turns : AllByRecursion (IsCalmEvent routes) (flat_map turn_at ports) = of_flat turn_at ports turn_calm in
+      let credits : AllByRecursion (IsCalmEvent routes) (map event.Credit ports) = of_map event.Credit ports (λ p r. tt) in
+      let crossings : AllByRecursion (IsCalmEvent routes) (map event.Cross ports) = of_map event.Cross ports (λ p r. tt) in
+      let moved = each_append (IsCalmEvent routes) (map event.Credit ports) (map event.Cross ports) credits crossings in
+      let turned = each_append (IsCalmEvent routes) (map event.Credit ports ++ map event.Cross ports) (flat_map turn_at ports) moved turns in
+      let claimed = each_append (IsCalmEvent routes) ((map event.Credit ports ++ map event.Cross ports) ++ flat_map turn_at ports) (all_claims (length plan.switches)) turned claims in
+      each_append (IsCalmEvent routes) (((map event.Credit ports ++ map event.Cross ports) ++ flat_map turn_at ports) ++ all_claims (length plan.switches)) (all_drains (length plan.terminals)) claimed drains
 
-rounds_calm : (plan : Plan) (n : ℕ) → AllByRecursion IsCalmEvent (rounds plan n)
-rounds_calm plan zero = tt
-rounds_calm plan (suc n) = each_append IsCalmEvent (round plan) (rounds plan n) (round_calm plan) (rounds_calm plan n)
+  rounds_calm : (plan : Plan) (n : ℕ) → AllByRecursion (IsCalmEvent routes) (rounds plan n)
+  rounds_calm plan zero = tt
+  rounds_calm plan (suc n) = each_append (IsCalmEvent routes) (round plan) (rounds plan n) (round_calm plan) (rounds_calm plan n)
 
 pub rounds_kept : (plan : Plan) (image : Image) (old new : NetRecord) (n : ℕ) (result : Result (Unit {0}) EventFault) → RecordsRounds old n result new → IsCalm plan image old → IsCalm plan image new
-rounds_kept plan image old new n result ends calm = events_kept plan image old new (rounds old.network.plan n) result (rounds_calm old.network.plan n) ends calm
+rounds_kept plan image old new n result ends calm = events_kept plan image old new (rounds old.network.plan n) result (rounds_calm (routes_of plan image) old.network.plan n) ends calm
 
 -- a network that was placed
 no_switch : (cap : ℕ) (terminals : List Terminal) (k : ℕ) (s : SwitchStart) → slice_get (map (start_of {A = Token}) (terminal_nodes cap terminals)) k ≡ Some (start.Switch s) → ⊥
@@ -194,8 +199,8 @@ set_first cap [] terminals k s is = absurd (no_switch cap terminals k s is)
 set_first cap (x ∷ all) terminals zero s is = cc
 set_first cap (x ∷ all) terminals (suc k) s is = set_first cap all terminals k s is
 
-pub no_entries : (nodes : List (Node Token)) → All IsCalmTrace (map (λ n. []) nodes)
-no_entries nodes = All-map IsCalmTrace (λ n. []) nodes (λ i d inside. All-nil IsCalmEntry)
+pub no_entries : (routes : Routes) (nodes : List (Node Token)) → All (IsCalmTrace routes) (map (λ n. []) nodes)
+no_entries routes nodes = All-map (IsCalmTrace routes) (λ n. []) nodes (λ i d inside. All-nil (IsCalmEntry routes))
 
 pub placed_calm : (plan : Plan) (image : Image) (net : NetRecord) → net ≡ fresh_record (placed_network plan image) → IsNetRecord net → IsCalm plan image net
 placed_calm plan image net is kept =
@@ -205,5 +210,5 @@ placed_calm plan image net is kept =
         in_place = (subst IsNetRecord is kept).started.in_place;
         set = set_first plan.cap image.settings plan.terminals;
       };
-      traces = no_entries (placed_network plan image).nodes;
+      traces = no_entries (routes_of plan image) (placed_network plan image).nodes;
     })

@@ -1,4 +1,5 @@
 pub mod CalmSteps
 pub mod CalmRuns
 pub mod NamedPackets
+pub mod NotRandom
 pub mod DeliveredRuns

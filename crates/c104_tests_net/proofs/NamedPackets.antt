@@ -102,14 +102,14 @@ placed_end : (n : Network Traced) (plan : Plan) → n.plan ≡ plan → n ≡ ne
 placed_end n plan same = ap (λ p. network_of p n.nodes) same
 
 -- of a run that started as an image says, and was not changed, a terminal's list names the packets that it received
-named_here : (image : Image) (run : FinishedRecord) (lists : List (List Origin)) (t k : ℕ) → IsAccepted (routes_of run.finished.plan image) → AreStartsOf run.finished.plan image run.starts → All IsCalmTrace run.traces → AreOrigins run lists → (list : List Origin) → slice_get lists t ≡ Some list → (o : Origin) → slice_get list k ≡ Some o → IsNamed (routes_of run.finished.plan image) run t k o
+named_here : (image : Image) (run : FinishedRecord) (lists : List (List Origin)) (t k : ℕ) → IsAccepted (routes_of run.finished.plan image) → AreStartsOf run.finished.plan image run.starts → All (IsCalmTrace (routes_of run.finished.plan image)) run.traces → AreOrigins run lists → (list : List Origin) → slice_get lists t ≡ Some list → (o : Origin) → slice_get list k ≡ Some o → IsNamed (routes_of run.finished.plan image) run t k o
 named_here image run lists t k accepted starts calm are list listed o there =
     let plan : Plan = run.finished.plan in
     let routes : Routes = routes_of plan image in
     let traced : List (Node Traced) = (traced_end run).nodes in
     let ended : Network Traced = network_of plan traced in
     let end_is : traced_end run ≡ ended = placed_end (traced_end run) plan are.same_plan in
-    let quiet = unchanged plan run.starts are.nodes run.traces run.count are.events starts.in_place calm are.told in
+    let quiet = unchanged routes plan run.starts are.nodes run.traces run.count are.events starts.in_place calm are.told in
     let within : t < length lists = slice_get_within lists t list listed in
     let inside : t < length plan.terminals = (let counted = are.counted in omega (arith, within, counted)) in
     let each : slice_get lists t ≡ Some (origins_in (arrived_at ended t)) = subst (λ (n : Network Traced). slice_get lists t ≡ Some (origins_in (arrived_at n t))) end_is (are.each t inside) in
@@ -134,7 +134,7 @@ named_here image run lists t k accepted starts calm are list listed o there =
 pub named_lists : (plan : Plan) (image : Image) (net : NetRecord) (run : FinishedRecord) (lists : List (Kept Origin)) → IsAccepted (routes_of plan image) → IsCalm plan image net → run ≡ record_finish net → AreOrigins run (map (λ (list : Kept Origin). list.items) lists) → (t k : ℕ) (list : Kept Origin) (o : Origin) → slice_get lists t ≡ Some list → slice_get list.items k ≡ Some o → IsNamed (routes_of plan image) (record_finish net) t k o
 named_lists plan image net run lists accepted calm is are t k list o listed there =
     subst (λ p. IsNamed (routes_of p image) (record_finish net) t k o) calm.same_plan
-    (named_here image (record_finish net) (map (λ (l : Kept Origin). l.items) lists) t k (subst (λ p. IsAccepted (routes_of p image)) (sym calm.same_plan) accepted) (subst (λ p. AreStartsOf p image net.starts) (sym calm.same_plan) calm.starts) calm.traces
+    (named_here image (record_finish net) (map (λ (l : Kept Origin). l.items) lists) t k (subst (λ p. IsAccepted (routes_of p image)) (sym calm.same_plan) accepted) (subst (λ p. AreStartsOf p image net.starts) (sym calm.same_plan) calm.starts) (subst (λ p. All (IsCalmTrace (routes_of p image)) net.traces) (sym calm.same_plan) calm.traces)
     (subst (λ (r : FinishedRecord). AreOrigins r (map (λ (l : Kept Origin). l.items) lists)) is are) list.items (slice_get-map (λ (l : Kept Origin). l.items) lists t ∙ ap (option_map (λ (l : Kept Origin). l.items)) listed) o there)
 
 -- the same of the lists as they are given back, or of none

@@ -1,17 +1,18 @@
 -- Networks that started as an image says and that nobody changed since, and what is then known of a received packet.
+--     IsNotRandom routes p      the header that a packet begins with is no random one
 --     IsCalm plan image net      what such a network keeps
 --     IsListed lists t k o       an origin stands at a place of a terminal's list
 --     IsNamed routes run t k o     one received packet is that of an origin
 use Rattle.std.specs.Global.{Vec as Kept}
-use Rattle.std.specs.Prelude.{ℕ, ◌<◌, ◌≡◌, All, List, Some, [], drop, slice_get}
-use Rattle.c104_check.specs.Routes.{IsAccepted, Routes, owner, routes_of}
+use Rattle.std.specs.Prelude.{ℕ, ◌<◌, ◌≡◌, All, List, Some, [], drop, slice_get, true}
+use Rattle.c104_check.specs.Routes.{IsAccepted, IsRandomIn, Routes, has_label, owner, routes_of}
 use Rattle.c104_describe.specs.PlanImage.{Image}
 use Rattle.c104_describe.specs.Plans.{Plan}
 use Rattle.c104_describe.specs.declared.ports.Port.TheVariants as port
 use Rattle.c104_event.specs.declared.events.Event.{Event}
 use Rattle.c104_event.specs.declared.events.Event.TheVariants as event
 use Rattle.c104_label.specs.Images.{IsImageOf}
-use Rattle.c104_net.specs.Deliveries.{arrived_at, cut_at, header_of, sent_at}
+use Rattle.c104_net.specs.Deliveries.{arrived_at, cut_at, has_header, header_of, sent_at}
 use Rattle.c104_net.specs.Finished.{network_finish}
 use Rattle.c104_net.specs.FinishedRecords.{FinishedRecord}
 use Rattle.c104_net.specs.NetRecords.{NetRecord}
@@ -29,20 +30,29 @@ use Rattle.c104_token.specs.Kinds.{plain_kind}
 use Rattle.c104_token.specs.declared.packets.Packet.{Packet}
 use Rattle.c104_token.specs.declared.tokens.Token.{Token}
 
--- an event that was answered so, and left registers as they were. What it sends is bytes: where a further run begins,
--- the packets of the run before it are followed by this.
-abbrev pub IsCalmDone : Event → Reply → Type 0
-IsCalmDone (event.Send t p) r = All (λ (b : ℕ). b < 256) p.bytes
-IsCalmDone (event.Control s bytes) r = IsHarmless bytes r
-IsCalmDone (event.Cross p) r = Unit {0}
-IsCalmDone (event.Credit p) r = Unit {0}
-IsCalmDone (event.Input s l word) r = Unit {0}
-IsCalmDone (event.Claim s i o) r = Unit {0}
-IsCalmDone (event.Drain t) r = Unit {0}
+-- the header that a packet begins with, where that is whole, is no random one of the network
+abbrev pub IsNotRandom : Routes → Packet → Type 0
+IsNotRandom routes p = has_header routes p ≡ true → IsRandomIn routes (header_of routes p) → ⊥
+
+-- a terminal of an image has this label
+abbrev pub HasLabel : Image → ℕ → ℕ → Type 0
+HasLabel image t label = (range : ℕ × ℕ) × (slice_get image.ranges t ≡ Some range) × (has_label range label ≡ true)
+
+-- an event that was answered so, and left registers as they were. What it sends is bytes, since where a further run
+-- begins, the packets of the run before it are followed by this; and it may be sent by any terminal, since a node's
+-- trace doesn't tell whose it is.
+abbrev pub IsCalmDone : Routes → Event → Reply → Type 0
+IsCalmDone routes (event.Send t p) r = All (λ (b : ℕ). b < 256) p.bytes × IsNotRandom routes p
+IsCalmDone routes (event.Control s bytes) r = IsHarmless bytes r
+IsCalmDone routes (event.Cross p) r = Unit {0}
+IsCalmDone routes (event.Credit p) r = Unit {0}
+IsCalmDone routes (event.Input s l word) r = Unit {0}
+IsCalmDone routes (event.Claim s i o) r = Unit {0}
+IsCalmDone routes (event.Drain t) r = Unit {0}
 
 -- the same, whatever is answered
-abbrev pub IsCalmEvent : Event → Type 0
-IsCalmEvent e = (r : Reply) → IsCalmDone e r
+abbrev pub IsCalmEvent : Routes → Event → Type 0
+IsCalmEvent routes e = (r : Reply) → IsCalmDone routes e r
 
 -- an act that was answered so, and left registers as they were
 abbrev pub IsCalmAction : Action → Reply → Type 0
@@ -54,26 +64,27 @@ IsCalmAction (action.Input l word) r = Unit {0}
 IsCalmAction (action.Claim i o) r = Unit {0}
 IsCalmAction (action.Control bytes) r = IsHarmless bytes r
 
-abbrev pub IsCalmAct : ActOf Token → Reply → Type 0
-IsCalmAct (act.Step a) r = IsCalmAction a r
-IsCalmAct (act.Send p) r = All (λ (b : ℕ). b < 256) p.bytes
-IsCalmAct act.Drain r = Unit {0}
-IsCalmAct act.Leave r = Unit {0}
-IsCalmAct (act.Enter x) r = Unit {0}
-IsCalmAct act.CreditOut r = Unit {0}
-IsCalmAct act.CreditIn r = Unit {0}
+abbrev pub IsCalmAct : Routes → ActOf Token → Reply → Type 0
+IsCalmAct routes (act.Step a) r = IsCalmAction a r
+IsCalmAct routes (act.Send p) r = All (λ (b : ℕ). b < 256) p.bytes × IsNotRandom routes p
+IsCalmAct routes act.Drain r = Unit {0}
+IsCalmAct routes act.Leave r = Unit {0}
+IsCalmAct routes (act.Enter x) r = Unit {0}
+IsCalmAct routes act.CreditOut r = Unit {0}
+IsCalmAct routes act.CreditIn r = Unit {0}
 
-abbrev pub IsCalmEntry : Entry → Type 0
-IsCalmEntry e = IsCalmAct e.act e.reply
+abbrev pub IsCalmEntry : Routes → Entry → Type 0
+IsCalmEntry routes e = IsCalmAct routes e.act e.reply
 
-abbrev pub IsCalmTrace : List Entry → Type 0
-IsCalmTrace trace = All IsCalmEntry trace
+abbrev pub IsCalmTrace : Routes → List Entry → Type 0
+IsCalmTrace routes trace = All (IsCalmEntry routes) trace
 
--- a network of a plan that started with an image's settings, and no trace of which tells that a register was set
+-- a network of a plan that started with an image's settings, and no trace of which tells that a register was set, or
+-- that a packet was sent whose header is a random one
 pub record IsCalm (plan : Plan) (image : Image) (net : NetRecord) : Type 0 where
   pub same_plan : net.network.plan ≡ plan
   pub starts : AreStartsOf plan image net.starts
-  pub traces : All IsCalmTrace net.traces
+  pub traces : All (IsCalmTrace (routes_of plan image)) net.traces
 
 -- the whole packets that a terminal received, in plain tokens
 abbrev pub received_tokens : Network Token → ℕ → List (List Token)

@@ -4,7 +4,7 @@
 //! tells that there is none, and gives ranks. In both the number of rounds that are enough is known before them, and
 //! that all is quiet afterwards is proved from the contracts of `Net` alone.
 ghost use Rattle.std.specs.Prelude.{◌≡◌, ◌<◌, true, IfOk};
-ghost use Rattle.c104_check.specs.ChannelDependencies.{AreRanksWithin, IsAcyclic, IsRanking, input_count};
+ghost use Rattle.c104_check.specs.ChannelDependencies.{AreRanksWithin, IsAcyclic, IsNeverRandomized, IsRanking, input_count};
 ghost use Rattle.c104_check.specs.Ranks.{rank_in};
 ghost use Rattle.c104_check.specs.Routes.{IsAccepted, routes_of};
 ghost use Rattle.c104_describe.specs.PlanImage.{Fits, Image as TheImage};
@@ -15,11 +15,11 @@ ghost use Rattle.c104_tests_net.specs.CalmNets.{IsCalm};
 ghost use Rattle.c104_tests_net.specs.DeliveredNets.{DeliversByRanks, DeliversWithin};
 
 use crate::calls::{drop_plan, plan_of};
-use crate::named_packets::{placed, send};
+use crate::named_packets::{is_plain, placed, send_plain};
 use c104_check::{Ranks, RanksOrCycle, check, find_cycle};
-use c104_describe::{Image, Plan, hand_image};
+use c104_describe::{Image, Plan};
 use c104_event::EventFault;
-use c104_label::label_mesh;
+use c104_label::{image_of, label_mesh};
 use c104_net::Net;
 use c104_token::parse_packet;
 use std::alloc::Global;
@@ -75,6 +75,7 @@ fn within_bound(alloc: Global, plan: &Plan, image: &Image, count: u32) -> Result
     requires fits { Fits image.now plan.now }
     requires accepted { IsAccepted (routes_of plan.now image.now) }
     requires acyclic { IsAcyclic (routes_of plan.now image.now) }
+    requires never_randomized { IsNeverRandomized (routes_of plan.now image.now) }
     ensures { IfOk result (λ quiet. quiet ≡ true) }
 {
     let mut net = placed(alloc, plan, image)?;
@@ -94,6 +95,7 @@ fn settle_within(
     requires fits { Fits image.now plan.now }
     requires accepted { IsAccepted (routes_of plan.now image.now) }
     requires acyclic { IsAcyclic (routes_of plan.now image.now) }
+    requires never_randomized { IsNeverRandomized (routes_of plan.now image.now) }
     requires calm { IsCalm plan.now image.now net.old }
     ensures { IfOk result (λ quiet. quiet ≡ true) }
 {
@@ -107,6 +109,7 @@ fn deliver_within(net: &mut Net, plan: &Plan, image: &Image, count: u32) -> Resu
     requires fits { Fits image.now plan.now }
     requires accepted { IsAccepted (routes_of plan.now image.now) }
     requires acyclic { IsAcyclic (routes_of plan.now image.now) }
+    requires never_randomized { IsNeverRandomized (routes_of plan.now image.now) }
     requires calm { IsCalm plan.now image.now net.old }
     ensures { IfOk result (λ _. IsAllDelivered (routes_of plan.now image.now) net.new) }
 {
@@ -148,14 +151,18 @@ fn rounds_within(net: &mut Net, count: u32) -> Result<(), EventFault>
 fn on_ring(alloc: Global, plan: &Plan, count: u32) -> Result<bool, Fail>
     ensures { IfOk result (λ quiet. quiet ≡ true) }
 {
-    let image = hand_image(alloc, plan)?;
+    if !is_plain(plan) {
+        return Err("random headers".into());
+    }
+    let image = image_of(alloc, plan)?;
     let quiet = where_acyclic(alloc, plan, &image, count)?;
     Ok(quiet)
 }
 
 /// The same with the plan's own image, where it is accepted and has no cycle of channel dependencies.
 fn where_acyclic(alloc: Global, plan: &Plan, image: &Image, count: u32) -> Result<bool, Fail>
-    requires { Fits image.now plan.now }
+    requires fits { Fits image.now plan.now }
+    requires never_randomized { IsNeverRandomized (routes_of plan.now image.now) }
     ensures { IfOk result (λ quiet. quiet ≡ true) }
 {
     check(alloc, plan, image)?;
@@ -178,6 +185,7 @@ fn by_ranks(
     requires accepted { IsAccepted (routes_of plan.now image.now) }
     requires within { AreRanksWithin (input_count (routes_of plan.now image.now)) (rank_in ranks.now.by_place) }
     requires ranking { IsRanking (routes_of plan.now image.now) (rank_in ranks.now.by_place) }
+    requires never_randomized { IsNeverRandomized (routes_of plan.now image.now) }
     ensures { IfOk result (λ quiet. quiet ≡ true) }
 {
     let mut net = placed(alloc, plan, image)?;
@@ -199,6 +207,7 @@ fn settle_by(
     requires accepted { IsAccepted (routes_of plan.now image.now) }
     requires within { AreRanksWithin (input_count (routes_of plan.now image.now)) (rank_in ranks.now.by_place) }
     requires ranking { IsRanking (routes_of plan.now image.now) (rank_in ranks.now.by_place) }
+    requires never_randomized { IsNeverRandomized (routes_of plan.now image.now) }
     requires calm { IsCalm plan.now image.now net.old }
     ensures { IfOk result (λ quiet. quiet ≡ true) }
 {
@@ -219,6 +228,7 @@ fn deliver_by(
     requires accepted { IsAccepted (routes_of plan.now image.now) }
     requires within { AreRanksWithin (input_count (routes_of plan.now image.now)) (rank_in ranks.now.by_place) }
     requires ranking { IsRanking (routes_of plan.now image.now) (rank_in ranks.now.by_place) }
+    requires never_randomized { IsNeverRandomized (routes_of plan.now image.now) }
     requires calm { IsCalm plan.now image.now net.old }
     ensures { IfOk result (λ _. IsAllDelivered (routes_of plan.now image.now) net.new) }
 {
@@ -234,11 +244,12 @@ fn deliver_by(
 
 /// Terminal 0 sends to terminals 1 and 3.
 fn send_two(alloc: Global, net: &mut Net) -> Result<(), Fail>
-    ensures { (plan : ThePlan) → (image : TheImage) → IsCalm plan image net.old → IsCalm plan image net.new }
+    ensures { (plan : ThePlan) → (image : TheImage) → IsNeverRandomized (routes_of plan image) →
+        IsCalm plan image net.old → IsCalm plan image net.new }
 {
     let first = parse_packet(alloc, "01 aa eop")?;
     let second = parse_packet(alloc, "03 bb eop")?;
-    send(net, 0, first)?;
-    send(net, 0, second)?;
+    send_plain(net, 0, first)?;
+    send_plain(net, 0, second)?;
     Ok(())
 }

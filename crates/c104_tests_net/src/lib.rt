@@ -1,5 +1,6 @@
 //! Tests of networks and tools, in modules by what they test, and one for the texts of their faults.
-//! `named_packets` cites the theorem about packets as a caller does, and `deadlock` the theorem about deadlock.
+//! `named_packets` cites the theorem about packets as a caller does, `portals` the same where there are random headers,
+//! and `deadlock` the theorem about deadlock.
 //!
 //! A crate with tests is proved twice, so the tests stand in crates of their own and the others have none. What
 //! a contract says needs no test. These show what no contract can: that a call which takes memory succeeds where
@@ -21,6 +22,8 @@ mod named_packets;
 mod net;
 #[cfg(test)]
 mod origins;
+#[cfg(test)]
+mod portals;
 #[cfg(test)]
 mod reasons;
 #[cfg(test)]

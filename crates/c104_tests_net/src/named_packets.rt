@@ -3,19 +3,20 @@
 //! What a network keeps that started as an image says and that nobody changed (`IsCalm`) goes on by each call that
 //! these tests make, by the contracts of `Net` alone. So where the labels are accepted all premises of the theorem
 //! hold, and the contract of `Run::origins` says of a received packet which one it is.
-ghost use Rattle.std.specs.Prelude.{◌≡◌, ℕ, Some, slice_get, IfOk};
+ghost use Rattle.std.specs.Prelude.{◌≡◌, ℕ, [], Some, slice_get, true, IfOk};
 ghost use Rattle.std.specs.Global.{Vec as Kept};
+ghost use Rattle.c104_check.specs.ChannelDependencies.{IsNeverRandomized};
 ghost use Rattle.c104_check.specs.Routes.{IsAccepted, routes_of};
 ghost use Rattle.c104_describe.specs.PlanImage.{Fits, Image as TheImage};
 ghost use Rattle.c104_describe.specs.Plans.{Plan as ThePlan};
 ghost use Rattle.c104_net.specs.FinishedRecords.{record_finish};
 ghost use Rattle.c104_net.specs.declared.origins.Origin.{Origin as TheOrigin};
-ghost use Rattle.c104_tests_net.specs.CalmNets.{IsCalm, IsListed, IsNamed, IsNamedByCheck, IsNamedByLabels};
+ghost use Rattle.c104_tests_net.specs.CalmNets.{IsCalm, IsListed, IsNamed, IsNamedByCheck, IsNamedByLabels, IsNotRandom};
 
 use crate::calls::{drop_plan, drop_run, plan_of};
 use c104_check::check;
-use c104_describe::{Image, Plan, hand_image};
-use c104_label::label_tree;
+use c104_describe::{Image, Plan};
+use c104_label::{image_of, label_tree};
 use c104_net::{Event, EventFault, Net, Origin, PlaceFault};
 use c104_token::{NoMemory, Packet, parse_packet};
 use std::alloc::Global;
@@ -76,6 +77,7 @@ fn through_tree(alloc: Global, plan: &Plan, count: u32) -> Result<Origin, Fail>
 
 /// A network in which two packets were sent.
 fn in_first_run(alloc: Global, plan: &Plan, image: &Image, count: u32) -> Result<Net, Fail>
+    requires never_randomized { IsNeverRandomized (routes_of plan.now image.now) }
     ensures { IfOk result (λ net. IsCalm plan.now image.now net) }
 {
     let mut net = placed(alloc, plan, image)?;
@@ -92,9 +94,19 @@ fn in_first_run(alloc: Global, plan: &Plan, image: &Image, count: u32) -> Result
 fn in_second_run(rt: &impl Abort, alloc: Global, plan: &Plan, count: u32) -> Result<Origin, Fail>
     ensures { IfOk result (λ origin. IsNamedByCheck plan.now 1 1 origin) }
 {
-    let image = hand_image(alloc, plan)?;
+    if !is_plain(plan) {
+        return Err("random headers".into());
+    }
+    let image = image_of(alloc, plan)?;
     let origin = where_checked(rt, alloc, plan, &image, count)?;
     Ok(origin)
+}
+
+/// Whether no line of a plan gives random headers.
+pub fn is_plain(plan: &Plan) -> bool
+    ensures { result ≡ true → plan.now.randoms ≡ [] }
+{
+    plan.randoms().is_empty()
 }
 
 /// The same with the plan's own image.
@@ -106,7 +118,8 @@ fn where_checked(
     image: &Image,
     count: u32,
 ) -> Result<Origin, Fail>
-    requires { Fits image.now plan.now }
+    requires fits { Fits image.now plan.now }
+    requires never_randomized { IsNeverRandomized (routes_of plan.now image.now) }
     ensures { IfOk result (λ origin. IsNamedByCheck plan.now 1 1 origin) }
 {
     check(alloc, plan, image)?;
@@ -124,6 +137,7 @@ fn begun_again(
     count: u32,
 ) -> Result<Net, Fail>
     requires accepted { IsAccepted (routes_of plan.now image.now) }
+    requires never_randomized { IsNeverRandomized (routes_of plan.now image.now) }
     ensures { IfOk result (λ net. IsCalm plan.now image.now net) }
 {
     let mut net = placed(alloc, plan, image)?;
@@ -148,6 +162,7 @@ fn send_again(
     count: u32,
 ) -> Result<bool, Fail>
     requires accepted { IsAccepted (routes_of plan.now image.now) }
+    requires never_randomized { IsNeverRandomized (routes_of plan.now image.now) }
     requires calm { IsCalm plan.now image.now net.old }
     ensures { IsCalm plan.now image.now net.new }
 {
@@ -170,19 +185,29 @@ pub fn placed(alloc: Global, plan: &Plan, image: &Image) -> Result<Net, PlaceFau
 
 /// The first terminal sends two packets to the second, and both arrive.
 fn send_twice(alloc: Global, net: &mut Net, count: u32) -> Result<(), Fail>
-    ensures { (plan : ThePlan) → (image : TheImage) → IsCalm plan image net.old → IsCalm plan image net.new }
+    ensures { (plan : ThePlan) → (image : TheImage) → IsNeverRandomized (routes_of plan image) →
+        IsCalm plan image net.old → IsCalm plan image net.new }
 {
     let first = parse_packet(alloc, "01 aa eop")?;
     let second = parse_packet(alloc, "01 bb eop")?;
-    send(net, 0, first)?;
-    send(net, 0, second)?;
+    send_plain(net, 0, first)?;
+    send_plain(net, 0, second)?;
     rounds(net, count)?;
     Ok(())
 }
 
-/// A terminal sends a packet.
+/// A terminal sends a packet, where no link puts random headers before packets.
+pub fn send_plain(net: &mut Net, terminal: usize, packet: Packet) -> Result<(), EventFault>
+    ensures { (plan : ThePlan) → (image : TheImage) → IsNeverRandomized (routes_of plan image) →
+        IsCalm plan image net.old → IsCalm plan image net.new }
+{
+    send(net, terminal, packet)
+}
+
+/// A terminal sends a packet whose own header is no random one.
 pub fn send(net: &mut Net, terminal: usize, packet: Packet) -> Result<(), EventFault>
-    ensures { (plan : ThePlan) → (image : TheImage) → IsCalm plan image net.old → IsCalm plan image net.new }
+    ensures { (plan : ThePlan) → (image : TheImage) → IsNotRandom (routes_of plan image) packet →
+        IsCalm plan image net.old → IsCalm plan image net.new }
 {
     // The proof reads here that what is sent is bytes.
     let _bytes = packet.bytes.as_bytes();
@@ -191,7 +216,7 @@ pub fn send(net: &mut Net, terminal: usize, packet: Packet) -> Result<(), EventF
 }
 
 /// All parts of a network take turns.
-fn rounds(net: &mut Net, count: u32) -> Result<(), EventFault>
+pub fn rounds(net: &mut Net, count: u32) -> Result<(), EventFault>
     ensures { (plan : ThePlan) → (image : TheImage) → IsCalm plan image net.old → IsCalm plan image net.new }
 {
     net.rounds(count)
@@ -212,7 +237,7 @@ fn begin(net: &mut Net, plan: &Plan, image: &Image) -> bool
 }
 
 /// Which packet the one of this number is that a terminal received, by the theorem.
-fn named(
+pub fn named(
     alloc: Global,
     net: Net,
     plan: &Plan,
