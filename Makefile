@@ -9,7 +9,8 @@
 # make edits CRATE=c104_link  tries the edits of one crate that the prover must refuse
 # make test                   runs every proof, test, edit and case, from nothing but what passed before on this
 #                             machine; its last line is "N passed, M failed"
-# make bench                  times the program over grids of switches and over a long script; no part of the test
+# make bench                  times the program over grids of switches and over a long script, and its check over large
+#                             descriptions; no part of the test
 
 program := build/c104
 example := examples/first-network.txt
@@ -65,3 +66,4 @@ test:
 
 bench: $(program)
 	@tests/bench_networks $(program)
+	@tests/bench_checks $(program)
