@@ -1,4 +1,4 @@
-//! A network whose nodes keep what they do takes commands.
+//! A network takes commands, whatever its nodes keep of what they do.
 ghost use Rattle.std.specs.Prelude.{◌≡◌};
 ghost use Rattle.c104_switch.specs.declared.actions.ReplyOf.TheVariants as reply;
 ghost use Rattle.c104_tools.specs.NetCommands.{IsControlReply};
