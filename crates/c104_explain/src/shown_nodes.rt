@@ -58,11 +58,7 @@ fn add_link(
 }
 
 /// What an input does with its next token, which may put a random header before a packet.
-fn phase_text(
-    alloc: Global,
-    view: &LinkView,
-    puts_random: bool,
-) -> Result<String, AllocError> {
+fn phase_text(alloc: Global, view: &LinkView, puts_random: bool) -> Result<String, AllocError> {
     match &view.phase {
         Phase::Fresh if puts_random => {
             format!(in alloc; "waits for a packet, before which it puts a random header")
