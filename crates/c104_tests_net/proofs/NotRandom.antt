@@ -31,11 +31,6 @@ two_byte_label plan image p t n h accepted length two is (range, at, label) =
     let same : h ≡ header_of (routes_of plan image) p = is ∙ ap (λ k. header_number (take k p.bytes)) (sym long) in
     label_not_random (routes_of plan image) p t range accepted at (ap (has_label range) (sym same) ∙ label)
 
-pub two_bytes : (bytes : List ℕ) (low high : ℕ) → slice_get bytes 0 ≡ Some low → slice_get bytes 1 ≡ Some high → low + 256 * high ≡ header_number (take 2 bytes)
-two_bytes [] low high first second = absurd (cc)
-two_bytes (x ∷ []) low high first second = absurd (cc)
-two_bytes (x ∷ y ∷ bytes) low high first second = let a : x ≡ low = cc in let b : y ≡ high = cc in omega (arith, a, b)
-
 -- headers are as long as at any link that is wired
 pub length_there : (routes : Routes) (s l : ℕ) (other : Port) (all : List Settings) (x : Settings) → IsAccepted routes → Some other ≡ routes.peer (port.Switch s l) → Some all ≡ slice_get routes.settings s → slice_get all l ≡ Some x → header_length x ≡ routes.header
 length_there routes s l other all x accepted wired switch at =
