@@ -1,6 +1,6 @@
 -- When the header that a packet begins with is no random one: where no link puts random headers before packets, and where
 -- it is a label that the check accepts.
-use Rattle.std.proofs.Common.{List, Option, Some, None, [], ap, arith, refl, slice_get, sym, take, true, ℕ, ◌*◌, ◌+◌, ◌∙◌, ◌∷◌, ◌≡◌}
+use Rattle.std.proofs.Common.{List, Some, ap, slice_get, sym, take, true, ℕ, ◌∙◌, ◌≡◌}
 use Rattle.c104_check.specs.ChannelDependencies.{IsNeverRandomized}
 use Rattle.c104_check.specs.Routes.{IsAccepted, Routes, has_label, or_no_settings, routes_of}
 use Rattle.c104_describe.specs.PlanImage.{Image}
