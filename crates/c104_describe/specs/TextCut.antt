@@ -18,6 +18,10 @@ parts_words byte = byte == 0x20 || (byte == 0x09 || byte == 0x0d)
 abbrev pub line_words : List ℕ → List (List ℕ)
 line_words line = filter (λ piece. not (length piece == 0)) (slice_split parts_words line)
 
+-- whether a byte is a printable one of ASCII
+abbrev pub is_printable : ℕ → Bool
+is_printable byte = nat_le 0x20 byte && nat_le byte 0x7e
+
 -- whether each byte is a printable one of ASCII or parts words
 abbrev pub is_plain_line : List ℕ → Bool
-is_plain_line line = list_all (λ byte. (nat_le 0x20 byte && nat_le byte 0x7e) || parts_words byte) line
+is_plain_line line = list_all (λ byte. is_printable byte || parts_words byte) line

@@ -11,7 +11,7 @@ use crate::parts::Parts;
 use crate::plans::{PlanBase, PlanRandom, PlanRow};
 use crate::ports::Port;
 use crate::text::is_name;
-use crate::words::{read_number_within, read_port, read_select};
+use crate::words::{read_limit, read_number_within, read_port, read_select};
 use c104_interval::ROWS;
 use std::alloc::AllocError;
 
@@ -70,7 +70,7 @@ pub(crate) fn add_row(
         (row_line (plan_of parts.old) port.now limit.now select.now) }
 {
     let port = read_port(port)?;
-    let limit = read_number_within(0, LABELS, limit)?;
+    let limit = read_limit(limit)?;
     let select = read_select(select)?;
     if !is_name(port.name) {
         return Err(PlanFaultKind::BadName);
@@ -103,7 +103,7 @@ pub(crate) fn add_random(
 {
     let port = read_port(port)?;
     let base = read_number_within(0, LABELS - 1, base)?;
-    let range = read_number_within(0, LABELS, range)?;
+    let range = read_limit(range)?;
     if !is_name(port.name) {
         return Err(PlanFaultKind::BadName);
     }

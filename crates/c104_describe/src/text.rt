@@ -1,7 +1,7 @@
 //! The words of a text: how it is cut into lines and words, and what a number and a name are.
 ghost use Rattle.std.specs.Prelude.{◌≡◌, ◌^◌, ◌<◌, ◌==◌, length, map, option_map, position, slice_get, IfOk, IfSome};
 ghost use Rattle.std.specs.List.{list_all};
-ghost use Rattle.c104_describe.specs.TextCut.{lines, uncommented_line, parts_words, line_words, is_plain_line};
+ghost use Rattle.c104_describe.specs.TextCut.{lines, uncommented_line, parts_words, line_words, is_plain_line, is_printable};
 ghost use Rattle.c104_describe.specs.TextWords.{read_number, most_digits, is_name, is_name_byte, dots, IsInside};
 
 use smallvec::SmallVec;
@@ -74,7 +74,25 @@ fn parts_words(byte: u8) -> bool
 pub fn is_plain(line: &[u8]) -> bool
     ensures { result ≡ is_plain_line line.now }
 {
-    line.iter().all(|byte| (*byte >= b' ' && *byte <= b'~') || parts_words(*byte))
+    // Most lines have neither tabs nor carriage returns, and this is the quicker walk.
+    are_printable(line)
+        || line
+            .iter()
+            .all(|byte| is_printable(*byte) || parts_words(*byte))
+}
+
+/// Whether each byte is a printable one of ASCII.
+fn are_printable(bytes: &[u8]) -> bool
+    ensures { result ≡ list_all is_printable bytes.now }
+{
+    bytes.iter().all(|byte| is_printable(*byte))
+}
+
+/// Whether a byte is a printable one of ASCII, 32 to 126.
+fn is_printable(byte: u8) -> bool
+    ensures { result ≡ is_printable byte }
+{
+    byte >= b' ' && byte <= b'~'
 }
 
 /// The value of a number, 1 to 7 decimal digits. None for every other word.

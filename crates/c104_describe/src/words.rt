@@ -1,10 +1,11 @@
 //! The words of a description's line.
 ghost use Rattle.std.specs.Prelude.{◌≡◌, ◌+◌, ◌≤◌, ◌&&◌, Err, IfOk, MatchResult, Ok, bytes_eq, codes, map, option_map};
 ghost use Rattle.std.specs.Map.{lookup};
-ghost use Rattle.c104_describe.specs.Plans.{last_link};
+ghost use Rattle.c104_describe.specs.Plans.{label_count, last_link};
 ghost use Rattle.c104_describe.specs.PlanWords.{keyword_of, number_within, number_or, port_sides, port_word, range_words, select_word};
 
 use crate::faults::PlanFaultKind;
+use crate::limits::LABELS;
 use crate::text::{Dots, find_dots, read_number};
 use c104_interval::Select;
 use c104_regs::LINKS;
@@ -92,6 +93,13 @@ pub(crate) fn read_number_or(
         Some(word) => read_number_within(least, most, word),
         None => Ok(other),
     }
+}
+
+/// A row's limit, or how many random headers there are: 0 to 65536, or BadNumber.
+pub(crate) fn read_limit(word: &[u8]) -> Result<u32, PlanFaultKind>
+    ensures { result ≡ number_within 0 label_count word.now }
+{
+    read_number_within(0, LABELS, word)
 }
 
 /// What a row selects: the number of a link, `discard` or `sink`.
