@@ -1,9 +1,15 @@
 -- Ranks that fall along every dependency: a cycle leaves none, and a limit for the inputs of a network does for all.
-use Rattle.std.proofs.Common.{List, [], ◌∷◌, arith, ℕ, zero, suc, ◌<◌, ◌≤◌, ◌≡◌, Some, length, min, subst}
+use Rattle.std.proofs.Common.{List, [], ◌∷◌, arith, inl, inr, Bool, true, false, ℕ, zero, suc, ◌<◌, ◌≤◌, ◌≡◌, Some, length, min, refl, subst, sym}
 use Rattle.c104_describe.specs.declared.ports.Port.TheVariants as port
-use Rattle.c104_check.specs.ChannelDependencies.{AreChained, ChannelDependency, Depends, IsAcyclic, IsCycle, IsRanking, AreNeverBoth, input_count}
-use Rattle.c104_check.specs.Routes.{Routes, SwitchPort, to_port}
+use Rattle.c104_check.specs.ChannelDependencies.{AreChained, ChannelDependency, Depends, IsAcyclic, IsCycle, IsBeginningBy, IsNeverRandomized, IsRanking, MayArrive, AreNeverBoth, input_count}
+use Rattle.c104_check.specs.Parts.{Begins, IsBeginning}
+use Rattle.c104_check.specs.Reach.{IsReached}
+use Rattle.c104_check.specs.Routes.{Routes, SwitchPort, owner}
+use Rattle.c104_check.specs.Shown.{Follows}
 use Rattle.c104_check.specs.Trails.{IsInput, IsNetwork, Reaches}
+use Rattle.c104_check.proofs.PartLemmas.{reached_plain}
+use Rattle.c104_check.proofs.RouteLemmas.{portal_input}
+use Rattle.c104_check.proofs.StartLemmas.{random_is_randomized}
 
 falls_along : (routes : Routes) (rank : SwitchPort → ℕ) → IsRanking routes rank → (a : ChannelDependency) (more : List ChannelDependency) (end : SwitchPort) → AreChained routes a more end → rank end < rank a.input
 falls_along routes rank falls a [] end is = falls a.input end (a.header, is)
@@ -19,17 +25,59 @@ no_ranks routes rank (a ∷ more) is falls = let down = falls_along routes rank 
 pub never_both : (routes : Routes) → AreNeverBoth routes
 never_both routes cycle is acyclic = no_ranks routes acyclic.0 cycle is acyclic.1
 
--- a header comes to inputs of the network alone
-pub reached_input : (routes : Routes) (h : ℕ) (p : SwitchPort) → IsNetwork routes → (t : ℕ) (entry : SwitchPort) (m : ℕ) → routes.peer (port.Terminal t) ≡ Some (to_port entry) → Reaches routes h m entry p → IsInput (length routes.settings) p
-reached_input routes h p net t entry zero wired same = subst (IsInput (length routes.settings)) same (net.inputs (port.Terminal t) entry wired)
-reached_input routes h p net t entry (suc m) wired (z, reaches, follows) = net.inputs (port.Switch z.switch follows.1) p follows.4
+-- a header comes from inputs of the network to such alone
+reached_input : (routes : Routes) (h m : ℕ) (start p : SwitchPort) → IsNetwork routes → IsInput (length routes.settings) start → Reaches routes h m start p → IsInput (length routes.settings) p
+reached_input routes h zero start p net here same = subst (IsInput (length routes.settings)) same here
+reached_input routes h (suc m) start p net here (z, reaches, follows) = net.inputs (port.Switch z.switch follows.1) p follows.4
+
+own_input : (routes : Routes) (behind : Bool) (entry p : SwitchPort) → IsNetwork routes → IsInput (length routes.settings) entry → Begins routes entry behind p → IsInput (length routes.settings) p
+own_input routes false entry p net inside begins = subst (IsInput (length routes.settings)) (sym begins.0) inside
+own_input routes true entry p net inside begins = portal_input routes entry p net begins
+
+beginning_input : (routes : Routes) (p : SwitchPort) → IsNetwork routes → IsBeginning routes p → IsInput (length routes.settings) p
+beginning_input routes p net (t, behind, (entry, wired, begins)) = own_input routes behind entry p net (net.inputs (port.Terminal t) entry wired) begins
+
+-- they begin at such
+start_input : (routes : Routes) (h : ℕ) (p : SwitchPort) → IsNetwork routes → IsBeginningBy routes h p → IsInput (length routes.settings) p
+start_input routes h p net (inl (t, owned, begins)) = beginning_input routes p net begins
+start_input routes h p net (inr (t, wired, random)) = net.inputs (port.Terminal t) p wired
+
+-- and packets come to such alone
+pub arrived_input : (routes : Routes) (h : ℕ) (p : SwitchPort) → IsNetwork routes → MayArrive routes h p → IsInput (length routes.settings) p
+arrived_input routes h p net (start, m, is, reaches) = reached_input routes h m start p net (start_input routes h start net is) reaches
 
 -- ranks of the network's inputs that are within the limit, cut to it at all others
 pub acyclic_by : (routes : Routes) (rank : SwitchPort → ℕ) → IsNetwork routes → IsRanking routes rank → ((p : SwitchPort) → IsInput (length routes.settings) p → rank p ≤ input_count routes) → IsAcyclic routes
 acyclic_by routes rank net falls low = (λ p. min (rank p) (input_count routes), cut, λ p. omega arith)
   where
     cut : (p q : SwitchPort) → Depends routes p q → min (rank q) (input_count routes) < min (rank p) (input_count routes)
-    cut p q (h, (t, owned, reached, follows)) =
-        let high = low p (reached_input routes h p net reached.0 reached.1 reached.2 reached.3 reached.4) in
-        let down = falls p q (h, (t, owned, reached, follows)) in
+    cut p q (h, (arrives, follows)) =
+        let high = low p (arrived_input routes h p net arrives) in
+        let down = falls p q (h, (arrives, follows)) in
         omega (arith, high, down)
+
+-- Where no random headers are put before packets, the dependencies are those of labels from the inputs of terminals on
+
+-- a label may come to input p from some terminal, and go on over one wire to input q
+abbrev pub GoesByLabel : Routes → ℕ → SwitchPort → SwitchPort → Type 0
+GoesByLabel routes h p q = (t : ℕ) × (owner routes h ≡ Some t) × IsReached routes h p × Follows routes h p q
+
+own_plain : (routes : Routes) (h m : ℕ) (x p : SwitchPort) → IsNeverRandomized routes → IsBeginning routes x → Reaches routes h m x p → IsReached routes h p
+own_plain routes h m x p never (t, behind, (entry, wired, begins)) reaches = reached_plain routes h m x p never t behind entry wired begins reaches
+
+plain_arrives : (routes : Routes) (h m : ℕ) (x p : SwitchPort) → IsNeverRandomized routes → IsBeginningBy routes h x → Reaches routes h m x p → (t : ℕ) × (owner routes h ≡ Some t) × IsReached routes h p
+plain_arrives routes h m x p never (inl (t, owned, begins)) reaches = (t, owned, own_plain routes h m x p never begins reaches)
+plain_arrives routes h m x p never (inr (t, wired, random)) reaches = absurd (never x (random_is_randomized routes x h random))
+
+pub plain_depends : (routes : Routes) (p q : SwitchPort) → IsNeverRandomized routes → Depends routes p q → (h : ℕ) × GoesByLabel routes h p q
+plain_depends routes p q never (h, ((x, m, begins, reaches), follows)) = let one = plain_arrives routes h m x p never begins reaches in (h, (one.0, one.1, one.2, follows))
+
+pub depends_plain : (routes : Routes) (p q : SwitchPort) → IsNeverRandomized routes → ((h : ℕ) × GoesByLabel routes h p q) → Depends routes p q
+depends_plain routes p q never (h, (t, owned, (u, entry, m, wired, reaches), follows)) = (h, ((entry, m, inl (t, owned, (u, false, (entry, wired, (refl, never entry)))), reaches), follows))
+
+-- so ranks that fall wherever a label goes on are enough
+abbrev pub FallsByLabels : Routes → (SwitchPort → ℕ) → Type 0
+FallsByLabels routes rank = (p q : SwitchPort) → ((h : ℕ) × GoesByLabel routes h p q) → rank q < rank p
+
+pub plain_ranking : (routes : Routes) (rank : SwitchPort → ℕ) → IsNeverRandomized routes → FallsByLabels routes rank → IsRanking routes rank
+plain_ranking routes rank never falls p q depends = falls p q (plain_depends routes p q never depends)

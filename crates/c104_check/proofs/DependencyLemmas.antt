@@ -1,5 +1,5 @@
 -- The table of dependencies as it is filled, link by link, input by input and header by header.
-use Rattle.std.proofs.Common.{◌≡◌, ◌≢◌, ℕ, ◌<◌, ◌≤◌, ◌+◌, ◌*◌, inl, inr, true, List, Option, None, Some, length, ◌++◌, drop, ◌&&◌, is_some, nat_le, replicate, take, slice_index_or, slice_set, refl, sym, ap, subst, ◌∙◌, arith}
+use Rattle.std.proofs.Common.{◌≡◌, ◌≢◌, ℕ, ◌<◌, ◌≤◌, ◌+◌, ◌*◌, inl, inr, true, false, List, Option, None, Some, length, ◌++◌, drop, ◌&&◌, is_some, nat_le, replicate, take, slice_index_or, slice_set, refl, sym, ap, subst, ◌∙◌, arith}
 use Rattle.std.proofs.lemmas.Bool.{cases_lt}
 use Rattle.std.proofs.lemmas.Bool.Decides.{eqb_tells, nat_tests}
 use Rattle.std.proofs.lemmas.List.{get_or-set_other, get_or-set_same, length-set}
@@ -8,14 +8,16 @@ use Rattle.std.specs.List.{AllByRecursion}
 use Rattle.c104_regs.proofs.RegisterLemmas.{get_or-same}
 use Rattle.c104_crossbar.specs.declared.group.Group.{Group}
 use Rattle.c104_interval.specs.declared.intervals.Select.TheVariants.{Link}
-use Rattle.c104_check.specs.Dependencies.{AreDependencies, AreListedBelow, Dependency, IsDependencyAt, IsExtended, AreListedAt, AreListedFor, AreListedFrom, IsListedOver, dependency_at, dependency_place}
-use Rattle.c104_check.specs.Reach.{AreReached, IsSelected}
+use Rattle.c104_check.specs.Dependencies.{AreDependencies, AreListedBelow, Dependency, IsDependencyAt, IsExtended, AreListedAsOwn, AreListedAsRandom, AreListedAt, AreListedFor, AreListedFrom, IsListedOver, dependency_at, dependency_place}
+use Rattle.c104_check.specs.Parts.{AreJust, IsReachedAsOwn, IsReachedAsRandom}
+use Rattle.c104_check.specs.Reach.{IsSelected}
 use Rattle.c104_check.specs.Routes.{Routes, SwitchPort, is_in_group, owner, select, to_port}
-use Rattle.c104_check.specs.Trails.{IsInput}
-use Rattle.c104_check.specs.ChannelDependencies.{DependsBy}
+use Rattle.c104_check.specs.Trails.{IsInput, Reaches}
+use Rattle.c104_check.specs.ChannelDependencies.{DependsBy, IsBeginningBy, MayArrive}
 use Rattle.c104_check.specs.Walks.{port_of}
 use Rattle.c104_check.proofs.LinkLemmas.{place_below}
-use Rattle.c104_check.proofs.ReachLemmas.{all_taken, all_taken_next}
+use Rattle.c104_check.proofs.OwnerLemmas.{no_owner, some_owner}
+use Rattle.c104_check.proofs.ReachLemmas.{all_just, all_taken_next}
 use Rattle.c104_check.proofs.RouteLemmas.{Some-Link-same}
 use Rattle.c104_check.proofs.TrailLemmas.{All-found, All-map}
 
@@ -73,7 +75,15 @@ pub at_kept : (routes : Routes) (now new : List (Option Dependency)) (h : ℕ) �
 at_kept routes now new h kept p is q follows = let one = is q follows in (one.0, kept.kept (dependency_place p follows.1) one.1)
 
 pub for_kept : (routes : Routes) (now new : List (Option Dependency)) (h : ℕ) → IsExtended routes now new → AreListedFor routes now h → AreListedFor routes new h
-for_kept routes now new h kept is p reached = at_kept routes now new h kept p (is p reached)
+for_kept routes now new h kept is p arrives = at_kept routes now new h kept p (is p arrives)
+
+within_run : (first last o : ℕ) → first ≤ o → o ≤ last → (nat_le first o && nat_le o last) ≡ true
+within_run first last o low high = grind (arith, nat_tests)
+
+-- over a link of the group
+pub link_depends : (routes : Routes) (h link : ℕ) (group : Group) (p q : SwitchPort) → MayArrive routes h p → IsSelected routes h p group → group.first ≤ link → link ≤ group.last → routes.peer (to_port (port_of p.switch link)) ≡ Some (to_port q) → DependsBy routes h p q
+link_depends routes h link group p q arrives selected low high wired =
+    (arrives, (selected.link, link, selected.selects, selected.members link ∙ within_run group.first group.last link low high, wired))
 
 -- over one link more
 pub from_next : (routes : Routes) (at : SwitchPort) (first link : ℕ) (now new : List (Option Dependency)) → IsExtended routes now new → AreListedFrom routes now at first link → IsListedOver routes new at (port_of at.switch link) → AreListedFrom routes new at first (link + 1)
@@ -104,27 +114,51 @@ pub at_next : (routes : Routes) (h : ℕ) (xs : List SwitchPort) (k : ℕ) (d : 
 at_next routes h xs k d now new below kept before here =
     all_taken_next (AreListedAt routes new h) xs k d below here (All-map (AreListedAt routes now h) (AreListedAt routes new h) (at_kept routes now new h kept) (take k xs) before)
 
--- at all inputs
-pub at_all : (routes : Routes) (h : ℕ) (xs : List SwitchPort) (n : ℕ) (table : List (Option Dependency)) → length xs ≤ n → AreReached routes h xs → AllByRecursion (AreListedAt routes table h) (take n xs) → AreListedFor routes table h
-at_all routes h xs n table over reached all p here = All-found (AreListedAt routes table h) xs p (all_taken (AreListedAt routes table h) xs n over all) ((reached p).1 here)
+-- Where a header may come as the own one of packets, and where as a random one, packets may that go by it
+
+pub own_arrive : (routes : Routes) (h : ℕ) (o : Option ℕ) (xs ys : List SwitchPort) → o ≡ owner routes h → is_some o ≡ true → ys ≡ xs → AreJust (IsReachedAsOwn routes h) xs → AllByRecursion (MayArrive routes h) ys
+own_arrive routes h o xs ys is some same just =
+    let owned = some_owner o (owner routes h) is some in
+    subst (AllByRecursion (MayArrive routes h)) (sym same) (all_just (IsReachedAsOwn routes h) (MayArrive routes h) xs (λ p (x, m, begins, reaches). (x, m, inl (owned.0, owned.1, begins), reaches)) just)
+
+pub random_arrive : (routes : Routes) (h : ℕ) (xs ys : List SwitchPort) → ys ≡ xs → AreJust (IsReachedAsRandom routes h) xs → AllByRecursion (MayArrive routes h) ys
+random_arrive routes h xs ys same just =
+    subst (AllByRecursion (MayArrive routes h)) (sym same) (all_just (IsReachedAsRandom routes h) (MayArrive routes h) xs (λ p (x, m, begins, reaches). (x, m, inr begins, reaches)) just)
+
+-- at all inputs of which something holds
+listed_just : (routes : Routes) (h : ℕ) (P : SwitchPort → Type 0) (xs ys : List SwitchPort) (table : List (Option Dependency)) → ys ≡ xs → AreJust P xs → AllByRecursion (AreListedAt routes table h) ys → (p : SwitchPort) → P p → AreListedAt routes table h p
+listed_just routes h P xs ys table same just all p is =
+    All-found (AreListedAt routes table h) xs p (subst (AllByRecursion (AreListedAt routes table h)) same all) ((just p).1 is)
+
+pub own_listed : (routes : Routes) (h : ℕ) (xs ys : List SwitchPort) (table : List (Option Dependency)) → ys ≡ xs → AreJust (IsReachedAsOwn routes h) xs → AllByRecursion (AreListedAt routes table h) ys → AreListedAsOwn routes table h
+own_listed routes h xs ys table same just all t p owned = listed_just routes h (IsReachedAsOwn routes h) xs ys table same just all p
+
+pub random_listed : (routes : Routes) (h : ℕ) (xs ys : List SwitchPort) (table : List (Option Dependency)) → ys ≡ xs → AreJust (IsReachedAsRandom routes h) xs → AllByRecursion (AreListedAt routes table h) ys → AreListedAsRandom routes table h
+random_listed routes h xs ys table same just all = listed_just routes h (IsReachedAsRandom routes h) xs ys table same just all
+
+-- a header without an owner is no packet's own
+pub unowned_listed : (routes : Routes) (h : ℕ) (o : Option ℕ) (table : List (Option Dependency)) → o ≡ owner routes h → is_some o ≡ false → AreListedAsOwn routes table h
+unowned_listed routes h o table is none t p owned = absurd (no_owner o (owner routes h) is none t owned)
+
+-- in both parts
+by_part : (routes : Routes) (h m : ℕ) (x p : SwitchPort) (table : List (Option Dependency)) → AreListedAsOwn routes table h → AreListedAsRandom routes table h → IsBeginningBy routes h x → Reaches routes h m x p → AreListedAt routes table h p
+by_part routes h m x p table own random (inl (t, owned, begins)) reaches = own t p owned (x, m, begins, reaches)
+by_part routes h m x p table own random (inr begins) reaches = random p (x, m, begins, reaches)
+
+pub both_listed : (routes : Routes) (h : ℕ) (now new : List (Option Dependency)) → IsExtended routes now new → AreListedAsOwn routes now h → AreListedAsRandom routes new h → AreListedFor routes new h
+both_listed routes h now new kept own random p (x, m, begins, reaches) =
+    by_part routes h m x p new (λ t y owned reached. at_kept routes now new h kept y (own t y owned reached)) random begins reaches
 
 -- by one header more
 pub below_next : (routes : Routes) (h : ℕ) (now new : List (Option Dependency)) → IsExtended routes now new → AreListedBelow routes now h → AreListedFor routes new h → AreListedBelow routes new (h + 1)
-below_next routes h now new kept before here k t below owned =
+below_next routes h now new kept before here k below =
     elim (cases_lt k h) [
-      | inl lower ↦ for_kept routes now new k kept (before k t lower owned)
+      | inl lower ↦ for_kept routes now new k kept (before k lower)
       | inr not ↦ let same : h ≡ k = omega (arith, below, not) in subst (AreListedFor routes new) same here
     ]
 
-pub below_skip : (routes : Routes) (h : ℕ) (table : List (Option Dependency)) → ((t : ℕ) → owner routes h ≡ Some t → ⊥) → AreListedBelow routes table h → AreListedBelow routes table (h + 1)
-below_skip routes h table none before k t below owned =
-    elim (cases_lt k h) [
-      | inl lower ↦ before k t lower owned
-      | inr not ↦ let same : k ≡ h = omega (arith, below, not) in absurd (none t (ap (owner routes) (sym same) ∙ owned))
-    ]
-
 pub below_all : (routes : Routes) (n end : ℕ) (table : List (Option Dependency)) → n ≤ end → AreListedBelow routes table end → AreListedBelow routes table n
-below_all routes n end table over all h t below owned = all h t (omega (arith, below, over)) owned
+below_all routes n end table over all h below = all h (omega (arith, below, over))
 
 -- a table of none
 pub dependencies_none : (routes : Routes) (n : ℕ) → AreDependencies routes (replicate n None)

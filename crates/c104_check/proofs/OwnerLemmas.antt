@@ -1,11 +1,15 @@
 -- Headers that have owners, and those that have none.
-use Rattle.std.proofs.Common.{◌≡◌, ℕ, Bool, true, false, Option, Some, get_or, is_some, sym, ap, ◌∙◌}
+use Rattle.std.proofs.Common.{◌≡◌, ℕ, true, false, Option, None, Some, get_or, is_some, sym, ap, ◌∙◌}
 use Rattle.std.proofs.lemmas.List.Quantifiers.{position-Some}
 use Rattle.std.proofs.lemmas.Option.{slice_get-get_or}
 use Rattle.c104_check.specs.Routes.{Owns, Routes, has_label, owner}
 
-pub no_owner : (o p : Option ℕ) (b : Bool) → o ≡ p → b ≡ is_some o → b ≡ false → (t : ℕ) → p ≡ Some t → ⊥
-no_owner o p b same is false_is t some = let clash : true ≡ false = sym (ap is_some (same ∙ some)) ∙ sym is ∙ false_is in absurd cc
+pub some_owner : (o p : Option ℕ) → o ≡ p → is_some o ≡ true → (t : ℕ) × (p ≡ Some t)
+some_owner None p same is = absurd cc
+some_owner (Some t) p same is = (t, sym same)
+
+pub no_owner : (o p : Option ℕ) → o ≡ p → is_some o ≡ false → (t : ℕ) → p ≡ Some t → ⊥
+no_owner o p same none t some = let clash : true ≡ false = sym (ap is_some (same ∙ some)) ∙ none in absurd cc
 
 -- all headers
 pub owner_owns : (routes : Routes) (h t : ℕ) → owner routes h ≡ Some t → Owns routes t h

@@ -31,7 +31,7 @@ random_taken routes h random xs q b is just tells =
     iff_on (IsTrue b) ((p : SwitchPort) × Has xs p × MayTake routes h p q) (IsTakenAsRandom routes h q) tells (taken_by routes h (IsRandomBeginning routes h) xs q (subst (AreJust (IsReachedAsRandom routes h)) (sym is) just))
 
 -- where no random headers are put before packets
-reached_plain : (routes : Routes) (h m : ℕ) (x p : SwitchPort) → IsNeverRandomized routes → (t : ℕ) (behind : Bool) (entry : SwitchPort) → IsEntryOf routes t entry → Begins routes entry behind x → Reaches routes h m x p → IsReached routes h p
+pub reached_plain : (routes : Routes) (h m : ℕ) (x p : SwitchPort) → IsNeverRandomized routes → (t : ℕ) (behind : Bool) (entry : SwitchPort) → IsEntryOf routes t entry → Begins routes entry behind x → Reaches routes h m x p → IsReached routes h p
 reached_plain routes h m x p never t false entry wired kind reaches = (t, entry, m, wired, subst (λ y. Reaches routes h m y p) kind.0 reaches)
 reached_plain routes h m x p never t true entry wired portal reaches = absurd (never entry (random_is_randomized routes entry portal.0 portal.2))
 

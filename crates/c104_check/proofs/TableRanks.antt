@@ -1,15 +1,16 @@
 -- What the table of dependencies, and ranks that fall along those in it, tell of a network.
-use Rattle.std.proofs.Common.{◌≡◌, ℕ, ◌<◌, ◌+◌, ◌*◌, true, List, Option, None, Some, is_some, length, refl, sym, ap, subst, ◌∙◌, arith}
+use Rattle.std.proofs.Common.{◌≡◌, ℕ, ◌<◌, ◌+◌, ◌*◌, inl, inr, true, List, Option, None, Some, is_some, length, refl, sym, ap, subst, ◌∙◌, arith}
 use Rattle.c104_check.specs.Cycles.{ArePartialRanks, LeadInside}
 use Rattle.c104_check.specs.Dependencies.{AreDependencies, AreListedBelow, Dependency, dependency_at, dependency_place}
 use Rattle.c104_check.specs.Ranks.{rank_at, rank_in}
 use Rattle.c104_check.specs.Routes.{IsAccepted, Routes, SwitchPort, header_count, place, port_at, to_port}
 use Rattle.c104_check.specs.Trails.{IsInput, IsNetwork}
-use Rattle.c104_check.specs.ChannelDependencies.{AreRanksWithin, Depends, IsRanking, input_count}
+use Rattle.c104_check.specs.ChannelDependencies.{AreRanksWithin, Depends, IsBeginningBy, IsRanking, input_count}
 use Rattle.c104_check.specs.Walks.{port_of}
-use Rattle.c104_check.proofs.AcyclicLemmas.{reached_input}
+use Rattle.c104_check.proofs.AcyclicLemmas.{arrived_input}
 use Rattle.c104_check.proofs.LinkLemmas.{at_place, place_below}
 use Rattle.c104_check.proofs.OwnerLemmas.{owner_owns}
+use Rattle.c104_check.proofs.RandomLemmas.{random_header}
 use Rattle.c104_check.proofs.ReachLemmas.{input_same}
 
 pub lead_inside : (routes : Routes) (table : List (Option Dependency)) (n : ℕ) → IsNetwork routes → AreDependencies routes table → n ≡ length routes.settings * 32 → LeadInside table n
@@ -33,10 +34,15 @@ pub record IsFound (routes : Routes) (table : List (Option Dependency)) (p q : S
   pub next : dependency.next ≡ q
   pub input : IsInput (length routes.settings) p
 
+-- packets begin to go by headers of the network alone
+begun_header : (routes : Routes) (h : ℕ) (x : SwitchPort) → IsAccepted routes → IsBeginningBy routes h x → h < header_count routes
+begun_header routes h x accepted (inl (t, owned, begins)) = accepted.small t h (owner_owns routes h t owned)
+begun_header routes h x accepted (inr (t, wired, random)) = random_header routes x h random
+
 pub find_listed : (routes : Routes) (table : List (Option Dependency)) → IsNetwork routes → IsAccepted routes → AreDependencies routes table → AreListedBelow routes table (header_count routes) → (p q : SwitchPort) → Depends routes p q → IsFound routes table p q
-find_listed routes table net accepted dependencies listed p q (h, (t, owned, reached, follows)) =
+find_listed routes table net accepted dependencies listed p q (h, (arrives, follows)) =
     let o : ℕ = follows.1 in
-    let note = listed h t (accepted.small t h (owner_owns routes h t owned)) owned p reached q follows in
+    let note = listed h (begun_header routes h arrives.0 accepted arrives.2) p arrives q follows in
     let low : o < 32 = note.0 in
     let found = some_dependency (dependency_at table (dependency_place p o)) note.1 in
     let d : Dependency = found.0 in
@@ -47,7 +53,7 @@ find_listed routes table net accepted dependencies listed p q (h, (t, owned, rea
     let below : e < 32 = is.3 in
     let index : place p * 32 + o ≡ place r * 32 + e = is.4 in
     let leads : routes.peer (to_port (port_of r.switch e)) ≡ Some (to_port d.next) = is.5 in
-    let here = reached_input routes h p net reached.0 reached.1 reached.2 reached.3 reached.4 in
+    let here = arrived_input routes h p net arrives in
     let places : place r ≡ place p = omega (arith, index, low, below) in
     let links : e ≡ o = omega (arith, index, low, below) in
     let one : r ≡ p = sym (at_place (length routes.settings) r input) ∙ ap port_at places ∙ at_place (length routes.settings) p here in

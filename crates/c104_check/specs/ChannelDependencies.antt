@@ -1,25 +1,37 @@
 -- Channel dependencies, after Dally and Seitz. A channel is named by the input that reads it. One depends on another
--- where a packet that came in at the one may have to wait until what came in at the other has gone on.
+-- where a packet that came in at the one may have to wait until what came in at the other has gone on. Where random
+-- headers are put before packets, these go in two phases: by such a header to a portal, and from there by their own.
+-- The dependencies are those of both.
+--     MayArrive routes h p      a packet that goes by header h may come to input p
 --     Depends routes p q      input p depends on input q
 --     IsAcyclic routes      there are ranks of the inputs that fall along every dependency
 --     IsCycle routes dependencies      inputs each of which depends on the next, and the last on the first
-use Rattle.std.specs.Prelude.{ℕ, ◌≡◌, ◌<◌, ◌≤◌, ◌*◌, List, [], ◌∷◌, Some, length}
-use Rattle.c104_check.specs.Reach.{IsReached}
+use Rattle.std.specs.Prelude.{ℕ, ◌≡◌, ◌<◌, ◌≤◌, ◌*◌, ◌⊎◌, List, [], ◌∷◌, Some, length}
+use Rattle.c104_check.specs.Parts.{IsBeginning, IsRandomBeginning, IsReachedFrom}
 use Rattle.c104_check.specs.Routes.{IsRandomized, Routes, SwitchPort, owner}
 use Rattle.c104_check.specs.Shown.{Follows}
 -- an input, and a header by which it depends on the next
 pub use Rattle.c104_check.specs.declared.cycles.ChannelDependency.{ChannelDependency}
 
--- a header that has an owner may come to input p from some terminal, and go on over one wire to input q
+-- packets begin to go by header h at input p: it is a label, and they begin there by their own headers; or it is a
+-- random header that may be put before them there
+abbrev pub IsBeginningBy : Routes → ℕ → SwitchPort → Type 0
+IsBeginningBy routes h p = ((t : ℕ) × (owner routes h ≡ Some t) × IsBeginning routes p) ⊎ IsRandomBeginning routes h p
+
+-- a packet that goes by header h may come to input p, over some wires
+abbrev pub MayArrive : Routes → ℕ → SwitchPort → Type 0
+MayArrive routes h p = IsReachedFrom routes h (IsBeginningBy routes h) p
+
+-- and go on over one wire to input q
 abbrev pub DependsBy : Routes → ℕ → SwitchPort → SwitchPort → Type 0
-DependsBy routes h p q = (t : ℕ) × (owner routes h ≡ Some t) × IsReached routes h p × Follows routes h p q
+DependsBy routes h p q = MayArrive routes h p × Follows routes h p q
 
 -- some header may. A group of links gives a dependency over each of them, since a packet may take any.
 abbrev pub Depends : Routes → SwitchPort → SwitchPort → Type 0
 Depends routes p q = (h : ℕ) × DependsBy routes h p q
 
--- random headers are put before packets at no input. Where they are, packets also wait by these, and from portals on by
--- their own headers; so what is concluded of packets from the dependencies here takes this as a premise.
+-- random headers are put before packets at no input: packets go by their own headers alone, from the entries of all
+-- terminals on
 abbrev pub IsNeverRandomized : Routes → Type 0
 IsNeverRandomized routes = (p : SwitchPort) → IsRandomized routes p → ⊥
 

@@ -3,8 +3,8 @@
 --     AreDependencies routes table      each that stands there is one
 --     AreListedBelow routes table n      each by a header below n stands there
 use Rattle.std.specs.Prelude.{ℕ, ◌≡◌, ◌<◌, ◌≤◌, ◌+◌, ◌*◌, List, Option, None, Some, length, is_some, slice_index_or, true}
-use Rattle.c104_check.specs.ChannelDependencies.{DependsBy}
-use Rattle.c104_check.specs.Reach.{IsReached}
+use Rattle.c104_check.specs.ChannelDependencies.{DependsBy, MayArrive}
+use Rattle.c104_check.specs.Parts.{IsReachedAsOwn, IsReachedAsRandom}
 use Rattle.c104_check.specs.Routes.{Routes, SwitchPort, owner, place, to_port}
 use Rattle.c104_check.specs.Shown.{Follows}
 use Rattle.c104_check.specs.Trails.{IsInput}
@@ -38,13 +38,21 @@ AreListedFrom routes table at first end = (o : ℕ) → first ≤ o → o < end 
 abbrev pub AreListedAt : Routes → List (Option Dependency) → ℕ → SwitchPort → Type 0
 AreListedAt routes table h p = (q : SwitchPort) → (follows : Follows routes h p q) → (follows.1 < 32) × (is_some (dependency_at table (dependency_place p follows.1)) ≡ true)
 
--- from each input to which it may come
+-- from each input to which packets may come that go by it
 abbrev pub AreListedFor : Routes → List (Option Dependency) → ℕ → Type 0
-AreListedFor routes table h = (p : SwitchPort) → IsReached routes h p → AreListedAt routes table h p
+AreListedFor routes table h = (p : SwitchPort) → MayArrive routes h p → AreListedAt routes table h p
 
--- for each header below n that has an owner
+-- from those to which it may come as the own header of packets
+abbrev pub AreListedAsOwn : Routes → List (Option Dependency) → ℕ → Type 0
+AreListedAsOwn routes table h = (t : ℕ) (p : SwitchPort) → owner routes h ≡ Some t → IsReachedAsOwn routes h p → AreListedAt routes table h p
+
+-- and from those to which it may come as a random one
+abbrev pub AreListedAsRandom : Routes → List (Option Dependency) → ℕ → Type 0
+AreListedAsRandom routes table h = (p : SwitchPort) → IsReachedAsRandom routes h p → AreListedAt routes table h p
+
+-- for each header below n
 abbrev pub AreListedBelow : Routes → List (Option Dependency) → ℕ → Type 0
-AreListedBelow routes table n = (h t : ℕ) → h < n → owner routes h ≡ Some t → AreListedFor routes table h
+AreListedBelow routes table n = (h : ℕ) → h < n → AreListedFor routes table h
 
 -- a table before and after more dependencies were listed
 pub record IsExtended (routes : Routes) (old new : List (Option Dependency)) : Type 0 where

@@ -114,7 +114,3 @@ Has inputs p = is_met p inputs ≡ true
 -- these are just the inputs of which this holds
 abbrev pub AreJust : (SwitchPort → Type 0) → List SwitchPort → Type 0
 AreJust P inputs = (p : SwitchPort) → Has inputs p ↔ P p
-
--- the input of some terminal
-abbrev pub IsEntry : Routes → SwitchPort → Type 0
-IsEntry routes p = (t : ℕ) × IsEntryOf routes t p

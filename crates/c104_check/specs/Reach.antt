@@ -1,7 +1,7 @@
 -- Where a header may come from all terminals, and by which links it may go on.
 --     IsReached routes h p      header h may come to input p from some terminal
 --     IsTaken routes h q      and by link q it may leave such an input
-use Rattle.std.specs.Prelude.{◌≡◌, ◌↔◌, ℕ, ◌<◌, ◌≤◌, ◌&&◌, true, List, [], ◌∷◌, ◌++◌, length, nat_le, slice_get, Option, Some, None, if◌then◌else◌}
+use Rattle.std.specs.Prelude.{◌≡◌, ℕ, ◌<◌, ◌≤◌, ◌&&◌, true, List, [], ◌∷◌, ◌++◌, length, nat_le, slice_get, Option, Some, None, if◌then◌else◌}
 use Rattle.std.specs.List.{AllByRecursion, IsDistinct}
 use Rattle.c104_crossbar.specs.declared.group.Group.{Group}
 use Rattle.c104_interval.specs.declared.intervals.Select.TheVariants.{Link}
@@ -35,10 +35,6 @@ MayTake routes h p q =
 -- it may leave by link q some input to which it may come
 abbrev pub IsTaken : Routes → ℕ → SwitchPort → Type 0
 IsTaken routes h q = (p : SwitchPort) × IsReached routes h p × MayTake routes h p q
-
--- these are the inputs to which the header may come
-abbrev pub AreReached : Routes → ℕ → List SwitchPort → Type 0
-AreReached routes h inputs = (p : SwitchPort) → (is_met p inputs ≡ true) ↔ IsReached routes h p
 
 -- inputs of the network, none of them twice
 pub record AreDistinctInputs (routes : Routes) (inputs : List SwitchPort) : Type 0 where

@@ -22,7 +22,7 @@ use std::alloc::Global;
 pub struct ChannelDependency {
     /// The input.
     pub input: SwitchPort,
-    /// The header, a label of some terminal.
+    /// The header: a label of some terminal, or a random header that is put before packets.
     pub header: u32,
 }
 
@@ -72,7 +72,8 @@ pub enum RanksOrCycle {
 /// dependency. There are never both. It fails only when out of memory.
 ///
 /// Dependencies are those by headers that have owners, from the inputs of terminals on. Where random headers are put
-/// before packets there are others, by these and from the inputs that discard them on, of which nothing is told.
+/// before packets they are those by these, from there on, and by headers that have owners from the inputs on that
+/// discard these.
 pub fn find_cycle(alloc: Global, plan: &Plan, image: &Image) -> Result<RanksOrCycle, NoMemory>
     requires fits { Fits image.now plan.now }
     requires accepted { IsAccepted (routes_of plan.now image.now) }

@@ -3,6 +3,7 @@ ghost use Rattle.std.specs.Prelude.{◌≡◌, ◌<◌, ◌≤◌};
 
 use crate::ports::SwitchPort;
 use crate::routes::Routes;
+use crate::starts::Start;
 use c104_describe::Port;
 use c104_regs::LINKS;
 use c104_token::NoMemory;
@@ -18,12 +19,13 @@ pub(crate) struct Dependency {
 }
 
 impl<'a> Routes<'a> {
-    ghost use Rattle.std.specs.Prelude.{◌≡◌, ◌*◌, ℕ, OnOk, length, IfOk, Some};
-    ghost use Rattle.c104_check.specs.Dependencies.{AreDependencies, AreListedBelow, IsExtended, AreListedAt, AreListedFor, IsListedOver};
-    ghost use Rattle.c104_check.specs.Reach.{IsReached};
-    ghost use Rattle.c104_check.specs.Routes.{SwitchPort, header_count, owner, to_port};
+    ghost use Rattle.std.specs.Prelude.{◌≡◌, ◌*◌, OnOk, length, IfOk, Some};
+    ghost use Rattle.std.specs.List.{AllByRecursion};
+    ghost use Rattle.c104_check.specs.ChannelDependencies.{DependsBy, MayArrive};
+    ghost use Rattle.c104_check.specs.Dependencies.{AreDependencies, AreListedBelow, IsExtended, AreListedAt, AreListedAsOwn, AreListedAsRandom, AreListedFor, IsListedOver};
+    ghost use Rattle.c104_check.specs.Routes.{SwitchPort, header_count, to_port};
+    ghost use Rattle.c104_check.specs.Starts.{AreOwnStarts};
     ghost use Rattle.c104_check.specs.Trails.{IsInput, IsNetwork, routes_in};
-    ghost use Rattle.c104_check.specs.ChannelDependencies.{DependsBy};
 
     /// The dependencies of all inputs. That of an input over a link of its switch stands at its place times 32 and
     /// the link.
@@ -33,26 +35,27 @@ impl<'a> Routes<'a> {
         ensures dependencies { IfOk result (λ table. AreDependencies (routes_in self.now) table.items) }
         ensures listed { IfOk result (λ table. AreListedBelow (routes_in self.now) table.items (header_count (routes_in self.now))) }
     {
+        let starts = self.own_starts(alloc)?;
         let mut table = vec![in alloc; None::<Dependency>; self.switch_count() * LINKS * LINKS]?;
-        self.add_dependencies(alloc, &mut table)?;
+        self.add_dependencies(alloc, starts.as_slice(), &mut table)?;
         Ok(table)
     }
 
-    /// Adds the dependencies by all headers that have owners.
+    /// Adds the dependencies by all headers, where own headers begin at these starts.
     fn add_dependencies(
         &self,
         alloc: Global,
+        starts: &[Start],
         table: &mut [Option<Dependency>],
     ) -> Result<(), NoMemory>
         requires network { IsNetwork (routes_in self.now) }
+        requires starts { AreOwnStarts (routes_in self.now) starts.now (length (routes_in self.now).ranges) }
         requires room { length table.old ≡ length (routes_in self.now).settings * 32 * 32 }
         ensures kept { OnOk result (IsExtended (routes_in self.now) table.old table.new) }
         ensures listed { OnOk result (AreListedBelow (routes_in self.now) table.new (header_count (routes_in self.now))) }
     {
         for header in 0..self.header_count() {
-            if self.owner(header).is_some() {
-                self.add_by_header(alloc, header, table)?;
-            }
+            self.add_by_header(alloc, header, starts, table)?;
         }
         Ok(())
     }
@@ -62,25 +65,76 @@ impl<'a> Routes<'a> {
         &self,
         alloc: Global,
         header: u32,
+        starts: &[Start],
         table: &mut [Option<Dependency>],
     ) -> Result<(), NoMemory>
-        requires owned { (t : ℕ) × (owner (routes_in self.now) header ≡ Some t) }
         requires network { IsNetwork (routes_in self.now) }
+        requires starts { AreOwnStarts (routes_in self.now) starts.now (length (routes_in self.now).ranges) }
         requires room { length table.old ≡ length (routes_in self.now).settings * 32 * 32 }
         ensures kept { OnOk result (IsExtended (routes_in self.now) table.old table.new) }
         ensures listed { OnOk result (AreListedFor (routes_in self.now) table.new header) }
     {
-        let inputs = self.reached(alloc, header)?;
-        for at in inputs.as_slice() {
+        self.add_as_own(alloc, header, starts, table)?;
+        self.add_as_random(alloc, header, table)?;
+        Ok(())
+    }
+
+    /// By one as the own header of packets, if it has an owner.
+    fn add_as_own(
+        &self,
+        alloc: Global,
+        header: u32,
+        starts: &[Start],
+        table: &mut [Option<Dependency>],
+    ) -> Result<(), NoMemory>
+        requires network { IsNetwork (routes_in self.now) }
+        requires starts { AreOwnStarts (routes_in self.now) starts.now (length (routes_in self.now).ranges) }
+        requires room { length table.old ≡ length (routes_in self.now).settings * 32 * 32 }
+        ensures kept { OnOk result (IsExtended (routes_in self.now) table.old table.new) }
+        ensures listed { OnOk result (AreListedAsOwn (routes_in self.now) table.new header) }
+    {
+        if self.owner(header).is_none() {
+            return Ok(());
+        }
+        let inputs = self.reached_as_own(alloc, header, starts)?;
+        self.add_at_all(header, inputs.as_slice(), table);
+        Ok(())
+    }
+
+    /// By one as a random header.
+    fn add_as_random(
+        &self,
+        alloc: Global,
+        header: u32,
+        table: &mut [Option<Dependency>],
+    ) -> Result<(), NoMemory>
+        requires network { IsNetwork (routes_in self.now) }
+        requires room { length table.old ≡ length (routes_in self.now).settings * 32 * 32 }
+        ensures kept { OnOk result (IsExtended (routes_in self.now) table.old table.new) }
+        ensures listed { OnOk result (AreListedAsRandom (routes_in self.now) table.new header) }
+    {
+        let inputs = self.reached_as_random(alloc, header)?;
+        self.add_at_all(header, inputs.as_slice(), table);
+        Ok(())
+    }
+
+    /// By one at each of these inputs.
+    fn add_at_all(&self, header: u32, inputs: &[SwitchPort], table: &mut [Option<Dependency>])
+        requires arrive { AllByRecursion (MayArrive (routes_in self.now) header) inputs.now }
+        requires inside { AllByRecursion (IsInput (length (routes_in self.now).settings)) inputs.now }
+        requires network { IsNetwork (routes_in self.now) }
+        requires room { length table.old ≡ length (routes_in self.now).settings * 32 * 32 }
+        ensures kept { IsExtended (routes_in self.now) table.old table.new }
+        ensures listed { AllByRecursion (AreListedAt (routes_in self.now) table.new header) inputs.now }
+    {
+        for at in inputs {
             self.add_at_input(header, *at, table);
         }
-        Ok(())
     }
 
     /// The same at one input.
     fn add_at_input(&self, header: u32, at: SwitchPort, table: &mut [Option<Dependency>])
-        requires owned { (t : ℕ) × (owner (routes_in self.now) header ≡ Some t) }
-        requires reached { IsReached (routes_in self.now) header at }
+        requires arrives { MayArrive (routes_in self.now) header at }
         requires network { IsNetwork (routes_in self.now) }
         requires input { IsInput (length (routes_in self.now).settings) at }
         requires room { length table.old ≡ length (routes_in self.now).settings * 32 * 32 }

@@ -20,13 +20,13 @@ pub struct DependencyEdge {
     pub input: SwitchPort,
     /// The other, at the far end of a link that the header may take.
     pub next: SwitchPort,
-    /// The highest such header, a label of some terminal.
+    /// The highest such header: a label of some terminal, or a random header that is put before packets.
     pub header: u32,
 }
 
 /// The dependencies of all inputs on one another in the accepted network of an image for a plan, in the order of the
-/// inputs and then of the links by which packets go on. Those by random headers, and by headers behind these, aren't
-/// among them. It fails only when out of memory.
+/// inputs and then of the links by which packets go on. Those by random headers are among them, and those by headers
+/// behind these. It fails only when out of memory.
 pub fn channel_dependencies(
     alloc: Global,
     plan: &Plan,

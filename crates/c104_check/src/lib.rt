@@ -8,8 +8,9 @@
 //! is of ([`WalkKind`]) and which step of it leads wrong, and [`find_mend`] what the header would have to select.
 //!
 //! [`find_cycle`] tells whether inputs of an accepted network may wait for one another in a cycle, which is what a
-//! deadlock needs; [`channel_dependencies`] lists which may wait for which. Both speak of networks where random headers
-//! are put before packets as if none were; [`first_randomized`] tells whether there is a link that does it.
+//! deadlock needs; [`channel_dependencies`] lists which may wait for which. Where random headers are put before packets
+//! both speak of the two parts of packets' ways: by such a header, and by their own behind it. [`first_randomized`]
+//! tells whether there is a link that puts any.
 #![tactic(auto)]
 
 mod acceptance;

@@ -14,26 +14,14 @@ impl<'a> Routes<'a> {
     ghost use Rattle.std.specs.Prelude.{◌≡◌, ◌≢◌, ◌↔◌, ℕ, [], length, OnOk, IfOk, IsTrue, MatchOption, Some};
     ghost use Rattle.std.specs.List.{AllByRecursion};
     ghost use Rattle.c104_interval.specs.declared.intervals.Select.TheVariants.{Link};
-    ghost use Rattle.c104_check.specs.Parts.{AreJust, Has, IsBeginning, IsEntry, IsRandomBeginning, IsReachedAsOwn, IsReachedAsRandom, IsReachedFrom};
-    ghost use Rattle.c104_check.specs.Reach.{AreDistinctInputs, AreReached, HaveFollowers, IsLongerBy, IsSelected, MayTake, with_peer};
+    ghost use Rattle.c104_check.specs.Parts.{AreJust, Has, IsBeginning, IsRandomBeginning, IsReachedAsOwn, IsReachedAsRandom, IsReachedFrom};
+    ghost use Rattle.c104_check.specs.Reach.{AreDistinctInputs, HaveFollowers, IsLongerBy, IsSelected, MayTake, with_peer};
     ghost use Rattle.c104_check.specs.Routes.{select, to_port};
     ghost use Rattle.c104_check.specs.Shown.{Follows};
     ghost use Rattle.c104_check.specs.Starts.{AreOwnStarts};
     ghost use Rattle.c104_check.specs.Trails.{IsInput, IsNetwork, routes_in};
 
-    /// The inputs to which a header may come from those of all terminals.
-    pub(crate) fn reached(&self, alloc: Global, header: u32) -> Result<Vec<SwitchPort>, NoMemory>
-        ensures reached { IfOk result (λ inputs. AreReached (routes_in self.now) header inputs.items) }
-        ensures inside { IfOk result (λ inputs.
-            AllByRecursion (IsInput (length (routes_in self.now).settings)) inputs.items) }
-    {
-        let mut inputs = MetInputs::new(alloc, self.switch_count() * LINKS)?;
-        self.add_entries(&mut inputs)?;
-        self.add_reached(header, &mut inputs)?;
-        Ok(inputs.into_inputs())
-    }
-
-    /// Those to which it may come as the own header of packets, where such begin at these starts.
+    /// The inputs to which a header may come as the own one of packets, where own headers begin at these starts.
     pub(crate) fn reached_as_own(
         &self,
         alloc: Global,
@@ -88,19 +76,7 @@ impl<'a> Routes<'a> {
         Ok(inputs.into_inputs())
     }
 
-    /// The inputs of all terminals join none.
-    fn add_entries(&self, inputs: &mut MetInputs) -> Result<(), NoMemory>
-        requires { inputs.old ≡ [] }
-        ensures distinct { OnOk result (AreDistinctInputs (routes_in self.now) inputs.new) }
-        ensures entries { OnOk result (AreJust (IsEntry (routes_in self.now)) inputs.new) }
-    {
-        for terminal in 0..self.ranges().len() {
-            inputs.add(self.entry(terminal))?;
-        }
-        Ok(())
-    }
-
-    /// And those before whose packets a header may be put as a random one.
+    /// The inputs of the terminals before whose packets a header may be put as a random one join none.
     fn add_random_entries(&self, header: u32, inputs: &mut MetInputs) -> Result<(), NoMemory>
         requires { inputs.old ≡ [] }
         ensures distinct { OnOk result (AreDistinctInputs (routes_in self.now) inputs.new) }

@@ -1,6 +1,10 @@
+use Rattle.std.proofs.Common.{arith}
 use Rattle.c104_check.specs.Trails.{routes_in}
-use Rattle.c104_check.proofs.DependencyLemmas.{from_all, from_next, extended_more}
+use Rattle.c104_check.proofs.DependencyLemmas.{from_all, from_next, extended_more, link_depends}
 use Rattle.c104_check.proofs.routes.Routes.add_at_input.Goals as goal
+
+pub add_over_link-requires-clause-depends : goal.add_over_link-requires-clause-depends
+add_over_link-requires-clause-depends c = λ q wired. link_depends (routes_in c.args.self.now) c.args.header c.loop-link.link c.in-Some.group c.args.at q c.requires.arrives c.in-Some.ensures (omega (arith, c.loop-link.auto.link, c.in-Some.ensures.in_order)) (omega (arith, c.loop-link-test.true, c.in-Some.ensures.in_order)) wired
 
 pub loop-link-preserved : goal.loop-link-preserved
 loop-link-preserved c = record {

@@ -1,9 +1,16 @@
-use Rattle.std.proofs.Common.{◌∙◌, ◌*◌, Option, List, sym, subst}
+use Rattle.std.proofs.Common.{◌∙◌, ◌*◌, Option, List, length, sym, subst}
 use Rattle.c104_check.specs.Dependencies.{AreDependencies, AreListedBelow, Dependency}
+use Rattle.c104_check.specs.Refusals.{Start}
 use Rattle.c104_check.specs.Routes.{header_count}
+use Rattle.c104_check.specs.Starts.{AreOwnStarts}
 use Rattle.c104_check.specs.Trails.{routes_in}
 use Rattle.c104_check.proofs.DependencyLemmas.{dependencies_none, none_only, written}
 use Rattle.c104_check.proofs.routes.Routes.dependencies.Goals as goal
+
+pub add_dependencies-requires-clause-starts : goal.add_dependencies-requires-clause-starts
+add_dependencies-requires-clause-starts c =
+    let routes = routes_in c.args.self.now in
+    subst (λ (xs : List Start). AreOwnStarts routes xs (length routes.ranges)) (sym c.as_slice.ensures.value) c.in_ok-starts.ensures
 
 pub returns-clause-listed : goal.returns-clause-listed
 returns-clause-listed c =
