@@ -1,19 +1,20 @@
 -- On a labelled cube no inputs depend on one another in a cycle.
-use Rattle.std.proofs.Common.{◌≡◌, ◌≢◌, ℕ, zero, suc, ◌<◌, ◌≤◌, ◌+◌, ◌-◌, ◌/◌, ◌%◌, ◌^◌, ◌==◌, ◌⊎◌, inl, inr, true, false, length, min, Some, refl, sym, ap, subst, ◌∙◌, ⊎_elim, arith}
+use Rattle.std.proofs.Common.{◌≡◌, ◌≢◌, ℕ, zero, suc, ◌<◌, ◌≤◌, ◌+◌, ◌-◌, ◌/◌, ◌%◌, ◌^◌, ◌==◌, ◌⊎◌, inl, inr, true, false, length, map, min, Some, refl, sym, ap, subst, ◌∙◌, ⊎_elim, arith}
+use Rattle.std.specs.List.{range_with_len}
 use Rattle.std.proofs.lemmas.Bool.{cases_Bool, cases_lt, eqb-true, eq-eqb}
 use Rattle.std.proofs.lemmas.Bool.Decides.{nat_tests}
 use Rattle.std.proofs.lemmas.Nat.{div_below, mod_below}
 use native.Mathlib.Nat.{div-eq_of_lt}
 use Rattle.c104_describe.specs.declared.ports.Port.TheVariants as port
 use Rattle.c104_describe.specs.Layouts.{IsCube, cube}
-use Rattle.c104_describe.specs.PlanImage.{Image}
+use Rattle.c104_describe.specs.PlanImage.{Image, range_of}
 use Rattle.c104_describe.specs.Plans.{IsPlan, Plan}
 use Rattle.c104_describe.specs.declared.plans.Shape.TheVariants.{Cube}
 use Rattle.c104_check.specs.declared.ports.SwitchPort.{SwitchPort}
 use Rattle.c104_check.specs.Routes.{IsEntryOf, Routes, routes_of, to_port}
-use Rattle.c104_check.specs.ChannelDependencies.{IsAcyclic, IsRanking, input_count}
+use Rattle.c104_check.specs.ChannelDependencies.{IsAcyclic, input_count}
 use Rattle.c104_check.specs.Trails.{IsInput}
-use Rattle.c104_check.proofs.AcyclicLemmas.{acyclic_by}
+use Rattle.c104_check.proofs.AcyclicLemmas.{FallsByLabels, acyclic_by, plain_ranking}
 use Rattle.c104_label.specs.Images.{IsCubeImage}
 use Rattle.c104_label.specs.Crossings.{cube_distance}
 use Rattle.c104_label.specs.CubeLabels.{bit, cube_table}
@@ -21,6 +22,7 @@ use Rattle.c104_label.proofs.AcceptedLayouts.{layout_routes}
 use Rattle.c104_label.proofs.AcceptedCubes.{cube_labelling, is_of, net}
 use Rattle.c104_label.proofs.CubeSelections.{cube_link}
 use Rattle.c104_label.proofs.CubeWalks.{IsFlipped, bits_agree, flipped_down, flipped_up, same_switch}
+use Rattle.c104_label.proofs.LabelledRoutes.{not_randomized}
 use Rattle.c104_label.proofs.LayoutRanks.{GoesOn, came_from, entry_link, goes_on}
 
 -- the highest bit first
@@ -120,8 +122,8 @@ module _ (plan : Plan) (d p : ℕ) (image : Image) (kept : IsPlan plan) (shape :
         set : (a : ℕ) → (a % 2 == 0) ≡ false → a % 2 ≡ 1
         set a is = let n : a % 2 ≡ 0 → ⊥ = λ e. grind (arith, nat_tests, e) in omega (arith, n)
 
-  -- the ranks fall wherever one input depends on another
-  cube_falls : IsRanking (layout_routes plan (cube d) (cube_table d p)) (cube_rank d)
+  -- the ranks fall wherever a label goes on
+  cube_falls : FallsByLabels (layout_routes plan (cube d) (cube_table d p)) (cube_rank d)
   cube_falls a b (l, (t, owned, reached, follows)) =
       let filled = (is_of plan d p image kept shape made).1 in
       let labelling = cube_labelling d p (is_of plan d p image kept shape made).0 in
@@ -140,4 +142,5 @@ module _ (plan : Plan) (d p : ℕ) (image : Image) (kept : IsPlan plan) (shape :
 
   pub cube_acyclic : IsAcyclic (routes_of plan image)
   cube_acyclic = subst (λ i. IsAcyclic (routes_of plan i)) (sym made.is)
-      (acyclic_by (layout_routes plan (cube d) (cube_table d p)) (cube_rank d) (net plan d p image kept shape made) cube_falls cube_low)
+      (acyclic_by (layout_routes plan (cube d) (cube_table d p)) (cube_rank d) (net plan d p image kept shape made)
+      (plain_ranking (layout_routes plan (cube d) (cube_table d p)) (cube_rank d) (λ q random. not_randomized plan (map range_of plan.terminals) (map (cube_table d p) (range_with_len 0 (2 ^ d))) q (is_of plan d p image kept shape made).1.unset.randoms random) cube_falls) cube_low)

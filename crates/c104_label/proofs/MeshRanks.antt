@@ -11,15 +11,15 @@ use Rattle.c104_describe.specs.Plans.{IsPlan, Plan}
 use Rattle.c104_describe.specs.declared.plans.Shape.TheVariants.{Mesh}
 use Rattle.c104_check.specs.declared.ports.SwitchPort.{SwitchPort}
 use Rattle.c104_check.specs.Routes.{IsEntryOf, Routes, routes_of, to_port}
-use Rattle.c104_check.specs.ChannelDependencies.{IsAcyclic, IsRanking, input_count}
+use Rattle.c104_check.specs.ChannelDependencies.{IsAcyclic, input_count}
 use Rattle.c104_check.specs.Trails.{IsInput}
-use Rattle.c104_check.proofs.AcyclicLemmas.{acyclic_by}
+use Rattle.c104_check.proofs.AcyclicLemmas.{FallsByLabels, acyclic_by, plain_ranking}
 use Rattle.c104_label.specs.Images.{IsMeshImage}
 use Rattle.c104_label.specs.Crossings.{mesh_distance}
 use Rattle.c104_label.specs.MeshLabels.{mesh_table}
 use Rattle.c104_label.proofs.AcceptedLayouts.{layout_routes}
 use Rattle.c104_label.proofs.AcceptedMeshes.{is_of, mesh_labelling, net}
-use Rattle.c104_label.proofs.LabelledRoutes.{settings_count}
+use Rattle.c104_label.proofs.LabelledRoutes.{not_randomized, settings_count}
 use Rattle.c104_label.proofs.LayoutRanks.{GoesOn, came_from, entry_link, goes_on}
 use Rattle.c104_label.proofs.MeshSelections.{mesh_above, mesh_below, mesh_left, mesh_link, mesh_own, mesh_right}
 use Rattle.c104_label.proofs.MeshWalks.{after_column, after_row, before_column, before_row, same_place}
@@ -164,8 +164,8 @@ module _ (plan : Plan) (w h p : ℕ) (image : Image) (kept : IsPlan plan) (shape
               Down row (ap (λ n. n / w) (sym to.0) ∙ step.0) (sym to.1)
         ]
 
-  -- the ranks fall wherever one input depends on another
-  mesh_falls : IsRanking (layout_routes plan (mesh w h) (mesh_table w h p)) (mesh_rank w h)
+  -- the ranks fall wherever a label goes on
+  mesh_falls : FallsByLabels (layout_routes plan (mesh w h) (mesh_table w h p)) (mesh_rank w h)
   mesh_falls a b (l, (t, owned, reached, follows)) =
       let filled = (is_of plan w h p image kept shape made).1 in
       let labelling = mesh_labelling w h p (is_of plan w h p image kept shape made).0 in
@@ -187,4 +187,5 @@ module _ (plan : Plan) (w h p : ℕ) (image : Image) (kept : IsPlan plan) (shape
 
   pub mesh_acyclic : IsAcyclic (routes_of plan image)
   mesh_acyclic = subst (λ i. IsAcyclic (routes_of plan i)) (sym made.is)
-      (acyclic_by (layout_routes plan (mesh w h) (mesh_table w h p)) (mesh_rank w h) (net plan w h p image kept shape made) mesh_falls mesh_low)
+      (acyclic_by (layout_routes plan (mesh w h) (mesh_table w h p)) (mesh_rank w h) (net plan w h p image kept shape made)
+      (plain_ranking (layout_routes plan (mesh w h) (mesh_table w h p)) (mesh_rank w h) (λ q random. not_randomized plan (map range_of plan.terminals) (map (mesh_table w h p) (range_with_len 0 (w * h))) q (is_of plan w h p image kept shape made).1.unset.randoms random) mesh_falls) mesh_low)

@@ -4,7 +4,7 @@ use Rattle.std.specs.List.{range_with_len}
 use Rattle.c104_interval.specs.declared.intervals.Row.{Row}
 use Rattle.c104_label.specs.LabelRows.{kept_rows, label_row, with_row}
 use Rattle.c104_label.specs.MeshLabels.{mesh_rows}
-use Rattle.c104_label.proofs.Quotients.{rows_fit, times}
+use Rattle.c104_label.proofs.Quotients.{times}
 use Rattle.c104_label.proofs.AddedRows.{added, rows_so_far, so_far_next}
 
 abbrev own_row : ℕ → ℕ → Row
@@ -29,8 +29,6 @@ front_last w h p s next is =
     let e : next ≡ (s / w + 1) * w = omega (arith, is) in
     ap (λ rows. with_row rows (label_row (w * h * p) 3)) (added all (label_row (next * p) 2)) ∙ added (all ++ label_row (next * p) 2 ∷ []) (label_row (w * h * p) 3) ∙ ap (λ n. kept_rows ((all ++ label_row (n * p) 2 ∷ []) ++ label_row (w * h * p) 3 ∷ [])) e
 
-pub mesh_small : (w h p s : ℕ) → 0 < w → 0 < p → s < w * h → w * h * p ≤ 256 → (s / w * w + w ≤ 256) × ((s / w * w + w) * p ≤ 256) × (w * h ≤ 256)
-mesh_small w h p s wide some lt all =
-    let next : s / w * w + w ≤ w * h = omega (arith, rows_fit s w h wide lt) in
-    let whole : w * h ≤ w * h * p = omega (arith, times 1 p (w * h) (omega (arith, some))) in
-    (omega (arith, next, whole, all), omega (arith, times (s / w * w + w) (w * h) p next, all), omega (arith, whole, all))
+-- a switch's own labels end where those of the mesh do, or before
+pub own_small : (w h p s : ℕ) → s < w * h → w * h * p ≤ 256 → s * p + p ≤ 256
+own_small w h p s inside all = omega (arith, times (s + 1) (w * h) p (omega (arith, inside)), all)

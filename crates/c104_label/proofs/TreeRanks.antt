@@ -18,14 +18,14 @@ use Rattle.c104_check.specs.declared.ports.SwitchPort.{SwitchPort}
 use Rattle.c104_check.specs.Reach.{IsReached}
 use Rattle.c104_check.specs.Routes.{IsEntryOf, Routes, has_label, owner, routes_of, to_port}
 use Rattle.c104_check.specs.Shown.{Follows}
-use Rattle.c104_check.specs.ChannelDependencies.{IsAcyclic, IsRanking, input_count}
+use Rattle.c104_check.specs.ChannelDependencies.{IsAcyclic, input_count}
 use Rattle.c104_check.specs.Trails.{IsInput}
-use Rattle.c104_check.proofs.AcyclicLemmas.{acyclic_by}
+use Rattle.c104_check.proofs.AcyclicLemmas.{FallsByLabels, acyclic_by, plain_ranking}
 use Rattle.c104_label.specs.Forests.{Forest, Grown, IsSpanning, child, empty, ends_of, is_met, links, switches}
 use Rattle.c104_label.specs.TreeLabels.{Place, forest_labels, labels_behind, net_of, own_labels, place, place_end, place_in, place_of, switch_table, tree_labels, tree_range}
 use Rattle.c104_label.specs.TreeImages.{HasLabel, IsBehind, IsTreeImage, SelectsInTree, most_labels, plan_labels, total_count}
 use Rattle.c104_label.proofs.ForestLemmas.{AllSwitches, AllSwitches-at, grown_switches, met_first, met_right, or_parts, switches_room, switches_root}
-use Rattle.c104_label.proofs.LabelledRoutes.{alone, settings_count}
+use Rattle.c104_label.proofs.LabelledRoutes.{alone, not_randomized, settings_count}
 use Rattle.c104_label.proofs.TreeAccepted.{is_network, owned, small_of, tree_plan}
 use Rattle.c104_label.proofs.TreePlaces.{Stands, either_case, if_case}
 use Rattle.c104_label.proofs.TreeTables.{place_known, standing}
@@ -287,8 +287,8 @@ module _ (plan : Plan) (kept : IsPlan plan) (root : ℕ) (is_tree : IsTreePlan r
       by_steps (Upper less out at) (Lower less' has') = let r = rank_upper h z a f.link f.back less in let r' = rank_lower h a b g.link g.back less' in let most = place_at h b.switch has' in omega (arith, r, r', most)
       by_steps (Upper less out at) (Upper less' out' at') = let r = rank_upper h z a f.link f.back less in let r' = rank_upper h a b g.link g.back less' in let most = bs_small b.switch at'.0 at'.1 in omega (arith, r, r', less', most)
 
-  -- the ranks fall wherever one input depends on another
-  spanning_ranked : IsRanking (tree_routes plan root forest) (tree_rank plan root forest)
+  -- the ranks fall wherever a label goes on
+  spanning_ranked : FallsByLabels (tree_routes plan root forest) (tree_rank plan root forest)
   spanning_ranked a b (h, (t, owns, reached, follows)) =
       let g = goes_on h t a b owns reached follows in
       ⊎_elim
@@ -332,7 +332,8 @@ rank_by_low plan root forest s (Some (port.Switch r b)) = by_test (nat_lt (below
 
 spanning_acyclic : (plan : Plan) (kept : IsPlan plan) (root : ℕ) (is_tree : IsTreePlan root plan) (forest : Forest) (spans : IsSpanning plan root forest) → plan_labels plan root forest ≤ most_labels plan → IsAcyclic (tree_routes plan root forest)
 spanning_acyclic plan kept root is_tree forest spans few =
-    acyclic_by (tree_routes plan root forest) (tree_rank plan root forest) (is_network plan kept root is_tree forest spans few) (spanning_ranked plan kept root is_tree forest spans few) low
+    acyclic_by (tree_routes plan root forest) (tree_rank plan root forest) (is_network plan kept root is_tree forest spans few)
+    (plain_ranking (tree_routes plan root forest) (tree_rank plan root forest) (λ q random. not_randomized plan (all_ranges plan root forest) (all_tables plan root forest) q is_tree.unset.randoms random) (spanning_ranked plan kept root is_tree forest spans few)) low
   where
     low : (q : SwitchPort) → IsInput (length (tree_routes plan root forest).settings) q → tree_rank plan root forest q ≤ input_count (tree_routes plan root forest)
     low q inside =

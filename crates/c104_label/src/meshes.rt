@@ -98,8 +98,24 @@ fn mesh_table(
     Ok(table_of(rows.as_slice()))
 }
 
-/// Where the labels of a switch's row of a mesh end, and those of the mesh. They are computed here and not where rows
-/// are added, since that they fit is proved by products.
+/// Where the labels of the rows above a switch's own row of a mesh end, and those of the switches before it. They are
+/// computed here and not where rows are added, since that they fit is proved by products.
+#[tactic(auto, using(crate::proofs::MeshRows::own_small))]
+fn first_limits(width: usize, height: usize, terminals: usize, switch: usize) -> (u32, usize)
+    requires wide { 0 < width }
+    requires some { 0 < terminals }
+    requires inside { switch < width * height }
+    requires few { width * height * terminals ≤ 256 }
+    ensures above { result.0 ≡ switch / width * width * terminals }
+    ensures own { result.1 ≡ switch * terminals }
+    ensures small { result.1 + terminals ≤ 256 }
+{
+    let above = switch / width * width;
+    ((above * terminals) as u32, switch * terminals)
+}
+
+/// Where the labels of a switch's row of a mesh end, and those of the mesh. They are computed here for the same
+/// reason.
 fn last_limits(width: usize, height: usize, terminals: usize, switch: usize) -> (u32, u32)
     requires wide { 0 < width }
     requires some { 0 < terminals }
@@ -132,13 +148,13 @@ fn mesh_rows(
     requires few { width * height * terminals ≤ 256 }
     ensures { IfOk result (λ rows. rows.items ≡ mesh_rows width height terminals switch) }
 {
+    let (above, own) = first_limits(width, height, terminals, switch);
     let (row, mesh) = last_limits(width, height, terminals, switch);
     let mut rows = Vec::new(alloc);
-    let above = switch / width * width;
-    add_row(&mut rows, (above * terminals) as u32, 0)?;
-    add_row(&mut rows, (switch * terminals) as u32, 1)?;
+    add_row(&mut rows, above, 0)?;
+    add_row(&mut rows, own as u32, 1)?;
     for terminal in 0..terminals {
-        let label = switch * terminals + terminal;
+        let label = own + terminal;
         add_row(&mut rows, (label + 1) as u32, (4 + terminal) as u8)?;
     }
     add_row(&mut rows, row, 2)?;
