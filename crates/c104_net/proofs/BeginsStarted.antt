@@ -1,7 +1,7 @@
 -- Nodes that start as their types keep, with all switches started, are started; so a finished run that stands still is
 -- quiet.
 use Rattle.c104_check.specs.Routes.{IsAccepted, routes_of}
-use Rattle.c104_check.specs.ChannelDependencies.{IsAcyclic, IsNeverRandomized}
+use Rattle.c104_check.specs.ChannelDependencies.{IsAcyclic}
 use Rattle.c104_describe.specs.PlanImage.{Image}
 use Rattle.c104_describe.specs.Plans.{IsPlan, Plan}
 use Rattle.c104_link.proofs.MadeSteps.{All-place}
@@ -46,11 +46,10 @@ module _ (A : Type 0) where
 
 -- a finished run, in which nobody changed the network, that stands still is quiet
 module _ (run : FinishedRecord) (is_plan : IsPlan run.finished.plan) (kept : IsKeptRun run) (image : Image) where
-  pub acyclic_run : IsAccepted (routes_of run.finished.plan image) → IsAcyclic (routes_of run.finished.plan image) → IsNeverRandomized (routes_of run.finished.plan image) → AreStartsOf run.finished.plan image run.starts → All IsStartedStart run.starts → IsUnchanged (routes_of run.finished.plan image) kept.events → IsAcyclicRun run.finished.plan image run.starts kept.events kept.nodes
-  acyclic_run accepted acyclic never set started unchanged = record {
+  pub acyclic_run : IsAccepted (routes_of run.finished.plan image) → IsAcyclic (routes_of run.finished.plan image) → AreStartsOf run.finished.plan image run.starts → All IsStartedStart run.starts → IsUnchanged (routes_of run.finished.plan image) kept.events → IsAcyclicRun run.finished.plan image run.starts kept.events kept.nodes
+  acyclic_run accepted acyclic set started unchanged = record {
     accepted = accepted;
     acyclic = acyclic;
-    never_randomized = never;
     set = set;
     started = starts_are_started Token run.finished.plan run.starts started;
     steady = kept.started;
@@ -58,5 +57,5 @@ module _ (run : FinishedRecord) (is_plan : IsPlan run.finished.plan) (kept : IsK
     unchanged = unchanged;
   }
 
-  pub run_stands : IsAccepted (routes_of run.finished.plan image) → IsAcyclic (routes_of run.finished.plan image) → IsNeverRandomized (routes_of run.finished.plan image) → AreStartsOf run.finished.plan image run.starts → All IsStartedStart run.starts → IsUnchanged (routes_of run.finished.plan image) kept.events → StandsStill plain_kind (network_of run.finished.plan kept.nodes) → IsQuiet (network_of run.finished.plan kept.nodes)
-  run_stands accepted acyclic never set started unchanged still = stands_quiet run.finished.plan image run.starts kept.events kept.nodes is_plan (acyclic_run accepted acyclic never set started unchanged) kept.sent still
+  pub run_stands : IsAccepted (routes_of run.finished.plan image) → IsAcyclic (routes_of run.finished.plan image) → AreStartsOf run.finished.plan image run.starts → All IsStartedStart run.starts → IsUnchanged (routes_of run.finished.plan image) kept.events → StandsStill plain_kind (network_of run.finished.plan kept.nodes) → IsQuiet (network_of run.finished.plan kept.nodes)
+  run_stands accepted acyclic set started unchanged still = stands_quiet run.finished.plan image run.starts kept.events kept.nodes is_plan (acyclic_run accepted acyclic set started unchanged) kept.sent still

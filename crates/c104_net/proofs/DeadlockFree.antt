@@ -16,7 +16,8 @@ use Rattle.c104_net.proofs.StartMaps.{starts_are}
 use Rattle.c104_net.proofs.StartedRuns.{run_started}
 use Rattle.c104_net.proofs.TracedRuns.{token_of, traced_from}
 use Rattle.c104_net.proofs.UndoneRounds.{undone_stands}
-use Rattle.c104_net.proofs.WorkBounds.{bound_by_tokens, work_within}
+use Rattle.c104_net.proofs.FullWork.{plain_work, random_within}
+use Rattle.c104_net.proofs.WorkBounds.{bound_by_tokens}
 use Rattle.c104_net.specs.DeadlockFreedom.{HasFullInbox, HasFullTrace, HasNoDeadlock, IsAcyclicNet, IsAllDelivered, NothingDone, RoundsDeliver}
 use Rattle.c104_net.specs.Deliveries.{Promise}
 use Rattle.c104_net.specs.EventRuns.{Outcome, StopsShort, run_events}
@@ -31,7 +32,8 @@ use Rattle.c104_net.specs.Starts.{start_node}
 use Rattle.c104_net.specs.Traced.{traced_kind}
 use Rattle.c104_net.specs.TracedRuns.{map_network, map_node}
 use Rattle.c104_net.specs.WiredActs.{IsRecordedAt}
-use Rattle.c104_net.specs.Work.{work}
+use Rattle.c104_net.specs.HeaderWork.{random_work}
+use Rattle.c104_net.specs.Work.{highest_rank}
 use Rattle.c104_net.specs.declared.traced.Traced.{Traced}
 use Rattle.c104_switch.specs.Actions.{Reply}
 use Rattle.c104_token.specs.Kinds.{plain_kind}
@@ -56,7 +58,6 @@ module _ (net : NetRecord) (is_plan : IsPlan net.network.plan) (kept : IsNetReco
   acyclic_run = record {
     accepted = is.accepted;
     acyclic = is.acyclic;
-    never_randomized = is.never_randomized;
     set = is.set;
     started = starts_are_started Token plan net.starts is.started;
     steady = kept.started;
@@ -74,18 +75,18 @@ module _ (net : NetRecord) (is_plan : IsPlan net.network.plan) (kept : IsNetReco
   abbrev Ended : NetRecord → Type 0
   Ended after = (last : Network Traced) × (map_network token_of last ≡ after.network) × (more : List (Event × Reply)) × IsDoneRun traced_kind (network_of plan (map start_node net.starts)) more last × IsQuiet last × Promise routes last
 
-  ended_so : (rank : SwitchPort → ℕ) → IsRanking routes rank → (n : ℕ) → work plan rank net.network.nodes < n → (after : NetRecord) → ◌≡◌ {A = Outcome (Network Token)} (run_events (network_apply plain_kind) net.network (rounds plan n)) (Ok tt, after.network) → Ended after
+  ended_so : (rank : SwitchPort → ℕ) → IsRanking routes rank → (n : ℕ) → random_work plan routes rank net.network.nodes < n → (after : NetRecord) → ◌≡◌ {A = Outcome (Network Token)} (run_events (network_apply plain_kind) net.network (rounds plan n)) (Ok tt, after.network) → Ended after
   ended_so rank falls n few after end =
       let found = traced_from plan net.starts net.network.nodes events kept.told.1.run in
       let mid : Network Traced = network_of plan found.0 in
       let balance = run_steady traced_kind (network_of plan (map start_node net.starts)) mid events is_plan found.1.run (still_steady Token Traced plan net.starts kept.started) in
       let started = run_started plain_kind routes (network_of plan (map start_node net.starts)) net.network events kept.told.1.run (is.unchanged events kept.told.1) acyclic_run.started in
-      let same : work plan rank found.0 ≡ work plan rank net.network.nodes = sym (work_map token_of plan rank found.0) ∙ ap (work plan rank) found.1.plain in
+      let same : random_work plan routes rank found.0 ≡ random_work plan routes rank net.network.nodes = sym (work_map token_of plan routes rank found.0) ∙ ap (random_work plan routes rank) found.1.plain in
       let after_traced = run_events (network_apply traced_kind) mid (rounds plan n) in
       let both : ◌≡◌ {A = Outcome (Network Token)} (after_traced.0, map_network token_of after_traced.1) (Ok tt, after.network) = sym (run_plain mid (rounds plan n)) ∙ ap (λ ns. run_events (network_apply plain_kind) (network_of plan ns) (rounds plan n)) found.1.plain ∙ end in
       let told : after_traced.0 ≡ Ok tt = ap (λ (z : Outcome (Network Token)). z.0) both in
       let whole : ◌≡◌ {A = Outcome (Network Traced)} after_traced (Ok tt, after_traced.1) = ap (λ o. (o, after_traced.1)) told in
-      let delivered = rounds_deliver image (network_of plan (map start_node net.starts)) mid after_traced.1 events rank n is_plan is.accepted is.never_randomized falls (starts_are plan image net.starts is.set) found.1.run (is.unchanged events kept.told.1) sent balance
+      let delivered = rounds_deliver image (network_of plan (map start_node net.starts)) mid after_traced.1 events rank n is_plan is.accepted falls (starts_are plan image net.starts is.set) found.1.run (is.unchanged events kept.told.1) sent balance
       (started_traced plan net.starts net.network.nodes events is_plan kept.told.1.run found.0 found.1.plain started) (subst (λ k. k < n) (sym same) few) whole in
       let more = done_of traced_kind (rounds plan n) mid after_traced.1 whole in (
         after_traced.1,
@@ -112,7 +113,7 @@ module _ (net : NetRecord) (is_plan : IsPlan net.network.plan) (kept : IsNetReco
         promise = subst (Promise routes) whole e.5;
       }
 
-  rounds_law : (rank : SwitchPort → ℕ) → IsRanking routes rank → (n : ℕ) → work plan rank net.network.nodes < n → RoundsDeliver routes net n
+  rounds_law : (rank : SwitchPort → ℕ) → IsRanking routes rank → (n : ℕ) → random_work plan routes rank net.network.nodes < n → RoundsDeliver routes net n
   rounds_law rank falls n few after ends =
       let stay = starts_stay net after (rounds plan n) (Ok tt) ends in
       ⊎_elim
@@ -128,7 +129,9 @@ module _ (net : NetRecord) (is_plan : IsPlan net.network.plan) (kept : IsNetReco
     rounds_deliver = rounds_law;
     rounds_suffice = λ n few.
         (let within : (p : SwitchPort) → is.acyclic.0 p ≤ 32 * length plan.switches = λ p. subst (λ m. is.acyclic.0 p ≤ 32 * m) is.fits.settings (is.acyclic.2 p) in
-        let most = work_within plan is.acyclic.0 within net.network.nodes in
+        let most = random_within plan routes is.acyclic.0 within net.network.nodes in
         rounds_law is.acyclic.0 is.acyclic.1 n (omega (arith, most, few)));
+    plain_work = λ plain rank. plain_work plan routes rank plain net.network.nodes;
+    plain_bound = λ plain. plain_work plan routes (highest_rank plan) plain net.network.nodes;
     bounded = bound_by_tokens plan net.network.nodes;
   }

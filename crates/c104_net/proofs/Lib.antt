@@ -92,6 +92,7 @@ pub mod RoundsEnd
 pub mod BeginsStarted
 pub mod RecordedRounds
 pub mod WorkBounds
+pub mod FullWork
 mod UndoneRounds
 pub mod DeadlockFree
 pub mod Waiting

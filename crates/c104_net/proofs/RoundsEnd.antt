@@ -1,6 +1,7 @@
 -- In an accepted network whose channels don't depend on one another in a cycle rounds go on until all is quiet: then each
 -- packet with an owner was received by it.
-use Rattle.c104_check.specs.Routes.{IsAccepted, routes_of}
+use Rattle.c104_check.specs.Routes.{IsAccepted, Routes, routes_of}
+use Rattle.c104_check.specs.Walks.{port_of}
 use Rattle.c104_check.specs.declared.ports.SwitchPort.{SwitchPort}
 use Rattle.c104_describe.specs.PlanImage.{Image}
 use Rattle.c104_describe.specs.Plans.{IsPlan, Plan}
@@ -28,12 +29,13 @@ use Rattle.c104_net.specs.Quiet.{IsQuiet, IsQuietNode}
 use Rattle.c104_net.specs.Rounds.{rounds}
 use Rattle.c104_net.specs.Runs.{IsDoneRun}
 use Rattle.c104_net.specs.Standstill.{IsStarted, IsAcyclicRun}
-use Rattle.c104_check.specs.ChannelDependencies.{IsNeverRandomized, IsRanking}
+use Rattle.c104_check.specs.ChannelDependencies.{IsRanking}
 use Rattle.c104_net.specs.Starts.{start_node}
 use Rattle.c104_net.specs.Traced.{traced_kind}
 use Rattle.c104_net.specs.TracedRuns.{map_incoming, map_input, map_network, map_node, map_outgoing}
 use Rattle.c104_net.specs.Unchanged.{IsUnchanged}
-use Rattle.c104_net.specs.Work.{header_held, incoming_work, input_work, level, link_work, node_work, sum_at, weigh, work}
+use Rattle.c104_net.specs.HeaderWork.{ahead_at, first_ahead, full_incoming, full_input, full_link, full_node, full_work, random_ahead, random_work}
+use Rattle.c104_net.specs.Work.{header_held, level, sum_at, weigh}
 use Rattle.c104_net.specs.declared.starts.NodeStart.{NodeStart}
 use Rattle.c104_net.specs.declared.traced.Traced.{Traced}
 use Rattle.c104_switch.specs.Actions.{Reply}
@@ -66,22 +68,32 @@ module _ {A B : Type 0} (f : A → B) where
   sum_map u v w h j [] = refl
   sum_map u v w h j (x ∷ xs) = rw (h j x, sum_map u v w h (suc j) xs) refl
 
-  module _ (plan : Plan) (rank : SwitchPort → ℕ) where
-    incoming_map : (far : ℕ) (b : Incoming A) → incoming_work plan rank far (map_incoming f b) ≡ incoming_work plan rank far b
-    incoming_map far b = rw (weigh_map (8 * far + 2) b.items, length-map b.items f) refl
+  module _ (plan : Plan) (rank ahead : SwitchPort → ℕ) where
+    first_map : (a : ℕ) (ph : Phase (List A)) → first_ahead plan rank ahead a (with_header (map f) ph) ≡ first_ahead plan rank ahead a ph
+    first_map a Fresh = refl
+    first_map a (Head b) = refl
+    first_map a (Want b g) = refl
+    first_map a (Stream o) = refl
+    first_map a Sinking = refl
 
-    input_map : (s l : ℕ) (p : Input A) → input_work plan rank s l (map_input f p) ≡ input_work plan rank s l p
-    input_map s l p = rw (incoming_map (level plan rank (Some (port.Switch s l))) p.buffer, held_map (8 * level plan rank (Some (port.Switch s l))) p.phase) refl
+    incoming_map : (far a : ℕ) (b : Incoming A) → full_incoming plan rank ahead far a (map_incoming f b) ≡ full_incoming plan rank ahead far a b
+    incoming_map far a b = rw (weigh_map (8 * far + 2 + a) b.items, length-map b.items f) refl
 
-    node_map : (k : ℕ) (n : Node A) → node_work plan rank k (map_node f n) ≡ node_work plan rank k n
+    input_map : (s l : ℕ) (p : Input A) → full_input plan rank ahead s l (map_input f p) ≡ full_input plan rank ahead s l p
+    input_map s l p = rw (incoming_map (level plan rank (Some (port.Switch s l))) (ahead (port_of s l)) p.buffer, held_map (8 * level plan rank (Some (port.Switch s l))) p.phase, first_map (ahead (port_of s l)) p.phase) refl
+
+    node_map : (k : ℕ) (n : Node A) → full_node plan rank ahead k (map_node f n) ≡ full_node plan rank ahead k n
     node_map k (node.Switch S) = rw (
-      sum_map (map_input f) (input_work plan rank k) (input_work plan rank k) (input_map k) 0 S.inputs,
-      sum_map (map_outgoing f) (link_work plan rank k) (link_work plan rank k) (λ l q. weigh_map (8 * level plan rank (peer plan (port.Switch k l)) + 4) q.items) 0 S.outputs,
+      sum_map (map_input f) (full_input plan rank ahead k) (full_input plan rank ahead k) (input_map k) 0 S.inputs,
+      sum_map (map_outgoing f) (full_link plan rank ahead k) (full_link plan rank ahead k) (λ l q. weigh_map (8 * level plan rank (peer plan (port.Switch k l)) + 4 + ahead_at plan rank ahead (peer plan (port.Switch k l))) q.items) 0 S.outputs,
     ) refl
-    node_map k (node.Terminal T) = rw (incoming_map 0 T.input, weigh_map (8 * level plan rank (peer plan (port.Terminal (k - length plan.switches))) + 4) T.output.items) refl
+    node_map k (node.Terminal T) = rw (incoming_map 0 0 T.input, weigh_map (8 * level plan rank (peer plan (port.Terminal (k - length plan.switches))) + 4 + ahead_at plan rank ahead (peer plan (port.Terminal (k - length plan.switches)))) T.output.items) refl
 
-    pub work_map : (nodes : List (Node A)) → work plan rank (map (map_node f) nodes) ≡ work plan rank nodes
-    work_map nodes = sum_map (map_node f) (node_work plan rank) (node_work plan rank) node_map 0 nodes
+    full_map : (nodes : List (Node A)) → full_work plan rank ahead (map (map_node f) nodes) ≡ full_work plan rank ahead nodes
+    full_map nodes = sum_map (map_node f) (full_node plan rank ahead) (full_node plan rank ahead) node_map 0 nodes
+
+  pub work_map : (plan : Plan) (routes : Routes) (rank : SwitchPort → ℕ) (nodes : List (Node A)) → random_work plan routes rank (map (map_node f) nodes) ≡ random_work plan routes rank nodes
+  work_map plan routes rank nodes = full_map plan rank (random_ahead routes rank) nodes
 
 -- a run of events over plain tokens is that over tokens that tell where they came from
 pub run_plain : (net : Network Traced) (es : List Event) → ◌≡◌ {A = Outcome (Network Token)} (run_events (network_apply plain_kind) (map_network token_of net) es) ((run_events (network_apply traced_kind) net es).0, map_network token_of (run_events (network_apply traced_kind) net es).1)
@@ -98,30 +110,30 @@ run_plain net (e ∷ es) =
 
 -- from a traced run: after more rounds than there is work nothing stands anywhere, and all promises are kept, so that
 -- each packet with a whole header that has an owner was received by it
-pub rounds_deliver : (image : Image) (start mid ended : Network Traced) (events : List (Event × Reply)) (rank : SwitchPort → ℕ) (n : ℕ) → IsPlan start.plan → IsAccepted (routes_of start.plan image) → IsNeverRandomized (routes_of start.plan image) → IsRanking (routes_of start.plan image) rank → IsStart image start → IsDoneRun traced_kind start events mid → IsUnchanged (routes_of start.plan image) events → AreBytesSent events →
-    IsSteady mid → IsStarted mid → work start.plan rank mid.nodes < n → ◌≡◌ {A = Outcome (Network Traced)} (run_events (network_apply traced_kind) mid (rounds start.plan n)) (Ok tt, ended) → IsQuiet ended × Promise (routes_of start.plan image) ended
-rounds_deliver image start mid ended events rank n is_plan accepted never falls is_start is_run all sent steady started few is =
+pub rounds_deliver : (image : Image) (start mid ended : Network Traced) (events : List (Event × Reply)) (rank : SwitchPort → ℕ) (n : ℕ) → IsPlan start.plan → IsAccepted (routes_of start.plan image) → IsRanking (routes_of start.plan image) rank → IsStart image start → IsDoneRun traced_kind start events mid → IsUnchanged (routes_of start.plan image) events → AreBytesSent events →
+    IsSteady mid → IsStarted mid → random_work start.plan (routes_of start.plan image) rank mid.nodes < n → ◌≡◌ {A = Outcome (Network Traced)} (run_events (network_apply traced_kind) mid (rounds start.plan n)) (Ok tt, ended) → IsQuiet ended × Promise (routes_of start.plan image) ended
+rounds_deliver image start mid ended events rank n is_plan accepted falls is_start is_run all sent steady started few is =
     let labelled : IsLabelled (routes_of start.plan image) = record { accepted = accepted; positive = header_positive start.plan image } in
     let k = each start.plan image is_plan labelled start.nodes mid events is_run all sent (starts start.plan image is_plan labelled start.nodes is_start) in
-    let r = rounds_rest start.plan image is_plan labelled never rank falls n k.0 ended k.2 (subst IsStarted (sym k.1) started) (subst IsSteady (sym k.1) steady)
-    (subst (λ (net : Network Traced). work start.plan rank net.nodes < n) (sym k.1) few)
+    let r = rounds_rest start.plan image is_plan labelled rank falls n k.0 ended k.2 (subst IsStarted (sym k.1) started) (subst IsSteady (sym k.1) steady)
+    (subst (λ (net : Network Traced). random_work start.plan (routes_of start.plan image) rank net.nodes < n) (sym k.1) few)
     (subst (λ net. ◌≡◌ {A = Outcome (Network Traced)} (run_events (network_apply traced_kind) net (rounds start.plan n)) (Ok tt, ended)) (sym k.1) is) in
     (subst IsQuiet r.is r.quiet, subst (Promise (routes_of start.plan image)) r.is (promised start.plan image is_plan labelled r.nodes r.good))
 
 -- over plain tokens: after more rounds than there is work nothing stands anywhere
-pub rounds_end : (plan : Plan) (image : Image) (starts : List NodeStart) (events : List (Event × Reply)) (nodes : List (Node Token)) (ended : Network Token) (n : ℕ) → IsPlan plan → (is : IsAcyclicRun plan image starts events nodes) → AreBytesSent events → work plan is.acyclic.0 nodes < n →
+pub rounds_end : (plan : Plan) (image : Image) (starts : List NodeStart) (events : List (Event × Reply)) (nodes : List (Node Token)) (ended : Network Token) (n : ℕ) → IsPlan plan → (is : IsAcyclicRun plan image starts events nodes) → AreBytesSent events → random_work plan (routes_of plan image) is.acyclic.0 nodes < n →
     ◌≡◌ {A = Outcome (Network Token)} (run_events (network_apply plain_kind) (network_of plan nodes) (rounds plan n)) (Ok tt, ended) → IsQuiet ended
 rounds_end plan image starts events nodes ended n is_plan is sent few end =
     let rank : SwitchPort → ℕ = is.acyclic.0 in
     let found = traced_from plan starts nodes events is.run in
     let balance = run_steady traced_kind (network_of plan (map start_node starts)) (network_of plan found.0) events is_plan found.1.run (still_steady Token Traced plan starts is.steady) in
     let started = run_started plain_kind (routes_of plan image) (network_of plan (map start_node starts)) (network_of plan nodes) events is.run is.unchanged is.started in
-    let same : work plan is.acyclic.0 found.0 ≡ work plan is.acyclic.0 nodes = sym (work_map token_of plan is.acyclic.0 found.0) ∙ ap (work plan is.acyclic.0) found.1.plain in
+    let same : random_work plan (routes_of plan image) is.acyclic.0 found.0 ≡ random_work plan (routes_of plan image) is.acyclic.0 nodes = sym (work_map token_of plan (routes_of plan image) is.acyclic.0 found.0) ∙ ap (random_work plan (routes_of plan image) is.acyclic.0) found.1.plain in
     let after = run_events (network_apply traced_kind) (network_of plan found.0) (rounds plan n) in
     let both : ◌≡◌ {A = Outcome (Network Token)} (after.0, map_network token_of after.1) (Ok tt, ended) = sym (run_plain (network_of plan found.0) (rounds plan n)) ∙ ap (λ ns. run_events (network_apply plain_kind) (network_of plan ns) (rounds plan n)) found.1.plain ∙ end in
     let told : after.0 ≡ Ok tt = ap (λ (z : Outcome (Network Token)). z.0) both in
     let whole : ◌≡◌ {A = Outcome (Network Traced)} after (Ok tt, after.1) = ap (λ o. (o, after.1)) told in
-    let quiet = (rounds_deliver image (network_of plan (map start_node starts)) (network_of plan found.0) after.1 events is.acyclic.0 n is_plan is.accepted is.never_randomized is.acyclic.1 (starts_are plan image starts is.set) found.1.run is.unchanged sent balance
+    let quiet = (rounds_deliver image (network_of plan (map start_node starts)) (network_of plan found.0) after.1 events is.acyclic.0 n is_plan is.accepted is.acyclic.1 (starts_are plan image starts is.set) found.1.run is.unchanged sent balance
     (started_traced plan starts nodes events is_plan is.run found.0 found.1.plain started) (subst (λ k. k < n) (sym same) few) whole).0 in
     let last : map_network token_of after.1 ≡ ended = ap (λ (z : Outcome (Network Token)). z.1) both in
     subst IsQuiet last (All-map IsQuietNode (map_node token_of) after.1.nodes (λ k d inside. quiet_map token_of (get_or after.1.nodes k d) (quiet k d inside)))

@@ -93,6 +93,6 @@ stands_quiet plan image starts events nodes is_plan is sent still =
     let balance = run_steady traced_kind (network_of plan (map start_node starts)) (network_of plan found.0) events is_plan found.1.run (still_steady Token Traced plan starts is.steady) in
     let started = run_started plain_kind (routes_of plan image) (network_of plan (map start_node starts)) (network_of plan nodes) events is.run is.unchanged is.started in
     quiet_plain plan starts nodes events is_plan is.run found.0 found.1.plain
-    (standstill image (network_of plan (map start_node starts)) (network_of plan found.0) events is_plan is.accepted is.acyclic is.never_randomized (starts_are plan image starts is.set) found.1.run is.unchanged sent balance
+    (standstill image (network_of plan (map start_node starts)) (network_of plan found.0) events is_plan is.accepted is.acyclic (starts_are plan image starts is.set) found.1.run is.unchanged sent balance
     (started_traced plan starts nodes events is_plan is.run found.0 found.1.plain started)
     (still_traced plan starts nodes events is_plan is.run found.0 found.1.plain (still_of plain_kind (network_of plan nodes) is_plan still)))

@@ -1,6 +1,6 @@
 -- An accepted network that stands still holds no token, where its channels don't depend on one another in a cycle.
-use Rattle.c104_check.specs.Reach.{IsReached}
-use Rattle.c104_check.specs.Routes.{IsAccepted, Routes, routes_of, settings_at, to_port}
+use Rattle.c104_check.specs.Parts.{Begins}
+use Rattle.c104_check.specs.Routes.{IsAccepted, IsEntryOf, Reaches, Routes, routes_of, settings_at, to_port}
 use Rattle.c104_check.specs.Walks.{port_of}
 use Rattle.c104_check.specs.declared.ports.SwitchPort.{SwitchPort}
 use Rattle.c104_describe.specs.PlanImage.{Image}
@@ -25,7 +25,7 @@ use Rattle.c104_net.specs.Nodes.{Node}
 use Rattle.c104_net.specs.Quiet.{IsQuiet, IsQuietNode}
 use Rattle.c104_net.specs.Runs.{IsDoneRun}
 use Rattle.c104_net.specs.Standstill.{IsStarted, IsStill}
-use Rattle.c104_check.specs.ChannelDependencies.{Depends, IsAcyclic, IsNeverRandomized, IsRanking}
+use Rattle.c104_check.specs.ChannelDependencies.{Depends, IsAcyclic, IsBeginningBy, IsRanking, MayArrive}
 use Rattle.c104_net.specs.Traced.{traced_kind}
 use Rattle.c104_net.specs.Traces.{part}
 use Rattle.c104_net.specs.Unchanged.{IsUnchanged}
@@ -84,19 +84,38 @@ nothing [] ys e = (refl, e)
 nothing (x ∷ xs) ys e = absurd (cc)
 
 module _ (routes : Routes) (wired : IsWired routes.peer) where
-  -- where a header may come, a wire leads
-  reached_wire : (h s l : ℕ) → IsReached routes h (port_of s l) → (P : Port) × (routes.peer (port.Switch s l) ≡ Some P)
-  reached_wire h s l (t, x, zero, entry, same) = (port.Terminal t, wired.back (port.Terminal t) (port.Switch s l) (entry ∙ ap (λ z. Some (to_port z)) same))
-  reached_wire h s l (t, x, suc m, entry, (z, from, follows)) = (port.Switch z.switch follows.1, wired.back (port.Switch z.switch follows.1) (port.Switch s l) follows.4)
+  -- a wire leads to an input
+  abbrev HasWire : SwitchPort → Type 0
+  HasWire p = (P : Port) × (routes.peer (to_port p) ≡ Some P)
+
+  -- one leads to an entry, and to where a header may come
+  entry_wire : (t : ℕ) (entry : SwitchPort) → IsEntryOf routes t entry → HasWire entry
+  entry_wire t entry at = (port.Terminal t, wired.back (port.Terminal t) (to_port entry) at)
+
+  reached_wire : (h m : ℕ) (x p : SwitchPort) → HasWire x → Reaches routes h m x p → HasWire p
+  reached_wire h zero x p at same = subst HasWire same at
+  reached_wire h (suc m) x p at (z, from, follows) = (port.Switch z.switch follows.1, wired.back (port.Switch z.switch follows.1) (to_port p) follows.4)
+
+  -- so one leads to where packets begin to go by a header, and to where they may come by it
+  begun_wire : (entry p : SwitchPort) (behind : Bool) → HasWire entry → Begins routes entry behind p → HasWire p
+  begun_wire entry p false at (same, plain) = subst HasWire (sym same) at
+  begun_wire entry p true at (r, m, random, reaches, discards) = reached_wire r m entry p at reaches
+
+  beginning_wire : (h : ℕ) (p : SwitchPort) → IsBeginningBy routes h p → HasWire p
+  beginning_wire h p (inl (t, owned, (u, behind, (entry, at, begins)))) = begun_wire entry p behind (entry_wire u entry at) begins
+  beginning_wire h p (inr (t, at, random)) = entry_wire t p at
+
+  arrived_wire : (h : ℕ) (p : SwitchPort) → MayArrive routes h p → HasWire p
+  arrived_wire h p (x, m, begins, reaches) = reached_wire h m x p (beginning_wire h x begins) reaches
 
   chosen_wire : (Q : Port) (l : ℕ) → IsChosen routes Q l → (P : Port) × (routes.peer Q ≡ Some P)
-  chosen_wire (port.Switch s i) l c = reached_wire c.0 s i c.3
+  chosen_wire (port.Switch s i) l c = arrived_wire c.0 (port_of s i) c.1
   chosen_wire (port.Terminal t) l c = absurd c
 
   pub depends_on : (s i l o s' i' : ℕ) → IsChosen routes (port.Switch s i) l → group_at routes (port.Switch s i) l o ≡ true → routes.peer (port.Switch s o) ≡ Some (port.Switch s' i') → Depends routes (port_of s i) (port_of s' i')
-  depends_on s i l o s' i' c group wire = (c.0, (c.1, c.2, c.3, (l, o, c.4, group, wire)))
+  depends_on s i l o s' i' c group wire = (c.0, (c.1, (l, o, c.2, group, wire)))
 
-  module _ (never : IsNeverRandomized routes) (w : World) (g : Ghost) where
+  module _ (w : World) (g : Ghost) where
     -- an input that has read all of its packet waits for one
     fresh_of : (Q : Port) (ph : Phase (List Traced)) → Suits routes w.book g Q ph → g.rest Q ≡ [] → ph ≡ Fresh
     fresh_of Q Fresh u e = refl
@@ -112,8 +131,8 @@ module _ (routes : Routes) (wired : IsWired routes.peer) where
     unwired_fresh : (Q : Port) (ph : Phase (List Traced)) → Suits routes w.book g Q ph → routes.peer Q ≡ None → ph ≡ Fresh
     unwired_fresh Q Fresh u none = refl
     unwired_fresh Q (Head b) u none = no_wire Q none u.3.wire
-    unwired_fresh Q (Want b l) u none = no_wire Q none (chosen_wire Q l (u.4 never))
-    unwired_fresh Q (Stream o) u none = no_wire Q none (chosen_wire Q u.4 (u.5 never))
+    unwired_fresh Q (Want b l) u none = no_wire Q none (chosen_wire Q l u.4)
+    unwired_fresh Q (Stream o) u none = no_wire Q none (chosen_wire Q u.4 u.5)
     unwired_fresh Q Sinking u none = no_wire Q none (u.2, u.3)
 
     -- and nothing stands before it
@@ -122,7 +141,7 @@ module _ (routes : Routes) (wired : IsWired routes.peer) where
     unwired_content Q (x ∷ xs) due none run = no_wire Q none run.1.wire
 
 module _ (plan : Plan) (image : Image) (is_plan : IsPlan plan) (labelled : IsLabelled (routes_of plan image)) (nodes : List (Node Traced)) (good : IsSettled plan image is_plan labelled nodes) (steady : IsSteady (network_of plan nodes)) (started : IsStarted (network_of plan nodes)) (still : IsStill traced_kind (network_of plan nodes))
-    (never : IsNeverRandomized (routes_of plan image)) (rank : SwitchPort → ℕ) (falls : IsRanking (routes_of plan image) rank) where
+    (rank : SwitchPort → ℕ) (falls : IsRanking (routes_of plan image) rank) where
   abbrev R : Routes
   R = routes_of plan image
 
@@ -212,8 +231,8 @@ module _ (plan : Plan) (image : Image) (is_plan : IsPlan plan) (labelled : IsLab
           streamed : (k : ℕ) → phases plan nodes (port.Switch s' k) ≡ Stream o → ⊥
           streamed k e =
               let u = streams_suit s' k o e in
-              let falling = falls (port_of s' k) (port_of s l) (depends_on (routes_of plan image) (wired plan is_plan) s' k u.4 o s l (u.5 never) u.6 back) in
-              let at = chosen_wire (routes_of plan image) (wired plan is_plan) (port.Switch s' k) u.4 (u.5 never) in
+              let falling = falls (port_of s' k) (port_of s l) (depends_on (routes_of plan image) (wired plan is_plan) s' k u.4 o s l u.5 u.6 back) in
+              let at = chosen_wire (routes_of plan image) (wired plan is_plan) (port.Switch s' k) u.4 u.5 in
               let read = before s' k at.0 falling at.1 (streams_on s' k o at.0 (port.Switch s l) at.1 back e gone) in
               rw read at u.0
 
@@ -247,7 +266,7 @@ module _ (plan : Plan) (image : Image) (is_plan : IsPlan plan) (labelled : IsLab
       streams : (o : ℕ) → phases plan nodes (port.Switch s l) ≡ Stream o → ((T : Port) → peer plan (port.Switch s o) ≡ Some T → 8 ≤ length (outs plan nodes (port.Switch s o))) → ⊥
       streams o e full =
           let u = streams_suit s l o e in
-          let none = free_out u.4 o u.1 (u.5 never) u.6 u.2 in
+          let none = free_out u.4 o u.1 u.5 u.6 u.2 in
           let over : 8 ≤ 0 = rw none at (full u.1 u.2) in
           omega (arith, over)
 
@@ -256,11 +275,11 @@ module _ (plan : Plan) (image : Image) (is_plan : IsPlan plan) (labelled : IsLab
           let u : Suits (routes_of plan image) (world_of plan image nodes).book good.holds.0 (port.Switch s l) (Want b o) = rw e at (good.holds.1.suits (port.Switch s l)) in
           let own : group_at (routes_of plan image) (port.Switch s l) o o ≡ true = own_group (continues_at (settings_at (routes_of plan image) s)) o in
           let out = u.2 o own in
-          let none = free_out o o out.0 (u.4 never) own out.1 in
+          let none = free_out o o out.0 u.4 own out.1 in
           let few : length b ≤ 8 = ⊎_elim (λ (h : (routes_of plan image).header ≡ 1). omega (arith, h, u.3)) (λ (h : (routes_of plan image).header ≡ 2). omega (arith, h, u.3)) (header_cases plan image) in
           let k = claimed traced_kind plan is_plan nodes steady started still s l o b P out.0 wire out.1 e none few in
           let v = streams_suit s k.0 o k.1 in
-          let at = chosen_wire (routes_of plan image) (wired plan is_plan) (port.Switch s k.0) v.4 (v.5 never) in
+          let at = chosen_wire (routes_of plan image) (wired plan is_plan) (port.Switch s k.0) v.4 v.5 in
           let read = idle (suc bound) s k.0 at.0 (omega arith) at.1 (streams_on s k.0 o at.0 out.0 at.1 out.1 k.1 none) in
           rw read at v.0
 
@@ -292,13 +311,13 @@ module _ (plan : Plan) (image : Image) (is_plan : IsPlan plan) (labelled : IsLab
       by_peer (Some P) e = record {
         none_in = none_in Q P e;
         none_out = drained traced_kind plan is_plan nodes steady started still Q P e (none_in P Q (peer_back plan is_plan Q P e));
-        waits = fresh_of (routes_of plan image) (wired plan is_plan) never (world_of plan image nodes) good.holds.0 Q (phases plan nodes Q) (good.holds.1.suits Q) (rest_read Q P e);
+        waits = fresh_of (routes_of plan image) (wired plan is_plan) (world_of plan image nodes) good.holds.0 Q (phases plan nodes Q) (good.holds.1.suits Q) (rest_read Q P e);
       }
       by_peer None e =
-          let fresh = unwired_fresh (routes_of plan image) (wired plan is_plan) never (world_of plan image nodes) good.holds.0 Q (phases plan nodes Q) (good.holds.1.suits Q) e in
+          let fresh = unwired_fresh (routes_of plan image) (wired plan is_plan) (world_of plan image nodes) good.holds.0 Q (phases plan nodes Q) (good.holds.1.suits Q) e in
           let read : good.holds.0.rest Q ≡ [] = rw fresh at (good.holds.1.suits Q) in
           let run : IsChannel (IsPiece (routes_of plan image) (world_of plan image nodes).book Q) [] ((world_of plan image nodes).content Q) (good.holds.0.due Q) = rw read at (good.holds.1.channel Q) in
-          let none : (world_of plan image nodes).content Q ≡ [] = unwired_content (routes_of plan image) (wired plan is_plan) never (world_of plan image nodes) good.holds.0 Q ((world_of plan image nodes).content Q) (good.holds.0.due Q) e run in
+          let none : (world_of plan image nodes).content Q ≡ [] = unwired_content (routes_of plan image) (wired plan is_plan) (world_of plan image nodes) good.holds.0 Q ((world_of plan image nodes).content Q) (good.holds.0.due Q) e run in
           let both = parts _ (rw e at none) in
           record { none_in = both.0; none_out = both.1; waits = fresh }
 
@@ -338,11 +357,11 @@ module _ (plan : Plan) (image : Image) (is_plan : IsPlan plan) (labelled : IsLab
   pub all_quiet : IsQuiet (network_of plan nodes)
   all_quiet = λ k d inside. node_quiet k (get_or nodes k d) (slice_get-get_or nodes k d inside)
 
--- in a network that is accepted and that nobody changes, where no link puts random headers before packets, and whose
--- channels don't depend on one another in a cycle: where no event of a round can be done, no token stands anywhere, and no packet is under way
-pub standstill : (image : Image) (start ended : Network Traced) (events : List (Event × Reply)) → IsPlan start.plan → IsAccepted (routes_of start.plan image) → IsAcyclic (routes_of start.plan image) → IsNeverRandomized (routes_of start.plan image) → IsStart image start → IsDoneRun traced_kind start events ended → IsUnchanged (routes_of start.plan image) events → AreBytesSent events →
+-- in a network that is accepted and that nobody changes, and whose channels don't depend on one another in a cycle:
+-- where no event of a round can be done, no token stands anywhere, and no packet is under way
+pub standstill : (image : Image) (start ended : Network Traced) (events : List (Event × Reply)) → IsPlan start.plan → IsAccepted (routes_of start.plan image) → IsAcyclic (routes_of start.plan image) → IsStart image start → IsDoneRun traced_kind start events ended → IsUnchanged (routes_of start.plan image) events → AreBytesSent events →
     IsSteady ended → IsStarted ended → IsStill traced_kind ended → IsQuiet ended
-standstill image start ended events is_plan accepted acyclic never is_start is_run all sent steady started still =
+standstill image start ended events is_plan accepted acyclic is_start is_run all sent steady started still =
     let labelled : IsLabelled (routes_of start.plan image) = record { accepted = accepted; positive = header_positive start.plan image } in
     let k = each start.plan image is_plan labelled start.nodes ended events is_run all sent (starts start.plan image is_plan labelled start.nodes is_start) in
-    subst IsQuiet k.1 (all_quiet start.plan image is_plan labelled k.0 k.2 (subst IsSteady (sym k.1) steady) (subst IsStarted (sym k.1) started) (subst (IsStill traced_kind) (sym k.1) still) never acyclic.0 acyclic.1)
+    subst IsQuiet k.1 (all_quiet start.plan image is_plan labelled k.0 k.2 (subst IsSteady (sym k.1) steady) (subst IsStarted (sym k.1) started) (subst (IsStill traced_kind) (sym k.1) still) acyclic.0 acyclic.1)

@@ -25,11 +25,11 @@ use Rattle.c104_describe.specs.declared.ports.Port.TheVariants as port
 use Rattle.c104_net.specs.declared.node.NodeOf.TheVariants as node
 
 module _ {X : Type 0} where
-  weigh_more : (a b : ℕ) → a ≤ b → (xs : List X) → weigh a xs ≤ weigh b xs
+  pub weigh_more : (a b : ℕ) → a ≤ b → (xs : List X) → weigh a xs ≤ weigh b xs
   weigh_more a b less [] = omega arith
   weigh_more a b less (x ∷ xs) = let rest = weigh_more a b less xs in omega (arith, less, rest)
 
-  sum_more : (f g : ℕ → X → ℕ) → ((j : ℕ) (x : X) → f j x ≤ g j x) → (j : ℕ) (xs : List X) → sum_at f j xs ≤ sum_at g j xs
+  pub sum_more : (f g : ℕ → X → ℕ) → ((j : ℕ) (x : X) → f j x ≤ g j x) → (j : ℕ) (xs : List X) → sum_at f j xs ≤ sum_at g j xs
   sum_more f g less j [] = omega arith
   sum_more f g less j (x ∷ xs) = let rest = sum_more f g less (suc j) xs in let here = less j x in omega (arith, here, rest)
 
@@ -52,7 +52,7 @@ module _ {X : Type 0} where
       omega (arith, rest)
 
 module _ (plan : Plan) (rank high : SwitchPort → ℕ) (less : (p : SwitchPort) → rank p ≤ high p) where
-  level_more : (q : Option Port) → level plan rank q ≤ level plan high q
+  pub level_more : (q : Option Port) → level plan rank q ≤ level plan high q
   level_more None = omega arith
   level_more (Some (port.Switch s l)) = let here = less (port_of s l) in omega (arith, here)
   level_more (Some (port.Terminal t)) = omega arith

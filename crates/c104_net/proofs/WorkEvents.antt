@@ -10,7 +10,7 @@ use Rattle.c104_link.specs.Steps.{joint_step_at, step_at, yield_step_at}
 use Rattle.c104_net.proofs.BalanceWires.{peer_back}
 use Rattle.c104_net.proofs.LinkActs.{Matches, first_some, leave_same, credit_out_same}
 use Rattle.c104_net.proofs.PlanWires.{matches}
-use Rattle.c104_net.proofs.WorkSteps.{claim_work, credit_in_work, credit_out_work, drain_work, enter_work, far_of, input_set, leave_work, own, sum_set, turn_work}
+use Rattle.c104_net.proofs.WorkSteps.{at_far, at_own, claim_work, credit_in_work, credit_out_work, drain_work, enter_work, far_of, input_set, leave_work, own, sum_set, turn_work}
 use Rattle.c104_net.specs.Balance.{AreInPlace, is_switch}
 use Rattle.c104_net.specs.Ends.{end_of}
 use Rattle.c104_net.specs.Network.{Network, network_of, network_step, terminal_place}
@@ -18,7 +18,10 @@ use Rattle.c104_net.specs.Nodes.{Node, node_claim, node_credit_in, node_credit_o
 use Rattle.c104_net.specs.Standstill.{IsStarted, IsStartedNode, IsStartedSwitch}
 use Rattle.c104_net.specs.Terminals.{Terminal, terminal_credit_in, terminal_credit_out, terminal_drain, terminal_enter, terminal_leave}
 use Rattle.c104_net.specs.Wires.{nodes_credit, nodes_cross}
-use Rattle.c104_net.specs.Work.{level, node_work, work}
+use Rattle.c104_net.specs.HeaderWork.{ahead_at, full_node, full_work}
+use Rattle.c104_net.specs.Work.{level}
+use Rattle.c104_check.specs.Walks.{port_of}
+use Rattle.c104_regs.specs.Settings.{header_length}
 use Rattle.c104_regs.specs.declared.settings.Settings.{Settings}
 use Rattle.c104_switch.specs.Actions.{Reply}
 use Rattle.c104_switch.specs.Claims.{input_claim, inputs_claim, put_header, streaming_input, switch_claim}
@@ -29,7 +32,7 @@ use Rattle.c104_switch.specs.declared.phase.Phase.{Phase}
 use Rattle.c104_switch.specs.declared.phase.Phase.TheVariants.{Fresh, Head, Sinking, Stream, Want}
 use Rattle.c104_token.specs.Kinds.{Kind}
 use Rattle.c104_token.specs.Tokens.{is_end}
-use Rattle.std.proofs.Common.{List, Option, Some, [], ap, arith, false, length, map, nat_le, nat_lt, not, refl, slice_get, slice_set, subst, sym, true, ℕ, ⊎_elim, ◌&&◌, ◌++◌, ◌+◌, ◌-◌, ◌<◌, ◌∙◌, ◌∷◌, ◌≡◌, ◌≤◌}
+use Rattle.std.proofs.Common.{◌*◌, List, Option, Some, [], ap, arith, false, length, map, nat_le, nat_lt, not, refl, slice_get, slice_set, subst, sym, true, ℕ, ⊎_elim, ◌&&◌, ◌++◌, ◌+◌, ◌-◌, ◌<◌, ◌∙◌, ◌∷◌, ◌≡◌, ◌≤◌}
 use Rattle.std.proofs.lemmas.Bool.{cases_Bool}
 use Rattle.std.proofs.lemmas.List.{length-set}
 use Rattle.std.proofs.lemmas.Option.{some_pair_parts}
@@ -48,24 +51,25 @@ IsOfRound (event.Drain t) = Unit {0}
 IsOfRound (event.Send t p) = ⊥
 IsOfRound (event.Control s bytes) = ⊥
 
--- what each way of a packet goes down, and no input puts a random header
-pub record AreFalling {A : Type 0} (plan : Plan) (rank : SwitchPort → ℕ) (nodes : List (Node A)) : Type 0 where
-  pub plain : (s i : ℕ) (S : Switch A) (t : Settings) → slice_get nodes s ≡ Some (node.Switch S) → slice_get S.settings i ≡ Some t → t.randomize ≡ false
-  pub streams : (s i o : ℕ) (S : Switch A) (p : Input A) → slice_get nodes s ≡ Some (node.Switch S) → slice_get S.inputs i ≡ Some p → p.phase ≡ Stream o → far_of plan rank (port.Switch s o) + 1 ≤ own plan rank (port.Switch s i)
-  pub wants : (s i o g : ℕ) (S : Switch A) (p : Input A) (b : List A) → slice_get nodes s ≡ Some (node.Switch S) → slice_get S.inputs i ≡ Some p → p.phase ≡ Want b g → is_in_group S.settings g o ≡ true → (0 < length b) × (far_of plan rank (port.Switch s o) + 1 ≤ own plan rank (port.Switch s i))
+-- what each way of a packet goes down, and what is counted in advance: at an input that puts random headers what one
+-- weighs, and one for the turn; at one that a switch is wired to nothing
+pub record AreFalling {A : Type 0} (plan : Plan) (rank ahead : SwitchPort → ℕ) (nodes : List (Node A)) : Type 0 where
+  pub puts : (s i : ℕ) (S : Switch A) (t : Settings) → slice_get nodes s ≡ Some (node.Switch S) → slice_get S.settings i ≡ Some t → t.randomize ≡ true → ahead (port_of s i) ≡ header_length t * (8 * own plan rank (port.Switch s i)) + 1
+  pub streams : (s i o : ℕ) (S : Switch A) (p : Input A) → slice_get nodes s ≡ Some (node.Switch S) → slice_get S.inputs i ≡ Some p → p.phase ≡ Stream o → (far_of plan rank (port.Switch s o) + 1 ≤ own plan rank (port.Switch s i)) × (at_far plan rank ahead (port.Switch s o) ≡ 0)
+  pub wants : (s i o g : ℕ) (S : Switch A) (p : Input A) (b : List A) → slice_get nodes s ≡ Some (node.Switch S) → slice_get S.inputs i ≡ Some p → p.phase ≡ Want b g → is_in_group S.settings g o ≡ true → (0 < length b) × (far_of plan rank (port.Switch s o) + 1 ≤ own plan rank (port.Switch s i)) × (at_far plan rank ahead (port.Switch s o) ≡ 0)
 
-module _ {A : Type 0} (kind : Kind A) (plan : Plan) (is_plan : IsPlan plan) (rank : SwitchPort → ℕ) (nodes : List (Node A)) (placed : AreInPlace plan nodes) (falling : AreFalling plan rank nodes) where
-  node_set : (k : ℕ) (n m : Node A) (all : List (Node A)) → slice_get all k ≡ Some n → work plan rank (slice_set all k m) + node_work plan rank k n ≡ work plan rank all + node_work plan rank k m
-  node_set k n m all e = sum_set (node_work plan rank) all k n m e
+module _ {A : Type 0} (kind : Kind A) (plan : Plan) (is_plan : IsPlan plan) (rank ahead : SwitchPort → ℕ) (nodes : List (Node A)) (placed : AreInPlace plan nodes) (falling : AreFalling plan rank ahead nodes) where
+  node_set : (k : ℕ) (n m : Node A) (all : List (Node A)) → slice_get all k ≡ Some n → full_work plan rank ahead (slice_set all k m) + full_node plan rank ahead k n ≡ full_work plan rank ahead all + full_node plan rank ahead k m
+  node_set k n m all e = sum_set (full_node plan rank ahead) all k n m e
 
   abbrev pub Less : Network A → Type 0
-  Less net' = work plan rank net'.nodes + 1 ≤ work plan rank nodes
+  Less net' = full_work plan rank ahead net'.nodes + 1 ≤ full_work plan rank ahead nodes
 
   -- what is left where one node has less
-  one_less : (k : ℕ) (n m : Node A) → slice_get nodes k ≡ Some n → node_work plan rank k m + 1 ≤ node_work plan rank k n → work plan rank (slice_set nodes k m) + 1 ≤ work plan rank nodes
+  one_less : (k : ℕ) (n m : Node A) → slice_get nodes k ≡ Some n → full_node plan rank ahead k m + 1 ≤ full_node plan rank ahead k n → full_work plan rank ahead (slice_set nodes k m) + 1 ≤ full_work plan rank ahead nodes
   one_less k n m e less = let all = node_set k n m nodes e in omega (arith, all, less)
 
-  left_is : (told r : Reply) (after : List (Node A)) (net' : Network A) → ◌≡◌ {A = Option (Reply × Network A)} (Some (told, network_of plan after)) (Some (r, net')) → work plan rank after + 1 ≤ work plan rank nodes → Less net'
+  left_is : (told r : Reply) (after : List (Node A)) (net' : Network A) → ◌≡◌ {A = Option (Reply × Network A)} (Some (told, network_of plan after)) (Some (r, net')) → full_work plan rank ahead after + 1 ≤ full_work plan rank ahead nodes → Less net'
   left_is told r after net' e less = let d : network_of plan after ≡ net' = (some_pair_parts told r (network_of plan after) net' e).1 in subst Less d less
 
   cross_less : (P : Port) (r : Reply) (net' : Network A) → network_step kind (network_of plan nodes) (event.Cross P) ≡ Some (r, net') → Less net'
@@ -81,15 +85,16 @@ module _ {A : Type 0} (kind : Kind A) (plan : Plan) (is_plan : IsPlan plan) (ran
       let kinds = (leave_same plan nodes P n y en near ey).2.kinds_are in
       let kinds' : map is_switch v.1 ≡ map is_switch nodes = ap (map is_switch) (sym mid) ∙ kinds in
       let far : Matches Q m = matches plan is_plan v.1 (kinds' ∙ placed) Q P m (peer_back plan is_plan P Q eQ) em in
-      let one = leave_work plan rank P n y near ey in
-      let two = enter_work plan rank Q v.0 m m' far em' in
+      let one = leave_work plan rank ahead P n y near ey in
+      let two = enter_work plan rank ahead Q v.0 m m' far em' in
       let first = node_set (end_of plan P).node n y.1 nodes en in
       let second = node_set (end_of plan Q).node m m' v.1 em in
       let same : far_of plan rank P ≡ own plan rank Q = ap (level plan rank) eQ in
-      let a : work plan rank (slice_set nodes (end_of plan P).node y.1) ≡ work plan rank v.1 = ap (work plan rank) mid in
-      let b : work plan rank (slice_set v.1 (end_of plan Q).node m') ≡ work plan rank after = ap (work plan rank) hm in
+      let ahead_is : at_far plan rank ahead P ≡ at_own plan rank ahead Q = ap (ahead_at plan rank ahead) eQ in
+      let a : full_work plan rank ahead (slice_set nodes (end_of plan P).node y.1) ≡ full_work plan rank ahead v.1 = ap (full_work plan rank ahead) mid in
+      let b : full_work plan rank ahead (slice_set v.1 (end_of plan Q).node m') ≡ full_work plan rank ahead after = ap (full_work plan rank ahead) hm in
       let d : (v.0, after) ≡ c = cc in
-      left_is (reply.Token (kind.plain c.0)) r c.1 net' e2 (subst (λ (z : A × List (Node A)). work plan rank z.1 + 1 ≤ work plan rank nodes) d (omega (arith, one, two, first, second, same, a, b))))))))))
+      left_is (reply.Token (kind.plain c.0)) r c.1 net' e2 (subst (λ (z : A × List (Node A)). full_work plan rank ahead z.1 + 1 ≤ full_work plan rank ahead nodes) d (omega (arith, one, two, first, second, same, ahead_is, a, b))))))))))
 
   credit_less : (P : Port) (r : Reply) (net' : Network A) → network_step kind (network_of plan nodes) (event.Credit P) ≡ Some (r, net') → Less net'
   credit_less P r net' e =
@@ -102,27 +107,27 @@ module _ {A : Type 0} (kind : Kind A) (plan : Plan) (is_plan : IsPlan plan) (ran
       let kinds = (credit_out_same plan nodes P n n' en near en').kinds_are in
       let kinds' : map is_switch mid ≡ map is_switch nodes = ap (map is_switch) (sym hv) ∙ kinds in
       let far : Matches Q m = matches plan is_plan mid (kinds' ∙ placed) Q P m (peer_back plan is_plan P Q eQ) em in
-      let one = credit_out_work plan rank P n n' near en' in
-      let two = credit_in_work plan rank Q m m' far em' in
+      let one = credit_out_work plan rank ahead P n n' near en' in
+      let two = credit_in_work plan rank ahead Q m m' far em' in
       let first = node_set (end_of plan P).node n n' nodes en in
       let second = node_set (end_of plan Q).node m m' mid em in
-      let a : work plan rank (slice_set nodes (end_of plan P).node n') ≡ work plan rank mid = ap (work plan rank) hv in
-      let b : work plan rank (slice_set mid (end_of plan Q).node m') ≡ work plan rank after = ap (work plan rank) hm in
+      let a : full_work plan rank ahead (slice_set nodes (end_of plan P).node n') ≡ full_work plan rank ahead mid = ap (full_work plan rank ahead) hv in
+      let b : full_work plan rank ahead (slice_set mid (end_of plan Q).node m') ≡ full_work plan rank ahead after = ap (full_work plan rank ahead) hm in
       left_is reply.Done r after net' e2 (omega (arith, one, two, first, second, a, b))))))))
 
   drain_less : (t : ℕ) (r : Reply) (net' : Network A) → network_step kind (network_of plan nodes) (event.Drain t) ≡ Some (r, net') → Less net'
   drain_less t r net' e =
       given (yield_step_at nodes (terminal_place plan t) node_drain) _ (r, net') e (λ v ev e2.
       from_place_made nodes (terminal_place plan t) node_drain v ev (λ n y en ey hv.
-      (let one = one_less (terminal_place plan t) n y.1 en (drain_work plan rank (terminal_place plan t) n y ey) in
-      left_is (reply.Token (kind.plain v.0)) r v.1 net' e2 (subst (λ (z : A × List (Node A)). work plan rank z.1 + 1 ≤ work plan rank nodes) hv one))))
+      (let one = one_less (terminal_place plan t) n y.1 en (drain_work plan rank ahead (terminal_place plan t) n y ey) in
+      left_is (reply.Token (kind.plain v.0)) r v.1 net' e2 (subst (λ (z : A × List (Node A)). full_work plan rank ahead z.1 + 1 ≤ full_work plan rank ahead nodes) hv one))))
 
   input_less : (s i word : ℕ) (r : Reply) (net' : Network A) → network_step kind (network_of plan nodes) (event.Input s i word) ≡ Some (r, net') → Less net'
   input_less s i word r net' e =
       given (step_at nodes s (node_input kind i word)) _ (r, net') e (λ ended ea e2.
-      at_place_made nodes s (node_input kind i word) ended ea (λ n n' en en' hv. left_is reply.Done r ended net' e2 (subst (λ z. work plan rank z + 1 ≤ work plan rank nodes) hv (one_less s n n' en (by_node n n' en en')))))
+      at_place_made nodes s (node_input kind i word) ended ea (λ n n' en en' hv. left_is reply.Done r ended net' e2 (subst (λ z. full_work plan rank ahead z + 1 ≤ full_work plan rank ahead nodes) hv (one_less s n n' en (by_node n n' en en')))))
     where
-      by_node : (n n' : Node A) → slice_get nodes s ≡ Some n → node_input kind i word n ≡ Some n' → node_work plan rank s n' + 1 ≤ node_work plan rank s n
+      by_node : (n n' : Node A) → slice_get nodes s ≡ Some n → node_input kind i word n ≡ Some n' → full_node plan rank ahead s n' + 1 ≤ full_node plan rank ahead s n
       by_node (node.Terminal T) n' en en' = absurd (cc)
       by_node (node.Switch S) n' en en' =
           given (switch_input kind S i word) _ n' en' (λ S' eS' d0.
@@ -131,18 +136,18 @@ module _ {A : Type 0} (kind : Kind A) (plan : Plan) (is_plan : IsPlan plan) (ran
           given (joint_step_at S.inputs i (λ p. input_turn kind t word p S.outputs)) _ S' f2 (λ v ev f3.
           with_place_made S.inputs i (λ p. input_turn kind t word p S.outputs) v ev (λ p y ep ey d1.
           given (slice_get p.buffer.items 0) _ y ey (λ x ex f4.
-          (let less = turn_work plan rank kind s i S t word p x y p.phase (falling.plain s i S t en et) (λ o streams. falling.streams s i o S p en ep streams) refl (first_some p.buffer.items x ex) f4 in
-          let all = input_set plan rank s S i p y.0 ep in
+          (let less = turn_work plan rank ahead kind s i S t word p x y p.phase (falling.puts s i S t en et) (λ o streams. falling.streams s i o S p en ep streams) refl (first_some p.buffer.items x ex) f4 in
+          let all = input_set plan rank ahead s S i p y.0 ep in
           let b : with_sides S v ≡ S' = cc in let c : node.Switch S' ≡ n' = cc in
           let d : ◌≡◌ {A = Node A} (node.Switch (with_sides S (slice_set S.inputs i y.0, y.1))) n' = ap (λ (z : List (Input A) × List (Outgoing A)). node.Switch (with_sides S z)) d1 ∙ ap node.Switch b ∙ c in
-          subst (λ z. node_work plan rank s z + 1 ≤ node_work plan rank s (node.Switch S)) d (omega (arith, less, all)))))))))
+          subst (λ z. full_node plan rank ahead s z + 1 ≤ full_node plan rank ahead s (node.Switch S)) d (omega (arith, less, all)))))))))
 
   claim_less : (s i o : ℕ) (r : Reply) (net' : Network A) → network_step kind (network_of plan nodes) (event.Claim s i o) ≡ Some (r, net') → Less net'
   claim_less s i o r net' e =
       given (step_at nodes s (node_claim i o)) _ (r, net') e (λ ended ea e2.
-      at_place_made nodes s (node_claim i o) ended ea (λ n n' en en' hv. left_is reply.Done r ended net' e2 (subst (λ z. work plan rank z + 1 ≤ work plan rank nodes) hv (one_less s n n' en (by_node n n' en en')))))
+      at_place_made nodes s (node_claim i o) ended ea (λ n n' en en' hv. left_is reply.Done r ended net' e2 (subst (λ z. full_work plan rank ahead z + 1 ≤ full_work plan rank ahead nodes) hv (one_less s n n' en (by_node n n' en en')))))
     where
-      by_node : (n n' : Node A) → slice_get nodes s ≡ Some n → node_claim i o n ≡ Some n' → node_work plan rank s n' + 1 ≤ node_work plan rank s n
+      by_node : (n n' : Node A) → slice_get nodes s ≡ Some n → node_claim i o n ≡ Some n' → full_node plan rank ahead s n' + 1 ≤ full_node plan rank ahead s n
       by_node (node.Terminal T) n' en en' = absurd (cc)
       by_node (node.Switch S) n' en en' =
           given (switch_claim S i o) _ n' en' (λ S' eS' d0.
@@ -150,11 +155,11 @@ module _ {A : Type 0} (kind : Kind A) (plan : Plan) (is_plan : IsPlan plan) (ran
           given (inputs_claim S.settings S.inputs S.outputs i o) _ S' f1 (λ v ev f3.
           required (not (is_owned S.inputs o)) _ v ev (λ free f4.
           with_place_made S.inputs i (λ p. input_claim S.settings p S.outputs o p.phase) v f4 (λ p y ep ey d1.
-          (let less = claim_work plan rank kind s i S o p y p.phase (λ b g wants group. falling.wants s i o g S p b en ep wants group) refl ey in
-          let all = input_set plan rank s S i p y.0 ep in
+          (let less = claim_work plan rank ahead kind s i S o p y p.phase (λ b g wants group. falling.wants s i o g S p b en ep wants group) refl ey in
+          let all = input_set plan rank ahead s S i p y.0 ep in
           let b : with_sides S v ≡ S' = cc in let c : node.Switch S' ≡ n' = cc in
           let d : ◌≡◌ {A = Node A} (node.Switch (with_sides S (slice_set S.inputs i y.0, y.1))) n' = ap (λ (z : List (Input A) × List (Outgoing A)). node.Switch (with_sides S z)) d1 ∙ ap node.Switch b ∙ c in
-          subst (λ z. node_work plan rank s z + 1 ≤ node_work plan rank s (node.Switch S)) d (omega (arith, less, all))))))))
+          subst (λ z. full_node plan rank ahead s z + 1 ≤ full_node plan rank ahead s (node.Switch S)) d (omega (arith, less, all))))))))
 
   -- each event of a round that is done leaves less
   pub event_less : (e : Event) (r : Reply) (net' : Network A) → IsOfRound e → network_step kind (network_of plan nodes) e ≡ Some (r, net') → Less net'

@@ -1,5 +1,5 @@
 -- Rounds go on until the network is quiet: each round that does something leaves less work.
-use Rattle.c104_check.specs.Routes.{Routes, routes_of}
+use Rattle.c104_check.specs.Routes.{IsRandomized, Routes, link_settings, routes_of}
 use Rattle.c104_check.specs.Walks.{port_of}
 use Rattle.c104_check.specs.declared.ports.SwitchPort.{SwitchPort}
 use Rattle.c104_describe.proofs.RangeLists.{all_of_each, each_append}
@@ -10,6 +10,7 @@ use Rattle.c104_describe.specs.declared.ports.Port.{Port}
 use Rattle.c104_event.specs.declared.events.Event.{Event}
 use Rattle.c104_event.specs.declared.faults.EventFault.{EventFault}
 use Rattle.c104_net.proofs.BalanceEvents.{applied_steady}
+use Rattle.c104_net.proofs.BalanceWires.{peer_back}
 use Rattle.c104_net.proofs.LinkEvents.{world_of}
 use Rattle.c104_net.proofs.NodeViews.{phases}
 use Rattle.c104_net.proofs.PacketInvariant.{IsChosen, IsLabelled, Suits, group_at}
@@ -21,7 +22,7 @@ use Rattle.c104_net.proofs.RunSteps.{done_step_is}
 use Rattle.c104_net.proofs.SentBytes.{SendsBytes}
 use Rattle.c104_net.proofs.StillPorts.{all_quiet, depends_on}
 use Rattle.c104_net.proofs.WorkEvents.{AreStarted, AreFalling, IsOfRound, event_started, event_less}
-use Rattle.c104_net.proofs.WorkSteps.{far_of, own}
+use Rattle.c104_net.proofs.WorkSteps.{at_far, far_of, own}
 use Rattle.c104_net.specs.Balance.{IsSteady}
 use Rattle.c104_net.specs.EventRuns.{Outcome, run_events, unless_fault}
 use Rattle.c104_net.specs.Network.{Network, network_apply, network_of, network_step}
@@ -29,18 +30,19 @@ use Rattle.c104_net.specs.Nodes.{Node}
 use Rattle.c104_net.specs.Quiet.{IsQuiet}
 use Rattle.c104_net.specs.Rounds.{all_claims, all_drains, claims_of, link_numbers, round, rounds, switch_claims, turn_at, wired_ports}
 use Rattle.c104_net.specs.Standstill.{IsStarted, IsUnready}
-use Rattle.c104_check.specs.ChannelDependencies.{IsNeverRandomized, IsRanking}
+use Rattle.c104_check.specs.ChannelDependencies.{IsRanking}
 use Rattle.c104_net.specs.Traced.{traced_kind}
 use Rattle.c104_net.specs.Unchanged.{MayHappen}
-use Rattle.c104_net.specs.Work.{work}
+use Rattle.c104_net.specs.HeaderWork.{ahead_by, random_ahead, random_work}
 use Rattle.c104_net.specs.declared.traced.Traced.{Traced}
+use Rattle.c104_regs.specs.Settings.{header_length}
 use Rattle.c104_regs.specs.declared.settings.Settings.{Settings}
 use Rattle.c104_switch.specs.Actions.{Reply, is_ready}
 use Rattle.c104_switch.specs.Group.{is_in_group}
 use Rattle.c104_switch.specs.Switch.{Input, Switch}
 use Rattle.c104_switch.specs.declared.phase.Phase.TheVariants.{Stream, Want}
 use Rattle.std.specs.List.{AllByRecursion, flat_map, range_with_len}
-use Rattle.std.proofs.Common.{Bool, Err, List, Ok, Result, Some, [], ap, arith, false, inl, inr, length, map, refl, slice_get, subst, suc, sym, true, zero, ℕ, ⊎_elim, ◌++◌, ◌+◌, ◌<◌, ◌∙◌, ◌∷◌, ◌≡◌, ◌≤◌, ◌⊎◌}
+use Rattle.std.proofs.Common.{Bool, Err, List, None, Ok, Option, Result, Some, [], ap, arith, false, inl, inr, length, map, refl, slice_get, subst, suc, sym, true, zero, ℕ, ⊎_elim, ◌*◌, ◌++◌, ◌+◌, ◌<◌, ◌∙◌, ◌∷◌, ◌≡◌, ◌≤◌, ◌⊎◌}
 use Rattle.std.proofs.lemmas.Bool.{cases_Bool}
 use Rattle.c104_event.specs.declared.events.Event.TheVariants as event
 use Rattle.c104_net.specs.declared.node.NodeOf.TheVariants as node
@@ -99,34 +101,52 @@ not_ready reply.NotReady is = refl
 not_ready (reply.Token x) is = absurd (cc is)
 not_ready (reply.Control bytes) is = absurd (cc is)
 
-module _ (plan : Plan) (image : Image) (is_plan : IsPlan plan) (labelled : IsLabelled (routes_of plan image)) (never : IsNeverRandomized (routes_of plan image)) (rank : SwitchPort → ℕ) (falls : IsRanking (routes_of plan image) rank) where
+module _ (plan : Plan) (image : Image) (is_plan : IsPlan plan) (labelled : IsLabelled (routes_of plan image)) (rank : SwitchPort → ℕ) (falls : IsRanking (routes_of plan image) rank) where
   goes_down : (s i l o : ℕ) (R : Port) → IsChosen (routes_of plan image) (port.Switch s i) l → group_at (routes_of plan image) (port.Switch s i) l o ≡ true → peer plan (port.Switch s o) ≡ Some R → far_of plan rank (port.Switch s o) + 1 ≤ own plan rank (port.Switch s i)
   goes_down s i l o (port.Terminal t) chosen group wire = rw wire (omega arith)
   goes_down s i l o (port.Switch s' i') chosen group wire =
       let r = falls (port_of s i) (port_of s' i') (depends_on (routes_of plan image) (wired plan is_plan) s i l o s' i' chosen group wire) in
       rw wire (omega (arith, r))
 
-  falling : (nodes : List (Node Traced)) → IsSettled plan image is_plan labelled nodes → AreFalling plan rank nodes
-  falling nodes good = record { plain = plain; streams = streams; wants = wants }
+  -- nothing is counted in advance at an input that a switch is wired to, since no random headers are put there
+  ahead_inner : (s l : ℕ) (z o : ℕ) → peer plan (port.Switch s l) ≡ Some (port.Switch z o) → random_ahead (routes_of plan image) rank (port_of s l) ≡ 0
+  ahead_inner s l z o wire = by_settings (link_settings (routes_of plan image).settings (port_of s l)) refl
     where
-      plain : (s i : ℕ) (S : Switch Traced) (t : Settings) → slice_get nodes s ≡ Some (node.Switch S) → slice_get S.settings i ≡ Some t → t.randomize ≡ false
-      plain s i S t here set =
-          let there = ap (λ l. slice_get l i) (sym (set_is plan image is_plan labelled nodes good.set s S here)) ∙ set in
-          ⊎_elim (λ (k : t.randomize ≡ true). absurd (never (port_of s i) (t, there, k))) (λ (k : t.randomize ≡ false). k) (cases_Bool t.randomize)
+      outer : IsRandomized (routes_of plan image) (port_of s l) → ⊥
+      outer random = let out = labelled.accepted.random_outside (port_of s l) random in (let clash : Some (port.Switch z o) ≡ Some (port.Terminal out.0) = sym wire ∙ out.1 in cc)
 
-      streams : (s i o : ℕ) (S : Switch Traced) (p : Input Traced) → slice_get nodes s ≡ Some (node.Switch S) → slice_get S.inputs i ≡ Some p → p.phase ≡ Stream o → far_of plan rank (port.Switch s o) + 1 ≤ own plan rank (port.Switch s i)
+      by_settings : (x : Option Settings) → link_settings (routes_of plan image).settings (port_of s l) ≡ x → ahead_by (routes_of plan image).header (rank (port_of s l)) x ≡ 0
+      by_settings None is = refl
+      by_settings (Some x) is = ⊎_elim (λ (k : x.randomize ≡ true). absurd (outer (x, is, k))) (λ (k : x.randomize ≡ false). rw k refl) (cases_Bool x.randomize)
+
+  none_far : (s o : ℕ) (R : Port) → peer plan (port.Switch s o) ≡ Some R → at_far plan rank (random_ahead (routes_of plan image) rank) (port.Switch s o) ≡ 0
+  none_far s o (port.Terminal t) wire = rw wire refl
+  none_far s o (port.Switch s' i') wire = rw wire (ahead_inner s' i' s o (peer_back plan is_plan (port.Switch s o) (port.Switch s' i') wire))
+
+  falling : (nodes : List (Node Traced)) → IsSettled plan image is_plan labelled nodes → AreFalling plan rank (random_ahead (routes_of plan image) rank) nodes
+  falling nodes good = record { puts = puts; streams = streams; wants = wants }
+    where
+      puts : (s i : ℕ) (S : Switch Traced) (t : Settings) → slice_get nodes s ≡ Some (node.Switch S) → slice_get S.settings i ≡ Some t → t.randomize ≡ true → random_ahead (routes_of plan image) rank (port_of s i) ≡ header_length t * (8 * own plan rank (port.Switch s i)) + 1
+      puts s i S t here set random =
+          let there : link_settings (routes_of plan image).settings (port_of s i) ≡ Some t = ap (λ l. slice_get l i) (sym (set_is plan image is_plan labelled nodes good.set s S here)) ∙ set in
+          let out = labelled.accepted.random_outside (port_of s i) (t, there, random) in
+          let long : header_length t ≡ (routes_of plan image).header = labelled.accepted.one_length (port_of s i) (port.Terminal out.0) t out.1 there in
+          let is_put : ahead_by (routes_of plan image).header (rank (port_of s i)) (Some t) ≡ (routes_of plan image).header * (8 * (rank (port_of s i) + 1)) + 1 = rw random refl in
+          ap (ahead_by (routes_of plan image).header (rank (port_of s i))) there ∙ is_put ∙ ap (λ n. n * (8 * (rank (port_of s i) + 1)) + 1) (sym long)
+
+      streams : (s i o : ℕ) (S : Switch Traced) (p : Input Traced) → slice_get nodes s ≡ Some (node.Switch S) → slice_get S.inputs i ≡ Some p → p.phase ≡ Stream o → (far_of plan rank (port.Switch s o) + 1 ≤ own plan rank (port.Switch s i)) × (at_far plan rank (random_ahead (routes_of plan image) rank) (port.Switch s o) ≡ 0)
       streams s i o S p here input e =
           let phase : phases plan nodes (port.Switch s i) ≡ Stream o = rw (here, input) e in
           let u : Suits (routes_of plan image) (world_of plan image nodes).book good.holds.0 (port.Switch s i) (Stream o) = rw phase at (good.holds.1.suits (port.Switch s i)) in
-          goes_down s i u.4 o u.1 (u.5 never) u.6 u.2
+          (goes_down s i u.4 o u.1 u.5 u.6 u.2, none_far s o u.1 u.2)
 
-      wants : (s i o g : ℕ) (S : Switch Traced) (p : Input Traced) (b : List Traced) → slice_get nodes s ≡ Some (node.Switch S) → slice_get S.inputs i ≡ Some p → p.phase ≡ Want b g → is_in_group S.settings g o ≡ true → (0 < length b) × (far_of plan rank (port.Switch s o) + 1 ≤ own plan rank (port.Switch s i))
+      wants : (s i o g : ℕ) (S : Switch Traced) (p : Input Traced) (b : List Traced) → slice_get nodes s ≡ Some (node.Switch S) → slice_get S.inputs i ≡ Some p → p.phase ≡ Want b g → is_in_group S.settings g o ≡ true → (0 < length b) × (far_of plan rank (port.Switch s o) + 1 ≤ own plan rank (port.Switch s i)) × (at_far plan rank (random_ahead (routes_of plan image) rank) (port.Switch s o) ≡ 0)
       wants s i o g S p b here input e group =
           let phase : phases plan nodes (port.Switch s i) ≡ Want b g = rw (here, input) e in
           let u : Suits (routes_of plan image) (world_of plan image nodes).book good.holds.0 (port.Switch s i) (Want b g) = rw phase at (good.holds.1.suits (port.Switch s i)) in
           let among : group_at (routes_of plan image) (port.Switch s i) g o ≡ true = ap (λ l. is_in_group l g o) (sym (set_is plan image is_plan labelled nodes good.set s S here)) ∙ group in
           let out = u.2 o among in
-          (omega (arith, u.3, labelled.positive), goes_down s i g o out.0 (u.4 never) among out.1)
+          (omega (arith, u.3, labelled.positive), goes_down s i g o out.0 u.4 among out.1, none_far s o out.0 out.1)
 
   -- what a run of such events leaves: less work, or all as it was, where none of them was ready
   record Goes (nodes : List (Node Traced)) (es : List Event) (ended : Network Traced) : Type 0 where
@@ -135,7 +155,7 @@ module _ (plan : Plan) (image : Image) (is_plan : IsPlan plan) (labelled : IsLab
     good : IsSettled plan image is_plan labelled nodes'
     started : AreStarted nodes'
     steady : IsSteady (network_of plan nodes')
-    less : (work plan rank nodes' + 1 ≤ work plan rank nodes) ⊎ ((nodes' ≡ nodes) × AllByRecursion (IsUnready traced_kind (network_of plan nodes)) es)
+    less : (random_work plan (routes_of plan image) rank nodes' + 1 ≤ random_work plan (routes_of plan image) rank nodes) ⊎ ((nodes' ≡ nodes) × AllByRecursion (IsUnready traced_kind (network_of plan nodes)) es)
 
   abbrev pub Run : Network Traced → List Event → Network Traced → Type 0
   Run net es ended = ◌≡◌ {A = Outcome (Network Traced)} (run_events (network_apply traced_kind) net es) (Ok tt, ended)
@@ -158,14 +178,14 @@ module _ (plan : Plan) (image : Image) (is_plan : IsPlan plan) (labelled : IsLab
             good = g.good;
             started = g.started;
             steady = g.steady;
-            less = ⊎_elim (λ (h : work plan rank g.nodes' + 1 ≤ work plan rank nodes). inl h) (λ (h : (g.nodes' ≡ nodes) × AllByRecursion (IsUnready traced_kind (network_of plan nodes)) es). inr (h.0, (unready, h.1))) g.less;
+            less = ⊎_elim (λ (h : random_work plan (routes_of plan image) rank g.nodes' + 1 ≤ random_work plan (routes_of plan image) rank nodes). inl h) (λ (h : (g.nodes' ≡ nodes) × AllByRecursion (IsUnready traced_kind (network_of plan nodes)) es). inr (h.0, (unready, h.1))) g.less;
           }
       by_ready true k =
           let made : network_step traced_kind (network_of plan nodes) e ≡ Some (r, next) = done_step_is traced_kind (network_of plan nodes) next e r due k in
           let n1 = one plan image is_plan labelled nodes next e r (may_happen (routes_of plan image) e r of) (sends_none e of) made good in
           let started1 : AreStarted n1.0 = subst IsStarted (sym n1.1) (event_started traced_kind plan nodes started e r next of made) in
           let steady1 : IsSteady (network_of plan n1.0) = subst IsSteady (sym n1.1) (applied_steady traced_kind plan is_plan nodes steady e (Ok r) next (inl due)) in
-          let less1 : work plan rank n1.0 + 1 ≤ work plan rank nodes = subst (λ (n : Network Traced). work plan rank n.nodes + 1 ≤ work plan rank nodes) (sym n1.1) (event_less traced_kind plan is_plan rank nodes good.placed (falling nodes good) e r next of made) in
+          let less1 : random_work plan (routes_of plan image) rank n1.0 + 1 ≤ random_work plan (routes_of plan image) rank nodes = subst (λ (n : Network Traced). random_work plan (routes_of plan image) rank n.nodes + 1 ≤ random_work plan (routes_of plan image) rank nodes) (sym n1.1) (event_less traced_kind plan is_plan rank (random_ahead (routes_of plan image) rank) nodes good.placed (falling nodes good) e r next of made) in
           let g = later n1.0 n1.2 started1 steady1 (subst (λ n. Run n es ended) (sym n1.1) is) in
           record {
             nodes' = g.nodes';
@@ -174,8 +194,8 @@ module _ (plan : Plan) (image : Image) (is_plan : IsPlan plan) (labelled : IsLab
             started = g.started;
             steady = g.steady;
             less = inl (⊎_elim
-                (λ (h : work plan rank g.nodes' + 1 ≤ work plan rank n1.0). omega (arith, h, less1))
-                (λ (h : (g.nodes' ≡ n1.0) × AllByRecursion (IsUnready traced_kind (network_of plan n1.0)) es). let same : work plan rank g.nodes' ≡ work plan rank n1.0 = ap (work plan rank) h.0 in omega (arith, same, less1))
+                (λ (h : random_work plan (routes_of plan image) rank g.nodes' + 1 ≤ random_work plan (routes_of plan image) rank n1.0). omega (arith, h, less1))
+                (λ (h : (g.nodes' ≡ n1.0) × AllByRecursion (IsUnready traced_kind (network_of plan n1.0)) es). let same : random_work plan (routes_of plan image) rank g.nodes' ≡ random_work plan (routes_of plan image) rank n1.0 = ap (random_work plan (routes_of plan image) rank) h.0 in omega (arith, same, less1))
                 g.less);
           }
 
@@ -185,7 +205,7 @@ module _ (plan : Plan) (image : Image) (is_plan : IsPlan plan) (labelled : IsLab
 
   -- a round that leaves no less work leaves all as it was, and finds it quiet
   round_quiet : (nodes : List (Node Traced)) → IsSettled plan image is_plan labelled nodes → AreStarted nodes → IsSteady (network_of plan nodes) → AllByRecursion (IsUnready traced_kind (network_of plan nodes)) (round plan) → IsQuiet (network_of plan nodes)
-  round_quiet nodes good started steady all = all_quiet plan image is_plan labelled nodes good steady started (still_of traced_kind (network_of plan nodes) is_plan (all_of_each (IsUnready traced_kind (network_of plan nodes)) (round plan) all)) never rank falls
+  round_quiet nodes good started steady all = all_quiet plan image is_plan labelled nodes good steady started (still_of traced_kind (network_of plan nodes) is_plan (all_of_each (IsUnready traced_kind (network_of plan nodes)) (round plan) all)) rank falls
 
   -- a round that changes nothing changes nothing again
   stays : (net : Network Traced) → Run net (round plan) net → (n : ℕ) → Run net (rounds plan n) net
@@ -200,7 +220,7 @@ module _ (plan : Plan) (image : Image) (is_plan : IsPlan plan) (labelled : IsLab
     pub quiet : IsQuiet (network_of plan nodes)
 
   abbrev pub Rest : ℕ → Type 0
-  Rest n = (nodes : List (Node Traced)) (ended : Network Traced) → IsSettled plan image is_plan labelled nodes → AreStarted nodes → IsSteady (network_of plan nodes) → work plan rank nodes < n → Run (network_of plan nodes) (rounds plan n) ended → IsAtRest ended
+  Rest n = (nodes : List (Node Traced)) (ended : Network Traced) → IsSettled plan image is_plan labelled nodes → AreStarted nodes → IsSteady (network_of plan nodes) → random_work plan (routes_of plan image) rank nodes < n → Run (network_of plan nodes) (rounds plan n) ended → IsAtRest ended
 
   one_more : (n : ℕ) → Rest n → Rest (suc n)
   one_more n later nodes ended good started steady few is =
@@ -213,7 +233,7 @@ module _ (plan : Plan) (image : Image) (is_plan : IsPlan plan) (labelled : IsLab
       by_first (Ok u) mid first rest =
           let g = goes (round plan) nodes mid (of_round plan) good started steady first in
           ⊎_elim
-          (λ (h : work plan rank g.nodes' + 1 ≤ work plan rank nodes). later g.nodes' ended g.good g.started g.steady (omega (arith, h, few)) (subst (λ net. Run net (rounds plan n) ended) (sym g.is) rest))
+          (λ (h : random_work plan (routes_of plan image) rank g.nodes' + 1 ≤ random_work plan (routes_of plan image) rank nodes). later g.nodes' ended g.good g.started g.steady (omega (arith, h, few)) (subst (λ net. Run net (rounds plan n) ended) (sym g.is) rest))
           (λ (h : (g.nodes' ≡ nodes) × AllByRecursion (IsUnready traced_kind (network_of plan nodes)) (round plan)).
           let same : mid ≡ network_of plan nodes = sym g.is ∙ ap (network_of plan) h.0 in
           let again : Run (network_of plan nodes) (round plan) (network_of plan nodes) = subst (λ net. Run (network_of plan nodes) (round plan) net) same first in

@@ -28,20 +28,18 @@ use Rattle.c104_net.specs.Starts.{start_node}
 use Rattle.c104_net.specs.Traced.{Traced, traced_kind}
 use Rattle.c104_net.specs.TracedRuns.{map_node}
 use Rattle.c104_net.specs.Unchanged.{AreStartsOf, IsUnchanged}
+use Rattle.c104_net.specs.HeaderWork.{random_bound, random_work}
 use Rattle.c104_net.specs.Work.{most_weight, room_held, tokens_held, work, work_bound}
 use Rattle.c104_switch.specs.Actions.{Reply}
 use Rattle.c104_token.specs.Kinds.{plain_kind}
 use Rattle.c104_token.specs.declared.tokens.Token.{Token}
 
--- A network with its record whose labels the check accepts, whose channels don't depend on one another in a cycle, and
--- where no link puts random headers before packets: its run began with the image's settings and with every switch
--- started, and nobody changed the network since.
+-- A network with its record whose labels the check accepts, and whose channels don't depend on one another in a cycle:
+-- its run began with the image's settings and with every switch started, and nobody changed the network since.
 pub record IsAcyclicNet (image : Image) (net : NetRecord) : Type 0 where
   pub fits : Fits image net.network.plan
   pub accepted : IsAccepted (routes_of net.network.plan image)
   pub acyclic : IsAcyclic (routes_of net.network.plan image)
-  -- the dependencies are those of packets that go by their own headers
-  pub never_randomized : IsNeverRandomized (routes_of net.network.plan image)
   pub set : AreStartsOf net.network.plan image net.starts
   pub started : All IsStartedStart net.starts
   -- whichever events the traces tell
@@ -85,9 +83,12 @@ pub record HasNoDeadlock (image : Image) (net : NetRecord) : Type 0 where
   pub never : IsDeadlocked plain_kind net.network → ⊥
   pub stands_quiet : StandsStill plain_kind net.network → IsQuiet net.network
   -- more rounds than work, by any ranks that fall along the dependencies, deliver all
-  pub rounds_deliver : (rank : SwitchPort → ℕ) → IsRanking (routes_of net.network.plan image) rank → (n : ℕ) → work net.network.plan rank net.network.nodes < n → RoundsDeliver (routes_of net.network.plan image) net n
+  pub rounds_deliver : (rank : SwitchPort → ℕ) → IsRanking (routes_of net.network.plan image) rank → (n : ℕ) → random_work net.network.plan (routes_of net.network.plan image) rank net.network.nodes < n → RoundsDeliver (routes_of net.network.plan image) net n
   -- and so do more rounds than the bound of work
-  pub rounds_suffice : (n : ℕ) → work_bound net.network.plan net.network.nodes < n → RoundsDeliver (routes_of net.network.plan image) net n
+  pub rounds_suffice : (n : ℕ) → random_bound net.network.plan (routes_of net.network.plan image) net.network.nodes < n → RoundsDeliver (routes_of net.network.plan image) net n
+  -- where no link puts random headers before packets, these are the work and the bound by tokens that there are
+  pub plain_work : IsNeverRandomized (routes_of net.network.plan image) → (rank : SwitchPort → ℕ) → random_work net.network.plan (routes_of net.network.plan image) rank net.network.nodes ≡ work net.network.plan rank net.network.nodes
+  pub plain_bound : IsNeverRandomized (routes_of net.network.plan image) → random_bound net.network.plan (routes_of net.network.plan image) net.network.nodes ≡ work_bound net.network.plan net.network.nodes
   -- which is at most so much for each token, and the room that buffers could still grant
   pub bounded : work_bound net.network.plan net.network.nodes ≤ tokens_held net.network.nodes * most_weight net.network.plan + room_held net.network.nodes
 
@@ -101,4 +102,4 @@ pub record EndsWithoutDeadlock (run : FinishedRecord) : Type 0 where
   pub nodes : List (Node Token)
   pub told : IsRunRecord plain_kind run.finished.plan (map start_node run.starts) nodes run.traces run.count events
   pub ended : run.finished ≡ network_finish (network_of run.finished.plan nodes)
-  pub stands_quiet : (image : Image) → IsAccepted (routes_of run.finished.plan image) → IsAcyclic (routes_of run.finished.plan image) → IsNeverRandomized (routes_of run.finished.plan image) → AreStartsOf run.finished.plan image run.starts → All IsStartedStart run.starts → IsUnchanged (routes_of run.finished.plan image) events → StandsStill plain_kind (network_of run.finished.plan nodes) → IsQuiet (network_of run.finished.plan nodes)
+  pub stands_quiet : (image : Image) → IsAccepted (routes_of run.finished.plan image) → IsAcyclic (routes_of run.finished.plan image) → AreStartsOf run.finished.plan image run.starts → All IsStartedStart run.starts → IsUnchanged (routes_of run.finished.plan image) events → StandsStill plain_kind (network_of run.finished.plan nodes) → IsQuiet (network_of run.finished.plan nodes)

@@ -40,6 +40,7 @@ pub mod Replays
 pub mod RunOrigins
 pub mod Standstill
 pub mod Work
+pub mod HeaderWork
 pub mod DeadlockFreedom
 pub mod Outboxes
 pub mod Tagged

@@ -15,7 +15,7 @@ use Rattle.c104_switch.specs.Switch.{Input, Switch}
 use Rattle.c104_describe.specs.Plans.{Plan}
 use Rattle.c104_describe.specs.PlanImage.{Image}
 use Rattle.c104_check.specs.Routes.{IsAccepted, routes_of}
-use Rattle.c104_check.specs.ChannelDependencies.{IsAcyclic, IsNeverRandomized}
+use Rattle.c104_check.specs.ChannelDependencies.{IsAcyclic}
 use Rattle.c104_switch.specs.declared.actions.ReplyOf.TheVariants as reply
 use Rattle.c104_describe.specs.Wiring.{peer}
 use Rattle.c104_describe.specs.declared.ports.Port.{Port}
@@ -85,13 +85,11 @@ abbrev pub IsStartedStart : NodeStart → Type 0
 IsStartedStart (start.Switch s) = (s.started ≡ true) × IsSwitchStart s
 IsStartedStart (start.Terminal t) = IsTerminalStart t
 
--- a run from a start, in a network whose labels the check accepts, whose channels don't depend on one another in a
--- cycle, and where no link puts random headers before packets: at the start each switch is started and nothing stands
--- anywhere, and nobody changed the network since
+-- a run from a start, in a network whose labels the check accepts, and whose channels don't depend on one another in a
+-- cycle: at the start each switch is started and nothing stands anywhere, and nobody changed the network since
 pub record IsAcyclicRun (plan : Plan) (image : Image) (starts : List NodeStart) (events : List (Event × Reply)) (nodes : List (Node Token)) : Type 0 where
   pub accepted : IsAccepted (routes_of plan image)
   pub acyclic : IsAcyclic (routes_of plan image)
-  pub never_randomized : IsNeverRandomized (routes_of plan image)
   pub set : AreStartsOf plan image starts
   pub started : IsStarted {A = Token} (network_of plan (map start_node starts))
   pub steady : IsSteady {A = Token} (network_of plan (map start_node starts))

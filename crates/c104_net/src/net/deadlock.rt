@@ -7,11 +7,10 @@ use super::Net;
 use crate::recorded::Node;
 
 impl Net {
-    /// What is so of the network where its labels are accepted, its channels don't depend on one another in a cycle, no
-    /// link puts random headers before packets, its run began with the image's settings and with every switch started,
-    /// and nobody changed it since: it has no deadlock, and more rounds than there is work deliver each packet with an
-    /// owner. This is a law: whoever cites it calls this before the rounds that it is about. It changes nothing and takes
-    /// no memory.
+    /// What is so of the network where its labels are accepted, its channels don't depend on one another in a cycle, its
+    /// run began with the image's settings and with every switch started, and nobody changed it since: it has no deadlock,
+    /// and more rounds than there is work deliver each packet with an owner. This is a law: whoever cites it calls this
+    /// before the rounds that it is about. It changes nothing and takes no memory.
     pub fn has_no_deadlock(&self)
         ensures { IsFreeOfDeadlock self.now }
     {

@@ -25,9 +25,11 @@ use c104_token::Token;
 impl Net {
     /// The work that is left, by ranks that fall along the channel dependencies, as `find_cycle` gives them: each token
     /// weighs eight for each rank that it may pass through, and a little more, and each buffer the room that it could
-    /// still grant. Each event of a round that is done makes it smaller, so that in a network without a cycle of
-    /// dependencies more rounds than this leave nothing to do. At most 2⁶⁴ - 1 is told, which no work comes near: a
-    /// plan has at most 64 switches and 256 terminals, at each of which at most 65,536 tokens wait to go out.
+    /// still grant. Where no link puts random headers before packets, each event of a round that is done makes it
+    /// smaller, so that in a network without a cycle of dependencies more rounds than this leave nothing to do. Where one
+    /// does, nothing is said of how many rounds are enough, since such a header is counted only once it is made. At most
+    /// 2⁶⁴ - 1 is told, which no work comes near: a plan has at most 64 switches and 256 terminals, at each of which at
+    /// most 65,536 tokens wait to go out.
     pub fn work(&self, ranks: &Ranks) -> u64
         ensures { result ≡ told_work
             (work self.now.network.plan (rank_in ranks.now.by_place) self.now.network.nodes) }
@@ -35,7 +37,7 @@ impl Net {
         work_of_nodes(self.wires.plan(), ranks, self.places.as_slice())
     }
 
-    /// A bound of the work by tokens and buffers alone, for labels whose ranks nobody has: as if each input had the
+    /// A bound of that work by tokens and buffers alone, for labels whose ranks nobody has: as if each input had the
     /// highest rank that is needed, 32 for each switch. At most 2⁶⁴ - 1 is told.
     pub fn work_bound(&self) -> u64
         ensures { result ≡ told_work (work_bound self.now.network.plan self.now.network.nodes) }

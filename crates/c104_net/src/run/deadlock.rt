@@ -4,9 +4,9 @@ ghost use Rattle.c104_net.specs.DeadlockFreedom.{EndsWithoutDeadlock};
 use super::Run;
 
 impl Run {
-    /// What is so of the run's end where the labels are accepted, the channels don't depend on one another in a cycle, no
-    /// link puts random headers before packets, the run began with the image's settings and with every switch started,
-    /// and nobody changed the network since: if it stood still there, it was quiet. This is a law: nothing is done.
+    /// What is so of the run's end where the labels are accepted, the channels don't depend on one another in a cycle, the
+    /// run began with the image's settings and with every switch started, and nobody changed the network since: if it
+    /// stood still there, it was quiet. This is a law: nothing is done.
     pub fn has_no_deadlock(&self)
         ensures { EndsWithoutDeadlock self.now }
     {

@@ -21,5 +21,5 @@ returns c =
       nodes = kept.nodes;
       told = kept.told;
       ended = kept.ended;
-      stands_quiet = λ image accepted acyclic never set started unchanged still. run_stands run is_plan kept image accepted acyclic never set started unchanged still;
+      stands_quiet = λ image accepted acyclic set started unchanged still. run_stands run is_plan kept image accepted acyclic set started unchanged still;
     })

@@ -1,0 +1,140 @@
+-- Work in a network where random headers may be put before packets: more by higher ranks, and where none are put before
+-- packets the work that is left.
+use Rattle.c104_check.specs.ChannelDependencies.{IsNeverRandomized}
+use Rattle.c104_check.specs.Routes.{Routes, link_settings}
+use Rattle.c104_check.specs.Walks.{port_of}
+use Rattle.c104_check.specs.declared.ports.SwitchPort.{SwitchPort}
+use Rattle.c104_describe.specs.Plans.{Plan}
+use Rattle.c104_describe.specs.Wiring.{peer}
+use Rattle.c104_describe.specs.declared.ports.Port.{Port}
+use Rattle.c104_link.specs.Buffers.{Outgoing}
+use Rattle.c104_net.proofs.WorkBounds.{level_more, sum_more, weigh_more}
+use Rattle.c104_net.specs.HeaderWork.{ahead_at, ahead_by, first_ahead, full_input, full_link, full_node, full_output, full_work, random_ahead, random_bound, random_work}
+use Rattle.c104_net.specs.Nodes.{Node}
+use Rattle.c104_net.specs.Work.{header_held, highest_rank, input_work, level, link_work, node_work, output_work, sum_at, weigh, work}
+use Rattle.c104_regs.specs.declared.settings.Settings.{Settings}
+use Rattle.c104_switch.specs.Switch.{Input}
+use Rattle.c104_switch.specs.declared.phase.Phase.{Phase}
+use Rattle.c104_switch.specs.declared.phase.Phase.TheVariants.{Fresh, Head, Sinking, Stream, Want}
+use Rattle.std.proofs.Common.{List, None, Option, Some, [], ap, arith, false, length, refl, suc, true, zero, ℕ, ⊎_elim, ◌*◌, ◌+◌, ◌-◌, ◌∷◌, ◌≡◌, ◌≤◌}
+use Rattle.std.proofs.Math.Nat.{suc-mul, zero-mul}
+use Rattle.std.proofs.lemmas.Bool.{cases_Bool}
+use Rattle.c104_describe.specs.declared.ports.Port.TheVariants as port
+use Rattle.c104_net.specs.declared.node.NodeOf.TheVariants as node
+
+-- By higher ranks
+
+times_more : (n a b : ℕ) → a ≤ b → n * a ≤ n * b
+times_more zero a b less = let one = zero-mul a in let other = zero-mul b in omega (arith, one, other)
+times_more (suc n) a b less =
+    let rest = times_more n a b less in
+    let one = suc-mul n a in
+    let other = suc-mul n b in
+    omega (arith, rest, one, other, less)
+
+module _ (plan : Plan) (rank high ahead most : SwitchPort → ℕ) (less : (p : SwitchPort) → rank p ≤ high p) (fewer : (p : SwitchPort) → ahead p ≤ most p) where
+  ahead_more : (q : Option Port) → ahead_at plan rank ahead q ≤ ahead_at plan high most q
+  ahead_more None = omega arith
+  ahead_more (Some (port.Switch s l)) = let here = fewer (port_of s l) in omega (arith, here)
+  ahead_more (Some (port.Terminal t)) = omega arith
+
+  module _ {A : Type 0} where
+    first_more : (s l : ℕ) (ph : Phase (List A)) → first_ahead plan rank ahead (ahead (port_of s l)) ph ≤ first_ahead plan high most (most (port_of s l)) ph
+    first_more s l Fresh = let here = fewer (port_of s l) in omega (arith, here)
+    first_more s l (Head b) = omega arith
+    first_more s l (Want b g) = omega arith
+    first_more s l (Stream o) = omega arith
+    first_more s l Sinking = omega arith
+
+    input_more : (s l : ℕ) (p : Input A) → full_input plan rank ahead s l p ≤ full_input plan high most s l p
+    input_more s l p =
+        let far = less (port_of s l) in
+        let here = fewer (port_of s l) in
+        let items = weigh_more (8 * level plan rank (Some (port.Switch s l)) + 2 + ahead (port_of s l)) (8 * level plan high (Some (port.Switch s l)) + 2 + most (port_of s l)) (omega (arith, far, here)) p.buffer.items in
+        let header = weigh_more (8 * level plan rank (Some (port.Switch s l))) (8 * level plan high (Some (port.Switch s l))) (omega (arith, far)) (header_held p.phase) in
+        let first = first_more s l p.phase in
+        omega (arith, items, header, first)
+
+    output_more : (q : Option Port) (out : Outgoing A) → full_output plan rank ahead (level plan rank q) (ahead_at plan rank ahead q) out ≤ full_output plan high most (level plan high q) (ahead_at plan high most q) out
+    output_more q out =
+        let far = level_more plan rank high less q in
+        let here = ahead_more q in
+        weigh_more (8 * level plan rank q + 4 + ahead_at plan rank ahead q) (8 * level plan high q + 4 + ahead_at plan high most q) (omega (arith, far, here)) out.items
+
+    node_more : (k : ℕ) (n : Node A) → full_node plan rank ahead k n ≤ full_node plan high most k n
+    node_more k (node.Switch S) =
+        let inputs = sum_more (full_input plan rank ahead k) (full_input plan high most k) (input_more k) 0 S.inputs in
+        let outputs = sum_more (full_link plan rank ahead k) (full_link plan high most k) (λ l q. output_more (peer plan (port.Switch k l)) q) 0 S.outputs in
+        omega (arith, inputs, outputs)
+    node_more k (node.Terminal T) = let out = output_more (peer plan (port.Terminal (k - length plan.switches))) T.output in omega (arith, out)
+
+    full_more : (nodes : List (Node A)) → full_work plan rank ahead nodes ≤ full_work plan high most nodes
+    full_more nodes = sum_more (full_node plan rank ahead) (full_node plan high most) node_more 0 nodes
+
+-- where no rank is higher than there are inputs, no work is above the bound
+pub random_within : {A : Type 0} (plan : Plan) (routes : Routes) (rank : SwitchPort → ℕ) → ((p : SwitchPort) → rank p ≤ 32 * length plan.switches) → (nodes : List (Node A)) → random_work plan routes rank nodes ≤ random_bound plan routes nodes
+random_within plan routes rank low nodes = full_more plan rank (highest_rank plan) (random_ahead routes rank) (random_ahead routes (highest_rank plan)) low (λ p. by_settings p (link_settings routes.settings p)) nodes
+  where
+    by_settings : (p : SwitchPort) (x : Option Settings) → ahead_by routes.header (rank p) x ≤ ahead_by routes.header (highest_rank plan p) x
+    by_settings p None = omega arith
+    by_settings p (Some x) = ⊎_elim
+        (λ (k : x.randomize ≡ true). rw k (let here = low p in let more = times_more routes.header (8 * (rank p + 1)) (8 * (highest_rank plan p + 1)) (omega (arith, here)) in omega (arith, more)))
+        (λ (k : x.randomize ≡ false). rw k (omega arith))
+        (cases_Bool x.randomize)
+
+-- Where nothing is counted in advance
+
+module _ {X : Type 0} where
+  sum_same : (f g : ℕ → X → ℕ) → ((j : ℕ) (x : X) → f j x ≡ g j x) → (j : ℕ) (xs : List X) → sum_at f j xs ≡ sum_at g j xs
+  sum_same f g same j [] = refl
+  sum_same f g same j (x ∷ xs) = let rest = sum_same f g same (suc j) xs in let here = same j x in omega (arith, here, rest)
+
+module _ (plan : Plan) (rank ahead : SwitchPort → ℕ) (none : (p : SwitchPort) → ahead p ≡ 0) where
+  none_at : (q : Option Port) → ahead_at plan rank ahead q ≡ 0
+  none_at None = refl
+  none_at (Some (port.Switch s l)) = none (port_of s l)
+  none_at (Some (port.Terminal t)) = refl
+
+  module _ {A : Type 0} where
+    none_first : (s l : ℕ) (ph : Phase (List A)) → first_ahead plan rank ahead (ahead (port_of s l)) ph ≡ 0
+    none_first s l Fresh = none (port_of s l)
+    none_first s l (Head b) = refl
+    none_first s l (Want b g) = refl
+    none_first s l (Stream o) = refl
+    none_first s l Sinking = refl
+
+    input_same : (s l : ℕ) (p : Input A) → full_input plan rank ahead s l p ≡ input_work plan rank s l p
+    input_same s l p =
+        let zero_is = none (port_of s l) in
+        let weight : 8 * level plan rank (Some (port.Switch s l)) + 2 + ahead (port_of s l) ≡ 8 * level plan rank (Some (port.Switch s l)) + 2 = omega (arith, zero_is) in
+        let items = ap (λ n. weigh n p.buffer.items) weight in
+        let first = none_first s l p.phase in
+        omega (arith, items, first)
+
+    output_same : (q : Option Port) (out : Outgoing A) → full_output plan rank ahead (level plan rank q) (ahead_at plan rank ahead q) out ≡ output_work plan rank (level plan rank q) out
+    output_same q out =
+        let zero_is = none_at q in
+        let weight : 8 * level plan rank q + 4 + ahead_at plan rank ahead q ≡ 8 * level plan rank q + 4 = omega (arith, zero_is) in
+        ap (λ n. weigh n out.items) weight
+
+    node_same : (k : ℕ) (n : Node A) → full_node plan rank ahead k n ≡ node_work plan rank k n
+    node_same k (node.Switch S) =
+        let inputs = sum_same (full_input plan rank ahead k) (input_work plan rank k) (input_same k) 0 S.inputs in
+        let outputs = sum_same (full_link plan rank ahead k) (link_work plan rank k) (λ l q. output_same (peer plan (port.Switch k l)) q) 0 S.outputs in
+        omega (arith, inputs, outputs)
+    node_same k (node.Terminal T) =
+        let out = output_same (peer plan (port.Terminal (k - length plan.switches))) T.output in
+        let weight : 8 * 0 + 2 + 0 ≡ 8 * 0 + 2 = omega arith in
+        let items = ap (λ n. weigh n T.input.items) weight in
+        omega (arith, out, items)
+
+    full_same : (nodes : List (Node A)) → full_work plan rank ahead nodes ≡ work plan rank nodes
+    full_same nodes = sum_same (full_node plan rank ahead) (node_work plan rank) node_same 0 nodes
+
+-- where no link puts random headers before packets, the work is that of the tokens that there are
+pub plain_work : {A : Type 0} (plan : Plan) (routes : Routes) (rank : SwitchPort → ℕ) → IsNeverRandomized routes → (nodes : List (Node A)) → random_work plan routes rank nodes ≡ work plan rank nodes
+plain_work plan routes rank never nodes = full_same plan rank (random_ahead routes rank) (λ p. none p (link_settings routes.settings p) refl) nodes
+  where
+    none : (p : SwitchPort) (x : Option Settings) → link_settings routes.settings p ≡ x → ahead_by routes.header (rank p) x ≡ 0
+    none p None is = refl
+    none p (Some x) is = ⊎_elim (λ (k : x.randomize ≡ true). absurd (never p (x, is, k))) (λ (k : x.randomize ≡ false). rw k refl) (cases_Bool x.randomize)
