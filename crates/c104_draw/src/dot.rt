@@ -186,24 +186,44 @@ fn edge_line(
     marked: bool,
 ) -> Result<String, AllocError> {
     let turned = frame.is_lower(wire.wire.here, wire.wire.there);
+    let level = frame.is_level(wire.wire.here, wire.wire.there);
     let wire = if turned { wire.turned() } else { *wire };
+    let labels = end_labels(alloc, drawing, number, turned)?;
+    wire_line(alloc, plan, wire, labels.as_str(), level, marked)
+}
+
+/// What stands at the two ends of an edge: the links of its wires.
+fn end_labels(
+    alloc: Global,
+    drawing: &Drawing,
+    edge: usize,
+    turned: bool,
+) -> Result<String, AllocError> {
+    let tail = links_text(alloc, drawing, edge, turned)?;
+    let tail = tail.as_str();
+    let head = links_text(alloc, drawing, edge, !turned)?;
+    let head = head.as_str();
+    format!(in alloc; "taillabel=\"{tail}\", headlabel=\"{head}\"")
+}
+
+/// The line of an edge from here to there, with these labels at its ends.
+fn wire_line(
+    alloc: Global,
+    plan: &Plan,
+    wire: DrawnWire,
+    labels: &str,
+    level: bool,
+    marked: bool,
+) -> Result<String, AllocError> {
     let tail = port_name(plan, wire.wire.here);
     let head = port_name(plan, wire.wire.there);
-    let tail_links = links_text(alloc, drawing, number, turned)?;
-    let tail_links = tail_links.as_str();
-    let head_links = links_text(alloc, drawing, number, !turned)?;
-    let head_links = head_links.as_str();
     let style = style_text(wire.onward, wire.back, marked);
     let dashes = dashes_text(wire.onward, wire.back);
     let head_shape = head_text(wire.onward);
     let tail_shape = tail_text(wire.back);
-    let level = if frame.is_level(wire.wire.here, wire.wire.there) {
-        ", constraint=false"
-    } else {
-        ""
-    };
+    let level = if level { ", constraint=false" } else { "" };
     format!(in alloc;
-        "  \"{tail}\" -> \"{head}\" [taillabel=\"{tail_links}\", headlabel=\"{head_links}\"{style}{dashes}{head_shape}{tail_shape}{level}]\n"
+        "  \"{tail}\" -> \"{head}\" [{labels}{style}{dashes}{head_shape}{tail_shape}{level}]\n"
     )
 }
 
