@@ -1,19 +1,20 @@
 -- What people are told of labels that are accepted.
---     TellsOfCycles plan routes text      a text tells that there is no cycle, or begins with one, or that random headers
---                                         are put before packets
-use Rattle.std.specs.Prelude.{◌≡◌, ◌⊎◌, ℕ, List, ◌++◌, codes}
+--     TellsOfCycles plan routes text      a text tells that there is no cycle, or begins with one
+use Rattle.std.specs.Prelude.{◌≡◌, ◌⊎◌, ℕ, Bool, true, false, List, ◌++◌, codes}
 use Rattle.c104_describe.specs.Plans.{Plan}
-use Rattle.c104_describe.specs.PlanPrint.{port_text}
 use Rattle.c104_check.specs.ChannelDependencies.{IsAcyclic, IsCycle, IsNeverRandomized}
-use Rattle.c104_check.specs.Checks.{IsFirstLink}
 use Rattle.c104_check.specs.declared.cycles.ChannelDependency.{ChannelDependency}
 use Rattle.c104_check.specs.declared.ports.SwitchPort.{SwitchPort}
-use Rattle.c104_check.specs.Routes.{IsRandomized, Routes, to_port}
+use Rattle.c104_check.specs.Routes.{IsRandomized, Routes}
 use Rattle.c104_commands.specs.CycleTexts.{cycle_text}
 
 -- the sentence on a network without a cycle
 abbrev pub no_cycle_text : List ℕ
 no_cycle_text = codes "no cycle of channel dependencies: under rounds every packet with a whole header arrives, as long as no inbox or trace is full\n"
+
+-- the same where random headers are put before packets
+abbrev pub no_cycle_behind_text : List ℕ
+no_cycle_behind_text = codes "no cycle of channel dependencies: under rounds every packet with a whole header arrives, as long as no inbox or trace is full and no packet behind a random header begins with one itself\n"
 
 -- the sentence on a cycle, and what follows it
 abbrev pub cycle_sentence : Plan → List ChannelDependency → List ℕ → List ℕ
@@ -25,17 +26,16 @@ abbrev pub TellsOfCycle : Plan → Routes → List ℕ → Type 0
 TellsOfCycle plan routes text =
     (cycle : List ChannelDependency) × IsCycle routes cycle × ((more : List ℕ) × (text ≡ cycle_sentence plan cycle more))
 
--- of a network where no random headers are put before packets a text is the sentence on one without a cycle, which it
--- is; or it begins with a cycle
-abbrev pub TellsOfPlain : Plan → Routes → List ℕ → Type 0
-TellsOfPlain plan routes text = ((text ≡ no_cycle_text) × IsAcyclic routes) ⊎ TellsOfCycle plan routes text
+-- the sentence on a network without a cycle, by whether random headers are put before packets
+abbrev pub no_cycle_sentence : Bool → List ℕ
+no_cycle_sentence false = no_cycle_text
+no_cycle_sentence true = no_cycle_behind_text
 
--- the sentence on a network where random headers are put before packets at a port
-abbrev pub randomized_text : Plan → SwitchPort → List ℕ
-randomized_text plan p =
-    codes "random headers are put before packets at " ++ (port_text plan (to_port p) ++ codes ": of such a network it isn't known whether packets can come to wait for one another for good\n")
+-- a text is that sentence
+abbrev pub SaysNoCycle : Routes → List ℕ → Type 0
+SaysNoCycle routes text =
+    (IsNeverRandomized routes × (text ≡ no_cycle_text)) ⊎ ((p : SwitchPort) × IsRandomized routes p × (text ≡ no_cycle_behind_text))
 
--- where random headers are put before packets a text says so, of the first such port, and else what is known
+-- a text says that there is no cycle, which there isn't; or it begins with one
 abbrev pub TellsOfCycles : Plan → Routes → List ℕ → Type 0
-TellsOfCycles plan routes text =
-    (IsNeverRandomized routes × TellsOfPlain plan routes text) ⊎ ((p : SwitchPort) × IsFirstLink (IsRandomized routes) p × (text ≡ randomized_text plan p))
+TellsOfCycles plan routes text = (IsAcyclic routes × SaysNoCycle routes text) ⊎ TellsOfCycle plan routes text

@@ -4,13 +4,12 @@ ghost use Rattle.std.specs.String.{string_bytes};
 ghost use Rattle.c104_check.specs.ChannelDependencies.{IsCycle};
 ghost use Rattle.c104_check.specs.Routes.{IsAccepted, routes_of};
 ghost use Rattle.c104_describe.specs.PlanImage.{Fits};
-ghost use Rattle.c104_commands.specs.CycleAdvice.{TellsOfCycle, TellsOfCycles, TellsOfPlain, cycle_sentence, no_cycle_text, randomized_text};
+ghost use Rattle.c104_commands.specs.CycleAdvice.{SaysNoCycle, TellsOfCycle, TellsOfCycles, cycle_sentence, no_cycle_sentence};
 
 use crate::cycle_breaks::cycle_change;
 use crate::cycle_texts::cycle_text;
-use crate::texts::port_text;
 use c104_check::{
-    ChannelDependency, DependencyEdge, RanksOrCycle, SwitchPort, channel_dependencies, find_cycle,
+    ChannelDependency, DependencyEdge, RanksOrCycle, channel_dependencies, find_cycle,
     first_randomized,
 };
 use c104_describe::{Image, Plan};
@@ -20,47 +19,17 @@ use std::alloc::{AllocError, Global};
 /// Tells people of accepted labels whether packets can come to be held for good, by the names of the plan: a line
 /// that they can't, since there is no cycle of channel dependencies; or lines that say that they can, and by which
 /// cycle, and then those that break it, if one row was found that does. These are `replace: LINE` and then `by: LINE`,
-/// once or more. Where random headers are put before packets it isn't known, and a line says that. It fails only when
-/// out of memory.
+/// once or more. It fails only when out of memory.
 pub fn cycle_advice(alloc: Global, plan: &Plan, image: &Image) -> Result<String, NoMemory>
     requires fits { Fits image.now plan.now }
     requires accepted { IsAccepted (routes_of plan.now image.now) }
     ensures { IfOk result (λ text.
         TellsOfCycles plan.now (routes_of plan.now image.now) (string_bytes text)) }
 {
-    match first_randomized(alloc, plan, image)? {
-        Some(port) => {
-            let text = randomized_text(alloc, plan, port)?;
-            Ok(text)
-        }
-        None => {
-            let text = plain_advice(alloc, plan, image)?;
-            Ok(text)
-        }
-    }
-}
-
-/// The sentence on a network where random headers are put before packets at a port.
-fn randomized_text(alloc: Global, plan: &Plan, port: SwitchPort) -> Result<String, AllocError>
-    ensures { IfOk result (λ text. string_bytes text ≡ randomized_text plan.now port) }
-{
-    let port = port_text(alloc, plan, port)?;
-    format!(in alloc;
-        "random headers are put before packets at {port}: of such a network it isn't known whether packets can come to wait for one another for good\n"
-    )
-}
-
-/// The same of a network where none are.
-fn plain_advice(alloc: Global, plan: &Plan, image: &Image) -> Result<String, NoMemory>
-    requires fits { Fits image.now plan.now }
-    requires accepted { IsAccepted (routes_of plan.now image.now) }
-    ensures { IfOk result (λ text.
-        TellsOfPlain plan.now (routes_of plan.now image.now) (string_bytes text)) }
-{
     let found = find_cycle(alloc, plan, image)?;
     match found {
         RanksOrCycle::Ranks(_ranks) => {
-            let text = no_cycle_text(alloc)?;
+            let text = no_cycle_text(alloc, plan, image)?;
             Ok(text)
         }
         RanksOrCycle::Cycle(cycle) => {
@@ -70,12 +39,28 @@ fn plain_advice(alloc: Global, plan: &Plan, image: &Image) -> Result<String, NoM
 }
 
 /// The sentence on a network without a cycle.
-fn no_cycle_text(alloc: Global) -> Result<String, AllocError>
-    ensures { IfOk result (λ text. string_bytes text ≡ no_cycle_text) }
+fn no_cycle_text(alloc: Global, plan: &Plan, image: &Image) -> Result<String, NoMemory>
+    requires { Fits image.now plan.now }
+    ensures { IfOk result (λ text. SaysNoCycle (routes_of plan.now image.now) (string_bytes text)) }
 {
-    format!(in alloc;
-        "no cycle of channel dependencies: under rounds every packet with a whole header arrives, as long as no inbox or trace is full\n"
-    )
+    let randomized = first_randomized(alloc, plan, image)?;
+    let text = no_cycle_sentence(alloc, randomized.is_some())?;
+    Ok(text)
+}
+
+/// The same by whether random headers are put before packets: then one premise more is told.
+fn no_cycle_sentence(alloc: Global, is_randomized: bool) -> Result<String, AllocError>
+    ensures { IfOk result (λ text. string_bytes text ≡ no_cycle_sentence is_randomized) }
+{
+    if is_randomized {
+        format!(in alloc;
+            "no cycle of channel dependencies: under rounds every packet with a whole header arrives, as long as no inbox or trace is full and no packet behind a random header begins with one itself\n"
+        )
+    } else {
+        format!(in alloc;
+            "no cycle of channel dependencies: under rounds every packet with a whole header arrives, as long as no inbox or trace is full\n"
+        )
+    }
 }
 
 /// The same of a network with this cycle.
