@@ -87,9 +87,10 @@ inputs depend on one another in a cycle, `rounds` brings each packet with a whol
 header to its terminal, unless that is full or a trace is; where they do, packets can
 come to wait for one another for good. Prints `acyclic`, or `cycle` and its inputs,
 each with a header by which it depends on the next, the last on the first, and ends
-with exit status 1. Labels that check refuses are answered as there. Where inputs put
-random headers before packets, what is printed says nothing of whether packets wait:
-only the ways of labels from the terminals on are looked at.
+with exit status 1. Labels that check refuses are answered as there. Where an input
+puts random headers before packets, these go by such a header to an input that
+discards it, and from there by their own: the dependencies are those of both. There
+no packet may begin with a random header itself.
 
 With --all each dependency stands before, on a line of its own.";
 
