@@ -9,17 +9,19 @@ use Rattle.c104_net.proofs.WorkBounds.{told_below}
 use Rattle.c104_net.specs.DeadlockFreedom.{IsAcyclicNet, IsAllDelivered, IsFreeOfDeadlock}
 use Rattle.c104_net.specs.NetRecords.{NetRecord}
 use Rattle.c104_net.specs.RecordedRuns.{RecordsRounds}
-use Rattle.c104_net.specs.Standstill.{IsStartedStart}
+use Rattle.c104_net.specs.Quiet.{IsQuiet}
+use Rattle.c104_net.specs.Standstill.{IsStartedStart, StandsStill}
 use Rattle.c104_net.specs.Unchanged.{AreStartsOf}
 use Rattle.c104_net.specs.Work.{told_work, work, work_bound}
 use Rattle.c104_tests_net.proofs.CalmRuns.{unchanged}
 use Rattle.c104_tests_net.specs.CalmNets.{IsCalm, IsCalmTrace}
 use Rattle.c104_tests_net.specs.DeliveredNets.{DeliversByRanks, DeliversWithin}
+use Rattle.c104_token.specs.Kinds.{plain_kind}
 use Rattle.std.proofs.Common.{All, Err, IfOk, Ok, Result, arith, subst, sym, ℕ, ◌<◌}
 
 -- what such a network keeps is what the theorem asks for
-pub acyclic_net : (plan : Plan) (image : Image) (net : NetRecord) → IsCalm plan image net → Fits image plan → IsAccepted (routes_of plan image) → IsAcyclic (routes_of plan image) → IsNeverRandomized (routes_of plan image) → All IsStartedStart net.starts → IsAcyclicNet image net
-acyclic_net plan image net calm fits accepted acyclic never started =
+pub acyclic_net : (plan : Plan) (image : Image) (net : NetRecord) → IsCalm plan image net → Fits image plan → IsAccepted (routes_of plan image) → IsAcyclic (routes_of plan image) → All IsStartedStart net.starts → IsAcyclicNet image net
+acyclic_net plan image net calm fits accepted acyclic started =
     let back = sym calm.same_plan in
     let set : AreStartsOf net.network.plan image net.starts = subst (λ p. AreStartsOf p image net.starts) back calm.starts in
     let quiet : All (IsCalmTrace (routes_of net.network.plan image)) net.traces = subst (λ p. All (IsCalmTrace (routes_of p image)) net.traces) back calm.traces in
@@ -27,25 +29,31 @@ acyclic_net plan image net calm fits accepted acyclic never started =
       fits = subst (Fits image) back fits;
       accepted = subst (λ p. IsAccepted (routes_of p image)) back accepted;
       acyclic = subst (λ p. IsAcyclic (routes_of p image)) back acyclic;
-      never_randomized = subst (λ p. IsNeverRandomized (routes_of p image)) back never;
       set = set;
       started = started;
       unchanged = λ events told. unchanged (routes_of net.network.plan image) net.network.plan net.starts net.network.nodes net.traces net.count events set.in_place quiet told;
     }
 
+-- where it stands still, it is quiet, also where random headers are put before packets
+pub stood_quiet : (plan : Plan) (image : Image) (net : NetRecord) → IsCalm plan image net → Fits image plan → IsAccepted (routes_of plan image) → IsAcyclic (routes_of plan image) → All IsStartedStart net.starts → IsFreeOfDeadlock net → StandsStill plain_kind net.network → IsQuiet net.network
+stood_quiet plan image net calm fits accepted acyclic started free still = (free image (acyclic_net plan image net calm fits accepted acyclic started)).stands_quiet still
+
 pub delivers_within : (old new : NetRecord) (n : ℕ) (result : Result (Unit {0}) EventFault) → IsFreeOfDeadlock old → RecordsRounds old n result new → DeliversWithin old n result new
-delivers_within old new n (Ok u) free ends = λ image is few. (free image is).rounds_suffice n few new ends
-delivers_within old new n (Err f) free ends = λ image is few. tt
+delivers_within old new n (Ok u) free ends = λ image is plain few. (free image is).rounds_suffice n (subst (λ k. k < n) (sym ((free image is).plain_bound plain)) few) new ends
+delivers_within old new n (Err f) free ends = λ image is plain few. tt
 
 pub delivers_by : (old new : NetRecord) (n : ℕ) (result : Result (Unit {0}) EventFault) → IsFreeOfDeadlock old → RecordsRounds old n result new → DeliversByRanks old n result new
-delivers_by old new n (Ok u) free ends = λ image is rank falls few. (free image is).rounds_deliver rank falls n few new ends
-delivers_by old new n (Err f) free ends = λ image is rank falls few. tt
+delivers_by old new n (Ok u) free ends = λ image is plain rank falls few. (free image is).rounds_deliver rank falls n (subst (λ k. k < n) (sym ((free image is).plain_work plain rank)) few) new ends
+delivers_by old new n (Err f) free ends = λ image is plain rank falls few. tt
 
 module _ (plan : Plan) (image : Image) (old new : NetRecord) (n : ℕ) (result : Result (Unit {0}) EventFault) (calm : IsCalm plan image old) (fits : Fits image plan) (accepted : IsAccepted (routes_of plan image)) (never : IsNeverRandomized (routes_of plan image)) (started : All IsStartedStart old.starts) (small : n < 4294967296) where
+  plain : IsNeverRandomized (routes_of old.network.plan image)
+  plain = subst (λ p. IsNeverRandomized (routes_of p image)) (sym calm.same_plan) never
+
   pub settled_within : IsAcyclic (routes_of plan image) → DeliversWithin old n result new → told_work (work_bound old.network.plan old.network.nodes) < n → IfOk result (λ u. IsAllDelivered (routes_of plan image) new)
   settled_within acyclic delivers few = subst (λ p. IfOk result (λ u. IsAllDelivered (routes_of p image) new)) calm.same_plan
-      (delivers image (acyclic_net plan image old calm fits accepted acyclic never started) (told_below (work_bound old.network.plan old.network.nodes) n few (omega (arith, small))))
+      (delivers image (acyclic_net plan image old calm fits accepted acyclic started) plain (told_below (work_bound old.network.plan old.network.nodes) n few (omega (arith, small))))
 
   pub settled_by : (rank : SwitchPort → ℕ) → IsRanking (routes_of plan image) rank → AreRanksWithin (input_count (routes_of plan image)) rank → DeliversByRanks old n result new → told_work (work old.network.plan rank old.network.nodes) < n → IfOk result (λ u. IsAllDelivered (routes_of plan image) new)
   settled_by rank falls within delivers few = subst (λ p. IfOk result (λ u. IsAllDelivered (routes_of p image) new)) calm.same_plan
-      (delivers image (acyclic_net plan image old calm fits accepted (rank, falls, within) never started) rank (subst (λ p. IsRanking (routes_of p image) rank) (sym calm.same_plan) falls) (told_below (work old.network.plan rank old.network.nodes) n few (omega (arith, small))))
+      (delivers image (acyclic_net plan image old calm fits accepted (rank, falls, within) started) plain rank (subst (λ p. IsRanking (routes_of p image) rank) (sym calm.same_plan) falls) (told_below (work old.network.plan rank old.network.nodes) n few (omega (arith, small))))

@@ -1,6 +1,6 @@
 -- What rounds come to in a network that has no deadlock, by each of the two numbers that tell how many are enough.
 use Rattle.std.specs.Prelude.{ℕ, ◌<◌, IfOk, Result}
-use Rattle.c104_check.specs.ChannelDependencies.{IsRanking}
+use Rattle.c104_check.specs.ChannelDependencies.{IsNeverRandomized, IsRanking}
 use Rattle.c104_check.specs.Routes.{routes_of}
 use Rattle.c104_check.specs.declared.ports.SwitchPort.{SwitchPort}
 use Rattle.c104_describe.specs.PlanImage.{Image}
@@ -11,8 +11,8 @@ use Rattle.c104_net.specs.Work.{work, work_bound}
 
 -- by the bound of work
 abbrev pub DeliversWithin : NetRecord → ℕ → Result (Unit {0}) EventFault → NetRecord → Type 0
-DeliversWithin old n result new = (image : Image) → IsAcyclicNet image old → work_bound old.network.plan old.network.nodes < n → IfOk result (λ u. IsAllDelivered (routes_of old.network.plan image) new)
+DeliversWithin old n result new = (image : Image) → IsAcyclicNet image old → IsNeverRandomized (routes_of old.network.plan image) → work_bound old.network.plan old.network.nodes < n → IfOk result (λ u. IsAllDelivered (routes_of old.network.plan image) new)
 
 -- by work, whatever the ranks
 abbrev pub DeliversByRanks : NetRecord → ℕ → Result (Unit {0}) EventFault → NetRecord → Type 0
-DeliversByRanks old n result new = (image : Image) → IsAcyclicNet image old → (rank : SwitchPort → ℕ) → IsRanking (routes_of old.network.plan image) rank → work old.network.plan rank old.network.nodes < n → IfOk result (λ u. IsAllDelivered (routes_of old.network.plan image) new)
+DeliversByRanks old n result new = (image : Image) → IsAcyclicNet image old → IsNeverRandomized (routes_of old.network.plan image) → (rank : SwitchPort → ℕ) → IsRanking (routes_of old.network.plan image) rank → work old.network.plan rank old.network.nodes < n → IfOk result (λ u. IsAllDelivered (routes_of old.network.plan image) new)

@@ -2,7 +2,8 @@
 //!
 //! Of a labelled mesh nothing is checked and no cycle is sought; of a ring whose labels were made by hand `find_cycle`
 //! tells that there is none, and gives ranks. In both the number of rounds that are enough is known before them, and
-//! that all is quiet afterwards is proved from the contracts of `Net` alone.
+//! that all is quiet afterwards is proved from the contracts of `Net` alone. Where random headers are put before packets
+//! no call tells that number; but where the network stands still, it is proved to be quiet.
 ghost use Rattle.std.specs.Prelude.{◌≡◌, ◌<◌, true, IfOk};
 ghost use Rattle.c104_check.specs.ChannelDependencies.{AreRanksWithin, IsAcyclic, IsNeverRandomized, IsRanking, input_count};
 ghost use Rattle.c104_check.specs.Ranks.{rank_in};
@@ -16,6 +17,7 @@ ghost use Rattle.c104_tests_net.specs.DeliveredNets.{DeliversByRanks, DeliversWi
 
 use crate::calls::{drop_plan, plan_of};
 use crate::named_packets::{is_plain, placed, send_plain};
+use crate::portals::{PORTALS, send_labels};
 use c104_check::{Ranks, RanksOrCycle, check, find_cycle};
 use c104_describe::{Image, Plan};
 use c104_event::EventFault;
@@ -54,6 +56,16 @@ fn of_a_mesh(rt: HostRuntime) -> Result<(), Fail> {
 fn of_a_ring(rt: HostRuntime) -> Result<(), Fail> {
     let plan = plan_of(rt.alloc(), RING)?;
     let quiet = on_ring(rt.alloc(), &plan, 1_000_000);
+    drop_plan(plan);
+    assert!(rt; quiet?);
+    Ok(())
+}
+
+/// The ways by random headers count too, and those from the portals on.
+#[test]
+fn of_two_portals(rt: HostRuntime) -> Result<(), Fail> {
+    let plan = plan_of(rt.alloc(), PORTALS)?;
+    let quiet = over_portals(rt.alloc(), &plan, 40);
     drop_plan(plan);
     assert!(rt; quiet?);
     Ok(())
@@ -240,6 +252,70 @@ fn deliver_by(
     }
     rounds_within(net, count)?;
     Ok(())
+}
+
+/// Two packets are sent behind random headers, and where the network stands still after so many rounds, all is quiet.
+fn over_portals(alloc: Global, plan: &Plan, count: u32) -> Result<bool, Fail>
+    ensures { IfOk result (λ quiet. quiet ≡ true) }
+{
+    let image = image_of(alloc, plan)?;
+    let quiet = where_free(alloc, plan, &image, count)?;
+    Ok(quiet)
+}
+
+/// The same with the plan's own image, where it is accepted and has no cycle of channel dependencies.
+fn where_free(alloc: Global, plan: &Plan, image: &Image, count: u32) -> Result<bool, Fail>
+    requires fits { Fits image.now plan.now }
+    ensures { IfOk result (λ quiet. quiet ≡ true) }
+{
+    check(alloc, plan, image)?;
+    let RanksOrCycle::Ranks(ranks) = find_cycle(alloc, plan, image)? else {
+        return Err("a cycle of channel dependencies".into());
+    };
+    let quiet = after_labels(alloc, plan, image, &ranks, count)?;
+    Ok(quiet)
+}
+
+/// The same by ranks that fall along the dependencies of both phases.
+fn after_labels(
+    alloc: Global,
+    plan: &Plan,
+    image: &Image,
+    ranks: &Ranks,
+    count: u32,
+) -> Result<bool, Fail>
+    requires fits { Fits image.now plan.now }
+    requires accepted { IsAccepted (routes_of plan.now image.now) }
+    requires within { AreRanksWithin (input_count (routes_of plan.now image.now)) (rank_in ranks.now.by_place) }
+    requires ranking { IsRanking (routes_of plan.now image.now) (rank_in ranks.now.by_place) }
+    ensures { IfOk result (λ quiet. quiet ≡ true) }
+{
+    let mut net = placed(alloc, plan, image)?;
+    let quiet = match send_labels(alloc, &mut net, plan, image, count) {
+        Ok(()) => stand_quiet(&net, plan, image, ranks),
+        Err(error) => Err(error),
+    };
+    net.retire();
+    quiet
+}
+
+/// What stands still is quiet.
+fn stand_quiet(net: &Net, plan: &Plan, image: &Image, ranks: &Ranks) -> Result<bool, Fail>
+    requires fits { Fits image.now plan.now }
+    requires accepted { IsAccepted (routes_of plan.now image.now) }
+    requires within { AreRanksWithin (input_count (routes_of plan.now image.now)) (rank_in ranks.now.by_place) }
+    requires ranking { IsRanking (routes_of plan.now image.now) (rank_in ranks.now.by_place) }
+    requires calm { IsCalm plan.now image.now net.now }
+    ensures { IfOk result (λ quiet. quiet ≡ true) }
+{
+    if !net.began_started() {
+        return Err("a switch isn't started".into());
+    }
+    if !net.stands_still() {
+        return Err("more rounds are needed".into());
+    }
+    net.has_no_deadlock();
+    Ok(net.quiet())
 }
 
 /// Terminal 0 sends to terminals 1 and 3.

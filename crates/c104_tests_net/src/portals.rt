@@ -19,7 +19,8 @@ use std::alloc::Global;
 use std::test::Fail;
 
 /// A packet from A goes by the random header 300 over P, or by 301 to B at once, and from there on by its own header.
-const PORTALS: &[u8] = b"header 2\nswitch A\nswitch P\nswitch B\nterminal a A.0\nterminal b B.0\n\
+pub const PORTALS: &[u8] =
+    b"header 2\nswitch A\nswitch P\nswitch B\nterminal a A.0\nterminal b B.0\n\
     wire A.1 P.0\nwire P.1 B.1\nwire A.2 B.2\nrandom A.0 300 2\n\
     row A.0 300 sink\nrow A.0 301 1\nrow A.0 302 2\nrow A.1 1 0\nrow A.2 1 0\n\
     row P.0 1 0\nrow P.0 2 1\nrow P.0 300 sink\nrow P.0 301 discard\n\
@@ -69,7 +70,7 @@ fn after_two(alloc: Global, plan: &Plan, image: &Image, count: u32) -> Result<Ne
     ensures { IfOk result (λ net. IsCalm plan.now image.now net) }
 {
     let mut net = placed(alloc, plan, image)?;
-    match send_two(alloc, &mut net, plan, image, count) {
+    match send_labels(alloc, &mut net, plan, image, count) {
         Ok(()) => Ok(net),
         Err(error) => {
             net.retire();
@@ -79,7 +80,7 @@ fn after_two(alloc: Global, plan: &Plan, image: &Image, count: u32) -> Result<Ne
 }
 
 /// The first terminal sends two packets to the second, one after the other.
-fn send_two(
+pub fn send_labels(
     alloc: Global,
     net: &mut Net,
     plan: &Plan,

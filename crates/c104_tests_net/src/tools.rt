@@ -1,7 +1,7 @@
 //! The loader and the debugger over ports of one switch, and over a network.
 use crate::calls::{
-    begin, command, described_image, entry_count, has_arrived, load_image, new_network, retire,
-    rounds, send, verify_image, write,
+    begin, command, described_image, entry_count, has_arrived, load_image, new_network,
+    placed_network, retire, rounds, send, verify_image, write,
 };
 use c104_control::ControlBytes;
 use c104_describe::Image;
@@ -19,8 +19,9 @@ use std::test::Fail;
 const PLAN: &[u8] = b"switch A\nterminal a A.0\nterminal b A.1\n\
     row A.0 1 0\nrow A.0 2 1\nrow A.1 1 0\nrow A.1 2 1\n";
 
-/// Two switches.
-const PAIR: &[u8] = b"switch A\nswitch B\nterminal a A.0\nterminal b B.0\nwire A.1 B.1\n";
+/// Two switches with a terminal each, and a wire between them.
+const PAIR: &[u8] = b"switch A\nswitch B\nterminal a A.0\nterminal b B.0\nwire A.1 B.1\n\
+    row A.0 1 0\nrow A.0 2 1\nrow B.1 1 sink\nrow B.1 2 0\n";
 
 /// What a link tells of itself where nothing has happened yet.
 const IDLE: LinkNumbers = LinkNumbers {
@@ -175,8 +176,8 @@ fn has_rows(table: Result<Table, LoadFault>) -> bool {
 }
 
 /// What the first link of a switch tells, and what the last one does, with nothing promised.
-fn first_link(bench: &mut Bench, switch: usize) -> Result<LinkNumbers, LoadFault> {
-    read_link(bench, switch, 0)
+fn first_link<P: ControlPort>(port: &mut P, switch: usize) -> Result<LinkNumbers, LoadFault> {
+    read_link(port, switch, 0)
 }
 
 fn last_link(bench: &mut Bench, switch: usize) -> Result<LinkNumbers, LoadFault> {
@@ -232,4 +233,24 @@ fn carry(rt: &impl Abort, alloc: Global, net: &mut Net) -> Result<(), Fail> {
     rounds(net, 4)?;
     assert!(rt; has_arrived(net, 1, &[Token::Byte(1), Token::Eop]));
     Ok(())
+}
+
+/// A network of one switch is asked for two, for a link of the second, and for a register that it hasn't.
+#[test]
+fn refused_by_a_network(rt: HostRuntime) -> Result<(), Fail> {
+    let pair = described_image(rt.alloc(), PAIR)?;
+    let mut net = placed_network(rt.alloc(), PLAN)?;
+    let result = refuses_a_switch(&mut net, &pair) && refuses_a_register(&mut net);
+    retire(net);
+    assert!(rt; result);
+    Ok(())
+}
+
+fn refuses_a_switch(net: &mut Net, pair: &Image) -> bool {
+    load_image(net, pair) == Err(LoadFault::NoSwitch)
+        && first_link(net, 1) == Err(LoadFault::NoSwitch)
+}
+
+fn refuses_a_register(net: &mut Net) -> bool {
+    write(net, 0, 0xffff, 0) == Err(LoadFault::Refused(0, 0xffff, 3))
 }
