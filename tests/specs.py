@@ -22,19 +22,21 @@ def files_below(folder, ending):
 
 
 class Definition:
-    """A definition of a module of specs/: its name, the comment above it, and its text with that of its cases."""
+    """A definition of a module of specs/: its name, the comment above it, its text with that of its cases, and the
+    comments of its parts."""
 
     def __init__(self, crate, module, name, comment):
         self.key = crate, module, name
         self.crate, self.module, self.name, self.comment = crate, module, name, comment
-        self.text, self.constructors = '', []
+        self.text, self.constructors, self.parts = '', [], []
         self.is_data = False
 
     def label(self):
         return '.'.join(self.key)
 
-    def add(self, line):
+    def add(self, line, comment=''):
         self.text += line + '\n'
+        self.parts += [comment] if comment else []
         constructor = CONSTRUCTOR.match(line)
         if self.is_data and constructor:
             self.constructors.append(constructor.group(1))
@@ -110,21 +112,23 @@ class Specs:
 
 
 def definitions_in(crate, module, text):
-    """The definitions of a module, in order."""
-    found, comment, present = [], [], None
+    """The definitions of a module, in order. A comment above a `module` line is that of the first one in it."""
+    found, comment, of_module, present = [], [], [], None
     for line in text.split('\n'):
         head = DEFINITION.match(line)
         if line.strip().startswith('--'):
             comment.append(line.strip()[2:].strip())
             continue
         if head:
-            present = Definition(crate, module, head.group(1), ' '.join(comment))
+            present = Definition(crate, module, head.group(1), ' '.join(comment or of_module))
             present.is_data = bool(re.match(r' *(pub )?data ', line))
             found.append(present)
+            of_module = []
         elif not line.startswith(' ') and re.match(r'(pub )?(use|mod|module|infix)', line):
             present = None
+            of_module = comment if line.startswith('module') else []
         if present:
-            present.add(line)
+            present.add(line, ' '.join(comment) if line.strip() and not head else '')
         comment = []
     return found
 
@@ -137,7 +141,7 @@ def exported(crate):
     if not os.path.exists(root):
         return None
     text = blank(read_text(root))
-    names = {*re.findall(r'\bpub (?:fn|struct|enum|trait|type) (\w+)', text)}
+    names = {*re.findall(r'\bpub (?:fn|struct|enum|trait|type|const) (\w+)', text)}
     for items in re.findall(r'\bpub use ([^;]*);', text):
         names |= {*re.findall(r'\w+', items)}
     for module in re.findall(r'\bpub mod (\w+)', text):

@@ -1,0 +1,250 @@
+"""The written parts of docs/DEFINITIONS.md and docs/PROMISES.md, from the comments of specs/ and of the sources, and
+the list of shared lemmas in docs/ARCHITECTURE.md.
+
+A page begins with a part by hand, which ends in the line MARK; all below it is written from the crates.
+"""
+
+import os
+import re
+
+import toolchain
+from sources import HEAD, blank, blocks_of, contract_end, past_bracket, read_text
+from specs import Scope, exported, files_below, public_definitions, type_of
+
+DEFINITIONS, PROMISES, MAP = (os.path.join('docs', it + '.md') for it in ('DEFINITIONS', 'PROMISES', 'ARCHITECTURE'))
+MARK = '<!-- From here on tests/write_pages writes this page, from what stands in crates/. -->'
+LEMMAS = re.compile(r'\bRattle\.(c104\w*)\.proofs\.(\w+(?:\.[a-z]\w*)*)')
+CLAUSE = re.compile(r'\b(requires|ensures)\b\s*(\w*)\s*\{')
+GHOST = re.compile(r'\bghost (\w+)\s*[=:]\s*(?=[{(\[])')
+TYPE = re.compile(r'^pub (?:struct|enum|trait|type|const(?! fn)) (\w+)', re.MULTILINE)
+MODULE = re.compile(r'^(?:pub )?mod (\w+);', re.MULTILINE)
+# A full stop that ends a sentence, so not one of `0, 1, .. 31`.
+STOP = re.compile(r'(?<!\.)\.(?=\s+[^a-z])')
+COLUMNS = re.compile(r'\S {2,}\S')
+# A line that may stand between a comment and what it is about: of an attribute, or of another comment.
+BETWEEN = re.compile(r'\s*//(?!/)|(?!\s*//).*[\],(]\s*\Z')
+LINK = re.compile(r'\[(`[^`\]]+`)\](?!\()')
+
+
+# DEFINITIONS.md
+
+def head_of(text, sign):
+    """The comment at the head of a file, of lines that begin with a sign, without the table of names below it."""
+    lines = []
+    for line in text.split('\n'):
+        if not line.startswith(sign) or COLUMNS.search(line):
+            break
+        lines.append(line[len(sign):].strip())
+    return lines
+
+
+def modules_of(specs, wanted):
+    """The wanted definitions by crate and module, in the order of the crates and files: pairs of what is said and
+    names. One of which no comment says anything stands beside the one above it."""
+    found = {}
+    for definition in specs.definitions.values():
+        entries = found.setdefault((definition.crate, definition.module), [])
+        if definition.comment or definition.parts or not entries:
+            entries.append((said_of(definition), []))
+        if definition in wanted:
+            entries[-1][1].append(definition.name)
+    kept = {place: [it for it in entries if it[1]] for place, entries in found.items()}
+    return {place: entries for place, entries in kept.items() if entries}
+
+
+def said_of(definition):
+    """The comment of a definition, and in brackets those of its parts."""
+    parts = '; '.join(it.rstrip('.') for it in definition.parts)
+    return ' '.join(filter(None, [definition.comment, '(%s)' % parts if parts else '']))
+
+
+def definitions_text(crates, specs, wanted):
+    """The definitions that public contracts rest on, by crate and file of specs/, each with its comment."""
+    lines, folders, crate = [], {it.name: it.folder for it in crates}, None
+    for (name, module), entries in modules_of(specs, wanted).items():
+        if name != crate:
+            crate = name
+            lines += ['', '## %s' % crate]
+        file = 'specs/%s.antt' % module.replace('.', '/')
+        lines += ['', '### `%s`' % file, '', ' '.join(head_of(read_text(folders[crate], file), '--')), '']
+        lines += ['- %s%s' % (quoted(names), ': ' + said if said else '') for said, names in entries]
+    return '\n'.join(lines) + '\n'
+
+
+def quoted(names):
+    return ', '.join('`%s`' % it for it in names)
+
+
+# PROMISES.md
+
+def files_of(folder):
+    """The source files of a crate: those of each module in the order in which its parent names them."""
+    root = next(it for it in ('lib.rt', 'main.rt') if os.path.exists(os.path.join(folder, it)))
+    return [root, *(file for name in MODULE.findall(read_text(folder, root)) for file in files_from(folder, name))]
+
+
+def files_from(folder, path):
+    text = read_text(folder, path + '.rt')
+    return [path + '.rt', *(file for name in MODULE.findall(text) for file in files_from(folder, path + '/' + name))]
+
+
+def comment_above(text, at):
+    """The `///` comment that ends above a line, over whose attributes it may stand."""
+    lines = text[:at].split('\n')[:-1]
+    while lines and BETWEEN.match(lines[-1]):
+        lines.pop()
+    found = []
+    while lines and lines[-1].lstrip().startswith('///'):
+        found.insert(0, lines.pop().strip()[3:].strip())
+    return found
+
+
+def first_sentence(lines):
+    """The first sentence of a comment, without the links of rustdoc."""
+    paragraph = ' '.join(lines[:lines.index('') if '' in lines else None])
+    stop = STOP.search(paragraph)
+    return LINK.sub(r'\1', paragraph[:stop.end() if stop else None])
+
+
+class Item:
+    """A public function or type: its name, its sentence, and its clauses, as (word, name, cited definitions)."""
+
+    def __init__(self, name, sentence, clauses=()):
+        self.name, self.sentence, self.clauses, self.methods = name, sentence, [*clauses], []
+
+    def lines(self, indent=''):
+        said = [it for it in (self.sentence, *map(self.told, ('ghost', 'ensures', 'requires'))) if it]
+        shown = '%s- `%s`%s' % (indent, self.name, ': ' + ' '.join(said) if said else '')
+        return [shown, *(line for it in self.methods for line in it.lines('  '))]
+
+    def has_contract(self):
+        return any(it[2] for it in self.clauses) or any(it.has_contract() for it in self.methods)
+
+    def told(self, word):
+        """What the clauses of a kind cite."""
+        parts = []
+        for kind, name, cited in self.clauses:
+            if kind == word and (cited or name):
+                parts.append(' '.join(filter(None, ['*%s*' % name if name else '', quoted(cited)])))
+        return '%s %s.' % (word.capitalize(), '; '.join(parts)) if parts else ''
+
+
+class Source:
+    """A source file: its text, and what its names stand for; and how each definition is named."""
+
+    def __init__(self, specs, names, text):
+        self.specs, self.names, self.text, self.code, self.scope = specs, names, text, blank(text), Scope(text)
+        self.blocks = blocks_of(self.code)
+
+    def cited(self, start, end):
+        """The names of the definitions that a part of the file cites, in the order of specs/."""
+        cited = self.specs.cited_by(self.scope, self.code[start:end])
+        return [name for it, name in self.names.items() if it in cited]
+
+    def clauses(self, start, end):
+        found = []
+        for it in CLAUSE.finditer(self.code, start, end):
+            found.append((it.group(1), it.group(2), self.cited(it.end() - 1, past_bracket(self.code, it.end() - 1))))
+        return found
+
+    def ghosts(self, start, end):
+        found = [('ghost', it.group(1), self.cited(it.end(), past_bracket(self.code, it.end())))
+                 for it in GHOST.finditer(self.code, start, end)]
+        return [it for it in found if it[2]]
+
+
+def add_file(items, source, names):
+    """Adds the public items of a file to a crate's, by name: types and constants, what is ghost of them, functions."""
+    is_public = lambda name: names is None or name in names
+    for it in TYPE.finditer(source.code):
+        if is_public(it.group(1)):
+            item = items.setdefault(it.group(1), Item(it.group(1), ''))
+            item.sentence = first_sentence(comment_above(source.text, it.start()))
+    for start, end, block in source.blocks:
+        if is_public(type_of(block)):
+            item = items.setdefault(type_of(block), Item(type_of(block), ''))
+            item.clauses += [it for it in source.ghosts(start, end) if it not in item.clauses]
+    for head in HEAD.finditer(source.code):
+        add_function(items, source, head, is_public)
+
+
+def add_function(items, source, head, is_public):
+    block = next((it for start, end, it in source.blocks if start <= head.start() < end), None)
+    of_trait = block and (' for ' in block or 'trait ' in block)
+    if not (of_trait or re.match(r'\s*pub (?!\()', head.group())):
+        return
+    if not is_public(type_of(block) if block else head.group(1)):
+        return
+    clauses = source.clauses(head.end(), contract_end(source.code, head.end()))
+    line = source.text.rfind('\n', 0, head.start(1)) + 1
+    item = Item(head.group(1), first_sentence(comment_above(source.text, line)), clauses)
+    if block is None:
+        items[item.name] = item
+    elif item.sentence or any(name or cited for _, name, cited in clauses):
+        items[type_of(block)].methods.append(item)
+
+
+def names_in(specs, wanted):
+    """How each definition is named: behind its module's name where another has the same."""
+    all_names = [it.name for it in wanted]
+    return {it: it.name if all_names.count(it.name) == 1 else '%s.%s' % (it.module, it.name)
+            for it in specs.definitions.values() if it in wanted}
+
+
+def promises_text(crates, specs, wanted):
+    """What is public of each crate, in the order of its files, with what its clauses cite."""
+    lines, said = [], names_in(specs, wanted)
+    for crate in crates:
+        items, source, names = {}, os.path.join(crate.folder, 'src'), exported(crate)
+        files = files_of(source)
+        for file in files:
+            add_file(items, Source(specs, said, read_text(source, file)), names)
+        # Of a program nobody calls anything: its contracts are shown, and nothing else.
+        shown = [line for it in items.values() if names is not None or it.has_contract() for line in it.lines()]
+        if shown:
+            head = first_sentence(head_of(read_text(source, files[0]), '//!'))
+            lines += ['', '## %s' % crate.name, '', head, '', *shown]
+    return '\n'.join(lines) + '\n'
+
+
+# ARCHITECTURE.md
+
+def lemmas_used(crates):
+    """Which crates use a module of another crate's proofs/, by its crate and name."""
+    found = {}
+    for crate in crates:
+        for part in ('src', 'specs', 'proofs'):
+            folder = os.path.join(crate.folder, part)
+            for file in files_below(folder, '.rt') + files_below(folder, '.antt'):
+                for place in LEMMAS.findall(read_text(folder, file)):
+                    if place[0] != crate.name and crate.name not in found.setdefault(place, []):
+                        found[place].append(crate.name)
+    return found
+
+
+def lemmas_text(crates):
+    """The table of the modules of proofs/ that other crates use."""
+    used = lemmas_used(crates)
+    lines = ['', '| Crate | Module of its `proofs/` | Used by |', '|---|---|---|']
+    for crate in crates:
+        for name, users in sorted((it[1], users) for it, users in used.items() if it[0] == crate.name):
+            lines.append('| `%s` | `%s` | %s |' % (crate.name, name, quoted(users)))
+    return '\n'.join(lines) + '\n'
+
+
+# The pages
+
+def front_of(page):
+    """What is written by hand of a page."""
+    front, mark, _ = read_text(toolchain.TOP, page).partition(MARK + '\n')
+    if not mark:
+        raise SystemExit('%s has no line %s' % (page, MARK))
+    return front
+
+
+def written_pages(crates):
+    """What each page should be; with the definitions that public contracts rest on."""
+    specs, wanted = public_definitions(crates)
+    texts = {DEFINITIONS: definitions_text(crates, specs, wanted), PROMISES: promises_text(crates, specs, wanted),
+             MAP: lemmas_text(crates)}
+    return {page: front_of(page) + MARK + '\n' + text for page, text in texts.items()}, specs, wanted
