@@ -98,6 +98,13 @@ class Edit:
         """The prover's name of the changed method of a trait."""
         return '::'.join([self.crate.name, *self.module(), self.changed.impl_name, self.changed.name])
 
+    def name_to_prove(self):
+        """The changed function's name for a check of it alone: what it stands in belongs to that, since its own name may
+        also be a module's."""
+        if self.is_of_impl:
+            return self.full_name()
+        return '::'.join([self.changed.owner or [self.crate.name, *self.module()][-1], self.changed.name])
+
     def module(self):
         """The path of the module that the edited file is."""
         return [it for it in self.path[:-len('.rt')].split('/')[1:] if it not in ROOTS]
