@@ -35,7 +35,8 @@ use Rattle.c104_token.specs.Kinds.{plain_kind}
 use Rattle.c104_token.specs.declared.tokens.Token.{Token}
 
 -- A network with its record whose labels the check accepts, and whose channels don't depend on one another in a cycle:
--- its run began with the image's settings and with every switch started, and nobody changed the network since.
+-- its run began with the image's settings and with every switch started, nobody changed the network since, and what
+-- terminals sent where random headers are put before packets doesn't begin with a random header itself.
 pub record IsAcyclicNet (image : Image) (net : NetRecord) : Type 0 where
   pub fits : Fits image net.network.plan
   pub accepted : IsAccepted (routes_of net.network.plan image)

@@ -1,6 +1,7 @@
--- The work that is left in a network: a number that each event of a round makes smaller, where it is done.
+-- The work that is left in a network: a number that each event of a round makes smaller, where it is done and puts no
+-- random header before a packet.
 --     work plan rank nodes      by ranks of the inputs that fall along every way of a packet
---     work_bound plan nodes      by tokens and buffers alone: no work is more, whatever the ranks
+--     work_bound plan nodes      by tokens and buffers alone: no work is more, by ranks up to the count of inputs
 use Rattle.std.specs.Prelude.{ℕ, suc, ◌+◌, ◌-◌, ◌*◌, List, [], ◌∷◌, length, min, Option, Some, None}
 use Rattle.c104_link.specs.Buffers.{Incoming, Outgoing}
 use Rattle.c104_regs.specs.declared.registers.TheConstants.{LINKS}

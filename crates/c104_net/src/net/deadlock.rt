@@ -8,9 +8,11 @@ use crate::recorded::Node;
 
 impl Net {
     /// What is so of the network where its labels are accepted, its channels don't depend on one another in a cycle, its
-    /// run began with the image's settings and with every switch started, and nobody changed it since: it has no deadlock,
-    /// and more rounds than there is work deliver each packet with an owner. This is a law: whoever cites it calls this
-    /// before the rounds that it is about. It changes nothing and takes no memory.
+    /// run began with the image's settings and with every switch started, nobody changed it since, and no terminal before
+    /// whose packets random headers are put sent one that begins with such a header itself: it has no deadlock, and there
+    /// is a number of rounds of which more, none of them refused, deliver each packet with a whole header that has an
+    /// owner. This is a law: whoever cites it calls this before the rounds that it is about. It changes nothing and takes
+    /// no memory.
     pub fn has_no_deadlock(&self)
         ensures { IsFreeOfDeadlock self.now }
     {

@@ -1,4 +1,5 @@
-//! The work that is left in a network: a number that each event of a round makes smaller, where it is done.
+//! The work that is left in a network: a number that each event of a round makes smaller, where it is done and puts no
+//! random header before a packet.
 //!
 //! By it a caller knows how many rounds are enough. It is counted node by node, from what each holds.
 ghost use Rattle.std.specs.Prelude.{◌≡◌, ◌+◌, ◌*◌, ◌<◌, ◌≤◌, ℕ, length, map, slice_get};
