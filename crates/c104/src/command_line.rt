@@ -84,13 +84,13 @@ const TEACHING_CYCLES: &str =
     "One input depends on another where a packet that comes in at the one may have to
 wait until what came in at the other has gone on. Where the labels are accepted and no
 inputs depend on one another in a cycle, `rounds` brings each packet with a whole
-header to its terminal, unless that is full or a trace is; where they do, packets can
-come to wait for one another for good. Prints `acyclic`, or `cycle` and its inputs,
-each with a header by which it depends on the next, the last on the first, and ends
-with exit status 1. Labels that check refuses are answered as there. Where an input
-puts random headers before packets, these go by such a header to an input that
-discards it, and from there by their own: the dependencies are those of both. There
-no packet may begin with a random header itself.
+header that a terminal owns there, unless some terminal or a trace is full; where they
+do, packets can come to wait for one another for good. Prints `acyclic`, or `cycle` and
+its inputs, each with a header by which it depends on the next, the last on the first,
+and ends with exit status 1. Labels that check refuses are answered as there. Where an
+input puts random headers before packets, these go by such a header to an input that
+discards it, and from there by their own: the dependencies are those of both. What is
+said of `rounds` holds as long as no such packet begins with a random header itself.
 
 With --all each dependency stands before, on a line of its own.";
 

@@ -10,11 +10,11 @@ use Rattle.c104_commands.specs.CycleTexts.{cycle_text}
 
 -- the sentence on a network without a cycle
 abbrev pub no_cycle_text : List ℕ
-no_cycle_text = codes "no cycle of channel dependencies: under rounds every packet with a whole header arrives, as long as no inbox or trace is full\n"
+no_cycle_text = codes "no cycle of channel dependencies: under rounds every packet with a whole header that a terminal owns arrives, as long as no inbox or trace is full and nothing is reset or set\n"
 
 -- the same where random headers are put before packets
-abbrev pub no_cycle_behind_text : List ℕ
-no_cycle_behind_text = codes "no cycle of channel dependencies: under rounds every packet with a whole header arrives, as long as no inbox or trace is full and no packet behind a random header begins with one itself\n"
+abbrev pub no_cycle_random_text : List ℕ
+no_cycle_random_text = codes "no cycle of channel dependencies: under rounds every packet with a whole header that a terminal owns arrives, as long as no inbox or trace is full, nothing is reset or set, and no packet behind a random header begins with a random header of the network\n"
 
 -- the sentence on a cycle, and what follows it
 abbrev pub cycle_sentence : Plan → List ChannelDependency → List ℕ → List ℕ
@@ -29,13 +29,13 @@ TellsOfCycle plan routes text =
 -- the sentence on a network without a cycle, by whether random headers are put before packets
 abbrev pub no_cycle_sentence : Bool → List ℕ
 no_cycle_sentence false = no_cycle_text
-no_cycle_sentence true = no_cycle_behind_text
+no_cycle_sentence true = no_cycle_random_text
 
 -- a text is that sentence
 abbrev pub SaysNoCycle : Routes → List ℕ → Type 0
 SaysNoCycle routes text =
-    (IsNeverRandomized routes × (text ≡ no_cycle_text)) ⊎ ((p : SwitchPort) × IsRandomized routes p × (text ≡ no_cycle_behind_text))
+    (IsNeverRandomized routes × (text ≡ no_cycle_text)) ⊎ ((p : SwitchPort) × IsRandomized routes p × (text ≡ no_cycle_random_text))
 
--- a text says that there is no cycle, which there isn't; or it begins with one
+-- a text says that there is no cycle, and there is none; or it begins with one
 abbrev pub TellsOfCycles : Plan → Routes → List ℕ → Type 0
 TellsOfCycles plan routes text = (IsAcyclic routes × SaysNoCycle routes text) ⊎ TellsOfCycle plan routes text

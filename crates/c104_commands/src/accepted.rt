@@ -54,11 +54,11 @@ fn no_cycle_sentence(alloc: Global, is_randomized: bool) -> Result<String, Alloc
 {
     if is_randomized {
         format!(in alloc;
-            "no cycle of channel dependencies: under rounds every packet with a whole header arrives, as long as no inbox or trace is full and no packet behind a random header begins with one itself\n"
+            "no cycle of channel dependencies: under rounds every packet with a whole header that a terminal owns arrives, as long as no inbox or trace is full, nothing is reset or set, and no packet behind a random header begins with a random header of the network\n"
         )
     } else {
         format!(in alloc;
-            "no cycle of channel dependencies: under rounds every packet with a whole header arrives, as long as no inbox or trace is full\n"
+            "no cycle of channel dependencies: under rounds every packet with a whole header that a terminal owns arrives, as long as no inbox or trace is full and nothing is reset or set\n"
         )
     }
 }
