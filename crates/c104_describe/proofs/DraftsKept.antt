@@ -38,7 +38,7 @@ by_hand (Tree root) is = cc
 by_hand (Mesh w h p) is = cc
 by_hand (Cube d p) is = cc
 
-has_none : {X : Type 0} (xs : List X) → has_some xs ≡ false → xs ≡ []
+pub has_none : {X : Type 0} (xs : List X) → has_some xs ≡ false → xs ≡ []
 has_none [] is = refl
 has_none (x ∷ xs) is = absurd (grind (arith, nat_tests))
 

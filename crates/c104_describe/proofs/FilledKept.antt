@@ -41,7 +41,7 @@ module _ (plan : Plan) (kept : IsPlan plan) (none : plan.switches ≡ []) where
   no_terminals : plan.terminals ≡ []
   no_terminals = none_at host_port plan.terminals (subst (λ n. All (λ (t : Terminal). IsSwitchPort n (host_port t)) plan.terminals) no_count kept.terminals.on_switches)
 
-  no_deletes : plan.deletes ≡ []
+  pub no_deletes : plan.deletes ≡ []
   no_deletes = none_below plan.deletes (subst (λ n. All (λ t. t < n) plan.deletes) (ap length no_terminals) kept.deletes.known)
 
   pub nothing_set : IsUnset plan

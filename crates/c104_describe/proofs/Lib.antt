@@ -32,6 +32,15 @@ pub mod FaultSteps
 pub mod MixedLast
 pub mod LineFaultLaws
 pub mod PlanDue
+mod ClashSteps
+mod ClashKept
+pub mod ClashLaw
+mod LineMakes
+mod SaidPlaces
+mod SaidKept
+mod SaidLines
+mod SaidRead
+pub mod SaidLaw
 mod NameText
 mod LineWords
 mod PrintedSteps

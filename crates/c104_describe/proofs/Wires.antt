@@ -1,5 +1,5 @@
 -- The wires of a plan go both ways, join ports of the plan, and no node to itself; and each terminal has one.
-use Rattle.std.proofs.Common.{◌≡◌, ◌≢◌, ◌<◌, ◌+◌, ℕ, zero, suc, inl, inr, false, List, [], ◌∷◌, ◌++◌, Option, Some, None, length, slice_get, All, refl, sym, ap, subst, arith, if◌then◌else◌}
+use Rattle.std.proofs.Common.{◌≡◌, ◌≢◌, ◌<◌, ◌+◌, ℕ, zero, suc, inl, inr, false, List, [], ◌∷◌, ◌++◌, Option, Some, None, length, slice_get, All, refl, sym, ap, subst, ◌∙◌, arith, if◌then◌else◌}
 use Rattle.std.specs.Option.{IfSome}
 use Rattle.std.specs.List.{AllByRecursion}
 use Rattle.c104_describe.specs.Distinctness.{AreDistinct}
@@ -8,7 +8,7 @@ use Rattle.std.proofs.lemmas.List.Elements.{All-head, All-tail}
 use Rattle.c104_describe.specs.declared.ports.Port.TheVariants as port
 use Rattle.c104_describe.specs.Ports.{Port, Wire, is_port, other_end, both_ends, AreApart, IsSwitchPort}
 use Rattle.c104_describe.specs.Plans.{Plan, Terminal, IsPlan, IsPlanWire, host_port, linked_ports}
-use Rattle.c104_describe.specs.Wiring.{terminal_wires, peer, IsPlanPort, IsWiring}
+use Rattle.c104_describe.specs.Wiring.{terminal_wires, peer, wires, IsJoined, IsPlanPort, IsWiring}
 use Rattle.c104_describe.proofs.PortLemmas.{cases_port, is_port-refl, is_port-ne, is_port-flips}
 
 -- Any list of wires
@@ -169,6 +169,31 @@ wires_once : (n : ℕ) (ts : List Terminal) (ws : List Wire) → AreDistinct is_
 wires_once n [] ws h are = once_of ws h
 wires_once n (t ∷ ts) ws h are = (refl, no_terminal n (suc n) ts ws (omega arith) are, no_link (suc n) ts ws t.switch t.link h.0, wires_once (suc n) ts ws h.1 are)
 
+-- each wire joins its two ends
+wire_end : (ws : List Wire) → IsOnce ws → (k : ℕ) (w : Wire) → slice_get ws k ≡ Some w → other_end ws w.here ≡ Some w.there
+wire_end [] once k w is = absurd (cc)
+wire_end (v ∷ ws) once zero w is =
+    let same : v ≡ w = cc in
+    subst (λ (x : Wire). other_end (v ∷ ws) x.here ≡ Some x.there) same (rw (is_port-refl v.here) refl)
+wire_end (v ∷ ws) once (suc k) w is =
+    let rest = wire_end ws once.3 k w is in
+    elim (cases_port v.here w.here) [
+      | inl a ↦ absurd (let clash : None ≡ Some w.there = sym once.1 ∙ ap (other_end ws) a ∙ rest in cc)
+      | inr a ↦ elim (cases_port v.there w.here) [
+        | inl b ↦ absurd (let clash : None ≡ Some w.there = sym once.2 ∙ ap (other_end ws) b ∙ rest in cc)
+        | inr b ↦ rw (a, b) rest
+      ]
+    ]
+
+-- and each of these does, which stand among all from the n-th on
+each_joined : (all ws : List Wire) (n : ℕ) → ((k : ℕ) (w : Wire) → slice_get ws k ≡ Some w → slice_get all (n + k) ≡ Some w) → EachWire (IsJoined all) ws
+each_joined all [] n at = tt
+each_joined all (w ∷ ws) n at = (
+  (n + 0, w, at 0 w refl, inl (refl, refl)),
+  (n + 0, w, at 0 w refl, inr (refl, refl)),
+  each_joined all ws (n + 1) (λ k v there. let on : n + 1 + k ≡ n + suc k = omega arith in ap (slice_get all) on ∙ at (suc k) v there),
+)
+
 -- The wiring of a plan
 
 pub wiring : (plan : Plan) → IsPlan plan → IsWiring plan
@@ -176,6 +201,11 @@ wiring plan kept = record {
   back = λ p q is. goes_back (terminal_wires 0 plan.terminals ++ plan.wires) (wires_once 0 plan.terminals plan.wires kept.links (wires_between (length plan.switches) plan.wires kept.wires)) p q is;
   inside = λ p q is. of_wires (λ r s. IsPlanPort plan r) (terminal_wires 0 plan.terminals ++ plan.wires) p q (each_append (λ r s. IsPlanPort plan r) (terminal_wires 0 plan.terminals) plan.wires (terminals_inside plan 0 plan.terminals (omega arith) kept.terminals.on_switches) (wires_inside plan plan.wires kept.wires)) is;
   apart = λ p q is. of_wires AreApart (terminal_wires 0 plan.terminals ++ plan.wires) p q (each_append AreApart (terminal_wires 0 plan.terminals) plan.wires (terminals_apart 0 plan.terminals) (wires_apart (length plan.switches) plan.wires kept.wires)) is;
+  joined = λ k w is.
+      let once = wires_once 0 plan.terminals plan.wires kept.links (wires_between (length plan.switches) plan.wires kept.wires) in
+      let there = wire_end (terminal_wires 0 plan.terminals ++ plan.wires) once k w is in
+      (there, goes_back (terminal_wires 0 plan.terminals ++ plan.wires) once w.here w.there there);
+  no_other = λ p q is. of_wires (IsJoined (wires plan)) (wires plan) p q (each_joined (wires plan) (wires plan) 0 (λ k w there. let same : 0 + k ≡ k = omega arith in ap (slice_get (wires plan)) same ∙ there)) is;
   host = λ number t is.
       let first : 0 + number ≡ number = omega arith in
       other_end-append (terminal_wires 0 plan.terminals) plan.wires (port.Terminal number) (host_port t) (subst (λ k. other_end (terminal_wires 0 plan.terminals) (port.Terminal k) ≡ Some (host_port t)) first (terminal_end 0 plan.terminals number t is));

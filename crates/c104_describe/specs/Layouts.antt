@@ -19,6 +19,7 @@ pub record Layout : Type 0 where
 abbrev pub filled_name : ℕ → List ℕ
 filled_name s = 0x73 ∷ decimal s
 
+-- the switches of a layout, by number: each is its name, as of a plan
 abbrev pub filled_switches : Layout → List (List ℕ)
 filled_switches layout = map filled_name (range_with_len 0 layout.switches)
 
@@ -57,6 +58,8 @@ filled_wires layout = flat_map (wires_from layout) (range_with_len 0 layout.swit
 -- Meshes. A mesh of w columns and h rows has switch s in row s / w and column s % w. Link 0 goes to the row
 -- above, 1 to the column before, 2 to the column after, and 3 to the row below, where there is such; the other
 -- end is the neighbour's link for the opposite direction, and the lines of wires begin at links 2 and 3.
+
+-- where link l of switch s of a mesh of w columns and h rows leads, if it is wired
 abbrev pub mesh_beyond : ℕ → ℕ → ℕ → ℕ → Option Port
 mesh_beyond w h s zero = if nat_le w s then Some (port.Switch (s - w) 3) else None
 mesh_beyond w h s (suc zero) = if nat_lt 0 (s % w) then Some (port.Switch (s - 1) 2) else None
@@ -64,6 +67,7 @@ mesh_beyond w h s (suc (suc zero)) = if nat_lt (s % w + 1) w then Some (port.Swi
 mesh_beyond w h s (suc (suc (suc zero))) = if nat_lt (s + w) (w * h) then Some (port.Switch (s + w) 0) else None
 mesh_beyond w h s (suc (suc (suc (suc l)))) = None
 
+-- the layout of a mesh of w columns and h rows, whose switches have 4 links for other switches
 abbrev pub mesh : ℕ → ℕ → Layout
 mesh w h = record { switches = w * h; links = 4; beyond = mesh_beyond w h; begins = λ s l. nat_le 2 l }
 
@@ -83,9 +87,11 @@ pub record IsMesh (w h p : ℕ) : Type 0 where
 abbrev pub bit : ℕ → ℕ → ℕ
 bit x k = x / 2 ^ k % 2
 
+-- where link k of switch x of a cube leads
 abbrev pub cube_beyond : ℕ → ℕ → Option Port
 cube_beyond x k = Some (port.Switch (if bit x k == 0 then x + 2 ^ k else x - 2 ^ k) k)
 
+-- the layout of a cube of d dimensions, all of whose links for other switches are wired
 abbrev pub cube : ℕ → Layout
 cube d = record { switches = 2 ^ d; links = d; beyond = cube_beyond; begins = λ x k. bit x k == 0 }
 

@@ -14,6 +14,8 @@ pub mod LineFaults
 pub mod PlanIndex
 pub mod PlanParts
 pub mod PlanText
+pub mod EarlierLines
+pub mod RepeatedLines
 pub mod PlanImage
 pub mod ImageFaults
 pub mod ImageEdits

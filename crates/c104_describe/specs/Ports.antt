@@ -14,6 +14,12 @@ is_port (port.Terminal t) (port.Terminal t') = t == t'
 is_port (port.Switch s l) (port.Terminal t) = false
 is_port (port.Terminal t) (port.Switch s l) = false
 
+-- whether two ports are links of one switch
+abbrev pub are_of_one_switch : Port → Port → Bool
+are_of_one_switch (port.Switch s l) (port.Switch s' l') = s == s'
+are_of_one_switch (port.Switch s l) (port.Terminal t) = false
+are_of_one_switch (port.Terminal t) p = false
+
 -- whether a port is a link of this switch
 abbrev pub is_of_switch : ℕ → Port → Bool
 is_of_switch switch (port.Switch s l) = s == switch

@@ -1,5 +1,5 @@
 -- The wiring of a plan: which port is wired to which.
-use Rattle.std.specs.Prelude.{◌≡◌, ℕ, suc, ◌<◌, List, [], ◌∷◌, ◌++◌, Option, Some, length, slice_get}
+use Rattle.std.specs.Prelude.{◌≡◌, ◌⊎◌, ℕ, suc, ◌<◌, List, [], ◌∷◌, ◌++◌, Option, Some, length, slice_get}
 use Rattle.c104_describe.specs.declared.ports.Port.TheVariants as port
 use Rattle.c104_describe.specs.Ports.{Port, Wire, AreApart, IsSwitchPort, other_end}
 use Rattle.c104_describe.specs.Plans.{Plan, Terminal, host_port}
@@ -23,10 +23,19 @@ abbrev pub IsPlanPort : Plan → Port → Type 0
 IsPlanPort plan (port.Switch s l) = IsSwitchPort (length plan.switches) (port.Switch s l)
 IsPlanPort plan (port.Terminal t) = t < length plan.terminals
 
+-- some one of these wires joins two ports
+abbrev pub IsJoined : List Wire → Port → Port → Type 0
+IsJoined ws p q =
+    (k : ℕ) × (w : Wire) × (slice_get ws k ≡ Some w)
+    × (((p ≡ w.here) × (q ≡ w.there)) ⊎ ((p ≡ w.there) × (q ≡ w.here)))
+
 -- what a wiring keeps: wires go both ways, join ports of the plan, and join two switches, or a switch
--- and a terminal; and each terminal has one, to the switch that it is on
+-- and a terminal; each wire, those between switches too, joins its two ends, and no other ports are joined; and each
+-- terminal has one, to the switch that it is on
 pub record IsWiring (plan : Plan) : Type 0 where
   pub back : (p q : Port) → peer plan p ≡ Some q → peer plan q ≡ Some p
   pub inside : (p q : Port) → peer plan p ≡ Some q → IsPlanPort plan p
   pub apart : (p q : Port) → peer plan p ≡ Some q → AreApart p q
+  pub joined : (k : ℕ) (w : Wire) → slice_get (wires plan) k ≡ Some w → (peer plan w.here ≡ Some w.there) × (peer plan w.there ≡ Some w.here)
+  pub no_other : (p q : Port) → peer plan p ≡ Some q → IsJoined (wires plan) p q
   pub host : (number : ℕ) (t : Terminal) → slice_get plan.terminals number ≡ Some t → peer plan (port.Terminal number) ≡ Some (host_port t)

@@ -4,6 +4,8 @@ ghost use Rattle.c104_describe.specs.declared.faults.PlanFaultKind.TheVariants.{
 ghost use Rattle.c104_describe.specs.PlanFaults.{fault_at, no_memory};
 ghost use Rattle.c104_describe.specs.PlanText.{read_description, empty_draft, most_bytes, read_plan_lines};
 ghost use Rattle.c104_describe.specs.PlanText.{AreFaultless, GivesDraftOrNoMemory, GivesPlanOrNoMemory, IsDue, ReadsLines};
+ghost use Rattle.c104_describe.specs.EarlierLines.{AreMixedByClash};
+ghost use Rattle.c104_describe.specs.RepeatedLines.{AreTwiceByTexts};
 ghost use Rattle.c104_describe.specs.TextCut.{lines};
 ghost use Rattle.c104_describe.specs.PlanParts.{draft_of};
 ghost use Rattle.c104_describe.specs.Plans.{IsPlan};
@@ -36,6 +38,12 @@ pub fn read_description(alloc: Global, text: &[u8]) -> Result<Plan, PlanFault>
     // plan is answered no line has a fault.
     ensures due { IfErr result (IsDue text.now) }
     ensures faultless { IfOk result (λ _. AreFaultless (lines text.now)) }
+
+    // Which lines are of a mixed style, by the texts alone.
+    ensures mixed { AreMixedByClash }
+
+    // Which lines say again what may be said once, by the texts alone.
+    ensures twice { AreTwiceByTexts }
 {
     if text.len() > MAX_DESCRIPTION {
         return Err(fault_at(0, PlanFaultKind::TooLong));

@@ -3,6 +3,7 @@ ghost use Rattle.std.specs.Prelude.{◌≡◌};
 ghost use Rattle.c104_describe.specs.PlanFaults.{plan_fault_name, plan_fault_number};
 ghost use Rattle.c104_describe.specs.declared.faults.PlanFaultKind.TheVariants as kind;
 
+use c104_token::NoMemory as OutOfMemory;
 use std::alloc::AllocError;
 use thiserror::Error;
 
@@ -92,6 +93,14 @@ impl From<AllocError> for PlanFaultKind {
     }
 }
 
+impl From<OutOfMemory> for PlanFaultKind {
+    ghost from_gives = { λ _ e. e ≡ kind.NoMemory };
+
+    fn from(_error: OutOfMemory) -> PlanFaultKind {
+        PlanFaultKind::NoMemory
+    }
+}
+
 /// Why a description is refused: its first faulty line, and what is wrong with it.
 #[derive(Clone, Copy, Debug, PartialEq, Eq, Error)]
 #[error("line {line}: {kind}")]
@@ -108,6 +117,19 @@ impl From<AllocError> for PlanFault {
     ghost from_gives = { λ _ e. e ≡ no_memory };
 
     fn from(_error: AllocError) -> PlanFault {
+        PlanFault {
+            line: 0,
+            kind: PlanFaultKind::NoMemory,
+        }
+    }
+}
+
+impl From<OutOfMemory> for PlanFault {
+    ghost use Rattle.c104_describe.specs.PlanFaults.{no_memory};
+
+    ghost from_gives = { λ _ e. e ≡ no_memory };
+
+    fn from(_error: OutOfMemory) -> PlanFault {
         PlanFault {
             line: 0,
             kind: PlanFaultKind::NoMemory,

@@ -17,6 +17,7 @@ use crate::ports::{Port, Wire};
 use crate::switch_list::SwitchList;
 use crate::terminal_list::TerminalList;
 use crate::words::read_number_within;
+use c104_token::NoMemory;
 use std::alloc::{AllocError, Global};
 
 /// The links of a mesh's switch that are for its neighbours.
@@ -75,7 +76,7 @@ fn filled_network(
     switches: usize,
     links: usize,
     terminals: usize,
-) -> Result<Network, AllocError>
+) -> Result<Network, NoMemory>
     requires links { links ≤ 6 }
     requires some { 0 < terminals }
     requires few_switches { switches ≤ most_switches }
@@ -97,7 +98,7 @@ fn filled_network(
 }
 
 /// So many switches.
-fn filled_switches(alloc: Global, count: usize) -> Result<SwitchList, AllocError>
+fn filled_switches(alloc: Global, count: usize) -> Result<SwitchList, NoMemory>
     requires { count ≤ most_switches }
     ensures { IfOk result (λ list. list ≡ map filled_name (range_with_len 0 count)) }
 {
@@ -115,7 +116,7 @@ fn filled_terminals(
     links: usize,
     terminals: usize,
     count: usize,
-) -> Result<TerminalList, AllocError>
+) -> Result<TerminalList, NoMemory>
     requires links { links ≤ 6 }
     requires some { 0 < terminals }
     requires few { count ≤ most_terminals }
@@ -136,7 +137,7 @@ fn filled_terminal(
     links: usize,
     terminals: usize,
     number: usize,
-) -> Result<Terminal, AllocError>
+) -> Result<Terminal, NoMemory>
     requires links { links ≤ 6 }
     requires some { 0 < terminals }
     requires few { number < most_terminals }

@@ -23,11 +23,12 @@ impl Plan {
     ghost use Rattle.c104_describe.specs.PlanImage.{range_of};
 
     /// The range of each terminal, by its first label and how many they are. The only error is out of memory.
-    pub fn ranges(&self, alloc: Global) -> Result<Vec<(u32, u32)>, AllocError>
+    pub fn ranges(&self, alloc: Global) -> Result<Vec<(u32, u32)>, NoMemory>
         ensures ranges { IfOk result (λ ranges. ranges.items ≡ map range_of self.now.terminals) }
         ensures kept { IsPlan self.now }
     {
-        ranges(alloc, self)
+        let ranges = ranges(alloc, self)?;
+        Ok(ranges)
     }
 }
 

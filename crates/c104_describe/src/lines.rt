@@ -238,13 +238,13 @@ fn add_wire(parts: &mut Parts, here: &[u8], there: &[u8]) -> Result<(), PlanFaul
     let Some(far_switch) = parts.switch_number(to.name) else {
         return Err(PlanFaultKind::UnknownName);
     };
-    if switch == far_switch {
-        return Err(PlanFaultKind::SelfWire);
-    }
     let wire = Wire {
         here: Port::Switch(switch, link),
         there: Port::Switch(far_switch, far_link),
     };
+    if wire.is_self_wire() {
+        return Err(PlanFaultKind::SelfWire);
+    }
     if parts.is_linked(wire.here) || parts.is_linked(wire.there) {
         return Err(PlanFaultKind::LinkTaken);
     }

@@ -2,7 +2,7 @@
 ghost use Rattle.std.specs.Prelude.{◌≡◌, IfOk, IsTrue};
 ghost use Rattle.c104_describe.specs.TextWords.{is_name};
 
-use c104_token::{Bytes, Items};
+use c104_token::{Bytes, Items, NoMemory};
 use std::alloc::{AllocError, Global};
 use std::marker::Model;
 
@@ -35,7 +35,7 @@ impl Clone for Name {
 
 impl Name {
     /// The name that a word is. The only error is out of memory.
-    pub fn new(alloc: Global, word: &[u8]) -> Result<Name, AllocError>
+    pub fn new(alloc: Global, word: &[u8]) -> Result<Name, NoMemory>
         requires { IsTrue (is_name word.now) }
         ensures { IfOk result (λ name. name ≡ word.now) }
     {

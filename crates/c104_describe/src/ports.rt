@@ -30,3 +30,18 @@ pub struct Wire {
     /// The other.
     pub there: Port,
 }
+
+impl Wire {
+    ghost use Rattle.std.specs.Prelude.{◌≡◌};
+    ghost use Rattle.c104_describe.specs.Ports.{are_of_one_switch};
+
+    /// Whether both ends are links of one switch.
+    pub(crate) fn is_self_wire(self) -> bool
+        ensures { result ≡ are_of_one_switch self.here self.there }
+    {
+        match (self.here, self.there) {
+            (Port::Switch(switch, _), Port::Switch(far_switch, _)) => switch == far_switch,
+            _ => false,
+        }
+    }
+}

@@ -1,7 +1,7 @@
 //! What one switch of an image is to hold.
 ghost use Rattle.std.specs.Prelude.{◌≡◌, ◌≢◌, ◌++◌, ◌<◌, ◌≤◌, ◌==◌, ◌&&◌, ℕ, List, Option, All, Ok, length, nat_lt, slice_index_or, vec_capacity, vec_len, IfOk, OnErr, OnOk};
-ghost use Rattle.c104_regs.specs.KeptValues.{IsMapOf, kept_values};
-ghost use Rattle.c104_regs.specs.Registers.{bank_peek, placed_bank, reset_bank};
+ghost use Rattle.c104_regs.specs.KeptValues.{IsMapOf, kept_value, kept_values};
+ghost use Rattle.c104_regs.specs.Registers.{IsRegisterBank, bank_peek, placed_bank, reset_bank};
 ghost use Rattle.c104_describe.specs.PlanImage.{AreSettings};
 ghost use Rattle.c104_describe.specs.ImageEdits.{AnswersDue, settings_set};
 ghost use Rattle.c104_describe.specs.SwitchImages.{led_by};
@@ -99,9 +99,17 @@ impl SwitchImage {
         Registers::settable(addr, value)?;
         self.values.reserve(1)?;
         self.registers.poke(addr, value)?;
-        keep(&mut self.values, addr, self.registers.kept_value(addr));
+        keep(&mut self.values, addr, kept_value(&self.registers, addr));
         Ok(())
     }
+}
+
+/// The value that is kept of an address: what it reads, unless it reads the same after a reset.
+fn kept_value(registers: &Registers, addr: u16) -> Option<u32>
+    ensures value { result ≡ kept_value registers.now.settings addr }
+    ensures in_range { IsRegisterBank registers.now }
+{
+    registers.kept_value(addr)
 }
 
 /// Brings values in ascending order of addresses up to date at an address, where there is room for

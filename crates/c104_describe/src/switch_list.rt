@@ -5,6 +5,7 @@ ghost use Rattle.c104_describe.specs.TextWords.{is_name};
 
 use crate::name_index::NameIndex;
 use crate::names::Name;
+use c104_token::NoMemory;
 use std::alloc::{AllocError, Global};
 use std::fmt::{self, Debug, Formatter, Write};
 use std::marker::Model;
@@ -44,7 +45,7 @@ impl SwitchList {
     }
 
     /// One more switch, of a name that none has.
-    pub(crate) fn push(&mut self, alloc: Global, name: &[u8]) -> Result<(), AllocError>
+    pub(crate) fn push(&mut self, alloc: Global, name: &[u8]) -> Result<(), NoMemory>
         requires named { IsTrue (is_name name.now) }
         requires free { list_any (λ other. bytes_eq other name.now) self.old ≡ false }
         ensures switches { OnOk result (self.new ≡ self.old ++ name.now ∷ []) }

@@ -4,6 +4,7 @@ ghost use Rattle.std.specs.List.{list_all};
 ghost use Rattle.c104_describe.specs.TextCut.{lines, uncommented_line, parts_words, line_words, is_plain_line, is_printable};
 ghost use Rattle.c104_describe.specs.TextWords.{read_number, most_digits, is_name, is_name_byte, dots, IsInside};
 
+use c104_token::NoMemory;
 use smallvec::SmallVec;
 use std::alloc::{AllocError, Global};
 
@@ -26,7 +27,15 @@ pub enum Dots {
 
 /// The lines of a text. A line feed ends a line; what follows the last one is a line too. The only
 /// error is out of memory.
-pub fn cut_lines<'a>(alloc: Global, text: &'a [u8]) -> Result<Vec<&'a [u8]>, AllocError>
+pub fn cut_lines<'a>(alloc: Global, text: &'a [u8]) -> Result<Vec<&'a [u8]>, NoMemory>
+    ensures { IfOk result (λ list. map (λ line. line.now) list.items ≡ lines text.now) }
+{
+    let list = line_list(alloc, text)?;
+    Ok(list)
+}
+
+/// The lines of a text.
+fn line_list<'a>(alloc: Global, text: &'a [u8]) -> Result<Vec<&'a [u8]>, AllocError>
     ensures { IfOk result (λ list. map (λ line. line.now) list.items ≡ lines text.now) }
 {
     text.split(|byte| *byte == b'\n').collect(alloc)
@@ -46,7 +55,15 @@ pub fn uncommented(line: &[u8]) -> &[u8]
 pub type Words<'a> = SmallVec<&'a [u8], 4>;
 
 /// The words of a line, which spaces, tabs and carriage returns part. The only error is out of memory.
-pub fn cut_words<'a>(alloc: Global, line: &'a [u8]) -> Result<Words<'a>, AllocError>
+pub fn cut_words<'a>(alloc: Global, line: &'a [u8]) -> Result<Words<'a>, NoMemory>
+    ensures { IfOk result (λ list. map (λ word. word.now) list.items ≡ line_words line.now) }
+{
+    let list = word_list(alloc, line)?;
+    Ok(list)
+}
+
+/// The words of a line.
+fn word_list<'a>(alloc: Global, line: &'a [u8]) -> Result<Words<'a>, AllocError>
     ensures { IfOk result (λ list. map (λ word. word.now) list.items ≡ line_words line.now) }
 {
     line.split(|byte| parts_words(*byte))

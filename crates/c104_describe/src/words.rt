@@ -79,7 +79,7 @@ pub(crate) fn read_number_within(least: u32, most: u32, word: &[u8]) -> Result<u
     }
 }
 
-/// The same of a number that may be left out, and what is meant where it is.
+/// The value of a number of a range, or, where the number is left out, the value that is meant then.
 pub(crate) fn read_number_or(
     other: u32,
     least: u32,

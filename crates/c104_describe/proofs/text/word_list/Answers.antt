@@ -7,7 +7,7 @@ use Rattle.std.proofs.lemmas.Iterator.Splits.{YieldsList-from_slice_split}
 use Rattle.smallvec.specs.SmallVec.{SmallVec}
 use borrow.Author.Tests.{tests}
 use Rattle.c104_describe.specs.TextCut.{parts_words}
-use Rattle.c104_describe.proofs.text.cut_words.Goals as goal
+use Rattle.c104_describe.proofs.text.word_list.Goals as goal
 
 -- what is collected is all that comes, read by v
 map_from_collect : {S A B E : Type 0} {steps : S → Option A → S → Type 0} {v : A → B} {s : S} {all : List B} (r : Result (SmallVec A) E) → IfOk r (λ w. (xs : List A) × DrainsIf steps ⊤ s xs × (w.items ≡ xs)) → YieldsList steps v s all → IfOk r (λ w. map v w.items ≡ all)

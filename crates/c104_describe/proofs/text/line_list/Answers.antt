@@ -2,7 +2,7 @@ use Rattle.std.proofs.Common.{rules, ◌==◌}
 use Rattle.std.proofs.lemmas.Iterator.Consumers.{map_from_collect}
 use Rattle.std.proofs.lemmas.Iterator.Splits.{YieldsList-from_slice_split}
 use borrow.Author.Tests.{tests}
-use Rattle.c104_describe.proofs.text.cut_lines.Goals as goal
+use Rattle.c104_describe.proofs.text.line_list.Goals as goal
 
 -- the chain cuts the text at each line feed
 pub returns : goal.returns
