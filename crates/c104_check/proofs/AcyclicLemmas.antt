@@ -1,11 +1,10 @@
 -- Ranks that fall along every dependency: a cycle leaves none, and a limit for the inputs of a network does for all.
 use Rattle.std.proofs.Common.{List, [], ◌∷◌, arith, inl, inr, Bool, true, false, ℕ, zero, suc, ◌<◌, ◌≤◌, ◌≡◌, Some, length, min, refl, subst, sym}
 use Rattle.c104_describe.specs.declared.ports.Port.TheVariants as port
-use Rattle.c104_check.specs.ChannelDependencies.{AreChained, ChannelDependency, Depends, IsAcyclic, IsCycle, IsBeginningBy, IsNeverRandomized, IsRanking, MayArrive, AreNeverBoth, input_count}
+use Rattle.c104_check.specs.ChannelDependencies.{AreByLabels, AreChained, AreNeverBoth, ChannelDependency, Depends, DependsByLabels, IsAcyclic, IsBeginningBy, IsCycle, IsNeverRandomized, IsRanking, MayComeBy, input_count}
 use Rattle.c104_check.specs.Parts.{Begins, IsBeginning}
 use Rattle.c104_check.specs.Reach.{IsReached}
 use Rattle.c104_check.specs.Routes.{Routes, SwitchPort, owner}
-use Rattle.c104_check.specs.Shown.{Follows}
 use Rattle.c104_check.specs.Trails.{IsInput, IsNetwork, Reaches}
 use Rattle.c104_check.proofs.PartLemmas.{reached_plain}
 use Rattle.c104_check.proofs.RouteLemmas.{portal_input}
@@ -43,7 +42,7 @@ start_input routes h p net (inl (t, owned, begins)) = beginning_input routes p n
 start_input routes h p net (inr (t, wired, random)) = net.inputs (port.Terminal t) p wired
 
 -- and packets come to such alone
-pub arrived_input : (routes : Routes) (h : ℕ) (p : SwitchPort) → IsNetwork routes → MayArrive routes h p → IsInput (length routes.settings) p
+pub arrived_input : (routes : Routes) (h : ℕ) (p : SwitchPort) → IsNetwork routes → MayComeBy routes h p → IsInput (length routes.settings) p
 arrived_input routes h p net (start, m, is, reaches) = reached_input routes h m start p net (start_input routes h start net is) reaches
 
 -- ranks of the network's inputs that are within the limit, cut to it at all others
@@ -58,10 +57,6 @@ acyclic_by routes rank net falls low = (λ p. min (rank p) (input_count routes),
 
 -- Where no random headers are put before packets, the dependencies are those of labels from the inputs of terminals on
 
--- a label may come to input p from some terminal, and go on over one wire to input q
-abbrev pub GoesByLabel : Routes → ℕ → SwitchPort → SwitchPort → Type 0
-GoesByLabel routes h p q = (t : ℕ) × (owner routes h ≡ Some t) × IsReached routes h p × Follows routes h p q
-
 own_plain : (routes : Routes) (h m : ℕ) (x p : SwitchPort) → IsNeverRandomized routes → IsBeginning routes x → Reaches routes h m x p → IsReached routes h p
 own_plain routes h m x p never (t, behind, (entry, wired, begins)) reaches = reached_plain routes h m x p never t behind entry wired begins reaches
 
@@ -69,15 +64,18 @@ plain_arrives : (routes : Routes) (h m : ℕ) (x p : SwitchPort) → IsNeverRand
 plain_arrives routes h m x p never (inl (t, owned, begins)) reaches = (t, owned, own_plain routes h m x p never begins reaches)
 plain_arrives routes h m x p never (inr (t, wired, random)) reaches = absurd (never x (random_is_randomized routes x h random))
 
-pub plain_depends : (routes : Routes) (p q : SwitchPort) → IsNeverRandomized routes → Depends routes p q → (h : ℕ) × GoesByLabel routes h p q
+plain_depends : (routes : Routes) (p q : SwitchPort) → IsNeverRandomized routes → Depends routes p q → DependsByLabels routes p q
 plain_depends routes p q never (h, ((x, m, begins, reaches), follows)) = let one = plain_arrives routes h m x p never begins reaches in (h, (one.0, one.1, one.2, follows))
 
-pub depends_plain : (routes : Routes) (p q : SwitchPort) → IsNeverRandomized routes → ((h : ℕ) × GoesByLabel routes h p q) → Depends routes p q
+depends_plain : (routes : Routes) (p q : SwitchPort) → IsNeverRandomized routes → DependsByLabels routes p q → Depends routes p q
 depends_plain routes p q never (h, (t, owned, (u, entry, m, wired, reaches), follows)) = (h, ((entry, m, inl (t, owned, (u, false, (entry, wired, (refl, never entry)))), reaches), follows))
+
+pub by_labels : (routes : Routes) → AreByLabels routes
+by_labels routes never p q = (plain_depends routes p q never, depends_plain routes p q never)
 
 -- so ranks that fall wherever a label goes on are enough
 abbrev pub FallsByLabels : Routes → (SwitchPort → ℕ) → Type 0
-FallsByLabels routes rank = (p q : SwitchPort) → ((h : ℕ) × GoesByLabel routes h p q) → rank q < rank p
+FallsByLabels routes rank = (p q : SwitchPort) → DependsByLabels routes p q → rank q < rank p
 
 pub plain_ranking : (routes : Routes) (rank : SwitchPort → ℕ) → IsNeverRandomized routes → FallsByLabels routes rank → IsRanking routes rank
 plain_ranking routes rank never falls p q depends = falls p q (plain_depends routes p q never depends)

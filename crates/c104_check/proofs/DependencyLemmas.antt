@@ -1,5 +1,5 @@
 -- The table of dependencies as it is filled, link by link, input by input and header by header.
-use Rattle.std.proofs.Common.{◌≡◌, ◌≢◌, ℕ, ◌<◌, ◌≤◌, ◌+◌, ◌*◌, inl, inr, true, false, List, Option, None, Some, length, ◌++◌, drop, ◌&&◌, is_some, nat_le, replicate, take, slice_index_or, slice_set, refl, sym, ap, subst, ◌∙◌, arith}
+use Rattle.std.proofs.Common.{◌≡◌, ◌≢◌, ℕ, ◌<◌, ◌≤◌, ◌+◌, ◌*◌, inl, inr, Bool, true, false, List, Option, None, Some, MatchOption, length, ◌++◌, drop, ◌&&◌, is_some, nat_le, replicate, take, slice_index_or, slice_set, refl, sym, ap, subst, ◌∙◌, arith}
 use Rattle.std.proofs.lemmas.Bool.{cases_lt}
 use Rattle.std.proofs.lemmas.Bool.Decides.{eqb_tells, nat_tests}
 use Rattle.std.proofs.lemmas.List.{get_or-set_other, get_or-set_same, length-set}
@@ -13,12 +13,13 @@ use Rattle.c104_check.specs.Parts.{AreJust, IsReachedAsOwn, IsReachedAsRandom}
 use Rattle.c104_check.specs.Reach.{IsSelected}
 use Rattle.c104_check.specs.Routes.{Routes, SwitchPort, is_in_group, owner, select, to_port}
 use Rattle.c104_check.specs.Trails.{IsInput, Reaches}
-use Rattle.c104_check.specs.ChannelDependencies.{DependsBy, IsBeginningBy, MayArrive}
+use Rattle.c104_check.specs.ChannelDependencies.{DependsBy, IsBeginningBy, IsNeverRandomized, MayComeBy}
 use Rattle.c104_check.specs.Walks.{port_of}
 use Rattle.c104_check.proofs.LinkLemmas.{place_below}
 use Rattle.c104_check.proofs.OwnerLemmas.{no_owner, some_owner}
 use Rattle.c104_check.proofs.ReachLemmas.{all_just, all_taken_next}
 use Rattle.c104_check.proofs.RouteLemmas.{Some-Link-same}
+use Rattle.c104_check.proofs.StartLemmas.{random_is_randomized}
 use Rattle.c104_check.proofs.TrailLemmas.{All-found, All-map}
 
 pub extended_none : (routes : Routes) (table : List (Option Dependency)) → IsExtended routes table table
@@ -81,7 +82,7 @@ within_run : (first last o : ℕ) → first ≤ o → o ≤ last → (nat_le fir
 within_run first last o low high = grind (arith, nat_tests)
 
 -- over a link of the group
-pub link_depends : (routes : Routes) (h link : ℕ) (group : Group) (p q : SwitchPort) → MayArrive routes h p → IsSelected routes h p group → group.first ≤ link → link ≤ group.last → routes.peer (to_port (port_of p.switch link)) ≡ Some (to_port q) → DependsBy routes h p q
+pub link_depends : (routes : Routes) (h link : ℕ) (group : Group) (p q : SwitchPort) → MayComeBy routes h p → IsSelected routes h p group → group.first ≤ link → link ≤ group.last → routes.peer (to_port (port_of p.switch link)) ≡ Some (to_port q) → DependsBy routes h p q
 link_depends routes h link group p q arrives selected low high wired =
     (arrives, (selected.link, link, selected.selects, selected.members link ∙ within_run group.first group.last link low high, wired))
 
@@ -116,14 +117,14 @@ at_next routes h xs k d now new below kept before here =
 
 -- Where a header may come as the own one of packets, and where as a random one, packets may that go by it
 
-pub own_arrive : (routes : Routes) (h : ℕ) (o : Option ℕ) (xs ys : List SwitchPort) → o ≡ owner routes h → is_some o ≡ true → ys ≡ xs → AreJust (IsReachedAsOwn routes h) xs → AllByRecursion (MayArrive routes h) ys
+pub own_arrive : (routes : Routes) (h : ℕ) (o : Option ℕ) (xs ys : List SwitchPort) → o ≡ owner routes h → is_some o ≡ true → ys ≡ xs → AreJust (IsReachedAsOwn routes h) xs → AllByRecursion (MayComeBy routes h) ys
 own_arrive routes h o xs ys is some same just =
     let owned = some_owner o (owner routes h) is some in
-    subst (AllByRecursion (MayArrive routes h)) (sym same) (all_just (IsReachedAsOwn routes h) (MayArrive routes h) xs (λ p (x, m, begins, reaches). (x, m, inl (owned.0, owned.1, begins), reaches)) just)
+    subst (AllByRecursion (MayComeBy routes h)) (sym same) (all_just (IsReachedAsOwn routes h) (MayComeBy routes h) xs (λ p (x, m, begins, reaches). (x, m, inl (owned.0, owned.1, begins), reaches)) just)
 
-pub random_arrive : (routes : Routes) (h : ℕ) (xs ys : List SwitchPort) → ys ≡ xs → AreJust (IsReachedAsRandom routes h) xs → AllByRecursion (MayArrive routes h) ys
+pub random_arrive : (routes : Routes) (h : ℕ) (xs ys : List SwitchPort) → ys ≡ xs → AreJust (IsReachedAsRandom routes h) xs → AllByRecursion (MayComeBy routes h) ys
 random_arrive routes h xs ys same just =
-    subst (AllByRecursion (MayArrive routes h)) (sym same) (all_just (IsReachedAsRandom routes h) (MayArrive routes h) xs (λ p (x, m, begins, reaches). (x, m, inr begins, reaches)) just)
+    subst (AllByRecursion (MayComeBy routes h)) (sym same) (all_just (IsReachedAsRandom routes h) (MayComeBy routes h) xs (λ p (x, m, begins, reaches). (x, m, inr begins, reaches)) just)
 
 -- at all inputs of which something holds
 listed_just : (routes : Routes) (h : ℕ) (P : SwitchPort → Type 0) (xs ys : List SwitchPort) (table : List (Option Dependency)) → ys ≡ xs → AreJust P xs → AllByRecursion (AreListedAt routes table h) ys → (p : SwitchPort) → P p → AreListedAt routes table h p
@@ -140,7 +141,15 @@ random_listed routes h xs ys table same just all = listed_just routes h (IsReach
 pub unowned_listed : (routes : Routes) (h : ℕ) (o : Option ℕ) (table : List (Option Dependency)) → o ≡ owner routes h → is_some o ≡ false → AreListedAsOwn routes table h
 unowned_listed routes h o table is none t p owned = absurd (no_owner o (owner routes h) is none t owned)
 
--- in both parts
+-- where no random headers are put before packets, no header comes as one
+pub never_listed : (routes : Routes) (h : ℕ) (table : List (Option Dependency)) → IsNeverRandomized routes → AreListedAsRandom routes table h
+never_listed routes h table never p (x, m, (t, wired, random), reaches) = absurd (never x (random_is_randomized routes x h random))
+
+pub never_by : (A : Type 0) (P : SwitchPort → Type 0) (o : Option SwitchPort) (b : Bool) → b ≡ is_some o → MatchOption o A P → b ≡ false → A
+never_by A P None b is never none = never
+never_by A P (Some p) b is never none = absurd (let clash : true ≡ false = sym is ∙ none in cc)
+
+-- in both phases
 by_part : (routes : Routes) (h m : ℕ) (x p : SwitchPort) (table : List (Option Dependency)) → AreListedAsOwn routes table h → AreListedAsRandom routes table h → IsBeginningBy routes h x → Reaches routes h m x p → AreListedAt routes table h p
 by_part routes h m x p table own random (inl (t, owned, begins)) reaches = own t p owned (x, m, begins, reaches)
 by_part routes h m x p table own random (inr begins) reaches = random p (x, m, begins, reaches)

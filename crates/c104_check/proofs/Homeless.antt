@@ -1,5 +1,5 @@
 -- A header that is tried as a random one, terminal by terminal.
-use Rattle.std.proofs.Common.{◌≡◌, ℕ, ◌≤◌, ◌+◌, inl, inr, Bool, true, false, nat_le, List, length, is_some, if◌then◌else◌, Option, Some, None, Result, Ok, Err, IfOk, MatchOption, refl, sym, subst, ◌∙◌, arith}
+use Rattle.std.proofs.Common.{◌≡◌, ℕ, ◌<◌, ◌≤◌, ◌+◌, inl, inr, Bool, true, false, nat_le, List, length, is_some, if◌then◌else◌, Option, Some, None, Result, Ok, Err, IfOk, MatchOption, refl, sym, subst, ◌∙◌, arith}
 use Rattle.std.proofs.lemmas.Bool.{cases_lt}
 use Rattle.std.proofs.lemmas.Bool.Decides.{nat_tests}
 use Rattle.c104_token.specs.declared.faults.NoMemory.{NoMemory}
@@ -10,13 +10,10 @@ use Rattle.c104_check.specs.Routes.{Homes, IsEntryOf, IsRandomAt, Routes, Switch
 use Rattle.c104_check.specs.Starts.{AreOwnStarts, HomesAt, IsFirstHomeless, IsHomelessAt, IsRefusedRandom, earlier}
 use Rattle.c104_check.specs.Trails.{IsNetwork}
 use Rattle.c104_check.proofs.OwnStarts.{all_landed, lands_front}
-use Rattle.c104_check.proofs.RandomLemmas.{random_at_told, random_header}
+use Rattle.c104_check.proofs.RandomLemmas.{random_at_told}
 use Rattle.c104_check.proofs.RefusalLemmas.{entry_same}
 
 -- At one terminal
-
-pub never_random : (routes : Routes) (h n : ℕ) → header_count routes ≤ h → HomesFirst routes h n
-never_random routes h n past t p below wired random = absurd (let low = random_header routes p h random in omega (arith, low, past))
 
 pub never_there : (routes : Routes) (h t : ℕ) (p : SwitchPort) → IsEntryOf routes t p → is_random_at routes p h ≡ false → HomesAt routes h t
 never_there routes h t p wired not q there random =
@@ -99,13 +96,14 @@ is_low n m is = grind (arith, nat_tests)
 is_past : (n m : ℕ) → nat_le n m ≡ false → m + 1 ≤ n
 is_past n m is = grind (arith, nat_tests)
 
-module _ (routes : Routes) (starts : List Start) (h n : ℕ) (net : IsNetwork routes) (are : AreOwnStarts routes starts (length routes.ranges)) (past : length starts ≤ n) where
+module _ (routes : Routes) (starts : List Start) (h n : ℕ) (net : IsNetwork routes) (are : AreOwnStarts routes starts (length routes.ranges)) (past : length starts ≤ n) (low : h < header_count routes) where
   -- a refusal of two is the first
   abbrev pub IsFirst : Refusal → Type 0
   IsFirst refusal = IsFirstRefusal routes h refusal.why refusal.shown
 
   first_random : (random : Refusal) → IsFirstHomeless routes h random → LandsFirst routes h random.shown.entry → IsFirst random
   first_random random is lands = record {
+    below = low;
     header = is.here.refused.header;
     own_before = lands;
     random_before = is.before;
@@ -114,6 +112,7 @@ module _ (routes : Routes) (starts : List Start) (h n : ℕ) (net : IsNetwork ro
 
   first_own : (own : Refusal) → IsFirstOf routes starts h n own → HomesFirst routes h (own.shown.entry + 1) → IsFirst own
   first_own own is homes = record {
+    below = low;
     header = is.refused.header;
     own_before = first_before routes starts h n own are is;
     random_before = lower_random routes h own.shown.entry (own.shown.entry + 1) (omega arith) homes;
@@ -121,11 +120,11 @@ module _ (routes : Routes) (starts : List Start) (h n : ℕ) (net : IsNetwork ro
   }
 
   first_by : (random own : Refusal) (b : Bool) → nat_le random.shown.entry own.shown.entry ≡ b → IsFirstHomeless routes h random → IsFirstOf routes starts h n own → MatchOption (if b then Some random else Some own) (IsNeverRefused routes h) IsFirst
-  first_by random own true low one other = first_random random one (lower_own routes h random.shown.entry own.shown.entry (is_low random.shown.entry own.shown.entry low) (first_before routes starts h n own are other))
+  first_by random own true sooner one other = first_random random one (lower_own routes h random.shown.entry own.shown.entry (is_low random.shown.entry own.shown.entry sooner) (first_before routes starts h n own are other))
   first_by random own false not one other = first_own own other (lower_random routes h (own.shown.entry + 1) random.shown.entry (is_past random.shown.entry own.shown.entry not) one.before)
 
   pub told_first : (random own : Option Refusal) → MatchOption random (HomesFirst routes h (length routes.ranges)) (IsFirstHomeless routes h) → MatchOption own (LandsBefore routes starts h n) (IsFirstOf routes starts h n) → MatchOption (earlier random own) (IsNeverRefused routes h) IsFirst
-  told_first None None homes lands = (all_landed routes starts h n are past lands, homes)
+  told_first None None homes lands = λ below. (all_landed routes starts h n are past lands, homes)
   told_first None (Some own) homes is = first_own own is (all_random routes h (own.shown.entry + 1) net homes)
   told_first (Some random) None is lands = first_random random is (all_own routes h random.shown.entry net (all_landed routes starts h n are past lands))
   told_first (Some random) (Some own) one other = first_by random own (nat_le random.shown.entry own.shown.entry) refl one other

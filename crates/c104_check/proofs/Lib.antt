@@ -21,6 +21,7 @@ pub mod PeerLemmas
 pub mod WalkKindLemmas
 pub mod MendLemmas
 pub mod MisstepLemmas
+pub mod DistanceLemmas
 pub mod ReachLemmas
 pub mod OwnStarts
 pub mod Homeless

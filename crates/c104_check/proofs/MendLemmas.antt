@@ -1,17 +1,20 @@
 -- Steps of refused walks that lead wrong, and what mends them.
-use Rattle.std.proofs.Common.{◌≡◌, MatchOption, ℕ, suc, ◌+◌, ◌-◌, ◌<◌, ◌≤◌, ◌&&◌, true, false, nat_le, List, ◌∷◌, drop, drop-cons, length, slice_index_or, [], Option, Some, None, refl, sym, ap, subst, ◌∙◌, arith}
+use Rattle.std.proofs.Common.{◌≡◌, MatchOption, ℕ, zero, suc, ◌+◌, ◌-◌, ◌<◌, ◌≤◌, ◌==◌, ◌&&◌, Bool, true, false, nat_le, List, ◌∷◌, drop, drop-cons, length, slice_index_or, [], Option, Some, None, refl, sym, ap, subst, ◌∙◌, arith}
 use Rattle.std.specs.List.{AllByRecursion}
 use Rattle.std.proofs.lemmas.Bool.{le-leb}
 use Rattle.std.proofs.lemmas.Bool.Decides.{nat_tests}
+use Rattle.std.proofs.lemmas.List.{get_or-drop, length-drop}
 use Rattle.std.proofs.lemmas.List.Folds.{list_any_at}
 use Rattle.std.proofs.lemmas.Option.{get_or_from_slice_get, slice_get-get_or}
-use Rattle.c104_interval.specs.declared.intervals.Select.TheVariants.{Link, Sink}
+use Rattle.c104_interval.specs.declared.intervals.Select.{Select}
+use Rattle.c104_interval.specs.declared.intervals.Select.TheVariants.{Link}
 use Rattle.c104_describe.specs.declared.ports.Port.{Port}
 use Rattle.c104_describe.specs.declared.ports.Port.TheVariants as port
 use Rattle.c104_check.specs.declared.faults.Shown.{Shown}
 use Rattle.c104_check.specs.declared.walks.Halt.{Halt}
 use Rattle.c104_check.specs.declared.walks.Halt.TheVariants.{Fault}
-use Rattle.c104_check.specs.Mends.{IsFollowedBy, IsMend, IsMisstep, IsThere, IsWalkKind, IsWrongWay, LandsBy, Mend, Misstep, NoGroupLeads, NoMend, NoMisstep, NoStepFrom, NoWrongWay, WalkKind, goal_of, is_wrong}
+use Rattle.c104_check.specs.Distances.{IsNearest, IsNearestBy, IsNearestMend}
+use Rattle.c104_check.specs.Mends.{IsFirstWay, IsFollowedBy, IsMisstep, IsThere, IsWalkKind, IsWrongWay, LandsBy, Mend, Misstep, NoGroupLeads, NoMend, NoMisstep, NoStepFrom, NoWrongWay, WalkKind, goal_of, is_wrong}
 use Rattle.c104_check.specs.Routes.{Routes, SwitchPort, is_in_group, owner, select}
 use Rattle.c104_check.specs.Shown.{Comes}
 use Rattle.c104_check.specs.Trails.{IsInput, IsNetwork}
@@ -63,6 +66,15 @@ pub by_link : (routes : Routes) (h : ℕ) (goal : Option Goal) (at last : Switch
 by_link routes h goal at last g first high link other selects members low top wired wrong =
     ((g, selects, members link ∙ between_true first high link low top, sym wired), ap (is_wrong last goal) wired ∙ wrong)
 
+-- of the links of a group below one none is
+pub first_way : (routes : Routes) (h : ℕ) (goal : Option Goal) (at last : SwitchPort) (g first high link : ℕ) → select routes at.switch at.link h ≡ Some (Link g) → ((l : ℕ) → is_in_group routes at.switch g l ≡ (nat_le first l && nat_le l high)) → ((l : ℕ) → first ≤ l → l < link → is_wrong last goal (routes.peer (port.Switch at.switch l)) ≡ false) → IsFirstWay routes h goal at last (Some link)
+first_way routes h goal at last g first high link selects members right = λ l other low leaves.
+    let both : Some (Link g) ≡ Some (Link leaves.0) = sym selects ∙ leaves.1 in
+    let same : leaves.0 ≡ g = cc in
+    let member : (nat_le first l && nat_le l high) ≡ true = sym (members l) ∙ ap (λ x. is_in_group routes at.switch x l) (sym same) ∙ leaves.2 in
+    let within = between_parts first high l member in
+    ap (is_wrong last goal) (sym leaves.3) ∙ right l within.0 low
+
 -- an input that selects no link, where it should come
 pub none_there : (routes : Routes) (h : ℕ) (goal : Option Goal) (at last : SwitchPort) → ((g : ℕ) → select routes at.switch at.link h ≡ Some (Link g) → ⊥) → IsThere routes h goal at → NoWrongWay routes h goal at last
 none_there routes h goal at last none there None other leaves = absurd (leaves.1 there)
@@ -79,14 +91,15 @@ not_wrong routes h goal at last g first high selects members right (Some l) othe
     ap (is_wrong last goal) (sym leaves.3) ∙ right l within.0 within.1
 
 -- a step that is wrong, and none where its input and the walk's last are these
-pub is_misstep : (routes : Routes) (shown : Shown) (n : ℕ) (kind : WalkKind) (o : Option ℕ) (goal : Option Goal) (at last : SwitchPort) (link : Option ℕ) (other : Option Port) → IsWalkKind routes shown kind → o ≡ owner routes shown.header → goal ≡ goal_of kind o → IsFollowedBy shown.walk n at → IsFollowedBy shown.walk 0 last → IsWrongWay routes shown.header goal at last link other → IsMisstep routes shown n (record { kind = kind; owner = o; at = at; link = link; peer = other })
+pub is_misstep : (routes : Routes) (shown : Shown) (n : ℕ) (kind : WalkKind) (o : Option ℕ) (goal : Option Goal) (at last : SwitchPort) (link : Option ℕ) (other : Option Port) → IsWalkKind routes shown kind → o ≡ owner routes shown.header → goal ≡ goal_of kind o → IsFollowedBy shown.walk n at → IsFollowedBy shown.walk 0 last → IsWrongWay routes shown.header goal at last link other × IsFirstWay routes shown.header goal at last link → IsMisstep routes shown n (record { kind = kind; owner = o; at = at; link = link; peer = other })
 is_misstep routes shown n kind o goal at last link other of_kind owned due followed is_last wrong = record {
   kind = of_kind;
   owned = owned;
   followed = followed;
   last = last;
   is_last = is_last;
-  wrong = subst (λ (x : Option Goal). IsWrongWay routes shown.header x at last link other) due wrong;
+  wrong = subst (λ (x : Option Goal). IsWrongWay routes shown.header x at last link other) due wrong.0;
+  first = subst (λ (x : Option Goal). IsFirstWay routes shown.header x at last link) due wrong.1;
 }
 
 pub no_step : (routes : Routes) (shown : Shown) (n : ℕ) (kind : WalkKind) (o : Option ℕ) (goal : Option Goal) (at end p last : SwitchPort) → o ≡ owner routes shown.header → goal ≡ goal_of kind o → at ≡ p → end ≡ last → NoWrongWay routes shown.header goal at end → NoWrongWay routes shown.header (goal_of kind (owner routes shown.header)) p last
@@ -99,15 +112,59 @@ pub one_step : (routes : Routes) (shown : Shown) (n : ℕ) (kind : WalkKind) (fo
 one_step routes shown n kind None of_kind none = λ other of_other. subst (NoStepFrom routes shown n) (one_goal routes shown kind other (owner routes shown.header) of_kind of_other) none
 one_step routes shown n kind (Some step) of_kind is = is
 
--- the mend of a header without a goal
-pub stray_mend : (routes : Routes) (shown : Shown) (kind : WalkKind) (found : Option Mend) → IsWalkKind routes shown kind → goal_of kind (owner routes shown.header) ≡ None → MatchOption found ((p : SwitchPort) → is_met p shown.walk ≡ false) (λ mend. (is_met mend.at shown.walk ≡ true) × (mend.select ≡ Sink)) → MatchOption found (NoMend routes shown) (IsMend routes shown)
-stray_mend routes shown kind None of_kind due none = λ mend is. let clash : true ≡ false = sym is.met ∙ none mend.at in absurd cc
-stray_mend routes shown kind (Some mend) of_kind due is = record {
-  kind = kind;
-  of_kind = of_kind;
-  met = is.0;
-  lands = subst (λ (x : Option Goal). LandsBy routes shown.header x mend.at.switch mend.select) (sym due) is.1;
+pub at_end : (walk xs : List SwitchPort) (d : SwitchPort) (empty : Bool) → xs ≡ walk → empty ≡ (length xs == 0) → empty ≡ false → (is_met (slice_index_or xs (length xs - 1) d) walk ≡ true) × IsFollowedBy walk 0 (slice_index_or xs (length xs - 1) d)
+at_end walk xs d empty same is filled =
+    let off : (length xs == 0) ≡ false = sym is ∙ filled in
+    let some : 0 < length xs = grind (arith, nat_tests) in
+    (met_at walk xs (length xs - 1) d same (omega (arith, some)), last_at walk xs d same some)
+
+-- the mend of a header that should come to no owner, at the walk's last input
+pub end_mend : (routes : Routes) (shown : Shown) (kind : WalkKind) (goal : Option Goal) (select : Select) (found : Option Mend) → IsWalkKind routes shown kind → goal_of kind (owner routes shown.header) ≡ goal → ((s : ℕ) → LandsBy routes shown.header goal s select × IsNearestBy routes shown.header goal s select) → MatchOption found ((p : SwitchPort) → is_met p shown.walk ≡ false) (λ mend. (is_met mend.at shown.walk ≡ true) × IsFollowedBy shown.walk 0 mend.at × (mend.select ≡ select)) → MatchOption found (NoMend routes shown) (IsNearestMend routes shown)
+end_mend routes shown kind goal select None of_kind due lands none = λ mend is. let clash : true ≡ false = sym is.met ∙ none mend.at in absurd cc
+end_mend routes shown kind goal select (Some mend) of_kind due lands (met, last, selects) =
+    let there = lands mend.at.switch in record {
+      mends = record {
+        kind = kind;
+        of_kind = of_kind;
+        met = met;
+        lands = subst (λ (x : Option Goal). LandsBy routes shown.header x mend.at.switch mend.select) (sym due) (subst (LandsBy routes shown.header goal mend.at.switch) (sym selects) there.0);
+      };
+      followers = 0;
+      followed = last;
+      none_later = λ n p select below is lands. absurd (omega (arith, below));
+      nearest = subst (λ (x : Option Goal). IsNearestBy routes shown.header x mend.at.switch mend.select) (sym due) (subst (IsNearestBy routes shown.header goal mend.at.switch) (sym selects) there.1);
+    }
+
+-- that of one which should come to its owner, by the nearest group there, and none is at the inputs behind
+pub owned_mend : (routes : Routes) (shown : Shown) (kind : WalkKind) (t n g : ℕ) (at : SwitchPort) → IsWalkKind routes shown kind → goal_of kind (owner routes shown.header) ≡ Some (Owner t) → is_met at shown.walk ≡ true → IsFollowedBy shown.walk n at → ((m : ℕ) (p : SwitchPort) → m < n → IsFollowedBy shown.walk m p → NoGroupLeads routes shown.header t p.switch) → IsNearest routes shown.header t at.switch g → IsNearestMend routes shown (record { at = at; select = Link g })
+owned_mend routes shown kind t n g at of_kind due met followed later nearest = record {
+  mends = record {
+    kind = kind;
+    of_kind = of_kind;
+    met = met;
+    lands = subst (λ (x : Option Goal). LandsBy routes shown.header x at.switch (Link g)) (sym due) (g, refl, nearest.leads);
+  };
+  followers = n;
+  followed = followed;
+  none_later = λ m p select below is lands.
+      let by : LandsBy routes shown.header (Some (Owner t)) p.switch select = subst (λ (x : Option Goal). LandsBy routes shown.header x p.switch select) due lands in
+      later m p below is by.0 by.2;
+  nearest = subst (λ (x : Option Goal). IsNearestBy routes shown.header x at.switch (Link g)) (sym due) (g, refl, nearest);
 }
+
+-- what holds of the inputs behind one
+each_at : (P : SwitchPort → Type 0) (xs : List SwitchPort) (i : ℕ) (d : SwitchPort) → AllByRecursion P xs → i < length xs → P (slice_index_or xs i d)
+each_at P [] i d all inside = absurd (omega (arith, inside))
+each_at P (x ∷ xs) zero d all inside = all.0
+each_at P (x ∷ xs) (suc i) d all inside = each_at P xs i d all.1 (omega (arith, inside))
+
+pub later_each : (P : SwitchPort → Type 0) (walk xs : List SwitchPort) (n : ℕ) → xs ≡ walk → n ≤ length xs → AllByRecursion P (drop (length xs - n) xs) → (m : ℕ) (p : SwitchPort) → m < n → IsFollowedBy walk m p → P p
+later_each P walk xs n same room all m p below is =
+    let at = followed_is walk xs m p p same is in
+    let count : length (drop (length xs - n) xs) ≡ n = length-drop (length xs - n) xs ∙ omega (arith, room) in
+    let place : length xs - n + (n - 1 - m) ≡ length xs - 1 - m = omega (arith, room, below) in
+    let there : slice_index_or (drop (length xs - n) xs) (n - 1 - m) p ≡ p = get_or-drop (length xs - n) xs (n - 1 - m) p ∙ ap (λ i. slice_index_or xs i p) place ∙ at.1 in
+    subst P there (each_at P (drop (length xs - n) xs) (n - 1 - m) p all (omega (arith, below, count)))
 
 -- no mend is at the inputs of a walk, at none of which a group leads to the owner
 pub no_mend : (routes : Routes) (shown : Shown) (kind : WalkKind) (t : ℕ) (xs : List SwitchPort) → xs ≡ shown.walk → IsWalkKind routes shown kind → goal_of kind (owner routes shown.header) ≡ Some (Owner t) → AllByRecursion (λ p. NoGroupLeads routes shown.header t p.switch) xs → NoMend routes shown

@@ -41,7 +41,7 @@ not_home : (goal : Goal) (u : ℕ) → IsForeign goal u → not (is_home goal u)
 not_home (Owner t) u differ = not_owner u t differ
 not_home Portal u differ = refl
 
-own_link : (continues : ℕ → Bool) (g : ℕ) → group_contains continues g g ≡ true
+pub own_link : (continues : ℕ → Bool) (g : ℕ) → group_contains continues g g ≡ true
 own_link continues g =
     let none : g - g ≡ 0 = omega arith in
     let first : nat_le g g ≡ true = le-leb g g (omega arith) in

@@ -95,7 +95,7 @@ random_is_header routes r (t, p, entry, random) = random_header routes p r rando
 
 -- At the inputs of terminals
 
--- it is one at none of the first so many
+-- it is one at none of the first n
 abbrev pub NoneRandomBefore : Routes → ℕ → ℕ → Type 0
 NoneRandomBefore routes h n = (t : ℕ) (p : SwitchPort) → t < n → IsEntryOf routes t p → IsRandomAt routes p h → ⊥
 

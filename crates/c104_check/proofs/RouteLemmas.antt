@@ -115,7 +115,7 @@ all_among P e [] is all = absurd is
 all_among P e (x ∷ xs) (inl is) all = subst P is all.0
 all_among P e (x ∷ xs) (inr is) all = all_among P e xs is all.1
 
--- the first of so many links, which passes the test or doesn't
+-- the first of n links, which passes the test or doesn't
 pub peers_step : (routes : Routes) (s link n : ℕ) (test : ℕ → Bool) (b : Bool) → test link ≡ b → peers_that routes s test link (suc n) ≡ cond b (routes.peer (port.Switch s link) ∷ peers_that routes s test (link + 1) n) (peers_that routes s test (link + 1) n)
 peers_step routes s link n test true is = rw is refl
 peers_step routes s link n test false is = rw is refl

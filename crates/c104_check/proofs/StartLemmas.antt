@@ -18,6 +18,7 @@ use Rattle.c104_check.proofs.HomeLemmas.{wired_entry}
 use Rattle.c104_check.proofs.PortalLemmas.{IsIn, add_in, add_longer, add_split, in_here, in_right, met_is_portal, portal_is_met}
 use Rattle.c104_check.proofs.RefusalLemmas.{entry_same}
 use Rattle.c104_check.proofs.RouteLemmas.{portal_input}
+use Rattle.c104_check.proofs.ShownLemmas.{random_short, shown_short}
 use Rattle.c104_check.proofs.TrailLemmas.{All-found, All-map, All-snoc}
 
 -- Lists that grow
@@ -129,7 +130,7 @@ add_front old portals xs is =
     let more = add_longer xs old in
     ap (take (length old)) (is ∙ more.1) ∙ take-append-le (length old) old more.0 (omega arith) ∙ take_all (length old) old (omega arith)
 
--- so many portals have joined the starts
+-- the first n portals have joined the starts
 pub record AreBehind (routes : Routes) (t : ℕ) (starts : List Start) (portals : List SwitchPort) (n : ℕ) : Type 0 where
   pub are : AreStarts routes starts
   pub covers : CoverTerminals routes starts t
@@ -210,8 +211,8 @@ lands_front routes starts k start at before h below j x inside there =
     let found = take_get starts k j x there in
     before h below j x found.0 found.1
 
-pub told_first : (routes : Routes) (starts : List Start) (refusal : Refusal) → AreStarts routes starts → IsFirstIn routes starts refusal → IsFirstRefused routes refusal.why refusal.shown
-told_first routes starts refusal are first =
+pub told_first : (routes : Routes) (starts : List Start) (refusal : Refusal) → IsNetwork routes → AreStarts routes starts → IsFirstIn routes starts refusal → IsFirstRefused routes refusal.why refusal.shown
+told_first routes starts refusal net are first =
     let refused = first.refused in
     let start = refused.start in
     let next = are refusal.start start refused.at in
@@ -220,6 +221,7 @@ told_first routes starts refusal are first =
       entry = next.entry;
       wired = subst (λ n. IsEntryOf routes n next.entry) (sym refused.terminal) next.wired;
       below = first.below;
+      short = shown_short routes refusal.shown.header start.at (owner routes refusal.shown.header) refusal.why refusal.shown.walk net next.input.0 refused.refused.shows;
       terminals_before = λ t low. next.terminals front t (subst (λ n. t < n) refused.terminal low);
       here = elim next.kind [
         | inl own ↦ inl (record {
@@ -242,11 +244,12 @@ told_first routes starts refusal are first =
       ];
     }
 
-pub told_random : (routes : Routes) (starts : List Start) (refusal : Refusal) → AllLand routes starts → IsFirstRandom routes starts refusal → IsFirstRefused routes refusal.why refusal.shown
-told_random routes starts refusal all first = record {
+pub told_random : (routes : Routes) (starts : List Start) (refusal : Refusal) → IsNetwork routes → AllLand routes starts → IsFirstRandom routes starts refusal → IsFirstRefused routes refusal.why refusal.shown
+told_random routes starts refusal net all first = record {
   entry = first.entry;
   wired = first.wired;
   below = first.below;
+  short = random_short routes refusal.shown.header first.entry refusal.why refusal.shown.walk net (net.inputs (port.Terminal refusal.shown.entry) first.entry first.wired) first.refused.shows;
   terminals_before = first.covers all;
   here = inr (inl first.refused);
 }
@@ -256,7 +259,7 @@ none_told routes starts net all covers t p wired = covers all t (net.terminals t
 
 pub told_last : (routes : Routes) (starts : List Start) (found : Option Refusal) → IsNetwork routes → AllLand routes starts → MatchOption found (CoverTerminals routes starts (length routes.ranges)) (IsFirstRandom routes starts) → MatchOption found ((t : ℕ) → TerminalLands routes t) (λ refusal. IsFirstRefused routes refusal.why refusal.shown)
 told_last routes starts None net all is = none_told routes starts net all is
-told_last routes starts (Some refusal) net all is = told_random routes starts refusal all is
+told_last routes starts (Some refusal) net all is = told_random routes starts refusal net all is
 
 pub starts_inputs : (routes : Routes) (starts : List Start) → AreStarts routes starts → AreInputs routes starts
 starts_inputs routes starts are k start at = (are k start at).input

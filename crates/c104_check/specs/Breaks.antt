@@ -21,7 +21,7 @@ abbrev pub ChangesSelectAt : Routes → SwitchPort → ℕ → Type 0
 ChangesSelectAt routes p h =
     (x : Settings) × IsWired routes p × (link_settings routes.settings p ≡ Some x) × ChangesSelect x.table h
 
--- the random headers of a link begin with h, or end before it, where there are so many headers
+-- the random headers of a link begin with h, or end before it, where count headers are in use
 abbrev pub BoundsRandom : ℕ → Settings → ℕ → Type 0
 BoundsRandom count x h =
     (x.randomize ≡ true) × ((h ≡ x.random_base % count) ⊎ (h ≡ (x.random_base + random_count x) % count))

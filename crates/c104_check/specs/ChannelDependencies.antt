@@ -1,13 +1,16 @@
 -- Channel dependencies, after Dally and Seitz. A channel is named by the input that reads it. One depends on another
 -- where a packet that came in at the one may have to wait until what came in at the other has gone on. Where random
--- headers are put before packets, these go in two phases: by such a header to a portal, and from there by their own.
--- The dependencies are those of both.
---     MayArrive routes h p      a packet that goes by header h may come to input p
+-- headers are put before packets, the packets go in two phases: by a random header to a portal, and from there by their
+-- own. The dependencies are those of both. Behind a portal the ways of labels alone are counted: a random header that
+-- nobody owns has no ways there, since a terminal whose packets get random headers sends none of them as a packet's own
+-- (MayBeSent, in c104_net).
+--     MayComeBy routes h p      a packet that goes by header h may come to input p
 --     Depends routes p q      input p depends on input q
 --     IsAcyclic routes      there are ranks of the inputs that fall along every dependency
 --     IsCycle routes dependencies      inputs each of which depends on the next, and the last on the first
-use Rattle.std.specs.Prelude.{ℕ, ◌≡◌, ◌<◌, ◌≤◌, ◌*◌, ◌⊎◌, List, [], ◌∷◌, Some, length}
+use Rattle.std.specs.Prelude.{ℕ, ◌≡◌, ◌↔◌, ◌<◌, ◌≤◌, ◌*◌, ◌⊎◌, List, [], ◌∷◌, Some, length}
 use Rattle.c104_check.specs.Parts.{IsBeginning, IsRandomBeginning, IsReachedFrom}
+use Rattle.c104_check.specs.Reach.{IsReached}
 use Rattle.c104_check.specs.Routes.{IsRandomized, Routes, SwitchPort, owner}
 use Rattle.c104_check.specs.Shown.{Follows}
 -- an input, and a header by which it depends on the next
@@ -19,12 +22,12 @@ abbrev pub IsBeginningBy : Routes → ℕ → SwitchPort → Type 0
 IsBeginningBy routes h p = ((t : ℕ) × (owner routes h ≡ Some t) × IsBeginning routes p) ⊎ IsRandomBeginning routes h p
 
 -- a packet that goes by header h may come to input p, over some wires
-abbrev pub MayArrive : Routes → ℕ → SwitchPort → Type 0
-MayArrive routes h p = IsReachedFrom routes h (IsBeginningBy routes h) p
+abbrev pub MayComeBy : Routes → ℕ → SwitchPort → Type 0
+MayComeBy routes h p = IsReachedFrom routes h (IsBeginningBy routes h) p
 
 -- and go on over one wire to input q
 abbrev pub DependsBy : Routes → ℕ → SwitchPort → SwitchPort → Type 0
-DependsBy routes h p q = MayArrive routes h p × Follows routes h p q
+DependsBy routes h p q = MayComeBy routes h p × Follows routes h p q
 
 -- some header may. A group of links gives a dependency over each of them, since a packet may take any.
 abbrev pub Depends : Routes → SwitchPort → SwitchPort → Type 0
@@ -34,6 +37,18 @@ Depends routes p q = (h : ℕ) × DependsBy routes h p q
 -- terminals on
 abbrev pub IsNeverRandomized : Routes → Type 0
 IsNeverRandomized routes = (p : SwitchPort) → IsRandomized routes p → ⊥
+
+-- a label may come to input p from the input of some terminal, and go on over one wire to input q
+abbrev pub GoesByLabel : Routes → ℕ → SwitchPort → SwitchPort → Type 0
+GoesByLabel routes h p q = (t : ℕ) × (owner routes h ≡ Some t) × IsReached routes h p × Follows routes h p q
+
+-- some label may
+abbrev pub DependsByLabels : Routes → SwitchPort → SwitchPort → Type 0
+DependsByLabels routes p q = (h : ℕ) × GoesByLabel routes h p q
+
+-- without random headers the dependencies are those by labels alone
+abbrev pub AreByLabels : Routes → Type 0
+AreByLabels routes = IsNeverRandomized routes → (p q : SwitchPort) → Depends routes p q ↔ DependsByLabels routes p q
 
 -- ranks of the inputs, which fall along every dependency
 abbrev pub IsRanking : Routes → (SwitchPort → ℕ) → Type 0

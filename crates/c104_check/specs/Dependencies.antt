@@ -3,7 +3,7 @@
 --     AreDependencies routes table      each that stands there is one
 --     AreListedBelow routes table n      each by a header below n stands there
 use Rattle.std.specs.Prelude.{ℕ, ◌≡◌, ◌<◌, ◌≤◌, ◌+◌, ◌*◌, List, Option, None, Some, length, is_some, slice_index_or, true}
-use Rattle.c104_check.specs.ChannelDependencies.{DependsBy, MayArrive}
+use Rattle.c104_check.specs.ChannelDependencies.{DependsBy, MayComeBy}
 use Rattle.c104_check.specs.Parts.{IsReachedAsOwn, IsReachedAsRandom}
 use Rattle.c104_check.specs.Routes.{Routes, SwitchPort, owner, place, to_port}
 use Rattle.c104_check.specs.Shown.{Follows}
@@ -40,7 +40,7 @@ AreListedAt routes table h p = (q : SwitchPort) → (follows : Follows routes h 
 
 -- from each input to which packets may come that go by it
 abbrev pub AreListedFor : Routes → List (Option Dependency) → ℕ → Type 0
-AreListedFor routes table h = (p : SwitchPort) → MayArrive routes h p → AreListedAt routes table h p
+AreListedFor routes table h = (p : SwitchPort) → MayComeBy routes h p → AreListedAt routes table h p
 
 -- from those to which it may come as the own header of packets
 abbrev pub AreListedAsOwn : Routes → List (Option Dependency) → ℕ → Type 0

@@ -11,6 +11,7 @@ pub mod Portals
 pub mod Starts
 pub mod Tables
 pub mod Mends
+pub mod Distances
 pub mod Reach
 pub mod Parts
 pub mod Ranks

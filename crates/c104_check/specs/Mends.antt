@@ -81,16 +81,23 @@ abbrev pub IsWrongWay : Routes → ℕ → Option Goal → SwitchPort → Switch
 IsWrongWay routes h goal p last link other =
     LeavesBy routes h goal p link other × (is_wrong last goal other ≡ true)
 
+-- and by no lower link of the group
+abbrev pub IsFirstWay : Routes → ℕ → Option Goal → SwitchPort → SwitchPort → Option ℕ → Type 0
+IsFirstWay routes h goal p last None = ⊤
+IsFirstWay routes h goal p last (Some o) =
+    (l : ℕ) (other : Option Port) → l < o → LeavesBy routes h goal p (Some l) other → is_wrong last goal other ≡ false
+
 -- by none does it
 abbrev pub NoWrongWay : Routes → ℕ → Option Goal → SwitchPort → SwitchPort → Type 0
 NoWrongWay routes h goal p last =
     (link : Option ℕ) (other : Option Port) → LeavesBy routes h goal p link other → is_wrong last goal other ≡ false
 
--- so many inputs follow this one to the end of a walk
+-- n inputs follow this one to the end of a walk
 abbrev pub IsFollowedBy : List SwitchPort → ℕ → SwitchPort → Type 0
 IsFollowedBy walk n p = (n < length walk) × (slice_get walk (length walk - 1 - n) ≡ Some p)
 
--- a step of a refused walk, from the input that so many follow, leads where the header shouldn't come
+-- a step of a refused walk, from the input that this number of others follow, leads where the header shouldn't come,
+-- and it is the first that does from there
 pub record IsMisstep (routes : Routes) (shown : Shown) (followers : ℕ) (step : Misstep) : Type 0 where
   pub kind : IsWalkKind routes shown step.kind
   pub owned : step.owner ≡ owner routes shown.header
@@ -98,6 +105,7 @@ pub record IsMisstep (routes : Routes) (shown : Shown) (followers : ℕ) (step :
   pub last : SwitchPort
   pub is_last : IsFollowedBy shown.walk 0 last
   pub wrong : IsWrongWay routes shown.header (goal_of step.kind step.owner) step.at last step.link step.peer
+  pub first : IsFirstWay routes shown.header (goal_of step.kind step.owner) step.at last step.link
 
 -- no step does from there, with this goal: where that is an input of the network, the header should come there, or it
 -- selects a link there, and what each link of its group is wired to isn't wrong

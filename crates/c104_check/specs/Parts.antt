@@ -1,14 +1,14 @@
--- The two parts of packets' ways. Where random headers are put before a terminal's packets, they go by a random one from
+-- The two phases of packets' ways. Where random headers are put before a terminal's packets, they go by a random one from
 -- its input up to a portal, and by their own headers from there on. Where none are, they go by their own from its input.
---     IsReachedAsOwn routes h p, IsTakenAsOwn routes h q      in the part by own headers, h may come to input p, and leave such an input by link q
---     IsReachedAsRandom routes r p, IsTakenAsRandom routes r q      the same in the part by random headers
+--     IsReachedAsOwn routes h p, IsTakenAsOwn routes h q      in the phase by own headers, h may come to input p, and leave such an input by link q
+--     IsReachedAsRandom routes r p, IsTakenAsRandom routes r q      the same in the phase by random headers
 --     IsDiscardedAt routes r q      and there it may be discarded, at portal q
 use Rattle.std.specs.Prelude.{◌≡◌, ◌↔◌, ℕ, ◌<◌, ◌+◌, ◌⊎◌, Bool, true, false, List, length, Some, None}
 use Rattle.c104_interval.specs.declared.intervals.Select.TheVariants.{Discard}
 use Rattle.c104_check.specs.declared.faults.CheckFault.{CheckFault}
 use Rattle.c104_check.specs.Checks.{IsRefusedAt, Shown, fault_of}
 use Rattle.c104_check.specs.Reach.{MayTake}
-use Rattle.c104_check.specs.Routes.{Homes, IsEntryOf, IsPortal, IsRandomAt, IsRandomIn, IsRandomized, Lands, LandsBehind, Reaches, Routes, SwitchPort, most_hops, owner, select}
+use Rattle.c104_check.specs.Routes.{Homes, IsEntryOf, IsPortal, IsRandomAt, IsRandomIn, IsRandomized, Lands, LandsBehind, Reaches, Routes, SwitchPort, header_count, most_hops, owner, select}
 use Rattle.c104_check.specs.Shown.{IsShownRandom}
 use Rattle.c104_check.specs.Walks.{WalkFault, is_met, random_fault}
 
@@ -71,9 +71,10 @@ LandsFirst routes h n = (t : ℕ) (behind : Bool) (p : SwitchPort) → t < n →
 abbrev pub HomesFirst : Routes → ℕ → ℕ → Type 0
 HomesFirst routes h n = (t : ℕ) (p : SwitchPort) → t < n → IsEntryOf routes t p → IsRandomAt routes p h → Homes routes h (most_hops routes) p.switch p.link
 
--- both of all terminals
+-- both of all terminals; and what is no header of the network is refused nowhere
 abbrev pub IsNeverRefused : Routes → ℕ → Type 0
-IsNeverRefused routes h = LandsFirst routes h (length routes.ranges) × HomesFirst routes h (length routes.ranges)
+IsNeverRefused routes h =
+    h < header_count routes → LandsFirst routes h (length routes.ranges) × HomesFirst routes h (length routes.ranges)
 
 -- where own headers of a terminal begin it is refused
 pub record IsOwnRefusal (routes : Routes) (h : ℕ) (why : WalkFault) (shown : Shown) : Type 0 where
@@ -93,8 +94,9 @@ pub record IsRandomRefusal (routes : Routes) (h : ℕ) (why : WalkFault) (shown 
   pub first : random_fault routes h entry ≡ Some (why, shown.walk)
   pub fails : (k : ℕ) → Homes routes h k entry.switch entry.link → ⊥
 
--- at none of the terminals before is it refused, and at this one it is: as a random header first
+-- a header of the network is refused at none of the terminals before, and at this one it is: as a random header first
 pub record IsFirstRefusal (routes : Routes) (h : ℕ) (why : WalkFault) (shown : Shown) : Type 0 where
+  pub below : h < header_count routes
   pub header : shown.header ≡ h
   pub own_before : LandsFirst routes h shown.entry
   pub random_before : HomesFirst routes h shown.entry

@@ -8,7 +8,7 @@ use Rattle.c104_interval.specs.declared.intervals.Select.TheVariants.{Link}
 use Rattle.c104_regs.specs.declared.registers.TheConstants.{LINKS}
 use Rattle.c104_describe.specs.declared.ports.Port.{Port}
 use Rattle.c104_describe.specs.declared.ports.Port.TheVariants as port
-use Rattle.c104_check.specs.Routes.{IsEntryOf, Routes, SwitchPort, is_in_group, select}
+use Rattle.c104_check.specs.Routes.{IsEntryOf, Routes, SwitchPort, header_count, is_in_group, select}
 use Rattle.c104_check.specs.Shown.{Follows}
 use Rattle.c104_check.specs.Trails.{Checked, IsInput, Reaches, routes_in}
 use Rattle.c104_check.specs.Walks.{is_met, is_port, port_of}
@@ -27,10 +27,10 @@ abbrev pub IsReached : Routes → ℕ → SwitchPort → Type 0
 IsReached routes h p =
     (t : ℕ) × (entry : SwitchPort) × (m : ℕ) × IsEntryOf routes t entry × Reaches routes h m entry p
 
--- it may leave input p by link q of the same switch: one of the group that it selects
+-- it may leave input p by link q of the same switch: it is a header of the network, and selects the link's group
 abbrev pub MayTake : Routes → ℕ → SwitchPort → SwitchPort → Type 0
 MayTake routes h p q =
-    (g : ℕ) × (p.switch ≡ q.switch) × (select routes p.switch p.link h ≡ Some (Link g)) × (is_in_group routes p.switch g q.link ≡ true)
+    (g : ℕ) × (h < header_count routes) × (p.switch ≡ q.switch) × (select routes p.switch p.link h ≡ Some (Link g)) × (is_in_group routes p.switch g q.link ≡ true)
 
 -- it may leave by link q some input to which it may come
 abbrev pub IsTaken : Routes → ℕ → SwitchPort → Type 0
@@ -45,7 +45,7 @@ pub record AreDistinctInputs (routes : Routes) (inputs : List SwitchPort) : Type
 abbrev pub HaveFollowers : Routes → ℕ → List SwitchPort → SwitchPort → Type 0
 HaveFollowers routes h inputs p = (q : SwitchPort) → Follows routes h p q → is_met q inputs ≡ true
 
--- and those from each of the first so many
+-- and those from each of the first inputs that are done
 abbrev pub HaveAllFollowers : Routes → ℕ → List SwitchPort → ℕ → Type 0
 HaveAllFollowers routes h inputs done =
     (k : ℕ) (p : SwitchPort) → k < done → slice_get inputs k ≡ Some p → HaveFollowers routes h inputs p

@@ -49,7 +49,7 @@ abbrev pub IsShownRandom : Routes → ℕ → SwitchPort → WalkFault → List 
 IsShownRandom routes r p fault walk =
     (more : List SwitchPort) × (walk ≡ p ∷ more) × IsRefused routes r Portal fault (p ∷ []) p more
 
--- a header comes where it should, over at most so many switches
+-- a header comes where it should, over at most k switches
 abbrev pub Comes : Routes → ℕ → Goal → ℕ → ℕ → ℕ → Type 0
 Comes routes h (Owner t) = Leads routes h t
 Comes routes h Portal = Homes routes h

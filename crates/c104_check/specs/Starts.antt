@@ -175,7 +175,7 @@ LeadsToInput None = ⊥
 LeadsToInput (Some (port.Terminal t)) = ⊥
 LeadsToInput (Some (port.Switch s i)) = ⊤
 
--- what the random headers of an entry meet joined the first so many of these portals, which these starts cover
+-- what the random headers of an entry meet joined those of these portals that were known, which these starts cover
 pub record HaveJoined (routes : Routes) (p : SwitchPort) (starts : List Start) (known : ℕ) (portals : List SwitchPort) : Type 0 where
   pub old : List SwitchPort
   pub count : known ≡ length old

@@ -23,7 +23,7 @@ routes_in checked = routes_of checked.plan checked.image
 abbrev pub IsInput : ℕ → SwitchPort → Type 0
 IsInput n p = (p.switch < n) × (p.link < LINKS)
 
--- what a run of so many links from one on is wired to
+-- what a run of count links from one on is wired to
 abbrev pub run_peers : Routes → ℕ → ℕ → ℕ → List (Option Port)
 run_peers routes s from count = map (λ o. routes.peer (port.Switch s o)) (range_with_len from count)
 

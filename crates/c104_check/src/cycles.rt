@@ -1,7 +1,7 @@
 //! Cycles of channel dependencies: inputs each of which may have to wait for the next, and the last for the first.
 ghost use Rattle.std.specs.Prelude.{◌≡◌, ◌≢◌, ◌<◌, ◌≤◌, ◌+◌, ◌*◌, ℕ, [], true, false, length, position, IfOk, MatchOption};
 ghost use Rattle.c104_describe.specs.PlanImage.{Fits};
-ghost use Rattle.c104_check.specs.ChannelDependencies.{AreNeverBoth};
+ghost use Rattle.c104_check.specs.ChannelDependencies.{AreByLabels, AreNeverBoth};
 ghost use Rattle.c104_check.specs.Cycles.{AllLeadToRanked, AreRanksOrCycle, IsDependencyOf, ArePartialRanks, IsRankingPass, LeadsToUnranked, LeadInside, unranked_count};
 ghost use Rattle.c104_check.specs.Dependencies.{Dependency as TheDependency};
 ghost use Rattle.c104_check.specs.Ranks.{rank_at, rank_in};
@@ -71,14 +71,15 @@ pub enum RanksOrCycle {
 /// A cycle of dependencies in the accepted network of an image for a plan, or else ranks that fall along each
 /// dependency. There are never both. It fails only when out of memory.
 ///
-/// Dependencies are those by headers that have owners, from the inputs of terminals on. Where random headers are put
-/// before packets they are those by these, from there on, and by headers that have owners from the inputs on that
-/// discard these.
+/// Packets go by labels, from the inputs of terminals on. Where random headers are put before packets at such an input,
+/// they go in two phases: from there by a random header, and by labels from the inputs on that discard it. The
+/// dependencies are those of both phases; and those by labels alone where no random headers are put before packets.
 pub fn find_cycle(alloc: Global, plan: &Plan, image: &Image) -> Result<RanksOrCycle, NoMemory>
     requires fits { Fits image.now plan.now }
     requires accepted { IsAccepted (routes_of plan.now image.now) }
     ensures found { IfOk result (AreRanksOrCycle (routes_of plan.now image.now)) }
     ensures never_both { IfOk result (λ _. AreNeverBoth (routes_of plan.now image.now)) }
+    ensures plain { IfOk result (λ _. AreByLabels (routes_of plan.now image.now)) }
 {
     let routes = Routes::new(alloc, plan, image)?;
     let table = routes.dependencies(alloc)?;
@@ -162,7 +163,7 @@ fn first_unranked(ranks: &[u32]) -> Option<usize>
     None
 }
 
-/// Ranks of so many inputs that fall along the dependencies of a table, of all inputs that lead to no cycle.
+/// Ranks of this many inputs that fall along the dependencies of a table, of all inputs that lead to no cycle.
 fn rank_inputs(
     alloc: Global,
     table: &[Option<Dependency>],

@@ -19,9 +19,9 @@ pub(crate) struct Dependency {
 }
 
 impl<'a> Routes<'a> {
-    ghost use Rattle.std.specs.Prelude.{◌≡◌, ◌*◌, OnOk, length, IfOk, Some};
+    ghost use Rattle.std.specs.Prelude.{◌≡◌, ◌*◌, false, OnOk, length, IfOk, Some};
     ghost use Rattle.std.specs.List.{AllByRecursion};
-    ghost use Rattle.c104_check.specs.ChannelDependencies.{DependsBy, MayArrive};
+    ghost use Rattle.c104_check.specs.ChannelDependencies.{DependsBy, IsNeverRandomized, MayComeBy};
     ghost use Rattle.c104_check.specs.Dependencies.{AreDependencies, AreListedBelow, IsExtended, AreListedAt, AreListedAsOwn, AreListedAsRandom, AreListedFor, IsListedOver};
     ghost use Rattle.c104_check.specs.Routes.{SwitchPort, header_count, to_port};
     ghost use Rattle.c104_check.specs.Starts.{AreOwnStarts};
@@ -37,25 +37,29 @@ impl<'a> Routes<'a> {
     {
         let starts = self.own_starts(alloc)?;
         let mut table = vec![in alloc; None::<Dependency>; self.switch_count() * LINKS * LINKS]?;
-        self.add_dependencies(alloc, starts.as_slice(), &mut table)?;
+        let randomized = self.is_ever_randomized();
+        self.add_dependencies(alloc, starts.as_slice(), randomized, &mut table)?;
         Ok(table)
     }
 
-    /// Adds the dependencies by all headers, where own headers begin at these starts.
+    /// Adds the dependencies by all headers, where own headers begin at these starts. The flag tells whether random
+    /// headers are put before any packets.
     fn add_dependencies(
         &self,
         alloc: Global,
         starts: &[Start],
+        randomized: bool,
         table: &mut [Option<Dependency>],
     ) -> Result<(), NoMemory>
         requires network { IsNetwork (routes_in self.now) }
         requires starts { AreOwnStarts (routes_in self.now) starts.now (length (routes_in self.now).ranges) }
+        requires random { randomized ≡ false → IsNeverRandomized (routes_in self.now) }
         requires room { length table.old ≡ length (routes_in self.now).settings * 32 * 32 }
         ensures kept { OnOk result (IsExtended (routes_in self.now) table.old table.new) }
         ensures listed { OnOk result (AreListedBelow (routes_in self.now) table.new (header_count (routes_in self.now))) }
     {
         for header in 0..self.header_count() {
-            self.add_by_header(alloc, header, starts, table)?;
+            self.add_by_header(alloc, header, starts, randomized, table)?;
         }
         Ok(())
     }
@@ -66,16 +70,18 @@ impl<'a> Routes<'a> {
         alloc: Global,
         header: u32,
         starts: &[Start],
+        randomized: bool,
         table: &mut [Option<Dependency>],
     ) -> Result<(), NoMemory>
         requires network { IsNetwork (routes_in self.now) }
         requires starts { AreOwnStarts (routes_in self.now) starts.now (length (routes_in self.now).ranges) }
+        requires random { randomized ≡ false → IsNeverRandomized (routes_in self.now) }
         requires room { length table.old ≡ length (routes_in self.now).settings * 32 * 32 }
         ensures kept { OnOk result (IsExtended (routes_in self.now) table.old table.new) }
         ensures listed { OnOk result (AreListedFor (routes_in self.now) table.new header) }
     {
         self.add_as_own(alloc, header, starts, table)?;
-        self.add_as_random(alloc, header, table)?;
+        self.add_as_random(alloc, header, randomized, table)?;
         Ok(())
     }
 
@@ -101,18 +107,23 @@ impl<'a> Routes<'a> {
         Ok(())
     }
 
-    /// By one as a random header.
+    /// By one as a random header, if any are put before packets.
     fn add_as_random(
         &self,
         alloc: Global,
         header: u32,
+        randomized: bool,
         table: &mut [Option<Dependency>],
     ) -> Result<(), NoMemory>
         requires network { IsNetwork (routes_in self.now) }
+        requires random { randomized ≡ false → IsNeverRandomized (routes_in self.now) }
         requires room { length table.old ≡ length (routes_in self.now).settings * 32 * 32 }
         ensures kept { OnOk result (IsExtended (routes_in self.now) table.old table.new) }
         ensures listed { OnOk result (AreListedAsRandom (routes_in self.now) table.new header) }
     {
+        if !randomized {
+            return Ok(());
+        }
         let inputs = self.reached_as_random(alloc, header)?;
         self.add_at_all(header, inputs.as_slice(), table);
         Ok(())
@@ -120,7 +131,7 @@ impl<'a> Routes<'a> {
 
     /// By one at each of these inputs.
     fn add_at_all(&self, header: u32, inputs: &[SwitchPort], table: &mut [Option<Dependency>])
-        requires arrive { AllByRecursion (MayArrive (routes_in self.now) header) inputs.now }
+        requires arrive { AllByRecursion (MayComeBy (routes_in self.now) header) inputs.now }
         requires inside { AllByRecursion (IsInput (length (routes_in self.now).settings)) inputs.now }
         requires network { IsNetwork (routes_in self.now) }
         requires room { length table.old ≡ length (routes_in self.now).settings * 32 * 32 }
@@ -134,7 +145,7 @@ impl<'a> Routes<'a> {
 
     /// The same at one input.
     fn add_at_input(&self, header: u32, at: SwitchPort, table: &mut [Option<Dependency>])
-        requires arrives { MayArrive (routes_in self.now) header at }
+        requires arrives { MayComeBy (routes_in self.now) header at }
         requires network { IsNetwork (routes_in self.now) }
         requires input { IsInput (length (routes_in self.now).settings) at }
         requires room { length table.old ≡ length (routes_in self.now).settings * 32 * 32 }

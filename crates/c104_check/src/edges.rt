@@ -1,6 +1,7 @@
 //! The edges of the channel dependency graph.
 ghost use Rattle.std.specs.Prelude.{◌≡◌, length, IfOk};
 ghost use Rattle.c104_describe.specs.PlanImage.{Fits};
+ghost use Rattle.c104_check.specs.ChannelDependencies.{AreByLabels};
 ghost use Rattle.c104_check.specs.Edges.{AreAllEdges, AreEdgesBefore, edge_of};
 ghost use Rattle.c104_check.specs.Routes.{IsAccepted, routes_of};
 
@@ -20,13 +21,13 @@ pub struct DependencyEdge {
     pub input: SwitchPort,
     /// The other, at the far end of a link that the header may take.
     pub next: SwitchPort,
-    /// The highest such header: a label of some terminal, or a random header that is put before packets.
+    /// Such a header: a label of some terminal, or a random header that is put before packets.
     pub header: u32,
 }
 
-/// The dependencies of all inputs on one another in the accepted network of an image for a plan, in the order of the
-/// inputs and then of the links by which packets go on. Those by random headers are among them, and those by headers
-/// behind these. It fails only when out of memory.
+/// The dependencies of all inputs on one another in the accepted network of an image for a plan. Those by random headers
+/// are among them, and those by labels behind these; where no random headers are put before packets, they are those by
+/// labels alone. It fails only when out of memory.
 pub fn channel_dependencies(
     alloc: Global,
     plan: &Plan,
@@ -34,7 +35,8 @@ pub fn channel_dependencies(
 ) -> Result<Items<DependencyEdge>, NoMemory>
     requires fits { Fits image.now plan.now }
     requires accepted { IsAccepted (routes_of plan.now image.now) }
-    ensures { IfOk result (AreAllEdges (routes_of plan.now image.now)) }
+    ensures edges { IfOk result (AreAllEdges (routes_of plan.now image.now)) }
+    ensures plain { IfOk result (λ _. AreByLabels (routes_of plan.now image.now)) }
 {
     let routes = Routes::new(alloc, plan, image)?;
     let table = routes.dependencies(alloc)?;

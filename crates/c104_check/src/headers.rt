@@ -76,7 +76,7 @@ impl<'a> Routes<'a> {
         Ok(first)
     }
 
-    /// The first of so many starts at which a header is refused, where all lower ones come where they
+    /// The first of this many starts at which a header is refused, where all lower ones come where they
     /// should. One that is no break then does, since the one before it did.
     fn refused_anew(
         &self,
@@ -101,7 +101,7 @@ impl<'a> Routes<'a> {
         self.refused_before(alloc, starts, header, count)
     }
 
-    /// The first of so many starts at which a header is refused.
+    /// The first of this many starts at which a header is refused.
     pub(crate) fn refused_before(
         &self,
         alloc: Global,

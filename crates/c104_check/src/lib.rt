@@ -9,7 +9,7 @@
 //!
 //! [`find_cycle`] tells whether inputs of an accepted network may wait for one another in a cycle, which is what a
 //! deadlock needs; [`channel_dependencies`] lists which may wait for which. Where random headers are put before packets
-//! both speak of the two parts of packets' ways: by such a header, and by their own behind it. [`first_randomized`]
+//! both speak of the two phases of packets' ways: by such a header, and by their own behind it. [`first_randomized`]
 //! tells whether there is a link that puts any.
 #![tactic(auto)]
 
@@ -18,6 +18,7 @@ mod beginnings;
 mod breaks;
 mod cycles;
 mod dependencies;
+mod distances;
 mod edges;
 mod faults;
 mod headers;

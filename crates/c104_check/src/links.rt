@@ -28,7 +28,7 @@ pub fn first_randomized(
 }
 
 impl<'a> Routes<'a> {
-    ghost use Rattle.std.specs.Prelude.{◌↔◌, length, IsTrue, MatchOption};
+    ghost use Rattle.std.specs.Prelude.{◌≡◌, ◌↔◌, false, length, IsTrue, MatchOption};
     ghost use Rattle.c104_check.specs.ChannelDependencies.{IsNeverRandomized};
     ghost use Rattle.c104_check.specs.Checks.{DeletesInside, IsFirstLink, IsMixed, IsNoLink, IsRandomInside};
     ghost use Rattle.c104_check.specs.Routes.{IsRandomized};
@@ -88,6 +88,13 @@ impl<'a> Routes<'a> {
             }
         }
         None
+    }
+
+    /// Whether random headers are put before packets at any link.
+    pub(crate) fn is_ever_randomized(&self) -> bool
+        ensures { result ≡ false → IsNeverRandomized (routes_in self.now) }
+    {
+        self.first_randomized().is_some()
     }
 
     /// Whether random headers are put before packets at a link.

@@ -1,8 +1,8 @@
 //! What would mend a refused walk.
 ghost use Rattle.std.specs.Prelude.{◌≡◌, true, false, IfOk, MatchOption};
-ghost use Rattle.c104_interval.specs.declared.intervals.Select.TheVariants.{Discard, Sink};
 ghost use Rattle.c104_describe.specs.PlanImage.{Fits};
-ghost use Rattle.c104_check.specs.Mends.{IsMend, NoMend};
+ghost use Rattle.c104_check.specs.Distances.{IsNearestMend};
+ghost use Rattle.c104_check.specs.Mends.{IsFollowedBy, NoMend};
 ghost use Rattle.c104_check.specs.Routes.{SwitchPort as ThePort, routes_of};
 ghost use Rattle.c104_check.specs.Walks.{is_met};
 
@@ -28,9 +28,11 @@ pub struct Mend {
     pub select: Select,
 }
 
-/// What would mend a refused walk: at the last of its inputs from which some group leads the header to its
-/// owner, the first such group; and a header without an owner is to be dropped. A random header is to be discarded at
-/// the last input, whatever becomes there of others.
+/// What would mend a refused walk: at the last of its inputs from which some group leads the header to its owner, the
+/// nearest such group, and of several that are as near the one of the lowest link. How near a group is goes by the
+/// fewest links over which wires lead to the owner from the most distant of its links, whatever switches select. A
+/// header without an owner is to be dropped, and a random header is to be discarded, at the last input of the walk,
+/// whatever becomes there of others.
 ///
 /// None where no group does at any input of the walk. It fails only when out of memory.
 pub fn find_mend(
@@ -41,21 +43,22 @@ pub fn find_mend(
 ) -> Result<Option<Mend>, NoMemory>
     requires { Fits image.now plan.now }
     ensures { IfOk result (λ found. MatchOption found (NoMend (routes_of plan.now image.now) shown.now)
-        (IsMend (routes_of plan.now image.now) shown.now)) }
+        (IsNearestMend (routes_of plan.now image.now) shown.now)) }
 {
     let routes = Routes::new(alloc, plan, image)?;
     let kind = routes.walk_kind(alloc, shown)?;
     match kind.goal(routes.owner(shown.header)) {
         Some(Goal::Owner(owner)) => routes.mend_owned(alloc, shown, kind, owner),
-        Some(Goal::Portal) => Ok(mend_random(shown)),
-        None => Ok(mend_stray(shown)),
+        Some(Goal::Portal) => Ok(mend_end(shown, Select::Discard)),
+        None => Ok(mend_end(shown, Select::Sink)),
     }
 }
 
 impl<'a> Routes<'a> {
     ghost use Rattle.std.specs.Prelude.{◌≡◌, ◌<◌, ◌≤◌, ◌↔◌, ℕ, length, Some, IfOk, IsTrue, MatchOption};
     ghost use Rattle.c104_regs.specs.declared.registers.TheConstants.{LINKS as THE_LINKS};
-    ghost use Rattle.c104_check.specs.Mends.{GroupLeads, IsWalkKind, IsMend, LeadsBy, NoGroupLeads, NoMend, goal_of};
+    ghost use Rattle.c104_check.specs.Distances.{IsNearestMend};
+    ghost use Rattle.c104_check.specs.Mends.{GroupLeads, IsWalkKind, LeadsBy, NoGroupLeads, NoMend, goal_of};
     ghost use Rattle.c104_check.specs.Routes.{owner as owner_of};
     ghost use Rattle.c104_check.specs.Shown.{Comes};
     ghost use Rattle.c104_check.specs.declared.walks.Goal.TheVariants.{Owner};
@@ -72,12 +75,12 @@ impl<'a> Routes<'a> {
         requires kind { IsWalkKind (routes_in self.now) shown.now kind }
         requires owned { goal_of kind (owner_of (routes_in self.now) shown.now.header) ≡ Some (Owner owner) }
         ensures { IfOk result (λ found. MatchOption found (NoMend (routes_in self.now) shown.now)
-            (IsMend (routes_in self.now) shown.now)) }
+            (IsNearestMend (routes_in self.now) shown.now)) }
     {
         let walk = shown.walk.as_slice();
         for followers in 0..walk.len() {
             let at = walk[walk.len() - 1 - followers];
-            if let Some(link) = self.first_leading(alloc, shown.header, owner, at.switch)? {
+            if let Some(link) = self.nearest_leading(alloc, shown.header, owner, at.switch)? {
                 let select = Select::Link(link as u8);
                 return Ok(Some(Mend { at, select }));
             }
@@ -86,7 +89,7 @@ impl<'a> Routes<'a> {
     }
 
     /// The first link of the first group of a switch that leads a header to its owner.
-    fn first_leading(
+    pub(crate) fn first_leading(
         &self,
         alloc: Global,
         header: u32,
@@ -110,7 +113,7 @@ impl<'a> Routes<'a> {
     }
 
     /// Whether all links of a group lead a header to its owner.
-    fn all_lead(
+    pub(crate) fn all_lead(
         &self,
         alloc: Global,
         header: u32,
@@ -175,25 +178,11 @@ impl<'a> Routes<'a> {
     }
 }
 
-/// What would mend the walk of a header without an owner.
-fn mend_stray(shown: &Shown) -> Option<Mend>
+/// What would mend a walk at its last input, where its header is to select so.
+fn mend_end(shown: &Shown, select: Select) -> Option<Mend>
     ensures { MatchOption result ((p : ThePort) → is_met p shown.now.walk ≡ false)
-        (λ mend. (is_met mend.at shown.now.walk ≡ true) × (mend.select ≡ Sink)) }
-{
-    let walk = shown.walk.as_slice();
-    if walk.is_empty() {
-        return None;
-    }
-    Some(Mend {
-        at: walk[0],
-        select: Select::Sink,
-    })
-}
-
-/// What would mend the walk of a random header.
-fn mend_random(shown: &Shown) -> Option<Mend>
-    ensures { MatchOption result ((p : ThePort) → is_met p shown.now.walk ≡ false)
-        (λ mend. (is_met mend.at shown.now.walk ≡ true) × (mend.select ≡ Discard)) }
+        (λ mend. (is_met mend.at shown.now.walk ≡ true) × IsFollowedBy shown.now.walk 0 mend.at
+        × (mend.select ≡ select)) }
 {
     let walk = shown.walk.as_slice();
     if walk.is_empty() {
@@ -201,6 +190,6 @@ fn mend_random(shown: &Shown) -> Option<Mend>
     }
     Some(Mend {
         at: walk[walk.len() - 1],
-        select: Select::Discard,
+        select,
     })
 }

@@ -30,7 +30,7 @@ impl Model for MetInputs {
 }
 
 impl MetInputs {
-    /// None, with room for the marks of so many places.
+    /// None, with room for the marks of this many places.
     pub(crate) fn new(alloc: Global, places: usize) -> Result<MetInputs, AllocError>
         ensures { IfOk result (λ met. met ≡ []) }
     {

@@ -38,7 +38,7 @@ impl<'a> Routes<'a> {
     }
 }
 
-/// Whether a header is a random one by what is set at a link, where there are so many headers: how far it is
+/// Whether a header is a random one by what is set at a link, where there are this many headers: how far it is
 /// above the base, counted round, is below how many there are.
 fn is_random(count: u32, settings: &Settings, header: u32) -> bool
     requires some { 0 < count }

@@ -163,12 +163,12 @@ impl<'a> Routes<'a> {
         }
     }
 
-    /// Whether a header may leave an input by a link.
+    /// Whether a header may leave an input by a link. What is no header of the network doesn't.
     pub(crate) fn may_take(&self, header: u32, at: SwitchPort, link: SwitchPort) -> bool
         requires { IsInput (length (routes_in self.now).settings) at }
         ensures { IsTrue result ↔ MayTake (routes_in self.now) header at link }
     {
-        if at.switch != link.switch {
+        if header >= self.header_count() || at.switch != link.switch {
             return false;
         }
         match self.selected(header, at) {

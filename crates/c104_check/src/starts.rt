@@ -310,7 +310,7 @@ impl<'a> Routes<'a> {
         self.add_portals(header, at, inputs, &mut walked, portals)
     }
 
-    /// The same where it comes to portals over at most so many switches. What it meets from an input that was
+    /// The same where it comes to portals over at most this many switches. What it meets from an input that was
     /// walked from has joined already.
     fn add_portals(
         &self,

@@ -5,7 +5,7 @@ use Rattle.c104_check.specs.Ranks.{rank_at, rank_in}
 use Rattle.c104_check.specs.Routes.{Routes, header_count, routes_of}
 use Rattle.c104_check.specs.Trails.{routes_in}
 use Rattle.c104_check.specs.ChannelDependencies.{AreRanksWithin, IsRanking, input_count}
-use Rattle.c104_check.proofs.AcyclicLemmas.{never_both}
+use Rattle.c104_check.proofs.AcyclicLemmas.{by_labels, never_both}
 use Rattle.c104_check.proofs.TableRanks.{table_ranking, table_ranks_within}
 use Rattle.c104_check.proofs.cycles.find_cycle.Goals as goal
 
@@ -32,3 +32,9 @@ returns-in-None-clause-never_both c = never_both (routes_of c.args.plan.now c.ar
 
 pub returns-clause-never_both : goal.returns-clause-never_both
 returns-clause-never_both c = never_both (routes_of c.args.plan.now c.args.image.now)
+
+pub returns-in-None-clause-plain : goal.returns-in-None-clause-plain
+returns-in-None-clause-plain c = by_labels (routes_of c.args.plan.now c.args.image.now)
+
+pub returns-clause-plain : goal.returns-clause-plain
+returns-clause-plain c = by_labels (routes_of c.args.plan.now c.args.image.now)

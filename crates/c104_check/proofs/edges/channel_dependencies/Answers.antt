@@ -2,11 +2,12 @@ use Rattle.std.proofs.Common.{◌≡◌, ◌∙◌, ◌*◌, List, Option, ap, l
 use Rattle.c104_check.specs.Dependencies.{AreDependencies, AreListedBelow, Dependency}
 use Rattle.c104_check.specs.Edges.{AreAllEdges, AreEdgesBefore, DependencyEdge}
 use Rattle.c104_check.specs.Routes.{Routes, header_count, routes_of}
+use Rattle.c104_check.proofs.AcyclicLemmas.{by_labels}
 use Rattle.c104_check.proofs.EdgeLemmas.{all_edges}
 use Rattle.c104_check.proofs.edges.channel_dependencies.Goals as goal
 
-pub returns : goal.returns
-returns c =
+pub returns-clause-edges : goal.returns-clause-edges
+returns-clause-edges c =
     let routes = routes_of c.args.plan.now c.args.image.now in
     let table = c.in_ok-table.table.items in
     let is = c.in_ok-routes.ensures.routes in
@@ -16,3 +17,6 @@ returns c =
     let edges = subst (λ (xs : List (Option Dependency)). AreEdgesBefore xs (length xs) c.in_ok-edges.edges.items) c.as_slice.ensures.value c.in_ok-edges.ensures in
     subst (λ (xs : List DependencyEdge). AreAllEdges routes xs) (sym c.new-2.ensures)
     (all_edges routes table c.in_ok-edges.edges.items c.in_ok-routes.ensures.network c.requires.accepted dependencies listed size edges)
+
+pub returns-clause-plain : goal.returns-clause-plain
+returns-clause-plain c = by_labels (routes_of c.args.plan.now c.args.image.now)

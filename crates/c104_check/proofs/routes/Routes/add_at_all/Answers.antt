@@ -1,5 +1,5 @@
 use Rattle.std.proofs.Common.{refl, slice_index_or}
-use Rattle.c104_check.specs.ChannelDependencies.{MayArrive}
+use Rattle.c104_check.specs.ChannelDependencies.{MayComeBy}
 use Rattle.c104_check.specs.Dependencies.{AreListedAt}
 use Rattle.c104_check.specs.Routes.{SwitchPort}
 use Rattle.c104_check.specs.Trails.{routes_in}
@@ -13,7 +13,7 @@ pub add_at_input-requires-clause-arrives : goal.add_at_input-requires-clause-arr
 add_at_input-requires-clause-arrives c =
     let port : SwitchPort = record { switch = 0; link = 0 } in
     let xs = c.args.inputs.now in
-    All-found (MayArrive (routes_in c.args.self.now) c.args.header) xs (slice_index_or xs c.loop-at.at-index port) c.requires.arrive (met_at xs xs c.loop-at.at-index port refl c.loop-at-test.true)
+    All-found (MayComeBy (routes_in c.args.self.now) c.args.header) xs (slice_index_or xs c.loop-at.at-index port) c.requires.arrive (met_at xs xs c.loop-at.at-index port refl c.loop-at-test.true)
 
 pub loop-at-preserved : goal.loop-at-preserved
 loop-at-preserved c =

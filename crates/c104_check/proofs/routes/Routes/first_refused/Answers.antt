@@ -12,7 +12,7 @@ returns-in-Some c =
     let routes = routes_in c.args.self.now in
     let starts = c.add_starts.new.starts.items in
     let first = subst (λ (o : Option Refusal). MatchOption o (AllLand routes c.as_slice-3.result.now) (IsFirstIn routes c.as_slice-3.result.now)) c.in-Some.is c.in_ok-refusal.ensures in
-    told_first routes starts c.in-Some.refusal c.in_ok-random.ensures.starts (subst (λ (xs : List Start). IsFirstIn routes xs c.in-Some.refusal) c.as_slice-3.ensures.value first)
+    told_first routes starts c.in-Some.refusal c.requires c.in_ok-random.ensures.starts (subst (λ (xs : List Start). IsFirstIn routes xs c.in-Some.refusal) c.as_slice-3.ensures.value first)
 
 pub returns : goal.returns
 returns c =

@@ -1,11 +1,8 @@
 use Rattle.std.proofs.Common.{length, sym, ap, ◌∙◌, arith}
 use Rattle.c104_check.specs.Parts.{HomesFirst}
 use Rattle.c104_check.specs.Trails.{routes_in}
-use Rattle.c104_check.proofs.Homeless.{first_homeless, homes_next, homes_none, never_random}
+use Rattle.c104_check.proofs.Homeless.{first_homeless, homes_next, homes_none}
 use Rattle.c104_check.proofs.routes.Routes.refused_random.Goals as goal
-
-pub returns-then-header-header_count : goal.returns-then-header-header_count
-returns-then-header-header_count c = never_random (routes_in c.args.self.now) c.args.header (length (routes_in c.args.self.now).ranges) (omega (arith, c.if-header-header_count.true, c.header_count.ensures))
 
 pub loop-terminal-preserved : goal.loop-terminal-preserved
 loop-terminal-preserved c = homes_next (routes_in c.args.self.now) c.args.header c.loop-terminal.terminal c.loop-terminal.invariant (homes_none (routes_in c.args.self.now) c.args.header c.loop-terminal.terminal c.in_ok-refusal.refusal (sym c.is_some.ensures ∙ c.if-is_some.false) c.in_ok-refusal.ensures)
