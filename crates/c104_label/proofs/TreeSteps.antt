@@ -14,6 +14,7 @@ use Rattle.c104_label.specs.LabelRows.{label_row, label_table, with_row, with_ro
 use Rattle.c104_label.specs.TreeLabels.{AreLinks, Net, Place, child_pieces, count_at, first_at, forest_labels, labels_on, net_of, own_labels, place, place_end, place_of, rows_from, switch_table, table_at, tree_labels, tree_range, tree_rows}
 use Rattle.c104_label.specs.TreeImages.{IsTreeImage, most_labels, plan_labels, switch_place, total_count}
 use Rattle.c104_label.proofs.TreeAdded.{own_all, rows_front, rows_last}
+use Rattle.c104_label.proofs.TreeOrder.{in_order}
 use Rattle.c104_label.proofs.TreePlaces.{place_of_within}
 use Rattle.c104_label.proofs.TreeSums.{labels_sum}
 use Rattle.c104_label.proofs.TreeTables.{place_known, place_links, rows_are, standing, tree_tables}
@@ -102,6 +103,7 @@ image_done E plan root forest ranges tables given (Ok image) kept spans is_range
   tree = spans;
   is = is ∙ ap (λ rs. labelled_image plan rs given) is_ranges ∙ ap (labelled_image plan (map (tree_range plan root forest) plan.terminals)) (same ∙ is_tables);
   labels = labels_sum plan (wiring plan kept) root forest spans;
+  order = in_order (own_labels (net_of plan)) root forest;
   tables = tree_tables plan (wiring plan kept) root forest spans;
 }
 image_done E plan root forest ranges tables given (Err e) kept spans is_ranges is_tables same is = tt

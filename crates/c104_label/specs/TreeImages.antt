@@ -14,7 +14,7 @@ use Rattle.c104_label.specs.declared.faults.LabelFault.{LabelFault}
 use Rattle.c104_label.specs.declared.faults.LabelFault.TheVariants as fault
 use Rattle.c104_label.specs.Forests.{Forest, IsConnected, IsCutOff, IsSpanning, child, empty, ends_of}
 use Rattle.c104_label.specs.LabelRows.{AreLabelRows}
-use Rattle.c104_label.specs.TreeLabels.{Place, net_of, own_labels, place_end, place_of, switch_table, tree_labels, tree_range, tree_rows, tree_table}
+use Rattle.c104_label.specs.TreeLabels.{AreInOrder, Place, net_of, own_labels, place_end, place_of, switch_table, tree_labels, tree_range, tree_rows, tree_table}
 
 -- how many labels a plan may have: as many as there are headers of one byte or of two
 abbrev pub most_labels : Plan → ℕ
@@ -60,11 +60,12 @@ AreTreeTables plan root forest =
     × SelectsInTree plan root forest s p (switch_table plan root forest s)
 
 -- the image of a plan's tree: at each port that has a wire the table of its switch, and for each terminal its range,
--- where the labels are as many as the terminals have together
+-- where the labels are as many as the terminals have together, numbered as a depth-first visit meets the switches
 pub record IsTreeImage (plan : Plan) (root : ℕ) (forest : Forest) (image : Image) : Type 0 where
   pub tree : IsSpanning plan root forest
   pub is : image ≡ labelled_image plan (map (tree_range plan root forest) plan.terminals) (map (switch_table plan root forest) (range_with_len 0 (length plan.switches)))
   pub labels : plan_labels plan root forest ≡ total_count plan.terminals
+  pub order : AreInOrder (own_labels (net_of plan)) root forest
   pub tables : AreTreeTables plan root forest
 
 -- why a plan isn't labelled as a tree from a root: wires don't lead to each switch; or they do, but there are more

@@ -1,7 +1,7 @@
 -- The labels of a tree, by Santoro and Khatib. A depth-first visit numbers them: at each switch its own terminals,
 -- in ascending order of links, have the next labels, each as many as its count, and then come those of the
 -- subtrees behind its links. So the labels of a subtree are one interval.
-use Rattle.std.specs.Prelude.{ℕ, ◌<◌, ◌+◌, ◌-◌, ◌==◌, List, [], ◌∷◌, ◌++◌, slice_get, slice_index_or, if◌then◌else◌, Option, Some, None}
+use Rattle.std.specs.Prelude.{◌≡◌, ℕ, ◌<◌, ◌+◌, ◌-◌, ◌==◌, false, List, [], ◌∷◌, ◌++◌, slice_get, slice_index_or, if◌then◌else◌, Option, Some, None}
 use Rattle.std.specs.List.{range_with_len}
 use Rattle.c104_interval.specs.declared.intervals.Row.{Row}
 use Rattle.c104_interval.specs.declared.intervals.Table.{Table}
@@ -11,7 +11,7 @@ use Rattle.c104_describe.specs.declared.ports.Port.{Port}
 use Rattle.c104_describe.specs.declared.ports.Port.TheVariants as port
 use Rattle.c104_describe.specs.declared.plans.Terminal.{Terminal}
 use Rattle.c104_describe.specs.Plans.{Plan}
-use Rattle.c104_label.specs.Forests.{Ends, Forest, child, empty, ends_of, links}
+use Rattle.c104_label.specs.Forests.{Ends, Forest, child, empty, ends_of, is_met, links, switches}
 use Rattle.c104_label.specs.LabelRows.{kept_rows, label_row, label_table}
 
 -- how the links are wired, and how many labels each terminal has
@@ -81,6 +81,17 @@ place_in own s first (child l r b below rest) =
 -- and in a tree. The root has no parent: no label is above it, and its link there is any
 abbrev pub place_of : (ℕ → ℕ) → ℕ → Forest → ℕ → Option Place
 place_of own root forest s = if s == root then Some (place 0 0 forest) else place_in own s (own root) forest
+
+-- how many labels these switches have together
+abbrev pub labels_together : (ℕ → ℕ) → List ℕ → ℕ
+labels_together own [] = 0
+labels_together own (s ∷ ss) = own s + labels_together own ss
+
+-- labels are numbered as switches are visited: the first label of a switch is how many those have together that are
+-- visited before it
+unfoldable pub AreInOrder : (ℕ → ℕ) → ℕ → Forest → Type 0
+AreInOrder own root forest =
+    (before after : List ℕ) (s : ℕ) (p : Place) → root ∷ switches forest ≡ before ++ s ∷ after → is_met before s ≡ false → place_of own root forest s ≡ Some p → p.first ≡ labels_together own before
 
 -- where the labels of a switch's subtree end
 abbrev pub place_end : (ℕ → ℕ) → ℕ → Place → ℕ
