@@ -23,7 +23,7 @@ none_from p [] n k d below is none = absurd (omega (arith, below))
 none_from p (x ∷ xs) n zero d below is none = clash_at n (p x) (position_from p (n + 1) xs) is none
 none_from p (x ∷ xs) n (suc k) d below is none = none_from p xs (n + 1) k d (omega (arith, below)) is (later n (p x) (position_from p (n + 1) xs) none)
 
-both_true : (a b : Bool) → a ≡ true → b ≡ true → (a && b) ≡ true
+pub both_true : (a b : Bool) → a ≡ true → b ≡ true → (a && b) ≡ true
 both_true a b x y = rw (x, y) refl
 
 first_true : (a b : Bool) → a ≡ true → (a || b) ≡ true
@@ -45,7 +45,7 @@ alike_self x =
     both_true (is_same x.bold x.bold && is_same x.dashed x.dashed) (is_same x.red x.red && is_same x.portal x.portal)
     (both_true (is_same x.bold x.bold) (is_same x.dashed x.dashed) (same_self x.bold) (same_self x.dashed)) (both_true (is_same x.red x.red) (is_same x.portal x.portal) (same_self x.red) (same_self x.portal))
 
-beside_self : (image : Image) (w : DrawnWire) → is_beside image w w ≡ true
+pub beside_self : (image : Image) (w : DrawnWire) → is_beside image w w ≡ true
 beside_self image w =
     both_true _ _ (both_true _ _ (mates_self image w.wire.here) (mates_self image w.wire.there)) (both_true _ _ (alike_self w.onward) (alike_self w.back))
 

@@ -9,7 +9,7 @@ use Rattle.c104_describe.specs.declared.ports.Wire.{Wire}
 use Rattle.c104_check.specs.declared.ports.SwitchPort.{SwitchPort}
 use Rattle.c104_check.specs.Walks.{is_met, port_of}
 use Rattle.c104_draw.specs.Drawings.{DrawnWire, Stroke, drawn_nodes, drawn_wires}
-use Rattle.c104_draw.specs.Edges.{Drawing, first_beside}
+use Rattle.c104_draw.specs.Edges.{AreFirsts, Drawing, first_beside}
 
 -- the way to a port is one to an input of the cycle
 abbrev pub is_in_cycle : List SwitchPort → Port → Bool
@@ -32,3 +32,4 @@ pub record IsCycleDrawing (plan : Plan) (image : Image) (inputs : List SwitchPor
   pub wires : drawing.wires ≡ map (cycle_wire inputs) (drawn_wires plan)
   -- each wire in one edge
   pub edges : map Some drawing.edges ≡ map (first_beside image drawing.wires) drawing.wires
+  pub firsts : AreFirsts drawing.edges

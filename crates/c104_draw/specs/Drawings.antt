@@ -10,7 +10,7 @@ use Rattle.c104_describe.specs.declared.ports.Port.{Port}
 use Rattle.c104_describe.specs.declared.ports.Wire.{Wire}
 use Rattle.c104_describe.specs.Wiring.{wires}
 use Rattle.c104_check.specs.Parts.{IsDiscardedAt, IsTakenAsOwn, IsTakenAsRandom}
-use Rattle.c104_check.specs.Routes.{Routes, owner}
+use Rattle.c104_check.specs.Routes.{Routes, header_owner}
 use Rattle.c104_check.specs.declared.ports.SwitchPort.{SwitchPort}
 use Rattle.c104_check.specs.Walks.{is_met, port_of}
 pub use Rattle.c104_draw.specs.declared.drawings.DrawnNode.{DrawnNode}
@@ -55,10 +55,10 @@ pub record Marking : Type 0 where
   pub header : ℕ
   pub walk : List SwitchPort
 
--- the owner of the header
+-- the owner of the header, if it is a header of the network
 abbrev pub marked_owner : Option Marking → Option ℕ
 marked_owner None = None
-marked_owner (Some m) = owner m.routes m.header
+marked_owner (Some m) = header_owner m.routes m.header
 
 -- the way from a port is bold: it is a link by which the header may leave an input to which it may come as the own one
 -- of packets

@@ -48,6 +48,10 @@ is_beside image w x =
 abbrev pub first_beside : Image → List DrawnWire → DrawnWire → Option ℕ
 first_beside image wires x = position (λ w. is_beside image w x) wires
 
+-- the first wire of an edge is its own first: so each edge is drawn at one wire alone
+abbrev pub AreFirsts : List ℕ → Type 0
+AreFirsts edges = (k j : ℕ) → slice_get edges k ≡ Some j → slice_get edges j ≡ Some j
+
 -- a picture: its nodes, its wires, and for each wire the number of the first wire that is drawn with it as one edge
 pub record Drawing : Type 0 where
   pub nodes : List DrawnNode
@@ -64,6 +68,7 @@ pub record IsDrawing (plan : Plan) (image : Image) (marking : Option Marking) (d
   pub strokes : AllByRecursion (IsDrawn marking) drawing.wires
   -- each wire in one edge
   pub edges : map Some drawing.edges ≡ map (first_beside image drawing.wires) drawing.wires
+  pub firsts : AreFirsts drawing.edges
 
 -- the inputs of the walk that a fault tells, if it tells one
 abbrev pub fault_walk : Option CheckFault → List SwitchPort

@@ -3,7 +3,9 @@
 use crate::drawings::{DrawnNode, DrawnWire, Node, Stroke};
 use crate::frames::{Frame, Place};
 use crate::pictures::Drawing;
+use crate::weights::unmarked_text;
 use c104_describe::{Image, Plan, Port, Wire};
+use c104_token::NoMemory;
 use std::alloc::{AllocError, Global};
 
 /// What stands before the nodes of all pictures.
@@ -13,12 +15,6 @@ const HEAD: &str = "digraph \"c104\" {
   edge [fontname=\"Helvetica\", fontsize=9, dir=none, arrowsize=0.7, labeldistance=1.5]
 ";
 
-/// What stands besides before nodes whose places are given.
-const PLACED: &str = "  graph [layout=neato, inputscale=72, splines=line]\n";
-
-/// What stands besides where many terminals stand round a switch.
-const CROWDED: &str = "  edge [labeldistance=6, labelangle=-8]\n";
-
 /// What stands below the title of a picture in which a header's ways are dashed.
 const LEGEND: &str = "\\ndashed: as a random header, up to a diamond";
 
@@ -26,17 +22,20 @@ const LEGEND: &str = "\\ndashed: as a random header, up to a diamond";
 ///
 /// Each node and each edge has a line, and each name is quoted. A mesh stands on its grid, a cube on its drawn
 /// cube, and all else hangs from the root of its tree, or else from the first switch. Link numbers stand at both
-/// ends of an edge; wires that are drawn as one have theirs in the same order at both. Where a header is drawn as
-/// a random one too, a line below the title says how.
+/// ends of an edge; wires that are drawn as one have theirs in the same order at both. The one number of an edge to a
+/// terminal stands at the switch, or where the terminal hangs from it, at the terminal. Where a header is drawn as a
+/// random one too, a line below the title says how. Of a labelled tree the wires are wide over which its labels lead,
+/// and all others are gray.
 pub fn drawing_text(
     alloc: Global,
     plan: &Plan,
     image: &Image,
     drawing: &Drawing,
     title: &str,
-) -> Result<String, AllocError> {
+) -> Result<String, NoMemory> {
     let frame = Frame::of(alloc, plan)?;
-    framed_text(alloc, plan, image, drawing, title, &frame)
+    let text = framed_text(alloc, plan, image, drawing, title, &frame)?;
+    Ok(text)
 }
 
 /// The same where the nodes stand in a frame.
@@ -51,7 +50,15 @@ fn framed_text(
     let mut text = String::new(alloc);
     add_head(alloc, &mut text, frame, title, legend(drawing))?;
     add_nodes(alloc, &mut text, plan, image, drawing, frame)?;
-    add_edges(alloc, &mut text, plan, drawing, frame, !title.is_empty())?;
+    add_edges(
+        alloc,
+        &mut text,
+        plan,
+        image,
+        drawing,
+        frame,
+        !title.is_empty(),
+    )?;
     text.push_str("}\n")?;
     Ok(text)
 }
@@ -65,12 +72,7 @@ fn add_head(
     legend: &str,
 ) -> Result<(), AllocError> {
     text.push_str(HEAD)?;
-    if !frame.hangs() {
-        text.push_str(PLACED)?;
-    }
-    if frame.is_crowded() {
-        text.push_str(CROWDED)?;
-    }
+    text.push_str(frame.layout())?;
     if !title.is_empty() {
         let line = format!(in alloc; "  label=\"{title}{legend}\"\n")?;
         text.push_str(line.as_str())?;
@@ -162,13 +164,14 @@ fn add_edges(
     alloc: Global,
     text: &mut String,
     plan: &Plan,
+    image: &Image,
     drawing: &Drawing,
     frame: &Frame,
     marked: bool,
 ) -> Result<(), AllocError> {
     for (number, wire) in drawing.wires().iter().enumerate() {
         if drawing.edges().get(number) == Some(&number) {
-            let line = edge_line(alloc, plan, drawing, number, wire, frame, marked)?;
+            let line = edge_line(alloc, plan, image, drawing, number, wire, frame, marked)?;
             text.push_str(line.as_str())?;
         }
     }
@@ -179,6 +182,7 @@ fn add_edges(
 fn edge_line(
     alloc: Global,
     plan: &Plan,
+    image: &Image,
     drawing: &Drawing,
     number: usize,
     wire: &DrawnWire,
@@ -186,13 +190,15 @@ fn edge_line(
     marked: bool,
 ) -> Result<String, AllocError> {
     let turned = frame.is_lower(wire.wire.here, wire.wire.there);
-    let level = frame.is_level(wire.wire.here, wire.wire.there);
     let wire = if turned { wire.turned() } else { *wire };
     let labels = end_labels(alloc, drawing, number, turned)?;
-    wire_line(alloc, plan, wire, labels.as_str(), level, marked)
+    let unmarked = unmarked_text(plan, image, wire.wire, marked);
+    let layout = frame.edge_layout(wire.wire.here, wire.wire.there);
+    wire_line(alloc, plan, wire, labels.as_str(), unmarked, layout)
 }
 
-/// What stands at the two ends of an edge: the links of its wires.
+/// What stands at the two ends of an edge: the links of its wires. Below a switch many edges begin side by side, so
+/// the number of one to a terminal stands where it ends.
 fn end_labels(
     alloc: Global,
     drawing: &Drawing,
@@ -203,33 +209,36 @@ fn end_labels(
     let tail = tail.as_str();
     let head = links_text(alloc, drawing, edge, !turned)?;
     let head = head.as_str();
+    if turned && head.is_empty() {
+        return format!(in alloc; "taillabel=\"\", headlabel=\"{tail}\"");
+    }
     format!(in alloc; "taillabel=\"{tail}\", headlabel=\"{head}\"")
 }
 
-/// The line of an edge from here to there, with these labels at its ends.
+/// The line of an edge from here to there, with these labels at its ends; `unmarked` is how it is drawn where neither
+/// way is marked.
 fn wire_line(
     alloc: Global,
     plan: &Plan,
     wire: DrawnWire,
     labels: &str,
-    level: bool,
-    marked: bool,
+    unmarked: &str,
+    layout: &str,
 ) -> Result<String, AllocError> {
     let tail = port_name(plan, wire.wire.here);
     let head = port_name(plan, wire.wire.there);
-    let style = style_text(wire.onward, wire.back, marked);
+    let style = style_text(wire.onward, wire.back, unmarked);
     let dashes = dashes_text(wire.onward, wire.back);
     let head_shape = head_text(wire.onward);
     let tail_shape = tail_text(wire.back);
-    let level = if level { ", constraint=false" } else { "" };
     format!(in alloc;
-        "  \"{tail}\" -> \"{head}\" [{labels}{style}{dashes}{head_shape}{tail_shape}{level}]\n"
+        "  \"{tail}\" -> \"{head}\" [{labels}{style}{dashes}{head_shape}{tail_shape}{layout}]\n"
     )
 }
 
 /// How an edge is drawn, by its two ways: marked ones wide and with an arrow, and red those of a refused walk. Where
 /// one of two is red, its half of the edge is.
-fn style_text(onward: Stroke, back: Stroke, marked: bool) -> &'static str {
+fn style_text(onward: Stroke, back: Stroke, unmarked: &str) -> &str {
     match (is_marked(onward), is_marked(back)) {
         (true, true) => both_text(onward.red, back.red),
         (true, false) => {
@@ -246,7 +255,7 @@ fn style_text(onward: Stroke, back: Stroke, marked: bool) -> &'static str {
                 ", dir=back, penwidth=3"
             }
         }
-        (false, false) => { if marked { ", color=gray60" } else { "" } }
+        (false, false) => unmarked,
     }
 }
 

@@ -3,7 +3,7 @@ ghost use Rattle.std.specs.Prelude.{◌≡◌, ◌<◌, map, slice_get, Some, If
 ghost use Rattle.c104_crossbar.specs.Groups.{group_contains};
 ghost use Rattle.c104_regs.specs.Groups.{continues_at};
 ghost use Rattle.c104_describe.specs.PlanImage.{AreSettings};
-ghost use Rattle.c104_draw.specs.Edges.{are_alike, are_grouped, are_mates, first_beside, is_beside};
+ghost use Rattle.c104_draw.specs.Edges.{AreFirsts, are_alike, are_grouped, are_mates, first_beside, is_beside};
 
 use crate::drawings::{DrawnWire, Stroke};
 use c104_crossbar::Group;
@@ -18,8 +18,9 @@ pub(crate) fn edges_of(
     image: &Image,
     wires: &[DrawnWire],
 ) -> Result<Vec<usize>, NoMemory>
-    ensures { IfOk result (λ edges.
+    ensures edges { IfOk result (λ edges.
         map Some edges.items ≡ map (first_beside image.now wires.now) wires.now) }
+    ensures firsts { IfOk result (λ edges. AreFirsts edges.items) }
 {
     let mut edges = Vec::new(alloc);
     for wire in wires {
@@ -49,7 +50,7 @@ fn is_beside(image: &Image, wire: &DrawnWire, other: &DrawnWire) -> bool
 }
 
 /// Whether two ports are one, or links of one group.
-fn are_mates(image: &Image, port: Port, other: Port) -> bool
+pub(crate) fn are_mates(image: &Image, port: Port, other: Port) -> bool
     ensures { result ≡ are_mates image.now port other }
 {
     match (port, other) {

@@ -4,6 +4,18 @@ ghost use Rattle.std.specs.Prelude.{◌≤◌};
 use c104_describe::{Plan, Port, Shape};
 use std::alloc::{AllocError, Global};
 
+/// What stands before nodes on a grid.
+const GRID: &str = "  graph [layout=neato, inputscale=72, splines=line]\n";
+
+/// What stands before the nodes of a cube, of which some lie between two others: edges go round them.
+const CUBE: &str = "  graph [layout=neato, inputscale=72, splines=true, esep=\"+3\"]\n";
+
+/// What stands before nodes whose places are given, where many terminals stand round a switch: link numbers must
+/// stand further from it.
+const CROWDED: &str = "  graph [layout=neato, inputscale=72, splines=line]
+  edge [labeldistance=6, labelangle=-8]
+";
+
 /// How the nodes of a picture are placed.
 #[derive(Drop)]
 pub(crate) enum Frame {
@@ -63,10 +75,10 @@ const DIRECTIONS: [(usize, usize); 32] = [
 const CORNERS: [(usize, usize); 6] = [
     (100, 0),
     (0, 100),
-    (45, 35),
-    (235, 90),
-    (110, 235),
-    (520, 200),
+    (25, 35),
+    (235, 70),
+    (70, 270),
+    (490, 330),
 ];
 
 impl Frame {
@@ -86,12 +98,15 @@ impl Frame {
         match self {
             Frame::Grid(columns, rows, terminals) => {
                 Some(grid_corner(*columns, *rows, switch, grid_edge(*terminals)).moved(
-                    *terminals,
+                    grid_radius(*terminals),
                     (100, 100),
                 ))
             }
             Frame::Cube(terminals) => {
-                Some(cube_corner(switch, cube_edge(*terminals)).moved(*terminals, (100, 100)))
+                Some(cube_corner(switch, cube_edge(*terminals)).moved(
+                    cube_radius(*terminals),
+                    (100, 100),
+                ))
             }
             Frame::Hanging(_) => None,
         }
@@ -104,7 +119,8 @@ impl Frame {
                 let switch = terminal / (*terminals).max(1);
                 let way = direction(terminal % (*terminals).max(1), *terminals, &[20, 28, 12, 4]);
                 Some(grid_corner(*columns, *rows, switch, grid_edge(*terminals)).moved(
-                    *terminals, way,
+                    grid_radius(*terminals),
+                    way,
                 ))
             }
             Frame::Cube(terminals) => {
@@ -112,9 +128,9 @@ impl Frame {
                 let way = direction(
                     terminal % (*terminals).max(1),
                     *terminals,
-                    &[28, 12, 30, 10],
+                    cube_directions(*terminals),
                 );
-                Some(cube_corner(switch, cube_edge(*terminals)).moved(*terminals, way))
+                Some(cube_corner(switch, cube_edge(*terminals)).moved(cube_radius(*terminals), way))
             }
             Frame::Hanging(_) => None,
         }
@@ -130,21 +146,39 @@ impl Frame {
     }
 
     /// Whether two ports hang equally low.
-    pub(crate) fn is_level(&self, port: Port, other: Port) -> bool {
+    fn is_level(&self, port: Port, other: Port) -> bool {
         self.hangs() && !self.is_lower(port, other) && !self.is_lower(other, port)
     }
 
-    /// Whether so many terminals stand round each switch that link numbers must stand further from it.
-    pub(crate) fn is_crowded(&self) -> bool {
+    /// What stands before the nodes for their layout.
+    pub(crate) fn layout(&self) -> &'static str {
         match self {
-            Frame::Grid(_, _, terminals) => *terminals > 8,
-            Frame::Cube(terminals) => *terminals > 8,
-            Frame::Hanging(_) => false,
+            Frame::Grid(_, _, 0..=8) => GRID,
+            Frame::Cube(0..=8) => CUBE,
+            Frame::Grid(_, _, _) => CROWDED,
+            Frame::Cube(_) => CROWDED,
+            Frame::Hanging(_) => "",
+        }
+    }
+
+    /// What an edge from a port to another has for its layout.
+    pub(crate) fn edge_layout(&self, port: Port, other: Port) -> &'static str {
+        match (self, port, other) {
+            (Frame::Cube(terminals), Port::Switch(_, link), Port::Switch(_, _)) => {
+                cube_edge_layout(*terminals, link)
+            }
+            _ => {
+                if self.is_level(port, other) {
+                    ", constraint=false"
+                } else {
+                    ""
+                }
+            }
         }
     }
 
     /// Whether the nodes hang from one another.
-    pub(crate) fn hangs(&self) -> bool {
+    fn hangs(&self) -> bool {
         match self {
             Frame::Hanging(_) => true,
             _ => false,
@@ -164,22 +198,20 @@ impl Frame {
 }
 
 impl Place {
-    /// The place to which a direction leads, by how many terminals are round a switch.
-    fn moved(self, terminals: usize, way: (usize, usize)) -> Place {
+    /// The place to which a direction leads, by how far the terminals stand from their switch.
+    fn moved(self, radius: usize, way: (usize, usize)) -> Place {
         let (right, up) = way;
         Place {
             right: self
                 .right
-                .saturating_add(radius(terminals).saturating_mul(right) / 100),
-            up: self
-                .up
-                .saturating_add(radius(terminals).saturating_mul(up) / 100),
+                .saturating_add(radius.saturating_mul(right) / 100),
+            up: self.up.saturating_add(radius.saturating_mul(up) / 100),
         }
     }
 }
 
-/// How far so many terminals stand from their switch.
-fn radius(terminals: usize) -> usize
+/// How far so many terminals stand from their switch of a grid.
+fn grid_radius(terminals: usize) -> usize
     ensures { result ≤ 240 }
 {
     match terminals {
@@ -190,14 +222,48 @@ fn radius(terminals: usize) -> usize
     }
 }
 
+/// The same of a cube, whose terminals stand where no wires leave, so nearer to one another.
+fn cube_radius(terminals: usize) -> usize
+    ensures { result ≤ 240 }
+{
+    match terminals {
+        0..=2 => 50,
+        3..=4 => 70,
+        5..=8 => 90,
+        9..=16 => 120,
+        _ => 240,
+    }
+}
+
 /// How far switches of a grid stand from one another, where each has so many terminals.
 fn grid_edge(terminals: usize) -> usize {
-    2 * radius(terminals) + 70
+    2 * grid_radius(terminals) + 70
 }
 
 /// The same of the corners of a cube, between which more wires go.
 fn cube_edge(terminals: usize) -> usize {
-    3 * radius(terminals) + 70
+    3 * cube_radius(terminals) + 70
+}
+
+/// The directions of the first four terminals of a cube's switch that has so many: on the sides to which no wire leads.
+fn cube_directions(terminals: usize) -> &'static [usize] {
+    if terminals <= 2 {
+        &[28, 12]
+    } else {
+        &[26, 10, 30, 14]
+    }
+}
+
+/// Where the numbers of a wire between two switches of a cube stand, each with so many terminals: further from the
+/// switch than others, and beside the wire on a side where no other number is. The wire is that of a link at both.
+fn cube_edge_layout(terminals: usize, link: usize) -> &'static str {
+    match (terminals, link) {
+        (0..=2, 0) => ", labeldistance=3.5, labelangle=-12",
+        (3..=8, 3) => ", labeldistance=5, labelangle=12",
+        (0..=8, 5) => ", labeldistance=4.5, labelangle=7",
+        (0..=8, _) => ", labeldistance=3.5, labelangle=12",
+        (_, _) => "",
+    }
 }
 
 /// The direction of a terminal of a switch that has so many. The first four are given.

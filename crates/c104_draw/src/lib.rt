@@ -14,6 +14,7 @@ mod frames;
 mod marks;
 mod nodes;
 mod pictures;
+mod weights;
 mod wires;
 
 pub use cycles::draw_cycle;

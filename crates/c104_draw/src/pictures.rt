@@ -5,7 +5,7 @@ ghost use Rattle.c104_check.specs.Reach.{routes_for};
 ghost use Rattle.c104_check.specs.Routes.{routes_of};
 ghost use Rattle.c104_describe.specs.PlanImage.{Fits};
 ghost use Rattle.c104_draw.specs.Drawings.{drawn_nodes};
-ghost use Rattle.c104_draw.specs.Edges.{IsDrawing, fault_walk, first_beside, marking_of};
+ghost use Rattle.c104_draw.specs.Edges.{AreFirsts, IsDrawing, fault_walk, first_beside, marking_of};
 ghost use Rattle.c104_draw.specs.Marks.{marking_by};
 
 use crate::drawings::{DrawnNode, DrawnWire};
@@ -86,7 +86,8 @@ pub fn draw(alloc: Global, plan: &Plan, image: &Image) -> Result<Drawing, NoMemo
 /// The same with the ways of a header: bold are the links by which it may leave an input to which it may come as the
 /// own one of packets, dashed those that it may take as a random one, and its portals are drawn, the inputs at which
 /// it may then be discarded. Filled is the terminal that owns it, and where it is refused the walk that shows why is
-/// red. Where no random headers are put before packets, bold are its ways from all terminals, and nothing is dashed.
+/// red. Where no random headers are put before packets, bold are its ways from all terminals, and nothing is dashed. Of
+/// a number that is no header of the network nothing is marked.
 pub fn draw_header(
     alloc: Global,
     plan: &Plan,
@@ -149,6 +150,7 @@ pub(crate) fn drawing_of(
     ensures wires { IfOk result (λ drawing. drawing.wires ≡ wires.items) }
     ensures edges { IfOk result (λ drawing.
         map Some drawing.edges ≡ map (first_beside image.now wires.items) wires.items) }
+    ensures firsts { IfOk result (λ drawing. AreFirsts drawing.edges) }
 {
     let nodes = drawn_nodes(alloc, plan, owner)?;
     let edges = edges_of(alloc, image, wires.as_slice())?;
