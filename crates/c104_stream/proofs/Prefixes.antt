@@ -1,10 +1,32 @@
 -- A prefix of what was to be written, before and after other pieces. These lemmas are for the crates
 -- above too.
-use Rattle.std.proofs.Common.{◌≡◌, List, [], ℕ, ◌++◌, Option, sym, ap, ◌∙◌, refl, subst}
+use Rattle.std.proofs.Common.{◌≡◌, ◌<◌, ◌+◌, List, [], ℕ, ◌++◌, length, Option, sym, ap, ◌∙◌, refl, subst, arith}
+use Rattle.std.proofs.lemmas.List.{length-append}
 use mathlib.Core.List.{append_assoc, append-nil}
 use Rattle.std.specs.Io.KnownBytes.{Appends}
 use Rattle.std.proofs.KnownBytes.{Appends-trans, Appends-nil}
 use Rattle.c104_stream.specs.Writing.{AppendsPrefix, AppendsAndKeeps}
+
+-- more is left where something was
+more_left : (xs more : List ℕ) → 0 < length xs → 0 < length (xs ++ more)
+more_left xs more some = omega (arith, some, length-append xs more)
+
+-- nothing can't be written but for a part
+pub none_short : {A : Type 0} (held holds : Option (List ℕ)) (bytes : List ℕ) → bytes ≡ [] → AppendsPrefix held holds bytes → A
+none_short held holds bytes none front =
+    let size : length bytes ≡ length front.written + length front.unwritten = ap length front.is_prefix ∙ length-append front.written front.unwritten in
+    let nothing : length bytes ≡ 0 = ap length none in
+    absurd (omega (arith, size, nothing, front.is_short))
+
+-- all was written but for what is left, and something is
+pub some_left : (held holds : Option (List ℕ)) (rest bytes : List ℕ) → AppendsAndKeeps held holds rest bytes → 0 < length rest → AppendsPrefix held holds bytes
+some_left held holds rest bytes was some = record {
+  written = was.written;
+  unwritten = rest;
+  grew = was.grew;
+  is_prefix = was.is_all;
+  is_short = some;
+}
 
 -- a piece was written, and then a prefix of the next; more is to come after both
 pub prefix_after : (held now holds : Option (List ℕ)) (first next more : List ℕ) → Appends held now first → AppendsPrefix now holds next → AppendsPrefix held holds (first ++ (next ++ more))
@@ -13,11 +35,8 @@ prefix_after held now holds first next more wrote front = record {
   unwritten = front.unwritten ++ more;
   grew = Appends-trans held now holds first front.written wrote front.grew;
   is_prefix = ap (λ xs. first ++ (xs ++ more)) front.is_prefix ∙ ap (λ xs. first ++ xs) (append_assoc front.written front.unwritten more) ∙ sym (append_assoc first front.written (front.unwritten ++ more));
+  is_short = more_left front.unwritten more front.is_short;
 }
-
--- a piece was written, and no more of what follows it
-pub prefix_only : (held holds : Option (List ℕ)) (first more : List ℕ) → Appends held holds first → AppendsPrefix held holds (first ++ more)
-prefix_only held holds first more wrote = record { written = first; unwritten = more; grew = wrote; is_prefix = refl }
 
 -- a piece was written, and then a prefix of the next
 pub prefix_next : (held now holds : Option (List ℕ)) (first next : List ℕ) → Appends held now first → AppendsPrefix now holds next → AppendsPrefix held holds (first ++ next)
@@ -26,6 +45,7 @@ prefix_next held now holds first next wrote front = record {
   unwritten = front.unwritten;
   grew = Appends-trans held now holds first front.written wrote front.grew;
   is_prefix = ap (λ xs. first ++ xs) front.is_prefix ∙ sym (append_assoc first front.written front.unwritten);
+  is_short = front.is_short;
 }
 
 -- a prefix of a piece is one of what begins with it
@@ -35,6 +55,7 @@ prefix_longer held holds bytes more front = record {
   unwritten = front.unwritten ++ more;
   grew = front.grew;
   is_prefix = ap (λ xs. xs ++ more) front.is_prefix ∙ append_assoc front.written front.unwritten more;
+  is_short = more_left front.unwritten more front.is_short;
 }
 
 -- what is kept after the first is written with what was kept, and then the next joins it
@@ -52,6 +73,7 @@ kept_stops held now holds kept first next was front = record {
   unwritten = front.unwritten;
   grew = Appends-trans held now holds was.written front.written was.grew front.grew;
   is_prefix = ap (λ xs. xs ++ next) was.is_all ∙ append_assoc was.written kept next ∙ ap (λ xs. was.written ++ xs) front.is_prefix ∙ sym (append_assoc was.written front.written front.unwritten);
+  is_short = front.is_short;
 }
 
 -- all that was kept was written

@@ -13,6 +13,12 @@ GivesByte old new (Some byte) = Consumes old new (byte ∷ [])
 abbrev pub piece_before : ℕ → ℕ → List ℕ → List ℕ
 piece_before byte most bytes = before_first (λ other. other == byte) (take most bytes)
 
+-- a reading stopped after it had taken no more than there may be
+pub record StopsWithin (most : ℕ) (old new : Option (List ℕ)) : Type 0 where
+  pub taken : List ℕ
+  pub took : Consumes old new taken
+  pub few : length taken ≤ most
+
 -- all that was left was taken; or one byte more than there may be, and then more may be lost
 abbrev pub TakesUpTo : ℕ → Option (List ℕ) → Option (List ℕ) → List ℕ → Type 0
 TakesUpTo most old new taken =

@@ -1,13 +1,14 @@
 -- What is known of the bytes that a writer gets.
-use Rattle.std.specs.Prelude.{ℕ, ◌≡◌, List, ◌++◌, Option}
+use Rattle.std.specs.Prelude.{ℕ, ◌≡◌, ◌<◌, List, ◌++◌, length, Option}
 use Rattle.std.specs.Io.KnownBytes.{Appends}
 
--- what a writer holds grew by a prefix of these bytes
+-- what a writer holds grew by a prefix of these bytes, and something was left to write
 pub record AppendsPrefix (old new : Option (List ℕ)) (bytes : List ℕ) : Type 0 where
   pub written : List ℕ
   pub unwritten : List ℕ
   pub grew : Appends old new written
   pub is_prefix : bytes ≡ written ++ unwritten
+  pub is_short : 0 < length unwritten
 
 -- what a writer holds grew by these bytes but for the last of them, which are kept
 pub record AppendsAndKeeps (old new : Option (List ℕ)) (kept bytes : List ℕ) : Type 0 where

@@ -4,7 +4,8 @@ ghost use Rattle.std.specs.Io.KnownBytes.{Appends};
 ghost use Rattle.c104_stream.specs.Writing.{AppendsAndKeeps, AppendsPrefix};
 
 use crate::writing::{CannotWrite, write_whole};
-use std::alloc::{AllocError, Global};
+use c104_token::NoMemory;
+use std::alloc::Global;
 use std::io::Write;
 use std::marker::Model;
 
@@ -30,7 +31,8 @@ impl Model for Kept {
 
 impl Kept {
     /// Nothing is kept yet. Its room is taken now, so that no further call needs memory.
-    pub fn new(alloc: Global) -> Result<Self, AllocError>
+    /// The only error is out of memory.
+    pub fn new(alloc: Global) -> Result<Self, NoMemory>
         ensures { IfOk result (λ kept. kept ≡ []) }
     {
         let bytes = vec![in alloc; 0u8; ROOM]?;

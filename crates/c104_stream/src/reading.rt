@@ -1,10 +1,11 @@
 //! Bytes, one by one, from a reader that is asked once for each piece of them.
-ghost use Rattle.std.specs.Prelude.{◌≡◌, ◌↔◌, ◌==◌, ◌<◌, ◌≤◌, ◌++◌, [], length, position, IsTrue, MatchResult, IfOk, IfSome};
+ghost use Rattle.std.specs.Prelude.{◌≡◌, ◌↔◌, ◌==◌, ◌<◌, ◌≤◌, ◌++◌, [], length, position, Err, IsTrue, MatchBool, MatchResult, IfOk, IfSome};
 ghost use Rattle.std.specs.List.{before_first};
 ghost use Rattle.std.specs.Io.KnownBytes.{Consumes, Keeps, IsAtEnd, prepend_known};
-ghost use Rattle.c104_stream.specs.Reading.{GivesByte, TakesUpTo, piece_before};
+ghost use Rattle.c104_stream.specs.Reading.{GivesByte, StopsWithin, TakesUpTo, piece_before};
 ghost use Rattle.c104_stream.specs.declared.reading.ReadFault.TheVariants as fault;
 
+use c104_token::NoMemory;
 use std::alloc::{AllocError, Global};
 use std::io::Read;
 use std::marker::Model;
@@ -29,6 +30,14 @@ impl From<AllocError> for ReadFault {
     }
 }
 
+impl From<NoMemory> for ReadFault {
+    ghost from_gives = { λ _ e. e ≡ fault.NoMemory };
+
+    fn from(_error: NoMemory) -> ReadFault {
+        ReadFault::NoMemory
+    }
+}
+
 /// What was read from a reader and not yet taken. Contracts see it as the list of those bytes.
 #[derive(Drop)]
 pub struct Ahead {
@@ -49,8 +58,8 @@ impl Model for Ahead {
 }
 
 impl Ahead {
-    /// Nothing is read yet.
-    pub fn new(alloc: Global) -> Result<Self, AllocError>
+    /// Nothing is read yet. The only error is out of memory.
+    pub fn new(alloc: Global) -> Result<Self, NoMemory>
         ensures { IfOk result (λ ahead. ahead ≡ []) }
     {
         let piece = vec![in alloc; 0u8; PIECE]?;
@@ -90,18 +99,18 @@ impl Ahead {
 
     /// Takes what was read before the first such byte, which stays, but no more than so many bytes. They
     /// join the text. Says how many they are. The reader isn't asked. The only error is out of memory,
-    /// and then nothing is taken.
+    /// and then nothing is taken, and the text is as it was.
     pub fn take_before(
         &mut self,
         byte: u8,
         most: usize,
         text: &mut Vec<u8>,
-    ) -> Result<usize, AllocError>
+    ) -> Result<usize, NoMemory>
         ensures { MatchResult result
             (λ count. (count ≡ length (piece_before byte most self.old)) × (count ≤ most) ×
             (self.old ≡ piece_before byte most self.old ++ self.new) ×
             (text.new.items ≡ text.old.items ++ piece_before byte most self.old))
-            (λ _. self.new ≡ self.old) }
+            (λ _. (self.new ≡ self.old) × (text.new.items ≡ text.old.items)) }
     {
         let ahead = &self.piece[self.start..self.end];
         let piece = before_first(&ahead[..most.min(ahead.len())], byte);
@@ -149,18 +158,28 @@ fn place_of(byte: u8, bytes: &[u8]) -> Option<usize>
     bytes.iter().position(|other| *other == byte)
 }
 
-/// All bytes to the end, or one more than there may be.
+/// All bytes to the end, or one more than there may be. Where the reader fails, it has given no more than there
+/// may be.
 pub fn read_up_to<R: Read>(alloc: Global, most: usize, reader: &mut R) -> Result<Vec<u8>, ReadFault>
-    ensures { IfOk result (λ bytes.
+    ensures taken { IfOk result (λ bytes.
         TakesUpTo most (R.remaining reader.old) (R.remaining reader.new) bytes.items) }
+    ensures stopped { result ≡ Err fault.CannotRead →
+        StopsWithin most (R.remaining reader.old) (R.remaining reader.new) }
 {
     let mut ahead = Ahead::new(alloc)?;
     let mut bytes = Vec::new(alloc);
-    while bytes.len() <= most {
+    while takes_another(bytes.len(), most) {
         let Some(byte) = ahead.next_byte(reader)? else {
             return Ok(bytes);
         };
         bytes.push(byte).map_err(AllocError::from)?;
     }
     Ok(bytes)
+}
+
+/// Whether one more byte is taken after so many: the one past the limit shows that a text is too long.
+fn takes_another(count: usize, most: usize) -> bool
+    ensures { MatchBool result (count ≤ most) (most < count) }
+{
+    count <= most
 }

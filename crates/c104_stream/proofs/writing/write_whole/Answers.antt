@@ -1,16 +1,9 @@
-use Rattle.std.proofs.Common.{◌≡◌, ℕ, ◌-◌, List, ◌++◌, length, take, drop, sym, ap, ◌∙◌, append_assoc, take-append-drop}
-use Rattle.std.proofs.lemmas.List.{take_rest}
-use Rattle.std.proofs.KnownBytes.{Appends-trans}
+use Rattle.std.proofs.Common.{◌<◌, length, arith}
+use Rattle.std.proofs.lemmas.Bool.Decides.{nat_tests}
+use Rattle.c104_stream.proofs.Prefixes.{some_left}
 use Rattle.c104_stream.proofs.writing.write_whole.Goals as goal
 
--- the front of the rest goes over to what was written
-moves_front : (bytes written rest : List ℕ) (n : ℕ) → bytes ≡ written ++ rest → bytes ≡ (written ++ take n rest) ++ take (length rest - n) (drop n rest)
-moves_front bytes written rest n split =
-    split ∙ ap (λ xs. written ++ xs) (sym (take-append-drop n rest)) ∙ sym (append_assoc written (take n rest) (drop n rest)) ∙ ap (λ xs. (written ++ take n rest) ++ xs) (sym (take_rest rest n))
-
-pub loop-rest-preserved : goal.loop-rest-preserved
-loop-rest-preserved g c =
-    let (written, split, grew) = c.loop-rest.invariant in
-    let rest = c.loop-rest.rest.now in
-    let n = c.in-Ok.count in
-    (written ++ take n rest, moves_front _ written rest n split, Appends-trans _ _ _ _ _ grew c.in-Ok.ensures.bytes)
+pub returns-clause-prefix : goal.returns-clause-prefix
+returns-clause-prefix g c =
+    let some : 0 < length c.write_front-rest.result.now = grind (arith, nat_tests) in
+    some_left _ _ _ _ c.write_front-rest.ensures some

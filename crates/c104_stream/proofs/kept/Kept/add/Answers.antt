@@ -1,7 +1,16 @@
-use Rattle.std.proofs.Common.{◌≡◌, [], ◌++◌, subst, sym, inl, inr, arith, rules}
+use Rattle.std.proofs.Common.{◌≡◌, [], ◌++◌, Result, Ok, Err, OnErr, subst, sym, inl, inr, arith, rules}
 use Rattle.c104_stream.specs.Writing.{AppendsPrefix}
-use Rattle.c104_stream.proofs.Prefixes.{kept_past, kept_stops}
+use Rattle.c104_stream.proofs.Prefixes.{kept_past, kept_stops, prefix_longer}
 use Rattle.c104_stream.proofs.kept.Kept.add.Goals as goal
+
+-- where it is known at every result, it is at an error
+at_error : {T E : Type 0} (P : Type 0) (result : Result T E) → P → OnErr result P
+at_error P (Ok it) known = tt
+at_error P (Err fault) known = known
+
+pub returns-in_err-make_room-clause-prefix : goal.returns-in_err-make_room-clause-prefix
+returns-in_err-make_room-clause-prefix g c =
+    at_error _ c.from_residual.result (prefix_longer _ _ _ c.args.text.now c.in_err-make_room.ensures.prefix)
 
 pub returns-then-text-gt-ROOM-clause-kept : goal.returns-then-text-gt-ROOM-clause-kept
 returns-then-text-gt-ROOM-clause-kept g c =
