@@ -1,5 +1,5 @@
 //! What answers a line, and how it is printed.
-ghost use Rattle.std.specs.Prelude.{◌≡◌, ◌++◌, OnOk, decimal};
+ghost use Rattle.std.specs.Prelude.{◌≡◌, ◌++◌, [], OnErr, OnOk, decimal};
 ghost use Rattle.c104_switch.specs.declared.actions.ReplyOf.TheVariants as reply;
 ghost use Rattle.c104_script.specs.Findings.{byte_text, fault_words};
 ghost use Rattle.c104_script.specs.Texts.{answer_line, reply_text};
@@ -25,8 +25,23 @@ pub enum Answer {
     Faulty(LineFault),
 }
 
-/// The line that answers a line of this number joins the text. The only error is out of memory.
+/// The line that answers a line of this number joins the text. The only error is out of memory, and then the text
+/// is emptied, so that no part of a line is taken for one.
 pub fn add_answer(number: usize, answer: &Answer, text: &mut Vec<u8>) -> Result<(), NoMemory>
+    ensures joined { OnOk result (text.new.items ≡ text.old.items ++ answer_line number answer.now) }
+    ensures emptied { OnErr result (text.new.items ≡ []) }
+{
+    match add_line(number, answer, text) {
+        Ok(()) => Ok(()),
+        Err(NoMemory) => {
+            text.clear();
+            Err(NoMemory)
+        }
+    }
+}
+
+/// The same, but out of memory the text may end in a part of the line.
+fn add_line(number: usize, answer: &Answer, text: &mut Vec<u8>) -> Result<(), NoMemory>
     ensures { OnOk result (text.new.items ≡ text.old.items ++ answer_line number answer.now) }
 {
     add_number(number, text)?;

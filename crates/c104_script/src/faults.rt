@@ -4,7 +4,7 @@ ghost use Rattle.c104_script.specs.Script.{packet_fault};
 ghost use Rattle.c104_script.specs.Texts.{line_fault_name, line_fault_number};
 ghost use Rattle.c104_script.specs.declared.faults.LineFault.TheVariants as fault;
 
-use c104_token::TokenFault;
+use c104_token::{NoMemory as OutOfMemory, TokenFault};
 use std::alloc::AllocError;
 use thiserror::Error;
 
@@ -73,6 +73,14 @@ impl From<AllocError> for LineFault {
     ghost from_gives = { λ _ e. e ≡ fault.NoMemory };
 
     fn from(_error: AllocError) -> LineFault {
+        LineFault::NoMemory
+    }
+}
+
+impl From<OutOfMemory> for LineFault {
+    ghost from_gives = { λ _ e. e ≡ fault.NoMemory };
+
+    fn from(_error: OutOfMemory) -> LineFault {
         LineFault::NoMemory
     }
 }

@@ -7,6 +7,7 @@ ghost use Rattle.c104_script.specs.Parts.{is_script_word, is_script_line, parts,
 
 use c104_describe::{MAX_DESCRIPTION, cut_words, first_word, uncommented};
 use c104_stream::{Ahead, ReadFault};
+use c104_token::NoMemory;
 use std::alloc::{AllocError, Global};
 use std::io::Read;
 
@@ -66,7 +67,7 @@ impl FirstPart {
     }
 
     /// Takes a byte, and says whether it ended the line `script`, which isn't kept.
-    fn take_byte(&mut self, alloc: Global, byte: u8) -> Result<bool, AllocError>
+    fn take_byte(&mut self, alloc: Global, byte: u8) -> Result<bool, NoMemory>
         ensures steps { IfOk result (λ is_over. (left : ℕ) (text : List ℕ) →
             parts_within (suc left) self.old.front.items self.old.line.items (byte ∷ text) ≡
             (if is_over then record { description = self.new.front.items; script = text }
@@ -91,7 +92,7 @@ impl FirstPart {
     }
 
     /// All that was read, where the text ends here; but not the line `script`.
-    fn into_front(mut self, alloc: Global) -> Result<Vec<u8>, AllocError>
+    fn into_front(mut self, alloc: Global) -> Result<Vec<u8>, NoMemory>
         ensures { IfOk result (λ bytes. (left : ℕ) →
             parts_within left self.front.items self.line.items [] ≡
             record { description = bytes.items; script = [] }) }
@@ -115,7 +116,7 @@ impl FirstPart {
 /// Whether the only word of a line is `script`. A line that begins with another word, as nearly all do,
 /// needs no list of its words.
 #[tactic(auto, unfolding(crate::specs::Parts::is_script_line))]
-fn is_script_line(alloc: Global, line: &[u8]) -> Result<bool, AllocError>
+fn is_script_line(alloc: Global, line: &[u8]) -> Result<bool, NoMemory>
     ensures { IfOk result (λ found. found ≡ is_script_line line.now) }
 {
     let line = uncommented(line);

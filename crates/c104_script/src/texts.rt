@@ -4,16 +4,18 @@ ghost use Rattle.std.specs.String.{string_bytes};
 ghost use Rattle.c104_script.specs.Texts.{description_text};
 
 use c104_describe::PlanFault;
-use std::alloc::{AllocError, Global};
+use c104_token::NoMemory;
+use std::alloc::Global;
 
-/// The line of a refused description.
-pub fn description_text(alloc: Global, fault: PlanFault) -> Result<String, AllocError>
+/// The line of a refused description. The only error is out of memory.
+pub fn description_text(alloc: Global, fault: PlanFault) -> Result<String, NoMemory>
     ensures { IfOk result (λ text. string_bytes text ≡ description_text fault) }
 {
     let line = fault.line;
-    format!(in alloc;
+    let text = format!(in alloc;
         "description {line}: {} {}\n",
         fault.kind.number(),
         fault.kind.name()
-    )
+    )?;
+    Ok(text)
 }
