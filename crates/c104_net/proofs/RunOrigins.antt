@@ -17,7 +17,7 @@ use Rattle.c104_net.proofs.SureOrigins.{arrived_sure}
 use Rattle.c104_net.proofs.ToldEvents.{events_told}
 use Rattle.c104_net.proofs.TracedRuns.{run_after, token_of, traced_from}
 use Rattle.c104_net.specs.Balance.{AreInPlace, IsSteady, is_switch, credit_at, credit_of, granted_at, granted_of}
-use Rattle.c104_net.specs.Deliveries.{Promise, arrived_at}
+use Rattle.c104_net.specs.Deliveries.{Promise, arrived_at, sent_at}
 use Rattle.c104_net.specs.Ends.{end_of}
 use Rattle.c104_net.specs.EventRuns.{run_events}
 use Rattle.c104_net.specs.Finished.{FinishedRun, network_finish, run_arrived, terminals_of}
@@ -27,6 +27,7 @@ use Rattle.c104_net.specs.NetRecords.{IsNetRecord, NetRecord}
 use Rattle.c104_net.specs.Network.{Network, network_apply, network_arrived, network_of, terminal_place}
 use Rattle.c104_net.specs.Nodes.{Node, arrived_tokens, node_arrived}
 use Rattle.c104_net.specs.Origins.{AreSure, Origin, origins_in}
+use Rattle.c104_net.specs.Quiet.{IsQuiet}
 use Rattle.c104_net.specs.Replays.{IsLeft}
 use Rattle.c104_net.specs.RunOrigins.{AreOrigins}
 use Rattle.c104_net.specs.Runs.{IsRunRecord, at_node, run_deeds}
@@ -211,6 +212,16 @@ module _ (run : FinishedRecord) (is_plan : IsPlan run.finished.plan) (kept : IsK
       (events_told run.finished.plan is_plan (map start_node run.starts) kept.nodes run.traces run.count kept.events kept.told kept.started.in_place)
       ∙ run_after traced_kind (network_of run.finished.plan (map start_node run.starts)) (network_of run.finished.plan (traced run is_plan kept).0) kept.events (traced run is_plan kept).1.run
 
+  -- whichever events left this record lead to the same nodes, since the traces tell them
+  pub ends_same : (ends : List (Node Token)) (done : List (Event × Reply)) → IsRunRecord plain_kind run.finished.plan (map start_node run.starts) ends run.traces run.count done → network_of run.finished.plan ends ≡ network_of run.finished.plan kept.nodes
+  ends_same ends done told =
+      let same : map (λ (e : Event × Reply). e.0) done ≡ map (λ (e : Event × Reply). e.0) kept.events =
+      sym (events_told run.finished.plan is_plan (map start_node run.starts) ends run.traces run.count done told kept.started.in_place)
+      ∙ events_told run.finished.plan is_plan (map start_node run.starts) kept.nodes run.traces run.count kept.events kept.told kept.started.in_place in
+      sym (run_after plain_kind (network_of run.finished.plan (map start_node run.starts)) (network_of run.finished.plan ends) done told.run)
+      ∙ ap (λ (events : List Event). (run_events (network_apply plain_kind) (network_of run.finished.plan (map start_node run.starts)) events).1) same
+      ∙ run_after plain_kind (network_of run.finished.plan (map start_node run.starts)) (network_of run.finished.plan kept.nodes) kept.events kept.told.run
+
   pub origins_are : AreOrigins run (map terminal_origins (terminals_of (traced run is_plan kept).0))
   origins_are =
       let found = traced run is_plan kept in
@@ -230,10 +241,11 @@ module _ (run : FinishedRecord) (is_plan : IsPlan run.finished.plan) (kept : IsK
         each = subst (λ (net : Network Traced). (t : ℕ) → t < length run.finished.plan.terminals → slice_get (map terminal_origins (terminals_of found.0)) t ≡ Some (origins_in (arrived_at net t))) is (list_there run.finished.plan found.0 traced_placed);
         promise = λ image accepted are unchanged. subst (Promise (routes_of run.finished.plan image)) is (promised image accepted are unchanged);
         named = λ image accepted are unchanged. named_origins (routes_of run.finished.plan image) (traced_end run) (subst (Promise (routes_of run.finished.plan image)) is (promised image accepted are unchanged));
-        found = λ image accepted are unchanged quiet a n t p sent whole owned.
+        found = λ image accepted are unchanged done ends told quiet a n t p sent whole owned.
+            let end : network_of run.finished.plan ends ≡ network_of run.finished.plan kept.nodes = ends_same ends done told in
             subst (λ (net : Network Traced). (k : ℕ) × (slice_get (origins_in (arrived_at net t)) k ≡ Some (packet_origin a n))) is
-            (found_origins (routes_of run.finished.plan image) (network_of run.finished.plan found.0) (promised image accepted are unchanged) (quiet_traced run.finished.plan found.0 kept.nodes found.1.plain quiet) a n t p
-            (ap (λ ps. slice_get ps n) (sym (sent_plain run.finished.plan found.0 kept.nodes found.1.plain a)) ∙ sent) whole owned);
+            (found_origins (routes_of run.finished.plan image) (network_of run.finished.plan found.0) (promised image accepted are unchanged) (quiet_traced run.finished.plan found.0 kept.nodes found.1.plain (subst (λ (net : Network Token). IsQuiet net) end quiet)) a n t p
+            (ap (λ ps. slice_get ps n) (sym (sent_plain run.finished.plan found.0 kept.nodes found.1.plain a)) ∙ subst (λ (net : Network Token). slice_get (sent_at net a) n ≡ Some p) end sent) whole owned);
       }
 
 map_same : {X : Type 0} (xs : List X) → map (λ (x : X). x) xs ≡ xs

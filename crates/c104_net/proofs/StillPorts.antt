@@ -25,7 +25,7 @@ use Rattle.c104_net.specs.Nodes.{Node}
 use Rattle.c104_net.specs.Quiet.{IsQuiet, IsQuietNode}
 use Rattle.c104_net.specs.Runs.{IsDoneRun}
 use Rattle.c104_net.specs.Standstill.{IsStarted, IsStill}
-use Rattle.c104_check.specs.ChannelDependencies.{Depends, IsAcyclic, IsBeginningBy, IsRanking, MayArrive}
+use Rattle.c104_check.specs.ChannelDependencies.{Depends, IsAcyclic, IsBeginningBy, IsRanking, MayComeBy}
 use Rattle.c104_net.specs.Traced.{traced_kind}
 use Rattle.c104_net.specs.Traces.{part}
 use Rattle.c104_net.specs.Unchanged.{IsUnchanged}
@@ -105,7 +105,7 @@ module _ (routes : Routes) (wired : IsWired routes.peer) where
   beginning_wire h p (inl (t, owned, (u, behind, (entry, at, begins)))) = begun_wire entry p behind (entry_wire u entry at) begins
   beginning_wire h p (inr (t, at, random)) = entry_wire t p at
 
-  arrived_wire : (h : ℕ) (p : SwitchPort) → MayArrive routes h p → HasWire p
+  arrived_wire : (h : ℕ) (p : SwitchPort) → MayComeBy routes h p → HasWire p
   arrived_wire h p (x, m, begins, reaches) = reached_wire h m x p (beginning_wire h x begins) reaches
 
   chosen_wire : (Q : Port) (l : ℕ) → IsChosen routes Q l → (P : Port) × (routes.peer Q ≡ Some P)

@@ -27,19 +27,24 @@ both_noted keeps before lent left after k j e f d g same first second one other 
     second ∙ ap (λ ts. noted_at keeps ts j d) (first ∙ ap (λ ts. noted_at keeps ts k e) same ∙ ap (noted_at keeps before k) one) ∙ ap (noted_at keeps (noted_at keeps before k f) j) other
 
 module _ (fulls : List Bool) (from to : End) where
-  pub ends_free : full_at fulls from.node ≡ false → full_at fulls to.node ≡ false → full_ends fulls from to ≡ false
-  ends_free near far = rw (near, far) refl
-
   -- where neither end is full, it is memory that runs out
-  pub not_full : full_at fulls from.node ≡ false → full_at fulls to.node ≡ false → fault.NoMemory ≡ room_fault (full_ends fulls from to)
-  not_full near far = rw (ends_free near far) refl
+  pub ends_short : full_ends fulls from to ≡ false → fault.NoMemory ≡ room_fault (full_ends fulls from to)
+  ends_short free = ap room_fault (sym free)
 
-  pub full_near : full_at fulls from.node ≡ true → fault.TraceFull ≡ room_fault (full_ends fulls from to)
-  full_near near = rw near refl
+  pub ends_full : full_ends fulls from to ≡ true → fault.TraceFull ≡ room_fault (full_ends fulls from to)
+  ends_full full = ap room_fault (sym full)
 
-  pub full_far : full_at fulls to.node ≡ true → fault.TraceFull ≡ room_fault (full_ends fulls from to)
-  full_far far = rw far (by_near (full_at fulls from.node))
+  -- where neither end is full, each has room
+  pub near_free : full_ends fulls from to ≡ false → full_at fulls from.node ≡ false
+  near_free free = by_near (full_at fulls from.node) free
     where
-      by_near : (b : Bool) → fault.TraceFull ≡ room_fault (b || true)
-      by_near true = refl
-      by_near false = refl
+      by_near : (b : Bool) → (b || full_at fulls to.node) ≡ false → b ≡ false
+      by_near true is = is
+      by_near false is = refl
+
+  pub far_free : full_ends fulls from to ≡ false → full_at fulls to.node ≡ false
+  far_free free = by_near (full_at fulls from.node) free
+    where
+      by_near : (b : Bool) → (b || full_at fulls to.node) ≡ false → full_at fulls to.node ≡ false
+      by_near true is = cc
+      by_near false is = is

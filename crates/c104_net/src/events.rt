@@ -1,8 +1,9 @@
 //! The events of a network, over any places of its nodes: one act, or one at each end of a wire.
-ghost use Rattle.std.specs.Prelude.{◌≡◌, ◌⊎◌, ◌+◌, ◌++◌, ◌∷◌, [], List, None, Some, true, false, length, map, option_map, IfOk};
+ghost use Rattle.std.specs.Prelude.{◌≡◌, ◌⊎◌, ◌+◌, ◌≤◌, ◌++◌, ◌∷◌, [], List, None, Some, true, false, length, map, nat_le, nat_lt, option_map, IfOk};
+ghost use Rattle.c104_token.specs.declared.text.TheConstants.{MAX_PACKET_BYTES};
 ghost use Rattle.c104_describe.specs.Plans.{IsPlan};
 ghost use Rattle.c104_event.specs.declared.events.Event.TheVariants as event;
-ghost use Rattle.c104_net.specs.Network.{AnswersWith, network_of};
+ghost use Rattle.c104_net.specs.Network.{AnswersWith, inbox_limit, network_of, outbox_limit};
 ghost use Rattle.c104_net.specs.Nodes.{nodes_arrived, nodes_waiting};
 ghost use Rattle.c104_net.specs.Acts.{plain_reply};
 ghost use Rattle.c104_net.specs.Traces.{event_deeds, event_full, is_switch_at, kept_of, noted_all};
@@ -259,7 +260,7 @@ fn send<T: TokenKind, P: Place<T>>(
     let Some(waiting) = waiting_at(places, place) else {
         return Ok(Reply::NotReady);
     };
-    if waiting > OUTBOX_LIMIT - (length + 1) {
+    if !fits_outbox(waiting, length) {
         return Err(EventFault::OutboxFull);
     }
     if is_full_at(places, place) {
@@ -298,7 +299,7 @@ pub fn drain<T: TokenKind, P: Place<T>>(
     if !can_drain_at(places, place) {
         return Ok(Reply::NotReady);
     }
-    if arrived_count(places, place) >= INBOX_LIMIT {
+    if !fits_inbox(arrived_count(places, place)) {
         return Err(EventFault::InboxFull);
     }
     Ok(told(act_alone(places, place, terminal, ticket, ActOf::Drain)?))
@@ -315,6 +316,23 @@ fn told<T: TokenKind>(reply: ReplyOf<T>) -> Reply
         ReplyOf::Token(token) => Reply::Token(token.plain()),
         ReplyOf::Control(bytes) => Reply::Control(bytes),
     }
+}
+
+/// Whether a packet of so many bytes, at most 4,096, may join so many tokens that wait at a terminal.
+#[inline(always)]
+fn fits_outbox(waiting: usize, length: usize) -> bool
+    requires { length ≤ MAX_PACKET_BYTES }
+    ensures { result ≡ nat_le (waiting + length + 1) outbox_limit }
+{
+    waiting <= OUTBOX_LIMIT - (length + 1)
+}
+
+/// Whether one more token may arrive at a terminal where so many have arrived.
+#[inline(always)]
+fn fits_inbox(arrived: usize) -> bool
+    ensures { result ≡ nat_lt arrived inbox_limit }
+{
+    arrived < INBOX_LIMIT
 }
 
 /// How many tokens wait at a place to go out, if it is a terminal's.

@@ -1,7 +1,7 @@
 //! A network whose nodes keep what they do.
-ghost use Rattle.std.specs.Prelude.{◌≡◌, ℕ};
+ghost use Rattle.std.specs.Prelude.{◌≡◌, ◌↔◌, ℕ};
 ghost use Rattle.std.specs.Option.{option_copied};
-ghost use Rattle.std.specs.Prelude.{slice_get, IfOk, IsErrOf, OnOk};
+ghost use Rattle.std.specs.Prelude.{slice_get, IfOk, IsErrOf, IsTrue, OnOk};
 ghost use Rattle.std.specs.Vec.{vec_capacity};
 ghost use Rattle.c104_describe.specs.PlanImage.{Fits};
 ghost use Rattle.c104_describe.specs.Plans.{IsPlan};
@@ -65,7 +65,7 @@ impl Net {
         ensures not_fitting { IsErrOf result PlaceFault.NotFitting → Fits image.now plan.now → ⊥ }
         ensures no_memory { IsErrOf result PlaceFault.NoMemory → Fits image.now plan.now }
     {
-        if !image.fits(plan) {
+        if !is_fitting(plan, image) {
             return Err(PlaceFault::NotFitting);
         }
         let net = Net::started(alloc, plan, image)?;
@@ -142,6 +142,13 @@ impl Net {
             None => None,
         }
     }
+}
+
+/// Whether an image has the counts of a plan, so that a network can be placed with it.
+fn is_fitting(plan: &Plan, image: &Image) -> bool
+    ensures { IsTrue result ↔ Fits image.now plan.now }
+{
+    image.fits(plan)
 }
 
 /// What a network has beside its nodes: the wires of its plan, and room for what is left at the end.

@@ -1,5 +1,6 @@
 //! One act of one place among all places.
-ghost use Rattle.std.specs.Prelude.{◌≡◌, ◌≢◌, ◌<◌, ◌≤◌, ℕ, None, Some, true, false, length, is_some, map, unwrap_or, IfOk, IfSome, MatchResult, OnOk};
+ghost use Rattle.std.specs.Prelude.{◌≡◌, ◌≢◌, ◌<◌, ◌≤◌, ℕ, None, Some, true, false, length, is_some, map, unwrap_or, IfOk, IfSome, MatchOption, MatchResult, OnOk};
+ghost use Rattle.c104_event.specs.declared.faults.EventFault.TheVariants as fault;
 ghost use Rattle.c104_regs.specs.declared.registers.TheConstants.{LINKS};
 ghost use Rattle.c104_link.specs.Steps.{step_at, yield_step_at};
 ghost use Rattle.c104_net.specs.Acts.{IsWithinLimits, nodes_act, reply_outcome, wants_memory};
@@ -44,6 +45,20 @@ pub fn is_full_at<T: TokenKind, P: Place<T>>(places: &[P], place: usize) -> bool
     match places.get(place) {
         Some(found) => found.is_full(),
         None => false,
+    }
+}
+
+/// Why an act at a place is refused where no further entry may be kept there.
+#[inline(always)]
+fn trace_fault_at<T: TokenKind, P: Place<T>>(places: &[P], place: usize) -> Option<EventFault>
+    ensures { MatchOption result
+        (full_at (map P.full places.now) place ≡ false)
+        (λ f. (f ≡ fault.TraceFull) × (full_at (map P.full places.now) place ≡ true)) }
+{
+    if is_full_at(places, place) {
+        Some(EventFault::TraceFull)
+    } else {
+        None
     }
 }
 
@@ -123,8 +138,8 @@ pub fn act_alone<T: TokenKind, P: Place<T>>(
     if place >= places.len() || !ready_at(places, place, number, &act) {
         return Ok(ReplyOf::NotReady);
     }
-    if is_full_at(places, place) {
-        return Err(EventFault::TraceFull);
+    if let Some(fault) = trace_fault_at(places, place) {
+        return Err(fault);
     }
     room_at(places, place)?;
     Ok(act_at(places, place, number, ticket, act)?)

@@ -1,5 +1,5 @@
 //! A terminal: where packets are sent and received.
-ghost use Rattle.std.specs.Prelude.{◌≡◌, ◌↔◌, ◌<◌, ◌≤◌, ◌+◌, [], length, map, is_some, IfOk, IsTrue, OnOk, OnErr};
+ghost use Rattle.std.specs.Prelude.{◌≡◌, ◌↔◌, ◌<◌, ◌≤◌, ◌+◌, [], length, map, is_some, IfOk, IfSome, IsTrue, OnOk, OnErr};
 ghost use Rattle.c104_token.specs.declared.text.TheConstants.{MAX_PACKET_BYTES};
 ghost use Rattle.c104_link.specs.Buffers.{IsValidCap};
 ghost use Rattle.c104_link.specs.Steps.{bool_outcome, option_outcome};
@@ -243,7 +243,7 @@ impl<T: TokenKind> TerminalOf<T> {
         ensures kept { OnErr result (self.new ≡ self.old) }
     {
         let copy = packet.clone()?;
-        let Some(waiting) = self.waiting.checked_add(packet.bytes.as_slice().len() + 1) else {
+        let Some(waiting) = waiting_after(self.waiting, packet) else {
             return Err(NoMemory);
         };
         self.sent.reserve(1)?;
@@ -257,4 +257,12 @@ impl<T: TokenKind> TerminalOf<T> {
         self.waiting = waiting;
         Ok(())
     }
+}
+
+/// How many tokens wait after a packet has joined so many. None where that is more than can be counted.
+fn waiting_after(waiting: usize, packet: &Packet) -> Option<usize>
+    requires { length packet.now.bytes ≤ MAX_PACKET_BYTES }
+    ensures { IfSome result (λ after. after ≡ waiting + (length packet.now.bytes + 1)) }
+{
+    waiting.checked_add(packet.bytes.as_slice().len() + 1)
 }

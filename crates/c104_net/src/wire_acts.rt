@@ -1,7 +1,8 @@
 //! What crosses a wire: one act at each end, or none.
-ghost use Rattle.std.specs.Prelude.{◌≡◌, ◌≢◌, true, false, is_some, map, IfOk};
-ghost use Rattle.c104_link.specs.Steps.{bool_outcome, option_outcome};
-ghost use Rattle.c104_net.specs.Places.{StepEnds};
+ghost use Rattle.std.specs.Prelude.{◌≡◌, ◌≢◌, ◌<◌, true, false, Some, is_some, length, map, IfOk, OnOk};
+ghost use Rattle.c104_link.specs.Steps.{bool_outcome, option_outcome, step_at, yield_step_at};
+ghost use Rattle.c104_net.specs.Nodes.{node_credit_in, node_credit_out, node_enter, node_leave};
+ghost use Rattle.c104_net.specs.Places.{HasRoomAt, StepEnds};
 ghost use Rattle.c104_net.specs.Traces.{credit_deeds, cross_deeds, full_ends, is_switch_at, kept_of, made_kept, noted_all, some_kept};
 ghost use Rattle.c104_net.specs.Wires.{nodes_cross, nodes_credit};
 
@@ -12,7 +13,81 @@ use crate::places::{
     enter_at, is_full_at, leave_at, room_at,
 };
 use c104_event::EventFault;
-use c104_token::TokenKind;
+use c104_token::{NoMemory, TokenKind};
+
+/// Whether no further entry may be kept at one of the two ends of a wire.
+#[inline(always)]
+fn are_full_at<T: TokenKind, P: Place<T>>(places: &[P], from: End, to: End) -> bool
+    ensures { result ≡ full_ends (map P.full places.now) from to }
+{
+    is_full_at(places, from.node) || is_full_at(places, to.node)
+}
+
+/// Makes room at both ends of a wire for whatever is kept of one act at each, where neither is full.
+#[inline(always)]
+fn room_at_ends<T: TokenKind, P: Place<T>>(
+    places: &mut [P],
+    from: End,
+    to: End,
+) -> Result<(), NoMemory>
+    requires apart { from.node ≢ to.node }
+    requires near { from.node < length places.old }
+    requires far { to.node < length places.old }
+    requires free { full_ends (map P.full places.old) from to ≡ false }
+    ensures state { map P.state places.new ≡ map P.state places.old }
+    ensures start { map P.start places.new ≡ map P.start places.old }
+    ensures trace { map P.trace places.new ≡ map P.trace places.old }
+    ensures near { OnOk result (HasRoomAt P.has_room places.new from.node) }
+    ensures far { OnOk result (HasRoomAt P.has_room places.new to.node) }
+{
+    room_at(places, from.node)?;
+    room_at(places, to.node)
+}
+
+/// A token goes out at one end of a wire and comes in at the other, where both can act and have room.
+#[inline(always)]
+fn cross_open<T: TokenKind, P: Place<T>>(places: &mut [P], from: End, to: End, ticket: u64) -> T
+    requires apart { from.node ≢ to.node }
+    requires near { from.node < length places.old }
+    requires far { to.node < length places.old }
+    requires near_room { HasRoomAt P.has_room places.old from.node }
+    requires far_room { HasRoomAt P.has_room places.old to.node }
+    requires leaves { is_some
+        (yield_step_at (map P.state places.old) from.node (node_leave from.link)) ≡ true }
+    requires enters { (token : T) → is_some
+        (step_at (map P.state places.old) to.node (node_enter token to.link)) ≡ true }
+    ensures crossed { nodes_cross (map P.state places.old) from to
+        ≡ Some (result, map P.state places.new) }
+    ensures start { map P.start places.new ≡ map P.start places.old }
+    ensures trace { map P.trace places.new ≡ noted_all P.keeps (map P.trace places.old)
+        (cross_deeds (is_switch_at (map P.state places.old)) ticket from to (T.kind.plain result)) }
+{
+    let token = leave_at(places, from, ticket);
+    enter_at(places, to, ticket, token);
+    token
+}
+
+/// One end of a wire grants eight more tokens and the other may send them, where both can act and have room.
+#[inline(always)]
+fn credit_open<T: TokenKind, P: Place<T>>(places: &mut [P], from: End, to: End, ticket: u64)
+    requires apart { from.node ≢ to.node }
+    requires near { from.node < length places.old }
+    requires far { to.node < length places.old }
+    requires near_room { HasRoomAt P.has_room places.old from.node }
+    requires far_room { HasRoomAt P.has_room places.old to.node }
+    requires grants { is_some
+        (step_at (map P.state places.old) from.node (node_credit_out from.link)) ≡ true }
+    requires gains { is_some
+        (step_at (map P.state places.old) to.node (node_credit_in to.link)) ≡ true }
+    ensures credited { nodes_credit (map P.state places.old) from to
+        ≡ Some (map P.state places.new) }
+    ensures start { map P.start places.new ≡ map P.start places.old }
+    ensures trace { map P.trace places.new ≡ noted_all P.keeps (map P.trace places.old)
+        (credit_deeds (is_switch_at (map P.state places.old)) ticket from to) }
+{
+    credit_out_at(places, from, ticket);
+    credit_in_at(places, to, ticket);
+}
 
 /// A token goes out at one end of a wire and comes in at the other, or nothing changes.
 #[inline(always)]
@@ -45,18 +120,12 @@ pub fn cross_at<T: TokenKind, P: Place<T>>(
     if to.node >= places.len() {
         return Ok(None);
     }
-    if is_full_at(places, from.node) {
-        return Err(EventFault::TraceFull);
-    }
-    if is_full_at(places, to.node) {
+    if are_full_at(places, from, to) {
         return Err(EventFault::TraceFull);
     }
     // All growths come before the first change.
-    room_at(places, from.node)?;
-    room_at(places, to.node)?;
-    let token = leave_at(places, from, ticket);
-    enter_at(places, to, ticket, token);
-    Ok(Some(token))
+    room_at_ends(places, from, to)?;
+    Ok(Some(cross_open(places, from, to, ticket)))
 }
 
 /// One end of a wire grants eight more tokens and the other may send them, or nothing changes.
@@ -89,15 +158,10 @@ pub fn credit_at<T: TokenKind, P: Place<T>>(
     if to.node >= places.len() {
         return Ok(false);
     }
-    if is_full_at(places, from.node) {
+    if are_full_at(places, from, to) {
         return Err(EventFault::TraceFull);
     }
-    if is_full_at(places, to.node) {
-        return Err(EventFault::TraceFull);
-    }
-    room_at(places, from.node)?;
-    room_at(places, to.node)?;
-    credit_out_at(places, from, ticket);
-    credit_in_at(places, to, ticket);
+    room_at_ends(places, from, to)?;
+    credit_open(places, from, to, ticket);
     Ok(true)
 }

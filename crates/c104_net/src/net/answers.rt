@@ -6,7 +6,8 @@ ghost use Rattle.c104_net.specs.RecordedRuns.{record_apply};
 use super::Net;
 use c104_event::{Event, EventFault};
 use c104_switch::Reply;
-use std::alloc::{AllocError, Global};
+use c104_token::NoMemory;
+use std::alloc::Global;
 
 impl Net {
     /// Applies events in turn, and gives their answers. The only error is out of memory for the
@@ -15,7 +16,7 @@ impl Net {
         &mut self,
         alloc: Global,
         events: &[Event],
-    ) -> Result<Vec<Result<Reply, EventFault>>, AllocError>
+    ) -> Result<Vec<Result<Reply, EventFault>>, NoMemory>
         ensures done { IfOk result (λ answers.
             AnswersAll record_apply self.old events.now answers.items self.new) }
         ensures kept { OnErr result (self.new ≡ self.old) }
