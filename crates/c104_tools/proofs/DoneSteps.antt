@@ -20,7 +20,7 @@ done_on before [] second middle after one other = subst (λ ss. AreDone ss secon
 done_on before (t ∷ first) second middle after (s, at, replied, rest) other = (s, at, replied, done_on (slice_set before t.switch (switch_control s (command_bytes t.command)).1) first second middle after rest other)
 
 -- one switch stands at a place
-one_there : (before : Switches) (k : ℕ) (s t : Switch Token) → slice_get before k ≡ Some s → slice_get before k ≡ Some t → s ≡ t
+pub one_there : (before : Switches) (k : ℕ) (s t : Switch Token) → slice_get before k ≡ Some s → slice_get before k ≡ Some t → s ≡ t
 one_there before k s t one other = cc
 
 -- the port shows just what comes of the steps

@@ -11,6 +11,7 @@ pub mod LoadedSwitches
 pub mod ShownLoads
 pub mod TableReads
 pub mod Readings
+pub mod SeenValues
 pub mod NetSwitches
 pub mod NetCommands
 pub mod NetAnswers

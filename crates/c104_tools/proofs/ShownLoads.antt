@@ -79,7 +79,7 @@ abbrev first_byte : List ℕ → ℕ
 first_byte [] = 0
 first_byte (b ∷ bytes) = b
 
-not_refused : (c : Command) (v n : ℕ) → reply_bytes (Refused n) ≢ reply_bytes ((command_format c).answer v)
+pub not_refused : (c : Command) (v n : ℕ) → reply_bytes (Refused n) ≢ reply_bytes ((command_format c).answer v)
 not_refused Start v n same = differs 129 (ap first_byte same) (omega arith)
 not_refused Reset v n same = differs 130 (ap first_byte same) (omega arith)
 not_refused Identify v n same = differs 131 (ap first_byte same) (omega arith)

@@ -1,12 +1,18 @@
 -- What the debugger reads, by the commands that it asks.
-use Rattle.std.specs.Prelude.{◌≡◌, ℕ, ◌+◌, List, [], ◌∷◌, ◌++◌, length, map, Result, MatchResult}
-use Rattle.std.specs.List.{range_with_len}
+use Rattle.std.specs.Prelude.{◌≡◌, ℕ, ◌+◌, List, [], ◌∷◌, ◌++◌, length, map, Option, Some, None, Result, Ok, MatchResult, slice_get}
+use Rattle.std.specs.List.{AllByRecursion, range_with_len}
+use Rattle.c104_control.specs.Table.{reply_bytes}
 use Rattle.c104_control.specs.declared.commands.Command.TheVariants.{CPeek}
+use Rattle.c104_control.specs.declared.replies.Answer.TheVariants.{Value}
 use Rattle.c104_event.specs.declared.faults.EventFault.{EventFault}
+use Rattle.c104_switch.specs.Peeks.{switch_peek}
+use Rattle.c104_switch.specs.Switch.{Switch}
+use Rattle.c104_token.specs.declared.tokens.Token.{Token}
 use Rattle.c104_tools.specs.declared.faults.LoadFault.{LoadFault}
 use Rattle.c104_tools.specs.declared.ports.Asked.{Asked}
 use Rattle.c104_tools.specs.declared.reading.LinkNumbers.{LinkNumbers}
 use Rattle.c104_tools.specs.Loads.{peeks}
+use Rattle.c104_tools.specs.Ports.{Switches}
 use Rattle.c104_tools.specs.Steps.{IsFaultOf, IsUnanswered, step_done}
 
 -- values at addresses that follow one another, each with its address
@@ -39,3 +45,13 @@ HaveRead commands switch_count unanswered old new switch first values result =
 abbrev pub link_values : LinkNumbers → List ℕ
 link_values n =
     n.sunk ∷ n.short ∷ n.input_level ∷ n.output_level ∷ n.credit ∷ n.granted ∷ n.owner ∷ []
+
+-- the register of a switch at this address has this value, in the 32 bits of a reply
+abbrev pub HasValue : Switch Token → ℕ → ℕ → Type 0
+HasValue s a v = (w : ℕ) × (switch_peek s a ≡ Ok w) × (reply_bytes (Value w) ≡ reply_bytes (Value v))
+
+-- of a port that shows its switches: the registers of a switch have these values, each at its address
+abbrev pub AreSeen : Option Switches → ℕ → List (ℕ × ℕ) → Type 0
+AreSeen None switch values = Unit {0}
+AreSeen (Some switches) switch values =
+    (s : Switch Token) → slice_get switches switch ≡ Some s → AllByRecursion (λ (x : ℕ × ℕ). HasValue s x.0 x.1) values

@@ -1,13 +1,13 @@
 //! What the debugger reads.
 ghost use Rattle.std.specs.List.{range_with_len};
-ghost use Rattle.std.specs.Prelude.{◌≡◌, ◌↔◌, ◌+◌, ◌<◌, ◌≤◌, Err, Ok, length};
+ghost use Rattle.std.specs.Prelude.{◌≡◌, ◌↔◌, ◌+◌, ◌<◌, ◌≤◌, Err, IfOk, Ok, length};
 ghost use Rattle.c104_regs.specs.declared.addresses.Address.TheVariants.{AtLink};
 ghost use Rattle.c104_regs.specs.declared.addresses.Register.TheVariants.{Sunk};
 ghost use Rattle.c104_regs.specs.Addresses.{address_number};
 ghost use Rattle.c104_tools.specs.declared.faults.LoadFault.TheVariants as fault;
 ghost use Rattle.c104_tools.specs.Outcomes.{ComesTo, Outcome, and_then, any_value, link_made, link_peeks, peeks_at};
 ghost use Rattle.c104_tools.specs.Ports.{CameBy};
-ghost use Rattle.c104_tools.specs.Reads.{AreRead, HaveRead, link_values};
+ghost use Rattle.c104_tools.specs.Reads.{AreRead, AreSeen, HaveRead, link_values, numbered};
 
 use crate::commands::ask;
 use crate::faults::LoadFault;
@@ -56,7 +56,8 @@ pub(crate) fn read_run<P: ControlPort>(
     Ok(())
 }
 
-/// Reads what a link, 0 to 31, of a switch tells of itself, by address.
+/// Reads what a link, 0 to 31, of a switch tells of itself, by address. Where the port shows its switches, as a
+/// network does, these are the values that the registers of that switch have.
 ///
 /// NoSwitch where the port has no such switch; Refused where it refuses a peek, BadReply where a
 /// reply answers no peek, and Port where the port doesn't answer.
@@ -70,6 +71,8 @@ pub fn read_link<P: ControlPort>(
     ensures not_asked { P.switch_count port.old ≤ switch → port.new ≡ port.old }
     ensures read { switch < P.switch_count port.old →
         AreRead P.commands P.switch_count P.unanswered port.old port.new switch (address_number (AtLink link Sunk)) 7 link_values result }
+    ensures seen { switch < P.switch_count port.old → IfOk result (λ numbers.
+        AreSeen (P.shown port.old) switch (numbered (address_number (AtLink link Sunk)) (link_values numbers))) }
     ensures due { switch < P.switch_count port.old →
         Outcome P.due any_value link_made port.old (link_peeks switch link) result port.new }
     ensures came { CameBy P.commands P.shown port.old port.new }

@@ -1,11 +1,12 @@
 //! An input's table, as the debugger reads it.
-ghost use Rattle.std.specs.Prelude.{◌≡◌, ◌↔◌, ◌<◌, ◌≤◌, not, false, true, Err, IfSome, IsTrue, MatchOption, length, map};
+ghost use Rattle.std.specs.Prelude.{◌≡◌, ◌↔◌, ◌<◌, ◌≤◌, ◌∷◌, not, false, true, Err, IfOk, IfSome, IsTrue, MatchOption, length, map};
 ghost use Rattle.std.specs.List.{list_any};
 ghost use Rattle.c104_regs.specs.Values.{select_code, select_of};
 ghost use Rattle.c104_tools.specs.declared.faults.LoadFault.TheVariants as fault;
 ghost use Rattle.c104_tools.specs.Outcomes.{Outcome, any_value, rows_with, table_made, table_peeks};
 ghost use Rattle.c104_tools.specs.Ports.{CameBy};
-ghost use Rattle.c104_tools.specs.Tables.{IsTableRead, is_select, row_codes, row_limits};
+ghost use Rattle.c104_tools.specs.Reads.{AreSeen};
+ghost use Rattle.c104_tools.specs.Tables.{IsTableRead, is_select, row_codes, row_limits, table_entries};
 
 use crate::faults::LoadFault;
 use crate::ports::ControlPort;
@@ -49,7 +50,8 @@ fn rows_of(limits: &[u32], codes: &[u32]) -> Option<[Row; ROWS]>
 }
 
 /// Reads the table of an input, of a link 0 to 31: its base and limits, and then what the rows
-/// select, by address.
+/// select, by address. Where the port shows its switches, as a network does, these are the values that the
+/// registers of that switch have.
 ///
 /// NoSwitch where the port has no such switch; Refused where it refuses a peek, BadReply where a
 /// reply answers no peek or where a row selects nothing that there is, and Port where the port
@@ -64,6 +66,9 @@ pub fn read_table<P: ControlPort>(
     ensures not_asked { P.switch_count port.old ≤ switch → port.new ≡ port.old }
     ensures read { switch < P.switch_count port.old →
         IsTableRead P.commands P.switch_count P.unanswered port.old port.new switch link result }
+    ensures seen { switch < P.switch_count port.old → IfOk result (λ table.
+        AreSeen (P.shown port.old) switch
+        (table_entries link (table.base ∷ map row_limits table.rows) (map row_codes table.rows))) }
     ensures due { switch < P.switch_count port.old →
         Outcome P.due any_value (table_made switch) port.old (table_peeks switch link) result port.new }
     ensures came { CameBy P.commands P.shown port.old port.new }

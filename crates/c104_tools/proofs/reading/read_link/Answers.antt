@@ -3,6 +3,7 @@ use Rattle.c104_tools.proofs.Passing.{failed}
 use Rattle.c104_tools.proofs.Progress.{err_is}
 use Rattle.c104_tools.proofs.Readings.{link_came}
 use Rattle.c104_tools.proofs.Runs.{read_seven}
+use Rattle.c104_tools.proofs.SeenValues.{link_seen}
 use Rattle.c104_tools.specs.Outcomes.{any_value, link_made}
 use Rattle.c104_tools.proofs.reading.read_link.Goals as goal
 
@@ -22,3 +23,7 @@ returns-clause-due g c below = record {
   came = link_came g.P.ControlPort.due c.args.switch c.number-first.result c.args.link _ _ c.read_run.new.values (Ok c.read_run.new.values) c.number-first.ensures (omega (arith, c.read_run.auto.values)) c.in_ok-read_run.ensures.due;
   made = refl;
 }
+
+pub returns-clause-seen : goal.returns-clause-seen
+returns-clause-seen g c below =
+    link_seen _ _ _ _ c.args.switch c.number-first.result c.args.link c.read_run.new.values c.requires c.number-first.ensures (omega (arith, c.read_run.auto.values)) c.in_ok-read_run.ensures.read c.in_ok-read_run.ensures.came

@@ -1,10 +1,12 @@
-use Rattle.std.proofs.Common.{◌≡◌, ◌+◌, ◌*◌, [], length, inl, inr, arith, refl}
+use Rattle.std.proofs.Common.{◌≡◌, ◌+◌, ◌*◌, ◌∷◌, List, [], ℕ, ap, get_or, length, map, inl, inr, arith, refl}
 use Rattle.c104_tools.proofs.Passing.{failed}
 use Rattle.c104_tools.proofs.Progress.{err_is, went_on}
 use Rattle.c104_tools.proofs.Readings.{answered_so, table_bad, table_came, table_first_fault, table_is, table_second_fault}
+use Rattle.c104_tools.proofs.SeenValues.{table_seen}
 use Rattle.c104_tools.proofs.TableReads.{bad_table, first_of, first_stops, second_stops, table_read}
 use Rattle.c104_tools.specs.Outcomes.{any_value, table_made}
 use Rattle.c104_tools.specs.Steps.{IsUnanswered}
+use Rattle.c104_tools.specs.Tables.{row_codes, row_limits}
 use Rattle.c104_tools.proofs.tables.read_table.Goals as goal
 
 pub returns-in_err-read_run-clause-read : goal.returns-in_err-read_run-clause-read
@@ -66,3 +68,15 @@ returns-in-None-clause-due g c below =
     let is = table_bad c.args.switch limits c.read_run-2.new.values c.in-None.ensures.read in
     answered_so g.P.ControlPort.due c.args.switch c.args.link _ _ _ _ is
     (table_came g.P.ControlPort.due c.args.switch c.args.link c.number-first.result c.number-second.result limits c.read_run-2.new.values c.number-first.ensures c.number-second.ensures (omega (arith, c.read_run.auto.values)) (omega (arith, c.read_run-2.auto.values)) _ _ _ c.in_ok-read_run.ensures.due c.in_ok-read_run-2.ensures.due)
+
+pub returns-in-Some-clause-seen : goal.returns-in-Some-clause-seen
+returns-in-Some-clause-seen g c below =
+    let limits : List ℕ = get_or c.read_run.new.values 0 0 ∷ map row_limits c.in-Some.rows in
+    let codes : List ℕ = map row_codes c.in-Some.rows in
+    let limits_are : limits ≡ c.read_run.new.values = first_of c.read_run.new.values (map row_limits c.in-Some.rows) (omega (arith, c.read_run.auto.values)) c.in-Some.ensures.read.0 in
+    let codes_are : codes ≡ c.read_run-2.new.values = c.in-Some.ensures.read.1 in
+    let limits_many : length limits ≡ length c.read_run.new.values = ap (length {A = ℕ}) limits_are in
+    let codes_many : length codes ≡ length c.read_run-2.new.values = ap (length {A = ℕ}) codes_are in
+    table_seen _ _ _ _ c.args.switch c.args.link limits codes c.requires (omega (arith, limits_many, c.read_run.auto.values)) (omega (arith, codes_many, c.read_run-2.auto.values))
+    (table_read c.args.switch c.args.link c.number-first.result c.number-second.result c.read_run.new.values c.read_run-2.new.values c.number-first.ensures c.number-second.ensures _ _ _ c.in_ok-read_run.ensures.read c.in_ok-read_run-2.ensures.read c.in-Some.rows limits_are codes_are)
+    (went_on _ _ _ _ _ _ c.in_ok-read_run.ensures.came c.in_ok-read_run-2.ensures.came)
