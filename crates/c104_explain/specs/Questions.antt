@@ -2,11 +2,15 @@
 use Rattle.std.specs.Prelude.{◌||◌, ℕ, Bool, false, List, Option, Some, None, bytes_eq, codes, slice_get}
 use Rattle.c104_describe.specs.TextCut.{uncommented_line, line_words}
 
+-- whether it is with this word that a person wants to end the script
+abbrev pub wants_end : List ℕ → Bool
+wants_end word = bytes_eq word (codes "quit") || bytes_eq word (codes "exit")
+
 -- whether a question begins with this word
 abbrev pub asks : Option (List ℕ) → Bool
 asks None = false
-asks (Some word) = bytes_eq word (codes "help") || bytes_eq word (codes "show")
+asks (Some word) = (bytes_eq word (codes "help") || bytes_eq word (codes "show")) || wants_end word
 
--- a line is a question where its first word is `help` or `show`
+-- a line is a question where its first word is `help`, `show`, `quit` or `exit`
 unfoldable pub is_question : List ℕ → Bool
 is_question line = asks (slice_get (line_words (uncommented_line line)) 0)

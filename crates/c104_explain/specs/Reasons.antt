@@ -16,13 +16,13 @@ reason_sentence unready.NotStarted = codes "the switch is not started; `control`
 reason_sentence unready.NoToken = codes "no token waits here; one comes by `send` from a terminal, by `cross` over a wire, by `input` or `claim` to an output"
 reason_sentence unready.NoCredit = codes "a token waits, and there is no credit for it; `credit` grants some at the other end of the wire"
 reason_sentence unready.NotGranted = codes "no token may come in, since none is granted; `credit` grants some"
-reason_sentence unready.NoRoom = codes "there is no room to grant eight more tokens; those that are here have to go on, and those that are granted to come in first"
-reason_sentence unready.CreditFull = codes "there is credit for 64 tokens, and no more may be granted; some have to go out first"
+reason_sentence unready.NoRoom = codes "no room to grant eight more tokens"
+reason_sentence unready.CreditFull = codes "credit for 64 tokens, the most, is already there"
 reason_sentence (unready.WantsOutput link) = codes "the header waits for an output; `claim` gets it one that is free, of the group of this link"
 reason_sentence (unready.OutputFull link) = codes "the output that the packet goes to is full; `cross` takes a token out of it"
 reason_sentence unready.WantsNothing = codes "the input wants no output; `input` has to read a header first, or to put a random one there, which selects a link"
 reason_sentence (unready.OutsideGroup link) = codes "the header goes to another output, of the group of this link"
-reason_sentence (unready.Owned link) = codes "the output is taken until the end of a packet has gone to it, which comes from this input"
+reason_sentence (unready.Owned link) = codes "'s packet until its terminator passes"
 reason_sentence unready.NoRoomForHeader = codes "the output has no room for the header; `cross` takes a token out of it"
 
 -- a link of the switch that has a port
@@ -51,7 +51,26 @@ abbrev pub other_text : Plan → Option Port → List ℕ
 other_text plan None = []
 other_text plan (Some p) = codes ": " ++ port_text plan p
 
--- the message: the port, the sentence, and the other port
+-- a message about a port: the port, a sentence, and the other port
+abbrev pub sentence_text : Plan → Port → List ℕ → Option Port → List ℕ
+sentence_text plan p sentence other = port_text plan p ++ (codes ": " ++ (sentence ++ other_text plan other))
+
+-- the input whose packet an output belongs to
+abbrev pub owner_text : Plan → Option Port → List ℕ
+owner_text plan None = []
+owner_text plan (Some p) = port_text plan p
+
+-- a message about an output that belongs to a packet: the output, the input, and the end of a sentence
+abbrev pub owned_text : Plan → Port → List ℕ → Option Port → List ℕ
+owned_text plan p sentence other =
+    codes "output " ++ (port_text plan p ++ (codes " belongs to " ++ (owner_text plan other ++ sentence)))
+
+-- the form of the message
+abbrev pub reason_form : Unready → Plan → Port → List ℕ → Option Port → List ℕ
+reason_form (unready.Owned link) = owned_text
+reason_form u = sentence_text
+
+-- the message
 abbrev pub reason_text : Plan → Reason → List ℕ
 reason_text plan reason =
-    port_text plan reason.port ++ (codes ": " ++ (reason_sentence reason.unready ++ other_text plan (other_port plan reason.port reason.unready)))
+    reason_form reason.unready plan reason.port (reason_sentence reason.unready) (other_port plan reason.port reason.unready)

@@ -4,6 +4,7 @@
 #[derive(Clone, Copy, Debug)]
 pub enum DescriptionMistake {
     TooLong,
+    ByteOrderMark,
     ScriptsWord,
     ScriptBegins,
     ScriptLine,
@@ -60,16 +61,19 @@ impl DescriptionMistake {
     pub fn sentence(self) -> &'static str {
         match self {
             DescriptionMistake::TooLong => "a description has at most 1048576 bytes",
+            DescriptionMistake::ByteOrderMark => {
+                "the text begins with a byte order mark; save it without one"
+            }
             DescriptionMistake::ScriptsWord => {
-                "this is a word of scripts, and a description stands here; a line whose only word is \
-                 `script` has to stand before the script, or the script in a file of its own"
+                "this is a word of scripts, and this is the description; put a line with the one word \
+                 `script` before the script, or the script in a file of its own"
             }
             DescriptionMistake::ScriptBegins => {
                 "a description has no script here; leave out this line and what follows it, or give \
                  the whole text to `c104 run` on standard input"
             }
             DescriptionMistake::ScriptLine => {
-                "the line before a script has one word, `script`, and nothing behind it"
+                "the line before a script has one word, `script`, and nothing after it"
             }
             DescriptionMistake::NoWord => {
                 "a line begins with `switch`, `terminal`, `wire`, `row`, `base`, `continue`, `delete`, \
@@ -80,7 +84,7 @@ impl DescriptionMistake {
             }
             DescriptionMistake::SwitchLine => "the line is `switch NAME`",
             DescriptionMistake::TerminalLine => {
-                "the line is `terminal NAME SWITCH.LINK`, and behind it may stand `labels COUNT`, \
+                "the line is `terminal NAME SWITCH.LINK`, optionally followed by `labels COUNT`, \
                  `from FIRST`, or both in this order"
             }
             DescriptionMistake::WireLine => "the line is `wire SWITCH.LINK SWITCH.LINK`",
@@ -124,9 +128,9 @@ impl DescriptionMistake {
                 "a name is a letter and then letters, digits, `_` and `-`, at most 32 in all"
             }
             DescriptionMistake::NameTaken => "a switch or a terminal has this name already",
-            DescriptionMistake::NoSwitch => "no line before gives a switch this name",
+            DescriptionMistake::NoSwitch => "no earlier line defines a switch of this name",
             DescriptionMistake::NotASwitch => "this is a terminal, and a switch is wanted",
-            DescriptionMistake::NoTerminal => "no line before gives a terminal this name",
+            DescriptionMistake::NoTerminal => "no earlier line defines a terminal of this name",
             DescriptionMistake::NotATerminal => "this is a switch, and a terminal is wanted",
             DescriptionMistake::SelfWire =>
                 "a wire joins two switches, and both its ends are at the same one",
@@ -140,13 +144,13 @@ impl DescriptionMistake {
             }
             DescriptionMistake::Rows => "an input has at most 36 rows",
             DescriptionMistake::Sizes => "there are at most 64 switches and 256 terminals",
-            DescriptionMistake::Twice => "this may be said once, and a line before says it",
+            DescriptionMistake::Twice => "already given by an earlier line",
             DescriptionMistake::RandomTwice => {
-                "an input has one `random` line, and a line before is one of this input"
+                "an input has one `random` line, already given by an earlier line"
             }
             DescriptionMistake::Mixed => {
-                "the line does not go with the lines before: beside `label` stands no `row`, `base`, \
-                 `random`, `continue` or `from`, and beside `mesh` or `cube` only `header`, `buffer` and `delete`"
+                "the line doesn't go with earlier lines: `label` can't be combined with `row`, `base`, \
+                 `random`, `continue` or `from`, and `mesh` or `cube` only with `header`, `buffer` and `delete`"
             }
         }
     }

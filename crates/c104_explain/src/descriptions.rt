@@ -5,8 +5,8 @@ use crate::nearest::{
     is_script_word, nearest_description_word, nearest_select_word, nearest_switch, nearest_terminal,
 };
 use crate::words::{
-    Mistake, has_dot, has_link, is_within, link_of, name_of, names_switch, names_terminal,
-    unplain_word, word_at,
+    Mistake, begins_with_mark, has_dot, has_link, is_within, link_of, name_of, names_switch,
+    names_terminal, unplain_word, word_at,
 };
 use c104_describe::{
     Plan, PlanFault, PlanFaultKind, Port, cut_lines, cut_words, is_name, read_description,
@@ -110,6 +110,9 @@ fn first_word_mistake<'a>(words: &[&'a [u8]]) -> Mistake<'a> {
     let Some(first) = word else {
         return told(DescriptionMistake::NoWord, word);
     };
+    if begins_with_mark(first) {
+        return told(DescriptionMistake::ByteOrderMark, None);
+    }
     if is_script_word(first) {
         return told(DescriptionMistake::ScriptsWord, word);
     }
@@ -154,7 +157,7 @@ fn shape_mistake<'a>(words: &[&'a [u8]]) -> Mistake<'a> {
             }
         }
     }
-    told(form, Some(first))
+    told(form, None)
 }
 
 /// The words of a line in which a port stands.

@@ -9,8 +9,12 @@ pub enum About {
     DescriptionLine(usize),
     /// A line of the script.
     ScriptLine(usize),
-    /// What was asked between the lines of a script.
+    /// A line of the script that is faulty.
+    FaultyLine(usize),
+    /// What was asked among the lines of a script.
     Question,
+    /// A line with which a person wants to end the script.
+    Farewell,
     /// What a run has come to at its end.
     Run,
 }
@@ -20,6 +24,9 @@ pub enum About {
 pub trait Messages {
     /// Whether anyone reads the messages. Where nobody does, none is made.
     fn are_wanted(&self) -> bool;
+
+    /// Whether a person types the script and reads the messages, who may ask `help` and `show` among its lines.
+    fn are_asked(&self) -> bool;
 
     /// Takes a message, without a line feed at its end.
     fn tell(&mut self, about: About, message: &str);
@@ -36,6 +43,11 @@ pub struct Silent;
 impl Messages for Silent {
     #[inline]
     fn are_wanted(&self) -> bool {
+        false
+    }
+
+    #[inline]
+    fn are_asked(&self) -> bool {
         false
     }
 
@@ -72,9 +84,15 @@ impl<M: Messages> Messages for Behind<'_, M> {
         self.messages.are_wanted()
     }
 
+    #[inline]
+    fn are_asked(&self) -> bool {
+        self.messages.are_asked()
+    }
+
     fn tell(&mut self, about: About, message: &str) {
         let about = match about {
             About::ScriptLine(line) => About::ScriptLine(line.saturating_add(self.lines)),
+            About::FaultyLine(line) => About::FaultyLine(line.saturating_add(self.lines)),
             _ => about,
         };
         self.messages.tell(about, message);

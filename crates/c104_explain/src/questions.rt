@@ -1,13 +1,15 @@
 //! What people ask where they type a script, and what they are told.
 ghost use Rattle.std.specs.Prelude.{◌≡◌};
 ghost use Rattle.std.specs.Option.{option_map};
-ghost use Rattle.c104_explain.specs.Questions.{asks, is_question};
+ghost use Rattle.c104_explain.specs.Questions.{asks, is_question, wants_end};
 
+use crate::messages::About;
 use crate::nearest::nearest_node;
 use crate::script_mistakes::ScriptMistake;
 use crate::shown_nodes::{switch_text, terminal_text};
+use crate::shown_ports::port_answer;
 use crate::waiting::waiting_text;
-use crate::words::Mistake;
+use crate::words::{Mistake, has_dot};
 use c104_describe::{cut_words, first_word, uncommented};
 use c104_net::TracedNet;
 use std::alloc::{AllocError, Global};
@@ -21,25 +23,31 @@ credit PORT                 the port grants eight more tokens to the far end
 input SWITCH.LINK [NUMBER]  an input takes a turn with its first token
 claim SWITCH INPUT OUTPUT   an input claims an output for its header
 control SWITCH BYTE ..      a switch takes a command of at most 8 bytes
-rounds COUNT                so often each wire, input and terminal has a turn
-peek SWITCH ADDRESS         what a register of a switch reads, as `peek A 0140`
-poke SWITCH ADDRESS VALUE   a register is set
-link SWITCH.LINK            what a link tells of itself
+rounds COUNT                run COUNT rounds
+peek SWITCH ADDRESS         the register's value, as `peek A 0140`; not an event
+poke SWITCH ADDRESS VALUE   set a register
+link SWITCH.LINK            the status of a link
 table SWITCH.LINK           the base and the rows of an input
-verify                      whether all that can be set reads as it was loaded
+verify                      compare all writable registers with the loaded values
 help                        lists these lines
-show SWITCH                 tells how each wired link stands
-show TERMINAL               tells how a terminal stands
-show waiting                tells which outputs inputs hold and want
-A PORT is a terminal, or a switch with a link, as A.0. A `#` begins a comment.";
+show SWITCH                 shows each wired link
+show SWITCH.LINK            shows a link
+show TERMINAL               shows a terminal
+show waiting                shows which outputs inputs hold and want
+A PORT is a terminal, or a switch with a link, as A.0. A `#` begins a comment.
+`help` and `show` are no words of a script, and are faults there. The end of input, Ctrl-D, ends the script.";
 
 /// What a line `show` is.
-const SHOW_FORM: &str = "the line is `show SWITCH`, `show TERMINAL` or `show waiting`";
+const SHOW_FORM: &str =
+    "the line is `show SWITCH`, `show SWITCH.LINK`, `show TERMINAL` or `show waiting`";
+
+/// What a person is told who wants to end the script.
+const FAREWELL: &str = "the end of input ends the script: Ctrl-D";
 
 /// What is shown of the inputs that wait, unless a node has this name.
 const WAITING: &[u8] = b"waiting";
 
-/// Whether a line is a question of people's, and none of a script: its first word is `help` or `show`.
+/// Whether a line is a question of people's, and none of a script: its first word is `help`, `show`, `quit` or `exit`.
 #[tactic(auto, unfolding(crate::specs::Questions::is_question))]
 pub fn is_question(line: &[u8]) -> bool
     ensures { result ≡ is_question line.now }
@@ -52,8 +60,25 @@ fn asks(word: Option<&[u8]>) -> bool
     ensures { result ≡ asks (option_map (λ word. word.now) word.entry) }
 {
     match word {
-        Some(word) => word == b"help".as_slice() || word == b"show".as_slice(),
+        Some(word) => {
+            word == b"help".as_slice() || word == b"show".as_slice() || wants_end(word)
+        }
         None => false,
+    }
+}
+
+/// Whether it is with this word that a person wants to end the script.
+fn wants_end(word: &[u8]) -> bool
+    ensures { result ≡ wants_end word.now }
+{
+    word == b"quit".as_slice() || word == b"exit".as_slice()
+}
+
+/// What a question of a person is about.
+pub fn about_question(line: &[u8]) -> About {
+    match first_word(uncommented(line)) {
+        Some(word) if wants_end(word) => About::Farewell,
+        _ => About::Question,
     }
 }
 
@@ -68,13 +93,18 @@ fn answer_text(alloc: Global, net: &TracedNet, words: &[&[u8]]) -> Result<String
     match words {
         [b"show", name] => node_text(alloc, net, name),
         [b"show", ..] => Mistake::new(SHOW_FORM, None).text(alloc),
+        [b"quit" | b"exit", ..] => format!(in alloc; "{FAREWELL}"),
         _ => format!(in alloc; "{HELP}"),
     }
 }
 
-/// How the node of this name stands, or that there is none; where none has the name, `waiting` is another question.
+/// How the node of this name stands, or the port; or that there is none. Where none has the name, `waiting` is another
+/// question.
 fn node_text(alloc: Global, net: &TracedNet, name: &[u8]) -> Result<String, AllocError> {
     let plan = net.plan();
+    if has_dot(name) {
+        return port_answer(alloc, net, name);
+    }
     if let Some(switch) = plan.switch_number(name) {
         return switch_text(alloc, net, switch);
     }

@@ -20,13 +20,8 @@ pub(crate) fn reason_sentence(unready: Unready) -> &'static str
             "a token waits, and there is no credit for it; `credit` grants some at the other end of the wire"
         }
         Unready::NotGranted => "no token may come in, since none is granted; `credit` grants some",
-        Unready::NoRoom => {
-            "there is no room to grant eight more tokens; those that are here have to go on, and those that \
-             are granted to come in first"
-        }
-        Unready::CreditFull => {
-            "there is credit for 64 tokens, and no more may be granted; some have to go out first"
-        }
+        Unready::NoRoom => "no room to grant eight more tokens",
+        Unready::CreditFull => "credit for 64 tokens, the most, is already there",
         Unready::WantsOutput(_) => {
             "the header waits for an output; `claim` gets it one that is free, of the group of this link"
         }
@@ -38,9 +33,8 @@ pub(crate) fn reason_sentence(unready: Unready) -> &'static str
              selects a link"
         }
         Unready::OutsideGroup(_) => "the header goes to another output, of the group of this link",
-        Unready::Owned(_) => {
-            "the output is taken until the end of a packet has gone to it, which comes from this input"
-        }
+        // What goes before it names the output, and the input that the packet comes from.
+        Unready::Owned(_) => "'s packet until its terminator passes",
         Unready::NoRoomForHeader => {
             "the output has no room for the header; `cross` takes a token out of it"
         }

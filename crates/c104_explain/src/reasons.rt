@@ -2,7 +2,7 @@
 ghost use Rattle.std.specs.Prelude.{◌≡◌, ◌++◌, IfOk, IfSome, OnOk};
 ghost use Rattle.std.specs.String.{string_bytes};
 ghost use Rattle.c104_describe.specs.PlanPrint.{port_text};
-ghost use Rattle.c104_explain.specs.Reasons.{other_port, other_text, port_beside, reason_text};
+ghost use Rattle.c104_explain.specs.Reasons.{other_port, other_text, owned_text, owner_text, port_beside, reason_text, sentence_text};
 
 use crate::reason_sentences::reason_sentence;
 use c104_describe::{Plan, Port};
@@ -20,14 +20,67 @@ pub fn reason_message(alloc: Global, plan: &Plan, reason: Reason) -> Option<Stri
     }
 }
 
-/// The message: the port, the sentence, and the other port that it is about, if it is about one.
-fn reason_text(alloc: Global, plan: &Plan, reason: Reason) -> Result<String, AllocError>
+/// The message.
+pub(crate) fn reason_text(alloc: Global, plan: &Plan, reason: Reason) -> Result<String, AllocError>
     ensures { IfOk result (λ text. string_bytes text ≡ reason_text plan.now reason) }
 {
     let Reason { port, unready } = reason;
-    let other = other_port(plan, port, unready);
-    let port = port_text(alloc, plan, port)?;
     let sentence = reason_sentence(unready);
+    let other = other_port(plan, port, unready);
+    match unready {
+        Unready::Owned(_) => owned_text(alloc, plan, port, sentence, other),
+        Unready::NoLink
+        | Unready::NotStarted
+        | Unready::NoToken
+        | Unready::NoCredit
+        | Unready::NotGranted
+        | Unready::NoRoom
+        | Unready::CreditFull
+        | Unready::WantsOutput(_)
+        | Unready::OutputFull(_)
+        | Unready::WantsNothing
+        | Unready::OutsideGroup(_)
+        | Unready::NoRoomForHeader => sentence_text(alloc, plan, port, sentence, other),
+    }
+}
+
+/// A message about an output that belongs to a packet: the output, the input whose packet that is, and the end of a
+/// sentence.
+fn owned_text(
+    alloc: Global,
+    plan: &Plan,
+    port: Port,
+    sentence: &str,
+    other: Option<Port>,
+) -> Result<String, AllocError>
+    ensures { IfOk result (λ text. string_bytes text ≡ owned_text plan.now port sentence.now other) }
+{
+    let owner = owner_text(alloc, plan, other)?;
+    let port = port_text(alloc, plan, port)?;
+    format!(in alloc; "output {port} belongs to {owner}{sentence}")
+}
+
+/// The input whose packet an output belongs to.
+fn owner_text(alloc: Global, plan: &Plan, other: Option<Port>) -> Result<String, AllocError>
+    ensures { IfOk result (λ text. string_bytes text ≡ owner_text plan.now other) }
+{
+    match other {
+        Some(other) => port_text(alloc, plan, other),
+        None => Ok(String::new(alloc)),
+    }
+}
+
+/// A message about a port: the port, a sentence, and the other port that it is about, if it is about one.
+fn sentence_text(
+    alloc: Global,
+    plan: &Plan,
+    port: Port,
+    sentence: &str,
+    other: Option<Port>,
+) -> Result<String, AllocError>
+    ensures { IfOk result (λ text. string_bytes text ≡ sentence_text plan.now port sentence.now other) }
+{
+    let port = port_text(alloc, plan, port)?;
     let mut text = format!(in alloc; "{port}: {sentence}")?;
     if let Some(other) = other {
         let other = port_text(alloc, plan, other)?;

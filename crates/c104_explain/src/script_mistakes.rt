@@ -4,9 +4,11 @@
 #[derive(Clone, Copy, Debug)]
 pub enum ScriptMistake {
     LineTooLong,
+    ByteOrderMark,
     DescriptionsWord,
     ScriptBegan,
     NoWord,
+    NoWordAsked,
     WrongByte,
     SendLine,
     DrainLine,
@@ -45,8 +47,16 @@ pub enum ScriptMistake {
     TraceFull,
     NoRegister,
     ReadOnly,
-    OutOfRange,
+    ModeRange,
+    RandomBaseRange,
+    RandomRangeRange,
+    BaseRange,
+    LimitRange,
+    SelectRange,
     Busy,
+    NoCommand,
+    CommandLength,
+    Started,
 }
 
 impl ScriptMistake {
@@ -54,14 +64,22 @@ impl ScriptMistake {
     pub fn sentence(self) -> &'static str {
         match self {
             ScriptMistake::LineTooLong => "a line has at most 16384 bytes",
+            ScriptMistake::ByteOrderMark => {
+                "the text begins with a byte order mark; save it without one"
+            }
             ScriptMistake::DescriptionsWord => {
-                "this is a word of descriptions, and the script stands here; a description ends before \
+                "this is a word of descriptions, and this is the script; the description ends before \
                  the line `script`"
             }
             ScriptMistake::ScriptBegan => "the script has begun already",
             ScriptMistake::NoWord => {
                 "a line begins with `send`, `drain`, `cross`, `credit`, `input`, `claim`, `control`, \
                  `rounds`, `peek`, `poke`, `link`, `table` or `verify`"
+            }
+            ScriptMistake::NoWordAsked => {
+                "a line begins with `send`, `drain`, `cross`, `credit`, `input`, `claim`, `control`, \
+                 `rounds`, `peek`, `poke`, `link`, `table` or `verify`; `help` lists them, and `show` shows \
+                 a part of the network"
             }
             ScriptMistake::WrongByte => {
                 "outside of a comment a byte is printable ASCII, a space, a tab or a carriage return"
@@ -71,11 +89,11 @@ impl ScriptMistake {
             ScriptMistake::CrossLine => "the line is `cross TERMINAL` or `cross SWITCH.LINK`",
             ScriptMistake::CreditLine => "the line is `credit TERMINAL` or `credit SWITCH.LINK`",
             ScriptMistake::InputLine => {
-                "the line is `input SWITCH.LINK`, and behind it a number may stand, which picks a random header"
+                "the line is `input SWITCH.LINK`, followed by an optional number, which picks a random header"
             }
             ScriptMistake::ClaimLine => "the line is `claim SWITCH INPUT OUTPUT`, as `claim A 0 1`",
             ScriptMistake::ControlLine => {
-                "the line is `control SWITCH`, and behind it stand at most 8 bytes"
+                "the line is `control SWITCH`, followed by at most 8 bytes"
             }
             ScriptMistake::RoundsLine => "the line is `rounds COUNT`",
             ScriptMistake::PeekLine => "the line is `peek SWITCH ADDRESS`, as `peek A 0140`",
@@ -99,13 +117,13 @@ impl ScriptMistake {
                 "a packet ends at its first `eop` or `eom`, and a line sends one packet"
             }
             ScriptMistake::PacketTooLong => "a packet has at most 4096 bytes",
-            ScriptMistake::NoNode => "no line of the description gives anything this name",
+            ScriptMistake::NoNode => "the description defines no such name",
             ScriptMistake::NotATerminal => "this is a switch, and a terminal is wanted",
             ScriptMistake::NotASwitch => "this is a terminal, and a switch is wanted",
             ScriptMistake::TerminalsLink => "a terminal is named without a link",
             ScriptMistake::SwitchsLink => "the switch is named without a link here",
             ScriptMistake::LinkMissing => {
-                "a switch has 32 links, and one of them is wanted, behind a dot, as A.0"
+                "a link is wanted here: the switch, a dot and 0 to 31, as A.0"
             }
             ScriptMistake::NoInput => "inputs and outputs are 0 to 31",
             ScriptMistake::NotWired => "the link has neither a terminal nor a wire",
@@ -122,10 +140,27 @@ impl ScriptMistake {
             ScriptMistake::ReadOnly => {
                 "the register tells what the switch does, and can't be set"
             }
-            ScriptMistake::OutOfRange => "the register doesn't take this value",
+            ScriptMistake::ModeRange => "the register Mode takes 0 to f (hexadecimal)",
+            ScriptMistake::RandomBaseRange =>
+                "the register RandomBase takes 0 to ffff (hexadecimal)",
+            ScriptMistake::RandomRangeRange =>
+                "the register RandomRange takes 0 to 10000 (hexadecimal)",
+            ScriptMistake::BaseRange => "the register Base takes 0 to ffff (hexadecimal)",
+            ScriptMistake::LimitRange => "a register Limit takes 0 to 10000 (hexadecimal)",
+            ScriptMistake::SelectRange => {
+                "a register Select takes a link, 0 to 1f, or 20 to discard, or 40 to sink (hexadecimal)"
+            }
             ScriptMistake::Busy => {
                 "the mode of a link can't change while a packet is on its way through the link"
             }
+            ScriptMistake::NoCommand => {
+                "a command begins with 01 to start, 02 to reset, 03 to identify, 04 to peek or 05 to poke"
+            }
+            ScriptMistake::CommandLength => {
+                "the bytes 01, 02 and 03 stand alone; 04 is followed by an address in 2 bytes, and 05 by one and a \
+                 value in 4, low byte first"
+            }
+            ScriptMistake::Started => "the switch is started already",
         }
     }
 }

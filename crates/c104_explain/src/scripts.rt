@@ -1,12 +1,14 @@
-//! What is told of a script's line that is faulty or refused.
+//! What is told of a script's line that is faulty or refused, or asks for the status of a link.
+ghost use Rattle.std.specs.Prelude.{◌<◌, IfSome};
 
 use crate::nearest::{
     is_description_word, nearest_node, nearest_script_word, nearest_switch, nearest_terminal,
 };
+use crate::register_ranges::range_of_word;
 use crate::script_mistakes::ScriptMistake;
 use crate::words::{
-    LAST_LINK, Mistake, has_dot, is_within, link_of, name_of, names_switch, names_terminal,
-    unplain_word, word_at,
+    LAST_LINK, Mistake, begins_with_mark, has_dot, is_within, link_of, name_of, names_switch,
+    names_terminal, shown_text, unplain_word, word_at,
 };
 use c104_describe::{Plan, cut_words, read_number, uncommented};
 use c104_event::EventFault;
@@ -21,13 +23,20 @@ const MAX_CONTROL_WORDS: usize = 10;
 /// The most digits of a register's address.
 const ADDRESS_DIGITS: usize = 4;
 
-/// What is told of a faulty line. None out of memory.
-pub fn fault_message(alloc: Global, line: &[u8], fault: LineFault) -> Option<String> {
+/// What is told of a faulty line, of which a person who types it may also ask. None out of memory.
+pub fn fault_message(
+    alloc: Global,
+    line: &[u8],
+    fault: LineFault,
+    is_asked: bool,
+) -> Option<String> {
     if fault == LineFault::LineTooLong {
         return told(ScriptMistake::LineTooLong, None).text(alloc).ok();
     }
     let words = cut_words(alloc, uncommented(line)).ok()?;
-    find_fault(fault, words.as_slice()).text(alloc).ok()
+    find_fault(fault, words.as_slice(), is_asked)
+        .text(alloc)
+        .ok()
 }
 
 /// What is told of a line that is refused. None out of memory.
@@ -48,10 +57,26 @@ pub fn register_message(alloc: Global, line: &[u8], fault: RegFault) -> Option<S
     let mistake = match fault {
         RegFault::NoRegister => told(ScriptMistake::NoRegister, word_at(words, 2)),
         RegFault::ReadOnly => told(ScriptMistake::ReadOnly, word_at(words, 2)),
-        RegFault::OutOfRange => told(ScriptMistake::OutOfRange, word_at(words, 3)),
+        RegFault::OutOfRange => told(range_of_word(word_at(words, 2)), word_at(words, 3)),
         RegFault::Busy => told(ScriptMistake::Busy, word_at(words, 2)),
     };
     mistake.text(alloc).ok()
+}
+
+/// What is told beside the status of a link whose output belongs to a packet: the input that the packet comes from, by
+/// its number and 1. None where it belongs to none, and out of memory.
+pub fn owner_message(alloc: Global, line: &[u8], owner: u32) -> Option<String>
+    ensures { IfSome result (λ _. 0 < owner) }
+{
+    if owner == 0 {
+        return None;
+    }
+    let words = cut_words(alloc, uncommented(line)).ok()?;
+    let port = word_at(words.as_slice(), 1)?;
+    let output = shown_text(alloc, port).ok()?;
+    let switch = shown_text(alloc, name_of(port)).ok()?;
+    let input = owner - 1;
+    format!(in alloc; "output {output} belongs to the packet of input {switch}.{input}").ok()
 }
 
 /// A mistake about a word.
@@ -60,10 +85,10 @@ fn told(what: ScriptMistake, word: Option<&[u8]>) -> Mistake<'_> {
 }
 
 /// The mistake of a faulty line of these words.
-fn find_fault<'a>(fault: LineFault, words: &[&'a [u8]]) -> Mistake<'a> {
+fn find_fault<'a>(fault: LineFault, words: &[&'a [u8]], is_asked: bool) -> Mistake<'a> {
     match fault {
         LineFault::LineTooLong | LineFault::NoMemory => told(ScriptMistake::LineTooLong, None),
-        LineFault::UnknownWord => first_word_mistake(word_at(words, 0)),
+        LineFault::UnknownWord => first_word_mistake(word_at(words, 0), is_asked),
         LineFault::BadShape => shape_mistake(words),
         LineFault::BadNumber => number_mistake(words),
         LineFault::BadHex => hex_mistake(words),
@@ -74,17 +99,25 @@ fn find_fault<'a>(fault: LineFault, words: &[&'a [u8]]) -> Mistake<'a> {
 }
 
 /// No line begins with the word.
-fn first_word_mistake(word: Option<&[u8]>) -> Mistake<'_> {
+fn first_word_mistake(word: Option<&[u8]>, is_asked: bool) -> Mistake<'_> {
     let Some(first) = word else {
         return told(ScriptMistake::NoWord, word);
     };
+    if begins_with_mark(first) {
+        return told(ScriptMistake::ByteOrderMark, None);
+    }
     if is_description_word(first) {
         return told(ScriptMistake::DescriptionsWord, word);
     }
     if first == b"script".as_slice() {
         return told(ScriptMistake::ScriptBegan, word);
     }
-    told(ScriptMistake::NoWord, word).near(nearest_script_word(first))
+    let what = if is_asked {
+        ScriptMistake::NoWordAsked
+    } else {
+        ScriptMistake::NoWord
+    };
+    told(what, word).near(nearest_script_word(first))
 }
 
 /// What a line is that begins with the word.
@@ -132,7 +165,7 @@ fn shape_mistake<'a>(words: &[&'a [u8]]) -> Mistake<'a> {
     if may_have(form, words.len()) {
         return told(ScriptMistake::NoPort, word_at(words, 1));
     }
-    told(form, Some(first))
+    told(form, None)
 }
 
 /// A number that is none, or out of its range.

@@ -1,4 +1,5 @@
 //! How a node stands, in words.
+ghost use Rattle.std.specs.Prelude.{◌<◌};
 
 use crate::random_inputs::puts_random;
 use crate::reasons::port_text;
@@ -13,22 +14,39 @@ pub(crate) fn switch_text(
     net: &TracedNet,
     switch: usize,
 ) -> Result<String, AllocError> {
-    let plan = net.plan();
     let mut text = String::new(alloc);
     for link in 0..LINKS {
-        let port = Port::Switch(switch, link);
-        if let Some(other) = plan.peer(port)
-            && let Some(view) = net.view_link(switch, link)
-        {
+        let line = link_text(alloc, net, switch, link)?;
+        if !line.is_empty() {
             if !text.is_empty() {
                 text.push('\n')?;
             }
-            let puts_random = puts_random(net, switch, link as u16);
-            add_link(alloc, plan, (port, other), &view, puts_random, &mut text)?;
+            text.push_str(line.as_str())?;
         }
     }
     if text.is_empty() {
         text.push_str("no link of this switch has a wire")?;
+    }
+    Ok(text)
+}
+
+/// How a link of a switch stands: nothing where it has no wire.
+pub(crate) fn link_text(
+    alloc: Global,
+    net: &TracedNet,
+    switch: usize,
+    link: usize,
+) -> Result<String, AllocError>
+    requires { link < 32 }
+{
+    let mut text = String::new(alloc);
+    let plan = net.plan();
+    let port = Port::Switch(switch, link);
+    if let Some(other) = plan.peer(port)
+        && let Some(view) = net.view_link(switch, link)
+    {
+        let puts_random = puts_random(net, switch, link as u16);
+        add_link(alloc, plan, (port, other), &view, puts_random, &mut text)?;
     }
     Ok(text)
 }

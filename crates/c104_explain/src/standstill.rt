@@ -1,6 +1,7 @@
 //! What is told of a network in which nothing can move, though tokens are there.
 
 use crate::waiting::waiting_text;
+use crate::words::counted;
 use c104_net::TracedNet;
 use c104_switch::{LINKS, LinkView, Phase};
 use c104_token::{NoMemory, Token};
@@ -26,7 +27,8 @@ fn standstill_text(
     let mut text = format!(in alloc; "stands still: {tokens} tokens wait")?;
     if let Some(sent) = sent {
         let packets = sent.saturating_sub(gone_packets(alloc, net)?);
-        let packets = format!(in alloc; " in {packets} packets")?;
+        let packets = counted(alloc, packets, "packet")?;
+        text.push_str(" in ")?;
         text.push_str(packets.as_str())?;
     }
     let waiting = waiting_text(alloc, net)?;

@@ -57,6 +57,13 @@ impl<'a> Mistake<'a> {
     }
 }
 
+/// A word, as it is shown. The only error is out of memory.
+pub(crate) fn shown_text(alloc: Global, word: &[u8]) -> Result<String, AllocError> {
+    let mut text = String::new(alloc);
+    add_word(&mut text, word)?;
+    Ok(text)
+}
+
 /// A word joins the text: its printable bytes as they are, of others a question mark, and no more than so many.
 fn add_word(text: &mut String, word: &[u8]) -> Result<(), AllocError> {
     for byte in &word[..word.len().min(SHOWN)] {
@@ -93,6 +100,11 @@ pub(crate) fn unplain_word<'a>(words: &[&'a [u8]]) -> Option<&'a [u8]> {
         }
     }
     None
+}
+
+/// Whether a word begins with the mark that some editors put before a text.
+pub(crate) fn begins_with_mark(word: &[u8]) -> bool {
+    matches!(word, [0xef, 0xbb, 0xbf, ..])
 }
 
 /// What stands before the dot of a word, which is all of it where it has no dot.
@@ -140,4 +152,10 @@ pub(crate) fn names_switch(plan: &Plan, word: &[u8]) -> bool {
 /// Whether a terminal has the name before the dot of a word.
 pub(crate) fn names_terminal(plan: &Plan, word: &[u8]) -> bool {
     plan.terminal_number(name_of(word)).is_some()
+}
+
+/// So many things of a kind, in words.
+pub(crate) fn counted(alloc: Global, count: usize, kind: &str) -> Result<String, AllocError> {
+    let ending = if count == 1 { "" } else { "s" };
+    format!(in alloc; "{count} {kind}{ending}")
 }

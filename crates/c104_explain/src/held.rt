@@ -1,0 +1,151 @@
+//! What moves tokens on that wait somewhere, or else what holds them there.
+
+use crate::reason_sentences::reason_sentence;
+use crate::reasons::{port_text, reason_text};
+use c104_describe::Port;
+use c104_event::Event;
+use c104_net::{Reason, TracedNet};
+use c104_switch::{LINKS, Unready};
+use std::alloc::{AllocError, Global};
+
+/// What moves on so many tokens that wait at an output, or to go out of a terminal: `cross`, where there is credit or a
+/// round grants some; or else what holds them.
+pub(crate) fn after_output(
+    alloc: Global,
+    net: &TracedNet,
+    port: Port,
+    count: usize,
+) -> Result<String, AllocError> {
+    let Some(other) = net.plan().peer(port) else {
+        return format!(in alloc; "no wire leads on from there");
+    };
+    match net.why(&Event::Cross(port)) {
+        None => moved_text(alloc, "`cross`", count),
+        Some(
+            Reason {
+                unready: Unready::NoCredit,
+                ..
+            },
+        ) => after_credit(alloc, net, other, count),
+        Some(reason) => held_text(alloc, net, port, reason),
+    }
+}
+
+/// The same where there is no credit, which this port grants.
+fn after_credit(
+    alloc: Global,
+    net: &TracedNet,
+    port: Port,
+    count: usize,
+) -> Result<String, AllocError> {
+    match net.why(&Event::Credit(port)) {
+        None => moved_text(alloc, "`credit` and `cross`", count),
+        Some(reason) => reason_text(alloc, net.plan(), reason),
+    }
+}
+
+/// What moves on so many tokens that wait at an input whose packet wants no output, or else what holds them.
+pub(crate) fn after_input(
+    alloc: Global,
+    net: &TracedNet,
+    switch: usize,
+    link: usize,
+    count: usize,
+) -> Result<String, AllocError> {
+    let event = Event::Input {
+        switch,
+        link,
+        word: 0,
+    };
+    match net.why(&event) {
+        None => moved_text(alloc, "`input`", count),
+        Some(
+            Reason {
+                unready: Unready::OutputFull(output),
+                ..
+            },
+        ) => {
+            let output = port_text(alloc, net.plan(), Port::Switch(switch, output))?;
+            format!(in alloc; "output {output} is full")
+        }
+        Some(reason) => held_text(alloc, net, Port::Switch(switch, link), reason),
+    }
+}
+
+/// What moves on so many tokens that wait at an input behind a header that wants an output, or else what holds them.
+pub(crate) fn after_header(
+    alloc: Global,
+    net: &TracedNet,
+    switch: usize,
+    input: usize,
+    count: usize,
+) -> Result<String, AllocError> {
+    match find_output(net, switch, input) {
+        Wish::Free => moved_text(alloc, "`claim`", count),
+        Wish::Held(reason) => held_text(alloc, net, Port::Switch(switch, input), reason),
+        Wish::Nothing => after_input(alloc, net, switch, input, count),
+    }
+}
+
+/// What an input finds that wants an output.
+#[derive(Clone, Copy)]
+enum Wish {
+    /// An output that it can claim.
+    Free,
+    /// None, and this is why it can't claim the first one.
+    Held(Reason),
+    /// No output that it wants.
+    Nothing,
+}
+
+/// What an input finds that wants an output.
+fn find_output(net: &TracedNet, switch: usize, input: usize) -> Wish {
+    let mut found = Wish::Nothing;
+    for output in 0..LINKS {
+        let claim = Event::Claim {
+            switch,
+            input,
+            output,
+        };
+        match net.why(&claim) {
+            None => return Wish::Free,
+            Some(
+                Reason {
+                    unready: Unready::OutsideGroup(_),
+                    ..
+                },
+            ) => {}
+            Some(reason) => found = first_wish(found, reason),
+        }
+    }
+    found
+}
+
+/// What was found, or else this reason.
+fn first_wish(found: Wish, reason: Reason) -> Wish {
+    match found {
+        Wish::Nothing => Wish::Held(reason),
+        Wish::Free | Wish::Held(_) => found,
+    }
+}
+
+/// That these events move so many tokens on.
+fn moved_text(alloc: Global, events: &str, count: usize) -> Result<String, AllocError> {
+    let them = if count == 1 { "it" } else { "them" };
+    format!(in alloc; "{events} or more `rounds` move {them} on")
+}
+
+/// The reason that holds tokens at a port.
+fn held_text(
+    alloc: Global,
+    net: &TracedNet,
+    here: Port,
+    reason: Reason,
+) -> Result<String, AllocError> {
+    let Reason { port, unready } = reason;
+    if port.is_same(here) {
+        let sentence = reason_sentence(unready);
+        return format!(in alloc; "{sentence}");
+    }
+    reason_text(alloc, net.plan(), reason)
+}
