@@ -2,7 +2,7 @@ pub mod Printing
 pub mod PacketLines
 pub mod Lines
 pub mod LinesLaw
-pub mod Hearing
+pub mod Leavings
 pub mod ScriptSoFar
 pub mod ScriptEnds
 pub mod PlanRuns

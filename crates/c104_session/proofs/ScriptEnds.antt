@@ -1,16 +1,16 @@
 -- The ends of a script that is read and answered, whatever is known of it.
-use Rattle.std.proofs.Common.{◌≡◌, ℕ, ◌<◌, false, true, List, [], ◌∷◌, ◌++◌, Option, None, Some, Result, Ok, Err, OnOk, OnErr, IsErr, IsErrAnd, Bool, sym, ap, ◌∙◌, refl, subst}
+use Rattle.std.proofs.Common.{◌≡◌, ℕ, ◌<◌, ◌≤◌, false, true, List, [], ◌∷◌, ◌++◌, Option, None, Some, Result, Ok, Err, IsErr, IsErrAnd, Bool, length, sym, ap, ◌∙◌, refl, subst, arith}
 use Rattle.std.proofs.lemmas.List.{append-nil}
-use Rattle.std.specs.Io.KnownBytes.{Appends, Consumes, Keeps, IsAtEnd}
+use Rattle.std.specs.Io.KnownBytes.{Appends, Consumes, Keeps, IsAtEnd, prepend_known}
 use Rattle.c104_stream.specs.Writing.{AppendsAndKeeps, AppendsPrefix}
 use Rattle.c104_stream.specs.declared.halt.Halt.{Halt}
 use Rattle.c104_stream.specs.declared.halt.Halt.TheVariants as halt
 use Rattle.c104_session.specs.declared.session.Session.{Session}
 use Rattle.c104_session.specs.Shown.{line_outcome, script_outcome}
 use Rattle.c104_session.specs.Runs.{AnswersLine, AnswersLines, AnswersScript, LineStops, ReadStops}
-use Rattle.c104_stream.proofs.Prefixes.{kept_all, kept_fails, kept_on, kept_only, prefix_only}
-use Rattle.std.proofs.KnownBytes.{Appends-trans}
-use Rattle.c104_session.proofs.ScriptSoFar.{Reached, fed, memory_stops, writer_fails, stops_at, all_answered, longer}
+use Rattle.c104_stream.proofs.Prefixes.{kept_all, kept_fails, kept_none, kept_on, kept_only, none_short}
+use Rattle.std.proofs.KnownBytes.{Appends-nil, Appends-trans}
+use Rattle.c104_session.proofs.ScriptSoFar.{Reached, begins_with, fed, within, memory_stops, writer_fails, stops_at, all_answered, longer}
 
 -- no further byte was read
 pub read_halts : (all now held holds wrote remains : Option (List ℕ)) (kept keeps : List ℕ) (start session : Session) (number left : ℕ) (line : List ℕ) (kind : Halt) → Reached all now held holds kept start session number line left → ReadStops now remains holds wrote kept keeps kind
@@ -19,34 +19,40 @@ read_halts None now held holds wrote remains kept keeps start session number lef
 read_halts (Some script) None held holds wrote remains kept keeps start session number left line kind reached stopped = absurd reached.consumed
 read_halts (Some script) (Some rest) held holds wrote None kept keeps start session number left line halt.CannotRead reached stopped = absurd stopped.2
 read_halts (Some script) (Some rest) held holds wrote (Some last) kept keeps start session number left line halt.CannotRead reached stopped =
-    (stopped.0, record { front = reached.read; rest = rest; is_prefix = reached.consumed; is_left = ap Some stopped.2; wrote = kept_all held holds wrote kept _ reached.wrote stopped.1 })
+    (stopped.0, record { front = reached.read; rest = rest; is_prefix = reached.consumed; is_left = ap Some stopped.2; is_within = within reached; wrote = kept_all held holds wrote kept _ reached.wrote stopped.1 })
 read_halts (Some script) (Some rest) held holds wrote remains kept keeps start session number left line halt.CannotWrite reached stopped = writer_fails reached script rest remains wrote keeps session reached.consumed stopped
-read_halts (Some script) (Some rest) held holds wrote remains kept keeps start session number left line halt.NoMemory reached stopped = memory_stops reached script rest remains wrote keeps session reached.consumed stopped
+read_halts (Some script) (Some rest) held holds wrote None kept keeps start session number left line halt.NoMemory reached stopped = absurd stopped.2
+read_halts (Some script) (Some rest) held holds wrote (Some last) kept keeps start session number left line halt.NoMemory reached stopped =
+    memory_stops reached script [] rest (Some last) wrote keeps session reached.consumed (ap Some stopped.2) (kept_none holds wrote keeps kept stopped.0 stopped.1)
 
 -- no memory for a byte
-pub byte_halts : (all now held holds remains : Option (List ℕ)) (kept : List ℕ) (start session : Session) (number left : ℕ) (line : List ℕ) → Reached all now held holds kept start session number line left
+pub byte_halts : (all now held holds remains : Option (List ℕ)) (before kept : List ℕ) (start session : Session) (number left : ℕ) (line : List ℕ) (byte : ℕ) → Reached all now held holds kept start session number line left → Consumes now (prepend_known before remains) (byte ∷ [])
     → AnswersLines start all remains held holds kept session (Err halt.NoMemory)
-byte_halts None now held holds remains kept start session number left line reached = tt
-byte_halts (Some script) None held holds remains kept start session number left line reached = absurd reached.consumed
-byte_halts (Some script) (Some rest) held holds remains kept start session number left line reached = memory_stops reached script rest remains holds kept session reached.consumed (kept_only holds kept)
+byte_halts None now held holds remains before kept start session number left line byte reached took = tt
+byte_halts (Some script) None held holds remains before kept start session number left line byte reached took = absurd reached.consumed
+byte_halts (Some script) (Some rest) held holds None before kept start session number left line byte reached took = absurd took
+byte_halts (Some script) (Some rest) held holds (Some next) before kept start session number left line byte reached took =
+    memory_stops reached script (byte ∷ before) next (Some next) holds kept session (reached.consumed ∙ ap (λ xs. reached.read ++ xs) took) refl (kept_only holds kept)
 
 -- a line that a line feed ended isn't answered
-pub line_halts : (all now new held holds wrote remains : Option (List ℕ)) (kept keeps : List ℕ) (start session after : Session) (number left : ℕ) (line : List ℕ) (kind : Halt) → Reached all now held holds kept start session number line left → 0 < left → Consumes now new (10 ∷ [])
+pub line_halts : (all now held holds wrote remains : Option (List ℕ)) (before kept keeps : List ℕ) (start session after : Session) (number left : ℕ) (line : List ℕ) (kind : Halt) → Reached all now held holds kept start session number line left → 0 < left → Consumes now (prepend_known before remains) (10 ∷ [])
     → LineStops session number line holds wrote kept keeps kind → AnswersLines start all remains held wrote keeps after (Err kind)
-line_halts None now new held holds wrote remains kept keeps start session after number left line kind reached some took stopped = tt
-line_halts (Some script) None new held holds wrote remains kept keeps start session after number left line kind reached some took stopped = absurd reached.consumed
-line_halts (Some script) (Some rest) None held holds wrote remains kept keeps start session after number left line kind reached some took stopped = absurd took
-line_halts (Some script) (Some rest) (Some next) held holds wrote remains kept keeps start session after number left line kind reached some took stopped =
-    stops_at reached script (10 ∷ next) _ remains wrote keeps after kind (reached.consumed ∙ ap (λ xs. reached.read ++ xs) took) (fed left line next some) stopped
+line_halts None now held holds wrote remains before kept keeps start session after number left line kind reached some took stopped = tt
+line_halts (Some script) None held holds wrote remains before kept keeps start session after number left line kind reached some took stopped = absurd reached.consumed
+line_halts (Some script) (Some rest) held holds wrote None before kept keeps start session after number left line kind reached some took stopped = absurd took
+line_halts (Some script) (Some rest) held holds wrote (Some next) before kept keeps start session after number left line kind reached some took stopped =
+    let is : script ≡ reached.read ++ 10 ∷ (before ++ next) = reached.consumed ∙ ap (λ xs. reached.read ++ xs) took in
+    stops_at reached script (10 ∷ (before ++ next)) (10 ∷ before) next _ (Some next) wrote keeps after kind is (fed left line (before ++ next) some) is refl stopped
 
 -- the last line, which ends with the script, isn't answered
-pub last_halts : (all now new held holds wrote remains : Option (List ℕ)) (kept keeps : List ℕ) (start session after : Session) (number left : ℕ) (line : List ℕ) (kind : Halt) → Reached all now held holds kept start session number line left → Keeps now new × IsAtEnd new
+pub last_halts : (all now held holds wrote remains : Option (List ℕ)) (before kept keeps : List ℕ) (start session after : Session) (number left : ℕ) (line : List ℕ) (kind : Halt) → Reached all now held holds kept start session number line left → Keeps now (prepend_known before remains) × IsAtEnd (prepend_known before remains)
     → LineStops session number line holds wrote kept keeps kind → AnswersLines start all remains held wrote keeps after (Err kind)
-last_halts None now new held holds wrote remains kept keeps start session after number left line kind reached ended stopped = tt
-last_halts (Some script) None new held holds wrote remains kept keeps start session after number left line kind reached ended stopped = absurd reached.consumed
-last_halts (Some script) (Some rest) None held holds wrote remains kept keeps start session after number left line kind reached ended stopped = absurd ended.0
-last_halts (Some script) (Some rest) (Some next) held holds wrote remains kept keeps start session after number left line kind reached ended stopped =
-    stops_at reached script [] [] remains wrote keeps after kind (reached.consumed ∙ ap (λ xs. reached.read ++ xs) (sym ended.0 ∙ ended.1)) refl stopped
+last_halts None now held holds wrote remains before kept keeps start session after number left line kind reached ended stopped = tt
+last_halts (Some script) None held holds wrote remains before kept keeps start session after number left line kind reached ended stopped = absurd reached.consumed
+last_halts (Some script) (Some rest) held holds wrote None before kept keeps start session after number left line kind reached ended stopped = absurd ended.0
+last_halts (Some script) (Some rest) held holds wrote (Some next) before kept keeps start session after number left line kind reached ended stopped =
+    let parts : script ≡ reached.read ++ (before ++ next) = reached.consumed ∙ ap (λ xs. reached.read ++ xs) (sym ended.0) in
+    stops_at reached script [] before next [] (Some next) wrote keeps after kind (parts ∙ ap (λ xs. reached.read ++ xs) ended.1) refl parts refl stopped
 
 -- the last line is answered
 pub script_ends : (all now new held holds wrote remains : Option (List ℕ)) (kept keeps : List ℕ) (start session after : Session) (number left : ℕ) (line : List ℕ) → Reached all now held holds kept start session number line left → Keeps now new × IsAtEnd new
@@ -71,44 +77,39 @@ pub err_is : {A E : Type 0} (result : Result A E) (kind : E) → IsErr result ×
 err_is (Ok x) kind is = absurd (cc is.0)
 err_is (Err e) kind is = ap Err is.1
 
--- what was kept is written, or a prefix of it
-pub flushed : {A E : Type 0} (result : Result A E) (now holds : Option (List ℕ)) (kept : List ℕ) → OnOk result (Appends now holds kept) → OnErr result (AppendsPrefix now holds kept) → AppendsPrefix now holds kept
-flushed (Ok x) now holds kept wrote front = subst (λ text. AppendsPrefix now holds text) (append-nil kept) (prefix_only now holds kept [] wrote)
-flushed (Err e) now holds kept wrote front = front
-
-nothing_first : (xs ys : List ℕ) → [] ≡ xs ++ ys → xs ≡ []
-nothing_first [] ys is = refl
-nothing_first (x ∷ xs) ys is = absurd (cc is)
+-- nothing was answered, and nothing was read
+pub nothing_answered : (start : Session) (known held : Option (List ℕ)) (before : List ℕ) → AnswersScript start (prepend_known before known) known held held start (Err halt.NoMemory)
+nothing_answered start None held before = tt
+nothing_answered start (Some rest) held before = record { front = []; ahead = before; rest = rest; is_front = refl; is_left = refl; is_within = omega arith; wrote = Appends-nil held }
 
 -- nothing more is written where nothing was kept
-still : (held now holds : Option (List ℕ)) (bytes kept : List ℕ) → Appends held now bytes → kept ≡ [] → AppendsPrefix now holds kept → Appends held holds bytes
-still held now holds bytes kept wrote none front =
-    let nothing : front.written ≡ [] = nothing_first front.written front.unwritten (sym none ∙ front.is_prefix) in
-    subst (λ xs. Appends held holds xs) (append-nil bytes) (Appends-trans held now holds bytes [] wrote (subst (λ xs. Appends now holds xs) nothing front.grew))
+still : (held now holds : Option (List ℕ)) (bytes keeps : List ℕ) → Appends held now bytes → keeps ≡ [] → Appends now holds keeps → Appends held holds bytes
+still held now holds bytes keeps wrote none more =
+    subst (λ xs. Appends held holds xs) (append-nil bytes) (Appends-trans held now holds bytes [] wrote (subst (λ xs. Appends now holds xs) none more))
 
 -- what is kept at the end is written
-pub script_written : (start after : Session) (all left held now holds : Option (List ℕ)) (keeps : List ℕ) (long : Bool) → AnswersLines start all left held now keeps after (Ok long) → Appends now holds keeps → AnswersScript start all left held holds after (Ok long)
-script_written start after None left held now holds keeps long answered wrote = tt
-script_written start after (Some script) left held now holds keeps long answered wrote = (answered.0, answered.1, kept_all held now holds keeps (script_outcome start script).0 answered.2 wrote)
+pub script_flushed : (start after : Session) (all left held now holds : Option (List ℕ)) (keeps : List ℕ) (result : Result Bool Halt) → AnswersLines start all left held now keeps after result → Appends now holds keeps → AnswersScript start all left held holds after result
+script_flushed start after None left held now holds keeps result answered wrote = tt
+script_flushed start after (Some script) left held now holds keeps (Ok long) answered wrote = (answered.0, answered.1, kept_all held now holds keeps (script_outcome start script).0 answered.2 wrote)
+script_flushed start after (Some script) left held now holds keeps (Err halt.CannotRead) answered wrote =
+    let was = answered.1 in
+    record { front = was.front; rest = was.rest; is_prefix = was.is_prefix; is_left = was.is_left; is_within = was.is_within; wrote = still held now holds _ keeps was.wrote answered.0 wrote }
+script_flushed start after (Some script) left held now holds keeps (Err halt.CannotWrite) answered wrote =
+    let was = answered.1 in
+    record { written = was.written; unwritten = was.unwritten; grew = still held now holds was.written keeps was.grew answered.0 wrote; is_prefix = was.is_prefix; is_short = was.is_short }
+script_flushed start after (Some script) left held now holds keeps (Err halt.NoMemory) answered wrote =
+    record { front = answered.front; ahead = answered.ahead; rest = answered.rest; is_front = answered.is_front; is_left = answered.is_left; is_within = answered.is_within; wrote = kept_all held now holds keeps _ answered.grew wrote }
 
--- or a prefix of it
-pub script_unwritten : (start after : Session) (all left held now holds : Option (List ℕ)) (keeps : List ℕ) (long : Bool) → AnswersLines start all left held now keeps after (Ok long) → AppendsPrefix now holds keeps → AnswersScript start all left held holds after (Err halt.CannotWrite)
-script_unwritten start after None left held now holds keeps long answered front = tt
-script_unwritten start after (Some script) left held now holds keeps long answered front =
+-- or a prefix of it, and that is a write fault, also where memory had run out
+pub script_unflushed : (start after : Session) (all left held now holds : Option (List ℕ)) (keeps : List ℕ) (result : Result Bool Halt) → AnswersLines start all left held now keeps after result → AppendsPrefix now holds keeps → AnswersScript start all left held holds after (Err halt.CannotWrite)
+script_unflushed start after None left held now holds keeps result answered front = tt
+script_unflushed start after (Some script) left held now holds keeps (Ok long) answered front =
     let all : List ℕ = (script_outcome start script).0 in
     subst (λ text. AppendsPrefix held holds text) (append-nil all) (kept_fails held now holds keeps all [] answered.2 front)
-
--- the answering stopped, and what is kept then is written, or a prefix of it
-pub script_stops : (start after : Session) (all left held now holds : Option (List ℕ)) (keeps : List ℕ) (kind : Halt) → AnswersLines start all left held now keeps after (Err kind) → AppendsPrefix now holds keeps → AnswersScript start all left held holds after (Err kind)
-script_stops start after None left held now holds keeps kind stopped front = tt
-script_stops start after (Some script) left held now holds keeps halt.CannotRead stopped front =
-    let was = stopped.1 in
-    record { front = was.front; rest = was.rest; is_prefix = was.is_prefix; is_left = was.is_left; wrote = still held now holds _ keeps was.wrote stopped.0 front }
-script_stops start after (Some script) left held now holds keeps halt.CannotWrite stopped front =
-    let was = stopped.1 in
-    record { written = was.written; unwritten = was.unwritten; grew = still held now holds was.written keeps was.grew stopped.0 front; is_prefix = was.is_prefix }
-script_stops start after (Some script) left held now holds keeps halt.NoMemory stopped front =
-    subst (λ text. AppendsPrefix held holds text) (sym stopped.is_prefix) (kept_fails held now holds keeps stopped.front stopped.rest stopped.grew front)
+script_unflushed start after (Some script) left held now holds keeps (Err halt.CannotRead) answered front = none_short now holds keeps answered.0 front
+script_unflushed start after (Some script) left held now holds keeps (Err halt.CannotWrite) answered front = none_short now holds keeps answered.0 front
+script_unflushed start after (Some script) left held now holds keeps (Err halt.NoMemory) answered front =
+    subst (λ text. AppendsPrefix held holds text) (sym (begins_with start script answered.front (answered.ahead ++ answered.rest) answered.is_front answered.is_within)) (kept_fails held now holds keeps _ _ answered.grew front)
 
 -- what is kept was flushed for a message
 pub told_line : (session after : Session) (number : ℕ) (line : List ℕ) (held now holds : Option (List ℕ)) (kept keeps more : List ℕ) → AnswersLine session number line held now kept keeps after → AppendsAndKeeps now holds more keeps

@@ -37,6 +37,16 @@ fed (suc left) line rest some =
     let same : left ≡ suc left - 1 = omega arith in
     ap (λ n. line ∷ lines_within n [] rest) same
 
+-- the lines of a script, cut where a front of it ends
+cut_at : (script front rest : List ℕ) → script ≡ front ++ rest → length front ≤ most_script → script_lines script ≡ whole_lines [] front ++ lines_within (most_script - length front) (last_line [] front) rest
+unfolding script_lines
+cut_at script front rest is within = ap (lines_within most_script []) is ∙ lines_after most_script [] front rest within
+
+-- the answers to a script begin with those to the lines that ended in a front of it
+pub begins_with : (start : Session) (script front rest : List ℕ) → script ≡ front ++ rest → length front ≤ most_script → (lines_outcome 1 start (script_lines script)).0 ≡ (lines_outcome 1 start (whole_lines [] front)).0 ++ (shown_after 1 start (whole_lines [] front) (lines_within (most_script - length front) (last_line [] front) rest)).0
+begins_with start script front rest is within =
+    ap (λ xs. (lines_outcome 1 start xs).0) (cut_at script front rest is within) ∙ text_on 1 start (whole_lines [] front) (lines_within (most_script - length front) (last_line [] front) rest)
+
 -- how far a script is read and answered: the lines that had ended are answered, though the last answers
 -- may be kept, and left bytes may still be read
 pub record Reached (all now held holds : Option (List ℕ)) (kept : List ℕ) (start session : Session) (number : ℕ) (line : List ℕ) (left : ℕ) : Type 0 where
@@ -59,6 +69,10 @@ reached_first all held kept start none = record { read = []; consumed = Consumes
 module _ {all now held holds : Option (List ℕ)} {kept : List ℕ} {start session : Session} {number left : ℕ} {line : List ℕ} (reached : Reached all now held holds kept start session number line left) where
   abbrev so_far : List ℕ × Session
   so_far = lines_outcome 1 start (whole_lines [] reached.read)
+
+  -- no more was read than a script may have
+  pub within : length reached.read ≤ most_script
+  within = omega (arith, reached.counted)
 
   -- what was kept is written further
   pub reached_on : (wrote : Option (List ℕ)) (keeps : List ℕ) → AppendsAndKeeps holds wrote keeps kept → Reached all now held wrote keeps start session number line left
@@ -109,9 +123,9 @@ module _ {all now held holds : Option (List ℕ)} {kept : List ℕ} {start sessi
   begins script rest is = ap (λ xs. (lines_outcome 1 start xs).0) (cut script rest is) ∙ text_on 1 start (whole_lines [] reached.read) (lines_within left line rest)
 
   -- no more is answered
-  pub memory_stops : (script rest : List ℕ) (remains wrote : Option (List ℕ)) (keeps : List ℕ) (after : Session) → script ≡ reached.read ++ rest → AppendsAndKeeps holds wrote keeps kept → LinesEnd start script remains held wrote keeps after (Err halt.NoMemory)
-  memory_stops script rest remains wrote keeps after is on =
-      record { front = so_far.0; rest = (shown_after 1 start (whole_lines [] reached.read) (lines_within left line rest)).0; is_prefix = begins script rest is; grew = kept_on held holds wrote kept keeps so_far.0 reached.wrote on }
+  pub memory_stops : (script ahead rest : List ℕ) (remains wrote : Option (List ℕ)) (keeps : List ℕ) (after : Session) → script ≡ reached.read ++ (ahead ++ rest) → remains ≡ Some rest → AppendsAndKeeps holds wrote keeps kept → LinesEnd start script remains held wrote keeps after (Err halt.NoMemory)
+  memory_stops script ahead rest remains wrote keeps after is is_left on =
+      record { front = reached.read; ahead = ahead; rest = rest; is_front = is; is_left = is_left; is_within = within; grew = kept_on held holds wrote kept keeps so_far.0 reached.wrote on }
 
   -- the writer failed, of what was kept
   pub writer_fails : (script rest : List ℕ) (remains wrote : Option (List ℕ)) (keeps : List ℕ) (after : Session) → script ≡ reached.read ++ rest → (keeps ≡ []) × AppendsPrefix holds wrote kept → LinesEnd start script remains held wrote keeps after (Err halt.CannotWrite)
@@ -119,17 +133,17 @@ module _ {all now held holds : Option (List ℕ)} {kept : List ℕ} {start sessi
       (front.0, subst (λ text. AppendsPrefix held wrote text) (sym (begins script rest is)) (kept_fails held holds wrote kept so_far.0 (shown_after 1 start (whole_lines [] reached.read) (lines_within left line rest)).0 reached.wrote front.1))
 
   -- the answer to the next line isn't written, or a prefix of it
-  pub stops_at : (script rest : List ℕ) (more : List (List ℕ)) (remains wrote : Option (List ℕ)) (keeps : List ℕ) (last : Session) (kind : Halt) → script ≡ reached.read ++ rest → lines_within left line rest ≡ line ∷ more
-      → LineStops session number line holds wrote kept keeps kind → LinesEnd start script remains held wrote keeps last (Err kind)
-  stops_at script rest more remains wrote keeps last halt.CannotRead is next stopped = absurd stopped
-  stops_at script rest more remains wrote keeps last halt.CannotWrite is next stopped =
+  pub stops_at : (script rest ahead tail : List ℕ) (more : List (List ℕ)) (remains wrote : Option (List ℕ)) (keeps : List ℕ) (last : Session) (kind : Halt) → script ≡ reached.read ++ rest → lines_within left line rest ≡ line ∷ more
+      → script ≡ reached.read ++ (ahead ++ tail) → remains ≡ Some tail → LineStops session number line holds wrote kept keeps kind → LinesEnd start script remains held wrote keeps last (Err kind)
+  stops_at script rest ahead tail more remains wrote keeps last halt.CannotRead is next parts is_left stopped = absurd stopped
+  stops_at script rest ahead tail more remains wrote keeps last halt.CannotWrite is next parts is_left stopped =
       let answer : List ℕ = (line_outcome number session line).0 in
       let others : List ℕ = (lines_outcome (suc (1 + length (whole_lines [] reached.read))) (line_outcome number session line).1 more).0 in (
         stopped.0,
         subst (λ text. AppendsPrefix held wrote text) (sym (ap (λ xs. (lines_outcome 1 start xs).0) (cut script rest is ∙ ap (λ xs. whole_lines [] reached.read ++ xs) next) ∙ text_with start session (whole_lines [] reached.read) number line reached.is_number reached.is_session more ∙ sym (append_assoc so_far.0 answer others)))
             (prefix_longer held wrote (so_far.0 ++ answer) others (kept_stops held holds wrote kept so_far.0 answer reached.wrote stopped.1)),
       )
-  stops_at script rest more remains wrote keeps last halt.NoMemory is next stopped = memory_stops script rest remains wrote keeps last is stopped
+  stops_at script rest ahead tail more remains wrote keeps last halt.NoMemory is next parts is_left stopped = memory_stops script ahead tail remains wrote keeps last parts is_left stopped
 
   -- the whole script is read and answered
   pub all_answered : (script : List ℕ) (remains wrote : Option (List ℕ)) (keeps : List ℕ) (after : Session) → script ≡ reached.read ++ [] → after ≡ (line_outcome number session line).1 → AppendsAndKeeps holds wrote keeps (kept ++ (line_outcome number session line).0) → LinesEnd start script remains held wrote keeps after (Ok false)

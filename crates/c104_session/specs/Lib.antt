@@ -1,7 +1,6 @@
 pub mod Lines
-pub mod Asked
 pub mod Probing
 pub mod Shown
-pub mod Hearing
+pub mod Leavings
 pub mod Runs
 pub mod Told

@@ -1,6 +1,6 @@
 -- How a script that is run on a network ends, and what is written then, where its reader and its writer
 -- tell their bytes.
-use Rattle.std.specs.Prelude.{ℕ, ◌≡◌, ◌||◌, ⊤, Bool, true, false, List, [], ◌++◌, Option, Some, None, Result, Ok, Err}
+use Rattle.std.specs.Prelude.{ℕ, ◌≡◌, ◌≤◌, ◌⊎◌, ◌||◌, ⊤, Bool, true, false, List, [], ◌++◌, length, Option, Some, None, Result, Ok, Err}
 use Rattle.std.specs.Io.KnownBytes.{Appends, Keeps}
 use Rattle.c104_describe.specs.Plans.{Plan}
 use Rattle.c104_describe.specs.PlanImage.{Image}
@@ -10,8 +10,7 @@ use Rattle.c104_stream.specs.declared.halt.Halt.{Halt}
 use Rattle.c104_stream.specs.declared.halt.Halt.TheVariants as halt
 use Rattle.c104_session.specs.declared.session.Ended.{Ended}
 use Rattle.c104_session.specs.declared.session.Session.{Session}
-use Rattle.c104_session.specs.declared.asker.Asker.{Asker}
-use Rattle.c104_session.specs.Lines.{whole_lines, is_long}
+use Rattle.c104_session.specs.Lines.{whole_lines, is_long, most_script}
 use Rattle.c104_stream.specs.Writing.{AppendsAndKeeps, AppendsPrefix}
 use Rattle.c104_session.specs.Shown.{line_outcome, lines_outcome, script_outcome, new_session, run_output, summary}
 
@@ -30,27 +29,47 @@ TextStops text held holds kept keeps halt.NoMemory = AppendsAndKeeps held holds 
 abbrev pub LineStops : Session → ℕ → List ℕ → Option (List ℕ) → Option (List ℕ) → List ℕ → List ℕ → Halt → Type 0
 LineStops session number line held holds kept keeps kind = TextStops (line_outcome number session line).0 held holds kept keeps kind
 
--- no further byte was read: what was kept is written before the reader fails, or a prefix of it where
+-- no further byte was read: what was kept is written before the reader is asked, or a prefix of it where
 -- the writer fails
 abbrev pub ReadStops : Option (List ℕ) → Option (List ℕ) → Option (List ℕ) → Option (List ℕ) → List ℕ → List ℕ → Halt → Type 0
 ReadStops now remains held holds kept keeps halt.CannotRead = (keeps ≡ []) × Appends held holds kept × Keeps now remains
 ReadStops now remains held holds kept keeps halt.CannotWrite = (keeps ≡ []) × AppendsPrefix held holds kept
-ReadStops now remains held holds kept keeps halt.NoMemory = AppendsAndKeeps held holds keeps kept
+ReadStops now remains held holds kept keeps halt.NoMemory = (keeps ≡ []) × Appends held holds kept × Keeps now remains
 
--- a prefix of these bytes is written or kept
-pub record KeepsPrefix (held holds : Option (List ℕ)) (keeps bytes : List ℕ) : Type 0 where
+-- out of memory after a front of the script, no longer than a script may be: what is written are the answers to the
+-- lines that had ended there, each of them whole. The front had been read, and what was read ahead of it isn't answered
+pub record AnswersFront (session : Session) (script : List ℕ) (left held holds : Option (List ℕ)) : Type 0 where
   pub front : List ℕ
+  pub ahead : List ℕ
   pub rest : List ℕ
-  pub is_prefix : bytes ≡ front ++ rest
-  pub grew : AppendsAndKeeps held holds keeps front
+  pub is_front : script ≡ front ++ (ahead ++ rest)
+  pub is_left : left ≡ Some rest
+  pub is_within : length front ≤ most_script
+  pub wrote : Appends held holds (lines_outcome 1 session (whole_lines [] front)).0
 
--- the reader failed after a prefix of the script: each line that had ended is answered, and no more
--- is written
+-- the same, though the last answers may be kept
+pub record KeepsAnswers (session : Session) (script : List ℕ) (left held holds : Option (List ℕ)) (keeps : List ℕ) : Type 0 where
+  pub front : List ℕ
+  pub ahead : List ℕ
+  pub rest : List ℕ
+  pub is_front : script ≡ front ++ (ahead ++ rest)
+  pub is_left : left ≡ Some rest
+  pub is_within : length front ≤ most_script
+  pub grew : AppendsAndKeeps held holds keeps (lines_outcome 1 session (whole_lines [] front)).0
+
+-- out of memory before the end: what is written are the answers to the first lines of what was read, each of them
+-- whole; or the answers to all lines, and nothing of what follows them
+abbrev pub StopsAnswered : Session → List ℕ → Option (List ℕ) → Option (List ℕ) → Option (List ℕ) → Type 0
+StopsAnswered session script left held holds = AnswersFront session script left held holds ⊎ Appends held holds (script_outcome session script).0
+
+-- the reader failed after a prefix of the script, no longer than a script may be: each line that had ended is
+-- answered, and no more is written
 pub record AnswersPrefix (session : Session) (script : List ℕ) (left held holds : Option (List ℕ)) : Type 0 where
   pub front : List ℕ
   pub rest : List ℕ
   pub is_prefix : script ≡ front ++ rest
   pub is_left : left ≡ Some rest
+  pub is_within : length front ≤ most_script
   pub wrote : Appends held holds (lines_outcome 1 session (whole_lines [] front)).0
 
 -- a script was answered, from a session on: all of it, or as far as this came
@@ -58,7 +77,7 @@ abbrev pub ScriptEnds : Session → List ℕ → Option (List ℕ) → Option (L
 ScriptEnds session script left held holds after (Ok long) = (long ≡ is_long script) × (after ≡ (script_outcome session script).1) × Appends held holds (script_outcome session script).0
 ScriptEnds session script left held holds after (Err halt.CannotRead) = AnswersPrefix session script left held holds
 ScriptEnds session script left held holds after (Err halt.CannotWrite) = AppendsPrefix held holds (script_outcome session script).0
-ScriptEnds session script left held holds after (Err halt.NoMemory) = AppendsPrefix held holds (script_outcome session script).0
+ScriptEnds session script left held holds after (Err halt.NoMemory) = AnswersFront session script left held holds
 
 -- the same where nothing may be known of the script
 abbrev pub AnswersScript : Session → Option (List ℕ) → Option (List ℕ) → Option (List ℕ) → Option (List ℕ) → Session → Result Bool Halt → Type 0
@@ -70,7 +89,7 @@ abbrev pub LinesEnd : Session → List ℕ → Option (List ℕ) → Option (Lis
 LinesEnd session script left held holds keeps after (Ok long) = (long ≡ is_long script) × (after ≡ (script_outcome session script).1) × AppendsAndKeeps held holds keeps (script_outcome session script).0
 LinesEnd session script left held holds keeps after (Err halt.CannotRead) = (keeps ≡ []) × AnswersPrefix session script left held holds
 LinesEnd session script left held holds keeps after (Err halt.CannotWrite) = (keeps ≡ []) × AppendsPrefix held holds (script_outcome session script).0
-LinesEnd session script left held holds keeps after (Err halt.NoMemory) = KeepsPrefix held holds keeps (script_outcome session script).0
+LinesEnd session script left held holds keeps after (Err halt.NoMemory) = KeepsAnswers session script left held holds keeps
 
 -- the same where nothing may be known of the script
 abbrev pub AnswersLines : Session → Option (List ℕ) → Option (List ℕ) → Option (List ℕ) → Option (List ℕ) → List ℕ → Session → Result Bool Halt → Type 0
@@ -95,14 +114,14 @@ EndsRun (Err kind) ended held holds result = (result ≡ Err kind) × (holds ≡
 EndsRun (Ok long) ended held holds (Ok refused) = (refused ≡ (long || ended.faulty)) × Appends held holds (end_text long ended.run)
 EndsRun (Ok long) ended held holds (Err kind) = WritesText (end_text long ended.run) held holds (Err kind)
 
--- a script of whoever asks was run on the network of a plan with an image
-abbrev pub PlanEnds : Asker → Plan → Image → List ℕ → Option (List ℕ) → Option (List ℕ) → Option (List ℕ) → Result Bool Halt → Type 0
-PlanEnds asker plan image script left held holds (Ok refused) = Appends held holds (run_output asker plan image script).0 × (refused ≡ (run_output asker plan image script).1)
-PlanEnds asker plan image script left held holds (Err halt.CannotRead) = AnswersPrefix (new_session asker plan image) script left held holds
-PlanEnds asker plan image script left held holds (Err halt.CannotWrite) = AppendsPrefix held holds (run_output asker plan image script).0
-PlanEnds asker plan image script left held holds (Err halt.NoMemory) = AppendsPrefix held holds (script_outcome (new_session asker plan image) script).0
+-- a script was run on the network of a plan with an image
+abbrev pub PlanEnds : Plan → Image → List ℕ → Option (List ℕ) → Option (List ℕ) → Option (List ℕ) → Result Bool Halt → Type 0
+PlanEnds plan image script left held holds (Ok refused) = Appends held holds (run_output plan image script).0 × (refused ≡ (run_output plan image script).1)
+PlanEnds plan image script left held holds (Err halt.CannotRead) = AnswersPrefix (new_session plan image) script left held holds
+PlanEnds plan image script left held holds (Err halt.CannotWrite) = AppendsPrefix held holds (run_output plan image script).0
+PlanEnds plan image script left held holds (Err halt.NoMemory) = StopsAnswered (new_session plan image) script left held holds
 
 -- the same where nothing may be known of the script
-abbrev pub RunsPlan : Asker → Plan → Image → Option (List ℕ) → Option (List ℕ) → Option (List ℕ) → Option (List ℕ) → Result Bool Halt → Type 0
-RunsPlan asker plan image None left held holds result = ⊤
-RunsPlan asker plan image (Some script) left held holds result = PlanEnds asker plan image script left held holds result
+abbrev pub RunsPlan : Plan → Image → Option (List ℕ) → Option (List ℕ) → Option (List ℕ) → Option (List ℕ) → Result Bool Halt → Type 0
+RunsPlan plan image None left held holds result = ⊤
+RunsPlan plan image (Some script) left held holds result = PlanEnds plan image script left held holds result

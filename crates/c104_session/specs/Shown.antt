@@ -27,15 +27,13 @@ use Rattle.c104_script.specs.declared.places.Request.{Request}
 use Rattle.c104_script.specs.declared.places.Request.TheVariants as ask
 use Rattle.c104_script.specs.declared.answers.Answer.TheVariants.{Replied, Refused, Faulty}
 use Rattle.c104_session.specs.declared.session.Session.{Session}
-use Rattle.c104_session.specs.declared.asker.Asker.{Asker}
-use Rattle.c104_session.specs.Asked.{heard}
 use Rattle.c104_session.specs.Probing.{probe_answer}
 use Rattle.c104_script.specs.declared.answers.Answer.{Answer}
 use Rattle.c104_script.specs.Texts.{token_text, answer_line, script_too_long}
 
--- a network of this plan with an image, before the first line of whoever asks
-abbrev pub new_session : Asker → Plan → Image → Session
-new_session asker plan image = record { net = fresh_record (placed_network plan image); image = image; faulty = false; asker = asker }
+-- a network of this plan with an image, before the first line
+abbrev pub new_session : Plan → Image → Session
+new_session plan image = record { net = fresh_record (placed_network plan image); image = image; faulty = false }
 
 -- what rounds answer: that they are done, or the refusal of the event that they stopped at
 abbrev pub rounds_answer : Result (Unit {0}) EventFault → Result Reply EventFault
@@ -76,7 +74,7 @@ answer_of_read session (Err kind) = (Some (Faulty kind), record session { faulty
 -- what answers a line, and the run after it
 unfoldable pub line_answer : Session → List ℕ → Option Answer × Session
 line_answer session text =
-    answer_of_read session (read_script_line session.net.network.plan (heard session.asker text))
+    answer_of_read session (read_script_line session.net.network.plan text)
 
 -- what is shown of a line of this number: the line of its answer, if it has one
 abbrev pub shown : ℕ → Option Answer → List ℕ
@@ -140,6 +138,6 @@ script_outcome session script = lines_outcome 1 session (script_lines script)
 
 -- what a run on the network of a plan with an image shows, and whether any of it was refused: the answers to
 -- the script, line by line, and the summary
-abbrev pub run_output : Asker → Plan → Image → List ℕ → List ℕ × Bool
-run_output asker plan image script =
-    output_with_summary (is_long script) (script_outcome (new_session asker plan image) script)
+abbrev pub run_output : Plan → Image → List ℕ → List ℕ × Bool
+run_output plan image script =
+    output_with_summary (is_long script) (script_outcome (new_session plan image) script)

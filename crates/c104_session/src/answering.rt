@@ -11,7 +11,7 @@ use crate::explaining::{ScriptLine, explain_line};
 use crate::progress::Progress;
 use crate::session::Session;
 use crate::tally::Tally;
-use c104_explain::{Messages, Silent};
+use c104_explain::{About, Messages, Silent};
 use c104_script::{Answer, add_answer};
 use c104_stream::{Ahead, Halt, Kept};
 use c104_token::NoMemory;
@@ -27,12 +27,17 @@ pub(crate) struct Answered {
     pub(crate) rounds: u32,
 }
 
+/// What is told of an empty script.
+const NOTHING: &str =
+    "the script is empty; in one text with the description it follows a line with the one word `script`";
+
 /// The most bytes of a script: 16 MiB.
 pub const MAX_SCRIPT: usize = 16_777_216;
 
 /// Answers the lines of a script as they are read. Answers are written before the script's reader is asked for
 /// more, where there are 64 KiB of them, and at the end. Says whether the script is longer than it may
-/// be; of such a script the lines that end within the first 16 MiB are answered.
+/// be; of such a script the lines that end within the first 16 MiB are answered. Where the reader fails, and out of
+/// memory, the answers to the first lines are written, each of them whole.
 pub fn answer_script<S: Read, W: Write>(
     alloc: Global,
     session: &mut Session,
@@ -64,14 +69,12 @@ pub fn answer_script_explained<S: Read, W: Write, M: Messages>(
         (S.remaining script.new) (W.contents writer.old) (W.contents writer.new) session.new result }
     ensures lines { (script : List ℕ) → AreOnlyLines script (script_lines script) }
 {
-    let Ok(mut kept) = Kept::new(alloc) else {
-        return Err(Halt::NoMemory);
-    };
+    let mut kept = Kept::new(alloc)?;
     let answered = answer_lines(alloc, session, ahead, script, &mut kept, writer, messages);
-    let written = kept.flush(writer);
-    let is_long = answered?;
-    written?;
-    Ok(is_long)
+
+    // Where memory ran out and the answers so far can't be written either, that is a write fault.
+    kept.flush(writer)?;
+    answered
 }
 
 /// What a script's line is read into, and what is kept for its answer and its message.
@@ -109,7 +112,7 @@ fn answer_lines<S: Read, W: Write, M: Messages>(
             tally: Tally::new(),
         },
     };
-    read_and_answer(
+    let answered = read_and_answer(
         alloc,
         session,
         ahead,
@@ -118,7 +121,18 @@ fn answer_lines<S: Read, W: Write, M: Messages>(
         kept,
         writer,
         messages,
-    )
+    );
+    if let Ok(false) = answered {
+        tell_of_nothing(&buffers.output.tally, messages);
+    }
+    answered
+}
+
+/// Tells that a script was empty, if none of its lines had words.
+fn tell_of_nothing<M: Messages>(tally: &Tally, messages: &mut M) {
+    if messages.are_wanted() && !tally.has_lines() {
+        messages.tell(About::Run, NOTHING);
+    }
 }
 
 /// The same, line by line in these buffers.
@@ -234,6 +248,9 @@ fn answer_and_explain<W: Write, M: Messages>(
 {
     let Output { text, tally } = output;
     let answered = give_answer(alloc, session, number, line, text, kept, writer, messages)?;
+    if answered.answer.is_some() {
+        tally.note_line();
+    }
     let line = ScriptLine { number, text: line };
     explain_line(
         alloc, session, line, &answered, tally, kept, writer, messages,

@@ -1,16 +1,18 @@
 //! Messages about a script, behind the answers.
-ghost use Rattle.std.specs.Prelude.{◌≡◌, [], IfSome, OnOk, OnErr};
+ghost use Rattle.std.specs.Prelude.{◌≡◌, [], true, IfSome, OnOk, OnErr};
 ghost use Rattle.std.specs.String.{string_bytes};
 ghost use Rattle.c104_stream.specs.Writing.{AppendsAndKeeps, AppendsPrefix};
+ghost use Rattle.c104_explain.specs.Refusals.{is_refusal};
 ghost use Rattle.c104_session.specs.Told.{MayTell, TellsReason};
 
 use crate::answering::Answered;
-use crate::questions::answer_question;
+use crate::questions::explain_fault;
 use crate::session::Session;
 use crate::standing::{explain_done, message_of_done};
 use crate::tally::Tally;
 use c104_explain::{
-    About, Messages, fault_message, reason_message, refusal_message, register_message,
+    About, Messages, command_message, is_refusal, owner_message, reason_message, refusal_message,
+    register_message,
 };
 use c104_script::{Answer, Finding, Request, read_line};
 use c104_stream::{CannotWrite, Kept};
@@ -27,8 +29,8 @@ pub(crate) struct ScriptLine<'a> {
     pub(crate) text: &'a [u8],
 }
 
-/// Tells of a line that was answered so, if it was answered, and else answers it if it is a question, where anyone
-/// reads the messages: all that is kept is written before. What was done joins the tally.
+/// Tells of a line that was answered so, where anyone reads the messages, and what it asks where a person types it and
+/// may ask: all that is kept is written before. What was done joins the tally.
 pub(crate) fn explain_line<W: Write, M: Messages>(
     alloc: Global,
     session: &Session,
@@ -47,12 +49,18 @@ pub(crate) fn explain_line<W: Write, M: Messages>(
         return Ok(());
     }
     match &answered.answer {
+        Some(answer) if is_refused(answer) => {
+            explain_answer(alloc, session, line, answer, kept, writer, messages)
+        }
         Some(Answer::Replied(Reply::Done | Reply::Control(_))) => {
             let message = message_of_done(alloc, session, line.text, answered.rounds, tally);
             explain_done(line.number, message, kept, writer, messages)
         }
+        Some(Answer::Faulty(fault)) => {
+            explain_fault(alloc, session, line, *fault, kept, writer, messages)
+        }
         Some(answer) => explain_answer(alloc, session, line, answer, kept, writer, messages),
-        None => answer_question(alloc, session, line.text, kept, writer, messages),
+        None => Ok(()),
     }
 }
 
@@ -83,12 +91,31 @@ fn answer_message(alloc: Global, session: &Session, line: &[u8], answer: &Answer
     ensures { IfSome result (λ text. MayTell session.now line.now answer.now (string_bytes text)) }
 {
     match answer {
-        Answer::Faulty(fault) => fault_message(alloc, line, *fault),
         Answer::Refused(fault) => refusal_message(alloc, session.net.plan(), line, *fault),
         Answer::Found(Finding::Refused(fault)) => register_message(alloc, line, *fault),
+        Answer::Found(Finding::Link { owner, .. }) => owner_message(alloc, line, *owner),
         Answer::Found(_) => None,
         Answer::Replied(Reply::NotReady) => unready_message(alloc, session, line),
-        Answer::Replied(Reply::Done | Reply::Token(_) | Reply::Control(_)) => None,
+        Answer::Replied(Reply::Control(reply)) => refused_message(alloc, line, reply.as_slice()),
+        Answer::Replied(Reply::Done | Reply::Token(_)) | Answer::Faulty(_) => None,
+    }
+}
+
+/// What is told of a line that a switch answered by this reply: where that is a refusal, why.
+fn refused_message(alloc: Global, line: &[u8], reply: &[u8]) -> Option<String>
+    ensures { IfSome result (λ _. is_refusal reply.now ≡ true) }
+{
+    if !is_refusal(reply) {
+        return None;
+    }
+    command_message(alloc, line, reply)
+}
+
+/// Whether a line was answered with a switch's refusal of a command.
+fn is_refused(answer: &Answer) -> bool {
+    match answer {
+        Answer::Replied(Reply::Control(reply)) => is_refusal(reply.as_slice()),
+        _ => false,
     }
 }
 

@@ -10,12 +10,11 @@
 //! more. A faulty line changes nothing but that there was one; running out of memory ends the script,
 //! and so does a failing reader or writer.
 //!
-//! An `Asker` is who asks. A person may ask questions between the lines of a script: they are counted as lines,
-//! and else the network hears nothing of them.
+//! A person who types a script may ask questions among its lines. They are no words of a script, and are answered as
+//! such; beside that the messages tell what was asked.
 #![tactic(auto)]
 
 mod answering;
-mod asker;
 mod ended;
 mod explaining;
 mod probing;
@@ -30,7 +29,6 @@ mod tally;
 mod tools;
 
 pub use answering::{MAX_SCRIPT, answer_script, answer_script_explained};
-pub use asker::Asker;
 pub use ended::EndedNet;
 pub use runs::{run_plan, run_plan_explained};
 pub use session::{Ended, Session};

@@ -1,19 +1,21 @@
-//! A person's questions between the lines of a script.
+//! What is told of a faulty line, which of a person may be a question.
 ghost use Rattle.std.specs.Prelude.{◌≡◌, [], OnOk, OnErr};
 ghost use Rattle.c104_stream.specs.Writing.{AppendsAndKeeps, AppendsPrefix};
 
-use crate::asker::Asker;
+use crate::explaining::ScriptLine;
 use crate::session::Session;
-use c104_explain::{About, Messages, is_question, question_message};
+use c104_explain::{About, Messages, about_question, fault_message, is_question, question_message};
+use c104_script::LineFault;
 use c104_stream::{CannotWrite, Kept};
 use std::alloc::Global;
 use std::io::Write;
 
-/// Answers a line that is a question of a person: all that is kept is written before.
-pub(crate) fn answer_question<W: Write, M: Messages>(
+/// Tells of a faulty line, or what it asks where a person types it and may ask: all that is kept is written before.
+pub(crate) fn explain_fault<W: Write, M: Messages>(
     alloc: Global,
     session: &Session,
-    line: &[u8],
+    line: ScriptLine<'_>,
+    fault: LineFault,
     kept: &mut Kept,
     writer: &mut W,
     messages: &mut M,
@@ -22,18 +24,28 @@ pub(crate) fn answer_question<W: Write, M: Messages>(
     ensures prefix { OnErr result (AppendsPrefix (W.contents writer.old) (W.contents writer.new) kept.old) }
     ensures empty { OnErr result (kept.new ≡ []) }
 {
-    let Some(message) = message_of(alloc, session, line) else {
+    let (about, message) = message_of_fault(alloc, session, line, fault, messages.are_asked());
+    let Some(message) = message else {
         return Ok(());
     };
     kept.flush(writer)?;
-    messages.tell(About::Question, message.as_str());
+    messages.tell(about, message.as_str());
     Ok(())
 }
 
-/// What answers a question of a person. None where the line is no such question, and out of memory.
-fn message_of(alloc: Global, session: &Session, line: &[u8]) -> Option<String> {
-    match session.asker {
-        Asker::Person if is_question(line) => question_message(alloc, &session.net, line),
-        _ => None,
+/// What is told of a faulty line, of which a person who types it may ask, and what that is about. No message out of
+/// memory.
+fn message_of_fault(
+    alloc: Global,
+    session: &Session,
+    line: ScriptLine<'_>,
+    fault: LineFault,
+    is_asked: bool,
+) -> (About, Option<String>) {
+    if is_asked && is_question(line.text) {
+        let message = question_message(alloc, &session.net, line.text);
+        return (about_question(line.text), message);
     }
+    let message = fault_message(alloc, line.text, fault, is_asked);
+    (About::FaultyLine(line.number), message)
 }

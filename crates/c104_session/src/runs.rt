@@ -5,11 +5,8 @@ ghost use Rattle.c104_describe.specs.PlanImage.{Fits, Image as TheImage};
 ghost use Rattle.c104_describe.specs.Plans.{Plan as ThePlan};
 ghost use Rattle.c104_session.specs.Runs.{EndsRun, RunsPlan, WritesText, end_text};
 ghost use Rattle.c104_session.specs.Shown.{new_session};
-ghost use Rattle.c104_session.specs.declared.asker.Asker.{Asker as TheAsker};
-ghost use Rattle.c104_session.specs.declared.asker.Asker.TheVariants as who;
 
 use crate::answering::answer_script_explained;
-use crate::asker::Asker;
 use crate::ended::EndedNet;
 use crate::session::{Ended, Session};
 use crate::summary::summary_text;
@@ -18,6 +15,10 @@ use c104_explain::{About, Messages, Silent, leftover_messages};
 use c104_stream::{Ahead, Halt, write_whole};
 use std::alloc::Global;
 use std::io::{Read, Write};
+
+/// What is told of a script that is longer than it may be.
+const TOO_LONG: &str =
+    "a script has at most 16777216 bytes; the lines that end within them were answered";
 
 /// Runs a script on the network of a plan, started with an image that fits it: lines are answered as they are
 /// read, and at the end what arrived is written. Says whether the script was refused, for its length or
@@ -31,28 +32,17 @@ pub fn run_plan<S: Read, W: Write>(
     writer: &mut W,
 ) -> Result<bool, Halt>
     requires { Fits image plan.now }
-    ensures { RunsPlan who.Script plan.now image
+    ensures { RunsPlan plan.now image
         (prepend_known ahead.old (S.remaining script.old)) (S.remaining script.new)
         (W.contents writer.old) (W.contents writer.new) result }
 {
-    run_plan_explained(
-        alloc,
-        Asker::Script,
-        plan,
-        image,
-        ahead,
-        script,
-        writer,
-        &mut Silent,
-    )
+    run_plan_explained(alloc, plan, image, ahead, script, writer, &mut Silent)
 }
 
-/// The same of whoever asks, and tells of the lines, and at the end of what didn't arrive. A person's questions
-/// are answered there, and a person's other lines as those of a script in which a line without words stands for
-/// each question. What is written and answered is the same, whatever takes the messages does.
+/// The same, and tells of the lines, and at the end of what didn't arrive. What is written and answered is the same,
+/// whatever takes the messages does.
 pub fn run_plan_explained<S: Read, W: Write, M: Messages>(
     alloc: Global,
-    asker: Asker,
     plan: &Plan,
     image: Image,
     ahead: &mut Ahead,
@@ -61,11 +51,11 @@ pub fn run_plan_explained<S: Read, W: Write, M: Messages>(
     messages: &mut M,
 ) -> Result<bool, Halt>
     requires { Fits image plan.now }
-    ensures { RunsPlan asker plan.now image
+    ensures { RunsPlan plan.now image
         (prepend_known ahead.old (S.remaining script.old)) (S.remaining script.new)
         (W.contents writer.old) (W.contents writer.new) result }
 {
-    let session = Session::new(alloc, asker, plan, image)?;
+    let session = Session::new(alloc, plan, image)?;
     run_session(alloc, session, ahead, script, writer, messages)
 }
 
@@ -78,8 +68,8 @@ fn run_session<S: Read, W: Write, M: Messages>(
     writer: &mut W,
     messages: &mut M,
 ) -> Result<bool, Halt>
-    ensures { (asker : TheAsker) (plan : ThePlan) (image : TheImage) → session ≡ new_session asker plan image →
-        RunsPlan asker plan image (prepend_known ahead.old (S.remaining script.old)) (S.remaining script.new)
+    ensures { (plan : ThePlan) (image : TheImage) → session ≡ new_session plan image →
+        RunsPlan plan image (prepend_known ahead.old (S.remaining script.old)) (S.remaining script.new)
         (W.contents writer.old) (W.contents writer.new) result }
 {
     let mut session = session;
@@ -104,6 +94,9 @@ fn end_run<W: Write, M: Messages>(
 {
     let is_long = answered?;
     write_end(alloc, is_long, &ended.run, writer)?;
+    if is_long && messages.are_wanted() {
+        messages.tell(About::Run, TOO_LONG);
+    }
     tell_all(leftovers, messages);
     Ok(is_long || ended.faulty)
 }

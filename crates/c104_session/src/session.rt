@@ -1,28 +1,29 @@
 //! A run of a network, line by line.
-ghost use Rattle.std.specs.Prelude.{◌≡◌, ◌⊎◌, Option, Result, Err, IfOk};
+ghost use Rattle.std.specs.Prelude.{◌≡◌, ◌⊎◌, Option, Result, Err, IfOk, OnErr};
 ghost use Rattle.c104_switch.specs.Actions.{Reply as TheReply};
 ghost use Rattle.c104_event.specs.declared.faults.EventFault.{EventFault as TheFault};
 ghost use Rattle.c104_event.specs.declared.faults.EventFault.TheVariants as fault;
 ghost use Rattle.c104_net.specs.FinishedRecords.{record_finish};
 ghost use Rattle.c104_describe.specs.PlanImage.{Fits};
 ghost use Rattle.c104_net.specs.NetRecords.{NetRecord as TheNet};
+ghost use Rattle.c104_net.specs.RecordedRuns.{AnswersRecord};
 ghost use Rattle.c104_script.specs.declared.answers.Answer.{Answer as TheAnswer};
+ghost use Rattle.c104_session.specs.Leavings.{KeepsAllButNet, LeavesLine, LeavesNet, LeavesRounds};
 ghost use Rattle.c104_session.specs.Shown.{new_session, line_answer, request_answer, rounds_outcome};
 ghost use Rattle.c104_session.specs.declared.session.Session.{Session as TheSession};
 
-use crate::asker::Asker;
 use crate::ended::EndedNet;
 use crate::probing::answer_probe;
 use crate::starting::start_net;
 use c104_describe::{Image, Plan};
-use c104_event::EventFault;
+use c104_event::{Event, EventFault};
 use c104_net::{TracedNet, Unwatched, Watch};
 use c104_script::{Answer, LineFault, Request, read_line};
 use c104_switch::Reply;
 use c104_token::NoMemory;
 use std::alloc::Global;
 
-/// A network that a script is run on, or that a person asks line by line. It can't be let go of: `finish` ends it.
+/// A network that a script is run on. It can't be let go of: `finish` ends it.
 pub struct Session {
     /// The network.
     pub net: TracedNet,
@@ -30,8 +31,6 @@ pub struct Session {
     pub image: Image,
     /// Whether a line was faulty so far.
     pub faulty: bool,
-    /// Who asks.
-    pub asker: Asker,
 }
 
 /// What a script's run came to. It can't be dropped: `retire` lets go of its network.
@@ -43,18 +42,16 @@ pub struct Ended {
 }
 
 impl Session {
-    /// The network of a plan with an image that fits it, before the first line of whoever asks. The only
-    /// error is out of memory.
-    pub fn new(alloc: Global, asker: Asker, plan: &Plan, image: Image) -> Result<Self, NoMemory>
+    /// The network of a plan with an image that fits it, before the first line. The only error is out of memory.
+    pub fn new(alloc: Global, plan: &Plan, image: Image) -> Result<Self, NoMemory>
         requires { Fits image plan.now }
-        ensures { IfOk result (λ session. session ≡ new_session asker plan.now image) }
+        ensures { IfOk result (λ session. session ≡ new_session plan.now image) }
     {
         let net = start_net(alloc, plan, &image)?;
         Ok(Session {
             net,
             image,
             faulty: false,
-            asker,
         })
     }
 
@@ -67,7 +64,6 @@ impl Session {
             net,
             image: _,
             faulty,
-            asker: _,
         } = self;
         Ended {
             run: EndedNet::new(net),
@@ -75,27 +71,28 @@ impl Session {
         }
     }
 
-    /// Does what a line asks. None where it asks nothing. The only error is out of memory; an event may
-    /// be done by then.
+    /// Does what a line asks. None where it asks nothing. The only error is out of memory: then all but the
+    /// network stays, an event isn't done, and rounds may be done in part.
     pub fn answer(&mut self, alloc: Global, line: &[u8]) -> Result<Option<Answer>, NoMemory>
-        ensures { IfOk result (λ answer. ◌≡◌ {A = Option TheAnswer × TheSession}
+        ensures answered { IfOk result (λ answer. ◌≡◌ {A = Option TheAnswer × TheSession}
             (answer, self.new) (line_answer self.old line.now)) }
+        ensures left { OnErr result (LeavesLine self.old line.now self.new) }
     {
         self.answer_watched(alloc, line, &mut Unwatched)
     }
 
     /// The same, and tells of each round that changed something.
-    #[tactic(auto, unfolding(crate::specs::Shown::line_answer))]
+    #[tactic(auto, using(crate::proofs::Leavings::nothing_left, crate::proofs::Leavings::request_left), unfolding(crate::specs::Shown::line_answer))]
     pub(crate) fn answer_watched<W: Watch>(
         &mut self,
         alloc: Global,
         line: &[u8],
         watch: &mut W,
     ) -> Result<Option<Answer>, NoMemory>
-        ensures { IfOk result (λ answer. ◌≡◌ {A = Option TheAnswer × TheSession}
+        ensures answered { IfOk result (λ answer. ◌≡◌ {A = Option TheAnswer × TheSession}
             (answer, self.new) (line_answer self.old line.now)) }
+        ensures left { OnErr result (LeavesLine self.old line.now self.new) }
     {
-        let line = self.asker.heard(line);
         match read_line(alloc, self.net.plan(), line) {
             Ok(None) => Ok(None),
             Ok(Some(request)) => {
@@ -117,11 +114,13 @@ impl Session {
         request: &Request,
         watch: &mut W,
     ) -> Result<Answer, NoMemory>
-        ensures { IfOk result (λ answer. ◌≡◌ {A = TheAnswer × TheSession}
+        ensures answered { IfOk result (λ answer. ◌≡◌ {A = TheAnswer × TheSession}
             (answer, self.new) (request_answer self.old request.now)) }
+        ensures kept { OnErr result (KeepsAllButNet self.old self.new) }
+        ensures left { OnErr result (LeavesNet self.old.net request.now self.new.net) }
     {
         let done = match request {
-            Request::Asked(event) => self.net.apply(event),
+            Request::Asked(event) => do_event(&mut self.net, event),
             Request::Rounds(count) => do_rounds(&mut self.net, *count, watch),
             Request::Probed(probe) => {
                 return answer_probe(alloc, &mut self.net, &self.image, *probe);
@@ -144,10 +143,21 @@ impl Ended {
     }
 }
 
+/// Does an event. Where it is refused, and out of memory, the network stays as it was.
+#[tactic(auto, using(crate::proofs::Leavings::event_kept))]
+fn do_event(net: &mut TracedNet, event: &Event) -> Result<Reply, EventFault>
+    ensures due { AnswersRecord net.old event.now result net.new }
+    ensures kept { OnErr result (net.new ≡ net.old) }
+{
+    net.apply(event)
+}
+
 /// Does so many rounds, up to the first event that is refused.
+#[tactic(auto, using(crate::proofs::Leavings::rounds_left))]
 fn do_rounds<W: Watch>(net: &mut TracedNet, count: u32, watch: &mut W) -> Result<Reply, EventFault>
-    ensures { (◌≡◌ {A = Result TheReply TheFault × TheNet}
+    ensures due { (◌≡◌ {A = Result TheReply TheFault × TheNet}
         (result, net.new) (rounds_outcome net.old count)) ⊎ (result ≡ Err fault.NoMemory) }
+    ensures left { LeavesRounds net.old count net.new }
 {
     net.rounds_watched(count, watch)?;
     Ok(Reply::Done)

@@ -9,18 +9,33 @@ const RESET: [u8; 1] = [0x02];
 #[derive(Drop)]
 pub(crate) struct Tally {
     sent: Option<usize>,
+    // Whether a line had words.
+    has_lines: bool,
 }
 
 impl Tally {
     /// Nothing was done so far.
     pub(crate) fn new() -> Self {
-        Tally { sent: Some(0) }
+        Tally {
+            sent: Some(0),
+            has_lines: false,
+        }
     }
 
     /// How many packets were sent. None once a switch was reset, which may have thrown some away, and where memory was
     /// short.
     pub(crate) fn sent(&self) -> Option<usize> {
         self.sent
+    }
+
+    /// A line with words was answered.
+    pub(crate) fn note_line(&mut self) {
+        self.has_lines = true;
+    }
+
+    /// Whether any line had words.
+    pub(crate) fn has_lines(&self) -> bool {
+        self.has_lines
     }
 
     /// An event was done.

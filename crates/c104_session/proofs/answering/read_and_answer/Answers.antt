@@ -26,8 +26,9 @@ returns-in_err-answer_line-2 g c =
 
 pub returns-in_err-left : goal.returns-in_err-left
 returns-in_err-left g c =
+    let took = rw c.in-Some.is at c.in_ok-byte.ensures.0 in
     rw (err_is _ _ c.from_residual-in_err-left.ensures)
-    (byte_halts _ _ _ _ _ _ _ _ _ _ _ (reached_on c.loop-left.invariant _ _ c.in_ok-byte.ensures.1))
+    (byte_halts _ _ _ _ _ _ _ _ _ _ _ _ _ (reached_on c.loop-left.invariant _ _ c.in_ok-byte.ensures.1) took)
 
 pub loop-left-preserved-then-byte-eq10 : goal.loop-left-preserved-then-byte-eq10
 loop-left-preserved-then-byte-eq10 g c =

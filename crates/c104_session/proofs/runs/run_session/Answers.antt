@@ -2,5 +2,5 @@ use Rattle.c104_session.proofs.PlanRuns.{of_plan, run_ends}
 use Rattle.c104_session.proofs.runs.run_session.Goals as goal
 
 pub returns : goal.returns
-returns g c asker plan image is =
-    run_ends asker plan image _ _ _ _ _ c.answer_script_explained-answered.new.session _ _ _ (of_plan asker plan image _ _ _ _ _ _ _ is c.answer_script_explained-answered.ensures.answered) c.finish-ended.ensures.run c.finish-ended.ensures.faulty c.end_run-came.ensures
+returns g c plan image is =
+    run_ends plan image _ _ _ _ _ c.answer_script_explained-answered.new.session _ _ _ (of_plan plan image _ _ _ _ _ _ _ is c.answer_script_explained-answered.ensures.answered) c.finish-ended.ensures.run c.finish-ended.ensures.faulty c.end_run-came.ensures
