@@ -11,7 +11,6 @@ use Rattle.c104_commands.specs.Checks.{CheckEnds, LabelRefusalEnds}
 use Rattle.c104_commands.specs.Cycles.{CyclesEnd}
 use Rattle.c104_commands.specs.Draws.{DrawEnds}
 use Rattle.c104_commands.specs.Labels.{LabelEnds}
-use Rattle.c104_session.specs.declared.asker.Asker.{Asker}
 use Rattle.c104_commands.specs.Runs.{DescriptionEnds, RunsDescription}
 
 pub check_refused : (due : Result Plan PlanFault) (why : SetupFault) (held holds : Option (List ℕ)) (ended : Status) → ((IsOutOfMemory why → ⊥) → ComesTo due (Err why)) → RefusalEnds why held holds ended → CheckEnds due held holds ended
@@ -35,16 +34,16 @@ draw_refused due why held holds (status.CannotRead n) comes ends = absurd ends
 draw_refused due why held holds status.CannotWrite comes ends = (Err why, comes ends.0, refused_text why, true, (refl, refl), ends.1)
 draw_refused due why held holds status.NoMemory comes ends = ends
 
-description_refused : (asker : Asker) (due : Result Plan PlanFault) (why : SetupFault) (script : List ℕ) (left held holds : Option (List ℕ)) (ended : Status) → ((IsOutOfMemory why → ⊥) → ComesTo due (Err why)) → RefusalEnds why held holds ended → DescriptionEnds asker due script left held holds ended
-description_refused asker due why script left held holds status.Done comes ends = absurd ends
-description_refused asker due why script left held holds status.Refused comes ends = (Err why, comes ends.0, ends.1, refl)
-description_refused asker due why script left held holds (status.CannotRead n) comes ends = absurd ends
-description_refused asker due why script left held holds status.CannotWrite comes ends = (Err why, comes ends.0, ends.1)
-description_refused asker due why script left held holds status.NoMemory comes ends = inl ends
+description_refused : (due : Result Plan PlanFault) (why : SetupFault) (script : List ℕ) (left held holds : Option (List ℕ)) (ended : Status) → ((IsOutOfMemory why → ⊥) → ComesTo due (Err why)) → RefusalEnds why held holds ended → DescriptionEnds due script left held holds ended
+description_refused due why script left held holds status.Done comes ends = absurd ends
+description_refused due why script left held holds status.Refused comes ends = (Err why, comes ends.0, ends.1, refl)
+description_refused due why script left held holds (status.CannotRead n) comes ends = absurd ends
+description_refused due why script left held holds status.CannotWrite comes ends = (Err why, comes ends.0, ends.1)
+description_refused due why script left held holds status.NoMemory comes ends = inl ends
 
-pub run_refused : (asker : Asker) (due : Result Plan PlanFault) (why : SetupFault) (script left held holds : Option (List ℕ)) (ended : Status) → ((IsOutOfMemory why → ⊥) → ComesTo due (Err why)) → RefusalEnds why held holds ended → RunsDescription asker due script left held holds ended
-run_refused asker due why None left held holds ended comes ends = tt
-run_refused asker due why (Some script) left held holds ended comes ends = description_refused asker due why script left held holds ended comes ends
+pub run_refused : (due : Result Plan PlanFault) (why : SetupFault) (script left held holds : Option (List ℕ)) (ended : Status) → ((IsOutOfMemory why → ⊥) → ComesTo due (Err why)) → RefusalEnds why held holds ended → RunsDescription due script left held holds ended
+run_refused due why None left held holds ended comes ends = tt
+run_refused due why (Some script) left held holds ended comes ends = description_refused due why script left held holds ended comes ends
 
 pub cycles_refused : (all : Bool) (due : Result Plan PlanFault) (why : SetupFault) (held holds : Option (List ℕ)) (ended : Status) → ((IsOutOfMemory why → ⊥) → ComesTo due (Err why)) → RefusalEnds why held holds ended → CyclesEnd all due held holds ended
 cycles_refused all due why held holds status.Done comes ends = absurd ends

@@ -20,7 +20,7 @@ use Rattle.c104_check.specs.declared.ports.SwitchPort.{SwitchPort}
 
 -- the owner of a header
 abbrev pub owner_text : Plan → Option ℕ → List ℕ
-owner_text plan None = codes "nobody"
+owner_text plan None = codes "no terminal"
 owner_text plan (Some t) = terminal_name plan t
 
 -- what a header is whose walk is of this kind, of packets of terminal t: one of its owner, or a random one; or one of its
@@ -28,7 +28,7 @@ owner_text plan (Some t) = terminal_name plan t
 abbrev pub due_text : Plan → ℕ → Option ℕ → WalkKind → List ℕ
 due_text plan t owner Own = codes " belongs to " ++ (owner_text plan owner ++ codes ", but ")
 due_text plan t owner (Random p) =
-    codes " is a random one, put before packets of " ++ (terminal_name plan t ++ (codes " at " ++ (port_text plan (to_port p) ++ codes ", and by any choice of a link has to come to an input that discards it, but ")))
+    codes " is a random one, put before packets of " ++ (terminal_name plan t ++ (codes " at " ++ (port_text plan (to_port p) ++ codes ", and every way of it has to end at an input that discards it, but ")))
 due_text plan t owner (Behind q) =
     codes " belongs to " ++ (owner_text plan owner ++ (codes ", but behind a random header of " ++ (terminal_name plan t ++ (codes ", which " ++ (port_text plan (to_port q) ++ codes " discards, ")))))
 

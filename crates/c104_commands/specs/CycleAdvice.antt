@@ -19,7 +19,7 @@ no_cycle_random_text = codes "no cycle of channel dependencies: under rounds eve
 -- the sentence on a cycle, and what follows it
 abbrev pub cycle_sentence : Plan → List ChannelDependency → List ℕ → List ℕ
 cycle_sentence plan cycle more =
-    codes "packets can come to wait for one another for good, though with groups of links they need not: " ++ (cycle_text plan cycle ++ more)
+    codes "packets can wait for one another forever, though with groups of links they need not: " ++ (cycle_text plan cycle ++ more)
 
 -- a text begins with the sentence on a cycle, which the network has
 abbrev pub TellsOfCycle : Plan → Routes → List ℕ → Type 0

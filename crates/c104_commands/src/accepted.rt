@@ -1,4 +1,4 @@
-//! What people are told of labels that are accepted: whether packets can come to be held for good.
+//! What people are told of labels that are accepted: whether packets can wait for one another forever.
 ghost use Rattle.std.specs.Prelude.{◌≡◌, IfOk};
 ghost use Rattle.std.specs.String.{string_bytes};
 ghost use Rattle.c104_check.specs.ChannelDependencies.{IsCycle};
@@ -16,7 +16,7 @@ use c104_describe::{Image, Plan};
 use c104_token::NoMemory;
 use std::alloc::{AllocError, Global};
 
-/// Tells people of accepted labels whether packets can come to be held for good, by the names of the plan: a line
+/// Tells people of accepted labels whether packets can wait for one another forever, by the names of the plan: a line
 /// that they can't, since there is no cycle of channel dependencies; or lines that say that they can, and by which
 /// cycle, and then those that break it, if one row was found that does. These are `replace: LINE` and then `by: LINE`,
 /// once or more. It fails only when out of memory.
@@ -93,7 +93,7 @@ fn cycle_sentence(
 {
     let line = cycle_text(alloc, plan, cycle)?;
     format!(in alloc;
-        "packets can come to wait for one another for good, though with groups of links they need not: {line}{more}"
+        "packets can wait for one another forever, though with groups of links they need not: {line}{more}"
     )
 }
 
@@ -113,7 +113,7 @@ fn break_text(
 /// What stands before the lines that break a cycle, or in their place.
 fn what_breaks(is_unknown: bool) -> &'static str {
     if is_unknown {
-        "where one of these headers goes another way before it comes there, the cycle is broken; no single row was found that does it"
+        "no single row was found that breaks it"
     } else {
         "this breaks the cycle, and leads each packet to its terminal:"
     }

@@ -6,6 +6,7 @@ ghost use Rattle.c104_check.specs.Routes.{routes_of};
 ghost use Rattle.c104_check.specs.Walks.{is_met};
 ghost use Rattle.c104_commands.specs.Advice.{IsAdvice, TellsStep, due_text, end_text, misstep_text, owner_text, stop_text, terminal_text, way_text};
 ghost use Rattle.c104_describe.specs.PlanImage.{Fits};
+ghost use Rattle.c104_label.specs.Images.{IsImageOf};
 
 use crate::discarding::discarding_rows;
 use crate::mending::{mended, range_change, row_change};
@@ -16,10 +17,9 @@ use c104_interval::Select;
 use c104_token::NoMemory;
 use std::alloc::{AllocError, Global};
 
-/// Tells people why the labels of an image are refused for a plan, which it fits, by the names of the plan: a
-/// line that says what is wrong and at which input, and then the lines that mend it, if some do. These are
-/// `add: LINE`, for lines to be put behind the description's own, or `replace: LINE` with `by: LINE` after it,
-/// once or more.
+/// Tells people why the labels of a plan's own image are refused, by the names of the plan: a line that says what
+/// is wrong and at which input, and then the lines that mend it, if some do. These are `add: LINE`, for lines to be
+/// put behind the description's own, or `replace: LINE` with `by: LINE` after it, once or more.
 ///
 /// What mends a fault of a walk is a select of the last of its inputs from which some group leads the header to
 /// its owner; of a random header it is a row that discards it at an input of its walk, where with that row the labels
@@ -32,7 +32,8 @@ pub fn check_advice(
     image: &Image,
     fault: &CheckFault,
 ) -> Result<String, NoMemory>
-    requires { Fits image.now plan.now }
+    requires fits { Fits image.now plan.now }
+    requires own { IsImageOf plan.now image.now }
     ensures { IfOk result (λ text.
         IsAdvice plan.now (routes_of plan.now image.now) fault.now (string_bytes text)) }
 {
@@ -202,7 +203,7 @@ fn due_text(
         WalkKind::Random(input) => {
             let input = port_text(alloc, plan, input)?;
             format!(in alloc;
-                " is a random one, put before packets of {name} at {input}, and by any choice of a link has to come to an input that discards it, but "
+                " is a random one, put before packets of {name} at {input}, and every way of it has to end at an input that discards it, but "
             )
         }
         WalkKind::Behind(portal) => {
@@ -220,7 +221,7 @@ fn owner_text(plan: &Plan, owner: Option<usize>) -> &str
 {
     match owner {
         Some(owner) => terminal_name(plan, owner),
-        None => "nobody",
+        None => "no terminal",
     }
 }
 

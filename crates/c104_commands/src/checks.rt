@@ -7,7 +7,7 @@ ghost use Rattle.c104_describe.specs.PlanImage.{Fits};
 ghost use Rattle.c104_describe.specs.PlanText.{read_description};
 ghost use Rattle.c104_describe.specs.Plans.{Plan as ThePlan};
 ghost use Rattle.c104_describe.specs.declared.faults.PlanFault.{PlanFault as ThePlanFault};
-ghost use Rattle.c104_label.specs.Images.{is_labelled_shape};
+ghost use Rattle.c104_label.specs.Images.{IsImageOf, is_labelled_shape};
 ghost use Rattle.c104_commands.specs.Checks.{CheckEnds, ChecksText, LabelRefusalEnds};
 ghost use Rattle.c104_commands.specs.Setups.{ComesTo};
 
@@ -82,6 +82,7 @@ fn check_setup<W: Write, M: Messages>(
     messages: &mut M,
 ) -> Status
     requires fits { Fits setup.now.image setup.now.plan }
+    requires own { IsImageOf setup.now.plan setup.now.image }
     requires accepted { is_labelled_shape setup.now.plan.shape ≡ true
         → IsAccepted (routes_of setup.now.plan setup.now.image) }
     ensures { (due : Result ThePlan ThePlanFault) → ComesTo due (Ok (setup.now.plan, setup.now.image))
@@ -115,7 +116,7 @@ fn accept_labels<W: Write, M: Messages>(
     Status::Done
 }
 
-/// Tells people whether packets can come to be held for good in a network whose labels are accepted, line by line,
+/// Tells people whether packets can wait for one another forever in a network whose labels are accepted, line by line,
 /// where there is memory for it.
 fn tell_of_cycles<M: Messages>(alloc: Global, setup: &Setup, messages: &mut M)
     requires fits { Fits setup.now.image setup.now.plan }
@@ -136,6 +137,7 @@ pub(crate) fn refuse_labels<W: Write, M: Messages>(
     messages: &mut M,
 ) -> Status
     requires fits { Fits setup.now.image setup.now.plan }
+    requires own { IsImageOf setup.now.plan setup.now.image }
     requires cause { IsCause (routes_of setup.now.plan setup.now.image) fault.now }
     requires told { fault.now ≢ check_fault.NoMemory }
     requires shape { is_labelled_shape setup.now.plan.shape ≡ false }
@@ -157,7 +159,8 @@ pub(crate) fn refuse_labels<W: Write, M: Messages>(
 /// Tells people why the labels of a network are refused and what mends them, line by line, where there is
 /// memory for it.
 fn advise<M: Messages>(alloc: Global, setup: &Setup, fault: &CheckFault, messages: &mut M)
-    requires { Fits setup.now.image setup.now.plan }
+    requires fits { Fits setup.now.image setup.now.plan }
+    requires own { IsImageOf setup.now.plan setup.now.image }
 {
     let Ok(advice) = check_advice(alloc, &setup.plan, &setup.image, fault) else {
         return;

@@ -6,7 +6,7 @@ ghost use Rattle.c104_describe.specs.PlanImage.{Fits};
 ghost use Rattle.c104_describe.specs.PlanText.{read_description};
 ghost use Rattle.c104_describe.specs.Plans.{Plan as ThePlan};
 ghost use Rattle.c104_describe.specs.declared.faults.PlanFault.{PlanFault as ThePlanFault};
-ghost use Rattle.c104_label.specs.Images.{is_labelled_shape};
+ghost use Rattle.c104_label.specs.Images.{IsImageOf, is_labelled_shape};
 ghost use Rattle.c104_commands.specs.Cycles.{CyclesEnd, CyclesOfText, TellsCycle, TellsCycles};
 ghost use Rattle.c104_commands.specs.Setups.{ComesTo};
 
@@ -86,6 +86,7 @@ fn search_setup<W: Write, M: Messages>(
     messages: &mut M,
 ) -> Status
     requires fits { Fits setup.now.image setup.now.plan }
+    requires own { IsImageOf setup.now.plan setup.now.image }
     requires accepted { is_labelled_shape setup.now.plan.shape ≡ true
         → IsAccepted (routes_of setup.now.plan setup.now.image) }
     ensures { (due : Result ThePlan ThePlanFault) → ComesTo due (Ok (setup.now.plan, setup.now.image))

@@ -6,12 +6,13 @@ ghost use Rattle.c104_commands.specs.ImageTexts.{image_text, range_line, range_l
 
 use crate::texts::{switch_name, terminal_name};
 use c104_describe::{Image, Plan};
+use c104_token::NoMemory;
 use std::alloc::{AllocError, Global};
 
 /// The lines of an image by the names of a plan: of each terminal its first label and how many it has, in decimal;
 /// then of each switch the address and the value of each register that doesn't read as after a reset, in ascending
-/// order of addresses, in 4 and 8 hexadecimal digits.
-pub fn image_text(alloc: Global, plan: &Plan, image: &Image) -> Result<String, AllocError>
+/// order of addresses, in 4 and 8 hexadecimal digits. The only error is out of memory.
+pub fn image_text(alloc: Global, plan: &Plan, image: &Image) -> Result<String, NoMemory>
     ensures { IfOk result (λ text. string_bytes text ≡ image_text plan.now image.now) }
 {
     let mut text = String::new(alloc);

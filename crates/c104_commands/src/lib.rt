@@ -6,12 +6,12 @@
 //! `draw_cycles_command` draw the network. Each reads no further than the limits of a description, 1 MiB, and of a
 //! script, 16 MiB.
 //!
-//! `debug_command` is `run` for who asks line by line.
+//! `debug_command` is `run` of a script that comes line by line.
 //!
 //! Each of them has a second form that tells people of what is faulty, refused, not ready or didn't arrive, by
 //! what takes `Messages`: `run_explained`, `run_text_explained`, `check_explained`, `label_explained`,
 //! `cycles_explained`, `draw_explained`, `draw_cycles_explained` and `debug_explained`. What these write and answer
-//! is the same. `debug_terminal` answers a person's questions too.
+//! is the same. `debug_explained` also tells what a person asks among the lines.
 //!
 //! A `Status` is how a command ended; it keeps which of two readers failed, and stands for the program's
 //! exit status. The texts of the program's messages are in `c104`, which has `main`.
@@ -40,7 +40,7 @@ pub use accepted::cycle_advice;
 pub use advice::check_advice;
 pub use checks::{check_command, check_explained};
 pub use cycles::{cycles_command, cycles_explained};
-pub use debugging::{debug_command, debug_explained, debug_terminal};
+pub use debugging::{debug_command, debug_explained};
 pub use draws::{
     draw_command, draw_cycles_command, draw_cycles_explained, draw_explained, draw_header_command,
 };

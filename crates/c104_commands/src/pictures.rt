@@ -40,8 +40,7 @@ pub(crate) fn picture_text(
 /// The same where nothing is marked, with a title.
 fn plain_text(alloc: Global, plan: &Plan, image: &Image, title: &str) -> Result<String, NoMemory> {
     let drawing = draw(alloc, plan, image)?;
-    let text = drawing_text(alloc, plan, image, &drawing, title)?;
-    Ok(text)
+    drawing_text(alloc, plan, image, &drawing, title)
 }
 
 /// The same with the ways of a header.
@@ -50,14 +49,13 @@ fn header_text(alloc: Global, plan: &Plan, image: &Image, header: u32) -> Result
 {
     let drawn = draw_header(alloc, plan, image, header)?;
     let title = header_title(alloc, plan, header, &drawn.fault)?;
-    let text = drawing_text(
+    drawing_text(
         alloc,
         plan,
         image,
         &drawn.drawing,
         title.as_str().trim_end(),
-    )?;
-    Ok(text)
+    )
 }
 
 /// The title of a header's picture: the line of its fault, if it is refused.
@@ -66,10 +64,10 @@ fn header_title(
     plan: &Plan,
     header: u32,
     fault: &Option<CheckFault>,
-) -> Result<String, AllocError> {
+) -> Result<String, NoMemory> {
     match fault {
         Some(fault) => check_fault_text(alloc, plan, fault),
-        None => format!(in alloc; "header {header}"),
+        None => Ok(format!(in alloc; "header {header}")?),
     }
 }
 
@@ -114,8 +112,7 @@ fn marked_text(
     let title = cycle_text(alloc, plan, cycle)?;
     let inputs = inputs_of(alloc, cycle)?;
     let drawing = draw_cycle(alloc, plan, image, inputs.as_slice())?;
-    let text = drawing_text(alloc, plan, image, &drawing, title.as_str().trim_end())?;
-    Ok(text)
+    drawing_text(alloc, plan, image, &drawing, title.as_str().trim_end())
 }
 
 /// The inputs of a cycle.

@@ -6,7 +6,6 @@ ghost use Rattle.c104_describe.specs.PlanText.{most_bytes, read_description};
 ghost use Rattle.c104_describe.specs.Plans.{Plan as ThePlan};
 ghost use Rattle.c104_describe.specs.declared.faults.PlanFault.{PlanFault as ThePlanFault};
 ghost use Rattle.c104_script.specs.Parts.{parts, AreOnlyParts, StopsBeforeScript};
-ghost use Rattle.c104_session.specs.declared.asker.Asker.TheVariants as who;
 ghost use Rattle.c104_session.specs.Lines.{script_lines, AreOnlyLines};
 ghost use Rattle.c104_commands.specs.declared.status.Status.TheVariants as status;
 ghost use Rattle.c104_commands.specs.Setups.{ComesTo};
@@ -17,7 +16,7 @@ use crate::status::Status;
 use c104_describe::{Image, MAX_DESCRIPTION, Plan};
 use c104_explain::{Behind, Messages, Silent};
 use c104_script::read_first_part;
-use c104_session::{Asker, run_plan_explained};
+use c104_session::run_plan_explained;
 use c104_stream::{Ahead, Halt, read_up_to};
 use std::alloc::Global;
 use std::io::{Read, Write};
@@ -34,7 +33,7 @@ pub fn run<D: Read, S: Read, W: Write>(
     script: &mut S,
     writer: &mut W,
 ) -> Status
-    ensures runs { RunsParts who.Script (D.remaining description.old) (S.remaining script.old)
+    ensures runs { RunsParts (D.remaining description.old) (S.remaining script.old)
         (S.remaining script.new)
         (W.contents writer.old) (W.contents writer.new) result }
 
@@ -59,26 +58,25 @@ pub fn run_explained<D: Read, S: Read, W: Write, M: Messages>(
     writer: &mut W,
     messages: &mut M,
 ) -> Status
-    ensures runs { RunsParts who.Script (D.remaining description.old) (S.remaining script.old)
+    ensures runs { RunsParts (D.remaining description.old) (S.remaining script.old)
         (S.remaining script.new)
         (W.contents writer.old) (W.contents writer.new) result }
     ensures of_description { result ≡ status.CannotRead 0 → script.new ≡ script.old }
     ensures of_script { result ≡ status.CannotRead 1 → IsAtEnd (D.remaining description.new) }
     ensures lines { (script : List ℕ) → AreOnlyLines script (script_lines script) }
 {
-    run_asked(alloc, Asker::Script, description, script, writer, messages)
+    run_parts(alloc, description, script, writer, messages)
 }
 
-/// A run of whoever asks.
-pub(crate) fn run_asked<D: Read, S: Read, W: Write, M: Messages>(
+/// The same, but for what the lines of a script are.
+fn run_parts<D: Read, S: Read, W: Write, M: Messages>(
     alloc: Global,
-    asker: Asker,
     description: &mut D,
     script: &mut S,
     writer: &mut W,
     messages: &mut M,
 ) -> Status
-    ensures runs { RunsParts asker (D.remaining description.old) (S.remaining script.old)
+    ensures runs { RunsParts (D.remaining description.old) (S.remaining script.old)
         (S.remaining script.new)
         (W.contents writer.old) (W.contents writer.new) result }
     ensures of_description { result ≡ status.CannotRead 0 → script.new ≡ script.old }
@@ -91,15 +89,7 @@ pub(crate) fn run_asked<D: Read, S: Read, W: Write, M: Messages>(
     let Ok(mut ahead) = Ahead::new(alloc) else {
         return Status::NoMemory;
     };
-    run_description(
-        alloc,
-        asker,
-        text.as_slice(),
-        &mut ahead,
-        script,
-        writer,
-        messages,
-    )
+    run_description(alloc, text.as_slice(), &mut ahead, script, writer, messages)
 }
 
 /// The same of one text: its description ends at the first line whose only word is `script`, and the
@@ -144,35 +134,26 @@ pub fn run_text_explained<R: Read, W: Write, M: Messages>(
     };
     let description = description.as_slice();
     let mut messages = Behind::first_part(description, messages);
-    run_description(
-        alloc,
-        Asker::Script,
-        description,
-        &mut ahead,
-        text,
-        writer,
-        &mut messages,
-    )
+    run_description(alloc, description, &mut ahead, text, writer, &mut messages)
 }
 
 /// Runs a script on the network of a description that is read.
 #[tactic(auto, using(crate::proofs::Refusals::run_refused))]
 fn run_description<S: Read, W: Write, M: Messages>(
     alloc: Global,
-    asker: Asker,
     description: &[u8],
     ahead: &mut Ahead,
     script: &mut S,
     writer: &mut W,
     messages: &mut M,
 ) -> Status
-    ensures runs { RunsDescription asker (read_description description.now)
+    ensures runs { RunsDescription (read_description description.now)
         (prepend_known ahead.old (S.remaining script.old)) (S.remaining script.new)
         (W.contents writer.old) (W.contents writer.new) result }
     ensures of_script { (n : ℕ) → result ≡ status.CannotRead n → (n ≡ 1) × (length description.now ≤ most_bytes) }
 {
     match set_up(alloc, description) {
-        Ok(setup) => run_setup(alloc, asker, setup, ahead, script, writer, messages),
+        Ok(setup) => run_setup(alloc, setup, ahead, script, writer, messages),
         Err(fault) => refuse(alloc, description, fault, writer, messages),
     }
 }
@@ -180,7 +161,6 @@ fn run_description<S: Read, W: Write, M: Messages>(
 /// Runs a script on a network.
 fn run_setup<S: Read, W: Write, M: Messages>(
     alloc: Global,
-    asker: Asker,
     setup: Setup,
     ahead: &mut Ahead,
     script: &mut S,
@@ -189,13 +169,13 @@ fn run_setup<S: Read, W: Write, M: Messages>(
 ) -> Status
     requires { Fits setup.image setup.plan }
     ensures runs { (due : Result ThePlan ThePlanFault) → ComesTo due (Ok (setup.plan, setup.image))
-        → RunsDescription asker due
+        → RunsDescription due
         (prepend_known ahead.old (S.remaining script.old)) (S.remaining script.new)
         (W.contents writer.old) (W.contents writer.new) result }
     ensures of_script { (n : ℕ) → result ≡ status.CannotRead n → n ≡ 1 }
 {
     let Setup { plan, image } = setup;
-    let status = run_image(alloc, asker, &plan, image, ahead, script, writer, messages);
+    let status = run_image(alloc, &plan, image, ahead, script, writer, messages);
     drop_plan(plan);
     status
 }
@@ -203,7 +183,6 @@ fn run_setup<S: Read, W: Write, M: Messages>(
 /// The same of a plan and an image that fits it.
 fn run_image<S: Read, W: Write, M: Messages>(
     alloc: Global,
-    asker: Asker,
     plan: &Plan,
     image: Image,
     ahead: &mut Ahead,
@@ -213,12 +192,12 @@ fn run_image<S: Read, W: Write, M: Messages>(
 ) -> Status
     requires { Fits image plan.now }
     ensures runs { (due : Result ThePlan ThePlanFault) → ComesTo due (Ok (plan.now, image))
-        → RunsDescription asker due
+        → RunsDescription due
         (prepend_known ahead.old (S.remaining script.old)) (S.remaining script.new)
         (W.contents writer.old) (W.contents writer.new) result }
     ensures of_script { (n : ℕ) → result ≡ status.CannotRead n → n ≡ 1 }
 {
-    match run_plan_explained(alloc, asker, plan, image, ahead, script, writer, messages) {
+    match run_plan_explained(alloc, plan, image, ahead, script, writer, messages) {
         Ok(false) => Status::Done,
         Ok(true) => Status::Refused,
         Err(halt) => Status::of_halt(halt, 1),

@@ -4,7 +4,7 @@ ghost use Rattle.std.specs.String.{string_bytes};
 ghost use Rattle.c104_check.specs.Routes.{IsAccepted, routes_of};
 ghost use Rattle.c104_describe.specs.PlanImage.{Fits};
 ghost use Rattle.c104_describe.specs.PlanText.{most_bytes, read_description};
-ghost use Rattle.c104_label.specs.Images.{is_labelled_shape};
+ghost use Rattle.c104_label.specs.Images.{IsImageOf, is_labelled_shape};
 ghost use Rattle.c104_commands.specs.Setups.{ComesTo, IsOutOfMemory, RefusalEnds, label_fault_text, refused_text};
 ghost use Rattle.c104_commands.specs.declared.status.Status.TheVariants as status;
 
@@ -14,7 +14,8 @@ use c104_explain::{About, Messages, description_message};
 use c104_label::{LabelFault, image_of};
 use c104_script::description_text;
 use c104_stream::write_whole;
-use std::alloc::{AllocError, Global};
+use c104_token::NoMemory;
+use std::alloc::Global;
 use std::io::Write;
 
 /// A network with its labels: its plan, and the image of them.
@@ -38,6 +39,7 @@ pub(crate) fn set_up(alloc: Global, description: &[u8]) -> Result<Setup, SetupFa
     ensures network { IfOk result (λ setup.
         ComesTo (read_description description.now) (Ok (setup.plan, setup.image))) }
     ensures fits { IfOk result (λ setup. Fits setup.image setup.plan) }
+    ensures own { IfOk result (λ setup. IsImageOf setup.plan setup.image) }
     ensures accepted { IfOk result (λ setup. is_labelled_shape setup.plan.shape ≡ true
         → IsAccepted (routes_of setup.plan setup.image)) }
     ensures within { IfOk result (λ _. length description.now ≤ most_bytes) }
@@ -130,7 +132,7 @@ impl SetupFault {
 }
 
 /// The line that tells why a description gives no network with labels.
-fn refused_text(alloc: Global, fault: SetupFault) -> Result<String, AllocError>
+fn refused_text(alloc: Global, fault: SetupFault) -> Result<String, NoMemory>
     ensures { IfOk result (λ text. string_bytes text ≡ refused_text fault) }
 {
     match fault {
@@ -139,11 +141,13 @@ fn refused_text(alloc: Global, fault: SetupFault) -> Result<String, AllocError>
     }
 }
 
-/// The line that tells why a network can't be labelled: the fault's number and its name.
-pub fn label_fault_text(alloc: Global, fault: LabelFault) -> Result<String, AllocError>
+/// The line that tells why a network can't be labelled: the fault's number and its name. The only error is out of
+/// memory.
+pub fn label_fault_text(alloc: Global, fault: LabelFault) -> Result<String, NoMemory>
     ensures { IfOk result (λ text. string_bytes text ≡ label_fault_text fault) }
 {
     let number = fault.number();
     let name = fault.name();
-    format!(in alloc; "label {number} {name}\n")
+    let text = format!(in alloc; "label {number} {name}\n")?;
+    Ok(text)
 }

@@ -7,21 +7,19 @@ ghost use Rattle.c104_describe.specs.PlanPrint.{port_text, switch_name, terminal
 
 use c104_check::{CheckFault, Shown, SwitchPort};
 use c104_describe::Plan;
+use c104_token::NoMemory;
 use std::alloc::{AllocError, Global};
 
 /// The line that tells why the labels of a plan's network are refused: the fault's number, its name, and
-/// where it is, by the names of the plan.
-pub fn check_fault_text(
-    alloc: Global,
-    plan: &Plan,
-    fault: &CheckFault,
-) -> Result<String, AllocError>
+/// where it is, by the names of the plan. The only error is out of memory.
+pub fn check_fault_text(alloc: Global, plan: &Plan, fault: &CheckFault) -> Result<String, NoMemory>
     ensures { IfOk result (λ text. string_bytes text ≡ check_fault_text plan.now fault.now) }
 {
     let number = fault.number();
     let name = fault.name();
     let place = place_text(alloc, plan, fault)?;
-    format!(in alloc; "refused {number} {name}: {place}\n")
+    let text = format!(in alloc; "refused {number} {name}: {place}\n")?;
+    Ok(text)
 }
 
 /// Where a fault is.

@@ -6,7 +6,7 @@ use Rattle.c104_commands.proofs.cycles.find_all.Goals as goal
 pub returns : goal.returns
 returns c = (
   _,
-  c.in_ok-edges.ensures,
+  c.in_ok-edges.ensures.edges,
   (
     _,
     c.in_ok-found.ensures,

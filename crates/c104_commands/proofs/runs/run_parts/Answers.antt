@@ -1,0 +1,7 @@
+use Rattle.std.proofs.Common.{length, ap, arith}
+use Rattle.c104_commands.proofs.ReadFaults.{read_to_end}
+use Rattle.c104_commands.proofs.runs.run_parts.Goals as goal
+
+pub returns-clause-of_script : goal.returns-clause-of_script
+returns-clause-of_script g c is =
+    read_to_end _ _ _ c.in-Ok.ensures.taken (omega (arith, (c.run_description.ensures.of_script 1 is).1, ap length c.as_slice.ensures.value))
