@@ -13,14 +13,14 @@ const ABOUT_RUN: &str = "Runs a script on the network of a description, and show
 const ABOUT_DEBUG: &str = "Runs a script that is typed, or that a program sends, line by line";
 
 const ABOUT_CHECK: &str =
-    "Checks the labels of a description: whether each header comes to its owner";
+    "Checks the labels of a description: whether every way of each header ends at its terminal";
 
 const ABOUT_CYCLES: &str =
     "Looks for a cycle of channel dependencies, without which no accepted network locks up";
 
-const ABOUT_LABEL: &str = "Shows the labels of a description, and the registers that lead to them";
+const ABOUT_LABEL: &str = "Shows the labels of a description, and the register values they produce";
 
-const ABOUT_DRAW: &str = "Draws the network of a description, as a text for Graphviz";
+const ABOUT_DRAW: &str = "Draws the network of a description, as text for Graphviz";
 
 const TEACHING: &str = "A run has two inputs, which are text:
 
@@ -29,9 +29,9 @@ const TEACHING: &str = "A run has two inputs, which are text:
   by which an input of a switch chooses the output for a packet's header.
 
   The script says what happens in it: on each line an event, rounds, or a register
-  that is to be read or set. A line is answered behind its number as soon as it is
-  read. At the end stands each packet that arrived, behind the name of its terminal,
-  with the terminal that sent it and its number there.
+  that is to be read or set. Each line's number and answer are printed as soon as it
+  is read. At the end comes each packet that arrived: the terminal's name, the packet,
+  its sender, and its number there.
 
 They are two files, or one text on standard input: the description, a line whose
 only word is `script`, and then the script. `c104` alone is `c104 run`.
@@ -41,20 +41,21 @@ Examples:
   c104 < examples/first-network.txt   both in one text
   c104 debug network.txt              a description from a file, and a script as you type it
   c104 check network.txt              whether its packets can go astray
-  c104 cycles network.txt             whether they can wait for one another for good
+  c104 cycles network.txt             whether they can wait for one another forever
   c104 label network.txt              which labels and registers it gives
   c104 draw network.txt | dot -Tsvg   its picture
 
-Where standard error is a terminal, or under --explain, it is told there what is wrong
-with a line or with labels, why an event isn't ready, who waits for whom where nothing
-moves, and what didn't arrive. Standard output is the same.
+Under --explain, standard error explains what is wrong with a line or with labels, why
+an event isn't ready, who waits for whom where nothing moves, and what wasn't
+delivered. This is the default on a terminal, where long `rounds` also report progress.
+Standard output is the same.
 
 Exit status:
-  0  done, also where an event was refused
+  0  done, even if an event was refused
   1  the description, its labels or a line of the script was refused, or a cycle was found
   2  the command line is wrong
   3  a file can't be opened or read, or the output can't be written
-  4  no memory";
+  4  out of memory";
 
 const TEACHING_RUN: &str =
     "Without DESC and SCRIPT both are read from standard input as one text: the
@@ -62,53 +63,59 @@ description, a line whose only word is `script`, and then the script.";
 
 const TEACHING_DEBUG: &str =
     "The script is read from standard input, and each line is answered before the next is
-read. Where standard input and standard error are terminals, a prompt with the line's
-number stands there, and two more words may be typed: `help` lists the lines that there
-are, `show` with a switch or a terminal tells how its links stand, and `show waiting`
-which outputs the inputs hold and want. Such a line is counted, has no answer and
-changes nothing.";
+read. Where standard input and standard error are terminals, a prompt is shown, with the
+line's number, and standard error also answers questions: `help` lists the lines that
+there are, `show` shows the links of a switch, one link or a terminal, and `show waiting`
+which outputs the inputs hold and want. On standard output these are unknown words, as
+in `run`. The end of input, Ctrl-D, ends the script; `quit` and `exit` say so, and
+don't change the exit status.
+
+Lines can be edited and called back under rlwrap: `rlwrap c104 debug DESC`.";
 
 const TEACHING_CHECK: &str =
-    "The labels of a terminal are the headers that are to come to it, from every
-terminal and by any choice of a link in a group; a header that is no label is to
-be dropped where it comes in. A random header, which an input puts before a packet,
-is to come to an input that discards it, and the packet goes on from there. Prints
-`accepted`, or the first fault, with the header, the terminal that it comes from, and
-the inputs on its way.
+    "The labels of a terminal are the headers that it owns. Every way of each header,
+from every terminal and over any link of a group, has to end at its owner, also from
+the owner itself; a header without an owner has to be dropped where it comes in. A
+random header, which an input puts before a packet, has to end at an input that
+discards it, and the packet goes on from there. Prints `accepted`, or the first fault,
+with the header, the terminal that it comes from, and the inputs on its way.
 
 On a terminal, or under --explain, standard error says where the header goes wrong
-and, where some rows or labels do, which lines of the description mend it; and of
-labels that are accepted, whether packets can come to wait for one another for good.";
+and, where some rows or labels do, which lines of the description fix it; and of
+labels that are accepted, whether packets can wait for one another forever.";
 
 const TEACHING_CYCLES: &str =
     "One input depends on another where a packet that comes in at the one may have to
 wait until what came in at the other has gone on. Where the labels are accepted and no
 inputs depend on one another in a cycle, `rounds` brings each packet with a whole
-header that a terminal owns there, unless some terminal or a trace is full; where they
-do, packets can come to wait for one another for good. Prints `acyclic`, or `cycle` and
-its inputs, each with a header by which it depends on the next, the last on the first,
-and ends with exit status 1. Labels that check refuses are answered as there. Where an
-input puts random headers before packets, these go by such a header to an input that
-discards it, and from there by their own: the dependencies are those of both. What is
-said of `rounds` holds as long as no such packet begins with a random header itself.
+header that a terminal owns to that terminal, unless some terminal or a trace is full;
+where they do, packets can wait for one another forever. Prints `acyclic`, or `cycle`
+and its inputs, each with a header by which it depends on the next, the last on the
+first, and ends with exit status 1. Labels that check refuses are answered as by check.
+Where an input puts random headers before packets, these go by such a header to an
+input that discards it, and from there by their own: the dependencies are those of
+both. What is said of `rounds` holds as long as no such packet begins with a random
+header itself.
 
-With --all each dependency stands before, on a line of its own.";
+With --all each dependency comes first, on a line of its own.";
 
 const TEACHING_LABEL: &str =
     "For each terminal a line with its first label and how many it has, in decimal;
-then for each switch a line for each register that doesn't read as after a reset,
+then for each switch a line for each register whose value isn't that after a reset,
 with its address and its value in hexadecimal digits.";
 
 const TEACHING_DRAW: &str =
     "Each switch is a box, each terminal an ellipse with its labels, and link numbers
-stand at both ends of a wire. Wires between links of one group are one edge, whose
-links stand in the same order at both ends. A mesh stands on its grid and a cube on
-its drawn cube; all else hangs from its tree's root, or from its first switch.
+are at both ends of a wire. Wires between links of one group are one edge, whose links
+are in the same order at both ends. Meshes and cubes have fixed positions, and select
+the Graphviz layout that preserves them. Other networks are drawn downwards from the
+tree's root or the first switch.
 
 With a header, the links that it may take are bold, its owner is filled, and where
-check refuses it the walk is red and the title tells the fault.
+check refuses it the walk is red and the title is the fault.
 
-With --cycles, a cycle that the command cycles finds is red, and the title tells it.";
+With --cycles, a cycle that the command cycles finds is red, and the title is that
+cycle.";
 
 /// What the command line asks for, and whether people are to be told of what goes wrong wherever standard error
 /// goes.
@@ -135,7 +142,7 @@ impl<'a> Words<'a> {
 /// What the command line asks for. A path is a file's, or `-` for standard input.
 #[derive(Clone, Copy)]
 pub enum Order<'a> {
-    /// A run of one text from standard input: a description, and a script behind it.
+    /// A run of one text from standard input: a description, and a script after it.
     RunText,
     /// A run of two files.
     RunFiles {
@@ -258,9 +265,8 @@ const EXPLAIN: &str = "explain";
 /// The same, as a word of the command line.
 pub const EXPLAIN_WORD: &str = "--explain";
 
-const EXPLAIN_HELP: &str =
-    "Tells on standard error what is wrong with a line, and what didn't arrive;
-where standard error is a terminal that is told anyway";
+const EXPLAIN_HELP: &str = "Explain on standard error what is wrong, and what wasn't delivered;
+the default on a terminal";
 
 /// The names of arguments, as help shows them.
 const DESCRIPTION: &str = "DESC";
@@ -270,14 +276,14 @@ const SCRIPT: &str = "SCRIPT";
 /// The option of a header.
 const HEADER: &str = "header";
 
-const HEADER_HELP: &str = "Marks the ways of a header, 0 to 65535";
+const HEADER_HELP: &str = "Mark the ways of a header, 0 to 255, or 65535 with two bytes";
 
-const CYCLES_HELP: &str = "Marks a cycle of channel dependencies";
+const CYCLES_HELP: &str = "Mark a cycle of channel dependencies";
 
 /// The option of all dependencies.
 const ALL: &str = "all";
 
-const ALL_HELP: &str = "Lists each dependency before";
+const ALL_HELP: &str = "List each dependency first";
 
 const DESCRIPTION_HELP: &str = "The description: a file, or - for standard input";
 
@@ -292,7 +298,7 @@ fn program<'a>(alloc: Global) -> Result<Command<'a>, AllocError> {
     command(alloc, "c104", ABOUT, TEACHING)
         .version(VERSION)
         .bin_name("c104")?
-        .arg(explain_option(alloc))
+        .arg(explain_option(alloc)?)
 }
 
 /// The subcommands, as help lists them.
@@ -371,14 +377,16 @@ fn description_command<'a>(
     command(alloc, name, about, teaching).arg(description_argument(alloc).required(true))
 }
 
-/// A command, and what help says of it before and behind its arguments.
+/// A command, and what help says of it before and after its arguments.
 fn command<'a>(alloc: Global, name: &'a str, about: &'a str, teaching: &'a str) -> Command<'a> {
     Command::new(alloc, name).about(about).after_help(teaching)
 }
 
-/// `--explain`, before or behind any command.
-fn explain_option<'a>(alloc: Global) -> Arg<'a> {
-    flag(alloc, EXPLAIN, EXPLAIN_HELP).global(true)
+/// `--explain`, before or after any command, once or more often.
+fn explain_option<'a>(alloc: Global) -> Result<Arg<'a>, AllocError> {
+    flag(alloc, EXPLAIN, EXPLAIN_HELP)
+        .global(true)
+        .overrides_with(EXPLAIN)
 }
 
 /// `DESC`.

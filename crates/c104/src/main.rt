@@ -13,15 +13,18 @@ mod typed;
 
 pub use c104_commands::{
     Status, check_command, check_explained, cycles_command, cycles_explained, debug_command,
-    debug_explained, debug_terminal, draw_command, draw_cycles_command, draw_cycles_explained,
-    draw_explained, draw_header_command, label_command, label_explained, run, run_explained,
-    run_text, run_text_explained,
+    debug_explained, draw_command, draw_cycles_command, draw_cycles_explained, draw_explained,
+    draw_header_command, label_command, label_explained, run, run_explained, run_text,
+    run_text_explained,
 };
+use c104_describe::{MAX_DESCRIPTION, read_description};
+use c104_explain::{About, Messages};
+use c104_stream::{ReadFault, read_up_to};
 use clap::error::ErrorKind;
 use command_line::{Order, Words};
-use sources::Source;
+use sources::{STANDARD_INPUT, Source, Watched};
 use std::fs::File;
-use std::io::{Input, IsTerminal};
+use std::io::{Input, IsTerminal, Read};
 use std::process::ExitCode;
 use std::{env, io};
 use told::{Told, tell_of_words};
@@ -30,8 +33,15 @@ use typed::Typed;
 /// The exit status of a wrong command line.
 const WRONG_USAGE: u8 = 2;
 
+/// The last header of one byte.
+const LAST_SHORT_HEADER: u16 = 255;
+
 /// A file of the host's, or its standard input.
-type HostSource = Source<File, <HostRuntime as Input>::Reader>;
+type HostSource = Watched<Source<File, <HostRuntime as Input>::Reader>>;
+
+/// What is told where a person may not know that a text is awaited.
+const AWAITED: &str =
+    "reads a description and a script from standard input, up to Ctrl-D; `c104 --help` tells more";
 
 fn main(rt: HostRuntime) -> ExitCode {
     match command_words(&rt) {
@@ -57,7 +67,17 @@ fn do_words(rt: &HostRuntime, words: &[String]) -> ExitCode {
     let error = match Words::read(rt.alloc(), words) {
         Ok(words) => {
             let mut told = Told::new(rt, words.order, words.explain);
-            return finish(rt, do_order(rt, words.order, &mut told), words.order);
+            let status = do_order(rt, words.order, &mut told);
+            if told.has_wrong_word() {
+                return ExitCode::from(WRONG_USAGE);
+            }
+            let code = finish(rt, told.status_of(status), words.order);
+            if let Status::CannotRead(number) = status
+                && let Some(fault) = told.fault()
+            {
+                let _ = eprintln!(rt; "c104: {}: {fault}", words.order.path(number));
+            }
+            return code;
         }
         Err(error) => error,
     };
@@ -79,9 +99,7 @@ fn do_words(rt: &HostRuntime, words: &[String]) -> ExitCode {
 /// Does an order, and tells what people are to be told.
 fn do_order(rt: &HostRuntime, order: Order<'_>, told: &mut Told<'_>) -> Status {
     match order {
-        Order::RunText => {
-            run_text_explained(rt.alloc(), &mut rt.reader(), &mut io::writer(rt), told)
-        }
+        Order::RunText => run_one_text(rt, told),
         Order::RunFiles {
             description,
             script,
@@ -98,108 +116,174 @@ fn do_order(rt: &HostRuntime, order: Order<'_>, told: &mut Told<'_>) -> Status {
     }
 }
 
+/// Runs one text from standard input.
+fn run_one_text(rt: &HostRuntime, told: &mut Told<'_>) -> Status {
+    if told.is_watched() && rt.stdin().is_terminal() {
+        told.tell(About::Run, AWAITED);
+    }
+    let mut text = Watched::new(rt.reader());
+    let status = run_text_explained(rt.alloc(), &mut text, &mut io::writer(rt), told);
+    told.note_fault(text.fault());
+    status
+}
+
+/// Opens a path, or notes why it can't be opened.
+fn open_path(rt: &HostRuntime, path: &str, told: &mut Told<'_>) -> Option<HostSource> {
+    match Source::open(rt, path) {
+        Ok(source) => Some(Watched::new(source)),
+        Err(error) => {
+            told.note_fault(error.raw_os_error());
+            None
+        }
+    }
+}
+
+/// Whether a path is that of standard input, and nothing is open there: a file that is opened would take its place.
+fn is_closed(rt: &HostRuntime, path: &str, told: &mut Told<'_>) -> bool {
+    if path != STANDARD_INPUT {
+        return false;
+    }
+    match rt.reader().read(&mut []) {
+        Ok(_) => false,
+        Err(error) => {
+            told.note_fault(error.raw_os_error());
+            true
+        }
+    }
+}
+
 /// Runs two files. Both are opened, the description's first, before anything is read.
 fn run_files(rt: &HostRuntime, description: &str, script: &str, told: &mut Told<'_>) -> Status {
-    let opened: io::Result<HostSource> = Source::open(rt, description);
-    let Ok(mut description) = opened else {
+    if is_closed(rt, description, told) {
+        return Status::CannotRead(0);
+    }
+    if is_closed(rt, script, told) {
+        return Status::CannotRead(1);
+    }
+    let Some(mut description) = open_path(rt, description, told) else {
         return Status::CannotRead(0);
     };
-    let opened: io::Result<HostSource> = Source::open(rt, script);
-    let Ok(mut script) = opened else {
+    let Some(mut script) = open_path(rt, script, told) else {
         return Status::CannotRead(1);
     };
-    run_explained(
+    let status = run_explained(
         rt.alloc(),
         &mut description,
         &mut script,
         &mut io::writer(rt),
         told,
-    )
+    );
+    told.note_fault(description.fault().or(script.fault()));
+    status
 }
 
 /// Runs a description's file and a script from standard input, line by line. Where a person types it, and sees
-/// standard error, there are prompts, and questions are answered.
+/// standard error, there are prompts.
 fn debug_file(rt: &HostRuntime, description: &str, told: &mut Told<'_>) -> Status {
-    let opened: io::Result<HostSource> = Source::open(rt, description);
-    let Ok(mut description) = opened else {
+    if is_closed(rt, STANDARD_INPUT, told) {
+        return Status::CannotRead(1);
+    }
+    let Some(mut description) = open_path(rt, description, told) else {
         return Status::CannotRead(0);
     };
-    if rt.stdin().is_terminal() && rt.stderr().is_terminal() {
-        return debug_terminal(
-            rt.alloc(),
-            &mut description,
-            &mut Typed::new(rt, rt.reader()),
-            &mut io::writer(rt),
-            told,
-        );
+    let mut script = Watched::new(rt.reader());
+    let mut writer = io::writer(rt);
+    let status = if told.are_asked() {
+        let mut typed = Typed::new(rt, script);
+        debug_explained(rt.alloc(), &mut description, &mut typed, &mut writer, told)
+    } else {
+        let status = debug_explained(rt.alloc(), &mut description, &mut script, &mut writer, told);
+        told.note_fault(script.fault());
+        status
+    };
+    if description.fault().is_some() {
+        told.note_fault(description.fault());
     }
-    debug_explained(
-        rt.alloc(),
-        &mut description,
-        &mut rt.reader(),
-        &mut io::writer(rt),
-        told,
-    )
+    status
 }
 
 /// Checks the labels of a description's file.
 fn check_file(rt: &HostRuntime, description: &str, told: &mut Told<'_>) -> Status {
-    let opened: io::Result<HostSource> = Source::open(rt, description);
-    let Ok(mut description) = opened else {
+    let Some(mut description) = open_path(rt, description, told) else {
         return Status::CannotRead(0);
     };
-    check_explained(rt.alloc(), &mut description, &mut io::writer(rt), told)
+    let status = check_explained(rt.alloc(), &mut description, &mut io::writer(rt), told);
+    told.note_fault(description.fault());
+    status
 }
 
 /// Looks for a cycle of channel dependencies in the network of a description's file.
 fn search_file(rt: &HostRuntime, description: &str, all: bool, told: &mut Told<'_>) -> Status {
-    let opened: io::Result<HostSource> = Source::open(rt, description);
-    let Ok(mut description) = opened else {
+    let Some(mut description) = open_path(rt, description, told) else {
         return Status::CannotRead(0);
     };
-    cycles_explained(rt.alloc(), &mut description, all, &mut io::writer(rt), told)
+    let status = cycles_explained(rt.alloc(), &mut description, all, &mut io::writer(rt), told);
+    told.note_fault(description.fault());
+    status
 }
 
 /// Labels the network of a description's file.
 fn label_file(rt: &HostRuntime, description: &str, told: &mut Told<'_>) -> Status {
-    let opened: io::Result<HostSource> = Source::open(rt, description);
-    let Ok(mut description) = opened else {
+    let Some(mut description) = open_path(rt, description, told) else {
         return Status::CannotRead(0);
     };
-    label_explained(rt.alloc(), &mut description, &mut io::writer(rt), told)
+    let status = label_explained(rt.alloc(), &mut description, &mut io::writer(rt), told);
+    told.note_fault(description.fault());
+    status
 }
 
-/// Draws the network of a description's file.
+/// Draws the network of a description's file. A header that its packets can't have is a wrong word.
 fn draw_file(
     rt: &HostRuntime,
     description: &str,
     header: Option<u16>,
     told: &mut Told<'_>,
 ) -> Status {
-    let opened: io::Result<HostSource> = Source::open(rt, description);
-    let Ok(mut description) = opened else {
+    let Some(mut source) = open_path(rt, description, told) else {
         return Status::CannotRead(0);
     };
+    let text = match read_up_to(rt.alloc(), MAX_DESCRIPTION, &mut source) {
+        Ok(text) => text,
+        Err(ReadFault::NoMemory) => return Status::NoMemory,
+        Err(ReadFault::CannotRead) => {
+            told.note_fault(source.fault());
+            return Status::CannotRead(0);
+        }
+    };
+    if let Some(header) = header
+        && header > LAST_SHORT_HEADER
+        && has_short_headers(rt, text.as_slice())
+    {
+        let _ = eprintln!(rt;
+            "error: the headers of this network have one byte, 0 to 255: {header}"
+        );
+        told.note_wrong_word();
+        return Status::Refused;
+    }
     let header = match header {
         Some(header) => Some(u32::from(header)),
         None => None,
     };
-    draw_explained(
-        rt.alloc(),
-        &mut description,
-        header,
-        &mut io::writer(rt),
-        told,
-    )
+    let mut text = text.as_slice();
+    draw_explained(rt.alloc(), &mut text, header, &mut io::writer(rt), told)
+}
+
+/// Whether the headers of a description's network have one byte.
+fn has_short_headers(rt: &HostRuntime, description: &[u8]) -> bool {
+    match read_description(rt.alloc(), description) {
+        Ok(plan) => plan.header() == 1,
+        Err(_) => false,
+    }
 }
 
 /// Draws the network of a description's file with a cycle of channel dependencies.
 fn draw_cycle_file(rt: &HostRuntime, description: &str, told: &mut Told<'_>) -> Status {
-    let opened: io::Result<HostSource> = Source::open(rt, description);
-    let Ok(mut description) = opened else {
+    let Some(mut description) = open_path(rt, description, told) else {
         return Status::CannotRead(0);
     };
-    draw_cycles_explained(rt.alloc(), &mut description, &mut io::writer(rt), told)
+    let status = draw_cycles_explained(rt.alloc(), &mut description, &mut io::writer(rt), told);
+    told.note_fault(description.fault());
+    status
 }
 
 /// Says on standard error what failed, and gives the exit status.

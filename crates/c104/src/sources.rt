@@ -38,3 +38,40 @@ impl<F: Read + Drop, I: Read + Drop> Read for Source<F, I> {
         }
     }
 }
+
+/// A reader, of which is kept why it failed last.
+#[derive(Drop)]
+pub struct Watched<R: Read + Drop> {
+    reader: R,
+    // The system's number of the fault.
+    fault: Option<i32>,
+}
+
+impl<R: Read + Drop> Watched<R> {
+    /// A reader that hasn't failed.
+    pub fn new(reader: R) -> Self {
+        Watched {
+            reader,
+            fault: None,
+        }
+    }
+
+    /// The system's number of why it failed last, where it did and the system has one.
+    pub fn fault(&self) -> Option<i32> {
+        self.fault
+    }
+}
+
+impl<R: Read + Drop> Read for Watched<R> {
+    ghost remaining = { λ watched. R.remaining watched.reader };
+
+    fn read(&mut self, buf: &mut [u8]) -> io::Result<usize> {
+        match self.reader.read(buf) {
+            Ok(count) => Ok(count),
+            Err(error) => {
+                self.fault = error.raw_os_error();
+                Err(error)
+            }
+        }
+    }
+}

@@ -1,13 +1,14 @@
 //! What people are told on standard error, and where that is wanted.
 
 use crate::command_line::{EXPLAIN_WORD, Order};
+use c104_commands::Status;
 use c104_explain::{About, Messages};
 use clap::Error;
 use clap::error::ErrorKind;
 use std::alloc::AllocError;
-use std::fs;
 use std::io::{IsTerminal, Write};
 use std::time::Instant;
+use std::{fs, io};
 
 /// Seconds that a line's rounds go on before it is told how far they are, and between two times.
 const SECONDS_BETWEEN: u64 = 1;
@@ -29,6 +30,15 @@ pub struct Told<'a> {
     is_wanted: bool,
     // Whether it is told how far rounds are: standard error is a terminal.
     is_watched: bool,
+    // Whether a person types the script.
+    is_asked: bool,
+    // Whether a line was faulty that doesn't just want to end the script, and whether one does.
+    is_faulty: bool,
+    has_farewell: bool,
+    // The system's number of the fault of what can't be read.
+    fault: Option<i32>,
+    // Whether a word of the command line turned out to be wrong.
+    has_wrong_word: bool,
     going: Option<Going>,
 }
 
@@ -37,12 +47,54 @@ impl<'a> Told<'a> {
     /// terminal.
     pub fn new(rt: &'a HostRuntime, order: Order<'a>, explain: bool) -> Self {
         let is_watched = rt.stderr().is_terminal();
+        let is_typed = matches!(order, Order::Debug { .. }) && rt.stdin().is_terminal();
         Told {
             rt,
             order,
             is_wanted: explain || is_watched,
             is_watched,
+            is_asked: is_typed && is_watched,
+            is_faulty: false,
+            has_farewell: false,
+            fault: None,
+            has_wrong_word: false,
             going: None,
+        }
+    }
+
+    /// Whether standard error is a terminal.
+    pub fn is_watched(&self) -> bool {
+        self.is_watched
+    }
+
+    /// Notes why something can't be read, where the system has a number for it.
+    pub fn note_fault(&mut self, fault: Option<i32>) {
+        self.fault = fault;
+    }
+
+    /// Notes that a word of the command line doesn't go with the description.
+    pub fn note_wrong_word(&mut self) {
+        self.has_wrong_word = true;
+    }
+
+    /// Whether a word of the command line was noted as wrong.
+    pub fn has_wrong_word(&self) -> bool {
+        self.has_wrong_word
+    }
+
+    /// Why something couldn't be read, as the system names it.
+    pub fn fault(&self) -> Option<io::Error> {
+        match self.fault {
+            Some(code) => Some(io::Error::from_raw_os_error(code)),
+            None => None,
+        }
+    }
+
+    /// How a run ends: the lines by which a person wants to end a script don't make it a refused one.
+    pub fn status_of(&self, status: Status) -> Status {
+        match status {
+            Status::Refused if self.has_farewell && !self.is_faulty => Status::Done,
+            _ => status,
         }
     }
 
@@ -57,8 +109,10 @@ impl<'a> Told<'a> {
             About::DescriptionLine(line) => {
                 format!(in alloc; "c104: {description}:{line}: {message}\n")
             }
-            About::Question => format!(in alloc; "{message}\n"),
-            About::ScriptLine(line) => format!(in alloc; "c104: {script}:{line}: {message}\n"),
+            About::Question | About::Farewell => format!(in alloc; "{message}\n"),
+            About::ScriptLine(line) | About::FaultyLine(line) => {
+                format!(in alloc; "c104: {script}:{line}: {message}\n")
+            }
         }
     }
 
@@ -89,7 +143,16 @@ impl Messages for Told<'_> {
         self.is_wanted
     }
 
+    fn are_asked(&self) -> bool {
+        self.is_asked
+    }
+
     fn tell(&mut self, about: About, message: &str) {
+        match about {
+            About::FaultyLine(_) | About::Question => self.is_faulty = true,
+            About::Farewell => self.has_farewell = true,
+            _ => {}
+        }
         if let Ok(line) = self.line_of(about, message) {
             // The whole line at once. Where that fails, the message is lost.
             let _ = self.rt.stderr().write_all(line.as_bytes());
@@ -107,8 +170,8 @@ impl Messages for Told<'_> {
     }
 }
 
-/// Tells of a file that stands in the place of a command, and of one that stands alone where two are wanted, where
-/// messages are wanted.
+/// Tells of files where a command is wanted, of one file where two are wanted, and of what isn't a header, where messages
+/// are wanted.
 pub fn tell_of_words(rt: &HostRuntime, words: &[String], error: &Error) {
     let explain = words.iter().any(|word| word.as_str() == EXPLAIN_WORD);
     if !(explain || rt.stderr().is_terminal()) {
@@ -120,29 +183,38 @@ pub fn tell_of_words(rt: &HostRuntime, words: &[String], error: &Error) {
     match error.kind() {
         ErrorKind::InvalidSubcommand => tell_of_command(rt, words),
         ErrorKind::MissingRequiredArgument => tell_of_script(rt, words),
+        ErrorKind::ValueValidation => {
+            let _ = rt.eprintln("c104: a header is a decimal number, 0 to 65535");
+        }
         _ => {}
     }
 }
 
-/// Tells of a file in the place of a command.
+/// Tells of one file, or of two, where a command is wanted.
 fn tell_of_command(rt: &HostRuntime, words: &[String]) {
     let Some(path) = file_at(rt, words, 0) else {
         return;
     };
+    if let Some(script) = file_at(rt, words, 1) {
+        let _ = eprintln!(rt;
+            "c104: {path}: this is a file, not a command; `c104 run {path} {script}` runs a description and its script"
+        );
+        return;
+    }
     let _ = eprintln!(rt;
-        "c104: {path}: a file stands in the place of a command; `c104 < {path}` runs a description and a script \
+        "c104: {path}: this is a file, not a command; `c104 < {path}` runs a description and a script \
          that are one text, `c104 run {path} SCRIPT` a description and its script, and `c104 check {path}` checks a \
          description's labels"
     );
 }
 
-/// Tells of a file behind a command that wants a second one.
+/// Tells of a file after a command that wants a second one.
 fn tell_of_script(rt: &HostRuntime, words: &[String]) {
     let Some(path) = file_at(rt, words, 1) else {
         return;
     };
     let _ = eprintln!(rt;
-        "c104: {path}: the script is wanted behind it; `c104 run {path} SCRIPT` takes a description and its script \
+        "c104: {path}: a script is wanted after it; `c104 run {path} SCRIPT` takes a description and its script \
          from two files, `c104 run {path} -` the script from standard input, and `c104 < {path}` runs both where \
          they are one text"
     );
