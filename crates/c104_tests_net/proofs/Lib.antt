@@ -3,3 +3,4 @@ pub mod CalmRuns
 pub mod NamedPackets
 pub mod NotRandom
 pub mod DeliveredRuns
+pub mod FoundPackets

@@ -83,14 +83,14 @@ module _ (plan : Plan) (nodes : List (Node Token)) (traced : List (Node Traced))
       }
 
 -- where each list that is joined has one element, a k-th of all is that of a k-th list
-list_there : {X Y : Type 0} (f : X → List Y) (xs : List X) → ((k : ℕ) (x : X) → slice_get xs k ≡ Some x → (y : Y) × (f x ≡ y ∷ [])) → (k : ℕ) (y : Y) → slice_get (flat_map f xs) k ≡ Some y → (x : X) × (slice_get xs k ≡ Some x)
+pub list_there : {X Y : Type 0} (f : X → List Y) (xs : List X) → ((k : ℕ) (x : X) → slice_get xs k ≡ Some x → (y : Y) × (f x ≡ y ∷ [])) → (k : ℕ) (y : Y) → slice_get (flat_map f xs) k ≡ Some y → (x : X) × (slice_get xs k ≡ Some x)
 list_there f [] ones k y is = absurd (cc)
 list_there f (z ∷ xs) ones zero y is = (z, refl)
 list_there f (z ∷ xs) ones (suc k) y is =
     let one = ones 0 z refl in
     list_there f xs (λ j x at. ones (suc j) x at) k y (ap (λ ys. slice_get (ys ++ flat_map f xs) (suc k)) (sym one.1) ∙ is)
 
-same_origin : (a b : Origin) → Some a ≡ Some b → a ≡ b
+pub same_origin : (a b : Origin) → Some a ≡ Some b → a ≡ b
 same_origin a b is = cc
 
 -- each packet that a terminal received in a network is delivered, and its list names it at the same place

@@ -1,2 +1,3 @@
 pub mod CalmNets
 pub mod DeliveredNets
+pub mod FoundPackets

@@ -167,41 +167,53 @@ fn on_ring(alloc: Global, plan: &Plan, count: u32) -> Result<bool, Fail>
         return Err("random headers".into());
     }
     let image = image_of(alloc, plan)?;
-    let quiet = where_acyclic(alloc, plan, &image, count)?;
+    let quiet = where_acyclic(alloc, plan, &image, count, true)?;
     Ok(quiet)
 }
 
-/// The same with the plan's own image, where it is accepted and has no cycle of channel dependencies.
-fn where_acyclic(alloc: Global, plan: &Plan, image: &Image, count: u32) -> Result<bool, Fail>
+/// The same with the plan's own image, where it is accepted and has no cycle of channel dependencies. The packets are
+/// sent behind random headers where they aren't plain.
+fn where_acyclic(
+    alloc: Global,
+    plan: &Plan,
+    image: &Image,
+    count: u32,
+    plain: bool,
+) -> Result<bool, Fail>
     requires fits { Fits image.now plan.now }
-    requires never_randomized { IsNeverRandomized (routes_of plan.now image.now) }
+    requires never_randomized { plain ≡ true → IsNeverRandomized (routes_of plan.now image.now) }
     ensures { IfOk result (λ quiet. quiet ≡ true) }
 {
     check(alloc, plan, image)?;
     let RanksOrCycle::Ranks(ranks) = find_cycle(alloc, plan, image)? else {
         return Err("a cycle of channel dependencies".into());
     };
-    let quiet = by_ranks(alloc, plan, image, &ranks, count)?;
+    let quiet = by_ranks(alloc, plan, image, &ranks, count, plain)?;
     Ok(quiet)
 }
 
-/// The same by ranks that fall along the dependencies.
+/// The same by ranks that fall along the dependencies, those of both phases where there are random headers.
 fn by_ranks(
     alloc: Global,
     plan: &Plan,
     image: &Image,
     ranks: &Ranks,
     count: u32,
+    plain: bool,
 ) -> Result<bool, Fail>
     requires fits { Fits image.now plan.now }
     requires accepted { IsAccepted (routes_of plan.now image.now) }
     requires within { AreRanksWithin (input_count (routes_of plan.now image.now)) (rank_in ranks.now.by_place) }
     requires ranking { IsRanking (routes_of plan.now image.now) (rank_in ranks.now.by_place) }
-    requires never_randomized { IsNeverRandomized (routes_of plan.now image.now) }
+    requires never_randomized { plain ≡ true → IsNeverRandomized (routes_of plan.now image.now) }
     ensures { IfOk result (λ quiet. quiet ≡ true) }
 {
     let mut net = placed(alloc, plan, image)?;
-    let quiet = settle_by(alloc, &mut net, plan, image, ranks, count);
+    let quiet = if plain {
+        settle_by(alloc, &mut net, plan, image, ranks, count)
+    } else {
+        settle_labels(alloc, &mut net, plan, image, ranks, count)
+    };
     net.retire();
     quiet
 }
@@ -259,26 +271,14 @@ fn over_portals(alloc: Global, plan: &Plan, count: u32) -> Result<bool, Fail>
     ensures { IfOk result (λ quiet. quiet ≡ true) }
 {
     let image = image_of(alloc, plan)?;
-    let quiet = where_free(alloc, plan, &image, count)?;
+    let quiet = where_acyclic(alloc, plan, &image, count, false)?;
     Ok(quiet)
 }
 
-/// The same with the plan's own image, where it is accepted and has no cycle of channel dependencies.
-fn where_free(alloc: Global, plan: &Plan, image: &Image, count: u32) -> Result<bool, Fail>
-    requires fits { Fits image.now plan.now }
-    ensures { IfOk result (λ quiet. quiet ≡ true) }
-{
-    check(alloc, plan, image)?;
-    let RanksOrCycle::Ranks(ranks) = find_cycle(alloc, plan, image)? else {
-        return Err("a cycle of channel dependencies".into());
-    };
-    let quiet = after_labels(alloc, plan, image, &ranks, count)?;
-    Ok(quiet)
-}
-
-/// The same by ranks that fall along the dependencies of both phases.
-fn after_labels(
+/// Two packets are sent behind random headers, and what stands still then is quiet.
+fn settle_labels(
     alloc: Global,
+    net: &mut Net,
     plan: &Plan,
     image: &Image,
     ranks: &Ranks,
@@ -288,15 +288,11 @@ fn after_labels(
     requires accepted { IsAccepted (routes_of plan.now image.now) }
     requires within { AreRanksWithin (input_count (routes_of plan.now image.now)) (rank_in ranks.now.by_place) }
     requires ranking { IsRanking (routes_of plan.now image.now) (rank_in ranks.now.by_place) }
+    requires calm { IsCalm plan.now image.now net.old }
     ensures { IfOk result (λ quiet. quiet ≡ true) }
 {
-    let mut net = placed(alloc, plan, image)?;
-    let quiet = match send_labels(alloc, &mut net, plan, image, count) {
-        Ok(()) => stand_quiet(&net, plan, image, ranks),
-        Err(error) => Err(error),
-    };
-    net.retire();
-    quiet
+    send_labels(alloc, net, plan, image, count)?;
+    stand_quiet(net, plan, image, ranks)
 }
 
 /// What stands still is quiet.

@@ -1,6 +1,6 @@
 //! Tests of networks and tools, in modules by what they test, and one for the texts of their faults.
-//! `named_packets` cites the theorem about packets as a caller does, `portals` the same where there are random headers,
-//! and `deadlock` the theorem about deadlock.
+//! `named_packets` cites the theorem about packets as a caller does, `found_packets` what it says of a network that is
+//! quiet at the end, `portals` the same where there are random headers, and `deadlock` the theorem about deadlock.
 //!
 //! A crate with tests is proved twice, so the tests stand in crates of their own and the others have none. What
 //! a contract says needs no test. These show what no contract can: that a call which takes memory succeeds where
@@ -16,6 +16,8 @@ mod crossings;
 mod deadlock;
 #[cfg(test)]
 mod faults;
+#[cfg(test)]
+mod found_packets;
 #[cfg(test)]
 mod named_packets;
 #[cfg(test)]

@@ -24,7 +24,7 @@ use std::process::Abort;
 use std::test::Fail;
 
 /// A tree of three switches, the second of which is its root.
-const TREE: &[u8] =
+pub const TREE: &[u8] =
     b"switch A\nswitch B\nswitch C\nterminal a A.0\nterminal b C.0\nterminal c C.1\n\
     wire A.1 B.1\nwire B.2 C.2\nlabel tree B\n";
 
@@ -76,7 +76,7 @@ fn through_tree(alloc: Global, plan: &Plan, count: u32) -> Result<Origin, Fail>
 }
 
 /// A network in which two packets were sent.
-fn in_first_run(alloc: Global, plan: &Plan, image: &Image, count: u32) -> Result<Net, Fail>
+pub fn in_first_run(alloc: Global, plan: &Plan, image: &Image, count: u32) -> Result<Net, Fail>
     requires never_randomized { IsNeverRandomized (routes_of plan.now image.now) }
     ensures { IfOk result (λ net. IsCalm plan.now image.now net) }
 {

@@ -1,0 +1,90 @@
+-- Of a network that was quiet when it was finished, no packet is missing, and none is there twice.
+use Rattle.c104_check.specs.Routes.{IsAccepted, owner, routes_of}
+use Rattle.c104_describe.specs.PlanImage.{Image}
+use Rattle.c104_describe.specs.Plans.{Plan}
+use Rattle.c104_net.proofs.OriginPieces.{delivered_origin, received_origins}
+use Rattle.c104_net.specs.Deliveries.{IsDelivered, Promise, arrived_at, has_header, header_of, received, sent_at}
+use Rattle.c104_net.specs.FinishedRecords.{FinishedRecord, record_finish}
+use Rattle.c104_net.specs.NetRecords.{IsNetRecord, NetRecord}
+use Rattle.c104_net.specs.Origins.{origins_in}
+use Rattle.c104_net.specs.Quiet.{IsQuiet}
+use Rattle.c104_net.specs.RunOrigins.{AreOrigins}
+use Rattle.c104_net.specs.TracedEnds.{traced_end}
+use Rattle.c104_net.specs.Unchanged.{AreStartsOf, IsUnchanged}
+use Rattle.c104_net.specs.declared.origins.Origin.{Origin}
+use Rattle.c104_net.specs.declared.traced.Traced.{Traced}
+use Rattle.c104_tests_net.proofs.CalmRuns.{unchanged}
+use Rattle.c104_tests_net.proofs.NamedPackets.{list_there, same_origin}
+use Rattle.c104_tests_net.specs.CalmNets.{IsCalm, IsCalmTrace, IsListed}
+use Rattle.c104_tests_net.specs.FoundPackets.{AreFoundOnce}
+use Rattle.c104_token.specs.declared.packets.Packet.{Packet}
+use Rattle.std.proofs.Common.{All, Err, List, Ok, Result, Some, [], ap, arith, flat_map, length, map, option_map, refl, slice_get, subst, suc, sym, true, zero, ℕ, ◌<◌, ◌∙◌, ◌∷◌, ◌≡◌}
+use Rattle.std.proofs.lemmas.Option.{slice_get-map, slice_get_within}
+use Rattle.std.specs.Global.{Vec as Kept}
+use Rattle.std.specs.Prelude.{IfOk}
+
+-- a list as it is told is that of one that is given back
+listed_there : (lists : List (Kept Origin)) (t : ℕ) (list : List Origin) → slice_get (map (λ (l : Kept Origin). l.items) lists) t ≡ Some list → (l : Kept Origin) × (slice_get lists t ≡ Some l) × (l.items ≡ list)
+listed_there [] t list is = absurd (cc)
+listed_there (l ∷ lists) zero list is = let same : l.items ≡ list = cc in (l, refl, same)
+listed_there (l ∷ lists) (suc t) list is = listed_there lists t list is
+
+same_list : (xs ys : List Origin) → Some xs ≡ Some ys → xs ≡ ys
+same_list xs ys is = cc
+
+module _ (image : Image) (run : FinishedRecord) (lists : List (List Origin)) (accepted : IsAccepted (routes_of run.finished.plan image)) (starts : AreStartsOf run.finished.plan image run.starts) (calm : All (IsCalmTrace (routes_of run.finished.plan image)) run.traces) (are : AreOrigins run lists) where
+  still : IsUnchanged (routes_of run.finished.plan image) are.events
+  still = unchanged (routes_of run.finished.plan image) run.finished.plan run.starts are.nodes run.traces run.count are.events starts.in_place calm are.told
+
+  promised : Promise (routes_of run.finished.plan image) (traced_end run)
+  promised = are.promise image accepted starts still
+
+  -- an origin in a terminal's list is that of the packet that the terminal received there
+  delivered_here : (t k : ℕ) (list : List Origin) (o : Origin) → slice_get lists t ≡ Some list → slice_get list k ≡ Some o → (q : List Traced) × (slice_get (received (traced_end run) t) k ≡ Some q) × (d : IsDelivered (routes_of run.finished.plan image) (traced_end run) t q) × (◌≡◌ {A = Origin} (record { terminal = d.terminal; number = d.number }) o)
+  delivered_here t k list o listed there =
+      let within : t < length lists = slice_get_within lists t list listed in
+      let inside : t < length run.finished.plan.terminals = (let counted = are.counted in omega (arith, within, counted)) in
+      let same : list ≡ origins_in (arrived_at (traced_end run) t) = same_list list _ (sym listed ∙ are.each t inside) in
+      let met : slice_get (origins_in (arrived_at (traced_end run) t)) k ≡ Some o = ap (λ os. slice_get os k) (sym same) ∙ there in
+      let joined : slice_get (flat_map origins_in (received (traced_end run) t)) k ≡ Some o = ap (λ os. slice_get os k) (sym (received_origins (arrived_at (traced_end run) t))) ∙ met in
+      let found = list_there origins_in (received (traced_end run) t) (λ j q at. (let d = promised.delivered t j q at in (record { terminal = d.terminal; number = d.number }, delivered_origin (routes_of run.finished.plan image) (traced_end run) t q d))) k o joined in
+      let d : IsDelivered (routes_of run.finished.plan image) (traced_end run) t found.0 = promised.delivered t k found.0 found.1 in
+      (found.0, found.1, d, same_origin _ o (sym (are.named image accepted starts still t k found.0 found.1 d) ∙ met))
+
+  -- so none is there twice
+  once_here : (t u i j : ℕ) (list other : List Origin) (o : Origin) → slice_get lists t ≡ Some list → slice_get list i ≡ Some o → slice_get lists u ≡ Some other → slice_get other j ≡ Some o → (t ≡ u) × (i ≡ j)
+  once_here t u i j list other o listed there also too =
+      let x = delivered_here t i list o listed there in
+      let y = delivered_here u j other o also too in
+      let d : IsDelivered (routes_of run.finished.plan image) (traced_end run) t x.0 = x.2 in
+      let e : IsDelivered (routes_of run.finished.plan image) (traced_end run) u y.0 = y.2 in
+      let same : ◌≡◌ {A = Origin} (record { terminal = d.terminal; number = d.number }) (record { terminal = e.terminal; number = e.number }) = x.3 ∙ sym y.3 in
+      promised.once t u i j x.0 y.0 x.1 y.1 d e (ap (λ (z : Origin). z.terminal) same) (ap (λ (z : Origin). z.number) same)
+
+-- the same of a network that is finished, as the lists are given back
+module _ (image : Image) (net : NetRecord) (lists : List (Kept Origin)) (accepted : IsAccepted (routes_of net.network.plan image)) (starts : AreStartsOf net.network.plan image net.starts) (calm : All (IsCalmTrace (routes_of net.network.plan image)) net.traces) (quiet : IsQuiet net.network) (kept : IsNetRecord net) (are : AreOrigins (record_finish net) (map (λ (l : Kept Origin). l.items) lists)) where
+  found_there : (a n t : ℕ) (p : Packet) → t < length net.network.plan.terminals → slice_get (sent_at net.network a) n ≡ Some p → has_header (routes_of net.network.plan image) p ≡ true → owner (routes_of net.network.plan image) (header_of (routes_of net.network.plan image) p) ≡ Some t → (k : ℕ) × IsListed lists t k (record { terminal = a; number = n })
+  found_there a n t p inside sent whole owned =
+      let met = are.found image accepted starts (still image (record_finish net) (map (λ (l : Kept Origin). l.items) lists) accepted starts calm are) kept.told.0 net.network.nodes kept.told.1 quiet a n t p sent whole owned in
+      let there = listed_there lists t (origins_in (arrived_at (traced_end (record_finish net)) t)) (are.each t inside) in
+      (met.0, (there.0, there.1, ap (λ os. slice_get os met.0) there.2 ∙ met.1))
+
+  once_there : (t u i j : ℕ) (o : Origin) → IsListed lists t i o → IsListed lists u j o → (t ≡ u) × (i ≡ j)
+  once_there t u i j o one two =
+      once_here image (record_finish net) (map (λ (l : Kept Origin). l.items) lists) accepted starts calm are t u i j one.0.items two.0.items o
+      (slice_get-map (λ (l : Kept Origin). l.items) lists t ∙ ap (option_map (λ (l : Kept Origin). l.items)) one.1) one.2
+      (slice_get-map (λ (l : Kept Origin). l.items) lists u ∙ ap (option_map (λ (l : Kept Origin). l.items)) two.1) two.2
+
+  found_once : AreFoundOnce (routes_of net.network.plan image) net.network lists
+  found_once = record { found = found_there; once = once_there }
+
+found_lists : (plan : Plan) (image : Image) (net : NetRecord) (run : FinishedRecord) (lists : List (Kept Origin)) → IsAccepted (routes_of plan image) → IsCalm plan image net → IsQuiet net.network → IsNetRecord net → run ≡ record_finish net → AreOrigins run (map (λ (list : Kept Origin). list.items) lists) → AreFoundOnce (routes_of plan image) net.network lists
+found_lists plan image net run lists accepted calm quiet kept is are =
+    subst (λ p. AreFoundOnce (routes_of p image) net.network lists) calm.same_plan
+    (found_once image net lists (subst (λ p. IsAccepted (routes_of p image)) (sym calm.same_plan) accepted) (subst (λ p. AreStartsOf p image net.starts) (sym calm.same_plan) calm.starts) (subst (λ p. All (IsCalmTrace (routes_of p image)) net.traces) (sym calm.same_plan) calm.traces) quiet kept
+    (subst (λ (r : FinishedRecord). AreOrigins r (map (λ (l : Kept Origin). l.items) lists)) is are))
+
+-- the same of the lists as they are given back, or of none
+pub found_result : {E : Type 0} (plan : Plan) (image : Image) (net : NetRecord) (run : FinishedRecord) (result : Result (Kept (Kept Origin)) E) → IsAccepted (routes_of plan image) → IsCalm plan image net → IsQuiet net.network → IsNetRecord net → run ≡ record_finish net → IfOk result (λ (lists : Kept (Kept Origin)). AreOrigins run (map (λ (list : Kept Origin). list.items) lists.items)) → IfOk result (λ (lists : Kept (Kept Origin)). AreFoundOnce (routes_of plan image) net.network lists.items)
+found_result plan image net run (Ok lists) accepted calm quiet kept is are = found_lists plan image net run lists.items accepted calm quiet kept is are
+found_result plan image net run (Err e) accepted calm quiet kept is are = tt
