@@ -4,7 +4,8 @@
 # make install                copies the program and its manual page below PREFIX, which is /usr/local unless
 #                             said, and below DESTDIR before it; what is built already isn't built again
 # make try SCRIPT=FILE        runs a script without proving anything, and the first example where none is named
-# make check                  proves what has changed, over kept work, and runs the cases over the program
+# make check                  proves what has changed, over kept work, and runs the cases over the program, or those of
+#                             some kinds, as kinds=runs
 # make slow                   lists the functions that took long in the last checks
 # make edits CRATE=c104_link  tries the edits of one crate that the prover must refuse
 # make test                   runs every proof, test, edit and case, from nothing but what passed before on this
@@ -14,7 +15,6 @@
 
 program := build/c104
 example := examples/first-network.txt
-cases := run_cases description_cases check_cases cycle_cases label_cases draw_cases explain_cases debug_cases large_cases stream_cases refused_calls documents
 sources := $(shell find crates crates.txt -path '*/out' -prune -o -type f -print)
 
 PREFIX ?= /usr/local
@@ -50,7 +50,7 @@ check:
 	@tail -n 1 build/check-log
 	@tests/slow_functions --since build/check-begun
 	@$(MAKE) --no-print-directory all
-	@for cases in $(cases); do echo $$cases; tests/$$cases $(program) || failed=1; done; [ -z "$$failed" ]
+	@tests/run_cases $(program) $(kinds)
 
 slow:
 	@tests/slow_functions

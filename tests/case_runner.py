@@ -1,8 +1,18 @@
-"""What the scripts of cases share: the runner, and the text of the first run."""
+"""What the kinds of cases share: the runner, the folders of cases, and the text of the first run."""
 
+import errno
 import os
+import re
+import shutil
 import subprocess
 import sys
+import tempfile
+
+TESTS = os.path.dirname(os.path.abspath(__file__))
+TOP = os.path.dirname(TESTS)
+CASES, EXAMPLES = os.path.join(TESTS, 'cases'), os.path.join(TOP, 'examples')
+# Networks that the benches make are cases too.
+sys.path.insert(0, os.path.join(TESTS, 'bench'))
 
 SECONDS = 300
 MIB = 1024 * 1024
@@ -35,7 +45,13 @@ FIRST_RUN = [
 DRAINS_TO_THE_TERMINATOR = 16
 RECEIVED = b'b: 01 aa eop from a 0\n'
 
-CANNOT_READ = b'c104: cannot read -\n'
+
+def cannot_read(number, path='-'):
+    """What is told of a file that can't be read, by the system's number of the fault."""
+    return ('c104: cannot read %s\nc104: %s: %s (os error %d)\n' % (path, path, os.strerror(number), number)).encode()
+
+
+CANNOT_READ = cannot_read(errno.EIO)
 CANNOT_WRITE = b'c104: cannot write\n'
 DESCRIPTION_TOO_LONG = b'description 0: 1 TooLong\n'
 SCRIPT_TOO_LONG = b'script too long\n'
@@ -66,25 +82,30 @@ def comments(size):
 
 
 class Runner:
-    def __init__(self, program, names):
-        self.program, self.names = program, names
+    """Runs the cases of one kind over a program: those whose names begin so, or all where no beginning is said."""
+
+    def __init__(self, program, kind, names=()):
+        self.program, self.kind, self.names = program, kind, names
         self.passed = self.failed = 0
 
     def wanted(self, name):
         return not self.names or any(name.startswith(begin) for begin in self.names)
 
     def judge(self, name, wrong):
+        """Counts a case, if it is wanted."""
+        if not self.wanted(name):
+            return
         if wrong is None:
             self.passed += 1
         else:
             self.failed += 1
-            print('FAILED %s: %s' % (name, wrong))
+            print('FAILED %s/%s: %s' % (self.kind, name, wrong), flush=True)
 
-    def run(self, words=(), data=None, stdin=None, stdout=None, signals=True):
+    def run(self, words=(), data=None, stdin=None, stdout=None, signals=True, folder=None):
         """Status, standard output and standard error; None where there was no end."""
         fields = {'input': data or b''} if stdin is None else {'stdin': stdin}
         try:
-            done = subprocess.run(self.program + list(words), stderr=subprocess.PIPE,
+            done = subprocess.run(self.program + list(words), stderr=subprocess.PIPE, cwd=folder,
                                   stdout=stdout or subprocess.PIPE, timeout=SECONDS,
                                   restore_signals=signals, **fields)
         except subprocess.TimeoutExpired:
@@ -97,6 +118,50 @@ class Runner:
             return
         found = self.run(**fields)
         self.judge(name, difference(found, expected, status, errors))
+
+    def folders(self):
+        """The cases of this kind that are folders."""
+        for name in sorted(os.listdir(os.path.join(CASES, self.kind))):
+            if self.wanted(name):
+                self.judge(name, self.wrong_of_folder(os.path.join(CASES, self.kind, name)))
+
+    def wrong_of_folder(self, folder):
+        """What is wrong with a case that is a folder, or None."""
+        with CopiedCase(folder) as case:
+            if case.expected is None:
+                return 'the case has no file `expected`'
+            found = self.run(case.words, case.input, folder=case.folder)
+        return difference(found, case.expected, case.status, case.errors)
+
+
+class CopiedCase:
+    """A case that is a folder, in a copy of it, so that a word can name a further file of the case."""
+
+    def __init__(self, folder):
+        self.room = tempfile.TemporaryDirectory()
+        self.folder = os.path.join(self.room.name, 'case')
+        shutil.copytree(folder, self.folder)
+        self.words = (self.read('words') or b'').decode().splitlines()
+        self.input, self.expected, self.errors = self.read('input') or b'', self.read('expected'), self.read('errors')
+        self.status = int((self.read('status') or b'0').split()[0])
+
+    def read(self, name):
+        path = os.path.join(self.folder, name)
+        if not os.path.exists(path):
+            return None
+        with open(path, 'rb') as file:
+            return file.read()
+
+    def __enter__(self):
+        return self
+
+    def __exit__(self, *_):
+        self.room.cleanup()
+
+
+def without_reason(errors):
+    """Standard error without the line that says why a path can't be read, in the system's words."""
+    return re.sub(rb'(?m)^(c104: cannot read (.*)\n)c104: \2: .+ \(os error \d+\)\n', rb'\1', errors)
 
 
 def difference(found, expected, status, errors):
@@ -112,18 +177,6 @@ def difference(found, expected, status, errors):
         return 'wanted %d bytes, found %d' % (len(expected), len(out))
     if code != status:
         return 'exit status: wanted %d, found %d' % (status, code)
-    if errors is not None and err != errors:
+    if errors is not None and errors not in (err, without_reason(err)):
         return 'standard error: wanted %r, found %.120r' % (errors, err)
     return None
-
-
-def run_parts(parts, usage):
-    """Runs the parts over the program that the command line names, and exits."""
-    words = sys.argv[1:]
-    if not words:
-        sys.exit(usage)
-    runner = Runner([os.path.abspath(words[0])], words[1:])
-    for part in parts:
-        part(runner)
-    print('%d passed, %d failed' % (runner.passed, runner.failed))
-    sys.exit(1 if runner.failed else 0)

@@ -7,11 +7,14 @@ and new.
 """
 
 import os
+import re
 
 from sources import functions_of, read_text, write_text
 
-ENDING = '.edit'
+FOLDER, ENDING = 'refused', '.edit'
 ROOTS = ('lib', 'main')
+# The first line of a declaration of a proof file, or of what it imports, and its name.
+BEGUN = re.compile(r'(?:(?:pub|abbrev|unfoldable|record|data) )*([^\W\d][^\s({]*|\+\S+)(?=\s)')
 
 
 def edited_texts(lines, folder):
@@ -125,9 +128,53 @@ class Edit:
         return found
 
 
+def edits_of(crate):
+    """The edits of a crate, by their names."""
+    folder = os.path.join(crate.folder, FOLDER)
+    return [Edit(crate, os.path.join(folder, it)) for it in sorted(os.listdir(folder))] if os.path.isdir(folder) else []
+
+
+def pieces_of(text):
+    """The declarations and imports of a proof file: the name of each, which is `use` for an import, its first line's number
+    and its text. What stands before them has no name."""
+    pieces = [[None, 1, '']]
+    for number, line in enumerate(text.splitlines(keepends=True), 1):
+        begun = BEGUN.match(line)
+        if begun:
+            pieces.append([begun.group(1), number, ''])
+        pieces[-1][2] += line
+    return pieces
+
+
+def without_answers(text, errors):
+    """The text of a proof file without what names something absent: errors are pairs of a line and what is told there. A
+    declaration goes with its type and all its equations, and an import loses the names that are told. None where no
+    declaration is left."""
+    pieces, absent = pieces_of(text), set()
+    for line, told in errors:
+        piece = [it for it in pieces if it[1] <= line][-1]
+        if piece[0] == 'use':
+            piece[2] = without_names(piece[2], re.findall(r'`([^`]+)`', told))
+        else:
+            absent.add(piece[0])
+    left = [it for it in pieces if it[0] not in absent - {None}]
+    return ''.join(it[2] for it in left) if any(it[0] not in (None, 'use') for it in left) else None
+
+
+def without_names(use, absent):
+    """An import without names, or nothing of it where it has none of them, or no other."""
+    module, _, names = use.partition('{')
+    names, absent = names.partition('}')[0].split(','), {it.rpartition('.')[2] for it in absent}
+    left = [it.strip() for it in names if it.strip() not in absent]
+    return '%s{%s}\n' % (module, ', '.join(left)) if left and len(left) < len(names) else ''
+
+
 def write_texts(texts):
-    """What writes an edit's texts into a copy of the crate."""
+    """What writes an edit's texts into a copy of the crate. A file with None for its text is removed."""
     def change(folder):
         for path, text in texts.items():
-            write_text(text, folder, path)
+            if text is None:
+                os.remove(os.path.join(folder, path))
+            else:
+                write_text(text, folder, path)
     return change

@@ -1,4 +1,4 @@
-/* A clock that is a second later each time that it is read: explain_cases preloads it. */
+/* A clock that is a second later each time that it is read: the cases of explain preload it. */
 #include <time.h>
 
 int clock_gettime(clockid_t clock, struct timespec *now)

@@ -79,7 +79,8 @@ static size_t moved(size_t size) { return single_bytes && size > 1 ? 1 : size; }
 
 ssize_t read(int file, void *to, size_t size) {
     NEXT(read);
-    return is_refused(READ) ? refusal() : next(file, to, moved(size));
+    /* one of no bytes only asks whether a file is open */
+    return size && is_refused(READ) ? refusal() : next(file, to, moved(size));
 }
 
 ssize_t write(int file, const void *from, size_t size) {

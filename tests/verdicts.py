@@ -24,10 +24,9 @@ def is_own(name, full):
     return plain == full or plain.startswith((full + '::', full + '+'))
 
 
-def own_errors(check, full):
-    """The errors in a function's own proof files: the line of each, and all that belongs to it."""
-    place = re.compile(r'(\./)?proofs/%s/\w+\.antt:\d+:\d+: error' % re.escape('/'.join(full.split('::')[1:])))
-    found = []
+def errors_at(check, place):
+    """The errors at places of such a form: the line of each, and all that belongs to it."""
+    found, place = [], re.compile(r'(?:\./)?%s:\d+:\d+: error' % place)
     for number, line in enumerate(check.lines):
         if place.match(line):
             end = number + 1
@@ -35,6 +34,11 @@ def own_errors(check, full):
                 end += 1
             found.append((line, '\n'.join(check.lines[number:end])))
     return found
+
+
+def own_errors(check, full):
+    """The errors in a function's own proof files."""
+    return errors_at(check, r'proofs/%s/\w+\.antt' % re.escape('/'.join(full.split('::')[1:])))
 
 
 def refusal(check, full):
@@ -47,6 +51,21 @@ def refusal(check, full):
         if 'did not prove' in verdict or any(not ABSENT.search(whole) for _, whole in errors):
             return errors[0][0] if errors else verdict
     return None
+
+
+def only_absent(check):
+    """Where a check fails only since proof files name what isn't there any more, the errors of that by file: pairs of a
+    line and what is told there. Else none."""
+    verdicts = [it.group(2) for it in map(VERDICT.match, check.lines) if it]
+    errors, found = errors_at(check, r'\S+?'), {}
+    if check.status != 1 or not check.is_told() or any('did not prove' in it for it in verdicts):
+        return {}
+    for line, whole in errors:
+        path, number, _ = line.removeprefix('./').split(':', 2)
+        if not path.startswith('proofs/') or not ABSENT.search(whole):
+            return {}
+        found.setdefault(path, []).append((int(number), line))
+    return found
 
 
 def verdicts_of(check, name):

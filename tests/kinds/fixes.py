@@ -1,0 +1,121 @@
+"""Follows the fixes that people are told of refused labels, one after another, until the labels are accepted.
+
+The rows of a mesh are right but for 19, each of which sinks another terminal's packets, or gives them to a terminal that
+they aren't for. All other rows lead each of these headers the shortest way, so a fix by the nearest group gives the least
+hops that the wires allow.
+"""
+
+import random
+import re
+
+from check_rules import Rules
+from networks import mesh, row_lines
+
+TOLD = re.compile(rb'.*: (add|replace|by): (row .*)')
+WRONG_ROWS = 19
+MOST_FIXES = 100
+
+# Header 0 comes to a by link 1, and by a detour over B too, which begins at a lower link.
+DETOUR = (b'switch A\nswitch B\nterminal a A.1\nwire A.0 B.0\nwire A.2 B.1\nrow B.0 1 1\nrow A.2 1 1\n'
+          b'row A.0 1 1\nrow B.1 1 1\n')
+
+
+def selects_of(text):
+    """What each input of a description with rows selects for each label, in the order of its rows."""
+    rules = Rules(text)
+    labels = range(len(rules.terminals))
+    return {port: [rules.select(port, header) for header in labels] for port in rules.rows}
+
+
+def with_selects(text, selects):
+    """The description with these selects in place of its rows."""
+    lines = [line for line in text.splitlines() if not line.startswith(b'row ')]
+    lines += [line.encode() for port, its in selects.items() for line in row_lines(port, its)]
+    return b''.join(line + b'\n' for line in lines)
+
+
+def with_wrong_rows(text, chance):
+    """The description with rows that are wrong for a header each, which is sunk or given to a wrong terminal at an input
+    that it may come to."""
+    rules, selects = Rules(text), selects_of(text)
+    for header in chance.sample(range(len(rules.terminals)), WRONG_ROWS):
+        _, port, _ = chance.choice([it for it in rules.terminals if header not in it[2]])
+        walk = [port]
+        while '.' in (after := rules.far['%s.%s' % (walk[-1].split('.')[0], rules.select(walk[-1], header))]):
+            walk.append(after)
+        wrong = chance.choice(walk)
+        own = [end.split('.')[1] for _, end, labels in rules.terminals
+               if end.split('.')[0] == wrong.split('.')[0] and header not in labels]
+        selects[wrong][header] = chance.choice(['sink', *own])
+    return with_selects(text, selects)
+
+
+def fixed(text, told):
+    """The description with the lines that were told put in, or None where there are none or they don't fit."""
+    lines, old, new = text.splitlines(), [], []
+    for kind, line in (it.groups() for it in map(TOLD.fullmatch, told.splitlines()) if it):
+        (old if kind == b'replace' else new).append(line)
+    if not new or any(lines.count(it) != 1 for it in old):
+        return None
+    place = lines.index(old[0]) if old else len(lines)
+    kept = [line for line in lines if line not in old]
+    return b''.join(line + b'\n' for line in kept[:place] + new + kept[place:])
+
+
+def followed(runner, text):
+    """The description once all fixes are followed, and how many there were; or what was told where none helps."""
+    for count in range(MOST_FIXES):
+        status, printed, told = runner.run(words=['check', '-', '--explain'], data=text)
+        if (status, printed) == (0, b'accepted\n'):
+            return text, count
+        after = fixed(text, told)
+        if after is None:
+            return None, '%.400r' % ((status, printed, told),)
+        text = after
+    return None, 'not accepted after %d fixes' % MOST_FIXES
+
+
+def hops(rules, port, header):
+    """How many wires a header goes over from an input to its owner, where no group has two links."""
+    other = rules.far['%s.%s' % (port.split('.')[0], rules.select(port, header))]
+    return 1 + hops(rules, other, header) if '.' in other else 0
+
+
+def least_hops(rules, start, goal):
+    """The fewest wires from a switch to another."""
+    front, count = {start}, 0
+    while goal not in front:
+        front |= {other.split('.')[0] for port, other in rules.far.items()
+                  if '.' in other and port.split('.')[0] in front}
+        count += 1
+    return count
+
+
+def wrong_of(runner, text):
+    """What is wrong with the labels that come of following all fixes, or None."""
+    accepted, told = followed(runner, text)
+    if accepted is None:
+        return told
+    if not told:
+        return 'nothing was wrong'
+    rules = Rules(accepted)
+    far = [(name, other) for name, port, _ in rules.terminals for other, end, labels in rules.terminals
+           if hops(rules, port, labels.start) != least_hops(rules, port.split('.')[0], end.split('.')[0])]
+    return 'after %d fixes there are shorter ways: %r' % (told, far) if far else None
+
+
+def nearest(runner):
+    """A fix that goes straight to the terminal."""
+    told = b'c104: -: header 0 belongs to a, but A.1 selects no link for it\nc104: -: add: row A.1 1 1\n'
+    runner.case('no detour', b'refused 6 DeadEnd: from a header 0 walk A.1\n', 1, told,
+                words=['check', '-', '--explain'], data=DETOUR)
+
+
+def wrong_rows(runner):
+    for seed in range(3):
+        name = '19 wrong rows of a mesh, %d' % seed
+        if runner.wanted(name):
+            runner.judge(name, wrong_of(runner, with_wrong_rows(mesh(5, 4, 1), random.Random(seed))))
+
+
+PARTS = [nearest, wrong_rows]
