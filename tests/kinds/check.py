@@ -4,12 +4,11 @@ Some answers were found by hand. Those of networks that are made at random are f
 find those by hand too.
 """
 
-import errno
 import os
 import random
 
 import case_runner
-from case_runner import CANNOT_READ, CANNOT_WRITE, DESCRIPTION_LIMIT, PLAN, cannot_read, comments
+from case_runner import CANNOT_READ, CANNOT_WRITE, DESCRIPTION_LIMIT, PLAN, comments
 from check_rules import Rules
 from networks import chain, full_cube, mesh
 from two_bytes import hand_mesh, labelled_tree
@@ -503,7 +502,7 @@ def large_networks(runner):
 
 
 def devices(runner):
-    runner.case('no such file', b'', 3, cannot_read(errno.ENOENT, 'none/such'), words=['check', 'none/such'])
+    runner.case('no such file', b'', 3, b'c104: cannot read none/such\n', words=['check', 'none/such'])
     with open('/proc/self/mem', 'rb') as unreadable:
         runner.case('a reader that fails', b'', 3, CANNOT_READ, words=['check', '-'], stdin=unreadable)
     with open('/dev/full', 'wb') as full:

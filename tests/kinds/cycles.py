@@ -6,12 +6,11 @@ wire to another. What is listed has to be these, what is told as a cycle has to 
 told where they have none.
 """
 
-import errno
 import os
 import random
 import re
 
-from case_runner import CANNOT_READ, CANNOT_WRITE, EXAMPLES, PLAN, cannot_read
+from case_runner import CANNOT_READ, CANNOT_WRITE, EXAMPLES, PLAN
 from networks import chain, mesh
 from two_bytes import hand_mesh
 
@@ -340,7 +339,7 @@ def breaks(runner):
 
 
 def devices(runner):
-    runner.case('no such file', b'', 3, cannot_read(errno.ENOENT, 'none/such'), words=['cycles', 'none/such'])
+    runner.case('no such file', b'', 3, b'c104: cannot read none/such\n', words=['cycles', 'none/such'])
     runner.case('no file', b'', 2, None, words=['cycles'])
     runner.case('a script too', b'', 2, None, words=['cycles', '-', '-'], data=PLAN)
     with open('/proc/self/mem', 'rb') as unreadable:

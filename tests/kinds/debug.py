@@ -200,7 +200,10 @@ def same_as_run(runner):
                              ('two lines', b'send a 01 68 eop\nrounds 20\n')]:
             found = runner.run(words=['run', path, '-'], data=script)
             runner.case('debug as run: ' + name, found[1], found[0], found[2], words=['debug', path], data=script)
-        runner.case('debug of no file', b'', 3, b'c104: cannot read missing\nc104: missing: No such file or directory (os error 2)\n', words=['debug', 'missing'])
+        fault = b'c104: cannot read missing\n'
+        runner.case('debug of no file', b'', 3, fault, words=['debug', 'missing'])
+        why = b'c104: missing: No such file or directory (os error 2)\n'
+        runner.case('debug of no file, explained', b'', 3, fault + why, words=['debug', 'missing', '--explain'])
         runner.case('debug of standard input', b'', 0, b'', words=['debug', '-'], data=PLAN)
         runner.case('debug of a faulty description', b'description 1: 2 UnknownWord\n', 1, b'', words=['debug', '-'],
                     data=b'frob\n')

@@ -3,11 +3,10 @@
 A picture is read as a list of nodes and a list of edges, each a line, and compared with what the network has.
 """
 
-import errno
 import os
 import re
 
-from case_runner import CANNOT_READ, CANNOT_WRITE, EXAMPLES, PLAN, cannot_read
+from case_runner import CANNOT_READ, CANNOT_WRITE, EXAMPLES, PLAN
 
 NODE = re.compile(r'  "([\w-]+)" \[(.*)\]')
 EDGE = re.compile(r'  "([\w-]+)" -> "([\w-]+)" \[taillabel="([\d,]*)", headlabel="([\d,]*)"(.*)\]')
@@ -271,7 +270,7 @@ def refused(runner):
 
 
 def devices(runner):
-    runner.case('no such file', b'', 3, cannot_read(errno.ENOENT, 'none/such'), words=['draw', 'none/such'])
+    runner.case('no such file', b'', 3, b'c104: cannot read none/such\n', words=['draw', 'none/such'])
     with open('/proc/self/mem', 'rb') as unreadable:
         runner.case('a reader that fails', b'', 3, CANNOT_READ, words=['draw', '-'], stdin=unreadable)
     with open('/dev/full', 'wb') as full:

@@ -1,8 +1,7 @@
 """Runs a program's labelling over descriptions."""
 
-import errno
 
-from case_runner import CANNOT_READ, CANNOT_WRITE, DESCRIPTION_LIMIT, PACKET_LIMIT, PLAN, cannot_read, comments
+from case_runner import CANNOT_READ, CANNOT_WRITE, DESCRIPTION_LIMIT, PACKET_LIMIT, PLAN, comments
 from two_bytes import hand_mesh
 
 # A description, and what is shown of it. The registers of link l begin at 0x0100 * (l + 1): 00 is the mode, 3f
@@ -285,7 +284,7 @@ def descriptions(runner):
 
 
 def devices(runner):
-    runner.case('no such file', b'', 3, cannot_read(errno.ENOENT, 'none/such'), words=['label', 'none/such'])
+    runner.case('no such file', b'', 3, b'c104: cannot read none/such\n', words=['label', 'none/such'])
     with open('/proc/self/mem', 'rb') as unreadable:
         runner.case('a reader that fails', b'', 3, CANNOT_READ, words=['label', '-'], stdin=unreadable)
     with open('/dev/full', 'wb') as full:

@@ -17,7 +17,7 @@ import subprocess
 import sys
 import tempfile
 
-from case_runner import CANNOT_WRITE, EXAMPLES, FIRST_RUN, FIRST_TEXT, PLAN, TESTS, lines_of, without_reason
+from case_runner import CANNOT_WRITE, EXAMPLES, FIRST_RUN, FIRST_TEXT, PLAN, TESTS, lines_of
 
 LIBRARY = os.path.join(TESTS, 'refused_calls.c')
 SECONDS = 60
@@ -104,7 +104,7 @@ class Sweep:
             if os.path.exists(counts):
                 with open(counts) as file:
                     calls = {kind: int(number) for kind, number in map(str.split, file)}
-        return Outcome(done.returncode, done.stdout, without_reason(done.stderr), calls)
+        return Outcome(done.returncode, done.stdout, done.stderr, calls)
 
     def refuse_each(self, kind, judge, after='', **said):
         """Refuses each call of a kind in turn, and with `+` all after it too."""

@@ -7,8 +7,8 @@ import subprocess
 import tempfile
 import time
 
-from case_runner import (CANNOT_WRITE, DESCRIPTION_TOO_LONG, FIRST_RUN, FIRST_TEXT,
-    MIB, PLAN, RECEIVED, SCRIPT_LIMIT, SCRIPT_TOO_LONG, SECONDS, answers_of, cannot_read, comments,
+from case_runner import (CANNOT_READ, CANNOT_WRITE, DESCRIPTION_TOO_LONG, FIRST_RUN, FIRST_TEXT,
+    MIB, PLAN, RECEIVED, SCRIPT_LIMIT, SCRIPT_TOO_LONG, SECONDS, answers_of, comments,
     difference, lines_of)
 
 
@@ -95,7 +95,10 @@ def failing_inputs(runner):
     written = os.open('/dev/null', os.O_WRONLY)
     for name, file, number in [('a folder', folder, errno.EISDIR), ('memory that is not there', memory, errno.EIO),
                                ('only written to', written, errno.EBADF)]:
-        runner.case('input that is ' + name, b'', 3, cannot_read(number), stdin=file)
+        why = 'c104: -: %s (os error %d)\n' % (os.strerror(number), number)
+        runner.case('input that is ' + name, b'', 3, CANNOT_READ, stdin=file)
+        runner.case('input that is %s, explained' % name, b'', 3, CANNOT_READ + why.encode(), stdin=file,
+                    words=['--explain'])
         os.close(file)
     cuts = [('at once', b'', 0), ('in a line of the description', PLAN[:-3], 0),
             ('in the description', PLAN, 0), ('in the script line', PLAN + b'scr', 0),
@@ -108,7 +111,7 @@ def failing_inputs(runner):
     for where, data, count in cuts:
         expected = b'1: fault 2 UnknownWord\n' if count is None else answers_of(FIRST_RUN[:count])
         with failing_after(data) as file:
-            runner.case('input that fails ' + where, expected, 3, cannot_read(errno.ECONNRESET), stdin=file)
+            runner.case('input that fails ' + where, expected, 3, CANNOT_READ, stdin=file)
 
 
 def closed_input(runner):
@@ -122,8 +125,7 @@ def closed_input(runner):
             if runner.wanted(name):
                 closed = ['sh', '-c', 'exec "$@" <&-', 'sh', *runner.program, *words]
                 done = subprocess.run(closed, capture_output=True, timeout=SECONDS)
-                runner.judge(name, difference((done.returncode, done.stdout, done.stderr), b'', 3,
-                                              cannot_read(errno.EBADF)))
+                runner.judge(name, difference((done.returncode, done.stdout, done.stderr), b'', 3, CANNOT_READ))
 
 
 def failing_outputs(runner):

@@ -82,11 +82,11 @@ impl<'a> Told<'a> {
         self.has_wrong_word
     }
 
-    /// Why something couldn't be read, as the system names it.
+    /// Why something couldn't be read, as the system names it, where people are told.
     pub fn fault(&self) -> Option<io::Error> {
         match self.fault {
-            Some(code) => Some(io::Error::from_raw_os_error(code)),
-            None => None,
+            Some(code) if self.is_wanted => Some(io::Error::from_raw_os_error(code)),
+            _ => None,
         }
     }
 
