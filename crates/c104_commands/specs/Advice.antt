@@ -1,13 +1,14 @@
 -- What people are told of labels that are refused.
---     IsAdvice plan routes fault text      a text begins with a step of the fault's walk that leads wrong
-use Rattle.std.specs.Prelude.{◌≡◌, ◌⊎◌, ⊤, ℕ, List, [], ◌∷◌, ◌++◌, Option, Some, None, codes, if◌then◌else◌}
+--     IsAdvice plan routes fault text      a text begins with what is wrong, and ends with lines that mend it, if some do
+use Rattle.std.specs.Prelude.{◌≡◌, ◌⊎◌, ℕ, ◌-◌, max, slice_get, List, [], ◌++◌, Option, Some, None, codes, if◌then◌else◌}
 use Rattle.std.specs.Fmt.{decimal}
-use Rattle.c104_interval.specs.declared.intervals.Select.{Select}
+use Rattle.std.specs.Option.{option_map_or}
 use Rattle.c104_describe.specs.declared.ports.Port.{Port}
 use Rattle.c104_describe.specs.declared.ports.Port.TheVariants as port
 use Rattle.c104_describe.specs.Plans.{Plan}
-use Rattle.c104_describe.specs.PlanPrint.{port_text, select_text, terminal_name}
-use Rattle.c104_check.specs.Mends.{IsMisstepOf, NoMend, NoMisstepOf, TellsNoRefusal}
+use Rattle.c104_describe.specs.declared.plans.Terminal.{Terminal}
+use Rattle.c104_describe.specs.PlanPrint.{port_text, terminal_name}
+use Rattle.c104_check.specs.Mends.{IsMisstepOf, NoMisstepOf, TellsNoRefusal}
 use Rattle.c104_check.specs.Routes.{Routes, to_port}
 use Rattle.c104_check.specs.Walks.{is_met, port_of}
 use Rattle.c104_check.specs.declared.walk_kinds.WalkKind.{WalkKind}
@@ -17,6 +18,8 @@ use Rattle.c104_check.specs.declared.faults.CheckFault.TheVariants as fault
 use Rattle.c104_check.specs.declared.faults.Shown.{Shown}
 use Rattle.c104_check.specs.declared.missteps.Misstep.{Misstep}
 use Rattle.c104_check.specs.declared.ports.SwitchPort.{SwitchPort}
+use Rattle.c104_commands.specs.RangeChanges.{TellsRange, header_values}
+use Rattle.c104_commands.specs.RowChanges.{TellsFix}
 
 -- the owner of a header
 abbrev pub owner_text : Plan → Option ℕ → List ℕ
@@ -62,16 +65,44 @@ abbrev pub misstep_text : Plan → Shown → Misstep → List ℕ → List ℕ
 misstep_text plan shown step more =
     codes "header " ++ (decimal shown.header ++ (due_text plan shown.entry step.owner step.kind ++ (way_text plan shown.walk step.kind step.at step.link step.peer ++ (codes "\n" ++ more))))
 
--- the line of a row, after a word that says what is to be done with it
-abbrev pub row_text : List ℕ → Plan → SwitchPort → ℕ → Select → List ℕ
-row_text word plan p limit select =
-    word ++ (codes ": row " ++ (port_text plan (to_port p) ++ (codes " " ++ (decimal limit ++ (codes " " ++ (select_text select ++ codes "\n"))))))
-
--- a text begins with the sentence on a step of a walk that leads wrong, and ends with it where nothing mends the
--- walk; or it is empty, and no step leads wrong, which isn't so of the first header that is refused
+-- a text begins with the sentence on a step of a walk that leads wrong, and ends with what mends the walk; or it is
+-- empty, and no step leads wrong, which isn't so of the first header that is refused
 abbrev pub TellsStep : Plan → Routes → CheckFault → Shown → List ℕ → Type 0
 TellsStep plan routes why shown text =
-    ((text ≡ []) × NoMisstepOf routes why × TellsNoRefusal routes why) ⊎ ((step : Misstep) × IsMisstepOf routes why step × ((more : List ℕ) × (NoMend routes shown → more ≡ []) × (text ≡ misstep_text plan shown step more)))
+    ((text ≡ []) × NoMisstepOf routes why × TellsNoRefusal routes why) ⊎ ((step : Misstep) × IsMisstepOf routes why step × ((more : List ℕ) × TellsFix plan routes shown more × (text ≡ misstep_text plan shown step more)))
+
+-- the first label of a terminal; 0 where there is no such terminal
+abbrev pub first_label : Plan → ℕ → ℕ
+first_label plan t = option_map_or (λ (terminal : Terminal). terminal.first) (slice_get plan.terminals t) 0
+
+-- the sentence on two terminals that have a label in common, and what follows it
+abbrev pub overlap_text : Plan → ℕ → ℕ → List ℕ → List ℕ
+overlap_text plan t u more =
+    codes "label " ++ (decimal (max (first_label plan t) (first_label plan u)) ++ (codes " belongs to " ++ (terminal_name plan t ++ (codes " and to " ++ (terminal_name plan u ++ (codes "\n" ++ more))))))
+
+-- the sentence on a terminal that has a label that is no header, and what follows it
+abbrev pub large_text : Plan → ℕ → List ℕ → List ℕ
+large_text plan t more =
+    codes "label " ++ (decimal (max (first_label plan t) (header_values plan)) ++ (codes " of " ++ (terminal_name plan t ++ (codes " is no header: headers are 0 to " ++ (decimal (header_values plan - 1) ++ (codes "\n" ++ more))))))
+
+-- a text is one of these, and ends with another range, if one is free
+abbrev pub TellsOverlap : Plan → ℕ → ℕ → List ℕ → Type 0
+TellsOverlap plan t u text = (more : List ℕ) × TellsRange plan u more × (text ≡ overlap_text plan t u more)
+
+abbrev pub TellsLarge : Plan → ℕ → List ℕ → Type 0
+TellsLarge plan t text = (more : List ℕ) × TellsRange plan t more × (text ≡ large_text plan t more)
+
+-- the sentences on links that are set as they shouldn't be
+abbrev pub mixed_text : Plan → SwitchPort → List ℕ
+mixed_text plan p =
+    codes "headers at " ++ (port_text plan (to_port p) ++ codes " are of another length than at the first link that is wired\n")
+
+abbrev pub delete_text : Plan → SwitchPort → List ℕ
+delete_text plan p = port_text plan (to_port p) ++ codes " is wired to a switch, but deletes headers\n"
+
+abbrev pub random_text : Plan → SwitchPort → List ℕ
+random_text plan p =
+    codes "no terminal is on " ++ (port_text plan (to_port p) ++ codes ", but random headers are put before packets there\n")
 
 -- what is told of a fault: of one with a walk, a step that leads wrong
 abbrev pub IsAdvice : Plan → Routes → CheckFault → List ℕ → Type 0
@@ -79,9 +110,9 @@ IsAdvice plan routes (fault.WrongEnd shown) text = TellsStep plan routes (fault.
 IsAdvice plan routes (fault.DeadEnd shown) text = TellsStep plan routes (fault.DeadEnd shown) shown text
 IsAdvice plan routes (fault.Loop shown) text = TellsStep plan routes (fault.Loop shown) shown text
 IsAdvice plan routes (fault.Stray shown) text = TellsStep plan routes (fault.Stray shown) shown text
-IsAdvice plan routes (fault.RangesOverlap t u) text = ⊤
-IsAdvice plan routes (fault.LabelTooLarge t) text = ⊤
-IsAdvice plan routes (fault.MixedHeaders p) text = ⊤
-IsAdvice plan routes (fault.DeleteInside p) text = ⊤
-IsAdvice plan routes (fault.RandomInside p) text = ⊤
+IsAdvice plan routes (fault.RangesOverlap t u) text = TellsOverlap plan t u text
+IsAdvice plan routes (fault.LabelTooLarge t) text = TellsLarge plan t text
+IsAdvice plan routes (fault.MixedHeaders p) text = text ≡ mixed_text plan p
+IsAdvice plan routes (fault.DeleteInside p) text = text ≡ delete_text plan p
+IsAdvice plan routes (fault.RandomInside p) text = text ≡ random_text plan p
 IsAdvice plan routes fault.NoMemory text = text ≡ []

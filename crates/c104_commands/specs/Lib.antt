@@ -5,6 +5,9 @@ pub mod Setups
 pub mod Checks
 pub mod ImageTexts
 pub mod Labels
+pub mod RangeChanges
+pub mod RowChanges
+pub mod RowSteps
 pub mod Advice
 pub mod Draws
 pub mod CycleTexts

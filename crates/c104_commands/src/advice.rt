@@ -1,15 +1,19 @@
 //! What people are told of labels that are refused: what is wrong, and what mends it.
-ghost use Rattle.std.specs.Prelude.{◌≡◌, ◌≤◌, [], IfOk};
+ghost use Rattle.std.specs.Prelude.{◌≡◌, ◌-◌, ◌<◌, max, IfOk};
 ghost use Rattle.std.specs.String.{string_bytes};
-ghost use Rattle.c104_check.specs.Mends.{NoMend};
 ghost use Rattle.c104_check.specs.Routes.{routes_of};
 ghost use Rattle.c104_check.specs.Walks.{is_met};
-ghost use Rattle.c104_commands.specs.Advice.{IsAdvice, TellsStep, due_text, end_text, misstep_text, owner_text, stop_text, terminal_text, way_text};
+ghost use Rattle.c104_commands.specs.Advice.{IsAdvice, TellsLarge, TellsOverlap, TellsStep, delete_text, due_text, end_text, first_label, large_text, misstep_text, mixed_text, owner_text, random_text, stop_text, terminal_text, way_text};
+ghost use Rattle.c104_commands.specs.RangeChanges.{header_values};
+ghost use Rattle.c104_commands.specs.RowChanges.{SelectsByRows, TellsFix, TellsMend};
 ghost use Rattle.c104_describe.specs.PlanImage.{Fits};
+ghost use Rattle.c104_describe.specs.Plans.{label_count};
+ghost use Rattle.c104_describe.specs.declared.plans.Shape.TheVariants.{Hand};
 ghost use Rattle.c104_label.specs.Images.{IsImageOf};
 
 use crate::discarding::discarding_rows;
-use crate::mending::{mended, range_change, row_change};
+use crate::mending::{header_count, mended, row_change};
+use crate::range_changes::range_change;
 use crate::texts::{port_text, terminal_name};
 use c104_check::{CheckFault, Mend, Misstep, Shown, SwitchPort, WalkKind, find_mend, find_misstep};
 use c104_describe::{Image, Plan, Port};
@@ -34,6 +38,22 @@ pub fn check_advice(
 ) -> Result<String, NoMemory>
     requires fits { Fits image.now plan.now }
     requires own { IsImageOf plan.now image.now }
+    // What is told of rows speaks of what headers select: of a plan without a shape its rows say that.
+    ensures rows { plan.now.shape ≡ Hand → SelectsByRows plan.now (routes_of plan.now image.now) }
+    ensures told { IfOk result (λ text.
+        IsAdvice plan.now (routes_of plan.now image.now) fault.now (string_bytes text)) }
+{
+    fault_advice(alloc, plan, image, fault)
+}
+
+/// The same, by the kind of the fault.
+fn fault_advice(
+    alloc: Global,
+    plan: &Plan,
+    image: &Image,
+    fault: &CheckFault,
+) -> Result<String, NoMemory>
+    requires { Fits image.now plan.now }
     ensures { IfOk result (λ text.
         IsAdvice plan.now (routes_of plan.now image.now) fault.now (string_bytes text)) }
 {
@@ -59,7 +79,9 @@ fn overlap_advice(
     plan: &Plan,
     terminal: usize,
     other: usize,
-) -> Result<String, NoMemory> {
+) -> Result<String, NoMemory>
+    ensures { IfOk result (λ text. TellsOverlap plan.now terminal other (string_bytes text)) }
+{
     let name = terminal_name(plan, terminal);
     let other_name = terminal_name(plan, other);
     let label = first_label(plan, terminal).max(first_label(plan, other));
@@ -70,20 +92,41 @@ fn overlap_advice(
 }
 
 /// A terminal has a label that is no header.
-fn large_advice(alloc: Global, plan: &Plan, terminal: usize) -> Result<String, NoMemory> {
-    let name = terminal_name(plan, terminal);
-    let last = last_header(plan);
-    let label = first_label(plan, terminal).max(last + 1);
+fn large_advice(alloc: Global, plan: &Plan, terminal: usize) -> Result<String, NoMemory>
+    ensures { IfOk result (λ text. TellsLarge plan.now terminal (string_bytes text)) }
+{
     let change = range_change(alloc, plan, terminal)?;
-    let change = change.as_str();
-    let text = format!(in alloc;
-        "label {label} of {name} is no header: headers are 0 to {last}\n{change}"
-    )?;
+    let text = large_text(alloc, plan, terminal, change.as_str())?;
     Ok(text)
 }
 
+/// The sentence on a terminal that has a label that is no header, and the lines that follow it.
+fn large_text(
+    alloc: Global,
+    plan: &Plan,
+    terminal: usize,
+    change: &str,
+) -> Result<String, AllocError>
+    ensures { IfOk result (λ text.
+        string_bytes text ≡ large_text plan.now terminal change.now) }
+{
+    let name = terminal_name(plan, terminal);
+    let last = last_header(plan);
+    let label = large_label(plan, terminal);
+    format!(in alloc; "label {label} of {name} is no header: headers are 0 to {last}\n{change}")
+}
+
+/// The first label that is no header of a terminal that has one.
+fn large_label(plan: &Plan, terminal: usize) -> u32
+    ensures { result ≡ max (first_label plan.now terminal) (header_values plan.now) }
+{
+    first_label(plan, terminal).max(header_count(plan))
+}
+
 /// Headers aren't equally long at all links that are wired.
-fn mixed_advice(alloc: Global, plan: &Plan, port: SwitchPort) -> Result<String, NoMemory> {
+fn mixed_advice(alloc: Global, plan: &Plan, port: SwitchPort) -> Result<String, NoMemory>
+    ensures { IfOk result (λ text. string_bytes text ≡ mixed_text plan.now port) }
+{
     let port = port_text(alloc, plan, port)?;
     let port = port.as_str();
     let text = format!(in alloc;
@@ -93,7 +136,9 @@ fn mixed_advice(alloc: Global, plan: &Plan, port: SwitchPort) -> Result<String, 
 }
 
 /// A link between switches deletes headers.
-fn delete_advice(alloc: Global, plan: &Plan, port: SwitchPort) -> Result<String, NoMemory> {
+fn delete_advice(alloc: Global, plan: &Plan, port: SwitchPort) -> Result<String, NoMemory>
+    ensures { IfOk result (λ text. string_bytes text ≡ delete_text plan.now port) }
+{
     let port = port_text(alloc, plan, port)?;
     let port = port.as_str();
     let text = format!(in alloc; "{port} is wired to a switch, but deletes headers\n")?;
@@ -101,7 +146,9 @@ fn delete_advice(alloc: Global, plan: &Plan, port: SwitchPort) -> Result<String,
 }
 
 /// A link that isn't a terminal's puts random headers before packets.
-fn random_advice(alloc: Global, plan: &Plan, port: SwitchPort) -> Result<String, NoMemory> {
+fn random_advice(alloc: Global, plan: &Plan, port: SwitchPort) -> Result<String, NoMemory>
+    ensures { IfOk result (λ text. string_bytes text ≡ random_text plan.now port) }
+{
     let port = port_text(alloc, plan, port)?;
     let port = port.as_str();
     let text = format!(in alloc;
@@ -140,7 +187,7 @@ fn walk_change(
 ) -> Result<String, NoMemory>
     requires { Fits image.now plan.now }
     ensures { IfOk result (λ text.
-        NoMend (routes_of plan.now image.now) shown.now → string_bytes text ≡ []) }
+        TellsFix plan.now (routes_of plan.now image.now) shown.now (string_bytes text)) }
 {
     match find_mend(alloc, plan, image, shown)? {
         Some(mend) => {
@@ -159,7 +206,10 @@ fn mend_text(
     shown: &Shown,
     kind: WalkKind,
     mend: Mend,
-) -> Result<String, NoMemory> {
+) -> Result<String, NoMemory>
+    ensures { IfOk result (λ text. shown.now.header < label_count
+        → TellsMend plan.now shown.now mend.at mend.select (string_bytes text)) }
+{
     match mend.select {
         Select::Discard => discarding_rows(alloc, plan, shown),
         Select::Link(_) | Select::Sink => {
@@ -303,7 +353,9 @@ fn is_met(walk: &[SwitchPort], port: SwitchPort) -> bool
 }
 
 /// The first label of a terminal; 0 where there is no such terminal.
-fn first_label(plan: &Plan, terminal: usize) -> u32 {
+fn first_label(plan: &Plan, terminal: usize) -> u32
+    ensures { result ≡ first_label plan.now terminal }
+{
     match plan.terminals().get(terminal) {
         Some(terminal) => terminal.first,
         None => 0,
@@ -312,7 +364,7 @@ fn first_label(plan: &Plan, terminal: usize) -> u32 {
 
 /// The last header that there is.
 fn last_header(plan: &Plan) -> u32
-    ensures { result ≤ 65535 }
+    ensures { result ≡ header_values plan.now - 1 }
 {
-    if plan.header() > 1 { 0xffff } else { 0xff }
+    header_count(plan) - 1
 }

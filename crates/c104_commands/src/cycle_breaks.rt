@@ -1,7 +1,8 @@
 //! Which row of a description breaks a cycle of channel dependencies. Nothing is proved of it but that it is safe and
 //! ends: what it tells was tried by the check and by the search for cycles.
 
-use crate::mending::{Change, find_covering, row_change};
+use crate::mending::row_change;
+use crate::row_changes::{Change, find_covering};
 use crate::trials::{are_accepted, changed_image, most_trials};
 use c104_check::{ChannelDependency, DependencyEdge, RanksOrCycle, SwitchPort, find_cycle};
 use c104_describe::{Image, Plan, Port};

@@ -1,8 +1,13 @@
-//! Rows by which a random header is discarded. Nothing is proved of them but that this is safe and ends: what it tells
-//! was tried by the check.
-ghost use Rattle.std.specs.Prelude.{◌<◌};
+//! Rows by which a random header is discarded. That the labels are accepted with them isn't proved, but tried by the
+//! check.
+ghost use Rattle.std.specs.Prelude.{◌≡◌, ◌⊎◌, ◌+◌, ◌-◌, ◌^◌, ◌<◌, min, None, Some, IfOk};
+ghost use Rattle.std.specs.String.{string_bytes};
+ghost use Rattle.c104_commands.specs.RowChanges.{NoneBegins, TellsDiscard};
+ghost use Rattle.c104_describe.specs.Plans.{label_count};
+ghost use Rattle.c104_interval.specs.declared.intervals.Select.TheVariants.{Discard};
 
-use crate::mending::{Change, header_count, next_label, row_change};
+use crate::mending::{header_count, next_label, row_change};
+use crate::row_changes::Change;
 use crate::trials::{are_accepted, changed_image, most_trials};
 use c104_check::{Shown, SwitchPort};
 use c104_describe::{Plan, PlanRandom};
@@ -13,31 +18,44 @@ use std::alloc::Global;
 /// The lines by which a random header is discarded at an input of its walk, so that the labels are accepted: at the
 /// last such input, and where it has to be with it, all that follow it of the terminal's. Nothing where no change that
 /// was tried does it.
-pub(crate) fn discarding_rows(
-    alloc: Global,
-    plan: &Plan,
-    shown: &Shown,
-) -> Result<String, NoMemory> {
+pub(crate) fn discarding_rows(alloc: Global, plan: &Plan, shown: &Shown) -> Result<String, NoMemory>
+    ensures { IfOk result (λ text. shown.now.header < label_count
+        → TellsDiscard plan.now shown.now (string_bytes text)) }
+{
     let walk = shown.walk.as_slice();
     let header = shown.header;
-    let next = header.saturating_add(1);
     let end = end_of_randoms(plan, shown.entry, header);
     let tried = most_trials(plan).min(walk.len());
     for followers in 0..tried {
         let at = walk[walk.len() - 1 - followers];
-        for end in [next, end] {
-            let change = discarding(at, header, end);
-            if is_accepted_with(alloc, plan, change)? {
-                let text = row_change(alloc, plan, change)?;
-                return Ok(text);
-            }
+        if let Some(end) = accepted_end(alloc, plan, discarding(at, header, end))? {
+            let text = row_change(alloc, plan, discarding(at, header, end))?;
+            return Ok(text);
         }
     }
     Ok(String::new(alloc))
 }
 
+/// The first number past the headers with which the labels are accepted of a change: of its first header alone, or of
+/// all. None where they aren't with either.
+fn accepted_end(alloc: Global, plan: &Plan, change: Change) -> Result<Option<u32>, NoMemory>
+    ensures { IfOk result (λ found. (found ≡ None) ⊎ ((found ≡ Some (min (change.first + 1) (2 ^ 32 - 1)))
+        ⊎ (found ≡ Some change.end))) }
+{
+    let next = change.first.saturating_add(1);
+    if is_accepted_with(alloc, plan, discarding(change.at, change.first, next))? {
+        return Ok(Some(next));
+    }
+    if is_accepted_with(alloc, plan, change)? {
+        return Ok(Some(change.end));
+    }
+    Ok(None)
+}
+
 /// The change by which headers are discarded at an input.
-fn discarding(at: SwitchPort, first: u32, end: u32) -> Change {
+fn discarding(at: SwitchPort, first: u32, end: u32) -> Change
+    ensures { result ≡ record { at = at; first = first; end = end; select = Discard } }
+{
     Change {
         at,
         first,
@@ -55,7 +73,10 @@ fn is_accepted_with(alloc: Global, plan: &Plan, change: Change) -> Result<bool, 
 }
 
 /// The first number past a header that is no random header of a terminal, or a label with which a range begins.
-fn end_of_randoms(plan: &Plan, terminal: usize, header: u32) -> u32 {
+fn end_of_randoms(plan: &Plan, terminal: usize, header: u32) -> u32
+    ensures above { header < label_count → header < result }
+    ensures first { NoneBegins plan.now header result }
+{
     let next = header.saturating_add(1);
     let Some(terminal) = plan.terminals().get(terminal) else {
         return next;

@@ -30,6 +30,8 @@ mod images;
 mod labels;
 mod mending;
 mod pictures;
+mod range_changes;
+mod row_changes;
 mod runs;
 mod setups;
 mod status;

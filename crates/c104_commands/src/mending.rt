@@ -1,41 +1,29 @@
 //! The lines of a description that mend its labels.
-ghost use Rattle.std.specs.Prelude.{◌≡◌, ◌<◌, IfOk};
+ghost use Rattle.std.specs.Prelude.{◌≡◌, ◌⊎◌, ◌<◌, ◌≤◌, IfOk};
 ghost use Rattle.std.specs.String.{string_bytes};
-ghost use Rattle.c104_commands.specs.Advice.{row_text};
+ghost use Rattle.c104_commands.specs.RangeChanges.{header_values};
+ghost use Rattle.c104_commands.specs.RowChanges.{NoneBegins, TellsSelect, row_lines, row_text};
+ghost use Rattle.c104_commands.specs.RowSteps.{EndsAt, change_text, new_rows, rows_if};
 ghost use Rattle.c104_describe.specs.PlanPrint.{select_text};
+ghost use Rattle.c104_describe.specs.Plans.{label_count};
 
-use crate::texts::{port_text, terminal_name};
+use crate::row_changes::{Change, NewRows, RowChange, find_row_change};
+use crate::texts::port_text;
 use c104_check::{Mend, SwitchPort, WalkKind};
-use c104_describe::{Plan, PlanRandom, PlanRow, Port, Terminal};
-use c104_interval::{ROWS, Select};
+use c104_describe::Plan;
+use c104_interval::{Row, Select};
 use std::alloc::{AllocError, Global};
-
-/// Headers that are to select something else at an input.
-#[derive(Clone, Copy, Debug)]
-pub(crate) struct Change {
-    pub(crate) at: SwitchPort,
-    /// The first of them.
-    pub(crate) first: u32,
-    /// The first number past them.
-    pub(crate) end: u32,
-    pub(crate) select: Select,
-}
-
-/// Which row of an input covers a header.
-#[derive(Clone, Copy, Debug)]
-pub(crate) struct Covering {
-    /// The first that does, if one does.
-    pub(crate) row: Option<PlanRow>,
-    /// Where its interval begins; where none does, where that of a further row would.
-    low: u32,
-    /// How many rows the input has.
-    count: usize,
-}
 
 /// The change by which a header selects at an input what mends its walk of this kind. Where it is sunk, those above
 /// it are sunk with it, up to the next label that begins a range, and behind a random header to the next with which
 /// random ones begin.
-pub(crate) fn mended(plan: &Plan, header: u32, kind: WalkKind, mend: Mend) -> Change {
+pub(crate) fn mended(plan: &Plan, header: u32, kind: WalkKind, mend: Mend) -> Change
+    ensures at { result.at ≡ mend.at }
+    ensures first { result.first ≡ header }
+    ensures select { result.select ≡ mend.select }
+    ensures some { header < label_count → header < result.end }
+    ensures end { EndsAt plan.now header mend.select result.end }
+{
     let end = match (mend.select, kind) {
         (Select::Sink, WalkKind::Behind(_)) => {
             next_label(plan, header).min(next_random(plan, header))
@@ -53,137 +41,114 @@ pub(crate) fn mended(plan: &Plan, header: u32, kind: WalkKind, mend: Mend) -> Ch
 
 /// The lines by which headers select at an input what they are to, and all others what they select now; where a row
 /// covers the first of them, only those that it covers do. Nothing where the input has no room for the rows.
-pub(crate) fn row_change(alloc: Global, plan: &Plan, change: Change) -> Result<String, AllocError> {
-    let port = Port::Switch(change.at.switch, change.at.link);
-    let covering = find_covering(plan, port, change.first);
-    match covering.row {
-        Some(row) => replaced_row(alloc, plan, change, covering, row),
-        None => added_rows(alloc, plan, change, covering),
-    }
-}
-
-/// The first row of an input that covers a header.
-pub(crate) fn find_covering(plan: &Plan, port: Port, header: u32) -> Covering {
-    let mut covering = Covering {
-        row: None,
-        low: base_of(plan, port),
-        count: 0,
-    };
-    for row in plan.rows() {
-        if row.port.is_same(port) {
-            covering = covering_with(covering, *row, header);
-        }
-    }
-    covering
-}
-
-/// The same with one row more.
-fn covering_with(covering: Covering, row: PlanRow, header: u32) -> Covering {
-    let count = covering.count.saturating_add(1);
-    if covering.row.is_some() {
-        return Covering { count, ..covering };
-    }
-    if covering.low <= header && header < row.limit {
-        return Covering {
-            row: Some(row),
-            low: covering.low,
-            count,
-        };
-    }
-    Covering {
-        row: None,
-        low: row.limit,
-        count,
-    }
-}
-
-/// Where the first interval of an input's table begins.
-pub(crate) fn base_of(plan: &Plan, port: Port) -> u32 {
-    for base in plan.bases() {
-        if base.port.is_same(port) {
-            return base.base;
-        }
-    }
-    0
-}
-
-/// A row gives way to up to three: for the headers that it covers below those of a change, for these, and for those
-/// above them.
-fn replaced_row(
-    alloc: Global,
-    plan: &Plan,
-    change: Change,
-    covering: Covering,
-    row: PlanRow,
-) -> Result<String, AllocError> {
-    let end = change.end.min(row.limit);
-    let added = usize::from(covering.low < change.first) + usize::from(end < row.limit);
-    if added > ROWS.saturating_sub(covering.count) {
-        return Ok(String::new(alloc));
-    }
-    let mut text = row_text(alloc, "replace", plan, change.at, row.limit, row.select)?;
-    if covering.low < change.first {
-        let below = row_text(alloc, "by", plan, change.at, change.first, row.select)?;
-        text.push_str(below.as_str())?;
-    }
-    let own = row_text(alloc, "by", plan, change.at, end, change.select)?;
-    text.push_str(own.as_str())?;
-    if end < row.limit {
-        let above = row_text(alloc, "by", plan, change.at, row.limit, row.select)?;
-        text.push_str(above.as_str())?;
-    }
+pub(crate) fn row_change(alloc: Global, plan: &Plan, change: Change) -> Result<String, AllocError>
+    ensures { IfOk result (λ text. change.first < change.end → TellsSelect plan.now change.at
+        change.first change.end change.select (string_bytes text)) }
+{
+    let rows = find_row_change(plan, change);
+    let text = change_text(alloc, plan, change.at, rows)?;
     Ok(text)
 }
 
-/// Rows behind those of an input, none of which covers the first header of a change.
-fn added_rows(
+/// The lines that tell of rows that change.
+fn change_text(
     alloc: Global,
     plan: &Plan,
-    change: Change,
-    covering: Covering,
-) -> Result<String, AllocError> {
-    let added = 1 + usize::from(covering.low != change.first);
-    let mut text = String::new(alloc);
-    if added > ROWS.saturating_sub(covering.count) {
-        return Ok(text);
+    at: SwitchPort,
+    change: RowChange,
+) -> Result<String, AllocError>
+    ensures { IfOk result (λ text. string_bytes text ≡ change_text plan.now at change) }
+{
+    match change {
+        RowChange::NoRoom => Ok(String::new(alloc)),
+        RowChange::Added(rows) => lines_text(alloc, "add", plan, at, rows),
+        RowChange::Replaced(row, rows) => {
+            let mut text = row_text(alloc, "replace", plan, at, row.limit, row.select)?;
+            let lines = lines_text(alloc, "by", plan, at, rows)?;
+            text.push_str(lines.as_str())?;
+            Ok(text)
+        }
     }
-    if covering.low != change.first {
-        let below = row_text(alloc, "add", plan, change.at, change.first, Select::Sink)?;
-        text.push_str(below.as_str())?;
-    }
-    let own = row_text(alloc, "add", plan, change.at, change.end, change.select)?;
+}
+
+/// The lines of rows, each after a word that says what is to be done with them.
+fn lines_text(
+    alloc: Global,
+    word: &str,
+    plan: &Plan,
+    at: SwitchPort,
+    rows: NewRows,
+) -> Result<String, AllocError>
+    ensures { IfOk result (λ text.
+        string_bytes text ≡ row_lines word.now plan.now at (new_rows rows)) }
+{
+    let mut text = line_text(alloc, word, plan, at, rows.below)?;
+    let own = row_text(alloc, word, plan, at, rows.own.limit, rows.own.select)?;
     text.push_str(own.as_str())?;
+    let above = line_text(alloc, word, plan, at, rows.above)?;
+    text.push_str(above.as_str())?;
     Ok(text)
+}
+
+/// The line of a row, if there is one.
+fn line_text(
+    alloc: Global,
+    word: &str,
+    plan: &Plan,
+    at: SwitchPort,
+    row: Option<Row>,
+) -> Result<String, AllocError>
+    ensures { IfOk result (λ text.
+        string_bytes text ≡ row_lines word.now plan.now at (rows_if row)) }
+{
+    match row {
+        Some(row) => row_text(alloc, word, plan, at, row.limit, row.select),
+        None => Ok(String::new(alloc)),
+    }
 }
 
 /// The first label above a header that begins a range; where none does, the first number that is no label.
-pub(crate) fn next_label(plan: &Plan, header: u32) -> u32 {
+pub(crate) fn next_label(plan: &Plan, header: u32) -> u32
+    ensures above { header < label_count → header < result }
+    ensures first { NoneBegins plan.now header result }
+{
     let mut next = 0x10000;
     for terminal in plan.terminals() {
-        if terminal.first > header && terminal.first < next {
-            next = terminal.first;
-        }
+        next = nearest_above(header, next, terminal.first);
     }
     next
 }
 
 /// The first header above a header with which the random ones of an input begin; where none does, the first number
 /// that is no label.
-fn next_random(plan: &Plan, header: u32) -> u32 {
+fn next_random(plan: &Plan, header: u32) -> u32
+    ensures { header < label_count → header < result }
+{
     let headers = header_count(plan);
     let mut next = 0x10000;
     for random in plan.randoms() {
-        let first = random.base % headers;
-        if first > header && first < next {
-            next = first;
-        }
+        next = nearest_above(header, next, random.base % headers);
     }
     next
 }
 
+/// A number, or another that is below it and above a header.
+fn nearest_above(header: u32, next: u32, other: u32) -> u32
+    ensures above { header < next → header < result }
+    ensures next { result ≤ next }
+    ensures other { (other ≤ header) ⊎ (result ≤ other) }
+{
+    if header < other && other < next {
+        other
+    } else {
+        next
+    }
+}
+
 /// How many headers there are.
 pub(crate) fn header_count(plan: &Plan) -> u32
-    ensures { 0 < result }
+    ensures some { 0 < result }
+    ensures count { result ≡ header_values plan.now }
 {
     if plan.header() > 1 { 0x10000 } else { 0x100 }
 }
@@ -213,88 +178,4 @@ fn select_text(alloc: Global, select: Select) -> Result<String, AllocError>
         Select::Discard => format!(in alloc; "discard"),
         Select::Sink => format!(in alloc; "sink"),
     }
-}
-
-/// The lines by which a terminal has another range, of as many labels, all of which are headers, no other
-/// terminal's, and not random: the highest that begins at 0 or where another range ends. Nothing where there is none.
-pub(crate) fn range_change(
-    alloc: Global,
-    plan: &Plan,
-    number: usize,
-) -> Result<String, AllocError> {
-    let Some(terminal) = plan.terminals().get(number) else {
-        return Ok(String::new(alloc));
-    };
-    let Some(first) = free_first(plan, number, terminal.count) else {
-        return Ok(String::new(alloc));
-    };
-    let name = terminal_name(plan, number);
-    let port = SwitchPort {
-        switch: terminal.switch,
-        link: terminal.link,
-    };
-    let port = port_text(alloc, plan, port)?;
-    let port = port.as_str();
-    let count = terminal.count;
-    let old = terminal.first;
-    format!(in alloc;
-        "replace: terminal {name} {port} labels {count} from {old}\nby: terminal {name} {port} labels {count} from {first}\n"
-    )
-}
-
-/// Where so many labels of a terminal could begin.
-fn free_first(plan: &Plan, number: usize, count: u32) -> Option<u32> {
-    let mut best = if is_free(plan, number, 0, count) {
-        Some(0)
-    } else {
-        None
-    };
-    for other in plan.terminals() {
-        let first = other.first.saturating_add(other.count);
-        if is_above(first, best) && is_free(plan, number, first, count) {
-            best = Some(first);
-        }
-    }
-    best
-}
-
-/// Whether a label is above another, if there is one.
-fn is_above(first: u32, best: Option<u32>) -> bool {
-    match best {
-        Some(best) => best < first,
-        None => true,
-    }
-}
-
-/// Whether so many labels from one on are headers, no other terminal's, and not random.
-fn is_free(plan: &Plan, number: usize, first: u32, count: u32) -> bool {
-    let end = u64::from(first) + u64::from(count);
-    let headers = header_count(plan);
-    for (other, terminal) in plan.terminals().iter().enumerate() {
-        if other != number && meets(terminal, first, end) {
-            return false;
-        }
-    }
-    for random in plan.randoms() {
-        if meets_random(*random, headers, first, end) {
-            return false;
-        }
-    }
-    end <= u64::from(headers)
-}
-
-/// Whether a random header of an input is one of the labels from one to another, where there are so many headers.
-fn meets_random(random: PlanRandom, headers: u32, first: u32, end: u64) -> bool
-    requires { 0 < headers }
-{
-    let base = u64::from(random.base % headers);
-    let past = base + u64::from(random.range.max(1));
-    let round = past.saturating_sub(u64::from(headers));
-    (base < end && u64::from(first) < past) || u64::from(first) < round
-}
-
-/// Whether a terminal has one of the labels from one to another.
-fn meets(terminal: &Terminal, first: u32, end: u64) -> bool {
-    let own_end = u64::from(terminal.first) + u64::from(terminal.count);
-    u64::from(terminal.first) < end && u64::from(first) < own_end
 }

@@ -4,7 +4,7 @@ ghost use Rattle.std.specs.Prelude.{◌≡◌, true, IfOk};
 ghost use Rattle.c104_check.specs.Routes.{IsAccepted, routes_of};
 ghost use Rattle.c104_describe.specs.PlanImage.{Fits};
 
-use crate::mending::{Change, base_of};
+use crate::row_changes::{Change, base_of};
 use c104_check::{CheckFault, SwitchPort, check};
 use c104_describe::{Image, Plan, PlanRow, Port, hand_image};
 use c104_interval::{ROWS, Select};
