@@ -5,7 +5,7 @@ ghost use Rattle.c104_token.specs.declared.faults.TokenFault.TheVariants as faul
 use std::alloc::{AllocError, AllocFailed};
 use thiserror::Error;
 
-/// Out of memory. What was lent is as it was.
+/// Out of memory. What was lent is as it was, unless the function that answers this says otherwise.
 #[derive(Clone, Copy, Debug, PartialEq, Eq, Error)]
 #[error("out of memory")]
 pub struct NoMemory;
