@@ -41,11 +41,11 @@ empty_incoming n = record { cap = n; items = []; granted = 0 }
 abbrev pub empty_outgoing : {A : Type 0} → Outgoing A
 empty_outgoing = record { items = []; credit = 0 }
 
--- an input buffer without a token, which has granted so many
+-- an input buffer without a token, which has granted a given number of them
 abbrev pub start_incoming : {A : Type 0} → ℕ → ℕ → Incoming A
 start_incoming n granted = record { cap = n; items = []; granted = granted }
 
--- an output buffer without a token, which may send so many
+-- an output buffer without a token, which may send a given number of them
 abbrev pub start_outgoing : {A : Type 0} → ℕ → Outgoing A
 start_outgoing credit = record { items = []; credit = credit }
 

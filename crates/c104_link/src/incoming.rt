@@ -51,7 +51,7 @@ impl<T: TokenKind> InBufferOf<T> {
         Ok(InBufferOf { ring, granted: 0 })
     }
 
-    /// An empty buffer with room for `cap` tokens, which has granted so many of them. It fails only
+    /// An empty buffer with room for `cap` tokens, of which it has granted `granted`. It fails only when
     /// out of memory.
     pub fn granting(alloc: Global, cap: usize, granted: usize) -> Result<Self, NoMemory>
         requires cap { IsValidCap cap }
@@ -99,6 +99,13 @@ impl<T: TokenKind> InBufferOf<T> {
         ensures { result ≡ slice_get self.now.items 0 }
     {
         self.ring.front().copied()
+    }
+
+    /// The token at this index, from 0 at the first. None past the last one.
+    pub fn get(&self, index: usize) -> Option<T>
+        ensures { result ≡ slice_get self.now.items index }
+    {
+        self.ring.get(index).copied()
     }
 
     /// Grants eight more tokens to the other end of the wire, as a flow-control token tells it.

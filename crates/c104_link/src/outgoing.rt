@@ -1,5 +1,5 @@
 //! The output buffer of a link.
-ghost use Rattle.std.specs.Prelude.{◌≡◌, ◌≤◌, ◌↔◌, [], length, is_some, IsTrue, IfOk};
+ghost use Rattle.std.specs.Prelude.{◌≡◌, ◌≤◌, ◌↔◌, [], length, slice_get, is_some, IsTrue, IfOk};
 ghost use Rattle.c104_link.specs.Steps.{bool_outcome, option_outcome, result_outcome};
 ghost use Rattle.c104_link.specs.Buffers.{IsWithinLimits, empty_outgoing, start_outgoing, outgoing_put, outgoing_put_all, outgoing_emit, outgoing_credited, outgoing_clear};
 ghost use Rattle.c104_link.specs.declared.outgoing.TheConstants.{CREDIT_LIMIT};
@@ -44,7 +44,7 @@ impl<T: TokenKind> Model for OutBufferOf<T> {
 }
 
 impl<T: TokenKind> OutBufferOf<T> {
-    /// An empty buffer, with no credit. It fails only out of memory.
+    /// An empty buffer, with no credit. It fails only when out of memory.
     pub fn new(alloc: Global) -> Result<Self, NoMemory>
         ensures { IfOk result (λ q. q ≡ empty_outgoing) }
     {
@@ -52,7 +52,7 @@ impl<T: TokenKind> OutBufferOf<T> {
         Ok(OutBufferOf { ring, credit: 0 })
     }
 
-    /// An empty buffer, with so much credit. It fails only out of memory.
+    /// An empty buffer, with credit for `credit` tokens. It fails only when out of memory.
     pub fn with_credit(alloc: Global, credit: usize) -> Result<Self, NoMemory>
         requires { credit ≤ CREDIT_LIMIT }
         ensures { IfOk result (λ q. q ≡ start_outgoing credit) }
@@ -74,6 +74,13 @@ impl<T: TokenKind> OutBufferOf<T> {
         ensures { IsTrue result ↔ (self.now.items ≡ []) }
     {
         self.ring.is_empty()
+    }
+
+    /// The token at this index, from 0 at the first, which goes out next. None past the last one.
+    pub fn get(&self, index: usize) -> Option<T>
+        ensures { result ≡ slice_get self.now.items index }
+    {
+        self.ring.get(index).copied()
     }
 
     /// How many tokens the buffer may send, which the other end of the wire has granted: at most
