@@ -1,13 +1,18 @@
 -- The word of the links that continue a group: its bits, and that it fits 32 bits.
-use Rattle.std.proofs.Common.{◌≡◌, ℕ, zero, suc, ◌+◌, ◌*◌, ◌/◌, ◌%◌, ◌^◌, ◌<◌, ◌≤◌, ◌==◌, Bool, true, false, List, [], ◌∷◌, length, get_or, drop, refl, sym, ap, ◌∙◌, arith, add-one, drop-cons, length-drop}
+use Rattle.std.proofs.Common.{◌≡◌, ℕ, zero, suc, ◌+◌, ◌-◌, ◌*◌, ◌/◌, ◌%◌, ◌^◌, ◌<◌, ◌≤◌, ◌==◌, Bool, true, false, List, [], ◌∷◌, length, get_or, set, drop, refl, sym, ap, ◌∙◌, arith, add-one, drop-cons, length-drop}
 use Rattle.std.proofs.Math.Seq.{drop-length}
 use Rattle.std.proofs.Math.Nat.{pow-succ'}
+use Rattle.std.proofs.lemmas.Grind.{one_shifted}
+use Rattle.std.proofs.lemmas.List.{length-set}
 use Rattle.std.proofs.lemmas.Nat.{pow_pos}
 use Rattle.std.proofs.lemmas.Nat.Bits.{bit_at-suc, bit_at-zero, bit_at_lowest}
 use Rattle.std.specs.Int.{bit_at}
 use Rattle.c104_regs.specs.Groups.{continue_bits, continues_at}
 use Rattle.c104_regs.specs.Settings.{Settings}
-use Rattle.c104_regs.specs.Values.{bit_value}
+use Rattle.c104_regs.specs.Values.{bit_value, with_value}
+use Rattle.c104_regs.specs.Addresses.{Register}
+use Rattle.c104_regs.specs.Registers.{waits}
+use Rattle.c104_regs.specs.declared.addresses.Register.TheVariants.{Mode, RandomBase, RandomRange, Sunk, Short, InputLevel, OutputLevel, Credit, Granted, Owner, Base, Limit, Select}
 
 lowest : (b : Bool) (n : ℕ) → (bit_value b 1 + 2 * n) % 2 ≡ bit_value b 1
 lowest true n = omega arith
@@ -55,3 +60,68 @@ continue_bits-fits xs k n bits d links below one rest =
 -- no link is left past the last
 pub continue_bits-end : (xs : List Settings) (n : ℕ) → length xs ≡ n → 0 ≡ continue_bits (drop n xs)
 continue_bits-end xs n links = rw (← links) (rw (drop-length xs) refl)
+
+-- the bit of one link, and the word once another is set there
+doubled : (b : Bool) (n : ℕ) → bit_value b (2 ^ suc n) ≡ 2 * bit_value b (2 ^ n)
+doubled true n = pow-succ' 2 n
+doubled false n = refl
+
+bit-le : (xs : List Settings) (l : ℕ) (d : Settings) → l < length xs → bit_value (get_or xs l d).continue_group (2 ^ l) ≤ continue_bits xs
+bit-le [] l d inside = absurd (omega arith)
+bit-le (x ∷ xs) zero d inside = omega arith
+bit-le (x ∷ xs) (suc l) d inside =
+    let rest : bit_value (get_or xs l d).continue_group (2 ^ l) ≤ continue_bits xs = bit-le xs l d (omega arith) in
+    rw (doubled (get_or xs l d).continue_group l) (omega arith)
+
+continue_bits-set : (xs : List Settings) (l : ℕ) (x d : Settings) → l < length xs → continue_bits xs + bit_value x.continue_group (2 ^ l) ≡ continue_bits (set xs l x) + bit_value (get_or xs l d).continue_group (2 ^ l)
+continue_bits-set [] l x d inside = absurd (omega arith)
+continue_bits-set (y ∷ ys) zero x d inside = omega arith
+continue_bits-set (y ∷ ys) (suc l) x d inside =
+    let rest : continue_bits ys + bit_value x.continue_group (2 ^ l) ≡ continue_bits (set ys l x) + bit_value (get_or ys l d).continue_group (2 ^ l) = continue_bits-set ys l x d (omega arith) in
+    rw (doubled x.continue_group l, doubled (get_or ys l d).continue_group l) (omega arith)
+
+-- a link's bit of 32 taken out of the word, and another put there
+module _ (xs : List Settings) (l : ℕ) (d : Settings) (word before : ℕ) (links : length xs ≡ 32) (link : l < 32) (is_word : word ≡ continue_bits xs) (is_before : before ≡ bit_value (get_or xs l d).continue_group (1 * 2 ^ l % 4294967296)) where
+  weight : 1 * 2 ^ l % 4294967296 ≡ 2 ^ l
+  weight = (one_shifted l 4294967295 refl link).0
+
+  inside : l < length xs
+  inside = omega (arith, links, link)
+
+  own : before ≡ bit_value (get_or xs l d).continue_group (2 ^ l)
+  own = is_before ∙ ap (bit_value (get_or xs l d).continue_group) weight
+
+  pub put_least : before ≤ word
+  put_least = rw (own, is_word) (bit-le xs l d inside)
+
+  module _ (x : Settings) (after : ℕ) (is_after : after ≡ bit_value x.continue_group (1 * 2 ^ l % 4294967296)) where
+    pub put_is : word - before + after ≡ continue_bits (set xs l x)
+    put_is =
+        let new : after ≡ bit_value x.continue_group (2 ^ l) = is_after ∙ ap (bit_value x.continue_group) weight in
+        omega (arith, put_least, own, new, is_word, continue_bits-set xs l x d inside)
+
+    pub put_fits : word - before + after < 2 ^ 32
+    put_fits = rw put_is (continue_bits-lt (set xs l x) 32 (rw length-set (omega (arith, links))))
+
+-- only the mode says whether a link continues a group
+same_group : (s : Settings) (r : Register) (v : ℕ) → waits r ≡ false → (with_value s r v).continue_group ≡ s.continue_group
+same_group s Mode v is = cc
+same_group s RandomBase v is = refl
+same_group s RandomRange v is = refl
+same_group s Sunk v is = refl
+same_group s Short v is = refl
+same_group s InputLevel v is = refl
+same_group s OutputLevel v is = refl
+same_group s Credit v is = refl
+same_group s Granted v is = refl
+same_group s Owner v is = refl
+same_group s Base v is = refl
+same_group s (Limit k) v is = refl
+same_group s (Select k) v is = refl
+
+-- so the word stays where another register is set
+pub continue_bits-same : (xs : List Settings) (l : ℕ) (x d : Settings) (r : Register) (v : ℕ) → waits r ≡ false → x ≡ with_value (get_or xs l d) r v → continue_bits (set xs l x) ≡ continue_bits xs
+continue_bits-same [] l x d r v is same = refl
+continue_bits-same (y ∷ ys) zero x d r v is same =
+    ap (λ b. bit_value b 1 + 2 * continue_bits ys) (ap (λ (s : Settings). s.continue_group) same ∙ same_group y r v is)
+continue_bits-same (y ∷ ys) (suc l) x d r v is same = ap (λ n. bit_value y.continue_group 1 + 2 * n) (continue_bits-same ys l x d r v is same)

@@ -1,6 +1,8 @@
 pub mod ValueLemmas
 pub mod RangeLemmas
 pub mod RangeNumbers
+pub mod PackedLaws
+pub mod PackedPokes
 pub mod AddressLemmas
 pub mod RegisterLemmas
 pub mod ContinueLemmas

@@ -1,9 +1,9 @@
 -- What registers with given settings keep.
 use Rattle.std.proofs.Common.{◌≡◌, ℕ, Bool, List, length, get_or, replicate, inl, inr, sym, ap, ◌∙◌, subst, All}
-use Rattle.std.proofs.lemmas.List.{get_or_default, get_or_past}
+use Rattle.std.proofs.lemmas.List.{get_or_past}
 use Rattle.std.proofs.lemmas.Bool.{cases_lt}
 use Rattle.c104_regs.specs.Ranges.{IsInRange}
-use Rattle.c104_regs.specs.Registers.{IsRegisterBank, RegisterBank}
+use Rattle.c104_regs.specs.Registers.{IsRegisterBank}
 use Rattle.c104_regs.specs.Settings.{Settings, reset_settings}
 use Rattle.c104_regs.specs.Values.{Status, reset_status}
 use Rattle.c104_regs.proofs.RegisterLemmas.{IsInRange-reset}
@@ -21,7 +21,3 @@ kept_placed started given own statuses same told links ranges = record {
   statuses = ap length told;
   in_range = λ l. subst (λ (list : List Settings). IsInRange (get_or list l reset_settings)) (sym same) (link_in_range given ranges l);
 }
-
--- the settings of a switch's registers are within the ranges
-pub all_in_range : (b : RegisterBank) → IsRegisterBank b → All IsInRange b.settings
-all_in_range b kept l d inside = subst IsInRange (get_or_default b.settings l reset_settings d inside) (kept.in_range l)

@@ -1,6 +1,6 @@
 -- The registers of a link are a view of its settings: a register that was set reads what it was set to,
 -- each other one reads what it did, and the settings stay within their ranges.
-use Rattle.std.proofs.Common.{◌≡◌, ◌≢◌, ℕ, zero, suc, ◌*◌, ◌/◌, ◌%◌, ◌==◌, ◌<◌, ◌≤◌, inl, inr, Bool, true, false, nat_eq, nat_lt, if◌then◌else◌, List, length, get_or, set, IsTrue, refl, ap, ◌∙◌, arith}
+use Rattle.std.proofs.Common.{◌≡◌, ◌≢◌, ℕ, ◌<◌, inl, inr, Bool, true, false, nat_eq, nat_lt, if◌then◌else◌, List, length, get_or, set, IsTrue, refl, ap, ◌∙◌, arith}
 use Rattle.std.proofs.lemmas.Bool.{cases_eq}
 use Rattle.std.proofs.lemmas.Bool.Decides.{nat_tests}
 use Rattle.std.proofs.lemmas.List.{get_or-set_other, get_or-set_same}
@@ -10,8 +10,9 @@ use Rattle.c104_interval.specs.declared.intervals.Select as interval
 use Rattle.c104_interval.specs.declared.intervals.Select.TheVariants.{Link, Discard, Sink}
 use Rattle.c104_regs.specs.Addresses.{IsRegister, Register, register_takes, register_properties}
 use Rattle.c104_regs.specs.declared.addresses.Register.TheVariants.{Mode, RandomBase, RandomRange, Sunk, Short, InputLevel, OutputLevel, Credit, Granted, Owner, Base, Limit, Select}
+use Rattle.c104_regs.specs.PackedWords.{mode_back}
 use Rattle.c104_regs.specs.Settings.{Settings}
-use Rattle.c104_regs.specs.Values.{Status, bit_value, select_of, mode_of, select_code, register_read, with_value}
+use Rattle.c104_regs.specs.Values.{Status, select_of, mode_of, select_code, register_read, with_value}
 
 -- what holds of each register that can be written
 pub by_writable : (P : Register → Type 0) → P Mode → P RandomBase → P RandomRange → P Base → ((k : ℕ) → P (Limit k)) → ((k : ℕ) → P (Select k)) → (r : Register) → IsTrue (register_properties r).is_writable → P r
@@ -78,29 +79,20 @@ value_other s t r (Select j) v rows is writable ne =
     (λ k _ differs. let ne : j ≢ k = λ same. differs (ap Select same) in rw (get_or-set_other s.table.rows k j) refl)
     r writable is ne
 
--- a bit of the mode reads what it was set to
-bit_of : (n w : ℕ) → n < 2 → bit_value (n == 1) w ≡ n * w
-bit_of zero w few = omega arith
-bit_of (suc zero) w few = omega arith
-bit_of (suc (suc n)) w few = absurd (omega arith)
-
-mode_same : (s : Settings) (v : ℕ) → v ≤ 15 → mode_of (with_value s Mode v) ≡ v
-mode_same s v fits = rw (bit_of (v % 2) 1 (omega arith), bit_of ((v / 2) % 2) 2 (omega arith), bit_of ((v / 4) % 2) 4 (omega arith), bit_of ((v / 8) % 2) 8 (omega arith)) (omega arith)
-
 -- a number that a row's select takes is that of what it selects
 code_by : (k v : ℕ) (small discards : Bool) → IsTrue (register_takes (Select k) v) → small ≡ nat_lt v 32 → discards ≡ nat_eq v 32 → select_code (if small then Link v else (if discards then Discard else Sink)) ≡ v
 code_by k v true discards fits is_small is_discard = refl
 code_by k v false true fits is_small is_discard = grind (arith, nat_tests)
 code_by k v false false fits is_small is_discard = grind (arith, nat_tests)
 
-code_same : (k v : ℕ) → IsTrue (register_takes (Select k) v) → select_code (select_of v) ≡ v
+pub code_same : (k v : ℕ) → IsTrue (register_takes (Select k) v) → select_code (select_of v) ≡ v
 code_same k v fits = code_by k v _ _ fits refl refl
 
 -- a register that was set to a value that it takes reads it
 pub value_same : (s : Settings) (t : Status) (r : Register) (v : ℕ) → length s.table.rows ≡ 36 → IsRegister r → IsTrue (register_properties r).is_writable → IsTrue (register_takes r v) → register_read (with_value s r v) t r ≡ v
 value_same s t r v rows is writable fits =
     by_writable (λ r. IsRegister r → IsTrue (register_takes r v) → register_read (with_value s r v) t r ≡ v)
-    (λ _ fits. mode_same s v (grind (arith, nat_tests))) (λ _ _. refl) (λ _ _. refl) (λ _ _. refl)
+    (λ _ fits. mode_back s v (grind (arith, nat_tests))) (λ _ _. refl) (λ _ _. refl) (λ _ _. refl)
     (λ k below _. ap (λ (row : Row). row.limit) (get_or-set_same s.table.rows k _ reset_row (rw rows below)))
     (λ k below fits. ap (λ (row : Row). select_code row.select) (get_or-set_same s.table.rows k _ reset_row (rw rows below)) ∙ code_same k v fits)
     r writable is fits

@@ -4,5 +4,7 @@ pub mod Faults
 pub mod Values
 pub mod Groups
 pub mod Ranges
+pub mod Packed
+pub mod PackedWords
 pub mod Registers
 pub mod KeptValues

@@ -4,13 +4,13 @@ ghost use Rattle.std.specs.Int.{bit_at};
 ghost use Rattle.c104_regs.specs.Groups.{continue_bits, continues_at};
 ghost use Rattle.c104_regs.specs.Values.{bit_value};
 
+use crate::packed::PackedSettings;
 use crate::registers::LINKS;
-use crate::settings::Settings;
 use crate::values::number;
 
 /// The links that continue the group of the link before them, by the settings of all links: link l
 /// at bit l.
-pub fn continues_of(settings: &[Settings]) -> u32
+pub fn continues_of(settings: &[PackedSettings]) -> u32
     // A word has no bit for a link past the last that a switch has.
     requires { length settings.now ≤ LINKS }
     ensures number { result ≡ continue_bits settings.now }
@@ -20,7 +20,7 @@ pub fn continues_of(settings: &[Settings]) -> u32
     let mut link = settings.len();
     while link > 0 {
         link -= 1;
-        bits = number(settings[link].continue_group, 1) + 2 * bits;
+        bits = number(settings[link].continue_group(), 1) + 2 * bits;
     }
     bits
 }

@@ -5,8 +5,8 @@ ghost use Rattle.c104_regs.specs.Registers.{IsRegisterBank};
 ghost use Rattle.c104_regs.specs.KeptValues.{IsKept, IsMapOf, kept_value, kept_values, unless_reset};
 
 use crate::addresses::{ADDRESS_END, Address, Register};
+use crate::packed::PackedSettings;
 use crate::registers::{LINKS, Registers};
-use crate::settings::Settings;
 use crate::status::Status;
 use crate::values::SINK_CODE;
 use std::alloc::{AllocError, Global};
@@ -67,7 +67,7 @@ impl Registers {
 }
 
 /// The value that is kept of an address, by the settings of all links.
-fn kept_value(settings: &[Settings], addr: u16) -> Option<u32>
+fn kept_value(settings: &[PackedSettings], addr: u16) -> Option<u32>
     requires { length settings.now ≡ LINKS }
     ensures { result ≡ kept_value settings.now addr }
 {

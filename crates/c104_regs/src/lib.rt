@@ -8,7 +8,8 @@
 //!   ranges of their registers, and whether the switch is started. An address reads what was poked
 //!   there or told last. Its kept values are what was set to something else than after a reset.
 //! - [`Address`] is what stands at an address, and [`Register`] one of the registers of a link.
-//! - [`Settings`] is what is set at one link, with any numbers in it.
+//! - [`Settings`] is what is set at one link, with any numbers in it, and [`PackedSettings`] the same
+//!   within the ranges of the registers, in few words: so a switch keeps it.
 //! - [`continues_of`] tells, by the settings of all links, which of them continue a group.
 //! - [`Status`] is what a switch tells of one link.
 //! - [`RegFault`] says why an address is not read or a value not written.
@@ -18,6 +19,7 @@ mod addresses;
 mod faults;
 mod groups;
 mod kept;
+mod packed;
 mod registers;
 mod settings;
 mod status;
@@ -26,6 +28,7 @@ mod values;
 pub use addresses::{ADDRESS_END, Address, Register};
 pub use faults::RegFault;
 pub use groups::continues_of;
+pub use packed::PackedSettings;
 pub use registers::{DEVICE_ID, LINKS, Registers};
 pub use settings::Settings;
 pub use status::Status;
@@ -34,6 +37,10 @@ pub use status::Status;
 const _: () = prove!(LINKS == 32);
 
 const _: () = prove!(DEVICE_ID == 0xc104);
+
+const _: () = prove!(packed::BASES == 65536);
+
+const _: () = prove!(packed::LIMITS == 131072);
 
 const _: () = prove!(values::DISCARD_CODE == 32);
 

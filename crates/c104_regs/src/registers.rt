@@ -1,7 +1,7 @@
 //! The registers of a switch, by address.
-ghost use Rattle.std.specs.Prelude.{◌≡◌, ◌≢◌, ℕ, ◌-◌, ◌/◌, ◌<◌, All, Err, IfOk, OnErr, OnOk, Ok, length};
+ghost use Rattle.std.specs.Prelude.{◌≡◌, ◌≢◌, ℕ, ◌-◌, ◌/◌, ◌<◌, All, Err, IfOk, IsTrue, OnErr, OnOk, Ok, length};
 ghost use Rattle.std.specs.Int.{bit_at};
-ghost use Rattle.c104_regs.specs.Addresses.{IsRegister, Register, register_properties};
+ghost use Rattle.c104_regs.specs.Addresses.{IsRegister, Register, register_properties, register_takes};
 ghost use Rattle.c104_regs.specs.declared.faults.RegFault.TheVariants.{OutOfRange};
 ghost use Rattle.c104_regs.specs.Groups.{continue_bits, continues_at};
 ghost use Rattle.c104_regs.specs.Ranges.{IsInRange, IsTableInRange};
@@ -11,6 +11,7 @@ ghost use Rattle.c104_regs.specs.Values.{mode_of, bit_value, register_read};
 use crate::addresses::{Address, Register};
 use crate::faults::RegFault;
 use crate::groups::continues_of;
+use crate::packed::PackedSettings;
 use crate::settings::Settings;
 use crate::status::Status;
 use crate::values::number;
@@ -27,16 +28,21 @@ pub const DEVICE_ID: u32 = 0x0000_c104;
 ///
 /// What is set by a poke stays here, and what is set otherwise is such as a poke may set. What the
 /// switch tells of itself is told by `set_started` and `set_status`, and is shown as it was told
-/// last.
+/// last; `peek_told` and `poke_told` take a link's status from the caller in place of that.
 #[derive(Clone, Copy)]
 pub struct Registers {
     started: bool,
-    settings: [Settings; LINKS],
+    // The links that continue a group: link l at bit l.
+    continues: u32,
+    settings: [PackedSettings; LINKS],
     statuses: [Status; LINKS],
 }
 
 impl Model for Registers {
+    ghost use Rattle.std.specs.Prelude.{◌≡◌};
+    ghost use Rattle.c104_regs.specs.Groups.{continue_bits};
     ghost use Rattle.c104_regs.specs.Registers.{IsRegisterBank, RegisterBank};
+    ghost use Rattle.std.proofs.Common.{ap, sym};
 
     ghost Value = { RegisterBank };
 
@@ -44,9 +50,19 @@ impl Model for Registers {
 
     ghost invariant = { λ r.
         IsRegisterBank
-        (record { started = r.started; settings = r.settings; statuses = r.statuses }) };
+        (record { started = r.started; settings = r.settings; statuses = r.statuses })
+        × (r.continues ≡ continue_bits r.settings) };
 
-    ghost inverse = { λ b. record { started = b.started; settings = b.settings; statuses = b.statuses } };
+    ghost inverse = { λ b. record {
+      started = b.started;
+      continues = continue_bits b.settings;
+      settings = b.settings;
+      statuses = b.statuses;
+    } };
+
+    ghost inverse_ok = { λ r holds. ap
+        (λ n. record { started = r.started; continues = n; settings = r.settings; statuses = r.statuses })
+        (sym holds.1) };
 }
 
 impl Registers {
@@ -61,7 +77,8 @@ impl Registers {
     {
         Registers {
             started: false,
-            settings: [Settings::reset(); LINKS],
+            continues: 0,
+            settings: [PackedSettings::reset(); LINKS],
             statuses: [Status::reset(); LINKS],
         }
     }
@@ -73,11 +90,28 @@ impl Registers {
         requires ranges { All IsInRange settings.now }
         ensures { result ≡ placed_bank settings.now }
     {
-        let mut own = [Settings::reset(); LINKS];
-        own.copy_from_slice(settings);
+        let mut own = [PackedSettings::reset(); LINKS];
+        for link in 0..LINKS {
+            own[link] = PackedSettings::pack(&settings[link]);
+        }
         Registers {
             started: true,
+            continues: continues_of(&own),
             settings: own,
+            statuses: [Status::reset(); LINKS],
+        }
+    }
+
+    /// The registers of another switch that is started, with the settings of this one. That switch
+    /// has told nothing yet.
+    pub fn placed_again(&self) -> Self
+        ensures placed { result ≡ placed_bank self.now.settings }
+        ensures kept { IsRegisterBank self.now }
+    {
+        Registers {
+            started: true,
+            continues: self.continues,
+            settings: self.settings,
             statuses: [Status::reset(); LINKS],
         }
     }
@@ -117,8 +151,8 @@ impl Registers {
         }
     }
 
-    /// The link on whose status alone it hangs what this address reads, and whether it may be set.
-    /// It is 32 or more past the last link's addresses.
+    /// The link whose status alone decides what this address reads, and whether it may be set: 32
+    /// or more past the last link's addresses.
     pub fn link_of(addr: u16) -> usize
         ensures { result ≡ addr / 0x100 - 1 }
     {
@@ -141,7 +175,13 @@ impl Registers {
         if register.waits() && self.statuses[link].busy {
             return Err(RegFault::Busy);
         }
-        set(&mut self.settings, link, register, value);
+        set(
+            &mut self.settings,
+            &mut self.continues,
+            link,
+            register,
+            value,
+        );
         Ok(())
     }
 
@@ -157,12 +197,18 @@ impl Registers {
         if register.waits() && status.busy {
             return Err(RegFault::Busy);
         }
-        set(&mut self.settings, link, register, value);
+        set(
+            &mut self.settings,
+            &mut self.continues,
+            link,
+            register,
+            value,
+        );
         Ok(())
     }
 
     /// Whether a poke may set the register at this address to this value, as far as that doesn't
-    /// hang on what the switch is doing: each fault of `poke` but Busy.
+    /// depend on what the switch is doing: each fault of `poke` but Busy.
     pub fn settable(addr: u16, value: u32) -> Result<(), RegFault>
         ensures { result ≡ settable addr value }
     {
@@ -178,20 +224,11 @@ impl Registers {
     }
 
     /// What is set at each link, in order.
-    pub fn all_settings(&self) -> &[Settings]
+    pub fn all_settings(&self) -> &[PackedSettings]
         ensures settings { result.now ≡ self.now.settings }
         ensures kept { IsRegisterBank self.now }
     {
         self.settings.as_slice()
-    }
-
-    /// What is set at a link, 0 to 31.
-    pub fn settings(&self, link: usize) -> &Settings
-        requires { link < LINKS }
-        ensures settings { result.now ≡ settings_at self.now link }
-        ensures kept { IsInRange result.now }
-    {
-        &self.settings[link]
     }
 
     /// The four bits of a link's mode, the link being 0 to 31.
@@ -199,16 +236,25 @@ impl Registers {
         requires { link < LINKS }
         ensures { result ≡ mode_of (settings_at self.now link) }
     {
-        self.settings[link].mode()
+        self.settings(link).mode()
     }
 
     /// The interval table of a link's input, the link being 0 to 31.
-    pub fn table(&self, link: usize) -> &Table
+    pub fn table(&self, link: usize) -> Table
         requires { link < LINKS }
-        ensures table { result.now ≡ (settings_at self.now link).table }
-        ensures kept { IsTableInRange result.now }
+        ensures table { result ≡ (settings_at self.now link).table }
+        ensures kept { IsTableInRange result }
     {
-        &self.settings(link).table
+        self.settings(link).table()
+    }
+
+    /// What is set at a link, 0 to 31.
+    fn settings(&self, link: usize) -> &PackedSettings
+        requires { link < LINKS }
+        ensures settings { result.now ≡ settings_at self.now link }
+        ensures kept { IsInRange result.now }
+    {
+        &self.settings[link]
     }
 
     /// The links that continue the group of the link before them: link l at bit l.
@@ -216,7 +262,7 @@ impl Registers {
         ensures number { result ≡ continue_bits self.now.settings }
         ensures bits { (l : ℕ) → bit_at result l ≡ bit_value (continues_at self.now.settings l) 1 }
     {
-        continues_of(&self.settings)
+        self.continues
     }
 
     /// Tells whether the switch is started.
@@ -224,17 +270,6 @@ impl Registers {
         ensures { self.new ≡ record self.old { started = started } }
     {
         self.started = started;
-    }
-
-    /// The registers of a switch that tells this status of each link.
-    pub fn told(&self, statuses: &[Status; LINKS]) -> Self
-        ensures { result ≡ record self.now { statuses = statuses.now } }
-    {
-        Registers {
-            started: self.started,
-            settings: self.settings,
-            statuses: *statuses,
-        }
     }
 
     /// Tells the status of a link, 0 to 31.
@@ -267,12 +302,27 @@ fn target(addr: u16, value: u32) -> Result<(usize, Register), RegFault>
     Ok((link, register))
 }
 
-/// Sets a register of a link.
-fn set(settings: &mut [Settings], link: usize, register: Register, value: u32)
-    requires link { link < length settings.old }
-    requires register { IsRegister register }
-    ensures { settings.new ≡ settings_with settings.old link register value }
+/// Sets a register of a link, and keeps the word of the links that continue a group.
+fn set(
+    settings: &mut [PackedSettings],
+    continues: &mut u32,
+    link: usize,
+    register: Register,
+    value: u32,
+)
+    requires links { length settings.old ≡ LINKS }
+    requires target { (link < LINKS) × IsRegister register × IsTrue (register_takes register value) }
+    requires continues { continues.old ≡ continue_bits settings.old }
+    ensures settings { settings.new ≡ settings_with settings.old link register value }
+    ensures continues { continues.new ≡ continue_bits settings.new }
 {
-    let settings = &mut settings[link];
-    settings.set(register, value);
+    let own = &mut settings[link];
+    let before = own.continue_group();
+    own.set(register, value);
+
+    // Of the registers the mode alone, which is the one that waits, says whether a link continues.
+    if register.waits() {
+        let bit = 1u32 << link;
+        *continues = *continues - number(before, bit) + number(own.continue_group(), bit);
+    }
 }

@@ -24,14 +24,7 @@ pub struct Settings {
 }
 
 impl Settings {
-    ghost use Rattle.c104_regs.specs.Settings.{reset_settings, plain_settings, header_length};
-
-    /// The settings after a reset.
-    pub fn reset() -> Self
-        ensures { result ≡ reset_settings }
-    {
-        Settings::plain(Table::reset())
-    }
+    ghost use Rattle.c104_regs.specs.Settings.{plain_settings};
 
     /// One-byte headers, nothing deleted, no random headers, a group by itself, and this table.
     pub fn plain(table: Table) -> Self
@@ -46,12 +39,5 @@ impl Settings {
             random_range: 0,
             table,
         }
-    }
-
-    /// How many bytes the headers at this link have: 1 or 2.
-    pub fn header_length(&self) -> usize
-        ensures { result ≡ header_length self.now }
-    {
-        if self.two_byte { 2 } else { 1 }
     }
 }

@@ -1,9 +1,10 @@
 //! What a register of a link reads, and what setting it changes.
 ghost use Rattle.std.specs.Prelude.{◌≡◌};
 ghost use Rattle.c104_regs.specs.Addresses.{IsRegister};
-ghost use Rattle.c104_regs.specs.Values.{select_of, mode_of, bit_value, owner_code, select_code, register_read, with_mode, with_value};
+ghost use Rattle.c104_regs.specs.Values.{select_of, mode_of, bit_value, owner_code, select_code, register_read};
 
 use crate::addresses::Register;
+use crate::packed::PackedSettings;
 use crate::settings::Settings;
 use crate::status::Status;
 use c104_interval::Select;
@@ -16,14 +17,14 @@ pub const SINK_CODE: u32 = 64;
 
 impl Register {
     /// What the register reads, at a link with these settings and this status.
-    pub fn read(self, settings: &Settings, status: &Status) -> u32
+    pub fn read(self, settings: &PackedSettings, status: &Status) -> u32
         requires { IsRegister self }
         ensures { result ≡ register_read settings.now status.now self }
     {
         match self {
             Register::Mode => settings.mode(),
-            Register::RandomBase => settings.random_base,
-            Register::RandomRange => settings.random_range,
+            Register::RandomBase => settings.random_base(),
+            Register::RandomRange => settings.random_range(),
             Register::Sunk => status.sunk,
             Register::Short => status.short,
             Register::InputLevel => u32::from(status.input_level),
@@ -31,9 +32,9 @@ impl Register {
             Register::Credit => u32::from(status.credit),
             Register::Granted => u32::from(status.granted),
             Register::Owner => owner_code(status.owner),
-            Register::Base => settings.table.base,
-            Register::Limit(k) => settings.table.rows[k].limit,
-            Register::Select(k) => select_code(settings.table.rows[k].select),
+            Register::Base => settings.base(),
+            Register::Limit(k) => settings.limit(k),
+            Register::Select(k) => settings.select_code(k),
         }
     }
 }
@@ -48,32 +49,6 @@ impl Settings {
             + number(self.randomize, 4)
             + number(self.continue_group, 8)
     }
-
-    /// Sets the register. One that tells the status sets nothing.
-    pub(crate) fn set(&mut self, register: Register, value: u32)
-        requires { IsRegister register }
-        ensures { self.new ≡ with_value self.old register value }
-    {
-        match register {
-            Register::Mode => self.set_mode(value),
-            Register::RandomBase => self.random_base = value,
-            Register::RandomRange => self.random_range = value,
-            Register::Base => self.table.base = value,
-            Register::Limit(k) => self.table.rows[k].limit = value,
-            Register::Select(k) => self.table.rows[k].select = select_of(value),
-            _ => {}
-        }
-    }
-
-    /// Sets the four bits of the mode.
-    fn set_mode(&mut self, value: u32)
-        ensures { self.new ≡ with_mode self.old value }
-    {
-        self.two_byte = value % 2 == 1;
-        self.delete_header = value / 2 % 2 == 1;
-        self.randomize = value / 4 % 2 == 1;
-        self.continue_group = value / 8 % 2 == 1;
-    }
 }
 
 /// The weight of a bit where it is set, and else 0.
@@ -84,7 +59,7 @@ pub fn number(bit: bool, weight: u32) -> u32
 }
 
 /// The number of what a row selects.
-fn select_code(select: Select) -> u32
+pub(crate) fn select_code(select: Select) -> u32
     ensures { result ≡ select_code select }
 {
     match select {
@@ -95,7 +70,7 @@ fn select_code(select: Select) -> u32
 }
 
 /// What a number selects.
-fn select_of(code: u32) -> Select
+pub(crate) fn select_of(code: u32) -> Select
     ensures { result ≡ select_of code }
 {
     match code {
