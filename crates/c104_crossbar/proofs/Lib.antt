@@ -1,2 +1,4 @@
+pub mod BitMarks
 pub mod GroupLemmas
+pub mod GroupScans
 pub mod MarkLemmas

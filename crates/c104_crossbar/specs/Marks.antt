@@ -1,7 +1,17 @@
 -- Which of the 32 outputs are taken: a mark for each, set where the output belongs to a claim. A claim
 -- is the number of its output.
-use Rattle.std.specs.Prelude.{option_to_list, ◌≡◌, ℕ, ◌+◌, ◌==◌, Bool, true, false, not, nat_lt, List, [], ◌∷◌, ◌++◌, Option, Some, None, replicate, if◌then◌else◌, slice_index_or, slice_set}
+use Rattle.std.specs.Prelude.{option_to_list, ◌≡◌, ℕ, zero, suc, ◌+◌, ◌==◌, Bool, true, false, not, nat_lt, List, [], ◌∷◌, ◌++◌, Option, Some, None, replicate, if◌then◌else◌, slice_index_or, slice_set}
 use Rattle.c104_crossbar.specs.declared.TheConstants.{LINKS}
+use Rattle.c104_crossbar.specs.Groups.{has_bit}
+
+-- the marks that the bits of a word are, for n outputs from output o on
+abbrev pub marks_from : ℕ → ℕ → ℕ → List Bool
+marks_from word o zero = []
+marks_from word o (suc n) = has_bit word o ∷ marks_from word (suc o) n
+
+-- the marks of the 32 outputs
+unfoldable pub marks_of : ℕ → List Bool
+marks_of word = marks_from word 0 LINKS
 
 -- the marks at first: no output is taken
 abbrev pub all_free : List Bool

@@ -1,4 +1,5 @@
-ghost use Rattle.std.specs.Prelude.{◌≡◌, ◌<◌, false, []};
+ghost use Rattle.std.specs.Prelude.{◌≡◌, ◌<◌, false, true, []};
+ghost use Rattle.c104_crossbar.specs.Groups.{has_bit};
 ghost use Rattle.c104_crossbar.specs.Marks.{ArePartition, ClaimKeepsPartition, ReleaseKeepsPartition, all_free, crossbar_claim, is_free, crossbar_release};
 
 use crate::LINKS;
@@ -7,19 +8,17 @@ use std::marker::Model;
 /// The crossbar of a switch: for each of its 32 outputs, whether it is taken.
 #[derive(Drop)]
 pub struct Crossbar {
-    // whether the output of this number is taken
-    marks: [bool; LINKS],
+    // The bit of each output that is taken.
+    taken: u32,
 }
 
 impl Model for Crossbar {
-    ghost use Rattle.std.specs.Prelude.{◌≡◌, Bool, List, length};
-    ghost use Rattle.c104_crossbar.specs.declared.TheConstants.{LINKS};
+    ghost use Rattle.std.specs.Prelude.{Bool, List};
+    ghost use Rattle.c104_crossbar.specs.Marks.{marks_of};
 
     ghost Value = { List Bool };
 
-    ghost view = { λ crossbar. crossbar.marks };
-
-    ghost invariant = { λ crossbar. length crossbar.marks ≡ LINKS };
+    ghost view = { λ crossbar. marks_of crossbar.taken };
 }
 
 /// The right to an output, until it is given back by [`Crossbar::release`].
@@ -47,9 +46,7 @@ impl Crossbar {
         ensures marks { result ≡ all_free }
         ensures partition { ArePartition [] result }
     {
-        Crossbar {
-            marks: [false; LINKS],
-        }
+        Crossbar { taken: 0 }
     }
 
     /// Claims an output. The answer is `None`, and nothing changes, where the output is taken
@@ -61,7 +58,7 @@ impl Crossbar {
         if !self.free(output) {
             return None;
         }
-        self.marks[output] = true;
+        self.taken |= 1u32 << output;
         Some(Claim {
             output: output as u8,
         })
@@ -75,14 +72,19 @@ impl Crossbar {
         ensures partition { ReleaseKeepsPartition self.old claim self.new }
     {
         let Claim { output } = claim;
-        self.marks[output as usize] = false;
+        self.taken &= !(1u32 << output);
     }
 
-    /// Whether an output is free. None is where the number is 32 or more.
+    /// Whether an output is free: false from 32 on.
     pub fn free(&self, output: usize) -> bool
-        ensures { result ≡ is_free self.now output }
+        ensures free { result ≡ is_free self.now output }
+        ensures below { result ≡ true → output < LINKS }
     {
-        output < LINKS && !self.marks[output]
+        let taken = self.taken;
+        if output >= LINKS {
+            return false;
+        }
+        !has_bit(taken, output)
     }
 }
 
@@ -94,4 +96,12 @@ impl Claim {
     {
         self.output as usize
     }
+}
+
+/// Whether the bit of an output is set in a word.
+fn has_bit(word: u32, output: usize) -> bool
+    requires { output < LINKS }
+    ensures { result ≡ has_bit word output }
+{
+    (word >> output) & 1 == 1
 }

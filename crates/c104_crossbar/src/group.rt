@@ -44,11 +44,9 @@ fn first_of(continues: u32, link: usize) -> usize
     ensures joined { (o : ℕ) → result < o → o ≤ link → has_bit continues o ≡ true }
     ensures largest { 0 < result → has_bit continues result ≡ false }
 {
-    let mut first = link;
-    while first > 0 && has_bit(continues, first) {
-        first -= 1;
-    }
-    first
+    // The links up to this one that continue no group. Link 0 is always one.
+    let begins = (!continues | 1) & (u32::MAX >> (LINKS - 1 - link));
+    LINKS - 1 - begins.leading_zeros() as usize
 }
 
 // The last link of the group of a link.
@@ -59,17 +57,7 @@ fn last_of(continues: u32, link: usize) -> usize
     ensures joined { (o : ℕ) → link < o → o ≤ result → has_bit continues o ≡ true }
     ensures largest { result + 1 < LINKS → has_bit continues (result + 1) ≡ false }
 {
-    let mut last = link;
-    while last + 1 < LINKS && has_bit(continues, last + 1) {
-        last += 1;
-    }
-    last
-}
-
-// Whether the bit of a link is set in a word.
-fn has_bit(word: u32, link: usize) -> bool
-    requires { link < LINKS }
-    ensures { result ≡ has_bit word link }
-{
-    (word >> link) & 1 == 1
+    // The links after this one, from the lowest bit on.
+    let after = continues >> link >> 1;
+    link + after.trailing_ones() as usize
 }
