@@ -56,7 +56,7 @@ module _ {A : Type 0} where
       omega arith
 
   -- an input that streams to an output holds its claim
-  holds_stream : (o : ℕ) (phase : Phase (List A)) → times o (phase_claims phase) ≡ bool_number (is_stream o phase)
+  pub holds_stream : (o : ℕ) (phase : Phase (List A)) → times o (phase_claims phase) ≡ bool_number (is_stream o phase)
   holds_stream o Fresh = refl
   holds_stream o (Head b) = refl
   holds_stream o (Want b g) = refl

@@ -4,6 +4,7 @@ mod HeldClaims
 mod HeldSteps
 mod ClaimSteps
 mod Owners
+mod OwnersKept
 mod GroupBits
 mod Readiness
 mod Wanting

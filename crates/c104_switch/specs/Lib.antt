@@ -1,5 +1,6 @@
 pub mod Group
 pub mod Phases
+pub mod Stages
 pub mod Switch
 pub mod Headers
 pub mod Sides
@@ -7,6 +8,7 @@ pub mod Turns
 pub mod Claims
 pub mod Holding
 pub mod Views
+pub mod Owners
 pub mod Peeks
 pub mod Commands
 pub mod Control

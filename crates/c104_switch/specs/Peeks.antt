@@ -41,7 +41,7 @@ sides_status inputs l (Some p) (Some q) = status_of inputs l p q
 unfoldable pub link_status : {A : Type 0} → Switch A → ℕ → Status
 link_status s l = sides_status s.inputs l (slice_get s.inputs l) (slice_get s.outputs l)
 
--- what a switch tells of so many links, from link l on
+-- what a switch tells of n links, from link l on
 abbrev pub statuses_from : {A : Type 0} → Switch A → ℕ → ℕ → List Status
 statuses_from s l zero = []
 statuses_from s l (suc n) = link_status s l ∷ statuses_from s (suc l) n

@@ -35,10 +35,6 @@ with_header f (Stream o) = Stream o
 with_header f Sinking = Sinking
 
 module _ {A : Type 0} where
-  -- the phase of an input that keeps the tokens of the header beside its own
-  abbrev pub phase_of : Phase (Unit {0}) → List A → Phase (List A)
-  phase_of phase header = with_header (λ u. header) phase
-
   -- an input that reads a header has room for one more token of it
   abbrev pub HasRoom : Phase (List A) → Type 0
   HasRoom (Head b) = length b < HEADER_LIMIT

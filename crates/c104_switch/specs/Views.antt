@@ -13,6 +13,18 @@ abbrev pub owner_from : {A : Type 0} → ℕ → List (Input A) → ℕ → Opti
 owner_from n [] o = None
 owner_from n (p ∷ inputs) o = if is_stream o p.phase then Some n else owner_from (suc n) inputs o
 
+-- the token at place k of the input of link l, where there is one
+abbrev pub input_token : {A : Type 0} → Switch A → ℕ → ℕ → Option A
+input_token s l k = do
+  p ← slice_get s.inputs l
+  slice_get p.buffer.items k
+
+-- the same of the output of link l
+abbrev pub output_token : {A : Type 0} → Switch A → ℕ → ℕ → Option A
+output_token s l k = do
+  q ← slice_get s.outputs l
+  slice_get q.items k
+
 module _ {A : Type 0} (kind : Kind A) where
   -- the bytes of a header's tokens
   abbrev pub header_bytes : List A → List ℕ

@@ -4,7 +4,7 @@ ghost use Rattle.std.specs.Option.{option_copied};
 ghost use Rattle.c104_link.specs.Buffers.{IsValidCap, IsWithinCap};
 ghost use Rattle.c104_link.specs.Steps.{bool_outcome};
 ghost use Rattle.c104_switch.specs.Switch.{Input, input_accept, input_grant, new_input};
-ghost use Rattle.c104_switch.specs.Phases.{is_stream, is_want, streamed_output};
+ghost use Rattle.c104_switch.specs.Phases.{is_want, streamed_output};
 ghost use Rattle.c104_switch.specs.Holding.{phase_claims};
 ghost use Rattle.c104_switch.specs.Peeks.{is_busy};
 ghost use Rattle.c104_switch.specs.Readiness.{may_turn};
@@ -14,6 +14,8 @@ ghost use Rattle.c104_switch.specs.Starts.{start_input, IsLinkStart};
 
 mod claims;
 mod reasons;
+mod stage;
+mod tokens;
 mod turns;
 
 use crate::header::{HeaderBytes, HeaderOf};
@@ -22,17 +24,18 @@ use crate::phase::Phase;
 use c104_crossbar::Claim;
 use c104_link::InBufferOf;
 use c104_token::{NoMemory, TokenKind};
+use stage::Stage;
 use std::alloc::Global;
 use std::marker::Model;
+use std::mem;
 pub use turns::Turn;
 
 /// The input side of a link: its buffer, and where it is with its packet. While a packet streams,
-/// the input holds the claim of the output.
+/// its stage is the claim of the output.
 pub struct InputOf<T: TokenKind> {
     buffer: InBufferOf<T>,
-    phase: Phase<()>,
+    stage: Stage,
     header: HeaderOf<T>,
-    claim: Option<Claim>,
     sunk: u32,
     short: u32,
 }
@@ -42,19 +45,18 @@ impl<T: TokenKind> Model for InputOf<T> {
 
     ghost Value = { Input T };
 
-    ghost use Rattle.std.specs.Prelude.{◌≡◌};
-    ghost use Rattle.c104_switch.specs.Phases.{phase_of, streamed_output, HasRoom};
+    ghost use Rattle.c104_switch.specs.Phases.{HasRoom};
+    ghost use Rattle.c104_switch.specs.Stages.{stage_phase};
 
     ghost view = { λ p.
         record {
           buffer = p.buffer;
-          phase = phase_of p.phase p.header;
+          phase = stage_phase p.stage p.header;
           sunk = p.sunk;
           short = p.short;
         } };
 
-    ghost invariant = { λ p. HasRoom (phase_of p.phase p.header) ×
-        (p.claim ≡ streamed_output p.phase) };
+    ghost invariant = { λ p. HasRoom (stage_phase p.stage p.header) };
 }
 
 impl<T: TokenKind> InputOf<T> {
@@ -68,9 +70,8 @@ impl<T: TokenKind> InputOf<T> {
         let header = HeaderOf::new(alloc)?;
         Ok(InputOf {
             buffer,
-            phase: Phase::Fresh,
+            stage: Stage::Fresh,
             header,
-            claim: None,
             sunk: 0,
             short: 0,
         })
@@ -85,9 +86,8 @@ impl<T: TokenKind> InputOf<T> {
         let header = HeaderOf::new(alloc)?;
         Ok(InputOf {
             buffer,
-            phase: Phase::Fresh,
+            stage: Stage::Fresh,
             header,
-            claim: None,
             sunk: start.sunk,
             short: start.short,
         })
@@ -99,13 +99,12 @@ impl<T: TokenKind> InputOf<T> {
     {
         let InputOf {
             buffer: _,
-            phase: _,
+            stage,
             header: _,
-            claim,
             sunk: _,
             short: _,
         } = self;
-        claim
+        stage.into_claim()
     }
 
     /// Discards the tokens, the packet under way and the counts. What is granted stays. The claim
@@ -115,11 +114,10 @@ impl<T: TokenKind> InputOf<T> {
         ensures claims { option_to_list result ≡ phase_claims self.old.phase }
     {
         self.buffer.clear();
-        self.phase = Phase::Fresh;
         self.header.clear();
         self.sunk = 0;
         self.short = 0;
-        self.claim.take()
+        mem::replace(&mut self.stage, Stage::Fresh).into_claim()
     }
 
     /// Takes a token in, where one is granted.
@@ -177,9 +175,9 @@ impl<T: TokenKind> InputOf<T> {
     pub fn is_busy(&self) -> bool
         ensures { result ≡ is_busy self.now.phase }
     {
-        match self.phase {
-            Phase::Fresh => false,
-            Phase::Head(()) | Phase::Want((), _) | Phase::Stream(_) | Phase::Sinking => true,
+        match self.stage {
+            Stage::Fresh => false,
+            Stage::Head | Stage::Want(_) | Stage::Stream(_) | Stage::Sinking => true,
         }
     }
 
@@ -187,12 +185,12 @@ impl<T: TokenKind> InputOf<T> {
     pub fn phase(&self) -> Phase<HeaderBytes>
         ensures { result ≡ phase_view T.kind self.now.phase }
     {
-        match self.phase {
-            Phase::Fresh => Phase::Fresh,
-            Phase::Head(()) => Phase::Head(self.header.bytes()),
-            Phase::Want((), link) => Phase::Want(self.header.bytes(), link),
-            Phase::Stream(output) => Phase::Stream(output),
-            Phase::Sinking => Phase::Sinking,
+        match &self.stage {
+            Stage::Fresh => Phase::Fresh,
+            Stage::Head => Phase::Head(self.header.bytes()),
+            Stage::Want(link) => Phase::Want(self.header.bytes(), *link),
+            Stage::Stream(claim) => Phase::Stream(claim.output()),
+            Stage::Sinking => Phase::Sinking,
         }
     }
 
@@ -200,16 +198,9 @@ impl<T: TokenKind> InputOf<T> {
     pub fn claim_held(&self) -> Option<&Claim>
         ensures { option_copied result ≡ streamed_output self.now.phase }
     {
-        self.claim.as_ref()
-    }
-
-    /// Whether the packet streams to this output.
-    pub fn is_stream(&self, output: usize) -> bool
-        ensures { result ≡ is_stream output self.now.phase }
-    {
-        match self.phase {
-            Phase::Stream(owned) => owned == output,
-            Phase::Fresh | Phase::Head(()) | Phase::Want((), _) | Phase::Sinking => false,
+        match &self.stage {
+            Stage::Stream(claim) => Some(claim),
+            Stage::Fresh | Stage::Head | Stage::Want(_) | Stage::Sinking => None,
         }
     }
 
@@ -217,9 +208,9 @@ impl<T: TokenKind> InputOf<T> {
     pub fn is_wanting(&self) -> bool
         ensures { result ≡ is_want self.now.phase }
     {
-        match self.phase {
-            Phase::Want((), _) => true,
-            Phase::Fresh | Phase::Head(()) | Phase::Stream(_) | Phase::Sinking => false,
+        match self.stage {
+            Stage::Want(_) => true,
+            Stage::Fresh | Stage::Head | Stage::Stream(_) | Stage::Sinking => false,
         }
     }
 

@@ -14,7 +14,7 @@ use crate::LINKS;
 use crate::link_set::LinkSet;
 use crate::link_start::LinkStart;
 use c104_link::OutBufferOf;
-use c104_regs::Settings;
+use c104_regs::PackedSettings;
 use c104_token::{NoMemory, TokenKind};
 use std::alloc::Global;
 use std::marker::Model;
@@ -124,7 +124,7 @@ impl<T: TokenKind> OutputsOf<T> {
 
     /// A header joins an output as a whole, where there is room for it, or is deleted there, where
     /// the output's own link deletes headers.
-    pub fn put_header(&mut self, link: usize, settings: &Settings, header: &[T]) -> bool
+    pub fn put_header(&mut self, link: usize, settings: &PackedSettings, header: &[T]) -> bool
         ensures { (result, self.new) ≡
             bool_outcome (step_at self.old link (put_header settings.now header.now)) self.old }
     {
@@ -186,7 +186,7 @@ impl<T: TokenKind> OutputsOf<T> {
     }
 
     /// Whether `put_header` would append or delete this header.
-    pub fn can_put_header(&self, link: usize, settings: &Settings, header: &[T]) -> bool
+    pub fn can_put_header(&self, link: usize, settings: &PackedSettings, header: &[T]) -> bool
         ensures { result ≡ is_some (step_at self.now link (put_header settings.now header.now)) }
     {
         match self.list.get(link) {
@@ -216,16 +216,24 @@ fn put<T: TokenKind>(output: &mut OutBufferOf<T>, token: T) -> bool
 }
 
 /// A header joins an output buffer as a whole, or its link deletes it.
-fn put_header<T: TokenKind>(output: &mut OutBufferOf<T>, settings: &Settings, header: &[T]) -> bool
+fn put_header<T: TokenKind>(
+    output: &mut OutBufferOf<T>,
+    settings: &PackedSettings,
+    header: &[T],
+) -> bool
     ensures { (result, output.new) ≡
         bool_outcome (put_header settings.now header.now output.old) output.old }
 {
-    settings.delete_header || output.put_all(header)
+    settings.delete_header() || output.put_all(header)
 }
 
 /// Whether `put_header` would append or delete this header.
-fn can_put_header<T: TokenKind>(output: &OutBufferOf<T>, settings: &Settings, header: &[T]) -> bool
+fn can_put_header<T: TokenKind>(
+    output: &OutBufferOf<T>,
+    settings: &PackedSettings,
+    header: &[T],
+) -> bool
     ensures { result ≡ is_some (put_header settings.now header.now output.now) }
 {
-    settings.delete_header || output.can_put_all(header)
+    settings.delete_header() || output.can_put_all(header)
 }

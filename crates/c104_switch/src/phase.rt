@@ -3,9 +3,8 @@
 /// Where an input is with its packet, and so what it does with its next token. `H` is what is known
 /// of a header that is read, or that waits for an output.
 ///
-/// An input keeps a phase of nothing, `Phase<()>`, with the tokens of the header beside it, so that
-/// its size hangs on no kind of token. What can be seen of a link, [`LinkView`](crate::LinkView),
-/// has the header's bytes, and the contracts speak of the header's tokens.
+/// What can be seen of a link, [`LinkView`](crate::LinkView), has the header's bytes, and the
+/// contracts speak of the header's tokens.
 #[derive(Debug, Drop)]
 pub enum Phase<H> {
     /// It waits for a packet.

@@ -64,7 +64,7 @@ impl SwitchStart {
         requires { IsValidCap cap }
         ensures { IfOk result (λ s. s ≡ new_start cap registers.now.settings true) }
     {
-        let registers = Box::new(alloc, Registers::placed(registers.all_settings()))?;
+        let registers = Box::new(alloc, registers.placed_again())?;
         let links = new_links(alloc, cap)?;
         Ok(SwitchStart { registers, links })
     }

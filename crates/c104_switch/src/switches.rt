@@ -19,6 +19,7 @@ mod readiness;
 mod reasons;
 mod rooms;
 mod starts;
+mod tokens;
 
 use crate::actions::LinkView;
 use crate::inputs::InputsOf;
@@ -32,9 +33,9 @@ use std::marker::Model;
 /// One IMS C104, over any kind of token.
 ///
 /// An action answers false or None where it isn't ready, and then nothing has changed. No action
-/// takes memory. A switch can't be let go of while its inputs hold claims: `retire` spends them.
+/// takes memory. A switch can't be dropped while its inputs hold claims: `retire` spends them.
 pub struct SwitchOf<T: TokenKind> {
-    // On the heap, so that a node of a network takes no 10 KB, whatever it is.
+    // On the heap, so that a node of a network that is a terminal doesn't take the size of these.
     registers: Box<Registers>,
     inputs: InputsOf<T>,
     outputs: OutputsOf<T>,
@@ -91,7 +92,7 @@ impl<T: TokenKind> SwitchOf<T> {
         requires { IsValidCap cap }
         ensures { IfOk result (λ s. s ≡ new_switch_with cap registers.now.settings true) }
     {
-        let registers = Box::new(alloc, Registers::placed(registers.all_settings()))?;
+        let registers = Box::new(alloc, registers.placed_again())?;
         let outputs = OutputsOf::new(alloc)?;
         let inputs = InputsOf::new(alloc, cap)?;
         Ok(SwitchOf {
@@ -101,7 +102,7 @@ impl<T: TokenKind> SwitchOf<T> {
         })
     }
 
-    /// Gives the claims of all inputs back, and lets go of all else.
+    /// Gives the claims of all inputs back, and drops all else.
     pub fn retire(self) {
         let SwitchOf {
             registers: _,

@@ -6,13 +6,12 @@ ghost use Rattle.c104_switch.specs.Claims.{input_claim, IsClaim};
 ghost use Rattle.c104_switch.specs.Holding.{phase_claims};
 
 use super::InputOf;
+use super::stage::Stage;
 use crate::group::{group_of, is_in_group};
 use crate::outputs::OutputsOf;
-use crate::phase::Phase;
 use c104_crossbar::{Claim, Group};
 use c104_regs::Registers;
 use c104_token::TokenKind;
-use std::mem;
 
 impl<T: TokenKind> InputOf<T> {
     /// Gives the header to the claimed output, if it is one of the group that the input wants, and
@@ -28,7 +27,7 @@ impl<T: TokenKind> InputOf<T> {
         ensures claims { option_to_list result ++ phase_claims self.new.phase ≡
             claim ∷ phase_claims self.old.phase }
     {
-        let Phase::Want((), link) = self.phase else {
+        let Stage::Want(link) = self.stage else {
             return Some(claim);
         };
         let output = claim.output();
@@ -41,8 +40,7 @@ impl<T: TokenKind> InputOf<T> {
         if !outputs.put_header(output, own, self.header.as_slice()) {
             return Some(claim);
         }
-        fill(&mut self.claim, claim);
-        self.phase = Phase::Stream(output);
+        self.stage.set(Stage::Stream(claim));
         None
     }
 
@@ -56,7 +54,7 @@ impl<T: TokenKind> InputOf<T> {
         ensures none { IfNone result ((qs : List (Outgoing T)) (o : ℕ) → o < LINKS →
             input_claim registers.now.settings self.now qs o self.now.phase ≡ None) }
     {
-        let Phase::Want((), link) = self.phase else {
+        let Stage::Want(link) = self.stage else {
             return None;
         };
         group_of(registers, link)
@@ -69,7 +67,7 @@ impl<T: TokenKind> InputOf<T> {
             is_some
             (input_claim registers.now.settings self.now outputs.now output self.now.phase) }
     {
-        let Phase::Want((), link) = self.phase else {
+        let Stage::Want(link) = self.stage else {
             return false;
         };
         if !is_in_group(registers, link, output) {
@@ -79,16 +77,5 @@ impl<T: TokenKind> InputOf<T> {
             Some(own) => outputs.can_put_header(output, own, self.header.as_slice()),
             None => false,
         }
-    }
-}
-
-/// Puts a claim into a slot that is empty.
-fn fill(slot: &mut Option<Claim>, claim: Claim)
-    requires { slot.old ≡ None }
-    ensures { slot.new ≡ Some claim }
-{
-    match mem::replace(slot, Some(claim)) {
-        None => (),
-        Some(_old) => unreachable!(),
     }
 }

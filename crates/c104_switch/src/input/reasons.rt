@@ -1,15 +1,15 @@
 //! Why an input isn't ready.
 ghost use Rattle.std.specs.Prelude.{◌≡◌, ◌<◌};
 ghost use Rattle.c104_regs.specs.declared.registers.TheConstants.{LINKS};
-ghost use Rattle.c104_switch.specs.Reasons.{accept_why, grant_why, turn_why, wanted_why, header_why, has_room};
+ghost use Rattle.c104_switch.specs.Reasons.{accept_why, grant_why, turn_why, wanted_why, header_why, has_room, put_why};
 
 use super::InputOf;
+use super::stage::Stage;
 use crate::group::is_in_group;
 use crate::outputs::OutputsOf;
-use crate::phase::Phase;
 use crate::unready::Unready;
 use c104_link::{OUTPUT_CAP, OutBufferOf};
-use c104_regs::{Registers, Settings};
+use c104_regs::{PackedSettings, Registers};
 use c104_token::TokenKind;
 
 impl<T: TokenKind> InputOf<T> {
@@ -42,12 +42,10 @@ impl<T: TokenKind> InputOf<T> {
         if self.buffer.len() == 0 {
             return Some(Unready::NoToken);
         }
-        match self.phase {
-            Phase::Want((), link) => Some(Unready::WantsOutput(usize::from(link))),
-            Phase::Stream(output) if !has_room(outputs, output) => {
-                Some(Unready::OutputFull(output))
-            }
-            Phase::Fresh | Phase::Head(()) | Phase::Stream(_) | Phase::Sinking => None,
+        match &self.stage {
+            Stage::Want(link) => Some(Unready::WantsOutput(usize::from(*link))),
+            Stage::Stream(claim) => why_full(outputs, claim.output()),
+            Stage::Fresh | Stage::Head | Stage::Sinking => None,
         }
     }
 
@@ -58,14 +56,14 @@ impl<T: TokenKind> InputOf<T> {
         registers: &Registers,
         output: usize,
         owner: Option<usize>,
-        own: &Settings,
+        own: &PackedSettings,
         buffer: &OutBufferOf<T>,
     ) -> Option<Unready>
         requires { output < LINKS }
         ensures { result ≡
             wanted_why registers.now.settings output owner own.now buffer.now self.now.phase }
     {
-        let Phase::Want((), link) = self.phase else {
+        let Stage::Want(link) = self.stage else {
             return Some(Unready::WantsNothing);
         };
         if !is_in_group(registers, link, output) {
@@ -75,6 +73,17 @@ impl<T: TokenKind> InputOf<T> {
             return Some(Unready::Owned(owner));
         }
         why_header(own, self.header.as_slice(), buffer)
+    }
+}
+
+/// Why no token joins the output of this number.
+fn why_full<T: TokenKind>(outputs: &OutputsOf<T>, output: usize) -> Option<Unready>
+    ensures { result ≡ put_why outputs.now output }
+{
+    if has_room(outputs, output) {
+        None
+    } else {
+        Some(Unready::OutputFull(output))
     }
 }
 
@@ -90,13 +99,13 @@ fn has_room<T: TokenKind>(outputs: &OutputsOf<T>, output: usize) -> bool
 
 /// Why a header would not join an output, whose link has these settings.
 fn why_header<T: TokenKind>(
-    own: &Settings,
+    own: &PackedSettings,
     header: &[T],
     buffer: &OutBufferOf<T>,
 ) -> Option<Unready>
     ensures { result ≡ header_why own.now header.now buffer.now }
 {
-    if own.delete_header || buffer.can_put_all(header) {
+    if own.delete_header() || buffer.can_put_all(header) {
         None
     } else {
         Some(Unready::NoRoomForHeader)

@@ -6,16 +6,18 @@ ghost use Rattle.c104_switch.specs.Switch.{Fresh, count_after};
 ghost use Rattle.c104_switch.specs.Headers.{phase_after_header, random_header};
 ghost use Rattle.c104_switch.specs.Turns.{input_turn, IsTurn, header_turn, random_turn, input_after_token};
 ghost use Rattle.c104_switch.specs.Holding.{phase_claims, is_done_turn, freed_claims};
-ghost use Rattle.c104_switch.specs.Phases.{Sinking, phase_of, streamed_output, HasRoom, IsReading, tokens_read};
+ghost use Rattle.c104_switch.specs.Phases.{Sinking, streamed_output, HasRoom, IsReading, tokens_read};
+ghost use Rattle.c104_switch.specs.Stages.{stage_phase};
 
 use super::InputOf;
+use super::stage::Stage;
 use crate::header::HeaderOf;
 use crate::outputs::OutputsOf;
-use crate::phase::Phase;
 use c104_crossbar::Claim;
 use c104_interval::Select;
-use c104_regs::Settings;
+use c104_regs::PackedSettings;
 use c104_token::{Token, TokenKind};
+use std::mem;
 
 /// What came of a turn.
 pub enum Turn {
@@ -30,7 +32,7 @@ pub enum Turn {
 impl<T: TokenKind> InputOf<T> {
     /// What the input does with its first token. It isn't ready, and nothing changes, where it has
     /// none, waits for an output, or streams to one that is full.
-    pub fn turn(&mut self, settings: &Settings, word: u32, outputs: &mut OutputsOf<T>) -> Turn
+    pub fn turn(&mut self, settings: &PackedSettings, word: u32, outputs: &mut OutputsOf<T>) -> Turn
         ensures turned { IsTurn T.kind settings.now word
             self.old outputs.old (is_done_turn result) self.new outputs.new }
         ensures claims { phase_claims self.old.phase ≡
@@ -40,18 +42,18 @@ impl<T: TokenKind> InputOf<T> {
             return Turn::NotReady;
         };
         let ends = is_end(token.plain());
-        match self.phase {
-            Phase::Fresh if settings.randomize && !ends => self.read_random(settings, word),
-            Phase::Fresh => self.read_token(settings, token),
-            Phase::Head(()) => self.read_token(settings, token),
-            Phase::Want((), _) => return Turn::NotReady,
-            Phase::Stream(output) => {
-                if !outputs.put(output, token) {
+        match &self.stage {
+            Stage::Fresh if settings.randomize() && !ends => self.read_random(settings, word),
+            Stage::Fresh => self.read_token(settings, token),
+            Stage::Head => self.read_token(settings, token),
+            Stage::Want(_) => return Turn::NotReady,
+            Stage::Stream(claim) => {
+                if !outputs.put(claim.output(), token) {
                     return Turn::NotReady;
                 }
                 return self.stream(ends);
             }
-            Phase::Sinking => self.sink(ends),
+            Stage::Sinking => self.sink(ends),
         }
         Turn::Done
     }
@@ -64,10 +66,10 @@ impl<T: TokenKind> InputOf<T> {
         if self.buffer.first().is_none() {
             return false;
         }
-        match self.phase {
-            Phase::Fresh | Phase::Head(()) | Phase::Sinking => true,
-            Phase::Want((), _) => false,
-            Phase::Stream(output) => outputs.can_put(output),
+        match &self.stage {
+            Stage::Fresh | Stage::Head | Stage::Sinking => true,
+            Stage::Want(_) => false,
+            Stage::Stream(claim) => outputs.can_put(claim.output()),
         }
     }
 
@@ -79,7 +81,7 @@ impl<T: TokenKind> InputOf<T> {
     {
         self.buffer.take();
         if ends {
-            self.phase = Phase::Fresh;
+            self.stage.set(Stage::Fresh);
         }
     }
 
@@ -97,42 +99,41 @@ impl<T: TokenKind> InputOf<T> {
         if !ends {
             return Turn::Done;
         }
-        self.phase = Phase::Fresh;
-        let Some(claim) = self.claim.take() else {
+        let Some(claim) = mem::replace(&mut self.stage, Stage::Fresh).into_claim() else {
             unreachable!();
         };
         Turn::Freed(claim)
     }
 
     /// Reads the first token of a header, or one more.
-    fn read_token(&mut self, settings: &Settings, token: T)
+    fn read_token(&mut self, settings: &PackedSettings, token: T)
         requires { IsReading self.old.phase }
         ensures { self.new ≡
             header_turn T.kind settings.now self.old (tokens_read self.old.phase) token }
     {
         self.buffer.take();
         if is_end(token.plain()) {
-            self.phase = Phase::Fresh;
+            self.stage.set(Stage::Fresh);
             self.short = counted(self.short, true);
             return;
         }
-        if let Phase::Fresh = self.phase {
+        if let Stage::Fresh = self.stage {
             self.header.clear();
         }
         self.header.push(token);
-        let (phase, sinks) = read(settings, &mut self.header);
-        self.phase = phase;
+        let (stage, sinks) = read(settings, &mut self.header);
+        self.stage.set(stage);
         self.sunk = counted(self.sunk, sinks);
     }
 
     /// Puts a random header before the packet, and uses no token.
-    fn read_random(&mut self, settings: &Settings, word: u32)
+    fn read_random(&mut self, settings: &PackedSettings, word: u32)
         requires { IsReading self.old.phase }
         ensures { self.new ≡ random_turn T.kind settings.now word self.old }
     {
         put_random(settings, word, &mut self.header);
-        let (phase, sinks) = read(settings, &mut self.header);
-        self.phase = phase;
+        let (stage, sinks) = read(settings, &mut self.header);
+        self.stage.set(stage);
         self.sunk = counted(self.sunk, sinks);
     }
 }
@@ -145,23 +146,22 @@ fn counted(count: u32, more: bool) -> u32
 }
 
 /// Where an input is after these tokens of a header, and whether it drops the packet.
-fn read<T: TokenKind>(settings: &Settings, header: &mut HeaderOf<T>) -> (Phase<()>, bool)
-    ensures phase { phase_of result.0 header.new ≡
+fn read<T: TokenKind>(settings: &PackedSettings, header: &mut HeaderOf<T>) -> (Stage, bool)
+    ensures phase { stage_phase result.0 header.new ≡
         (phase_after_header T.kind settings.now header.old).0 }
     ensures sinks { result.1 ≡ (phase_after_header T.kind settings.now header.old).1 }
-    ensures room { HasRoom (phase_of result.0 header.new) }
-    ensures unclaimed { streamed_output result.0 ≡ None }
+    ensures room { HasRoom (stage_phase result.0 header.new) }
 {
     if header.len() < settings.header_length() {
-        return (Phase::Head(()), false);
+        return (Stage::Head, false);
     }
-    match settings.table.select(header.value()) {
-        Select::Link(link) => (Phase::Want((), link), false),
+    match settings.select(header.value()) {
+        Select::Link(link) => (Stage::Want(link), false),
         Select::Discard => {
             header.clear();
-            (Phase::Head(()), false)
+            (Stage::Head, false)
         }
-        Select::Sink => (Phase::Sinking, true),
+        Select::Sink => (Stage::Sinking, true),
     }
 }
 
@@ -176,18 +176,18 @@ fn is_end(token: Token) -> bool
 }
 
 /// The random header that a word gives.
-fn put_random<T: TokenKind>(settings: &Settings, word: u32, header: &mut HeaderOf<T>)
+fn put_random<T: TokenKind>(settings: &PackedSettings, word: u32, header: &mut HeaderOf<T>)
     ensures { header.new ≡ random_header T.kind settings.now word }
 {
-    let past = if settings.random_range == 0 {
+    let past = if settings.random_range() == 0 {
         0
     } else {
-        word % settings.random_range
+        word % settings.random_range()
     };
-    let number = u64::from(settings.random_base) + u64::from(past);
+    let number = u64::from(settings.random_base()) + u64::from(past);
     header.clear();
     header.push(T::random(0, Token::Byte((number % 256) as u8)));
-    if settings.two_byte {
+    if settings.two_byte() {
         header.push(T::random(1, Token::Byte((number / 256 % 256) as u8)));
     }
 }

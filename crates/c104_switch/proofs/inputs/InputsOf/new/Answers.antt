@@ -1,10 +1,11 @@
-use Rattle.std.proofs.Common.{◌∙◌, ◌++◌, ◌∷◌, [], List, ap, replicate, sym, subst}
+use Rattle.std.proofs.Common.{◌∙◌, ◌++◌, ◌∷◌, [], List, ap, arith, replicate, sym, subst}
 use Rattle.std.proofs.lemmas.Grind.{replicate_next}
 use Rattle.c104_crossbar.specs.Marks.{ArePartition}
 use Rattle.c104_switch.specs.Switch.{Input, new_input}
 use Rattle.c104_switch.specs.Holding.{held_claims}
 use Rattle.c104_switch.specs.Readiness.{AreKept}
 use Rattle.c104_switch.proofs.HeldClaims.{held_first}
+use Rattle.c104_switch.proofs.OwnersKept.{few_first, owners_none}
 use Rattle.c104_switch.proofs.inputs.InputsOf.new.Goals as goal
 
 -- one more input was made
@@ -21,4 +22,6 @@ pub invariant_of-result : goal.invariant_of-result
 invariant_of-result g c = (
   subst (λ claims. ArePartition claims c.new-2.result) (sym (ap held_claims c.loop.invariant ∙ held_first g.row.T.Denot c.loop.counter c.args.cap)) c.new-2.ensures.partition,
   subst (λ (ps : List (Input g.row.T.Denot)). AreKept c.sets_of-sets.result ps) c.as_slice.ensures.value c.sets_of-sets.ensures,
+  owners_none _ (ap held_claims c.loop.invariant ∙ held_first g.row.T.Denot c.loop.counter c.args.cap),
+  few_first c.args.cap c.loop.counter _ (omega arith) c.loop.invariant,
 )

@@ -1,7 +1,9 @@
-use Rattle.std.proofs.Common.{true, false, [], ◌∷◌, sym, arith}
+use Rattle.std.proofs.Common.{true, false, [], ◌∷◌, None, slice_set, sym, subst, arith}
+use Rattle.c104_switch.specs.Owners.{AreOwners}
 use Rattle.c104_switch.proofs.HeldClaims.{claimed_not_free}
 use Rattle.c104_switch.proofs.HeldSteps.{partition_spent}
 use Rattle.c104_switch.proofs.KeptSets.{kept_set}
+use Rattle.c104_switch.proofs.OwnersKept.{few_set, owners_freed, owners_kept}
 use Rattle.c104_link.proofs.Lifts.{lift_beside}
 use Rattle.c104_switch.proofs.inputs.InputsOf.turn.Goals as goal
 
@@ -9,12 +11,16 @@ pub invariant_of-self-in-NotReady : goal.invariant_of-self-in-NotReady
 invariant_of-self-in-NotReady g c = (
   partition_spent c.self.inside.list.items c.args.link c.index_mut-input.result.now c.turn-turn.new.self (omega arith) c.index_mut-input.ensures.value [] c.self.inside.crossbar c.in-NotReady.ensures.claims c.self.invariant.0,
   kept_set c.self.inside.list.items c.args.link c.turn-turn.new.self c.self.inside.sets c.keep.new.self (omega arith) c.self.invariant.1 c.keep.ensures.here c.keep.ensures.others,
+  owners_kept c.self.inside.owners c.self.inside.list.items c.args.link c.index_mut-input.result.now c.turn-turn.new.self (omega arith) c.index_mut-input.ensures.value c.self.invariant.2 c.in-NotReady.ensures.claims,
+  few_set c.self.inside.list.items c.args.link c.turn-turn.new.self c.self.invariant.3,
 )
 
 pub invariant_of-self-in-Done : goal.invariant_of-self-in-Done
 invariant_of-self-in-Done g c = (
   partition_spent c.self.inside.list.items c.args.link c.index_mut-input.result.now c.turn-turn.new.self (omega arith) c.index_mut-input.ensures.value [] c.self.inside.crossbar c.in-Done.ensures.claims c.self.invariant.0,
   kept_set c.self.inside.list.items c.args.link c.turn-turn.new.self c.self.inside.sets c.keep.new.self (omega arith) c.self.invariant.1 c.keep.ensures.here c.keep.ensures.others,
+  owners_kept c.self.inside.owners c.self.inside.list.items c.args.link c.index_mut-input.result.now c.turn-turn.new.self (omega arith) c.index_mut-input.ensures.value c.self.invariant.2 c.in-Done.ensures.claims,
+  few_set c.self.inside.list.items c.args.link c.turn-turn.new.self c.self.invariant.3,
 )
 
 pub release-requires : goal.release-requires
@@ -24,6 +30,10 @@ pub invariant_of-self-in-Freed : goal.invariant_of-self-in-Freed
 invariant_of-self-in-Freed g c = (
   c.release.ensures.partition _ (partition_spent c.self.inside.list.items c.args.link c.index_mut-input.result.now c.turn-turn.new.self (omega arith) c.index_mut-input.ensures.value (c.in-Freed.claim ∷ []) c.self.inside.crossbar c.in-Freed.ensures.claims c.self.invariant.0),
   kept_set c.self.inside.list.items c.args.link c.turn-turn.new.self c.self.inside.sets c.keep.new.self (omega arith) c.self.invariant.1 c.keep.ensures.here c.keep.ensures.others,
+  subst (λ k. AreOwners (slice_set c.self.inside.owners k None) (slice_set c.self.inside.list.items c.args.link c.turn-turn.new.self)) (sym c.output.ensures.value)
+      (owners_freed c.self.inside.owners c.self.inside.list.items c.args.link c.index_mut-input.result.now c.turn-turn.new.self (omega arith) c.index_mut-input.ensures.value c.self.invariant.2 c.in-Freed.claim c.self.inside.crossbar c.in-Freed.ensures.claims
+      (partition_spent c.self.inside.list.items c.args.link c.index_mut-input.result.now c.turn-turn.new.self (omega arith) c.index_mut-input.ensures.value (c.in-Freed.claim ∷ []) c.self.inside.crossbar c.in-Freed.ensures.claims c.self.invariant.0)),
+  few_set c.self.inside.list.items c.args.link c.turn-turn.new.self c.self.invariant.3,
 )
 
 pub returns-in-NotReady : goal.returns-in-NotReady

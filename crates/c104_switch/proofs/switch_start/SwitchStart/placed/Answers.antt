@@ -1,16 +1,11 @@
 use Rattle.std.proofs.Common.{◌≡◌, ◌∙◌, length, ap, subst, sym}
-use Rattle.c104_regs.proofs.PlacedRegisters.{all_in_range}
 use Rattle.c104_regs.specs.Registers.{RegisterBank}
 use Rattle.c104_switch.specs.Starts.{IsSwitchStart}
 use Rattle.c104_switch.proofs.StartLinks.{new_kept}
 use Rattle.c104_switch.proofs.switch_start.SwitchStart.placed.Goals as goal
 
-pub placed-requires-clause-ranges : goal.placed-requires-clause-ranges
-placed-requires-clause-ranges c = rw c.all_settings.ensures.settings (all_in_range c.args.registers.now c.all_settings.ensures.kept)
-
 pub invariant_of-result : goal.invariant_of-result
 invariant_of-result c =
     let bank : RegisterBank = c.in_ok-registers.registers.value in
-    let all : length c.all_settings.result.now ≡ 32 = rw c.all_settings.ensures.settings (c.all_settings.ensures.kept.links) in
-    let links : length bank.settings ≡ 32 = ap (λ (b : RegisterBank). length b.settings) (c.in_ok-registers.ensures.ok ∙ c.placed.ensures) ∙ all in
+    let links : length bank.settings ≡ 32 = ap (λ (b : RegisterBank). length b.settings) (c.in_ok-registers.ensures.ok ∙ c.placed_again.ensures.placed) ∙ c.placed_again.ensures.kept.links in
     (subst (λ ls. IsSwitchStart (record { started = bank.started; settings = bank.settings; links = ls })) (sym c.in_ok-links.ensures.links) (new_kept c.args.cap bank.settings bank.started c.requires links), c.in_ok-links.ensures.room)
