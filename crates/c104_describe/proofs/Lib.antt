@@ -57,3 +57,13 @@ pub mod SwitchImageSteps
 pub mod ImageSteps
 pub mod ImageMade
 pub mod LabelledSettings
+-- the plan by hand that has an image
+pub mod SameSettings
+pub mod RowPlanSteps
+pub mod RowPlanKept
+pub mod PortLines
+pub mod RowNumbers
+pub mod ImageLines
+pub mod DeleteLines
+pub mod RowPlanBack
+pub mod Sayable

@@ -20,5 +20,6 @@ pub mod PlanImage
 pub mod ImageFaults
 pub mod ImageEdits
 pub mod LabelledImages
+pub mod RowPlans
 pub mod SwitchImages
 pub mod PlanPrint

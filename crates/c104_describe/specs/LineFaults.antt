@@ -60,7 +60,7 @@ names_port plan test word = option_map_or test (named_port plan word) false
 abbrev pub row_count : Plan → List ℕ → ℕ
 row_count plan word = option_map_or (λ p. length (rows_of p plan.rows)) (named_port plan word) 0
 
--- a number of at least and at most so much
+-- whether a number lies between two others, both included
 abbrev pub is_from_to : ℕ → ℕ → ℕ → Bool
 is_from_to least most value = nat_le least value && nat_le value most
 

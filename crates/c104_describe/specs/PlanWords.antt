@@ -35,7 +35,7 @@ keywords =
 abbrev pub keyword_of : List ℕ → Option Keyword
 keyword_of word = lookup (λ known. bytes_eq known word) keywords
 
--- a number of at least and at most so much
+-- a number between two others, both included
 abbrev pub number_within : ℕ → ℕ → List ℕ → Result ℕ PlanFaultKind
 number_within least most word = do
   value ← value_or_fault (read_number word) BadNumber

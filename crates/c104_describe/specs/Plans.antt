@@ -118,7 +118,7 @@ label_count = LABELS
 abbrev pub last_link : ℕ
 last_link = LINKS - 1
 
--- whether a buffer may have room for so many tokens: 8, 16, .. 64
+-- whether a buffer may have room for n tokens: 8, 16, .. 64
 abbrev pub is_buffer_size : ℕ → Bool
 is_buffer_size n = (n % 8 == 0) && (nat_le 8 n && nat_le n 64)
 
@@ -137,18 +137,18 @@ pub record AreNames (names : List (List ℕ)) : Type 0 where
   pub named : All (λ name. IsTrue (is_name name)) names
   pub differ : AreDistinct bytes_eq names
 
--- terminals of a network of so many switches
+-- terminals of a network of a given number of switches
 pub record AreTerminals (switches : ℕ) (terminals : List Terminal) : Type 0 where
   pub few : length terminals ≤ most_terminals
   pub on_switches : All (λ (t : Terminal). IsSwitchPort switches (host_port t)) terminals
   pub ranges : All (λ (t : Terminal). IsRange t.first t.count) terminals
 
--- a wire between links of two of so many switches
+-- a wire between links of two of a given number of switches
 abbrev pub IsPlanWire : ℕ → Wire → Type 0
 IsPlanWire switches w =
     IsSwitchPort switches w.here × IsSwitchPort switches w.there × AreApart w.here w.there
 
--- a link of one of so many switches, and not its first
+-- a link of one of a given number of switches, and not its first
 abbrev pub IsLaterPort : ℕ → Port → Type 0
 IsLaterPort switches (port.Switch s l) = (s < switches) × (0 < l) × (l < LINKS)
 IsLaterPort switches (port.Terminal t) = ⊥
@@ -158,7 +158,7 @@ pub record AreContinues (switches : ℕ) (continues : List Port) : Type 0 where
   pub later : All (IsLaterPort switches) continues
   pub once : AreOncePerPort (λ p. p) continues
 
--- some of so many terminals
+-- some of a given number of terminals
 pub record AreDeletes (terminals : ℕ) (deletes : List ℕ) : Type 0 where
   pub known : All (λ terminal. terminal < terminals) deletes
   pub once : AreDistinct (λ t u. t == u) deletes

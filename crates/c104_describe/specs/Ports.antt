@@ -46,7 +46,7 @@ is_any_at port_of xs p = list_any (λ x. is_port (port_of x) p) xs
 abbrev pub AreOncePerPort : {X : Type 0} → (X → Port) → List X → Type 0
 AreOncePerPort port_of xs = AreDistinct is_port (map port_of xs)
 
--- a link of one of so many switches
+-- a link of one of a given number of switches
 abbrev pub IsSwitchPort : ℕ → Port → Type 0
 IsSwitchPort switches (port.Switch s l) = (s < switches) × (l < LINKS)
 IsSwitchPort switches (port.Terminal t) = ⊥

@@ -69,7 +69,7 @@ pub(crate) fn set_cube(
     Ok(())
 }
 
-/// So many switches, each of which has so many terminals on the links from this one on, and the wires.
+/// `switches` switches, each with `terminals` terminals on its links from `links` on, and the wires.
 fn filled_network(
     alloc: Global,
     wires: Vec<Wire>,
@@ -97,7 +97,7 @@ fn filled_network(
     })
 }
 
-/// So many switches.
+/// `count` switches.
 fn filled_switches(alloc: Global, count: usize) -> Result<SwitchList, NoMemory>
     requires { count ≤ most_switches }
     ensures { IfOk result (λ list. list ≡ map filled_name (range_with_len 0 count)) }
@@ -110,7 +110,7 @@ fn filled_switches(alloc: Global, count: usize) -> Result<SwitchList, NoMemory>
     Ok(switches)
 }
 
-/// So many terminals, each switch having so many of them, on the links from the first one on.
+/// `count` terminals, `terminals` of them on each switch, on its links from `links` on.
 fn filled_terminals(
     alloc: Global,
     links: usize,
@@ -154,7 +154,7 @@ fn filled_terminal(
     })
 }
 
-/// The wires of a mesh of so many columns and rows.
+/// The wires of a mesh of `width` columns and `height` rows.
 fn mesh_wires(alloc: Global, width: usize, height: usize) -> Result<Vec<Wire>, AllocError>
     requires wide { 0 < width }
     requires few { width * height ≤ most_switches }
@@ -202,7 +202,7 @@ fn port_below(width: usize, height: usize, switch: usize) -> Option<Port>
     }
 }
 
-/// The wires of a cube of so many dimensions.
+/// The wires of a cube of `dimensions` dimensions.
 fn cube_wires(alloc: Global, dimensions: usize) -> Result<Vec<Wire>, AllocError>
     requires { dimensions ≤ 6 }
     ensures { IfOk result (λ wires. wires.items ≡ filled_wires (cube dimensions)) }

@@ -13,7 +13,7 @@ ghost use Rattle.c104_describe.specs.declared.image_faults.ImageFault.TheVariant
 use crate::image_faults::ImageFault;
 use crate::plans::Plan;
 use crate::switch_image::SwitchImage;
-use c104_regs::Settings;
+use c104_regs::PackedSettings;
 use c104_token::NoMemory;
 use std::alloc::{AllocError, Global};
 use std::marker::Model;
@@ -124,7 +124,7 @@ impl Image {
     }
 
     /// What is set at each of a switch's 32 links. None where the image has no such switch.
-    pub fn settings(&self, switch: usize) -> Option<&[Settings]>
+    pub fn settings(&self, switch: usize) -> Option<&[PackedSettings]>
         ensures settings { option_copied result ≡ slice_get self.now.settings switch }
         ensures all { IfSome result (λ settings. AreSettings settings.now) }
     {

@@ -37,6 +37,8 @@ mod plans;
 mod ports;
 mod print;
 mod row_list;
+mod row_plan;
+mod same_image;
 mod switch_image;
 mod switch_list;
 mod terminal_list;

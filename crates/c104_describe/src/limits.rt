@@ -15,7 +15,7 @@ pub(crate) const MAX_HEADER_BYTES: u32 = 2;
 /// has.
 pub(crate) const LABELS: u32 = 0x10000;
 
-/// Whether a buffer may have room for so many tokens.
+/// Whether a buffer may have room for `size` tokens.
 pub(crate) fn is_buffer_size(size: u32) -> bool
     ensures { result ≡ is_buffer_size size }
 {

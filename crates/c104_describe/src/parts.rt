@@ -100,7 +100,7 @@ impl Parts {
     }
 
     /// A copy of what the plan joins.
-    fn copy_network(&self) -> Result<Network, AllocError>
+    pub(crate) fn copy_network(&self) -> Result<Network, AllocError>
         ensures switches { IfOk result (λ copy. copy.switches ≡ self.now.switches) }
         ensures terminals { IfOk result (λ copy. copy.terminals ≡ self.now.terminals) }
         ensures wires { IfOk result (λ copy. copy.wires.items ≡ self.now.wires.items) }

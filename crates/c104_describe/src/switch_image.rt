@@ -7,7 +7,7 @@ ghost use Rattle.c104_describe.specs.ImageEdits.{AnswersDue, settings_set};
 ghost use Rattle.c104_describe.specs.SwitchImages.{led_by};
 
 use crate::image_faults::ImageFault;
-use c104_regs::{Registers, Settings};
+use c104_regs::{PackedSettings, Registers, Settings};
 use std::alloc::{AllocError, Global};
 use std::fmt::{self, Debug, Formatter, Write};
 use std::marker::Model;
@@ -69,7 +69,7 @@ impl SwitchImage {
     }
 
     /// What is set at each of the switch's 32 links.
-    pub fn settings(&self) -> &[Settings]
+    pub fn settings(&self) -> &[PackedSettings]
         ensures settings { result.now ≡ self.now }
         ensures all { AreSettings self.now }
     {

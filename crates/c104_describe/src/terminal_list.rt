@@ -1,8 +1,9 @@
 //! The terminals of a plan.
-ghost use Rattle.std.specs.Prelude.{◌≡◌, ◌<◌, [], ◌∷◌, ◌++◌, false, bytes_eq, length, map, position, IfOk, IfSome, OnErr, OnOk};
+ghost use Rattle.std.specs.Prelude.{◌≡◌, ◌<◌, ◌≤◌, Some, slice_get, slice_set, [], ◌∷◌, ◌++◌, false, bytes_eq, length, map, position, IfOk, IfSome, OnErr, OnOk};
 ghost use Rattle.std.specs.List.{list_any};
 ghost use Rattle.c104_describe.specs.PlanDrafts.{without_first};
 ghost use Rattle.c104_describe.specs.Plans.{Terminal as TheTerminal};
+ghost use Rattle.c104_describe.specs.RowPlans.{with_ranges};
 
 use crate::name_index::NameIndex;
 use crate::plans::Terminal;
@@ -65,6 +66,14 @@ impl TerminalList {
         forget_firsts(&mut self.list);
     }
 
+    /// The terminals have these ranges, as far as there are ranges.
+    pub(crate) fn set_ranges(&mut self, ranges: &[(u32, u32)])
+        requires { length ranges.now ≤ length self.old }
+        ensures { self.new ≡ with_ranges ranges.now self.old }
+    {
+        set_ranges(&mut self.list, ranges);
+    }
+
     /// The terminals, by number.
     pub(crate) fn as_slice(&self) -> &[Terminal]
         ensures { result.now ≡ self.now }
@@ -112,4 +121,25 @@ fn forget_firsts(terminals: &mut Vec<Terminal>)
     for terminal in terminals.iter_mut() {
         terminal.first = 0;
     }
+}
+
+/// These terminals have these ranges, as far as there are ranges.
+fn set_ranges(terminals: &mut Vec<Terminal>, ranges: &[(u32, u32)])
+    requires { length ranges.now ≤ length terminals.old.items }
+    ensures { terminals.new.items ≡ with_ranges ranges.now terminals.old.items }
+{
+    for (number, range) in ranges.iter().enumerate() {
+        set_range(terminals, number, *range);
+    }
+}
+
+/// The terminal of this number has this range.
+fn set_range(terminals: &mut Vec<Terminal>, number: usize, range: (u32, u32))
+    requires { number < length terminals.old.items }
+    ensures { (t : TheTerminal) → slice_get terminals.old.items number ≡ Some t →
+        terminals.new.items ≡ slice_set terminals.old.items number (record t { first = range.0; count = range.1 }) }
+{
+    let terminal = &mut terminals[number];
+    terminal.first = range.0;
+    terminal.count = range.1;
 }

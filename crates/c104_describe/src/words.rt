@@ -68,7 +68,7 @@ fn keyword_among(known: &[(&[u8], Keyword)], word: &[u8]) -> Option<Keyword>
     None
 }
 
-/// A number of at least and at most so much, or BadNumber.
+/// A number from `least` to `most`, both included, or BadNumber.
 pub(crate) fn read_number_within(least: u32, most: u32, word: &[u8]) -> Result<u32, PlanFaultKind>
     ensures number { result ≡ number_within least most word.now }
     ensures range { IfOk result (λ value. (least ≤ value) × (value ≤ most)) }
