@@ -21,11 +21,13 @@ pub mod PeerLemmas
 pub mod WalkKindLemmas
 pub mod MendLemmas
 pub mod MisstepLemmas
+pub mod FirstWalkLemmas
 pub mod DistanceLemmas
 pub mod ReachLemmas
 pub mod OwnStarts
 pub mod Homeless
 pub mod PartLemmas
+pub mod ToldWalks
 pub mod OwnerLemmas
 pub mod AcyclicLemmas
 pub mod DependencyLemmas

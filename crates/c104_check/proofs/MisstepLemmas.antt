@@ -108,7 +108,7 @@ module _ (routes : Routes) (net : IsNetwork routes) (shown : Shown) where
       stray_wrong p (behind [] [] shown.walk p is) here (subst (λ w. NoStepFrom routes shown (followers_of w) None) same none) (select routes p.switch p.link H) refl
   shown_wrong why p here (Some t) (more, is, refused) none = walk_wrong (Owner t) why (p ∷ []) [] p more is here refused none
 
-  shown_walk : (why : WalkFault) (p : SwitchPort) (o : Option ℕ) → IsShown routes H p o why shown.walk → WalkBeginsAt shown p
+  pub shown_walk : (why : WalkFault) (p : SwitchPort) (o : Option ℕ) → IsShown routes H p o why shown.walk → WalkBeginsAt shown p
   shown_walk why p None (drops, same, is) = ap (λ (xs : List SwitchPort). slice_get xs 0) is
   shown_walk why p (Some t) (more, is, refused) = ap (λ (xs : List SwitchPort). slice_get xs 0) is
 

@@ -107,6 +107,10 @@ large_of routes xs t count d b are at many is = (
 Some-same : (x y : Settings) → Some x ≡ Some y → x ≡ y
 Some-same x y is = cc
 
+-- what an index gives stands there, whatever is read past the end
+pub settings_at_index : (inner : List Settings) (l : ℕ) (x : Settings) → l < length inner → x ≡ slice_index_or inner l x → slice_index_or inner l no_settings ≡ x
+settings_at_index inner l x inside is = Some-same (slice_index_or inner l no_settings) x (sym (slice_get-get_or inner l no_settings inside) ∙ slice_get_read inner (length inner) l x refl inside is)
+
 pub deletes_is : (routes : Routes) (p q : SwitchPort) (x : Settings) → routes.peer (to_port p) ≡ Some (to_port q) → link_settings routes.settings p ≡ Some x → IsTrue x.delete_header ↔ DeletesInside routes p
 deletes_is routes p q x wired set = (
   (λ holds. (q, x, wired, set, holds)),

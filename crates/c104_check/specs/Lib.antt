@@ -20,3 +20,4 @@ pub mod Dependencies
 pub mod Edges
 pub mod Cycles
 pub mod Met
+pub mod FirstWalks

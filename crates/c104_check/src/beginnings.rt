@@ -59,7 +59,7 @@ impl<'a> Routes<'a> {
         ensures { OnOk result (AreOwnStarts (routes_in self.now) starts.new.items (terminal + 1)) }
     {
         let entry = self.entry(terminal);
-        if self.settings(entry).randomize {
+        if self.settings(entry).randomize() {
             return self.add_found(alloc, breaks, terminal, entry, starts);
         }
         starts.push(Start {

@@ -69,12 +69,12 @@ impl<'a> Routes<'a> {
         ensures { AddsMarks marks.old marks.new (BoundsRandomAt (routes_in self.now) at) }
     {
         let settings = self.settings(at);
-        if settings.randomize {
+        if settings.randomize() {
             let count = self.header_count();
-            mark(marks, u64::from(settings.random_base % count));
+            mark(marks, u64::from(settings.random_base() % count));
             mark(
                 marks,
-                (u64::from(settings.random_base) + u64::from(random_count(settings)))
+                (u64::from(settings.random_base()) + u64::from(random_count(settings)))
                     % u64::from(count),
             );
         }
@@ -94,9 +94,9 @@ impl<'a> Routes<'a> {
         if self.peer(at).is_none() {
             return Ok(());
         }
-        let table = &self.settings(at).table;
+        let table = self.settings(at).table();
         let segments = table.segments(alloc, self.header_count())?;
-        mark_among(marks, table, segments.as_slice());
+        mark_among(marks, &table, segments.as_slice());
         Ok(())
     }
 

@@ -102,7 +102,7 @@ impl<'a> Routes<'a> {
         requires { IsInput (length (routes_in self.now).settings) at }
         ensures { IsTrue result ↔ IsRandomized (routes_in self.now) at }
     {
-        self.settings(at).randomize
+        self.settings(at).randomize()
     }
 
     /// Whether random headers are put before packets at a link which isn't a terminal's.
@@ -112,7 +112,7 @@ impl<'a> Routes<'a> {
     {
         match self.peer(at) {
             Some(Port::Terminal(_)) => false,
-            _ => self.settings(at).randomize,
+            _ => self.settings(at).randomize(),
         }
     }
 
@@ -130,7 +130,7 @@ impl<'a> Routes<'a> {
         ensures { IsTrue result ↔ DeletesInside (routes_in self.now) at }
     {
         match self.peer(at) {
-            Some(Port::Switch(_, _)) => self.settings(at).delete_header,
+            Some(Port::Switch(_, _)) => self.settings(at).delete_header(),
             _ => false,
         }
     }

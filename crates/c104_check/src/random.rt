@@ -5,7 +5,7 @@ ghost use Rattle.c104_check.specs.Routes.{random_count};
 
 use crate::ports::SwitchPort;
 use crate::routes::Routes;
-use c104_regs::Settings;
+use c104_regs::PackedSettings;
 
 impl<'a> Routes<'a> {
     ghost use Rattle.std.specs.Prelude.{◌≡◌, ◌↔◌, ◌<◌, length, IsTrue};
@@ -40,22 +40,22 @@ impl<'a> Routes<'a> {
 
 /// Whether a header is a random one by what is set at a link, where there are this many headers: how far it is
 /// above the base, counted round, is below how many there are.
-fn is_random(count: u32, settings: &Settings, header: u32) -> bool
+fn is_random(count: u32, settings: &PackedSettings, header: u32) -> bool
     requires some { 0 < count }
     requires few { count < 65537 }
     requires below { header < count }
     ensures { result ≡ is_random count settings.now header }
 {
-    let first = settings.random_base % count;
-    settings.randomize && (header + count - first) % count < random_count(settings)
+    let first = settings.random_base() % count;
+    settings.randomize() && (header + count - first) % count < random_count(settings)
 }
 
 /// How many random headers a link may put before packets.
-pub(crate) fn random_count(settings: &Settings) -> u32
+pub(crate) fn random_count(settings: &PackedSettings) -> u32
     ensures { result ≡ random_count settings.now }
 {
-    if settings.random_range > 0 {
-        settings.random_range
+    if settings.random_range() > 0 {
+        settings.random_range()
     } else {
         1
     }

@@ -102,7 +102,7 @@ impl<'a> Routes<'a> {
             → CoverPortals (routes_in self.now) starts.new.items portals.new.items) }
     {
         let entry = self.entry(terminal);
-        if !self.settings(entry).randomize {
+        if !self.settings(entry).randomize() {
             starts.push(Start {
                 terminal,
                 at: entry,

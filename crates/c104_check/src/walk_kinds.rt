@@ -63,7 +63,7 @@ impl<'a> Routes<'a> {
             return Ok(WalkKind::Own);
         }
         let entry = self.entry(shown.entry);
-        if !self.settings(entry).randomize {
+        if !self.settings(entry).randomize() {
             return Ok(WalkKind::Own);
         }
         let first = walk[0];

@@ -6,20 +6,20 @@ use Rattle.c104_check.specs.Trails.{routes_in}
 use Rattle.c104_check.proofs.StartLemmas.{first_random_of, plain_covers, plain_of, plain_starts, portals_front}
 use Rattle.c104_check.proofs.routes.Routes.add_terminal.Goals as goal
 
-pub returns-then-not-settings-clause-starts : goal.returns-then-not-settings-clause-starts
-returns-then-not-settings-clause-starts c =
+pub returns-then-not-randomize-clause-starts : goal.returns-then-not-randomize-clause-starts
+returns-then-not-randomize-clause-starts c =
     let routes = routes_in c.args.self.now in
-    let plain = plain_of routes c.entry-entry.result c.settings.result.now c.settings.ensures.settings c.if-not-settings.true in
+    let plain = plain_of routes c.entry-entry.result c.settings.result.now c.settings.ensures.settings (sym c.randomize.ensures ∙ c.if-not-randomize.true) in
     subst (AreStarts routes) (sym c.in_ok-push.ensures.items) (plain_starts routes c.requires.network c.args.starts.now.items c.args.terminal c.entry-entry.result c.entry-entry.ensures.entry c.entry-entry.ensures.input plain c.requires.starts c.requires.covers)
 
-pub returns-then-not-settings-clause-covers : goal.returns-then-not-settings-clause-covers
-returns-then-not-settings-clause-covers c =
+pub returns-then-not-randomize-clause-covers : goal.returns-then-not-randomize-clause-covers
+returns-then-not-randomize-clause-covers c =
     let routes = routes_in c.args.self.now in
-    let plain = plain_of routes c.entry-entry.result c.settings.result.now c.settings.ensures.settings c.if-not-settings.true in
+    let plain = plain_of routes c.entry-entry.result c.settings.result.now c.settings.ensures.settings (sym c.randomize.ensures ∙ c.if-not-randomize.true) in
     subst (λ (xs : List Start). CoverTerminals routes xs (c.args.terminal + 1)) (sym c.in_ok-push.ensures.items) (plain_covers routes c.requires.network c.args.starts.now.items c.args.terminal c.entry-entry.result c.entry-entry.ensures.entry c.entry-entry.ensures.input plain c.requires.starts c.requires.covers)
 
-pub returns-then-not-settings-clause-portals : goal.returns-then-not-settings-clause-portals
-returns-then-not-settings-clause-portals c = λ none.
+pub returns-then-not-randomize-clause-portals : goal.returns-then-not-randomize-clause-portals
+returns-then-not-randomize-clause-portals c = λ none.
     let routes = routes_in c.args.self.now in
     subst (λ (xs : List Start). CoverPortals routes xs c.args.portals.now.items) (sym c.in_ok-push.ensures.items) (portals_front routes c.args.starts.now.items (record { terminal = c.args.terminal; at = c.entry-entry.result; behind = false }) c.args.portals.now.items c.requires.portals)
 
