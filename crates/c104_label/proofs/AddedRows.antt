@@ -24,7 +24,7 @@ pub mapped_last : (f : ℕ → Row) (n count : ℕ) → map f (range_with_len n 
 mapped_last f n zero = let e : n ≡ n + 0 = omega arith in ap (λ i. f i ∷ []) e
 mapped_last f n (suc count) = let e : n + 1 + count ≡ n + suc count = omega arith in ap (λ rows. f n ∷ rows) (mapped_last f (n + 1) count ∙ ap (λ i. map f (range_with_len (n + 1) count) ++ f i ∷ []) e)
 
--- some rows, and so many more of a kind
+-- some rows, and n more of a kind
 unfoldable pub rows_so_far : List Row → (ℕ → Row) → ℕ → List Row
 rows_so_far front f n = kept_rows (front ++ map f (range_with_len 0 n))
 
@@ -36,7 +36,7 @@ so_far_next front f n =
     added (front ++ map f (range_with_len 0 n)) (f n)
     ∙ ap kept_rows (append_assoc front (map f (range_with_len 0 n)) (f n ∷ []) ∙ ap (λ rows. front ++ rows) (ap (λ i. map f (range_with_len 0 n) ++ f i ∷ []) (sym last) ∙ sym (mapped_last f 0 n) ∙ ap (λ i. map f (range_with_len 0 i)) next))
 
--- so many rows of a kind, where none of the next kind was added yet
+-- n rows of a kind, where none of the next kind has been added yet
 append_none : (rows : List Row) → rows ++ [] ≡ rows
 append_none [] = refl
 append_none (r ∷ rows) = ap (λ xs. r ∷ xs) (append_none rows)

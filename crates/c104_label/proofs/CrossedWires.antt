@@ -14,7 +14,7 @@ over_arrives routes h t n step None is = is
 over_arrives routes h t n step (Some (port.Terminal u)) is = absurd is
 over_arrives routes h t n step (Some (port.Switch s i)) is = step s i is
 
--- what crosses so many wires leads there over one more switch
+-- what crosses n wires leads there over one more switch
 pub crosses_leads : (routes : Routes) (h t n s i : ℕ) → Crosses routes h t n s i → Leads routes h t (suc n) s i
 crosses_leads routes h t zero s i (g, at, all) = (g, at, λ o is. subst (Arrives (Leads routes h t zero) t) (sym (all o is)) refl)
 crosses_leads routes h t (suc n) s i (g, at, all) = (g, at, λ o is. over_arrives routes h t n (crosses_leads routes h t n) (routes.peer (port.Switch s o)) (all o is))

@@ -45,7 +45,7 @@ group_alone continue g o none = elim (cases_Bool (nat_le g o)) [
 
 -- Headers
 
--- there are at least so many, of whatever length
+-- there are at least 256, whatever their length
 pub headers_many : (routes : Routes) → 256 ≤ header_count routes
 headers_many routes = many (nat_lt 1 routes.header)
   where

@@ -87,7 +87,7 @@ own_piece base links i (suc n) from to a b =
 pub own_is : (first_link p s : ℕ) → IsPiece (s * p) (s * p + p) (own_rows first_link p s) (λ h. Link (first_link + (h - s * p)))
 own_is first_link p s = own_piece (s * p) first_link 0 p (s * p) (s * p + p) (omega arith) (omega arith)
 
--- what a label selects at switch s, where there are so many labels, pick is the link by the number of the
+-- what a label selects at switch s, where labels is how many there are, pick is the link by the number of the
 -- owner and by the link that is the terminal's at the owner, and own links begin at first_link
 abbrev pub picked : ℕ → ℕ → ℕ → (ℕ → ℕ → ℕ → ℕ) → ℕ → ℕ → Select
 picked labels first_link terminals pick s label =

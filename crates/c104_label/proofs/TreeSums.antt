@@ -17,7 +17,7 @@ use Rattle.c104_label.proofs.ForestLemmas.{met_first, met_right}
 use Rattle.c104_label.proofs.TreePlaces.{false_by, grown_new, unmet_left, unmet_one, unmet_right}
 use Rattle.c104_label.proofs.TreeSelections.{terminal_at}
 
--- sums of a function of the first so many numbers
+-- sums of a function of the first n numbers
 
 abbrev total : (ℕ → ℕ) → ℕ → ℕ
 total f zero = 0

@@ -40,8 +40,8 @@ abbrev pub cube_distance : ℕ → ℕ → ℕ → ℕ
 cube_distance zero x u = 0
 cube_distance (suc k) x u = if bit x k == bit u k then cube_distance k x u else suc (cube_distance k x u)
 
--- from the input of each of so many terminals, of which each switch has p, each label comes to its terminal over
--- as many wires as the two switches are apart
+-- from the input of each terminal each label, of a given number of them, comes to its terminal over as many wires as
+-- the two switches are apart; each switch has p terminals
 abbrev pub AllCross : Routes → ℕ → ℕ → (ℕ → ℕ → ℕ) → Type 0
 AllCross routes labels p distance =
     (t l : ℕ) (at : SwitchPort) → IsEntryOf routes t at → l < labels → Crosses routes l l (distance (owner p t) (owner p l)) at.switch at.link

@@ -52,7 +52,7 @@ Grown ends seen s ls (child l r b below rest) =
 abbrev pub IsDepthFirst : Ends → ℕ → Forest → Type 0
 IsDepthFirst ends root forest = Grown ends (root ∷ []) root links forest
 
--- so many wires lead from root to s
+-- a path of m wires leads from root to s
 abbrev pub Wired : Ends → ℕ → ℕ → ℕ → Type 0
 Wired ends root zero s = s ≡ root
 Wired ends root (suc m) s =

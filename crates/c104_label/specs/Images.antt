@@ -60,7 +60,7 @@ is_labelled_shape (Tree root) = true
 is_labelled_shape (Mesh width height terminals) = true
 is_labelled_shape (Cube dimensions terminals) = true
 
--- want of memory, of which nothing is said, and nothing else
+-- out of memory, and no other fault; nothing more is said of it
 abbrev pub IsNoMemory : LabelFault → Type 0
 IsNoMemory fault.NotConnected = ⊥
 IsNoMemory fault.TooManyLabels = ⊥

@@ -55,16 +55,16 @@ IsLinkRow r = selects r.select
     selects Discard = ⊥
     selects Sink = ⊥
 
--- rows of so many labels, from 0 on: in ascending order and without empty intervals, up to the last label, for
--- which a table has room
+-- rows of a given number of labels, from 0 on: in ascending order and without empty intervals, up to the last label,
+-- for which a table has room
 pub record AreLabelRows (labels : ℕ) (rows : List Row) : Type 0 where
   pub rising : AreRising 0 rows
   pub all : last_limit 0 rows ≡ labels
   pub links : AllByRecursion IsLinkRow rows
   pub few : length rows ≤ ROWS
 
--- the switch whose terminal has a label, where the terminals have one label each, and each switch so many
--- of them, switch by switch
+-- the switch whose terminal has a label, where each switch has the same number of terminals, and these have one
+-- label each, switch by switch
 abbrev pub owner : ℕ → ℕ → ℕ
 owner terminals label = label / terminals
 

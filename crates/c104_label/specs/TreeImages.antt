@@ -69,7 +69,7 @@ pub record IsTreeImage (plan : Plan) (root : ℕ) (forest : Forest) (image : Ima
   pub tables : AreTreeTables plan root forest
 
 -- why a plan isn't labelled as a tree from a root: wires don't lead to each switch; or they do, but there are more
--- labels than headers; or want of memory, of which nothing is said
+-- labels than headers; or memory ran out, of which nothing is said
 abbrev pub IsLabelCause : Plan → ℕ → LabelFault → Type 0
 IsLabelCause plan root fault.NotConnected = (s : ℕ) × (s < length plan.switches) × IsCutOff (ends_of plan) root s
 IsLabelCause plan root fault.TooManyLabels = IsConnected plan root × (most_labels plan < total_count plan.terminals)

@@ -43,7 +43,7 @@ labels_on net s (l ∷ ls) = labels_behind net.counts (net.ends s l) + labels_on
 unfoldable pub own_labels : Net → ℕ → ℕ
 own_labels net s = labels_on net s links
 
--- how many labels subtrees have, where the switches have so many of their own
+-- how many labels subtrees have, where own gives how many each switch has of its own
 abbrev pub forest_labels : (ℕ → ℕ) → Forest → ℕ
 forest_labels own empty = 0
 forest_labels own (child l r b below rest) = (own r + forest_labels own below) + forest_labels own rest

@@ -14,7 +14,7 @@ abbrev pub forest_of : kept.Forest → Forest
 forest_of Empty = empty
 forest_of (Child' link switch back p below q rest) = child link switch back (forest_of below) (forest_of rest)
 
--- why a plan has no tree of all its switches from a root: wires don't lead to one of them, or want of memory,
+-- why a plan has no tree of all its switches from a root: wires don't lead to one of them, or memory ran out,
 -- of which nothing is said
 abbrev pub IsTreeCause : Plan → ℕ → LabelFault → Type 0
 IsTreeCause plan root fault.NotConnected = (s : ℕ) × (s < length plan.switches) × IsCutOff (ends_of plan) root s

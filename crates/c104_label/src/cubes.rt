@@ -33,8 +33,8 @@ fn switch_count(dimensions: usize) -> usize
     1 << dimensions
 }
 
-/// The tables of a cube's switches, by number: a cube of so many dimensions, whose switches have so many
-/// terminals each.
+/// The tables of a cube's switches, by number: a cube of `dimensions` dimensions, whose switches have
+/// `terminals` terminals each.
 ///
 /// Labels go by the highest bit at which the number of the switch that they are for differs. The rows of
 /// a table are in ascending order, and none is of no label. The only error is out of memory.
@@ -56,9 +56,9 @@ pub fn cube_tables(
     Ok(tables)
 }
 
-/// The image of a plan whose switches are those of a cube of so many dimensions, with so many terminals each: at
-/// each port that has a wire the table of its switch, and all else as the plan's own lines say. The only error
-/// is out of memory.
+/// The image of a plan whose switches are those of a cube of `dimensions` dimensions, with `terminals` terminals
+/// each: at each port that has a wire the table of its switch, and all else as the plan's own lines say. The
+/// only error is out of memory.
 #[tactic(auto, using(crate::proofs::CubeTables::are_cube_tables))]
 pub(crate) fn cube_image(
     alloc: Global,

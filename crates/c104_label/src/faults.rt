@@ -16,7 +16,7 @@ pub enum LabelFault {
     /// There are more labels than headers: over 256, or 65536 where headers have two bytes.
     #[error("there are more labels than headers")]
     TooManyLabels,
-    /// The plan is not to be labelled so: its shape is another.
+    /// The plan isn't to be labelled this way: it has another shape.
     #[error("the network does not have the shape that is labelled so")]
     WrongShape,
     /// Out of memory.

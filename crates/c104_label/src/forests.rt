@@ -16,8 +16,8 @@ use std::alloc::{AllocError, Global};
 pub enum Forest {
     /// There is none.
     Empty,
-    /// Behind this link lies the switch of this number, the link of which back to here is given, with its own
-    /// subtrees, and then come the others.
+    /// This link leads to the switch of this number, whose link back to here comes next, then the subtrees
+    /// below that switch, and then the other subtrees here.
     Child(usize, usize, usize, Box<Forest>, Box<Forest>),
 }
 
@@ -111,7 +111,7 @@ fn unvisited(far: Option<Port>, seen: &Vec<usize>) -> Option<FarEnd>
     }
 }
 
-/// The first of so many switches that wasn't visited.
+/// The first of `switches` switches that wasn't visited.
 fn first_missing(seen: &Vec<usize>, switches: usize) -> Option<usize>
     ensures { MatchOption result ((s : ℕ) → s < switches → is_met seen.now.items s ≡ true)
         (λ missing. (missing < switches) × (is_met seen.now.items missing ≡ false)) }

@@ -23,9 +23,9 @@ use std::alloc::Global;
 /// shape, a tree, a mesh or a cube.
 ///
 /// A tree alone may be refused: NotConnected where wires don't lead from its root to each switch, then TooManyLabels
-/// where its terminals have more labels than there are headers. All may be NoMemory. The labels of a tree, a mesh
-/// and a cube need no check, and by them no inputs depend on one another in a cycle. No link puts random headers before
-/// packets where no line of the plan says so.
+/// where its terminals have more labels than there are headers. Any plan may fail with NoMemory. The labels of a tree,
+/// a mesh and a cube need no check, and by them no inputs depend on one another in a cycle. No link puts random headers
+/// before packets where no line of the plan says so.
 pub fn image_of(alloc: Global, plan: &Plan) -> Result<Image, LabelFault>
     ensures image { IfOk result (λ image. IsImageOf plan.now image) }
     ensures fits { IfOk result (λ image. Fits image plan.now) }

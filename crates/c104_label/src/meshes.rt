@@ -30,8 +30,8 @@ fn is_within(number: usize, last: usize) -> bool
     0 < number && number <= last
 }
 
-/// The tables of a mesh's switches, by number: a mesh of so many columns and rows, whose switches have
-/// so many terminals each.
+/// The tables of a mesh's switches, by number: a mesh of `width` columns and `height` rows, whose switches
+/// have `terminals` terminals each.
 ///
 /// Labels go along the column first, so that they come to the row of the switch that they are for, and
 /// then along the row. The rows of a table are in ascending order, and none is of no label. The only
@@ -55,9 +55,9 @@ pub fn mesh_tables(
     Ok(tables)
 }
 
-/// The image of a plan whose switches are those of a mesh of so many columns and rows, with so many terminals
-/// each: at each port that has a wire the table of its switch, and all else as the plan's own lines say. The
-/// only error is out of memory.
+/// The image of a plan whose switches are those of a mesh of `width` columns and `height` rows, with `terminals`
+/// terminals each: at each port that has a wire the table of its switch, and all else as the plan's own lines
+/// say. The only error is out of memory.
 #[tactic(auto, using(crate::proofs::MeshTables::are_mesh_tables))]
 pub(crate) fn mesh_image(
     alloc: Global,

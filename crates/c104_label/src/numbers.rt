@@ -47,7 +47,7 @@ pub(crate) fn labels_behind(plan: &Plan, switch: usize, link: usize) -> u32
     }
 }
 
-/// How many labels the terminals on the first so many links of a switch have.
+/// How many labels the terminals on the first `links` links of a switch have.
 pub(crate) fn labels_before(plan: &Plan, switch: usize, links: usize) -> u32
     requires { links ≤ LINK_COUNT }
     ensures value { result ≡ labels_on (net_of plan.now) switch (range_with_len 0 links) }

@@ -1,0 +1,23 @@
+-- The image of a plan's labels is that of its own lines, or, of a tree, a mesh or a cube, one with tables of labels.
+use Rattle.std.proofs.Common.{◌≡◌, ℕ, ◌*◌, ◌^◌, List, length, map}
+use Rattle.std.specs.List.{range_with_len}
+use Rattle.c104_interval.specs.declared.intervals.Table.{Table}
+use Rattle.c104_describe.specs.LabelledImages.{labelled_image}
+use Rattle.c104_describe.specs.PlanImage.{Image, hand_image, range_of}
+use Rattle.c104_describe.specs.Plans.{Plan}
+use Rattle.c104_describe.specs.declared.plans.Shape.{Shape}
+use Rattle.c104_describe.specs.declared.plans.Shape.TheVariants.{Hand, Tree, Mesh, Cube}
+use Rattle.c104_label.specs.CubeLabels.{cube_table}
+use Rattle.c104_label.specs.Images.{IsImageBy, IsImageOf}
+use Rattle.c104_label.specs.MeshLabels.{mesh_table}
+use Rattle.c104_label.specs.TreeLabels.{switch_table, tree_range}
+
+-- what holds of both
+pub by_own_or_labels : (plan : Plan) (image : Image) (P : Type 0) → IsImageOf plan image → (image ≡ hand_image plan → P) → ((ranges : List (ℕ × ℕ)) (tables : List Table) → image ≡ labelled_image plan ranges tables → P) → P
+by_own_or_labels plan image P is own labels = by_shape plan.shape is
+  where
+    by_shape : (shape : Shape) → IsImageBy shape plan image → P
+    by_shape Hand here = own here
+    by_shape (Tree root) here = labels (map (tree_range plan root here.0) plan.terminals) (map (switch_table plan root here.0) (range_with_len 0 (length plan.switches))) here.1.is
+    by_shape (Mesh width height terminals) here = labels (map range_of plan.terminals) (map (mesh_table width height terminals) (range_with_len 0 (width * height))) here.is
+    by_shape (Cube dimensions terminals) here = labels (map range_of plan.terminals) (map (cube_table dimensions terminals) (range_with_len 0 (2 ^ dimensions))) here.is
