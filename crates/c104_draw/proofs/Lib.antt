@@ -1,3 +1,4 @@
 pub mod ListLemmas
 pub mod EdgeLemmas
 pub mod BesideLemmas
+pub mod DotLemmas

@@ -1,5 +1,6 @@
-//! Where the nodes of a picture stand. Nothing is proved of it but that it is safe and ends.
-ghost use Rattle.std.specs.Prelude.{◌≤◌};
+//! Where the nodes of a picture stand. Of the places nothing is proved but that they are found safely.
+ghost use Rattle.std.specs.Prelude.{◌≡◌, ◌≤◌, IfOk, is_some, not};
+ghost use Rattle.c104_draw.specs.Frames.{IsFrameOf, cube_edge_text, cube_text, depth, edge_layout_text, grid_text, hangs, is_level, is_lower, layout_text};
 
 use c104_describe::{Plan, Port, Shape};
 use std::alloc::{AllocError, Global};
@@ -19,11 +20,11 @@ const CROWDED: &str = "  graph [layout=neato, inputscale=72, splines=line]
 /// How the nodes of a picture are placed.
 #[derive(Drop)]
 pub(crate) enum Frame {
-    /// The switches stand on a grid of so many columns and rows, each with so many terminals round it.
+    /// The switches stand on a grid. The numbers are its columns, its rows, and the terminals round each switch.
     Grid(usize, usize, usize),
-    /// The switches are the corners of a cube, each with so many terminals round it.
+    /// The switches are the corners of a cube. The number is how many terminals stand round each.
     Cube(usize),
-    /// The switches hang from one, each by so many wires, and the terminals hang from their switches.
+    /// The switches form a tree, in which each has a depth in wires, and the terminals stand below their switches.
     Hanging(Vec<usize>),
 }
 
@@ -84,7 +85,9 @@ const CORNERS: [(usize, usize); 6] = [
 impl Frame {
     /// The frame of a plan: its mesh's grid, its cube, or else its tree, which hangs from the root; a network of
     /// no tree hangs from its first switch.
-    pub(crate) fn of(alloc: Global, plan: &Plan) -> Result<Frame, AllocError> {
+    pub(crate) fn of(alloc: Global, plan: &Plan) -> Result<Frame, AllocError>
+        ensures { IfOk result (IsFrameOf plan.now.shape) }
+    {
         match plan.shape() {
             Shape::Mesh(columns, rows, terminals) => Ok(Frame::Grid(columns, rows, terminals)),
             Shape::Cube(_, terminals) => Ok(Frame::Cube(terminals)),
@@ -94,7 +97,9 @@ impl Frame {
     }
 
     /// Where a switch stands. None where Graphviz is to place it.
-    pub(crate) fn switch_place(&self, switch: usize) -> Option<Place> {
+    pub(crate) fn switch_place(&self, switch: usize) -> Option<Place>
+        ensures { is_some result ≡ not (hangs self.now) }
+    {
         match self {
             Frame::Grid(columns, rows, terminals) => {
                 Some(grid_corner(*columns, *rows, switch, grid_edge(*terminals)).moved(
@@ -113,7 +118,9 @@ impl Frame {
     }
 
     /// Where a terminal stands. None where Graphviz is to place it.
-    pub(crate) fn terminal_place(&self, terminal: usize) -> Option<Place> {
+    pub(crate) fn terminal_place(&self, terminal: usize) -> Option<Place>
+        ensures { is_some result ≡ not (hangs self.now) }
+    {
         match self {
             Frame::Grid(columns, rows, terminals) => {
                 let switch = terminal / (*terminals).max(1);
@@ -137,7 +144,9 @@ impl Frame {
     }
 
     /// Whether a port hangs lower than another. A terminal hangs lower than its switch.
-    pub(crate) fn is_lower(&self, port: Port, other: Port) -> bool {
+    pub(crate) fn is_lower(&self, port: Port, other: Port) -> bool
+        ensures { result ≡ is_lower self.now port other }
+    {
         match (port, other) {
             (Port::Terminal(_), _) => self.hangs(),
             (_, Port::Terminal(_)) => false,
@@ -146,28 +155,35 @@ impl Frame {
     }
 
     /// Whether two ports hang equally low.
-    fn is_level(&self, port: Port, other: Port) -> bool {
+    fn is_level(&self, port: Port, other: Port) -> bool
+        ensures { result ≡ is_level self.now port other }
+    {
         self.hangs() && !self.is_lower(port, other) && !self.is_lower(other, port)
     }
 
     /// What stands before the nodes for their layout.
-    pub(crate) fn layout(&self) -> &'static str {
+    pub(crate) fn layout(&self) -> &'static str
+        ensures { result.now ≡ layout_text self.now }
+    {
         match self {
-            Frame::Grid(_, _, 0..=8) => GRID,
-            Frame::Cube(0..=8) => CUBE,
-            Frame::Grid(_, _, _) => CROWDED,
-            Frame::Cube(_) => CROWDED,
+            Frame::Grid(_, _, terminals) => grid_text(*terminals <= 8),
+            Frame::Cube(terminals) => cube_text(*terminals <= 8),
             Frame::Hanging(_) => "",
         }
     }
 
     /// What an edge from a port to another has for its layout.
-    pub(crate) fn edge_layout(&self, port: Port, other: Port) -> &'static str {
-        match (self, port, other) {
-            (Frame::Cube(terminals), Port::Switch(_, link), Port::Switch(_, _)) => {
-                cube_edge_layout(*terminals, link)
-            }
-            _ => {
+    pub(crate) fn edge_layout(&self, port: Port, other: Port) -> &'static str
+        ensures { result.now ≡ edge_layout_text self.now port other }
+    {
+        match self {
+            Frame::Grid(_, _, _) => "",
+            Frame::Cube(terminals) => match (port, other) {
+                (Port::Switch(_, link), Port::Switch(_, _)) => cube_edge_text(*terminals, link),
+                (Port::Switch(_, _), Port::Terminal(_)) => "",
+                (Port::Terminal(_), _) => "",
+            },
+            Frame::Hanging(_) => {
                 if self.is_level(port, other) {
                     ", constraint=false"
                 } else {
@@ -178,15 +194,20 @@ impl Frame {
     }
 
     /// Whether the nodes hang from one another.
-    fn hangs(&self) -> bool {
+    fn hangs(&self) -> bool
+        ensures { result ≡ hangs self.now }
+    {
         match self {
+            Frame::Grid(_, _, _) => false,
+            Frame::Cube(_) => false,
             Frame::Hanging(_) => true,
-            _ => false,
         }
     }
 
     /// By how many wires a switch hangs.
-    fn depth(&self, switch: usize) -> usize {
+    fn depth(&self, switch: usize) -> usize
+        ensures { result ≡ depth self.now switch }
+    {
         let Frame::Hanging(depths) = self else {
             return 0;
         };
@@ -210,7 +231,7 @@ impl Place {
     }
 }
 
-/// How far so many terminals stand from their switch of a grid.
+/// How far terminals stand from their switch of a grid, by how many the switch has.
 fn grid_radius(terminals: usize) -> usize
     ensures { result ≤ 240 }
 {
@@ -235,7 +256,7 @@ fn cube_radius(terminals: usize) -> usize
     }
 }
 
-/// How far switches of a grid stand from one another, where each has so many terminals.
+/// How far apart switches of a grid stand, by how many terminals each has.
 fn grid_edge(terminals: usize) -> usize {
     2 * grid_radius(terminals) + 70
 }
@@ -245,7 +266,8 @@ fn cube_edge(terminals: usize) -> usize {
     3 * cube_radius(terminals) + 70
 }
 
-/// The directions of the first four terminals of a cube's switch that has so many: on the sides to which no wire leads.
+/// The directions of the first four terminals of a cube's switch, by how many it has: on the sides to which no wire
+/// leads.
 fn cube_directions(terminals: usize) -> &'static [usize] {
     if terminals <= 2 {
         &[28, 12]
@@ -254,19 +276,39 @@ fn cube_directions(terminals: usize) -> &'static [usize] {
     }
 }
 
-/// Where the numbers of a wire between two switches of a cube stand, each with so many terminals: further from the
+/// What stands before nodes on a grid, by whether few terminals stand round a switch.
+fn grid_text(few: bool) -> &'static str
+    ensures { result.now ≡ grid_text few }
+{
+    if few { GRID } else { CROWDED }
+}
+
+/// The same of a cube.
+fn cube_text(few: bool) -> &'static str
+    ensures { result.now ≡ cube_text few }
+{
+    if few { CUBE } else { CROWDED }
+}
+
+/// Where the numbers of a wire between two switches of a cube stand, each with this number of terminals: further from the
 /// switch than others, and beside the wire on a side where no other number is. The wire is that of a link at both.
-fn cube_edge_layout(terminals: usize, link: usize) -> &'static str {
-    match (terminals, link) {
-        (0..=2, 0) => ", labeldistance=3.5, labelangle=-12",
-        (3..=8, 3) => ", labeldistance=5, labelangle=12",
-        (0..=8, 5) => ", labeldistance=4.5, labelangle=7",
-        (0..=8, _) => ", labeldistance=3.5, labelangle=12",
-        (_, _) => "",
+fn cube_edge_text(terminals: usize, link: usize) -> &'static str
+    ensures { result.now ≡ cube_edge_text terminals link }
+{
+    if terminals <= 2 && link == 0 {
+        ", labeldistance=3.5, labelangle=-12"
+    } else if 3 <= terminals && (terminals <= 8 && link == 3) {
+        ", labeldistance=5, labelangle=12"
+    } else if terminals <= 8 && link == 5 {
+        ", labeldistance=4.5, labelangle=7"
+    } else if terminals <= 8 {
+        ", labeldistance=3.5, labelangle=12"
+    } else {
+        ""
     }
 }
 
-/// The direction of a terminal of a switch that has so many. The first four are given.
+/// The direction of a terminal, by how many its switch has. The first four are given.
 fn direction(terminal: usize, terminals: usize, first: &[usize]) -> (usize, usize) {
     let slots: usize = match terminals {
         0..=4 => 4,
@@ -313,7 +355,7 @@ fn cube_corner(switch: usize, edge: usize) -> Place {
     place
 }
 
-/// By how many wires each switch hangs from a root, or from the first switch of its own part of the network.
+/// How many wires each switch is below a root, or below the first switch of its own part of the network.
 fn depths(alloc: Global, plan: &Plan, root: usize) -> Result<Vec<usize>, AllocError> {
     let switches = plan.switches().len();
     let mut depths = vec![in alloc; switches; switches]?;
@@ -324,7 +366,7 @@ fn depths(alloc: Global, plan: &Plan, root: usize) -> Result<Vec<usize>, AllocEr
     Ok(depths)
 }
 
-/// A switch that doesn't hang yet is a root, and what is wired to it hangs from it.
+/// A switch that has no depth yet is a root, and what is wired to it stands below it.
 fn hang(plan: &Plan, root: usize, depths: &mut [usize]) {
     let switches = depths.len();
     if root >= switches || depths[root] < switches {
@@ -336,7 +378,7 @@ fn hang(plan: &Plan, root: usize, depths: &mut [usize]) {
     }
 }
 
-/// Each switch hangs from the highest that is wired to it.
+/// Each switch stands below the highest that is wired to it.
 fn lower(plan: &Plan, depths: &mut [usize]) {
     for wire in plan.wires() {
         if let (Port::Switch(switch, _), Port::Switch(other, _)) = (wire.here, wire.there) {
@@ -346,7 +388,7 @@ fn lower(plan: &Plan, depths: &mut [usize]) {
     }
 }
 
-/// A switch hangs from another, if it hung lower than that.
+/// A switch stands right below another, if it stood lower than that.
 fn lower_one(depths: &mut [usize], switch: usize, other: usize) {
     if switch >= depths.len() || other >= depths.len() {
         return;

@@ -9,11 +9,14 @@
 mod cycles;
 mod dot;
 mod drawings;
+mod edge_lines;
 mod edges;
 mod frames;
 mod marks;
+mod node_lines;
 mod nodes;
 mod pictures;
+mod strokes;
 mod weights;
 mod wires;
 
