@@ -9,7 +9,7 @@ use Rattle.c104_script.specs.TextLines.{is_line}
 use Rattle.c104_script.specs.Parts.{parts, parts_within, is_script_line, AreOtherLines, TakesByte, TakesFirstPart}
 use Rattle.c104_script.proofs.PartsLaw.{is_feed, line_on, lines_on, no_lines}
 
--- with so many bytes to go, what is left gives the parts of the whole text
+-- with a given number of bytes to go, what is left gives the parts of the whole text
 abbrev pub GivesParts : ℕ → Option (List ℕ) → Option (List ℕ) → List ℕ → List ℕ → Type 0
 GivesParts left None now front line = Unit {0}
 GivesParts left (Some text) None front line = ⊥

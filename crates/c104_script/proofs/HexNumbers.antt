@@ -1,4 +1,4 @@
--- The value of so many hexadecimal digits is small.
+-- How large the value of a number of hexadecimal digits may be.
 use Rattle.std.proofs.Common.{ℕ, ◌^◌, ◌<◌, ◌≤◌, lit<, arith}
 use Rattle.std.proofs.Math.Nat.{pow-le-pow_right}
 

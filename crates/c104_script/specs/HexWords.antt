@@ -15,7 +15,7 @@ is_hex_digit byte = is_some (hex_value byte)
 abbrev pub hex_digits_value : List ℕ → ℕ
 hex_digits_value digits = fold (λ value digit. 16 * value + unwrap_or (hex_value digit) 0) 0 digits
 
--- the number that hexadecimal digits spell, at least one and at most so many
+-- the number that hexadecimal digits spell, at least one and at most a given number of them
 abbrev pub hex_number : ℕ → List ℕ → Option ℕ
 hex_number most word =
     if (nat_le 1 (length word) && nat_le (length word) most) && list_all is_hex_digit word

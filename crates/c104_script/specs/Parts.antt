@@ -21,8 +21,8 @@ pub record Parts : Type 0 where
   pub script : List ℕ
 
 -- the parts of a text: what stands before the first line whose only word is `script`, and what
--- follows that line, which may be nothing. Where that line has not ended within so many bytes, all is
--- the description. front is the lines before, and line is what was read of the present one.
+-- follows that line, which may be nothing. Where that line has not ended within a given number of bytes,
+-- all is the description. front is the lines before, and line is what was read of the present one.
 abbrev pub parts_within : ℕ → List ℕ → List ℕ → List ℕ → Parts
 parts_within bytes front line [] =
     if is_script_line line then record { description = front; script = [] }
@@ -46,7 +46,7 @@ pub record AreOtherLines (text : List ℕ) : Type 0 where
   pub are_others : list_any is_script_line lines ≡ false
 
 -- the description and the script are the text, parted by its first line whose only word is `script`; that
--- line ends, by a line feed or with the text, within so many bytes
+-- line ends, by a line feed or with the text, within a given number of bytes
 pub record IsParted (most : ℕ) (text : List ℕ) (both : Parts) : Type 0 where
   pub line : List ℕ
   pub is_line : is_line line ≡ true
@@ -54,8 +54,8 @@ pub record IsParted (most : ℕ) (text : List ℕ) (both : Parts) : Type 0 where
   pub before : AreOtherLines both.description
   pub is_text : ((text ≡ both.description ++ (line ++ 10 ∷ both.script)) × (length both.description + length line < most)) ⊎ ((text ≡ both.description ++ line) × (both.script ≡ []) × (length text ≤ most))
 
--- no line whose only word is `script` ends within so many bytes of a text: what stands before the rest are other
--- lines and one that has not ended, or that ends with the text and is no such line
+-- no line whose only word is `script` ends within a given number of bytes of a text: what stands before the rest are
+-- other lines and one that has not ended, or that ends with the text and is no such line
 pub record HasNoScript (most : ℕ) (text : List ℕ) : Type 0 where
   pub front : List ℕ
   pub line : List ℕ
@@ -74,8 +74,8 @@ AreParts text both = IsParted most_bytes text both ⊎ (HasNoScript most_bytes t
 unfoldable pub AreOnlyParts : List ℕ → Parts → Type 0
 AreOnlyParts text both = AreParts text both × ((others : Parts) → AreParts text others → others ≡ both)
 
--- what was read of a text before a reader failed: other lines, and what there is of a further one, within so
--- many bytes. No line whose only word is `script` has ended in it.
+-- what was read of a text before a reader failed: other lines, and what there is of a further one, within a
+-- given number of bytes. No line whose only word is `script` has ended in it.
 pub record HasNoEnd (most : ℕ) (read : List ℕ) : Type 0 where
   pub front : List ℕ
   pub line : List ℕ

@@ -25,8 +25,8 @@ pub enum Answer {
     Faulty(LineFault),
 }
 
-/// The line that answers a line of this number joins the text. The only error is out of memory, and then the text
-/// is emptied, so that no part of a line is taken for one.
+/// Adds the line that answers the line of this number to the text. The only error is out of memory, and then the
+/// text is emptied, so that no part of a line is taken for a whole one.
 pub fn add_answer(number: usize, answer: &Answer, text: &mut Vec<u8>) -> Result<(), NoMemory>
     ensures joined { OnOk result (text.new.items ≡ text.old.items ++ answer_line number answer.now) }
     ensures emptied { OnErr result (text.new.items ≡ []) }

@@ -8,7 +8,7 @@ use c104_token::{NoMemory as OutOfMemory, TokenFault};
 use std::alloc::AllocError;
 use thiserror::Error;
 
-/// What is wrong with a line, by this emulator's own numbers. Of all that is wrong the least number is
+/// What is wrong with a line, by this emulator's own numbers. Of several faults the one with the least number is
 /// answered, but BadHex to PacketTooLong come as the packet is read from the left.
 #[derive(Clone, Copy, Debug, PartialEq, Eq, Error)]
 pub enum LineFault {
@@ -18,8 +18,8 @@ pub enum LineFault {
     /// The line's first word is none of a script's words.
     #[error("the first word is not one that a script has")]
     UnknownWord = 2,
-    /// A byte outside a comment is none of printable ASCII, tab and carriage return, there are too
-    /// few or too many words, or a node or a port has a second dot.
+    /// A byte outside a comment is neither printable ASCII nor a tab or a carriage return, there are
+    /// too few or too many words, or a node or a port has a second dot.
     #[error("the line has a wrong byte or a wrong count of words, or a second dot")]
     BadShape = 3,
     /// A number is not 1 to 7 decimal digits.

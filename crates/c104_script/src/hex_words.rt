@@ -31,7 +31,7 @@ pub(crate) fn read_register(word: &[u8]) -> Result<u32, LineFault>
     Ok(value)
 }
 
-/// The number that a word spells, in at least one digit and at most so many. None where it is anything else.
+/// The number that a word spells, in at least one digit and at most `most`. None where it is anything else.
 fn read_hex(word: &[u8], most: usize) -> Option<u32>
     requires { most ≤ 8 }
     ensures value { result ≡ hex_number most word.now }

@@ -21,8 +21,8 @@ pub const MAX_LINE: usize = 16_384;
 
 /// What a line asks of a network of this plan. None where it has no words.
 ///
-/// A fault is the least that applies, but those of a packet come as its words are read from the left.
-/// NoMemory may come in place of any answer.
+/// The fault is the one with the least number that applies, but those of a packet come as its words are read
+/// from the left. NoMemory may come in place of any answer.
 #[tactic(auto, unfolding(crate::specs::Script::read_script_line))]
 pub fn read_line(alloc: Global, plan: &Plan, line: &[u8]) -> Result<Option<Request>, LineFault>
     ensures { GivesLineOrNoMemory result (read_script_line plan.now line.now) }

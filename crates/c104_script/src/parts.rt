@@ -13,8 +13,8 @@ use std::io::Read;
 
 /// The first part of a text, its description: what stands before the first line whose only word is
 /// `script`. That line is read and left out; what follows it is the script, and is left. Where the
-/// line hasn't ended within 1 MiB, one byte more than a description may have. Where the reader fails, that
-/// line hasn't ended in what it gave.
+/// line hasn't ended within 1 MiB, what is given is one byte longer than a description may be. Where the
+/// reader fails, that line hasn't ended in what it gave.
 #[tactic(auto, using(crate::proofs::PartsLaw::parts_law))]
 pub fn read_first_part<R: Read>(
     alloc: Global,

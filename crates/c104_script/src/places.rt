@@ -12,7 +12,7 @@ use c104_event::{Event, EventFault, Port};
 pub enum Request {
     /// An event, which the network may still refuse.
     Asked(Event),
-    /// So many rounds, 1 to 10,000.
+    /// A number of rounds, 1 to 10,000.
     Rounds(u32),
     /// What the debugger is to read or to set.
     Probed(Probe),

@@ -40,7 +40,7 @@ front_of_front (suc n) zero xs = refl
 front_of_front (suc n) (suc m) [] = refl
 front_of_front (suc n) (suc m) (x ∷ xs) = ap (λ ys. x ∷ ys) (front_of_front n m xs)
 
--- what lies between the ends, but for so many of the first
+-- what lies between the ends, without the first n
 between_after : (xs : List ℕ) (start end n : ℕ) → n ≤ end - start → drop n (slice_range xs start end) ≡ slice_range xs (start + n) end
 between_after xs start end n within =
     let count : end - start ≡ n + (end - (start + n)) = omega (arith, within) in

@@ -8,8 +8,8 @@ abbrev pub GivesByte : Option (List ℕ) → Option (List ℕ) → Option ℕ �
 GivesByte old new None = Keeps old new × IsAtEnd new
 GivesByte old new (Some byte) = Consumes old new (byte ∷ [])
 
--- what stands before the first such byte among so many of these bytes, or all of so many where none of them
--- is such a byte
+-- what stands before the first such byte among the first `most` of these bytes, or all of those where none of
+-- them is such a byte
 abbrev pub piece_before : ℕ → ℕ → List ℕ → List ℕ
 piece_before byte most bytes = before_first (λ other. other == byte) (take most bytes)
 

@@ -77,8 +77,8 @@ impl Ahead {
         self.start >= self.end
     }
 
-    /// The next byte, or None at the end. The reader is asked where nothing is left of what it gave
-    /// before, and once only.
+    /// The next byte, or None at the end. The reader is asked only where nothing is left of what it gave
+    /// before, and then once.
     pub fn next_byte<R: Read>(&mut self, reader: &mut R) -> Result<Option<u8>, ReadFault>
         ensures { MatchResult result
             (λ next. GivesByte (prepend_known self.old (R.remaining reader.old))
@@ -97,8 +97,8 @@ impl Ahead {
         Ok(Some(byte))
     }
 
-    /// Takes what was read before the first such byte, which stays, but no more than so many bytes. They
-    /// join the text. Says how many they are. The reader isn't asked. The only error is out of memory,
+    /// Takes what was read before the first such byte, which stays, but no more than `most` bytes, and adds
+    /// it to the text. Says how many bytes it took. The reader isn't asked. The only error is out of memory,
     /// and then nothing is taken, and the text is as it was.
     pub fn take_before(
         &mut self,
@@ -158,8 +158,8 @@ fn place_of(byte: u8, bytes: &[u8]) -> Option<usize>
     bytes.iter().position(|other| *other == byte)
 }
 
-/// All bytes to the end, or one more than there may be. Where the reader fails, it has given no more than there
-/// may be.
+/// Reads all bytes to the end, or `most` bytes and one more. Where the reader fails, it has given at most `most`
+/// bytes.
 pub fn read_up_to<R: Read>(alloc: Global, most: usize, reader: &mut R) -> Result<Vec<u8>, ReadFault>
     ensures taken { IfOk result (λ bytes.
         TakesUpTo most (R.remaining reader.old) (R.remaining reader.new) bytes.items) }
@@ -177,7 +177,7 @@ pub fn read_up_to<R: Read>(alloc: Global, most: usize, reader: &mut R) -> Result
     Ok(bytes)
 }
 
-/// Whether one more byte is taken after so many: the one past the limit shows that a text is too long.
+/// Whether one more byte is taken after `count`: the one past the limit shows that a text is too long.
 fn takes_another(count: usize, most: usize) -> bool
     ensures { MatchBool result (count ≤ most) (most < count) }
 {

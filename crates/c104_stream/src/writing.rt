@@ -9,7 +9,7 @@ use std::io::Write;
 #[derive(Clone, Copy, Debug, PartialEq, Eq)]
 pub struct CannotWrite;
 
-/// Writes all of the bytes; or a prefix of them, and then some are left.
+/// Writes all of the bytes; where it fails, only a prefix of them, and some are left.
 pub fn write_whole<W: Write>(writer: &mut W, bytes: &[u8]) -> Result<(), CannotWrite>
     ensures all { OnOk result (Appends (W.contents writer.old) (W.contents writer.new) bytes.now) }
     ensures prefix { OnErr result (AppendsPrefix (W.contents writer.old) (W.contents writer.new) bytes.now) }
