@@ -107,6 +107,7 @@ pub mod RecordedBegins
 pub mod RecordedViews
 pub mod TracedFirsts
 pub mod TracedOrigins
+pub mod TracedTokens
 pub mod TracedArrivals
 pub mod RandomOwners
 pub mod RandomHeaders

@@ -30,7 +30,7 @@ use Rattle.c104_net.specs.Nodes.{node_peek, Node}
 use Rattle.c104_net.specs.Reasons.{claim_reason, end_why, event_why, network_why, node_claim_why, node_credit_in_why, node_credit_out_why, node_drain_why, node_enter_why, node_input_why, node_leave_why, port_reason, unless_refused, wire_why}
 use Rattle.c104_net.specs.TracedRuns.{map_input, map_node, map_outgoing}
 use Rattle.c104_net.specs.Standstill.{has_reason, have_reasons}
-use Rattle.c104_net.specs.Views.{network_link_view, network_terminal_view, node_link_view, node_terminal_view}
+use Rattle.c104_net.specs.Views.{network_link_view, network_sent_packet, network_terminal_view, node_link_view, node_sent_packet, node_terminal_view}
 use Rattle.c104_net.proofs.FirstRecords.{map_twice}
 use Rattle.c104_net.proofs.SwitchMaps.{owner_map, registers_map}
 use Rattle.c104_net.proofs.TokenMaps.{map_phase}
@@ -80,6 +80,13 @@ module _ {A : Type 0} (kind : Kind A) where
 
   pub network_terminal_plain : (net : Network A) (t : ℕ) → network_terminal_view (plain_network kind net) t ≡ network_terminal_view net t
   network_terminal_plain net t = ap (λ o. if nat_lt t (length net.plan.terminals) then o else None) (there_plain node_terminal_view node_terminal_view terminal_plain net.nodes (terminal_place net.plan t))
+
+  sent_plain : (number : ℕ) (n : Node A) → node_sent_packet number (map_node kind.plain n) ≡ node_sent_packet number n
+  sent_plain number (node.Switch s) = refl
+  sent_plain number (node.Terminal t) = refl
+
+  pub network_sent_plain : (net : Network A) (t number : ℕ) → network_sent_packet (plain_network kind net) t number ≡ network_sent_packet net t number
+  network_sent_plain net t number = ap (λ o. if nat_lt t (length net.plan.terminals) then o else None) (there_plain (node_sent_packet number) (node_sent_packet number) (sent_plain number) net.nodes (terminal_place net.plan t))
 
   -- reasons
   why_plain : {X Y : Type 0} (f : X → Y) (g : X → Option Unready) (h : Y → Option Unready) → ((x : X) → h (f x) ≡ g x) → (xs : List X) (l : ℕ) → why_at (map f xs) l h ≡ why_at xs l g

@@ -12,7 +12,7 @@ pub rounds_parts : (plan : Plan) (m n : ℕ) → rounds plan (m + n) ≡ rounds 
 rounds_parts plan zero n = let same : zero + n ≡ n = omega arith in ap (rounds plan) same
 rounds_parts plan (suc m) n = let same : suc m + n ≡ suc (m + n) = omega arith in ap (rounds plan) same ∙ ap (λ es. round plan ++ es) (rounds_parts plan m n) ∙ sym (append_assoc (round plan) (rounds plan m) (rounds plan n))
 
--- so many rounds, the next one, and those after it
+-- i rounds, the next one, and those after it
 rounds_from : (plan : Plan) (i n : ℕ) → i < n → rounds plan n ≡ rounds plan i ++ (round plan ++ rounds plan (n - suc i))
 rounds_from plan i n further = let count : n ≡ i + suc (n - suc i) = omega arith in ap (rounds plan) count ∙ rounds_parts plan i (suc (n - suc i))
 

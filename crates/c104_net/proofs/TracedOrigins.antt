@@ -159,6 +159,10 @@ module _ (plan : Plan) (is_plan : IsPlan plan) (nodes : List TracedRecord) (coun
       let run : IsDoneRun tagged_kind (network_of plan (map start_node starts)) is.events (map_network tag there) = subst (λ (n : Network TaggedToken). IsDoneRun tagged_kind n is.events (map_network tag there)) from (run_tagged (network_of plan (map start_node starts)) there is.events again.1.run) in
       ap (λ (n : Network TaggedToken). n.nodes) (sym (run_after tagged_kind (network_of plan (map start_node starts)) (map_network tag there) is.events run) ∙ run_after tagged_kind (network_of plan (map start_node starts)) here is.events is.told.run)
 
+  -- so what is kept of the tokens at that end is what stands here
+  pub tagged_end : map_network tag (traced_end run) ≡ here
+  tagged_end = ap (map_network tag) ends_there ∙ ap (network_of plan) tagged_there
+
   -- so they tell the same packets
   lists_are : arrived_origins nodes ≡ map terminal_origins (terminals_of again.0)
   lists_are =

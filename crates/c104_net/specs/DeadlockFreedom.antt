@@ -72,7 +72,7 @@ pub record IsAllDelivered (routes : Routes) (net : NetRecord) : Type 0 where
   pub plain : map (map_node (λ (x : Traced). x.token)) traced ≡ net.network.nodes
   pub promise : Promise routes (network_of net.network.plan traced)
 
--- after so many rounds that no event refused, all is delivered
+-- after n rounds in which no event was refused, all is delivered
 abbrev pub RoundsDeliver : Routes → NetRecord → ℕ → Type 0
 RoundsDeliver routes net n = (after : NetRecord) → RecordsRounds net n (Ok tt) after → IsAllDelivered routes after
 
@@ -90,7 +90,7 @@ pub record HasNoDeadlock (image : Image) (net : NetRecord) : Type 0 where
   -- where no link puts random headers before packets, these are the work and the bound by tokens that there are
   pub plain_work : IsNeverRandomized (routes_of net.network.plan image) → (rank : SwitchPort → ℕ) → random_work net.network.plan (routes_of net.network.plan image) rank net.network.nodes ≡ work net.network.plan rank net.network.nodes
   pub plain_bound : IsNeverRandomized (routes_of net.network.plan image) → random_bound net.network.plan (routes_of net.network.plan image) net.network.nodes ≡ work_bound net.network.plan net.network.nodes
-  -- which is at most so much for each token, and the room that buffers could still grant
+  -- which is at most the highest weight for each token, and the room that buffers could still grant
   pub bounded : work_bound net.network.plan net.network.nodes ≤ tokens_held net.network.nodes * most_weight net.network.plan + room_held net.network.nodes
 
 -- what is so of every network with its record

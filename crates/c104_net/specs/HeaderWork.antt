@@ -22,8 +22,8 @@ use Rattle.c104_net.specs.Nodes.{Node}
 use Rattle.c104_net.specs.Terminals.{Terminal}
 use Rattle.c104_net.specs.Work.{header_held, highest_rank, level, sum_at, weigh}
 
--- what a random header of so many bytes weighs at an input, where one may be put by what is set there; and one for the
--- turn that puts it
+-- what a random header of a given number of bytes weighs at an input, where one may be put by what is set there; and
+-- one for the turn that puts it
 abbrev pub ahead_by : ℕ → ℕ → Option Settings → ℕ
 ahead_by header rank None = 0
 ahead_by header rank (Some x) = if x.randomize then header * (8 * (rank + 1)) + 1 else 0

@@ -34,7 +34,7 @@ action_event k (action.Input l word) = Some (event.Input k l word)
 action_event k (action.Claim i o) = Some (event.Claim k i o)
 action_event k (action.Control bytes) = Some (event.Control k bytes)
 
--- the event that an act of the node at a place leads in, where there are so many switches
+-- the event that an act of the node at a place leads in, by the number of switches
 abbrev pub act_event : ℕ → ℕ → ActOf Token → Option Event
 act_event switches k (act.Step a) = action_event k a
 act_event switches k (act.Send packet) = Some (event.Send (k - switches) packet)
@@ -86,21 +86,21 @@ abbrev pub marked_all : ℕ → List (List Entry) → List ℕ → List ℕ
 marked_all k [] list = list
 marked_all k (trace ∷ traces) list = marked_all (suc k) traces (marked (leading_tickets trace) k list)
 
--- a trace tells an event next, behind so many of its entries, and then it tells what it tells behind so many
+-- behind its first `before` entries a trace tells this event next, and then what it tells behind its first `after`
 abbrev pub TellsNext : ℕ → ℕ → List Entry → ℕ → ℕ → Option Event → Type 0
 TellsNext switches k trace before after None = led_events switches k (drop before trace) ≡ []
 TellsNext switches k trace before after (Some e) =
     (ticket : ℕ)
     × (led_events switches k (drop before trace) ≡ (ticket, e) ∷ led_events switches k (drop after trace))
 
--- the entry at a place of a trace leads, and behind so many entries none before it does
+-- the entry at a place of a trace leads, and is the first to do so from another place on
 pub record IsLeadingAt (trace : List Entry) (from at : ℕ) : Type 0 where
   pub inside : at < length trace
   pub entry : (e : Entry) → slice_get trace at ≡ Some e → leads e.act ≡ true
   pub first : (switches k : ℕ) → led_events switches k (drop from trace) ≡ led_events switches k (drop at trace)
 
--- what the traces tell behind so many entries of each: of these events, the first of which has this ticket, each
--- trace tells those that lead at its place
+-- what the traces tell behind a given number of entries of each: of these events, the first of which has this ticket,
+-- each trace tells those that lead at its place
 abbrev pub IsAhead : Plan → List (List Entry) → List ℕ → ℕ → List (Event × Reply) → Type 0
 IsAhead plan traces behind ticket events =
     (k : ℕ) (trace : List Entry) → slice_get traces k ≡ Some trace → led_events (length plan.switches) k (drop (slice_index_or behind k 0) trace) ≡ events_at plan k ticket events

@@ -43,7 +43,7 @@ record_apply r e =
 abbrev pub AnswersRecord : NetRecord → Event → Result Reply EventFault → NetRecord → Type 0
 AnswersRecord old e answer new = Answers record_apply old e answer new
 
--- how so many rounds end: as the run of their events, up to the first that is refused
+-- how n rounds end: as the run of their events, up to the first that is refused
 abbrev pub RecordsRounds : NetRecord → ℕ → Result (Unit {0}) EventFault → NetRecord → Type 0
 RecordsRounds old n result new = EventsEnd record_apply old (rounds old.network.plan n) result new
 

@@ -9,8 +9,8 @@ use Rattle.c104_net.specs.Network.{Network}
 use Rattle.c104_net.specs.Runs.{IsDoneRun}
 use Rattle.c104_net.specs.Traced.{Traced, traced_kind}
 
--- events that lead from one network to another, as the traces tell them behind so many entries of each. These are
--- the places of their leading nodes, and there is a trace at each
+-- events that lead from one network to another, as the traces tell them behind a given number of entries of each.
+-- These are the places of their leading nodes, and there is a trace at each
 pub record IsLeft (plan : Plan) (net : Network Traced) (traces : List (List Entry)) (behind : List ℕ) (ticket : ℕ) (leaders : List ℕ) (ended : Network Traced) : Type 0 where
   pub events : List (Event × Reply)
   pub run : IsDoneRun traced_kind net events ended

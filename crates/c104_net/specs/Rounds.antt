@@ -44,11 +44,11 @@ claims_of s i = map (event.Claim s i) link_numbers
 abbrev pub switch_claims : ℕ → List Event
 switch_claims s = flat_map (claims_of s) link_numbers
 
--- the claims of so many switches
+-- the claims of a given number of switches
 abbrev pub all_claims : ℕ → List Event
 all_claims switches = flat_map switch_claims (range_with_len 0 switches)
 
--- a token's arrival at each of so many terminals
+-- a token's arrival at each of a given number of terminals
 abbrev pub all_drains : ℕ → List Event
 all_drains terminals = map event.Drain (range_with_len 0 terminals)
 
@@ -62,7 +62,7 @@ round plan =
     ++ all_claims (length plan.switches)
     ++ all_drains (length plan.terminals)
 
--- so many rounds
+-- a given number of rounds
 abbrev pub rounds : Plan → ℕ → List Event
 rounds plan zero = []
 rounds plan (suc n) = round plan ++ rounds plan n

@@ -1,9 +1,13 @@
--- What can be seen of the nodes of a network: of a switch each of its links, and a terminal.
+-- What can be seen of the nodes of a network: of a switch each of its links, a terminal, the tokens that wait in them,
+-- and the packets that were sent.
 use Rattle.std.specs.Prelude.{ℕ, length, nat_lt, List, Option, Some, None, if◌then◌else◌, slice_get}
 use Rattle.c104_token.specs.Kinds.{Kind}
+use Rattle.c104_token.specs.declared.packets.Packet.{Packet}
 use Rattle.c104_link.specs.Steps.{◌>>=◌}
-use Rattle.c104_switch.specs.Views.{link_view}
+use Rattle.c104_switch.specs.Views.{input_token, link_view, output_token}
 use Rattle.c104_switch.specs.declared.actions.LinkView.{LinkView}
+use Rattle.c104_describe.specs.declared.ports.Port.{Port}
+use Rattle.c104_describe.specs.declared.ports.Port.TheVariants as port
 use Rattle.c104_net.specs.Terminals as terminal
 use Rattle.c104_net.specs.declared.node.NodeOf.TheVariants.{Switch, Terminal}
 use Rattle.c104_net.specs.declared.terminal.views.TerminalView.{TerminalView}
@@ -33,6 +37,54 @@ abbrev pub network_terminal_view : {A : Type 0} → Network A → ℕ → Option
 network_terminal_view net t =
     if nat_lt t (length net.plan.terminals)
     then nodes_terminal_view net.nodes (terminal_place net.plan t)
+    else None
+
+-- the token at place k of what came in over link l of a node; a terminal has one link
+abbrev pub node_input_token : {A : Type 0} → ℕ → ℕ → Node A → Option A
+node_input_token l k (Switch s) = input_token s l k
+node_input_token l k (Terminal t) = slice_get t.input.items k
+
+-- the same of the node at this place
+abbrev pub nodes_input_token : {A : Type 0} → List (Node A) → ℕ → ℕ → ℕ → Option A
+nodes_input_token nodes place l k = slice_get nodes place >>= node_input_token l k
+
+-- the token at place k of what came in at a port of the network
+abbrev pub network_input_token : {A : Type 0} → Network A → Port → ℕ → Option A
+network_input_token net (port.Switch s l) k =
+    if nat_lt s (length net.plan.switches) then nodes_input_token net.nodes s l k else None
+network_input_token net (port.Terminal t) k =
+    if nat_lt t (length net.plan.terminals)
+    then nodes_input_token net.nodes (terminal_place net.plan t) 0 k
+    else None
+
+-- the token at place k of the output of link l of a node, if it is a switch
+abbrev pub node_output_token : {A : Type 0} → ℕ → ℕ → Node A → Option A
+node_output_token l k (Switch s) = output_token s l k
+node_output_token l k (Terminal t) = None
+
+-- the same of the node at this place
+abbrev pub nodes_output_token : {A : Type 0} → List (Node A) → ℕ → ℕ → ℕ → Option A
+nodes_output_token nodes place l k = slice_get nodes place >>= node_output_token l k
+
+-- the token at place k of the output of a switch's link in the network
+abbrev pub network_output_token : {A : Type 0} → Network A → ℕ → ℕ → ℕ → Option A
+network_output_token net s l k =
+    if nat_lt s (length net.plan.switches) then nodes_output_token net.nodes s l k else None
+
+-- packet n of those that a node sent, if it is a terminal
+abbrev pub node_sent_packet : {A : Type 0} → ℕ → Node A → Option Packet
+node_sent_packet n (Switch s) = None
+node_sent_packet n (Terminal t) = slice_get t.sent n
+
+-- the same of the node at this place
+abbrev pub nodes_sent_packet : {A : Type 0} → List (Node A) → ℕ → ℕ → Option Packet
+nodes_sent_packet nodes place n = slice_get nodes place >>= node_sent_packet n
+
+-- packet n of those that a terminal of the network sent
+abbrev pub network_sent_packet : {A : Type 0} → Network A → ℕ → ℕ → Option Packet
+network_sent_packet net t n =
+    if nat_lt t (length net.plan.terminals)
+    then nodes_sent_packet net.nodes (terminal_place net.plan t) n
     else None
 
 module _ {A : Type 0} (kind : Kind A) where

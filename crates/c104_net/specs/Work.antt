@@ -76,7 +76,7 @@ module _ (plan : Plan) (rank : SwitchPort → ℕ) where
     abbrev pub work : List (Node A) → ℕ
     work nodes = sum_at node_work 0 nodes
 
--- the highest rank that is needed: there are so many inputs
+-- the highest rank that is needed: the number of inputs
 abbrev pub highest_rank : Plan → SwitchPort → ℕ
 highest_rank plan p = LINKS * length plan.switches
 

@@ -1,6 +1,7 @@
 //! A node of tagged tokens, which counts what it did.
 //!
-//! A trace has room for so many entries, and an event is refused where it is full. To know that, a count is enough.
+//! A trace has room for a fixed number of entries, and an event is refused where it is full. To know that, a count is
+//! enough.
 ghost use Rattle.std.specs.Prelude.{◌≡◌, All, [], ◌∷◌};
 ghost use Rattle.std.specs.Option.{option_copied};
 ghost use Rattle.c104_net.specs.Nodes.{node_arrived};

@@ -318,7 +318,7 @@ fn told<T: TokenKind>(reply: ReplyOf<T>) -> Reply
     }
 }
 
-/// Whether a packet of so many bytes, at most 4,096, may join so many tokens that wait at a terminal.
+/// Whether a packet of `length` bytes, at most 4,096, may join `waiting` tokens that wait at a terminal.
 #[inline(always)]
 fn fits_outbox(waiting: usize, length: usize) -> bool
     requires { length ≤ MAX_PACKET_BYTES }
@@ -327,7 +327,7 @@ fn fits_outbox(waiting: usize, length: usize) -> bool
     waiting <= OUTBOX_LIMIT - (length + 1)
 }
 
-/// Whether one more token may arrive at a terminal where so many have arrived.
+/// Whether one more token may arrive at a terminal where `arrived` have arrived.
 #[inline(always)]
 fn fits_inbox(arrived: usize) -> bool
     ensures { result ≡ nat_lt arrived inbox_limit }

@@ -63,8 +63,8 @@ fn action_event(place: usize, action: &Action) -> Option<Event>
     }
 }
 
-/// The event that an act of the node at a place leads in, if it leads. There are so many switches, and the
-/// terminals stand behind them. The only error is out of memory, for the copy of a packet.
+/// The event that an act of the node at a place leads in, if it leads. There are `switches` switches, and
+/// the terminals stand behind them. The only error is out of memory, for the copy of a packet.
 pub fn act_event(switches: usize, place: usize, act: &Act) -> Result<Option<Event>, NoMemory>
     ensures { IfOk result (λ event. event ≡ act_event switches place act.now) }
 {
@@ -82,7 +82,7 @@ pub fn act_event(switches: usize, place: usize, act: &Act) -> Result<Option<Even
     })
 }
 
-/// The first entry that leads behind so many others.
+/// The first entry that leads, from place `from` on.
 fn find_leading(trace: &[Entry], from: usize) -> Option<usize>
     ensures { MatchOption result
         ((switches k : ℕ) → led_events switches k (drop from trace.now) ≡ [])
@@ -96,8 +96,8 @@ fn find_leading(trace: &[Entry], from: usize) -> Option<usize>
     None
 }
 
-/// The next event that a node's trace tells, behind so many of its entries; none where it tells no more. Then so
-/// many are behind. The only error is out of memory, and then nothing has changed.
+/// The next event that a node's trace tells, behind its first `behind` entries; none where it tells no more. `behind`
+/// then moves past its entry. The only error is out of memory, and then nothing has changed.
 pub fn next_event(
     switches: usize,
     place: usize,

@@ -8,6 +8,7 @@ mod acting;
 pub mod quiet;
 mod reasons;
 pub mod starts;
+mod tokens;
 mod views;
 
 use crate::terminal::TerminalOf;

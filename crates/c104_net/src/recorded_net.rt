@@ -20,7 +20,7 @@ use std::marker::Model;
 /// what they did since, whatever is kept of that when it runs: a `Net` keeps it, and a `TracedNet` counts it. What it
 /// does and answers is the same.
 ///
-/// It can't be dropped, since its switches hold claims: `retire` lets go of it.
+/// It can't be dropped, since its switches hold claims: `retire` disposes of it.
 pub struct RecordedNet<T: TokenKind, P: RecordedPlace<T>> {
     pub(crate) wires: Wires,
     // The switches in order, and then the terminals.
@@ -46,7 +46,7 @@ impl<T: TokenKind, P: RecordedPlace<T>> Model for RecordedNet<T, P> {
 }
 
 impl<T: TokenKind, P: RecordedPlace<T>> RecordedNet<T, P> {
-    /// Lets go of the network.
+    /// Disposes of the network.
     pub fn retire(self) {
         let RecordedNet {
             wires: _,

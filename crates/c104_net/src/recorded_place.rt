@@ -35,14 +35,14 @@ pub trait RecordedPlace<T: TokenKind>: Place<T> {
         ensures trace { Self.trace self.new ≡ [] }
         ensures stands { Self.state self.new ≡ start_node (begun_at self.new) };
 
-    /// Lets go of the node, and of what is kept of it.
+    /// Disposes of the node, and of what is kept of it.
     fn retire(self);
 
     /// The place keeps the record that is seen.
     ghost keeps_record: { KeepsRecord (reading T.kind Self.state shown begun_at Self.trace) Self.keeps Self.start Self.full };
 }
 
-/// Lets go of places.
+/// Disposes of places.
 pub fn retire_places<T: TokenKind, P: RecordedPlace<T>>(mut list: Vec<P>) {
     while let Some(place) = list.pop() {
         place.retire();

@@ -33,7 +33,7 @@ impl Trail for Node {
     }
 }
 
-/// For each ticket of a run of so many events the place of the node that leads in its event. The only error is out
+/// For each ticket of a run of `count` events the place of the node that leads in its event. The only error is out
 /// of memory.
 fn leaders_of<P: Trail>(alloc: Global, count: usize, trails: &[P]) -> Result<Vec<u16>, NoMemory>
     requires few { length trails.now ≤ 65536 }
@@ -67,7 +67,7 @@ fn replay_event<P: Trail>(
     let Some(event) = next_event(switches, place, trails[place].trace(), &mut behind[place])? else {
         unreachable!();
     };
-    // An event that was done is refused for want of memory alone.
+    // An event that was done is refused only when out of memory.
     match net.apply(&event) {
         Ok(_) => Ok(()),
         Err(_) => Err(NoMemory),
@@ -96,7 +96,7 @@ fn replay<P: Trail>(
     Ok(())
 }
 
-/// Does a run of so many events again, from its start, by the traces of its nodes. The only error is out of memory.
+/// Does a run of `count` events again, from its start, by the traces of its nodes. The only error is out of memory.
 pub fn replay_all<P: Trail>(
     alloc: Global,
     net: &mut NetOf<Traced>,

@@ -20,7 +20,7 @@ use c104_event::EventFault;
 use c104_token::TokenKind;
 use parts::{claim_outputs, credit_ports, cross_ports, drain_terminals, turn_inputs};
 
-/// Does so many rounds at these places, which stand for the nodes of a network of this plan, and tells of each.
+/// Does `times` rounds at these places, which stand for the nodes of a network of this plan, and tells of each.
 /// The count is of the events that were done, from before these rounds on: it gives each its ticket.
 pub fn rounds_at<T: TokenKind, P: Place<T>, W: Watch>(
     wires: &Wires,

@@ -22,7 +22,7 @@ pub struct RunParts {
 }
 
 impl RunParts {
-    /// Room for what so many nodes leave, so many of which are terminals. The only error is out of
+    /// Room for what `nodes` nodes leave, of which `terminals` are terminals. The only error is out of
     /// memory.
     pub fn with_room(alloc: Global, nodes: usize, terminals: usize) -> Result<Self, NoMemory>
         ensures starts { IfOk result (λ parts.

@@ -9,6 +9,7 @@ ghost use Rattle.c104_net.specs.Terminals.{terminal_begin, terminal_send};
 
 mod reasons;
 mod starts;
+mod tokens;
 mod views;
 
 use c104_link::{CREDIT_LIMIT, InBufferOf, TOKENS_OF_A_GRANT};
@@ -59,8 +60,7 @@ impl<T: TokenKind> Model for TerminalOf<T> {
 }
 
 impl<T: TokenKind> TerminalOf<T> {
-    /// A terminal at first, whose input buffer has room for so many tokens. The only error is out of
-    /// memory.
+    /// A terminal at first, whose input buffer has room for `cap` tokens. The only error is out of memory.
     pub fn new(alloc: Global, cap: usize) -> Result<Self, NoMemory>
         requires { IsValidCap cap }
         ensures { IfOk result (λ t. t ≡ new_terminal cap) }
@@ -259,7 +259,7 @@ impl<T: TokenKind> TerminalOf<T> {
     }
 }
 
-/// How many tokens wait after a packet has joined so many. None where that is more than can be counted.
+/// How many tokens wait after a packet has joined `waiting` of them. None where that is more than can be counted.
 fn waiting_after(waiting: usize, packet: &Packet) -> Option<usize>
     requires { length packet.now.bytes ≤ MAX_PACKET_BYTES }
     ensures { IfSome result (λ after. after ≡ waiting + (length packet.now.bytes + 1)) }

@@ -12,6 +12,7 @@ ghost use Rattle.c104_net.specs.RunOrigins.{AreOrigins};
 
 mod arriving;
 mod nodes;
+mod tokens;
 
 use crate::counted::CountedNode;
 use crate::origins::Origin;

@@ -59,7 +59,7 @@ impl<T: TokenKind> Frame<T> {
     }
 }
 
-/// Lets go of nodes.
+/// Disposes of nodes.
 fn retire_all<T: TokenKind>(mut list: Vec<NodeOf<T>>) {
     while let Some(node) = list.pop() {
         node.retire();

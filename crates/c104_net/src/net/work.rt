@@ -209,7 +209,7 @@ fn header_length(phase: &Phase<HeaderBytes>) -> usize
     }
 }
 
-/// As much for each of so many tokens.
+/// As much for each of `count` tokens.
 fn weight(count: usize, each: u64) -> u64
     ensures { result ≡ told_work (count * each) }
 {

@@ -1,13 +1,15 @@
 //! What a network tells of itself, what can be seen of its nodes, and why an event isn't ready in it.
 ghost use Rattle.std.specs.Prelude.{◌≡◌, ◌↔◌, is_some, IfSome, IsTrue};
+ghost use Rattle.std.specs.Option.{option_copied};
 ghost use Rattle.c104_token.specs.Kinds.{plain_kind};
 ghost use Rattle.c104_net.specs.Network.{network_apply, network_peek};
 ghost use Rattle.c104_net.specs.ReasonMeanings.{IsEventReason};
 ghost use Rattle.c104_net.specs.Reasons.{is_unready, network_why};
 ghost use Rattle.c104_net.specs.Standstill.{StandsStill};
-ghost use Rattle.c104_net.specs.Views.{network_link_view, network_terminal_view};
+ghost use Rattle.c104_net.specs.Views.{network_link_view, network_sent_packet, network_terminal_view};
 
 use super::RecordedNet;
+use crate::place_tokens::sent_packet_at;
 use crate::place_views::{peek_at, view_link_at, view_terminal_at};
 use crate::reason::Reason;
 use crate::reasons::first_reason;
@@ -16,7 +18,7 @@ use crate::standstill::round_stands;
 use crate::terminal::TerminalView;
 use c104_event::Event;
 use c104_switch::LinkView;
-use c104_token::TokenKind;
+use c104_token::{Packet, TokenKind};
 
 impl<T: TokenKind, P: RecordedPlace<T>> RecordedNet<T, P> {
     /// The value of the register at this address of a switch. None where the plan has no such
@@ -63,5 +65,13 @@ impl<T: TokenKind, P: RecordedPlace<T>> RecordedNet<T, P> {
         ensures { result ≡ network_terminal_view self.now.network terminal }
     {
         view_terminal_at(&self.wires, self.places.as_slice(), terminal)
+    }
+
+    /// The packet of this number, from 0, among those that a terminal sent since the start. None where it sent no such
+    /// packet, or the plan has no such terminal.
+    pub fn sent_packet(&self, terminal: usize, number: usize) -> Option<&Packet>
+        ensures { option_copied result ≡ network_sent_packet self.now.network terminal number }
+    {
+        sent_packet_at(&self.wires, self.places.as_slice(), terminal, number)
     }
 }

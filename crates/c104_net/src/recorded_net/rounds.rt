@@ -9,7 +9,7 @@ use c104_event::EventFault;
 use c104_token::TokenKind;
 
 impl<T: TokenKind, P: RecordedPlace<T>> RecordedNet<T, P> {
-    /// Does so many rounds, up to the first fault of an event. A round is this emulator's own order of events: Credit
+    /// Does `count` rounds, up to the first fault of an event. A round is this emulator's own order of events: Credit
     /// of each wired port, those of the switches by switch and link and then the terminals; Cross of the same; Input of
     /// each wired input, with word 0; Claim of each input and output of each switch; and Drain of each terminal. An
     /// event that isn't ready stops nothing.

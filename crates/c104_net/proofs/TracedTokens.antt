@@ -1,0 +1,54 @@
+-- The tokens that wait in a network of tagged tokens are what is kept of those at the end of its run.
+use Rattle.std.proofs.Common.{◌≡◌, ◌∙◌, ℕ, List, Option, None, length, map, nat_lt, option_map, slice_get, refl, sym, ap}
+use Rattle.std.proofs.lemmas.Option.{slice_get-map}
+use Rattle.c104_describe.specs.Plans.{Plan, IsPlan}
+use Rattle.c104_describe.specs.declared.ports.Port.{Port}
+use Rattle.c104_describe.specs.declared.ports.Port.TheVariants as port
+use Rattle.c104_net.specs.declared.node.NodeOf.TheVariants as node
+use Rattle.c104_net.specs.FinishedRecords.{record_finish}
+use Rattle.c104_net.specs.NetRecords.{NetRecord}
+use Rattle.c104_net.specs.Network.{network_of, terminal_place, Network}
+use Rattle.c104_net.specs.Nodes.{Node}
+use Rattle.c104_net.specs.RecordedNets.{places_record, IsRecordedNet}
+use Rattle.c104_net.specs.RecordedPlaces.{counted_reading}
+use Rattle.c104_net.specs.Tagged.{tag, TaggedToken}
+use Rattle.c104_net.specs.TracedEnds.{traced_end}
+use Rattle.c104_net.specs.TracedRecords.{traced_state, TracedRecord}
+use Rattle.c104_net.specs.TracedRuns.{map_input, map_network, map_node, map_outgoing}
+use Rattle.c104_net.specs.Views.{network_input_token, network_output_token, node_input_token, node_output_token, nodes_input_token, nodes_output_token}
+use Rattle.c104_net.proofs.TokenMaps.{bind_both, if_map}
+use Rattle.c104_net.proofs.TracedOrigins.{tagged_end}
+
+-- where each token is mapped, each that waits is
+module _ {A B : Type 0} (f : A → B) where
+  input_map : (l k : ℕ) (n : Node A) → node_input_token l k (map_node f n) ≡ option_map f (node_input_token l k n)
+  input_map l k (node.Switch s) = bind_both (map_input f) f (slice_get s.inputs l) _ _ _ (slice_get-map (map_input f) s.inputs l) (λ p. slice_get-map f p.buffer.items k)
+  input_map l k (node.Terminal t) = slice_get-map f t.input.items k
+
+  inputs_map : (nodes : List (Node A)) (place l k : ℕ) → nodes_input_token (map (map_node f) nodes) place l k ≡ option_map f (nodes_input_token nodes place l k)
+  inputs_map nodes place l k = bind_both (map_node f) f (slice_get nodes place) _ _ _ (slice_get-map (map_node f) nodes place) (input_map l k)
+
+  network_input_map : (net : Network A) (p : Port) (k : ℕ) → network_input_token (map_network f net) p k ≡ option_map f (network_input_token net p k)
+  network_input_map net (port.Switch s l) k = if_map (option_map f) (nat_lt s (length net.plan.switches)) _ (nodes_input_token net.nodes s l k) None _ _ refl (inputs_map net.nodes s l k) refl
+  network_input_map net (port.Terminal t) k = if_map (option_map f) (nat_lt t (length net.plan.terminals)) _ (nodes_input_token net.nodes (terminal_place net.plan t) 0 k) None _ _ refl (inputs_map net.nodes (terminal_place net.plan t) 0 k) refl
+
+  output_map : (l k : ℕ) (n : Node A) → node_output_token l k (map_node f n) ≡ option_map f (node_output_token l k n)
+  output_map l k (node.Switch s) = bind_both (map_outgoing f) f (slice_get s.outputs l) _ _ _ (slice_get-map (map_outgoing f) s.outputs l) (λ q. slice_get-map f q.items k)
+  output_map l k (node.Terminal t) = refl
+
+  network_output_map : (net : Network A) (s l k : ℕ) → network_output_token (map_network f net) s l k ≡ option_map f (network_output_token net s l k)
+  network_output_map net s l k = if_map (option_map f) (nat_lt s (length net.plan.switches)) _ (nodes_output_token net.nodes s l k) None _ _ refl
+      (bind_both (map_node f) f (slice_get net.nodes s) _ _ _ (slice_get-map (map_node f) net.nodes s) (output_map l k)) refl
+
+module _ (plan : Plan) (is_plan : IsPlan plan) (nodes lent : List TracedRecord) (count : ℕ) (is : IsRecordedNet counted_reading plan nodes count) (r : NetRecord) (lent_is : lent ≡ nodes) (shown : places_record counted_reading plan nodes count ≡ r) where
+  end_is : network_of plan (map traced_state lent) ≡ map_network tag (traced_end (record_finish r))
+  end_is =
+      ap (λ (ns : List TracedRecord). network_of plan (map traced_state ns)) lent_is
+      ∙ sym (tagged_end plan is_plan nodes count is)
+      ∙ ap (λ (r : NetRecord). map_network tag (traced_end (record_finish r))) shown
+
+  pub input_there : (p : Port) (k : ℕ) (o : Option TaggedToken) → o ≡ network_input_token (network_of plan (map traced_state lent)) p k → o ≡ option_map tag (network_input_token (traced_end (record_finish r)) p k)
+  input_there p k o told = told ∙ ap (λ (n : Network TaggedToken). network_input_token n p k) end_is ∙ network_input_map tag (traced_end (record_finish r)) p k
+
+  pub output_there : (s l k : ℕ) (o : Option TaggedToken) → o ≡ network_output_token (network_of plan (map traced_state lent)) s l k → o ≡ option_map tag (network_output_token (traced_end (record_finish r)) s l k)
+  output_there s l k o told = told ∙ ap (λ (n : Network TaggedToken). network_output_token n s l k) end_is ∙ network_output_map tag (traced_end (record_finish r)) s l k

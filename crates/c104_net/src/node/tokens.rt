@@ -1,0 +1,39 @@
+//! The tokens that wait in a node, and what a terminal sent.
+ghost use Rattle.std.specs.Prelude.{◌≡◌};
+ghost use Rattle.std.specs.Option.{option_copied};
+ghost use Rattle.c104_net.specs.Views.{node_input_token, node_output_token, node_sent_packet};
+
+use crate::node::NodeOf;
+use c104_token::{Packet, TokenKind};
+
+impl<T: TokenKind> NodeOf<T> {
+    /// The token at this index of what came in over a link. A terminal has one link.
+    pub fn input_token(&self, link: usize, index: usize) -> Option<T>
+        ensures { result ≡ node_input_token link index self.now }
+    {
+        match self {
+            NodeOf::Switch(switch) => switch.input_token(link, index),
+            NodeOf::Terminal(terminal) => terminal.input_token(index),
+        }
+    }
+
+    /// The token at this index of a link's output, if the node is a switch.
+    pub fn output_token(&self, link: usize, index: usize) -> Option<T>
+        ensures { result ≡ node_output_token link index self.now }
+    {
+        match self {
+            NodeOf::Switch(switch) => switch.output_token(link, index),
+            NodeOf::Terminal(_) => None,
+        }
+    }
+
+    /// The packet of this number among those that were sent, if the node is a terminal.
+    pub fn sent_packet(&self, number: usize) -> Option<&Packet>
+        ensures { option_copied result ≡ node_sent_packet number self.now }
+    {
+        match self {
+            NodeOf::Switch(_) => None,
+            NodeOf::Terminal(terminal) => terminal.sent_packet(number),
+        }
+    }
+}

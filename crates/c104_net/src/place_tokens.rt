@@ -1,0 +1,115 @@
+//! The tokens that wait at places of nodes, and what terminals sent.
+ghost use Rattle.std.specs.Prelude.{◌≡◌, map};
+ghost use Rattle.std.specs.Option.{option_copied};
+ghost use Rattle.c104_net.specs.Network.{network_of};
+ghost use Rattle.c104_net.specs.Views.{network_input_token, network_output_token, network_sent_packet, nodes_input_token, nodes_output_token, nodes_sent_packet};
+
+use crate::place::Place;
+use crate::wires::Wires;
+use c104_event::Port;
+use c104_token::{Packet, TokenKind};
+
+/// The token at this index of what came in at a port. None past the last one, or where the plan has no such port.
+pub fn input_token_at<T: TokenKind, P: Place<T>>(
+    wires: &Wires,
+    places: &[P],
+    port: Port,
+    index: usize,
+) -> Option<T>
+    ensures { result ≡ network_input_token (network_of wires.now (map P.state places.now)) port index }
+{
+    let plan = wires.plan();
+    match port {
+        Port::Switch(switch, link) => {
+            if switch >= plan.switches().len() {
+                return None;
+            }
+            input_token_place(places, switch, link, index)
+        }
+        Port::Terminal(terminal) => {
+            if terminal >= plan.terminals().len() {
+                return None;
+            }
+            let place = plan.switches().len() + terminal;
+            input_token_place(places, place, 0, index)
+        }
+    }
+}
+
+/// The token at this index of what came in over a link of the node at a place.
+fn input_token_place<T: TokenKind, P: Place<T>>(
+    places: &[P],
+    place: usize,
+    link: usize,
+    index: usize,
+) -> Option<T>
+    ensures { result ≡ nodes_input_token (map P.state places.now) place link index }
+{
+    match places.get(place) {
+        Some(found) => found.node().input_token(link, index),
+        None => None,
+    }
+}
+
+/// The token at this index of the output of a switch's link. None past the last one, or where the plan has no such
+/// switch, or a switch no such link.
+pub fn output_token_at<T: TokenKind, P: Place<T>>(
+    wires: &Wires,
+    places: &[P],
+    switch: usize,
+    link: usize,
+    index: usize,
+) -> Option<T>
+    ensures { result ≡ network_output_token (network_of wires.now (map P.state places.now)) switch link index }
+{
+    if switch >= wires.plan().switches().len() {
+        return None;
+    }
+    output_token_place(places, switch, link, index)
+}
+
+/// The token at this index of the output of a link of the node at a place.
+fn output_token_place<T: TokenKind, P: Place<T>>(
+    places: &[P],
+    place: usize,
+    link: usize,
+    index: usize,
+) -> Option<T>
+    ensures { result ≡ nodes_output_token (map P.state places.now) place link index }
+{
+    match places.get(place) {
+        Some(found) => found.node().output_token(link, index),
+        None => None,
+    }
+}
+
+/// The packet of this number among those that a terminal sent. None where there is none.
+pub fn sent_packet_at<'a, T: TokenKind + 'a, P: Place<T>>(
+    wires: &Wires,
+    places: &'a [P],
+    terminal: usize,
+    number: usize,
+) -> Option<&'a Packet>
+    ensures { option_copied result ≡ network_sent_packet (network_of wires.now (map P.state places.now)) terminal number }
+{
+    let plan = wires.plan();
+    if terminal >= plan.terminals().len() {
+        return None;
+    }
+    let place = plan.switches().len() + terminal;
+    sent_packet_place(places, place, number)
+}
+
+/// The packet of this number among those that the node at a place sent, if it is a terminal.
+fn sent_packet_place<'a, T: TokenKind + 'a, P: Place<T>>(
+    places: &'a [P],
+    place: usize,
+    number: usize,
+) -> Option<&'a Packet>
+    ensures { option_copied result ≡ nodes_sent_packet (map P.state places.now) place number }
+{
+    match places.get(place) {
+        Some(found) => found.node().sent_packet(number),
+        None => None,
+    }
+}
