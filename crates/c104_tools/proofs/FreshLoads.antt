@@ -101,7 +101,7 @@ goes_replied (Err fault.NoSwitch) s f is rest = tt
 goes_replied (Err (fault.Port e)) s f is rest = is
 goes_replied (Err (fault.BadReply a)) s f is rest = tt
 
--- traces have no more than so many entries
+-- traces have no more than n entries
 abbrev AreShort : ℕ → List (List Entry) → Type 0
 AreShort n [] = Unit {0}
 AreShort n (trace ∷ traces) = (length trace ≤ n) × AreShort n traces

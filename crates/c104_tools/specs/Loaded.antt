@@ -27,7 +27,7 @@ abbrev pub IsUnansweredFault : LoadFault → Type 0
 IsUnansweredFault (fault.Port e) = Unit {0}
 IsUnansweredFault f = ⊥
 
--- where the port gave no reply, it may leave a command of one of its so many switches unanswered so
+-- where the port gave no reply, it has this number of switches, and may leave a command of one of them unanswered so
 abbrev pub IsLeftBySwitch : {P : Type 0} → (P → ℕ) → (P → ℕ → List ℕ → EventFault → Type 0) → ℕ → LoadFault → Type 0
 IsLeftBySwitch {P} switch_count unanswered count (fault.Port e) =
     (p : P) × (switch : ℕ) × (command : List ℕ)

@@ -14,7 +14,7 @@ use Rattle.c104_tools.specs.Steps.{Step}
 abbrev pub order : ℕ → Command → Step
 order switch c = record { switch = switch; command = c; value = 0 }
 
--- a command for each of so many switches, in order
+-- a command for each of a given number of switches, in order
 abbrev pub for_each : ℕ → Command → List Step
 for_each count c = map (λ switch. order switch c) (range_with_len 0 count)
 

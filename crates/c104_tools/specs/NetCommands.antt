@@ -40,7 +40,7 @@ abbrev pub ticket_commands : ℕ → ℕ → List (List Entry) → List Asked
 ticket_commands ticket n [] = []
 ticket_commands ticket n (trace ∷ traces) = trace_commands ticket n trace ++ ticket_commands ticket (n + 1) traces
 
--- the commands with so many first tickets in traces, in the order of the tickets
+-- the commands in traces with tickets below a given number, in the order of the tickets
 abbrev pub first_commands : ℕ → List (List Entry) → List Asked
 first_commands zero traces = []
 first_commands (suc ticket) traces = first_commands ticket traces ++ ticket_commands ticket 0 traces

@@ -28,7 +28,7 @@ pub record StopsReading (unanswered : ℕ → List ℕ → EventFault → Type 0
   pub cut : addresses ≡ map (λ x. x.0) read ++ address ∷ left
   pub fault : IsFaultOf unanswered (before ++ map step_done (peeks switch read)) after switch (CPeek address) f
 
--- so many registers of a switch were read through a port, from an address on, and have the values that
+-- a given number of registers of a switch were read through a port, from an address on, and have the values that
 -- are made of what is answered; or the first peek that failed is told
 abbrev pub AreRead : {P X : Type 0} → (P → List Asked) → (P → ℕ) → (P → ℕ → List ℕ → EventFault → Type 0) → P → P → ℕ → ℕ → ℕ → (X → List ℕ) → Result X LoadFault → Type 0
 AreRead commands switch_count unanswered old new switch first count values result =

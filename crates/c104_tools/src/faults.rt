@@ -24,8 +24,8 @@ pub enum LoadFault {
     /// The port gave no reply.
     #[error("{0}")]
     Port(EventFault),
-    /// The reply of this switch is no answer to its command; or of a row of its table that was read
-    /// it gave a number that selects nothing.
+    /// The reply of this switch is no answer to its command, or gives a number that selects nothing
+    /// for a row of its table that was read.
     #[error("switch {0} gave a reply that answers something else")]
     BadReply(usize),
 }

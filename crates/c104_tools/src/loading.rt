@@ -13,7 +13,7 @@ use crate::ports::ControlPort;
 use c104_control::Command;
 use c104_describe::{Image, SwitchImage};
 
-/// Asks a command that reads nothing of each of so many switches, in order.
+/// Asks a command that reads nothing of each of `count` switches, in order.
 fn ask_each<P: ControlPort>(port: &mut P, count: usize, command: Command) -> Result<(), LoadFault>
     requires { reads_nothing command ≡ true }
     ensures performed { CarriedOut P.commands P.switch_count P.unanswered port.old port.new (for_each count command) result }

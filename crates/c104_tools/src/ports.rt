@@ -34,8 +34,8 @@ pub trait ControlPort {
     /// reply.
     ghost unanswered: { Self → ℕ → List ℕ → TheFault → Type 0 };
 
-    /// A port in this state may give this for a command of a switch, a reply or a fault, and be in that
-    /// state afterwards.
+    /// A port in this state may give this reply or fault for a command of a switch, and be in that state
+    /// afterwards.
     ghost due: { Self → ℕ → List ℕ → Given → Self → Type 0 };
 
     /// How many switches there are. They have the numbers from 0 on.

@@ -64,7 +64,7 @@ fn compare<P: ControlPort>(
 }
 
 /// Sees whether an image is loaded: reads every register that can be written, by switch and address,
-/// and compares it with the image, or where that keeps nothing with its value after a reset.
+/// and compares it with the image or, where that keeps nothing, with its value after a reset.
 ///
 /// NoSwitch where the image is of another number of switches; Differs of the first register that
 /// reads another value; Refused and BadReply where a switch answers so, and Port where the port
