@@ -22,8 +22,8 @@ pub fn is_refusal(reply: &[u8]) -> bool
     }
 }
 
-/// What is told of a line whose command a switch refused by this reply. None where it is no refusal, and out of
-/// memory.
+/// What is told of a line whose command a switch refused by this reply. None where it is no refusal, or when
+/// out of memory.
 pub fn command_message(alloc: Global, line: &[u8], reply: &[u8]) -> Option<String> {
     let words = cut_words(alloc, uncommented(line)).ok()?;
     let what = match reply {

@@ -34,8 +34,8 @@ const FORMS: [(&[u8], DescriptionMistake, usize); 13] = [
     (b"cube", DescriptionMistake::CubeLine, 3),
 ];
 
-/// What is told of a description with such a fault. None where the fault isn't this description's, and out
-/// of memory.
+/// What is told of a description with this fault. None where the fault isn't this description's, or when out of
+/// memory.
 pub fn description_message(alloc: Global, description: &[u8], fault: PlanFault) -> Option<String> {
     if fault.line == 0 {
         return told(DescriptionMistake::TooLong, None).text(alloc).ok();
@@ -67,7 +67,7 @@ fn words_message(alloc: Global, line: &[u8], kind: PlanFaultKind, before: &Plan)
         .ok()
 }
 
-/// So many lines of a text, with their line feeds.
+/// The first `count` lines of a text, with their line feeds.
 fn front_lines(text: &[u8], count: usize) -> &[u8] {
     let mut left = count;
     for (place, byte) in text.iter().enumerate() {

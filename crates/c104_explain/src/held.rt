@@ -8,8 +8,8 @@ use c104_net::{Reason, TracedNet};
 use c104_switch::{LINKS, Unready};
 use std::alloc::{AllocError, Global};
 
-/// What moves on so many tokens that wait at an output, or to go out of a terminal: `cross`, where there is credit or a
-/// round grants some; or else what holds them.
+/// What moves on tokens that wait at an output, or to go out of a terminal: `cross`, where there is credit or a round
+/// grants some; or else what holds them.
 pub(crate) fn after_output(
     alloc: Global,
     net: &TracedNet,
@@ -44,7 +44,7 @@ fn after_credit(
     }
 }
 
-/// What moves on so many tokens that wait at an input whose packet wants no output, or else what holds them.
+/// What moves on tokens that wait at an input whose packet wants no output, or else what holds them.
 pub(crate) fn after_input(
     alloc: Global,
     net: &TracedNet,
@@ -72,7 +72,7 @@ pub(crate) fn after_input(
     }
 }
 
-/// What moves on so many tokens that wait at an input behind a header that wants an output, or else what holds them.
+/// What moves on tokens that wait at an input behind a header that wants an output, or else what holds them.
 pub(crate) fn after_header(
     alloc: Global,
     net: &TracedNet,
@@ -129,7 +129,7 @@ fn first_wish(found: Wish, reason: Reason) -> Wish {
     }
 }
 
-/// That these events move so many tokens on.
+/// That these events move `count` tokens on.
 fn moved_text(alloc: Global, events: &str, count: usize) -> Result<String, AllocError> {
     let them = if count == 1 { "it" } else { "them" };
     format!(in alloc; "{events} or more `rounds` move {them} on")

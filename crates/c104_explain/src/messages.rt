@@ -25,14 +25,14 @@ pub trait Messages {
     /// Whether anyone reads the messages. Where nobody does, none is made.
     fn are_wanted(&self) -> bool;
 
-    /// Whether a person types the script and reads the messages, who may ask `help` and `show` among its lines.
+    /// Whether a person types the script and reads the messages, who may ask `help`, `show` and `where` among its lines.
     fn are_asked(&self) -> bool;
 
     /// Takes a message, without a line feed at its end.
     fn tell(&mut self, about: About, message: &str);
 
-    /// So many rounds are done, of the count that a line of the script asks for. It comes again and again while they
-    /// go on.
+    /// Takes the number of rounds done so far, of the count that a line of the script asks for. It is called again and
+    /// again while they go on.
     fn progress(&mut self, line: usize, done: u32, count: u32);
 }
 
@@ -58,8 +58,8 @@ impl Messages for Silent {
     fn progress(&mut self, _line: usize, _done: u32, _count: u32) {}
 }
 
-/// The messages of a script that stands behind so many lines of one text: its lines are told by their
-/// numbers in that text.
+/// The messages of a script that follows other lines of the same text: its lines are told by their numbers in
+/// that text.
 #[derive(Drop)]
 pub struct Behind<'a, M: Messages> {
     // How many lines of the text stand before the script.

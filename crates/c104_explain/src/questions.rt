@@ -5,6 +5,7 @@ ghost use Rattle.c104_explain.specs.Questions.{asks, is_question, wants_end};
 
 use crate::messages::About;
 use crate::nearest::nearest_node;
+use crate::packet_places::packet_answer;
 use crate::script_mistakes::ScriptMistake;
 use crate::shown_nodes::{switch_text, terminal_text};
 use crate::shown_ports::port_answer;
@@ -34,20 +35,26 @@ show SWITCH                 shows each wired link
 show SWITCH.LINK            shows a link
 show TERMINAL               shows a terminal
 show waiting                shows which outputs inputs hold and want
+where TERMINAL NUMBER       shows where a packet is: NUMBER is from 0 on, of those that the terminal sent
 A PORT is a terminal, or a switch with a link, as A.0. A `#` begins a comment.
-`help` and `show` are no words of a script, and are faults there. The end of input, Ctrl-D, ends the script.";
+`help`, `show` and `where` are no words of a script, and are faults there. The end of input, Ctrl-D, ends the script.";
 
 /// What a line `show` is.
 const SHOW_FORM: &str =
     "the line is `show SWITCH`, `show SWITCH.LINK`, `show TERMINAL` or `show waiting`";
 
+/// What a line `where` is.
+const WHERE_FORM: &str =
+    "the line is `where TERMINAL NUMBER`, as `where a 0` of the first packet that `a` sent";
+
 /// What a person is told who wants to end the script.
-const FAREWELL: &str = "the end of input ends the script: Ctrl-D";
+const FAREWELL: &str = "type Ctrl-D to end the script: it ends with the input";
 
 /// What is shown of the inputs that wait, unless a node has this name.
 const WAITING: &[u8] = b"waiting";
 
-/// Whether a line is a question of people's, and none of a script: its first word is `help`, `show`, `quit` or `exit`.
+/// Whether a line is a question of people's, and none of a script: its first word is `help`, `show`, `where`, `quit` or
+/// `exit`.
 #[tactic(auto, unfolding(crate::specs::Questions::is_question))]
 pub fn is_question(line: &[u8]) -> bool
     ensures { result ≡ is_question line.now }
@@ -61,7 +68,10 @@ fn asks(word: Option<&[u8]>) -> bool
 {
     match word {
         Some(word) => {
-            word == b"help".as_slice() || word == b"show".as_slice() || wants_end(word)
+            word == b"help".as_slice()
+                || word == b"show".as_slice()
+                || word == b"where".as_slice()
+                || wants_end(word)
         }
         None => false,
     }
@@ -82,7 +92,7 @@ pub fn about_question(line: &[u8]) -> About {
     }
 }
 
-/// What answers a question about a network, which may have several lines. None out of memory.
+/// What answers a question about a network, which may have several lines. None when out of memory.
 pub fn question_message(alloc: Global, net: &TracedNet, line: &[u8]) -> Option<String> {
     let words = cut_words(alloc, uncommented(line)).ok()?;
     answer_text(alloc, net, words.as_slice()).ok()
@@ -93,6 +103,8 @@ fn answer_text(alloc: Global, net: &TracedNet, words: &[&[u8]]) -> Result<String
     match words {
         [b"show", name] => node_text(alloc, net, name),
         [b"show", ..] => Mistake::new(SHOW_FORM, None).text(alloc),
+        [b"where", name, number] => packet_answer(alloc, net, name, number),
+        [b"where", ..] => Mistake::new(WHERE_FORM, None).text(alloc),
         [b"quit" | b"exit", ..] => format!(in alloc; "{FAREWELL}"),
         _ => format!(in alloc; "{HELP}"),
     }

@@ -29,8 +29,8 @@ pub(crate) fn reason_sentence(unready: Unready) -> &'static str
             "the output that the packet goes to is full; `cross` takes a token out of it"
         }
         Unready::WantsNothing => {
-            "the input wants no output; `input` has to read a header first, or to put a random one there, which \
-             selects a link"
+            "the input wants no output: its packet has one, or `input` has to read a header first, or to put a random \
+             one there"
         }
         Unready::OutsideGroup(_) => "the header goes to another output, of the group of this link",
         // What goes before it names the output, and the input that the packet comes from.

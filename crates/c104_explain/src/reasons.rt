@@ -10,7 +10,7 @@ use c104_net::Reason;
 use c104_switch::Unready;
 use std::alloc::{AllocError, Global};
 
-/// What is told of an event that isn't ready for this reason, by the names of the plan. None out of memory.
+/// What is told of an event that isn't ready for this reason, by the names of the plan. None when out of memory.
 pub fn reason_message(alloc: Global, plan: &Plan, reason: Reason) -> Option<String>
     ensures { IfSome result (λ text. string_bytes text ≡ reason_text plan.now reason) }
 {
@@ -119,6 +119,17 @@ fn port_beside(port: Port, link: usize) -> Option<Port>
         Port::Switch(switch, _) => Some(Port::Switch(switch, link)),
         Port::Terminal(_) => None,
     }
+}
+
+/// The name of a port joins a text.
+pub(crate) fn add_port(
+    alloc: Global,
+    plan: &Plan,
+    port: Port,
+    text: &mut String,
+) -> Result<(), AllocError> {
+    let name = port_text(alloc, plan, port)?;
+    text.push_str(name.as_str())
 }
 
 /// A port, by the names of the plan.

@@ -23,7 +23,7 @@ const MAX_CONTROL_WORDS: usize = 10;
 /// The most digits of a register's address.
 const ADDRESS_DIGITS: usize = 4;
 
-/// What is told of a faulty line, of which a person who types it may also ask. None out of memory.
+/// What is told of a faulty line, which a person who types it may also ask about. None when out of memory.
 pub fn fault_message(
     alloc: Global,
     line: &[u8],
@@ -39,7 +39,7 @@ pub fn fault_message(
         .ok()
 }
 
-/// What is told of a line that is refused. None out of memory.
+/// What is told of a line that is refused. None when out of memory.
 pub fn refusal_message(
     alloc: Global,
     plan: &Plan,
@@ -50,7 +50,7 @@ pub fn refusal_message(
     find_refusal(fault, words.as_slice(), plan).text(alloc).ok()
 }
 
-/// What is told of a line whose register a switch refuses to read or to set. None out of memory.
+/// What is told of a line whose register a switch refuses to read or to set. None when out of memory.
 pub fn register_message(alloc: Global, line: &[u8], fault: RegFault) -> Option<String> {
     let words = cut_words(alloc, uncommented(line)).ok()?;
     let words = words.as_slice();
@@ -63,8 +63,8 @@ pub fn register_message(alloc: Global, line: &[u8], fault: RegFault) -> Option<S
     mistake.text(alloc).ok()
 }
 
-/// What is told beside the status of a link whose output belongs to a packet: the input that the packet comes from, by
-/// its number and 1. None where it belongs to none, and out of memory.
+/// What is told beside the status of a link whose output belongs to a packet: the input that the packet comes from,
+/// whose number plus 1 is `owner`. None where it belongs to none, or when out of memory.
 pub fn owner_message(alloc: Global, line: &[u8], owner: u32) -> Option<String>
     ensures { IfSome result (λ _. 0 < owner) }
 {
@@ -139,7 +139,7 @@ fn form_of(first: &[u8]) -> ScriptMistake {
     }
 }
 
-/// Whether a line of this form may have so many words.
+/// Whether a line of this form may have `count` words.
 fn may_have(form: ScriptMistake, count: usize) -> bool {
     match form {
         ScriptMistake::SendLine => count >= 2,
@@ -198,7 +198,7 @@ fn hex_mistake<'a>(words: &[&'a [u8]]) -> Mistake<'a> {
     }
 }
 
-/// Whether a word is of hexadecimal digits, at least one and at most so many.
+/// Whether a word is of hexadecimal digits, at least one and at most `most`.
 fn is_hex(word: &[u8], most: usize) -> bool {
     !word.is_empty() && word.len() <= most && word.iter().all(|digit| digit.is_ascii_hexdigit())
 }

@@ -1,20 +1,28 @@
 //! How a node stands, in words.
 ghost use Rattle.std.specs.Prelude.{◌<◌};
 
+use crate::leftovers::waiting;
 use crate::random_inputs::puts_random;
-use crate::reasons::port_text;
+use crate::reasons::{add_port, port_text};
+use crate::standstill::dropped_at;
+use crate::waiting::stopped_line;
+use crate::words::counted;
 use c104_describe::{Plan, Port};
 use c104_net::TracedNet;
 use c104_switch::{LINKS, LinkView, Phase};
 use std::alloc::{AllocError, Global};
 
-/// How each link of a switch stands that has a wire: a line for each.
+/// How each link of a switch stands that has a wire: three lines for each, and one of the
+/// packets that it has dropped. Before them it is told if the switch isn't started.
 pub(crate) fn switch_text(
     alloc: Global,
     net: &TracedNet,
     switch: usize,
 ) -> Result<String, AllocError> {
     let mut text = String::new(alloc);
+    if let Some(line) = stopped_line(alloc, net, switch)? {
+        text.push_str(line.as_str())?;
+    }
     for link in 0..LINKS {
         let line = link_text(alloc, net, switch, link)?;
         if !line.is_empty() {
@@ -47,8 +55,28 @@ pub(crate) fn link_text(
     {
         let puts_random = puts_random(net, switch, link as u16);
         add_link(alloc, plan, (port, other), &view, puts_random, &mut text)?;
+        add_dropped(alloc, net, switch, link as u16, &mut text)?;
     }
     Ok(text)
+}
+
+/// How many packets the input of a link has dropped joins the text, if it has.
+fn add_dropped(
+    alloc: Global,
+    net: &TracedNet,
+    switch: usize,
+    link: u16,
+    text: &mut String,
+) -> Result<(), AllocError>
+    requires { link < 32 }
+{
+    let count = dropped_at(net, switch, 0x0100 * (link + 1));
+    if count == 0 {
+        return Ok(());
+    }
+    let packets = counted(alloc, count, "packet")?;
+    let line = format!(in alloc; "\n  dropped: {packets}")?;
+    text.push_str(line.as_str())
 }
 
 /// How a link stands joins the text. The ports are the link's, and the one at the other end of its wire.
@@ -60,19 +88,42 @@ fn add_link(
     puts_random: bool,
     text: &mut String,
 ) -> Result<(), AllocError> {
-    let port = port_text(alloc, plan, ports.0)?;
-    let other = port_text(alloc, plan, ports.1)?;
-    let phase = phase_text(alloc, view, puts_random)?;
-    let owner = owner_text(alloc, view.owner)?;
-    let came_in = view.input_level;
+    add_port(alloc, plan, ports.0, text)?;
+    text.push_str(", on a wire to ")?;
+    add_port(alloc, plan, ports.1, text)?;
+    add_input_side(alloc, view, puts_random, text)?;
+    add_output_side(alloc, view, text)
+}
+
+/// How the input side of a link stands joins the text.
+fn add_input_side(
+    alloc: Global,
+    view: &LinkView,
+    puts_random: bool,
+    text: &mut String,
+) -> Result<(), AllocError> {
+    text.push_str("\n  input: holds ")?;
+    add_tokens(alloc, view.input_level, text)?;
     let granted = view.granted;
-    let to_go = view.output_level;
+    let phase = phase_text(alloc, view, puts_random)?;
+    let rest = format!(in alloc; ", may take {granted} more, {phase}")?;
+    text.push_str(rest.as_str())
+}
+
+/// How the output side of a link stands joins the text.
+fn add_output_side(alloc: Global, view: &LinkView, text: &mut String) -> Result<(), AllocError> {
+    text.push_str("\n  output: holds ")?;
+    add_tokens(alloc, view.output_level, text)?;
     let credit = view.credit;
-    let line = format!(in alloc;
-        "{port}, on a wire to {other}, in tokens: the input holds {came_in} and may take {granted} more, and {phase}; \
-         the output holds {to_go} and may send {credit}, and {owner}"
-    )?;
-    text.push_str(line.as_str())
+    let owner = owner_text(alloc, view.owner)?;
+    let rest = format!(in alloc; ", may send {credit}, {owner}")?;
+    text.push_str(rest.as_str())
+}
+
+/// How many tokens there are joins the text.
+fn add_tokens(alloc: Global, count: usize, text: &mut String) -> Result<(), AllocError> {
+    let tokens = counted(alloc, count, "token")?;
+    text.push_str(tokens.as_str())
 }
 
 /// What an input does with its next token, which may put a random header before a packet.
@@ -104,31 +155,58 @@ fn owner_text(alloc: Global, owner: Option<usize>) -> Result<String, AllocError>
     }
 }
 
-/// How a terminal stands, in one line.
+/// How a terminal stands, in three lines.
 pub(crate) fn terminal_text(
     alloc: Global,
     net: &TracedNet,
     terminal: usize,
 ) -> Result<String, AllocError> {
     let plan = net.plan();
-    let name = port_text(alloc, plan, Port::Terminal(terminal))?;
-    let Some(view) = net.view_terminal(terminal) else {
-        return Ok(name);
-    };
-    let other = match plan.peer(Port::Terminal(terminal)) {
-        Some(other) => port_text(alloc, plan, other)?,
-        None => String::new(alloc),
-    };
-    let arrived = match net.arrived(alloc, terminal) {
+    let port = Port::Terminal(terminal);
+    let mut text = port_text(alloc, plan, port)?;
+    if let Some(view) = net.view_terminal(terminal) {
+        text.push_str(", on a wire to ")?;
+        if let Some(other) = plan.peer(port) {
+            add_port(alloc, plan, other, &mut text)?;
+        }
+        add_sending(alloc, view.waiting, view.credit, &mut text)?;
+        let arrived = count_arrived(alloc, net, terminal);
+        add_receiving(alloc, view.undrained, view.granted, arrived, &mut text)?;
+    }
+    Ok(text)
+}
+
+/// How many tokens wait to go out of a terminal, and how many may, joins the text.
+fn add_sending(
+    alloc: Global,
+    count: usize,
+    credit: usize,
+    text: &mut String,
+) -> Result<(), AllocError> {
+    let wait = waiting(alloc, count)?;
+    let line = format!(in alloc; "\n  sends: {wait}, {credit} may go")?;
+    text.push_str(line.as_str())
+}
+
+/// How many tokens wait to arrive at a terminal, how many more may come in, and how many have arrived, joins the text.
+fn add_receiving(
+    alloc: Global,
+    count: usize,
+    granted: usize,
+    arrived: usize,
+    text: &mut String,
+) -> Result<(), AllocError> {
+    let wait = waiting(alloc, count)?;
+    let line = format!(in alloc;
+        "\n  receives: {wait} to arrive, {granted} more may come in, {arrived} arrived so far"
+    )?;
+    text.push_str(line.as_str())
+}
+
+/// How many tokens have arrived at a terminal; 0 when out of memory.
+fn count_arrived(alloc: Global, net: &TracedNet, terminal: usize) -> usize {
+    match net.arrived(alloc, terminal) {
         Ok(Some(tokens)) => tokens.len(),
         Ok(None) | Err(_) => 0,
-    };
-    let waiting = view.waiting;
-    let credit = view.credit;
-    let undrained = view.undrained;
-    let granted = view.granted;
-    format!(in alloc;
-        "{name}, on a wire to {other}, in tokens: {waiting} wait to go out, and {credit} may go; {undrained} came in \
-         and wait to arrive, and {granted} more may come in; {arrived} have arrived"
-    )
+    }
 }

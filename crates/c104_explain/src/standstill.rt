@@ -1,5 +1,6 @@
 //! What is told of a network in which nothing can move, though tokens are there.
 
+use crate::leftovers::waiting;
 use crate::waiting::waiting_text;
 use crate::words::counted;
 use c104_net::TracedNet;
@@ -12,7 +13,7 @@ const DROPPED: [u16; 2] = [0x03, 0x04];
 
 /// What is told of a network that stands still: how many tokens wait in it, and in how many packets, where it is known
 /// how many were sent; and in a line for each, which output an input holds for its packet, and which one wants for its
-/// header. None out of memory.
+/// header. None when out of memory.
 pub fn standstill_message(alloc: Global, net: &TracedNet, sent: Option<usize>) -> Option<String> {
     standstill_text(alloc, net, sent).ok()
 }
@@ -24,8 +25,11 @@ fn standstill_text(
     sent: Option<usize>,
 ) -> Result<String, AllocError> {
     let tokens = waiting_tokens(net);
-    let mut text = format!(in alloc; "stands still: {tokens} tokens wait")?;
-    if let Some(sent) = sent {
+    let wait = waiting(alloc, tokens)?;
+    let mut text = format!(in alloc; "stands still: {wait}")?;
+    if let Some(sent) = sent
+        && tokens > 0
+    {
         let packets = sent.saturating_sub(gone_packets(alloc, net)?);
         let packets = counted(alloc, packets, "packet")?;
         text.push_str(" in ")?;
@@ -104,7 +108,7 @@ fn dropped_packets(net: &TracedNet, switch: usize) -> usize {
 }
 
 /// How many packets the input has dropped whose registers begin at this address.
-fn dropped_at(net: &TracedNet, switch: usize, registers: u16) -> usize {
+pub(crate) fn dropped_at(net: &TracedNet, switch: usize, registers: u16) -> usize {
     let mut packets = 0usize;
     for offset in DROPPED {
         if let Some(count) = net.peek(switch, registers.saturating_add(offset)) {

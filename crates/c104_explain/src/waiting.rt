@@ -1,11 +1,15 @@
 //! Which inputs of a network have a packet on its way, and what each of these waits for, in words.
 
 use crate::reasons::port_text;
-use c104_describe::Port;
+use crate::words::counted;
+use c104_describe::{Plan, Port};
 use c104_event::Event;
 use c104_net::{Reason, TracedNet};
 use c104_switch::{LINKS, LinkView, Phase, Unready};
 use std::alloc::{AllocError, Global};
+
+/// The address of the register that says whether a switch is started.
+const STARTED: u16 = 0x0001;
 
 /// The most tokens that an output holds.
 const OUTPUT_CAP: usize = 8;
@@ -24,8 +28,9 @@ impl Input {
     }
 }
 
-/// A line for each output that an input holds for its packet, and for each that one wants for its header, by switch
-/// and link. Nothing where no input does.
+/// A line for each switch that isn't started, for each output that an input holds for its packet, for each that one wants
+/// for its header, and for each without a wire that holds tokens and that no input holds, by switch and link. Nothing
+/// where there is none such.
 pub(crate) fn waiting_text(alloc: Global, net: &TracedNet) -> Result<String, AllocError> {
     let mut text = String::new(alloc);
     for switch in 0..net.plan().switches().len() {
@@ -41,12 +46,51 @@ fn add_switch(
     switch: usize,
     text: &mut String,
 ) -> Result<(), AllocError> {
+    if let Some(line) = stopped_line(alloc, net, switch)? {
+        add_line(text, line.as_str())?;
+    }
     for link in 0..LINKS {
         if let Some(view) = net.view_link(switch, link) {
             add_input(alloc, net, Input { switch, link }, &view, text)?;
+            add_unwired(alloc, net, Port::Switch(switch, link), &view, text)?;
         }
     }
     Ok(())
+}
+
+/// The line of a switch that isn't started, in which nothing moves from an input to an output.
+pub(crate) fn stopped_line(
+    alloc: Global,
+    net: &TracedNet,
+    switch: usize,
+) -> Result<Option<String>, AllocError> {
+    let Some(name) = net.plan().switches().get(switch) else {
+        return Ok(None);
+    };
+    if net.peek(switch, STARTED) != Some(0) {
+        return Ok(None);
+    }
+    let name = name.as_str();
+    let line = format!(in alloc; "{name} is not started; `control {name} 01` starts it")?;
+    Ok(Some(line))
+}
+
+/// The line of an output without a wire joins the text, where it holds tokens and no input holds it.
+fn add_unwired(
+    alloc: Global,
+    net: &TracedNet,
+    output: Port,
+    view: &LinkView,
+    text: &mut String,
+) -> Result<(), AllocError> {
+    let plan = net.plan();
+    if view.output_level == 0 || view.owner.is_some() || plan.peer(output).is_some() {
+        return Ok(());
+    }
+    let tokens = counted(alloc, view.output_level, "token")?;
+    let output = port_text(alloc, plan, output)?;
+    let line = format!(in alloc; "{output}, which has no wire, holds {tokens}")?;
+    add_line(text, line.as_str())
 }
 
 /// The lines of an input join the text.
@@ -74,10 +118,7 @@ fn add_held(
 ) -> Result<(), AllocError> {
     let plan = net.plan();
     let output = input.beside(output);
-    let end = match plan.peer(output) {
-        Some(other) => port_text(alloc, plan, other)?,
-        None => String::new(alloc),
-    };
+    let end = end_text(alloc, plan, output)?;
     let full = if is_full(net, output) {
         " and is full"
     } else {
@@ -85,8 +126,17 @@ fn add_held(
     };
     let own = port_text(alloc, plan, input.beside(input.link))?;
     let output = port_text(alloc, plan, output)?;
-    let line = format!(in alloc; "{own} holds {output}, which leads to {end}{full}")?;
+    let line = format!(in alloc; "{own} holds {output}, which {end}{full}")?;
     add_line(text, line.as_str())
+}
+
+/// Where an output leads.
+fn end_text(alloc: Global, plan: &Plan, output: Port) -> Result<String, AllocError> {
+    let Some(other) = plan.peer(output) else {
+        return format!(in alloc; "has no wire");
+    };
+    let end = port_text(alloc, plan, other)?;
+    format!(in alloc; "leads to {end}")
 }
 
 /// Whether an output holds as many tokens as it may.
@@ -168,7 +218,7 @@ fn state_text(
 }
 
 /// A line joins the text.
-fn add_line(text: &mut String, line: &str) -> Result<(), AllocError> {
+pub(crate) fn add_line(text: &mut String, line: &str) -> Result<(), AllocError> {
     if !text.is_empty() {
         text.push('\n')?;
     }

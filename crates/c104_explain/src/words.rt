@@ -64,7 +64,7 @@ pub(crate) fn shown_text(alloc: Global, word: &[u8]) -> Result<String, AllocErro
     Ok(text)
 }
 
-/// A word joins the text: its printable bytes as they are, of others a question mark, and no more than so many.
+/// A word joins the text, with a question mark for each byte that isn't printable. Past `SHOWN` bytes it is cut short.
 fn add_word(text: &mut String, word: &[u8]) -> Result<(), AllocError> {
     for byte in &word[..word.len().min(SHOWN)] {
         text.push(shown_byte(*byte))?;
@@ -154,7 +154,7 @@ pub(crate) fn names_terminal(plan: &Plan, word: &[u8]) -> bool {
     plan.terminal_number(name_of(word)).is_some()
 }
 
-/// So many things of a kind, in words.
+/// A number of things of a kind, in words.
 pub(crate) fn counted(alloc: Global, count: usize, kind: &str) -> Result<String, AllocError> {
     let ending = if count == 1 { "" } else { "s" };
     format!(in alloc; "{count} {kind}{ending}")
