@@ -50,7 +50,7 @@ refused_keeps net event f is =
     let came : Came = if◌then◌else◌ {A = Came} full (Err fault.TraceFull, net.network) due in
     record_keeps net event came f is (test_keeps full net.network due f (possible_keeps net.network event (event_fault net.network.plan event) f) is)
 
--- an event that isn't done for a fault or for want of memory leaves all as it was
+-- an event that isn't done, for a fault or when out of memory, leaves all as it was
 pub event_kept : (net : NetRecord) (event : Event) (answer : Result Reply EventFault) (left : NetRecord) → AnswersRecord net event answer left → OnErr answer (left ≡ net)
 event_kept net event (Ok r) left came = tt
 event_kept net event (Err f) left (inl due) =

@@ -96,7 +96,7 @@ all_read most first (next ∷ others) are room =
     let less : length rest ≤ left = omega (arith, room, all) in
     line_read most left first rest is.0 count ∙ ap (λ lines. first ∷ lines) (all_read left next others is.1 less)
 
--- no line ends within so many bytes
+-- no line ends within a given number of bytes
 none_read : (bytes : ℕ) (part text : List ℕ) → bytes < length text → is_line (take bytes text) ≡ true → lines_within bytes part text ≡ []
 none_read bytes part [] long is = absurd (omega arith)
 none_read zero part (byte ∷ text) long is = refl

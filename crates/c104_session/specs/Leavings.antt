@@ -11,7 +11,7 @@ use Rattle.c104_script.specs.declared.places.Request.{Request}
 use Rattle.c104_script.specs.declared.places.Request.TheVariants as ask
 use Rattle.c104_session.specs.declared.session.Session.{Session}
 
--- the network after the first of the events of so many rounds: none, some or all of them, and no others
+-- the network after the first of the events of a given number of rounds: none, some or all of them, and no others
 abbrev pub LeavesRounds : NetRecord → ℕ → NetRecord → Type 0
 LeavesRounds net count left = (front : List Event) × (rest : List Event)
     × (rounds net.network.plan count ≡ front ++ rest)

@@ -20,8 +20,8 @@ last_line front (byte ∷ text) =
 abbrev pub most_script : ℕ
 most_script = 16777216
 
--- the lines of a script that are answered: those that end within so many bytes by a line feed or with
--- the script. front is what was read of the first.
+-- the lines of a script that are answered: those that end within a given number of bytes by a line feed
+-- or with the script. front is what was read of the first.
 abbrev pub lines_within : ℕ → List ℕ → List ℕ → List (List ℕ)
 lines_within bytes front [] = front ∷ []
 lines_within zero front (byte ∷ script) = []
@@ -33,8 +33,8 @@ lines_within (suc bytes) front (byte ∷ script) =
 unfoldable pub script_lines : List ℕ → List (List ℕ)
 script_lines script = lines_within most_script [] script
 
--- the lines of a text that a line feed ends within so many bytes: with their line feeds they begin the text,
--- and within so many bytes no other line feed follows
+-- the lines of a text that a line feed ends within a given number of bytes: with their line feeds they begin the
+-- text, and within that number no other line feed follows
 pub record AreFirstLines (most : ℕ) (text : List ℕ) (lines : List (List ℕ)) : Type 0 where
   pub rest : List ℕ
   pub is_text : text ≡ ended lines ++ rest
@@ -55,7 +55,7 @@ AreOnlyLines script lines = AreScriptLines script lines × ((others : List (List
 abbrev pub is_long : List ℕ → Bool
 is_long script = nat_lt most_script (length script)
 
--- a byte joined the line, and then so many bytes that were read ahead of it: those before the next line
+-- a byte joined the line, and then a number of bytes that were read ahead of it: those before the next line
 -- feed, but no more than most
 pub record JoinsLine (byte most : ℕ) (old new line longer : List ℕ) (count : ℕ) : Type 0 where
   pub counted : count ≡ length (piece_before 10 most old)

@@ -40,7 +40,7 @@ abbrev pub rounds_answer : Result (Unit {0}) EventFault → Result Reply EventFa
 rounds_answer (Ok u) = Ok Done
 rounds_answer (Err kind) = Err kind
 
--- the network after so many rounds, or after those events of them that came before a refusal
+-- the network after a given number of rounds, or after those events of them that came before a refusal
 abbrev pub rounds_outcome : NetRecord → ℕ → Result Reply EventFault × NetRecord
 rounds_outcome net count =
     let r = run_events record_apply net (rounds net.network.plan count) in (rounds_answer r.0, r.1)

@@ -11,7 +11,7 @@ use crate::explaining::{ScriptLine, explain_line};
 use crate::progress::Progress;
 use crate::session::Session;
 use crate::tally::Tally;
-use c104_explain::{About, Messages, Silent};
+use c104_explain::{About, Messages};
 use c104_script::{Answer, add_answer};
 use c104_stream::{Ahead, Halt, Kept};
 use c104_token::NoMemory;
@@ -35,29 +35,14 @@ const NOTHING: &str =
 pub const MAX_SCRIPT: usize = 16_777_216;
 
 /// Answers the lines of a script as they are read. Answers are written before the script's reader is asked for
-/// more, where there are 64 KiB of them, and at the end. Says whether the script is longer than it may
-/// be; of such a script the lines that end within the first 16 MiB are answered. Where the reader fails, and out of
-/// memory, the answers to the first lines are written, each of them whole.
-pub fn answer_script<S: Read, W: Write>(
-    alloc: Global,
-    session: &mut Session,
-    ahead: &mut Ahead,
-    script: &mut S,
-    writer: &mut W,
-) -> Result<bool, Halt>
-    ensures answered { AnswersScript session.old (prepend_known ahead.old (S.remaining script.old))
-        (S.remaining script.new) (W.contents writer.old) (W.contents writer.new) session.new result }
-
-    // What the lines of a script are, in words: those that are answered are computed byte by byte.
-    ensures lines { (script : List ℕ) → AreOnlyLines script (script_lines script) }
-{
-    answer_script_explained(alloc, session, ahead, script, writer, &mut Silent)
-}
-
-/// The same, and tells of each line that is faulty or refused, and of each that asks for what isn't ready. What is
-/// answered is the same, whatever takes the messages does. The answer to a line is written before the message.
+/// more, whenever there are 64 KiB of them, and at the end. Says whether the script is longer than it may
+/// be; of such a script the lines that end within the first 16 MiB are answered. Where the reader fails, or when out
+/// of memory, the answers to the first lines are written, each of them whole.
+///
+/// A message about each line that is faulty or refused, or that asks for what isn't ready, follows its answer. What is
+/// answered is the same whatever takes the messages does.
 #[tactic(auto, using(crate::proofs::LinesLaw::lines_law))]
-pub fn answer_script_explained<S: Read, W: Write, M: Messages>(
+pub fn answer_script<S: Read, W: Write, M: Messages>(
     alloc: Global,
     session: &mut Session,
     ahead: &mut Ahead,
@@ -67,6 +52,8 @@ pub fn answer_script_explained<S: Read, W: Write, M: Messages>(
 ) -> Result<bool, Halt>
     ensures answered { AnswersScript session.old (prepend_known ahead.old (S.remaining script.old))
         (S.remaining script.new) (W.contents writer.old) (W.contents writer.new) session.new result }
+
+    // What the lines of a script are, in words: those that are answered are computed byte by byte.
     ensures lines { (script : List ℕ) → AreOnlyLines script (script_lines script) }
 {
     let mut kept = Kept::new(alloc)?;
@@ -305,7 +292,7 @@ fn keep_answer<W: Write>(
     Ok(())
 }
 
-/// A byte joins the line, and so does what is read ahead of that line, but no more than so many bytes. Says
+/// A byte joins the line, and so does what is read ahead of that line, but no more than `most` bytes. Says
 /// how many joined after the first. The only error is out of memory.
 fn add_bytes(
     ahead: &mut Ahead,

@@ -14,7 +14,7 @@ use std::alloc::Global;
 use std::marker::Model;
 
 /// The network of a run that has ended. In contracts it is what is left of such a run: nothing more is done, and what
-/// arrived is read where it is. It can't be dropped: `retire` lets go of it.
+/// arrived is read in place. It can't be dropped: `retire` disposes of it.
 pub struct EndedNet {
     net: TracedNet,
 }
@@ -35,7 +35,7 @@ impl EndedNet {
         EndedNet { net }
     }
 
-    /// Lets go of the network.
+    /// Disposes of the network.
     pub fn retire(self) {
         let EndedNet { net } = self;
         net.retire();

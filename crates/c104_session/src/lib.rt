@@ -10,8 +10,8 @@
 //! more. A faulty line changes nothing but that there was one; running out of memory ends the script,
 //! and so does a failing reader or writer.
 //!
-//! A person who types a script may ask questions among its lines. They are no words of a script, and are answered as
-//! such; beside that the messages tell what was asked.
+//! A person who types a script may ask questions among its lines. To the script these are unknown words, and are
+//! answered as such; the messages give what was asked for.
 #![tactic(auto)]
 
 mod answering;
@@ -28,8 +28,8 @@ mod summary;
 mod tally;
 mod tools;
 
-pub use answering::{MAX_SCRIPT, answer_script, answer_script_explained};
+pub use answering::{MAX_SCRIPT, answer_script};
 pub use ended::EndedNet;
-pub use runs::{run_plan, run_plan_explained};
+pub use runs::run_plan;
 pub use session::{Ended, Session};
 pub use summary::summary_text;

@@ -6,12 +6,12 @@ ghost use Rattle.c104_describe.specs.Plans.{Plan as ThePlan};
 ghost use Rattle.c104_session.specs.Runs.{EndsRun, RunsPlan, WritesText, end_text};
 ghost use Rattle.c104_session.specs.Shown.{new_session};
 
-use crate::answering::answer_script_explained;
+use crate::answering::answer_script;
 use crate::ended::EndedNet;
 use crate::session::{Ended, Session};
 use crate::summary::summary_text;
 use c104_describe::{Image, Plan};
-use c104_explain::{About, Messages, Silent, leftover_messages};
+use c104_explain::{About, Messages, leftover_messages};
 use c104_stream::{Ahead, Halt, write_whole};
 use std::alloc::Global;
 use std::io::{Read, Write};
@@ -22,26 +22,9 @@ const TOO_LONG: &str =
 
 /// Runs a script on the network of a plan, started with an image that fits it: lines are answered as they are
 /// read, and at the end what arrived is written. Says whether the script was refused, for its length or
-/// for one of its lines.
-pub fn run_plan<S: Read, W: Write>(
-    alloc: Global,
-    plan: &Plan,
-    image: Image,
-    ahead: &mut Ahead,
-    script: &mut S,
-    writer: &mut W,
-) -> Result<bool, Halt>
-    requires { Fits image plan.now }
-    ensures { RunsPlan plan.now image
-        (prepend_known ahead.old (S.remaining script.old)) (S.remaining script.new)
-        (W.contents writer.old) (W.contents writer.new) result }
-{
-    run_plan_explained(alloc, plan, image, ahead, script, writer, &mut Silent)
-}
-
-/// The same, and tells of the lines, and at the end of what didn't arrive. What is written and answered is the same,
-/// whatever takes the messages does.
-pub fn run_plan_explained<S: Read, W: Write, M: Messages>(
+/// for one of its lines. Messages are those of `answer_script`, and at the end those about what didn't
+/// arrive.
+pub fn run_plan<S: Read, W: Write, M: Messages>(
     alloc: Global,
     plan: &Plan,
     image: Image,
@@ -73,7 +56,7 @@ fn run_session<S: Read, W: Write, M: Messages>(
         (W.contents writer.old) (W.contents writer.new) result }
 {
     let mut session = session;
-    let answered = answer_script_explained(alloc, &mut session, ahead, script, writer, messages);
+    let answered = answer_script(alloc, &mut session, ahead, script, writer, messages);
     let leftovers = leftovers_of(alloc, &session, messages);
     let ended = session.finish();
     let came = end_run(alloc, answered, &ended, &leftovers, writer, messages);

@@ -23,7 +23,7 @@ use c104_switch::Reply;
 use c104_token::NoMemory;
 use std::alloc::Global;
 
-/// A network that a script is run on. It can't be let go of: `finish` ends it.
+/// A network that a script is run on. It can't be dropped: `finish` ends it.
 pub struct Session {
     /// The network.
     pub net: TracedNet,
@@ -33,7 +33,7 @@ pub struct Session {
     pub faulty: bool,
 }
 
-/// What a script's run came to. It can't be dropped: `retire` lets go of its network.
+/// What a script's run came to. It can't be dropped: `retire` disposes of its network.
 pub struct Ended {
     /// The run, at its end.
     pub run: EndedNet,
@@ -71,8 +71,8 @@ impl Session {
         }
     }
 
-    /// Does what a line asks. None where it asks nothing. The only error is out of memory: then all but the
-    /// network stays, an event isn't done, and rounds may be done in part.
+    /// Does what a line asks. None where it asks nothing. The only error is out of memory: then
+    /// only the network may have changed; an event isn't done, and rounds may be done in part.
     pub fn answer(&mut self, alloc: Global, line: &[u8]) -> Result<Option<Answer>, NoMemory>
         ensures answered { IfOk result (λ answer. ◌≡◌ {A = Option TheAnswer × TheSession}
             (answer, self.new) (line_answer self.old line.now)) }
@@ -136,7 +136,7 @@ impl Session {
 }
 
 impl Ended {
-    /// Lets go of the network.
+    /// Disposes of the network.
     pub fn retire(self) {
         let Ended { run, faulty: _ } = self;
         run.retire();
@@ -152,7 +152,7 @@ fn do_event(net: &mut TracedNet, event: &Event) -> Result<Reply, EventFault>
     net.apply(event)
 }
 
-/// Does so many rounds, up to the first event that is refused.
+/// Does `count` rounds, up to the first event that is refused.
 #[tactic(auto, using(crate::proofs::Leavings::rounds_left))]
 fn do_rounds<W: Watch>(net: &mut TracedNet, count: u32, watch: &mut W) -> Result<Reply, EventFault>
     ensures due { (◌≡◌ {A = Result TheReply TheFault × TheNet}

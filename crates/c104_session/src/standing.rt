@@ -30,7 +30,7 @@ pub(crate) fn explain_done<W: Write, M: Messages>(
     Ok(())
 }
 
-/// What is told of a line that was done, of which so many rounds changed something: that the network stands still,
+/// What is told of a line that was done, of which `rounds` rounds changed something: that the network stands still,
 /// where the line asks for more rounds than these and tokens are left. Else what it did joins the tally. None where
 /// there is nothing to tell, and out of memory.
 pub(crate) fn message_of_done(

@@ -18,10 +18,9 @@ use c104_token::{NoMemory, Packet, Token, cut_packets, print_packet};
 use itoa::Buffer;
 use std::alloc::Global;
 
-/// A line for each whole packet that arrived, by terminal in the plan's order and then as they
-/// came: the packet, the terminal that sent it, and its number among those that this terminal sent, from 0. It is
-/// made whole before any of it is written, so that none of it is where memory runs out. The only error is out of
-/// memory.
+/// A line for each whole packet that arrived, by terminal in the plan's order and then in order of arrival: the packet,
+/// the terminal that sent it, and its number among those that this terminal sent, from 0. The text is complete before
+/// any of it is written, so that none of it is written where memory runs out. The only error is out of memory.
 pub fn summary_text(alloc: Global, run: &EndedNet) -> Result<Vec<u8>, NoMemory>
     ensures { IfOk result (λ text. text.items ≡ summary run.now) }
 {

@@ -1,6 +1,6 @@
 use Rattle.c104_stream.specs.declared.halt.Halt.TheVariants as halt
 use Rattle.c104_session.proofs.ScriptEnds.{err_is, nothing_answered, script_flushed, script_unflushed}
-use Rattle.c104_session.proofs.answering.answer_script_explained.Goals as goal
+use Rattle.c104_session.proofs.answering.answer_script.Goals as goal
 
 pub returns-in_err-kept-clause-answered : goal.returns-in_err-kept-clause-answered
 returns-in_err-kept-clause-answered g c = rw (err_is _ halt.NoMemory c.from_residual.ensures) (nothing_answered _ _ _ _)

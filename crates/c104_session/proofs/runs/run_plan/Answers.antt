@@ -1,7 +1,7 @@
 use Rattle.c104_stream.specs.declared.halt.Halt.TheVariants as halt
 use Rattle.c104_session.proofs.PlanRuns.{nothing_run}
 use Rattle.c104_session.proofs.ScriptEnds.{err_is}
-use Rattle.c104_session.proofs.runs.run_plan_explained.Goals as goal
+use Rattle.c104_session.proofs.runs.run_plan.Goals as goal
 
 pub returns-in_err-session : goal.returns-in_err-session
 returns-in_err-session g c = rw (err_is _ halt.NoMemory c.from_residual.ensures) (nothing_run _ _ _ _ _)
