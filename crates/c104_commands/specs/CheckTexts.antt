@@ -23,7 +23,7 @@ abbrev pub shown_text : Plan → Shown → List ℕ
 shown_text plan shown =
     codes "from " ++ (terminal_name plan shown.entry ++ (codes " header " ++ (decimal shown.header ++ (codes " walk" ++ flat_map (spaced_port plan) shown.walk))))
 
--- where a fault is; of want of memory nothing is told
+-- where a fault is; out of memory has no place
 abbrev pub check_fault_place : Plan → CheckFault → List ℕ
 check_fault_place plan (fault.RangesOverlap t u) = terminal_name plan t ++ (codes " " ++ terminal_name plan u)
 check_fault_place plan (fault.LabelTooLarge t) = terminal_name plan t

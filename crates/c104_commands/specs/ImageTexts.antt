@@ -8,7 +8,7 @@ use Rattle.c104_describe.specs.Plans.{Plan}
 use Rattle.c104_describe.specs.PlanImage.{Image}
 use Rattle.c104_describe.specs.PlanPrint.{switch_name, terminal_name}
 
--- a number in hexadecimal, in lower case, with so many digits at least: zeros (0x30) stand before them
+-- a number in lower-case hexadecimal, padded in front with zeros (0x30) to at least a given number of digits
 unfoldable pub hex_text : ℕ → ℕ → List ℕ
 hex_text width n = replicate (width - length (digits 16 false n)) 0x30 ++ digits 16 false n
 
@@ -33,7 +33,7 @@ abbrev pub range_lines : Plan → Image → ℕ → List ℕ
 range_lines plan image terminals =
     flat_map (λ t. range_line plan t (slice_get image.ranges t)) (range_with_len 0 terminals)
 
--- the lines of so many of a plan's switches, the first ones
+-- the lines of a plan's first switches, a given number of them
 abbrev pub switch_lines : Plan → Image → ℕ → List ℕ
 switch_lines plan image switches =
     flat_map (λ s. value_lines (switch_name plan s) (slice_get image.settings s)) (range_with_len 0 switches)

@@ -2,14 +2,16 @@ pub mod Statuses
 pub mod Runs
 pub mod CheckTexts
 pub mod Setups
+pub mod Endings
 pub mod Checks
 pub mod ImageTexts
 pub mod Labels
+pub mod LabelRows
 pub mod RangeChanges
 pub mod RowChanges
 pub mod RowSteps
 pub mod Advice
-pub mod Draws
+pub mod Pictures
 pub mod CycleTexts
 pub mod Cycles
 pub mod CycleAdvice

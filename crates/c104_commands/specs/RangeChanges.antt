@@ -20,7 +20,7 @@ abbrev pub AreApart : Plan → ℕ → ℕ → ℕ → Type 0
 AreApart plan t first end =
     (u : ℕ) (d : Terminal) → u < length plan.terminals → u ≢ t → IsApart first end (slice_index_or plan.terminals u d)
 
--- so many labels from first on are headers, and no terminal but this has one of them
+-- the given number of labels from first on are headers, and no terminal but this one has any of them
 abbrev pub IsFreeRange : Plan → ℕ → ℕ → ℕ → Type 0
 IsFreeRange plan t first count = (first + count ≤ header_values plan) × AreApart plan t first (first + count)
 

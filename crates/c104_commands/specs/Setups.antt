@@ -21,7 +21,7 @@ use Rattle.c104_commands.specs.declared.status.Status.TheVariants as status
 abbrev pub SetupResult : Type 0
 SetupResult = Result (Plan × Image) SetupFault
 
--- want of memory, of which no line tells
+-- out of memory, which no line reports
 abbrev pub IsOutOfMemory : SetupFault → Type 0
 IsOutOfMemory (fault.Description why) = why.kind ≡ plan_fault.NoMemory
 IsOutOfMemory (fault.Labels why) = why ≡ label_fault.NoMemory

@@ -16,10 +16,10 @@ use c104_describe::{Image, Plan};
 use c104_token::NoMemory;
 use std::alloc::{AllocError, Global};
 
-/// Tells people of accepted labels whether packets can wait for one another forever, by the names of the plan: a line
-/// that they can't, since there is no cycle of channel dependencies; or lines that say that they can, and by which
-/// cycle, and then those that break it, if one row was found that does. These are `replace: LINE` and then `by: LINE`,
-/// once or more. It fails only when out of memory.
+/// Tells people whether packets can wait for one another forever with accepted labels, by the names of the plan: a line
+/// says that they can't, since there is no cycle of channel dependencies; or lines say that they can, and by which
+/// cycle, followed by those that break it, if changing one row was found to. These are `replace: LINE` and then
+/// `by: LINE`, once or more. It fails only when out of memory.
 pub fn cycle_advice(alloc: Global, plan: &Plan, image: &Image) -> Result<String, NoMemory>
     requires fits { Fits image.now plan.now }
     requires accepted { IsAccepted (routes_of plan.now image.now) }

@@ -25,11 +25,11 @@ use std::alloc::{AllocError, Global};
 /// is wrong and at which input, and then the lines that mend it, if some do. These are `add: LINE`, for lines to be
 /// put behind the description's own, or `replace: LINE` with `by: LINE` after it, once or more.
 ///
-/// What mends a fault of a walk is a select of the last of its inputs from which some group leads the header to
-/// its owner; of a random header it is a row that discards it at an input of its walk, where with that row the labels
-/// are accepted; where the ranges of two terminals meet or a label is no header it is another range. No line is
-/// given where there is none such, or where an input would have more than 36 rows. Of want of memory nothing is
-/// told. It fails only when out of memory.
+/// A fault of a walk is mended by another select at the last of its inputs from which some group leads the header to
+/// its owner; for a random header it is a row that discards it at an input of its walk, if the labels are accepted
+/// with that row; where the ranges of two terminals overlap or a label is no header it is another range. No line is
+/// given where nothing of the kind is found, or where an input would have more than 36 rows. Where the check ran out
+/// of memory, nothing is told. It fails only when out of memory.
 pub fn check_advice(
     alloc: Global,
     plan: &Plan,
@@ -198,8 +198,8 @@ fn walk_change(
     }
 }
 
-/// The lines by which a header selects what mends its walk. Whether a random one may be discarded hangs on what
-/// becomes there of others, so that is tried.
+/// The lines by which a header selects what mends its walk. Whether a random one may be discarded depends on
+/// what becomes of others there, so that is tried.
 fn mend_text(
     alloc: Global,
     plan: &Plan,

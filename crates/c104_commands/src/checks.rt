@@ -4,72 +4,43 @@ ghost use Rattle.c104_check.specs.Checks.{IsCause};
 ghost use Rattle.c104_check.specs.Routes.{IsAccepted, routes_of};
 ghost use Rattle.c104_check.specs.declared.faults.CheckFault.TheVariants as check_fault;
 ghost use Rattle.c104_describe.specs.PlanImage.{Fits};
-ghost use Rattle.c104_describe.specs.PlanText.{read_description};
 ghost use Rattle.c104_describe.specs.Plans.{Plan as ThePlan};
 ghost use Rattle.c104_describe.specs.declared.faults.PlanFault.{PlanFault as ThePlanFault};
 ghost use Rattle.c104_label.specs.Images.{IsImageOf, is_labelled_shape};
-ghost use Rattle.c104_commands.specs.Checks.{CheckEnds, ChecksText, LabelRefusalEnds};
+ghost use Rattle.c104_commands.specs.Checks.{LabelRefusalEnds, PrintsCheck};
+ghost use Rattle.c104_commands.specs.Endings.{CommandEnds, CommandRuns};
 ghost use Rattle.c104_commands.specs.Setups.{ComesTo};
 
 use crate::accepted::cycle_advice;
 use crate::advice::check_advice;
-use crate::setups::{Setup, refuse, set_up};
+use crate::setups::{Setup, read_setup};
 use crate::status::Status;
 use crate::texts::check_fault_text;
 use c104_check::{CheckFault, check};
-use c104_describe::MAX_DESCRIPTION;
-use c104_explain::{About, Messages, Silent};
-use c104_stream::{Halt, read_up_to, write_whole};
+use c104_explain::{About, Messages};
+use c104_stream::write_whole;
 use std::alloc::Global;
 use std::io::{Read, Write};
 
 /// Reads a description and checks its labels; writes `accepted`, or the first fault of the labels, or of the
 /// description.
 ///
-/// Reading ends at 1 MiB, whatever the reader. Each error of the reader or the writer is a fault at once.
-pub fn check_command<D: Read, W: Write>(
-    alloc: Global,
-    description: &mut D,
-    writer: &mut W,
-) -> Status
-    ensures { ChecksText (D.remaining description.old)
-        (W.contents writer.old) (W.contents writer.new) result }
-{
-    check_explained(alloc, description, writer, &mut Silent)
-}
-
-/// The same, and tells people why the description or its labels are refused. What is written and how it ends are
-/// what they are in `check_command`, whatever takes the messages does.
-pub fn check_explained<D: Read, W: Write, M: Messages>(
+/// Reading ends at 1 MiB, whatever the reader. Each error of the reader or the writer is a fault at once. People are
+/// told why the description or its labels are refused; what is written and how it ends are the same whatever takes the
+/// messages does.
+#[tactic(auto, using(crate::proofs::Refusals::runs_before))]
+pub fn check_command<D: Read, W: Write, M: Messages>(
     alloc: Global,
     description: &mut D,
     writer: &mut W,
     messages: &mut M,
 ) -> Status
-    ensures { ChecksText (D.remaining description.old)
+    ensures { CommandRuns PrintsCheck (D.remaining description.old)
         (W.contents writer.old) (W.contents writer.new) result }
 {
-    let text = match read_up_to(alloc, MAX_DESCRIPTION, description) {
-        Ok(text) => text,
-        Err(fault) => return Status::of_halt(Halt::from(fault), 0),
-    };
-    check_description(alloc, text.as_slice(), writer, messages)
-}
-
-/// Checks the labels of a description that is read.
-#[tactic(auto, using(crate::proofs::Refusals::check_refused))]
-fn check_description<W: Write, M: Messages>(
-    alloc: Global,
-    description: &[u8],
-    writer: &mut W,
-    messages: &mut M,
-) -> Status
-    ensures { CheckEnds (read_description description.now)
-        (W.contents writer.old) (W.contents writer.new) result }
-{
-    match set_up(alloc, description) {
+    match read_setup(alloc, description, writer, messages) {
         Ok(setup) => check_setup(alloc, &setup, writer, messages),
-        Err(fault) => refuse(alloc, description, fault, writer, messages),
+        Err(status) => status,
     }
 }
 
@@ -86,7 +57,7 @@ fn check_setup<W: Write, M: Messages>(
     requires accepted { is_labelled_shape setup.now.plan.shape ≡ true
         → IsAccepted (routes_of setup.now.plan setup.now.image) }
     ensures { (due : Result ThePlan ThePlanFault) → ComesTo due (Ok (setup.now.plan, setup.now.image))
-        → CheckEnds due (W.contents writer.old) (W.contents writer.new) result }
+        → CommandEnds PrintsCheck due (W.contents writer.old) (W.contents writer.new) result }
 {
     match check(alloc, &setup.plan, &setup.image) {
         Ok(_) => accept_labels(alloc, setup, writer, messages),
@@ -105,7 +76,7 @@ fn accept_labels<W: Write, M: Messages>(
     requires fits { Fits setup.now.image setup.now.plan }
     requires accepted { IsAccepted (routes_of setup.now.plan setup.now.image) }
     ensures { (due : Result ThePlan ThePlanFault) → ComesTo due (Ok (setup.now.plan, setup.now.image))
-        → CheckEnds due (W.contents writer.old) (W.contents writer.new) result }
+        → CommandEnds PrintsCheck due (W.contents writer.old) (W.contents writer.new) result }
 {
     let Ok(()) = write_whole(writer, b"accepted\n") else {
         return Status::CannotWrite;

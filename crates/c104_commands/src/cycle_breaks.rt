@@ -30,7 +30,7 @@ pub(crate) fn cycle_change(
     Ok(String::new(alloc))
 }
 
-/// The same for the header of one dependency, where so many changes may yet be tried.
+/// The same for the header of one dependency. At most `left` more changes are tried.
 fn change_of(
     alloc: Global,
     plan: &Plan,

@@ -3,76 +3,46 @@ ghost use Rattle.std.specs.Prelude.{◌≡◌, true, IfOk, Ok, Result};
 ghost use Rattle.std.specs.String.{string_bytes};
 ghost use Rattle.c104_check.specs.Routes.{IsAccepted, routes_of};
 ghost use Rattle.c104_describe.specs.PlanImage.{Fits};
-ghost use Rattle.c104_describe.specs.PlanText.{read_description};
 ghost use Rattle.c104_describe.specs.Plans.{Plan as ThePlan};
 ghost use Rattle.c104_describe.specs.declared.faults.PlanFault.{PlanFault as ThePlanFault};
 ghost use Rattle.c104_label.specs.Images.{IsImageOf, is_labelled_shape};
-ghost use Rattle.c104_commands.specs.Cycles.{CyclesEnd, CyclesOfText, TellsCycle, TellsCycles};
+ghost use Rattle.c104_commands.specs.Cycles.{PrintsCycles, TellsCycle, TellsCycles};
+ghost use Rattle.c104_commands.specs.Endings.{CommandEnds, CommandRuns};
 ghost use Rattle.c104_commands.specs.Setups.{ComesTo};
 
 use crate::checks::refuse_labels;
 use crate::cycle_texts::{acyclic_text, cycle_text, edges_text};
-use crate::setups::{Setup, refuse, set_up};
+use crate::setups::{Setup, read_setup};
 use crate::status::Status;
 use c104_check::{CheckFault, RanksOrCycle, channel_dependencies, check, find_cycle};
-use c104_describe::{Image, MAX_DESCRIPTION, Plan};
-use c104_explain::{Messages, Silent};
-use c104_stream::{Halt, read_up_to, write_whole};
+use c104_describe::{Image, Plan};
+use c104_explain::Messages;
+use c104_stream::write_whole;
 use c104_token::NoMemory;
 use std::alloc::Global;
 use std::io::{Read, Write};
 
 /// Reads a description and looks for a cycle of channel dependencies in its network; writes `acyclic`, or a cycle,
-/// which is refused. Where all dependencies are asked for, it writes a line for each of them before. Where the
+/// which is refused. Where all dependencies are asked for, it first writes a line for each of them. Where the
 /// labels or the description are refused, it writes what `check_command` does.
 ///
-/// Reading ends at 1 MiB, whatever the reader. Each error of the reader or the writer is a fault at once.
-pub fn cycles_command<D: Read, W: Write>(
-    alloc: Global,
-    description: &mut D,
-    all: bool,
-    writer: &mut W,
-) -> Status
-    ensures { CyclesOfText all (D.remaining description.old)
-        (W.contents writer.old) (W.contents writer.new) result }
-{
-    cycles_explained(alloc, description, all, writer, &mut Silent)
-}
-
-/// The same, and tells people why the description or its labels are refused. What is written and how it ends are
-/// what they are in `cycles_command`, whatever takes the messages does.
-pub fn cycles_explained<D: Read, W: Write, M: Messages>(
+/// Reading ends at 1 MiB, whatever the reader. Each error of the reader or the writer is a fault at once. People are
+/// told why the description or its labels are refused; what is written and how it ends are the same whatever takes the
+/// messages does.
+#[tactic(auto, using(crate::proofs::Refusals::runs_before))]
+pub fn cycles_command<D: Read, W: Write, M: Messages>(
     alloc: Global,
     description: &mut D,
     all: bool,
     writer: &mut W,
     messages: &mut M,
 ) -> Status
-    ensures { CyclesOfText all (D.remaining description.old)
+    ensures { CommandRuns (PrintsCycles all) (D.remaining description.old)
         (W.contents writer.old) (W.contents writer.new) result }
 {
-    let text = match read_up_to(alloc, MAX_DESCRIPTION, description) {
-        Ok(text) => text,
-        Err(fault) => return Status::of_halt(Halt::from(fault), 0),
-    };
-    search_description(alloc, text.as_slice(), all, writer, messages)
-}
-
-/// Searches the network of a description that is read.
-#[tactic(auto, using(crate::proofs::Refusals::cycles_refused))]
-fn search_description<W: Write, M: Messages>(
-    alloc: Global,
-    description: &[u8],
-    all: bool,
-    writer: &mut W,
-    messages: &mut M,
-) -> Status
-    ensures { CyclesEnd all (read_description description.now)
-        (W.contents writer.old) (W.contents writer.new) result }
-{
-    match set_up(alloc, description) {
+    match read_setup(alloc, description, writer, messages) {
         Ok(setup) => search_setup(alloc, &setup, all, writer, messages),
-        Err(fault) => refuse(alloc, description, fault, writer, messages),
+        Err(status) => status,
     }
 }
 
@@ -90,7 +60,7 @@ fn search_setup<W: Write, M: Messages>(
     requires accepted { is_labelled_shape setup.now.plan.shape ≡ true
         → IsAccepted (routes_of setup.now.plan setup.now.image) }
     ensures { (due : Result ThePlan ThePlanFault) → ComesTo due (Ok (setup.now.plan, setup.now.image))
-        → CyclesEnd all due (W.contents writer.old) (W.contents writer.new) result }
+        → CommandEnds (PrintsCycles all) due (W.contents writer.old) (W.contents writer.new) result }
 {
     match check(alloc, &setup.plan, &setup.image) {
         Ok(_) => search_accepted(alloc, setup, all, writer),
@@ -104,7 +74,7 @@ fn search_accepted<W: Write>(alloc: Global, setup: &Setup, all: bool, writer: &m
     requires fits { Fits setup.now.image setup.now.plan }
     requires accepted { IsAccepted (routes_of setup.now.plan setup.now.image) }
     ensures { (due : Result ThePlan ThePlanFault) → ComesTo due (Ok (setup.now.plan, setup.now.image))
-        → CyclesEnd all due (W.contents writer.old) (W.contents writer.new) result }
+        → CommandEnds (PrintsCycles all) due (W.contents writer.old) (W.contents writer.new) result }
 {
     let Ok(found) = find(alloc, &setup.plan, &setup.image, all) else {
         return Status::NoMemory;

@@ -91,7 +91,7 @@ fn end_of_randoms(plan: &Plan, terminal: usize, header: u32) -> u32
     end.min(next_label(plan, header))
 }
 
-/// The first number past a random header that is no random header of the input, where there are so many headers.
+/// The first number past a random header that is no random header of the input, with `headers` headers in all.
 fn end_of_random(random: PlanRandom, headers: u32, header: u32) -> u32
     requires { 0 < headers }
 {

@@ -1,17 +1,14 @@
 //! The commands of the program's command line, as functions over readers and a writer.
 //!
-//! `run` takes a description and a script from two readers, `run_text` both from one text;
+//! `run` takes a description and a script from two readers, `debug_command` a script line by line, `run_text` both from
+//! one text;
 //! `check_command` takes a description alone, and checks its labels, and `cycles_command` looks for a cycle of
-//! channel dependencies; `label_command` shows the labels, and `draw_command`, `draw_header_command` and
-//! `draw_cycles_command` draw the network. Each reads no further than the limits of a description, 1 MiB, and of a
-//! script, 16 MiB.
+//! channel dependencies; `label_command` shows the labels, `label_rows_command` the same by `row` lines, and
+//! `draw_command` draws the network. Each reads no further than the limits of a description, 1 MiB, and of a script,
+//! 16 MiB.
 //!
-//! `debug_command` is `run` of a script that comes line by line.
-//!
-//! Each of them has a second form that tells people of what is faulty, refused, not ready or didn't arrive, by
-//! what takes `Messages`: `run_explained`, `run_text_explained`, `check_explained`, `label_explained`,
-//! `cycles_explained`, `draw_explained`, `draw_cycles_explained` and `debug_explained`. What these write and answer
-//! is the same. `debug_explained` also tells what a person asks among the lines.
+//! Each of them reports what is faulty, refused, not ready or didn't arrive to what takes `Messages`; what it writes
+//! and answers is the same whatever that does. Give `Silent` to report to nobody.
 //!
 //! A `Status` is how a command ended; it keeps which of two readers failed, and stands for the program's
 //! exit status. The texts of the program's messages are in `c104`, which has `main`.
@@ -23,10 +20,10 @@ mod checks;
 mod cycle_breaks;
 mod cycle_texts;
 mod cycles;
-mod debugging;
 mod discarding;
 mod draws;
 mod images;
+mod label_rows;
 mod labels;
 mod mending;
 mod pictures;
@@ -40,15 +37,14 @@ mod trials;
 
 pub use accepted::cycle_advice;
 pub use advice::check_advice;
-pub use checks::{check_command, check_explained};
-pub use cycles::{cycles_command, cycles_explained};
-pub use debugging::{debug_command, debug_explained};
-pub use draws::{
-    draw_command, draw_cycles_command, draw_cycles_explained, draw_explained, draw_header_command,
-};
+pub use checks::check_command;
+pub use cycles::cycles_command;
+pub use draws::draw_command;
 pub use images::image_text;
-pub use labels::{label_command, label_explained};
-pub use runs::{run, run_explained, run_text, run_text_explained};
+pub use label_rows::{label_rows_command, rows_text};
+pub use labels::label_command;
+pub use pictures::Marks;
+pub use runs::{debug_command, run, run_text};
 pub use setups::label_fault_text;
 pub use status::Status;
 pub use texts::check_fault_text;

@@ -47,7 +47,7 @@ fn range_text(
     format!(in alloc; "{word}: terminal {name} {port} labels {count} from {first}\n")
 }
 
-/// Where so many labels of a terminal could begin.
+/// Where `count` labels of a terminal could begin.
 fn free_first(plan: &Plan, number: usize, count: u32) -> Option<u32>
     ensures { MatchOption result ⊤ (λ first. IsFreeRange plan.now number first count) }
 {
@@ -73,7 +73,7 @@ fn is_above(first: u32, best: Option<u32>) -> bool {
     }
 }
 
-/// Whether so many labels from one on are headers, no other terminal's, and not random.
+/// Whether `count` labels from `first` on are headers, no other terminal's, and not random.
 fn is_free(plan: &Plan, number: usize, first: u32, count: u32) -> bool
     ensures { result ≡ true → IsFreeRange plan.now number first count }
 {
@@ -107,7 +107,7 @@ fn are_random(plan: &Plan, first: u32, end: u64) -> bool {
     false
 }
 
-/// Whether a random header of an input is one of the labels from one to another, where there are so many headers.
+/// Whether a random header of an input is one of the labels from one to another, with `headers` headers in all.
 fn meets_random(random: PlanRandom, headers: u32, first: u32, end: u64) -> bool
     requires { 0 < headers }
 {

@@ -88,7 +88,7 @@ fn change_of(change: Change, covering: Covering) -> RowChange
     }
 }
 
-/// Whether so many rows and these are at most a number.
+/// Whether `count` rows and these are at most `most` together.
 fn has_room(count: usize, rows: NewRows, most: usize) -> bool
     requires { most < 64 }
     ensures { result ≡ nat_le (count + length (new_rows rows)) most }

@@ -14,24 +14,30 @@ ghost use Rattle.c104_commands.specs.Runs.{RunsParts, RunsDescription, RunsText}
 use crate::setups::{Setup, drop_plan, refuse, set_up};
 use crate::status::Status;
 use c104_describe::{Image, MAX_DESCRIPTION, Plan};
-use c104_explain::{Behind, Messages, Silent};
+use c104_explain::{Behind, Messages};
 use c104_script::read_first_part;
-use c104_session::run_plan_explained;
+use c104_session::run_plan;
 use c104_stream::{Ahead, Halt, read_up_to};
 use std::alloc::Global;
 use std::io::{Read, Write};
 
 /// Reads a description, and then reads and answers a script on its network, started with the image of
 /// its labels; at the end writes what arrived. All answers are written before the script's reader is asked for
-/// more.
+/// more: where it gives at most a line at a time, each line is answered before the next is read.
+///
+/// It tells people of each line that is faulty, refused or not ready, and at the end of what didn't arrive. Where a
+/// person types the script, the messages also answer `help`, `show` and `where`: what is written answers them as any
+/// unknown word. What is written and how it ends are the same whatever takes the messages does.
 ///
 /// Reading ends at 1 MiB of a description and at 16 MiB of a script, whatever the reader. Each error
 /// of a reader or a writer is a fault at once.
-pub fn run<D: Read, S: Read, W: Write>(
+#[tactic(auto, using(c104_session::proofs::LinesLaw::lines_law))]
+pub fn run<D: Read, S: Read, W: Write, M: Messages>(
     alloc: Global,
     description: &mut D,
     script: &mut S,
     writer: &mut W,
+    messages: &mut M,
 ) -> Status
     ensures runs { RunsParts (D.remaining description.old) (S.remaining script.old)
         (S.remaining script.new)
@@ -45,13 +51,11 @@ pub fn run<D: Read, S: Read, W: Write>(
     // What the lines of a script are, in words.
     ensures lines { (script : List ℕ) → AreOnlyLines script (script_lines script) }
 {
-    run_explained(alloc, description, script, writer, &mut Silent)
+    run_parts(alloc, description, script, writer, messages)
 }
 
-/// The same, and tells people of each line that is faulty, refused or not ready, and at the end of what
-/// didn't arrive. What is written and how it ends are what they are in `run`, whatever takes the messages does.
-#[tactic(auto, using(c104_session::proofs::LinesLaw::lines_law))]
-pub fn run_explained<D: Read, S: Read, W: Write, M: Messages>(
+/// `run` of a script that comes line by line, from a program or from a person who types it.
+pub fn debug_command<D: Read, S: Read, W: Write, M: Messages>(
     alloc: Global,
     description: &mut D,
     script: &mut S,
@@ -65,7 +69,7 @@ pub fn run_explained<D: Read, S: Read, W: Write, M: Messages>(
     ensures of_script { result ≡ status.CannotRead 1 → IsAtEnd (D.remaining description.new) }
     ensures lines { (script : List ℕ) → AreOnlyLines script (script_lines script) }
 {
-    run_parts(alloc, description, script, writer, messages)
+    run(alloc, description, script, writer, messages)
 }
 
 /// The same, but for what the lines of a script are.
@@ -94,8 +98,14 @@ fn run_parts<D: Read, S: Read, W: Write, M: Messages>(
 
 /// The same of one text: its description ends at the first line whose only word is `script`, and the
 /// script follows that line. Where there is no such line the script is empty, and where it hasn't
-/// ended within 1 MiB the description is too long.
-pub fn run_text<R: Read, W: Write>(alloc: Global, text: &mut R, writer: &mut W) -> Status
+/// ended within 1 MiB the description is too long. Messages name the lines of the text.
+#[tactic(auto, using(c104_script::proofs::PartsLaw::parts_law, c104_session::proofs::LinesLaw::lines_law))]
+pub fn run_text<R: Read, W: Write, M: Messages>(
+    alloc: Global,
+    text: &mut R,
+    writer: &mut W,
+    messages: &mut M,
+) -> Status
     ensures runs { RunsText (R.remaining text.old) (R.remaining text.new)
         (W.contents writer.old) (W.contents writer.new) result }
 
@@ -104,24 +114,6 @@ pub fn run_text<R: Read, W: Write>(alloc: Global, text: &mut R, writer: &mut W) 
         StopsBeforeScript (R.remaining text.old) (R.remaining text.new) }
 
     // What the parts of a text and the lines of a script are, in words.
-    ensures parted { (text : List ℕ) → AreOnlyParts text (parts text) }
-    ensures lines { (script : List ℕ) → AreOnlyLines script (script_lines script) }
-{
-    run_text_explained(alloc, text, writer, &mut Silent)
-}
-
-/// The same, and tells people what `run_explained` does, by the lines of the text.
-#[tactic(auto, using(c104_script::proofs::PartsLaw::parts_law, c104_session::proofs::LinesLaw::lines_law))]
-pub fn run_text_explained<R: Read, W: Write, M: Messages>(
-    alloc: Global,
-    text: &mut R,
-    writer: &mut W,
-    messages: &mut M,
-) -> Status
-    ensures runs { RunsText (R.remaining text.old) (R.remaining text.new)
-        (W.contents writer.old) (W.contents writer.new) result }
-    ensures of_description { result ≡ status.CannotRead 0 →
-        StopsBeforeScript (R.remaining text.old) (R.remaining text.new) }
     ensures parted { (text : List ℕ) → AreOnlyParts text (parts text) }
     ensures lines { (script : List ℕ) → AreOnlyLines script (script_lines script) }
 {
@@ -197,7 +189,7 @@ fn run_image<S: Read, W: Write, M: Messages>(
         (W.contents writer.old) (W.contents writer.new) result }
     ensures of_script { (n : ℕ) → result ≡ status.CannotRead n → n ≡ 1 }
 {
-    match run_plan_explained(alloc, plan, image, ahead, script, writer, messages) {
+    match run_plan(alloc, plan, image, ahead, script, writer, messages) {
         Ok(false) => Status::Done,
         Ok(true) => Status::Refused,
         Err(halt) => Status::of_halt(halt, 1),

@@ -1,22 +1,23 @@
 //! What every command begins with: a description is read, and its network is labelled.
-ghost use Rattle.std.specs.Prelude.{ℕ, ◌≡◌, ◌≢◌, ◌≤◌, true, false, length, Ok, Err, IfErr, IfOk};
+ghost use Rattle.std.specs.Prelude.{ℕ, ◌≡◌, ◌≢◌, ◌≤◌, true, false, length, Ok, Err, IfErr, IfOk, Some};
 ghost use Rattle.std.specs.String.{string_bytes};
 ghost use Rattle.c104_check.specs.Routes.{IsAccepted, routes_of};
 ghost use Rattle.c104_describe.specs.PlanImage.{Fits};
 ghost use Rattle.c104_describe.specs.PlanText.{most_bytes, read_description};
 ghost use Rattle.c104_label.specs.Images.{IsImageOf, is_labelled_shape};
+ghost use Rattle.c104_commands.specs.Endings.{EndsBefore, IsSetup};
 ghost use Rattle.c104_commands.specs.Setups.{ComesTo, IsOutOfMemory, RefusalEnds, label_fault_text, refused_text};
 ghost use Rattle.c104_commands.specs.declared.status.Status.TheVariants as status;
 
 use crate::status::Status;
-use c104_describe::{Image, Plan, PlanFault, PlanFaultKind, read_description};
+use c104_describe::{Image, MAX_DESCRIPTION, Plan, PlanFault, PlanFaultKind, read_description};
 use c104_explain::{About, Messages, description_message};
 use c104_label::{LabelFault, image_of};
 use c104_script::description_text;
-use c104_stream::write_whole;
+use c104_stream::{Halt, read_up_to, write_whole};
 use c104_token::NoMemory;
 use std::alloc::Global;
-use std::io::Write;
+use std::io::{Read, Write};
 
 /// A network with its labels: its plan, and the image of them.
 #[derive(Drop)]
@@ -56,6 +57,57 @@ pub(crate) fn set_up(alloc: Global, description: &[u8]) -> Result<Setup, SetupFa
             drop_plan(plan);
             Err(SetupFault::Labels(fault))
         }
+    }
+}
+
+/// Reads a description and labels its network. Where that gives none, it writes why, and the error is how the
+/// command ends.
+///
+/// Reading ends at 1 MiB, whatever the reader. Each error of the reader or the writer is a fault at once.
+pub(crate) fn read_setup<D: Read, W: Write, M: Messages>(
+    alloc: Global,
+    description: &mut D,
+    writer: &mut W,
+    messages: &mut M,
+) -> Result<Setup, Status>
+    ensures network { IfOk result (λ setup.
+        IsSetup (D.remaining description.old) (Ok (setup.plan, setup.image))) }
+    ensures fits { IfOk result (λ setup. Fits setup.image setup.plan) }
+    ensures own { IfOk result (λ setup. IsImageOf setup.plan setup.image) }
+    ensures accepted { IfOk result (λ setup. is_labelled_shape setup.plan.shape ≡ true
+        → IsAccepted (routes_of setup.plan setup.image)) }
+    ensures unwritten { IfOk result (λ _. W.contents writer.old ≡ W.contents writer.new) }
+    ensures refused { IfErr result (λ status. EndsBefore (D.remaining description.old)
+        (W.contents writer.old) (W.contents writer.new) status) }
+{
+    let text = match read_up_to(alloc, MAX_DESCRIPTION, description) {
+        Ok(text) => text,
+        Err(fault) => return Err(Status::of_halt(Halt::from(fault), 0)),
+    };
+    set_up_text(alloc, text.as_slice(), writer, messages)
+}
+
+/// The same of a description that is read.
+#[tactic(auto, using(crate::proofs::Refusals::ends_before))]
+fn set_up_text<W: Write, M: Messages>(
+    alloc: Global,
+    description: &[u8],
+    writer: &mut W,
+    messages: &mut M,
+) -> Result<Setup, Status>
+    ensures network { IfOk result (λ setup.
+        ComesTo (read_description description.now) (Ok (setup.plan, setup.image))) }
+    ensures fits { IfOk result (λ setup. Fits setup.image setup.plan) }
+    ensures own { IfOk result (λ setup. IsImageOf setup.plan setup.image) }
+    ensures accepted { IfOk result (λ setup. is_labelled_shape setup.plan.shape ≡ true
+        → IsAccepted (routes_of setup.plan setup.image)) }
+    ensures unwritten { IfOk result (λ _. W.contents writer.old ≡ W.contents writer.new) }
+    ensures refused { IfErr result (λ status. EndsBefore (Some description.now)
+        (W.contents writer.old) (W.contents writer.new) status) }
+{
+    match set_up(alloc, description) {
+        Ok(setup) => Ok(setup),
+        Err(fault) => Err(refuse(alloc, description, fault, writer, messages)),
     }
 }
 
@@ -119,7 +171,7 @@ fn explain_description<M: Messages>(
 }
 
 impl SetupFault {
-    /// Whether this is want of memory, of which no line tells.
+    /// Whether this is out of memory, of which no line tells.
     fn is_no_memory(self) -> bool
         ensures told { result ≡ false → IsOutOfMemory self → ⊥ }
         ensures untold { result ≡ true → IsOutOfMemory self }

@@ -22,8 +22,8 @@ pub enum Status {
 }
 
 impl Status {
-    /// How a command ends that stopped so. The number says what was read, 0 for the description and 1
-    /// for the script.
+    /// How a command ends that stopped for this reason. The number says what was read, 0 for the
+    /// description and 1 for the script.
     pub fn of_halt(halt: Halt, number: u8) -> Self
         ensures { result ≡ halt_status halt number }
     {

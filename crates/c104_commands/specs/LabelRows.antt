@@ -1,0 +1,23 @@
+-- What `label --rows` prints of a network: the description of the plan by hand that has the image.
+use Rattle.std.specs.Prelude.{ℕ, ◌≡◌, ◌≤◌, Bool, false, List, length, Ok}
+use Rattle.c104_describe.specs.Plans.{Plan}
+use Rattle.c104_describe.specs.PlanImage.{Image, hand_image}
+use Rattle.c104_describe.specs.PlanPrint.{plan_text}
+use Rattle.c104_describe.specs.PlanText.{most_bytes, read_description}
+use Rattle.c104_describe.specs.RowPlans.{IsOfNetwork, row_plan}
+use Rattle.c104_describe.specs.declared.plans.Shape.TheVariants.{Hand}
+
+-- that description, unless it is too long to be read, is read as a plan of the same network, which isn't labelled anew,
+-- since its own lines give the image
+abbrev pub IsReadBack : Plan → Image → Type 0
+IsReadBack plan image =
+    IsOfNetwork plan (row_plan plan image)
+    × ((row_plan plan image).shape ≡ Hand)
+    × (hand_image (row_plan plan image) ≡ image)
+    × (length (plan_text (row_plan plan image)) ≤ most_bytes →
+    read_description (plan_text (row_plan plan image)) ≡ Ok (row_plan plan image))
+
+-- what it prints, which isn't refused
+abbrev pub PrintsRows : Plan → Image → List ℕ → Bool → Type 0
+PrintsRows plan image text refused =
+    (text ≡ plan_text (row_plan plan image)) × (refused ≡ false) × IsReadBack plan image
