@@ -2,20 +2,21 @@
 //!
 //! `main` reads the command line, opens what it names, calls the function of a command and says what that
 //! function's `Status` means: a message on standard error and an exit status. The words of the command
-//! line and its help are in `command_line`, what a path stands for in `sources`, a script that is typed in
-//! `typed`, what people are told beside the answers in `told`; the functions of the commands are those of `c104_commands`.
+//! line are in `command_line`, the table of subcommands in `subcommands`, the texts of help in `help`, what a path
+//! stands for in `sources`, a script that is typed in `typed`, what people are told beside the answers in `told`; the
+//! functions of the commands are those of `c104_commands`.
 #![tactic(auto)]
 
 mod command_line;
+mod help;
 mod sources;
+mod subcommands;
 mod told;
 mod typed;
 
 pub use c104_commands::{
-    Status, check_command, check_explained, cycles_command, cycles_explained, debug_command,
-    debug_explained, draw_command, draw_cycles_command, draw_cycles_explained, draw_explained,
-    draw_header_command, label_command, label_explained, run, run_explained, run_text,
-    run_text_explained,
+    Marks, Status, check_command, cycles_command, debug_command, draw_command, label_command,
+    label_rows_command, run, run_text,
 };
 use c104_describe::{MAX_DESCRIPTION, read_description};
 use c104_explain::{About, Messages};
@@ -27,6 +28,7 @@ use std::fs::File;
 use std::io::{Input, IsTerminal, Read};
 use std::process::ExitCode;
 use std::{env, io};
+use subcommands::Subcommand;
 use told::{Told, tell_of_words};
 use typed::Typed;
 
@@ -47,7 +49,7 @@ fn main(rt: HostRuntime) -> ExitCode {
     match command_words(&rt) {
         Ok(words) => do_words(&rt, words.as_slice()),
         Err(error) if error.kind() == io::ErrorKind::OutOfMemory => {
-            finish(&rt, Status::NoMemory, Order::RunText)
+            finish(&rt, Status::NoMemory, Order::PLAIN)
         }
         Err(_) => {
             let _ = rt.eprintln("error: a word isn't UTF-8\n\nFor more information, try '--help'.");
@@ -82,7 +84,7 @@ fn do_words(rt: &HostRuntime, words: &[String]) -> ExitCode {
         Err(error) => error,
     };
     if error.kind() == ErrorKind::OutOfMemory {
-        return finish(rt, Status::NoMemory, Order::RunText);
+        return finish(rt, Status::NoMemory, Order::PLAIN);
     }
     let shown = error.print(rt);
     if error.use_stderr() {
@@ -93,26 +95,21 @@ fn do_words(rt: &HostRuntime, words: &[String]) -> ExitCode {
         Ok(()) => Status::Done,
         Err(_) => Status::CannotWrite,
     };
-    finish(rt, status, Order::RunText)
+    finish(rt, status, Order::PLAIN)
 }
 
 /// Does an order, and tells what people are to be told.
 fn do_order(rt: &HostRuntime, order: Order<'_>, told: &mut Told<'_>) -> Status {
-    match order {
-        Order::RunText => run_one_text(rt, told),
-        Order::RunFiles {
-            description,
-            script,
-        } => run_files(rt, description, script, told),
-        Order::Debug { description } => debug_file(rt, description, told),
-        Order::Check { description } => check_file(rt, description, told),
-        Order::Cycles { description, all } => search_file(rt, description, all, told),
-        Order::Label { description } => label_file(rt, description, told),
-        Order::Draw {
-            description,
-            header,
-        } => draw_file(rt, description, header, told),
-        Order::DrawCycle { description } => draw_cycle_file(rt, description, told),
+    match order.subcommand {
+        Subcommand::Run => match order.script {
+            Some(script) => run_files(rt, order.description, script, told),
+            None => run_one_text(rt, told),
+        },
+        Subcommand::Debug => debug_file(rt, order.description, told),
+        Subcommand::Check => check_file(rt, order.description, told),
+        Subcommand::Cycles => search_file(rt, order.description, order.all, told),
+        Subcommand::Label => label_file(rt, order, told),
+        Subcommand::Draw => draw_file(rt, order, told),
     }
 }
 
@@ -122,7 +119,7 @@ fn run_one_text(rt: &HostRuntime, told: &mut Told<'_>) -> Status {
         told.tell(About::Run, AWAITED);
     }
     let mut text = Watched::new(rt.reader());
-    let status = run_text_explained(rt.alloc(), &mut text, &mut io::writer(rt), told);
+    let status = run_text(rt.alloc(), &mut text, &mut io::writer(rt), told);
     told.note_fault(text.fault());
     status
 }
@@ -166,7 +163,7 @@ fn run_files(rt: &HostRuntime, description: &str, script: &str, told: &mut Told<
     let Some(mut script) = open_path(rt, script, told) else {
         return Status::CannotRead(1);
     };
-    let status = run_explained(
+    let status = run(
         rt.alloc(),
         &mut description,
         &mut script,
@@ -190,9 +187,9 @@ fn debug_file(rt: &HostRuntime, description: &str, told: &mut Told<'_>) -> Statu
     let mut writer = io::writer(rt);
     let status = if told.are_asked() {
         let mut typed = Typed::new(rt, script);
-        debug_explained(rt.alloc(), &mut description, &mut typed, &mut writer, told)
+        debug_command(rt.alloc(), &mut description, &mut typed, &mut writer, told)
     } else {
-        let status = debug_explained(rt.alloc(), &mut description, &mut script, &mut writer, told);
+        let status = debug_command(rt.alloc(), &mut description, &mut script, &mut writer, told);
         told.note_fault(script.fault());
         status
     };
@@ -207,7 +204,7 @@ fn check_file(rt: &HostRuntime, description: &str, told: &mut Told<'_>) -> Statu
     let Some(mut description) = open_path(rt, description, told) else {
         return Status::CannotRead(0);
     };
-    let status = check_explained(rt.alloc(), &mut description, &mut io::writer(rt), told);
+    let status = check_command(rt.alloc(), &mut description, &mut io::writer(rt), told);
     told.note_fault(description.fault());
     status
 }
@@ -217,29 +214,28 @@ fn search_file(rt: &HostRuntime, description: &str, all: bool, told: &mut Told<'
     let Some(mut description) = open_path(rt, description, told) else {
         return Status::CannotRead(0);
     };
-    let status = cycles_explained(rt.alloc(), &mut description, all, &mut io::writer(rt), told);
+    let status = cycles_command(rt.alloc(), &mut description, all, &mut io::writer(rt), told);
     told.note_fault(description.fault());
     status
 }
 
 /// Labels the network of a description's file.
-fn label_file(rt: &HostRuntime, description: &str, told: &mut Told<'_>) -> Status {
-    let Some(mut description) = open_path(rt, description, told) else {
+fn label_file(rt: &HostRuntime, order: Order<'_>, told: &mut Told<'_>) -> Status {
+    let Some(mut description) = open_path(rt, order.description, told) else {
         return Status::CannotRead(0);
     };
-    let status = label_explained(rt.alloc(), &mut description, &mut io::writer(rt), told);
+    let status = if order.rows {
+        label_rows_command(rt.alloc(), &mut description, &mut io::writer(rt), told)
+    } else {
+        label_command(rt.alloc(), &mut description, &mut io::writer(rt), told)
+    };
     told.note_fault(description.fault());
     status
 }
 
 /// Draws the network of a description's file. A header that its packets can't have is a wrong word.
-fn draw_file(
-    rt: &HostRuntime,
-    description: &str,
-    header: Option<u16>,
-    told: &mut Told<'_>,
-) -> Status {
-    let Some(mut source) = open_path(rt, description, told) else {
+fn draw_file(rt: &HostRuntime, order: Order<'_>, told: &mut Told<'_>) -> Status {
+    let Some(mut source) = open_path(rt, order.description, told) else {
         return Status::CannotRead(0);
     };
     let text = match read_up_to(rt.alloc(), MAX_DESCRIPTION, &mut source) {
@@ -250,9 +246,10 @@ fn draw_file(
             return Status::CannotRead(0);
         }
     };
-    if let Some(header) = header
+    let mut text = text.as_slice();
+    if let Some(header) = order.header
         && header > LAST_SHORT_HEADER
-        && has_short_headers(rt, text.as_slice())
+        && has_short_headers(rt, text)
     {
         let _ = eprintln!(rt;
             "error: the headers of this network have one byte, 0 to 255: {header}"
@@ -260,12 +257,22 @@ fn draw_file(
         told.note_wrong_word();
         return Status::Refused;
     }
-    let header = match header {
-        Some(header) => Some(u32::from(header)),
-        None => None,
-    };
-    let mut text = text.as_slice();
-    draw_explained(rt.alloc(), &mut text, header, &mut io::writer(rt), told)
+    draw_command(
+        rt.alloc(),
+        &mut text,
+        marks_of(order),
+        &mut io::writer(rt),
+        told,
+    )
+}
+
+/// What is to be marked in a picture.
+fn marks_of(order: Order<'_>) -> Marks {
+    match order.header {
+        Some(header) => Marks::Header(u32::from(header)),
+        None if order.cycles => Marks::Cycle,
+        None => Marks::Nothing,
+    }
 }
 
 /// Whether the headers of a description's network have one byte.
@@ -274,16 +281,6 @@ fn has_short_headers(rt: &HostRuntime, description: &[u8]) -> bool {
         Ok(plan) => plan.header() == 1,
         Err(_) => false,
     }
-}
-
-/// Draws the network of a description's file with a cycle of channel dependencies.
-fn draw_cycle_file(rt: &HostRuntime, description: &str, told: &mut Told<'_>) -> Status {
-    let Some(mut description) = open_path(rt, description, told) else {
-        return Status::CannotRead(0);
-    };
-    let status = draw_cycles_explained(rt.alloc(), &mut description, &mut io::writer(rt), told);
-    told.note_fault(description.fault());
-    status
 }
 
 /// Says on standard error what failed, and gives the exit status.

@@ -2,6 +2,7 @@
 ghost use Rattle.c104.specs.Sources.{source_remaining};
 
 use std::io::{Input, Read};
+use std::marker::Model;
 use std::rt::Files;
 use std::{fs, io};
 
@@ -39,19 +40,33 @@ impl<F: Read + Drop, I: Read + Drop> Read for Source<F, I> {
     }
 }
 
-/// A reader, of which is kept why it failed last.
+/// A reader, of which is kept why it failed last. At its end it isn't asked again: a terminal goes on behind the end of
+/// input that a person typed.
 #[derive(Drop)]
 pub struct Watched<R: Read + Drop> {
     reader: R,
+    ended: bool,
     // The system's number of the fault.
     fault: Option<i32>,
 }
 
+impl<R: Read + Drop> Model for Watched<R> {
+    ghost use Rattle.std.specs.Prelude.{◌≡◌, true};
+    ghost use Rattle.std.specs.Io.KnownBytes.{IsAtEnd};
+
+    ghost Value = { R };
+
+    ghost view = { λ watched. watched.reader };
+
+    ghost invariant = { λ watched. watched.ended ≡ true → IsAtEnd (R.remaining watched.reader) };
+}
+
 impl<R: Read + Drop> Watched<R> {
-    /// A reader that hasn't failed.
+    /// A reader that hasn't failed, or ended.
     pub fn new(reader: R) -> Self {
         Watched {
             reader,
+            ended: false,
             fault: None,
         }
     }
@@ -63,11 +78,17 @@ impl<R: Read + Drop> Watched<R> {
 }
 
 impl<R: Read + Drop> Read for Watched<R> {
-    ghost remaining = { λ watched. R.remaining watched.reader };
+    ghost remaining = { R.remaining };
 
     fn read(&mut self, buf: &mut [u8]) -> io::Result<usize> {
+        if self.ended {
+            return Ok(0);
+        }
         match self.reader.read(buf) {
-            Ok(count) => Ok(count),
+            Ok(count) => {
+                self.ended = count == 0 && !buf.is_empty();
+                Ok(count)
+            }
             Err(error) => {
                 self.fault = error.raw_os_error();
                 Err(error)

@@ -1,6 +1,7 @@
 //! What people are told on standard error, and where that is wanted.
 
 use crate::command_line::{EXPLAIN_WORD, Order};
+use crate::subcommands::Subcommand;
 use c104_commands::Status;
 use c104_explain::{About, Messages};
 use clap::Error;
@@ -47,7 +48,7 @@ impl<'a> Told<'a> {
     /// terminal.
     pub fn new(rt: &'a HostRuntime, order: Order<'a>, explain: bool) -> Self {
         let is_watched = rt.stderr().is_terminal();
-        let is_typed = matches!(order, Order::Debug { .. }) && rt.stdin().is_terminal();
+        let is_typed = matches!(order.subcommand, Subcommand::Debug) && rt.stdin().is_terminal();
         Told {
             rt,
             order,

@@ -1,0 +1,111 @@
+//! The texts that help shows below the options, of the program and of each subcommand.
+
+/// What the program is for.
+pub const ABOUT: &str = "Emulates networks of IMS C104 packet routing switches, event by event";
+
+/// Of the program.
+pub const PROGRAM: &str = "A run has two inputs, which are text:
+
+  The description says of what the network consists, a part on each line:
+  switches, the wires between them, the terminals on their links, and the rows
+  by which an input of a switch chooses the output for a packet's header.
+
+  The script says what happens in it: on each line an event, rounds, or a register
+  that is to be read or set. Each line's number and answer are printed as soon as it
+  is read. At the end comes each packet that arrived: the terminal's name, the packet,
+  its sender, and its number there.
+
+They are two files, or one text on standard input: the description, a line whose
+only word is `script`, and then the script. `c104` alone is `c104 run`.
+
+Examples:
+  c104 run network.txt events.txt     a description and a script from two files
+  c104 < examples/first-network.txt   both in one text
+  c104 debug network.txt              a description from a file, and a script as you type it
+  c104 check network.txt              whether its packets can go astray
+  c104 cycles network.txt             whether they can wait for one another forever
+  c104 label network.txt              which labels and registers it gives
+  c104 label --rows network.txt       the same labels, as row lines
+  c104 draw network.txt | dot -Tsvg   its picture
+
+Under --explain, standard error explains what is wrong with a line or with labels, why
+an event isn't ready, who waits for whom where nothing moves, and what wasn't
+delivered. This is the default on a terminal, where long `rounds` also report progress.
+Standard output is the same.
+
+Exit status:
+  0  done, even if an event was refused
+  1  the description, its labels or a line of the script was refused, or a cycle was found
+  2  the command line is wrong
+  3  a file can't be opened or read, or the output can't be written
+  4  out of memory";
+
+/// Of `run`.
+pub const RUN: &str = "Without DESC and SCRIPT both are read from standard input as one text: the
+description, a line whose only word is `script`, and then the script.";
+
+/// Of `debug`.
+pub const DEBUG: &str =
+    "The script is read from standard input, and each line is answered before the next is
+read. Where standard input and standard error are terminals, a prompt is shown, with the
+line's number, and standard error also answers questions: `help` lists the lines that
+there are, `show` shows the links of a switch, one link or a terminal, and `show waiting`
+which outputs the inputs hold and want; `where` shows where a packet is, by the terminal
+that sent it and its number. On standard output these are unknown words, as in `run`.
+The end of input, Ctrl-D, ends the script; `quit` and `exit` say so, and don't change
+the exit status.
+
+Lines can be edited and called back under rlwrap: `rlwrap c104 debug DESC`.";
+
+/// Of `check`.
+pub const CHECK: &str =
+    "The labels of a terminal are the headers that it owns. Every way of each header,
+from every terminal and over any link of a group, has to end at its owner, also from
+the owner itself; a header without an owner has to be dropped where it comes in. A
+random header, which an input puts before a packet, has to end at an input that
+discards it, and the packet goes on from there. Prints `accepted`, or the first fault,
+with the header, the terminal that it comes from, and the inputs on its way.
+
+On a terminal, or under --explain, standard error says where the header goes wrong
+and, where some rows or labels do, which lines of the description fix it; and of
+labels that are accepted, whether packets can wait for one another forever.";
+
+/// Of `cycles`.
+pub const CYCLES: &str =
+    "One input depends on another where a packet that comes in at the one may have to
+wait until what came in at the other has gone on. Where the labels are accepted and no
+inputs depend on one another in a cycle, `rounds` brings each packet with a whole
+header that a terminal owns to that terminal, unless some terminal or a trace is full;
+where they do, packets can wait for one another forever. Prints `acyclic`, or `cycle`
+and its inputs, each with a header by which it depends on the next, the last on the
+first, and ends with exit status 1. Labels that check refuses are answered as by check.
+Where an input puts random headers before packets, these go by such a header to an
+input that discards it, and from there by their own: the dependencies are those of
+both. What is said of `rounds` holds as long as no such packet begins with a random
+header itself.
+
+With --all each dependency comes first, on a line of its own.";
+
+/// Of `label`.
+pub const LABEL: &str =
+    "For each terminal a line with its first label and how many it has, in decimal;
+then for each switch a line for each register whose value isn't that after a reset,
+with its address and its value in hexadecimal digits.
+
+With --rows it prints a description instead, of the same network, whose base, row,
+continue, delete and random lines set all that these labels do. It can be changed by
+hand, and it has no label, mesh or cube line.";
+
+/// Of `draw`.
+pub const DRAW: &str =
+    "Each switch is a box, each terminal an ellipse with its labels, and link numbers
+are at both ends of a wire. Wires between links of one group are one edge, whose links
+are in the same order at both ends. Meshes and cubes have fixed positions, and select
+the Graphviz layout that preserves them. Other networks are drawn downwards from the
+tree's root or the first switch.
+
+With a header, the links that it may take are bold, its owner is filled, and where
+check refuses it the walk is red and the title is the fault.
+
+With --cycles, a cycle that the command cycles finds is red, and the title is that
+cycle.";

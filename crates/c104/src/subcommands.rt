@@ -1,0 +1,96 @@
+//! The table of subcommands: of each what it asks for, its name, its help, and the words that it takes.
+
+use crate::help;
+
+/// What a subcommand asks for.
+#[derive(Clone, Copy)]
+pub enum Subcommand {
+    /// A run of a description and a script.
+    Run,
+    /// The same, whose script comes line by line from standard input.
+    Debug,
+    /// A check of a description's labels.
+    Check,
+    /// The search for a cycle of channel dependencies.
+    Cycles,
+    /// The labels of a description.
+    Label,
+    /// The picture of a description's network.
+    Draw,
+}
+
+/// The words that a subcommand takes.
+#[derive(Clone, Copy)]
+pub enum Takes {
+    /// `[DESC SCRIPT]`: neither of the two stands without the other.
+    Files,
+    /// `DESC`.
+    Description,
+    /// `DESC [--all]`.
+    All,
+    /// `DESC [--rows]`.
+    Rows,
+    /// `DESC [--header N | --cycles]`.
+    Marks,
+}
+
+/// A row of the table.
+#[derive(Clone, Copy)]
+pub struct Row {
+    /// What it asks for.
+    pub subcommand: Subcommand,
+    /// Its name, by which it is called.
+    pub name: &'static str,
+    /// What it is for, in one line.
+    pub about: &'static str,
+    /// What its help says below its options.
+    pub teaching: &'static str,
+    /// The words that it takes.
+    pub takes: Takes,
+}
+
+/// The subcommands, in the order of help.
+pub const SUBCOMMANDS: [Row; 6] = [
+    Row {
+        subcommand: Subcommand::Run,
+        name: "run",
+        about: "Runs a script on the network of a description, and shows what arrived",
+        teaching: help::RUN,
+        takes: Takes::Files,
+    },
+    Row {
+        subcommand: Subcommand::Debug,
+        name: "debug",
+        about: "Runs a script that is typed, or that a program sends, line by line",
+        teaching: help::DEBUG,
+        takes: Takes::Description,
+    },
+    Row {
+        subcommand: Subcommand::Check,
+        name: "check",
+        about: "Checks the labels of a description: whether every way of each header ends at its terminal",
+        teaching: help::CHECK,
+        takes: Takes::Description,
+    },
+    Row {
+        subcommand: Subcommand::Cycles,
+        name: "cycles",
+        about: "Looks for a cycle of channel dependencies, without which no accepted network locks up",
+        teaching: help::CYCLES,
+        takes: Takes::All,
+    },
+    Row {
+        subcommand: Subcommand::Label,
+        name: "label",
+        about: "Shows the labels of a description, and the register values they produce",
+        teaching: help::LABEL,
+        takes: Takes::Rows,
+    },
+    Row {
+        subcommand: Subcommand::Draw,
+        name: "draw",
+        about: "Draws the network of a description, as text for Graphviz",
+        teaching: help::DRAW,
+        takes: Takes::Marks,
+    },
+];
