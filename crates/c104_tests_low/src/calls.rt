@@ -1,8 +1,8 @@
 //! The calls that tests make of plans and images, with nothing promised. What their contracts say would be facts of
 //! every later goal of a test, and the prover would compute with literal texts. A test fails where a call does.
 use c104_describe::{Image, Plan, Port, hand_image, print_plan, read_description};
-use c104_interval::Table;
 use c104_label::{LabelFault, image_of, label_cube, label_mesh, label_tree};
+use c104_regs::PackedSettings;
 use std::alloc::Global;
 
 /// The plan of a description.
@@ -10,7 +10,7 @@ pub fn plan_of(alloc: Global, text: &[u8]) -> Option<Plan> {
     read_description(alloc, text).ok()
 }
 
-/// Lets go of a plan. Whoever owns one hands it over here, since to drop one is dear to prove.
+/// Drops a plan. Whoever owns one hands it over here, since it is expensive to prove that one may be dropped.
 pub fn drop_plan(_plan: Plan) {}
 
 /// What is printed of a plan.
@@ -63,10 +63,22 @@ pub fn described(alloc: Global, text: &[u8], maker: Maker) -> Option<Image> {
     image
 }
 
-/// The table of a link.
-pub fn table(image: &Image, switch: usize, link: usize) -> Option<&Table> {
-    match image.settings(switch)?.get(link) {
-        Some(settings) => Some(&settings.table),
-        None => None,
+/// What is set at a link.
+pub fn settings(image: &Image, switch: usize, link: usize) -> Option<&PackedSettings> {
+    image.settings(switch)?.get(link)
+}
+
+/// Whether a plan by hand has an image, where the image fits the plan.
+pub fn has_row_plan(alloc: Global, plan: &Plan, image: &Image) -> Option<bool> {
+    if !image.fits(plan) {
+        return None;
+    }
+    match image.row_plan(alloc, plan) {
+        Ok(Some(rows)) => {
+            drop_plan(rows);
+            Some(true)
+        }
+        Ok(None) => Some(false),
+        Err(_) => None,
     }
 }

@@ -1,4 +1,4 @@
-use crate::calls::{Maker, drop_plan, image, peer, plan_of, table};
+use crate::calls::{Maker, drop_plan, image, peer, plan_of, settings};
 use c104_check::{CheckFault, check};
 use c104_describe::{Image, Plan, Port};
 use c104_interval::Select;
@@ -109,7 +109,7 @@ fn walks(
 
 /// Where a header leads from an input of a switch.
 fn next(plan: &Plan, image: &Image, switch: usize, link: usize, header: u32) -> Option<Port> {
-    match table(image, switch, link)?.select(header) {
+    match settings(image, switch, link)?.select(header) {
         Select::Link(link) => peer(plan, Port::Switch(switch, usize::from(link))),
         Select::Discard | Select::Sink => None,
     }

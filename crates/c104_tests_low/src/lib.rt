@@ -33,6 +33,8 @@ mod link;
 #[cfg(test)]
 mod regs;
 #[cfg(test)]
+mod row_plans;
+#[cfg(test)]
 mod switch;
 #[cfg(test)]
 mod token;

@@ -26,10 +26,10 @@ pub fn label_image(alloc: Global, plan: &Plan) -> Result<Image, Fail> {
     Ok(image_of(alloc, plan)?)
 }
 
-/// Lets go of a plan. Whoever owns one hands it over here, since to drop one is dear to prove.
+/// Drops a plan. Whoever owns one hands it over here, since it is expensive to prove that one may be dropped.
 pub fn drop_plan(_plan: Plan) {}
 
-/// Lets go of a run, for the same reason.
+/// Drops a run, for the same reason.
 pub fn drop_run(_run: Run) {}
 
 /// The image of a description's own lines.
@@ -91,7 +91,7 @@ pub fn finish(net: Net) -> Run {
     net.finish()
 }
 
-/// Lets go of a network.
+/// Disposes of a network.
 pub fn retire(net: Net) {
     net.retire();
 }
@@ -129,7 +129,7 @@ pub fn send(alloc: Global, net: &mut Net, terminal: usize, text: &str) -> Result
     apply(net, &Event::Send { terminal, packet })
 }
 
-/// Does so many rounds.
+/// Does `count` rounds.
 pub fn rounds(net: &mut Net, count: u32) -> Result<(), Fail> {
     net.rounds(count)?;
     Ok(())

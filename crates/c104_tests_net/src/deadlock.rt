@@ -73,7 +73,7 @@ fn of_two_portals(rt: HostRuntime) -> Result<(), Fail> {
 
 // The count of rounds comes as an argument, since the prover would compute with a literal.
 
-/// Two packets are sent over a labelled mesh, and all is quiet after so many rounds.
+/// Two packets are sent over a labelled mesh, and all is quiet after `count` rounds.
 fn on_mesh(alloc: Global, plan: &Plan, count: u32) -> Result<bool, Fail>
     ensures { IfOk result (λ quiet. quiet ≡ true) }
 {
@@ -135,14 +135,14 @@ fn deliver_within(net: &mut Net, plan: &Plan, image: &Image, count: u32) -> Resu
     Ok(())
 }
 
-/// Whether so many rounds are more than the bound of work.
+/// Whether `count` rounds are more than the bound of work.
 fn is_within_bound(net: &Net, count: u32) -> bool
     ensures { result ≡ true → told_work (work_bound net.now.network.plan net.now.network.nodes) < count }
 {
     net.work_bound() < u64::from(count)
 }
 
-/// Whether so many rounds are more than the work that is left.
+/// Whether `count` rounds are more than the work that is left.
 fn is_within_work(net: &Net, ranks: &Ranks, count: u32) -> bool
     ensures { result ≡ true → told_work
         (work net.now.network.plan (rank_in ranks.now.by_place) net.now.network.nodes) < count }
@@ -159,7 +159,7 @@ fn rounds_within(net: &mut Net, count: u32) -> Result<(), EventFault>
     net.rounds(count)
 }
 
-/// Two packets are sent over the ring, and all is quiet after so many rounds.
+/// Two packets are sent over the ring, and all is quiet after `count` rounds.
 fn on_ring(alloc: Global, plan: &Plan, count: u32) -> Result<bool, Fail>
     ensures { IfOk result (λ quiet. quiet ≡ true) }
 {
@@ -266,7 +266,7 @@ fn deliver_by(
     Ok(())
 }
 
-/// Two packets are sent behind random headers, and where the network stands still after so many rounds, all is quiet.
+/// Two packets are sent behind random headers, and where the network stands still after `count` rounds, all is quiet.
 fn over_portals(alloc: Global, plan: &Plan, count: u32) -> Result<bool, Fail>
     ensures { IfOk result (λ quiet. quiet ≡ true) }
 {

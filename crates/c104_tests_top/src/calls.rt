@@ -1,6 +1,7 @@
 //! The calls that tests make of the commands, with nothing promised: the prover would compute what is written of
 //! literal texts.
 use c104_commands::{Status, run};
+use c104_explain::Silent;
 use std::alloc::Global;
 use std::io::{Read, Write};
 
@@ -11,5 +12,5 @@ pub fn run_parts<D: Read, S: Read, W: Write>(
     script: &mut S,
     writer: &mut W,
 ) -> Status {
-    run(alloc, description, script, writer)
+    run(alloc, description, script, writer, &mut Silent)
 }

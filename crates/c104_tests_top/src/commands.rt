@@ -52,7 +52,7 @@ impl Read for Source<'_> {
     }
 }
 
-/// A writer that takes one byte at once, and fails after so many.
+/// A writer that takes one byte at a time, and fails after `room` bytes.
 #[derive(Drop)]
 struct SlowWriter {
     taken: Vec<u8>,
@@ -152,7 +152,7 @@ fn has_taken(writer: &SlowWriter, room: usize) -> bool {
     )
 }
 
-/// Whether a text is the first bytes of two others, one behind the other, so many or all.
+/// Whether a text is the first `count` bytes of two others, one behind the other, or all of them.
 fn begins(text: &[u8], first: &[u8], second: &[u8], count: usize) -> bool {
     let (begin, rest) = text.split_at(text.len().min(first.len()));
     let all = first.len().saturating_add(second.len());

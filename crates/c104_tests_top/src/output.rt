@@ -11,7 +11,7 @@ const DESCRIPTION: &str = "switch A\nterminal b A.0\n";
 
 const LINE: &[u8] = b"drain b\n";
 
-/// A reader that gives so many lines, one each time that it is asked.
+/// A reader that gives `count` lines, one each time that it is asked.
 #[derive(Drop)]
 struct LineReader<'a> {
     count: usize,
@@ -53,7 +53,7 @@ impl Write for CountingWriter<'_> {
     }
 }
 
-/// Whether a script of so many lines, which come line by line, has each answered before its reader is asked for the
+/// Whether a script of `count` lines, which come line by line, has each answered before its reader is asked for the
 /// next.
 fn answers_each(alloc: Global, count: usize) -> bool {
     let answered = Cell::new(0);
@@ -80,7 +80,7 @@ fn answers_before_reads(rt: HostRuntime) {
     assert!(rt; answers_each(rt.alloc(), 40));
 }
 
-/// Whether a script of so many lines, which come together, is answered in at most so many writes.
+/// Whether a script of `count` lines, which come together, is answered in at most `writes` writes.
 fn answers_in(alloc: Global, script: &[u8], count: usize, writes: usize) -> bool {
     let answered = Cell::new(0);
     let mut writer = CountingWriter {
