@@ -8,17 +8,19 @@ import os
 import re
 import shutil
 
-from edits import write_texts
+from edits import without_answers, write_texts
 from proved_calls import take_as_proved
 from sources import read_text, write_text
+from verdicts import absent_answers
 
 
 class Together:
     """A crate with several edits of functions: each one's name by which the prover tells of it, and its lines."""
 
-    def __init__(self, edits, takes_proved):
-        """`takes_proved` says whether what the functions call is taken as proved, where that can be."""
-        self.takes_proved, self.taken = takes_proved, set()
+    def __init__(self, edits, takes_proved, left_out=None):
+        """`takes_proved` says whether what the functions call is taken as proved, where that can be. For some edits errors in
+        proof files say which answers are left out, or None for a file, that all of it is."""
+        self.takes_proved, self.taken, self.left_out = takes_proved, set(), left_out or {}
         self.names = {edit: self.name(edit, number) for number, edit in enumerate(edits)}
         self.places, self.texts = {}, {}
         for path in sorted({edit.path for edit in edits}):
@@ -48,6 +50,10 @@ class Together:
     def added(self):
         """The names of such functions."""
         return ()
+
+    def to_leave_out(self, _edits, _check):
+        """The answers that are to be left out in another check, for each of some edits that a check says nothing of."""
+        return {}
 
     def at(self, path, line):
         """The edit whose function has a line of a file, or None."""
@@ -82,10 +88,10 @@ class Copies(Together):
 
     between = '\n\n'
 
-    def __init__(self, edits, takes_proved, is_edited=True):
+    def __init__(self, edits, takes_proved, is_edited=True, left_out=None):
         """The copies have the edits in their bodies, or are the functions as they stand."""
         self.is_edited = is_edited
-        super().__init__(edits, takes_proved)
+        super().__init__(edits, takes_proved, left_out)
 
     def name(self, edit, number):
         return '%s_copy_%d' % (edit.changed.name, number)
@@ -102,7 +108,7 @@ class Copies(Together):
     def write_proofs(self, folder):
         for edit, name in self.names.items():
             for proofs in edit.proof_folders(folder):
-                copy_proofs(proofs, name, edit, folder)
+                leave_out(self.left_out.get(edit, {}), copy_proofs(proofs, name, edit, folder))
 
     def added(self):
         return self.names.values()
@@ -113,14 +119,34 @@ class Copies(Together):
         found = [it for it in functions if it.split('::')[-1] == self.names[edit]]
         return [it for it in found if self.has_its_proofs(it, edit)]
 
+    def to_leave_out(self, edits, check):
+        """What names something that isn't there, and where some of a file was left out before, the whole file."""
+        found = {}
+        for edit in edits:
+            told, before = self.told(edit, check.functions), self.left_out.get(edit, {})
+            absent = absent_answers(check, told[0]) if len(told) == 1 else {}
+            if absent:
+                found[edit] = before | {file: None if file in before else errors for file, errors in absent.items()}
+        return found
+
     def has_its_proofs(self, full, edit):
         folder = edit.crate.folder
         place = os.path.join(folder, 'proofs', *full.split('::')[1:-1], edit.changed.name)
         return not os.path.isdir(place) or edit.proof_folders(folder) == [place]
 
 
+def leave_out(absent, folder):
+    """Leaves answers out of the proof files in a folder, by the errors in each file, or all of a file."""
+    for file, errors in absent.items():
+        text = without_answers(read_text(folder, file), errors) if errors else None
+        if text is None:
+            os.remove(os.path.join(folder, file))
+        else:
+            write_text(text, folder, file)
+
+
 def copy_proofs(proofs, name, edit, folder):
-    """Copies the proof files of a function for its copy, by whose name they then call it."""
+    """Copies the proof files of a function for its copy, by whose name they then call it, and returns their folder."""
     to = os.path.join(os.path.dirname(proofs), name)
     shutil.copytree(proofs, to)
     module = '.'.join(['Rattle', edit.crate.name, *os.path.relpath(proofs, folder).split(os.sep)[:-1]])
@@ -129,3 +155,4 @@ def copy_proofs(proofs, name, edit, folder):
         for file in files:
             text = re.sub(re.escape(old) + r'(?=[.\s])', new, read_text(at, file))
             write_text(re.sub(r'\b%s_spec\b' % edit.changed.name, name + '_spec', text), at, file)
+    return to

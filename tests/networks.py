@@ -18,12 +18,12 @@ def text_of(lines):
 
 
 def mesh(width, height, count):
-    """A mesh with so many terminals on each switch, labelled row by row: the grid of the benches."""
+    """A mesh with `count` terminals on each switch, labelled row by row: the grid of the benches."""
     return text_of(Grid(width, height, count).description())
 
 
 def chain(length, width, hosts):
-    """Switches in a row, each joined to the next by a group of so many links, with a terminal on each of
+    """Switches in a row, each joined to the next by a group of `width` links, with a terminal on each of
     these switches. The links from 0 on go back, the next as many go on, and then comes the terminal's."""
     back, ahead, own = 0, width, 2 * width
     lines = ['switch s%d' % s for s in range(length)]

@@ -53,6 +53,18 @@ def refusal(check, full):
     return None
 
 
+def absent_answers(check, full):
+    """Where a function's own proof files fail only since they name what isn't there any more, the errors of each file: pairs
+    of a line and what is told there. Else none."""
+    errors, found = own_errors(check, full), {}
+    for line, whole in errors:
+        path, number, _ = line.removeprefix('./').split(':', 2)
+        if not ABSENT.search(whole):
+            return {}
+        found.setdefault(os.path.basename(path), []).append((int(number), line))
+    return found
+
+
 def only_absent(check):
     """Where a check fails only since proof files name what isn't there any more, the errors of that by file: pairs of a
     line and what is told there. Else none."""

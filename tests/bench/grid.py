@@ -6,7 +6,7 @@ NORTH, WEST, EAST, SOUTH = 'north', 'west', 'east', 'south'
 
 
 class Grid:
-    """A grid of switches with so many terminals each. Packets go along their column first, and then
+    """A grid of switches with this number of terminals each. Packets go along their column first, and then
     along their row; the label of terminal k is k."""
 
     def __init__(self, width, height, terminals):
@@ -60,7 +60,7 @@ class Grid:
 
 
 def send(source, target, size):
-    """A line that sends a packet of so many bytes, header and all."""
+    """A line that sends a packet of size bytes, including its header."""
     return 'send t%d %02x%s eop' % (source, target, ' 5a' * (size - 1))
 
 

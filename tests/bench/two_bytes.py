@@ -21,7 +21,7 @@ def row_lines(port, rows):
 # Networks as people have them
 
 def labelled_tree(switches, count, labels):
-    """A tree, with two switches below each and so many terminals on it, which have so many labels each."""
+    """A tree, with two switches below each and `count` terminals on it, which have `labels` labels each."""
     lines = ['header 2', *('switch s%d' % s for s in range(switches))]
     lines += ['terminal t%d s%d.%d labels %d' % (s * count + k, s, 3 + k, labels)
               for s in range(switches) for k in range(count)]
@@ -68,9 +68,9 @@ LAST = SWITCHES - 1
 
 class Chain:
     """64 switches in a row, each joined to the next by many wires: the links `ahead` of one lead to the links `back` of
-    the next. Terminals, on the links `own`, have so many labels each. The first and the last switch are joined too, by
-    wires that nothing takes, so that all links are wired. Labels go straight to their switch. Random headers, of which
-    there are so many behind the labels, are put before packets of all terminals, and discarded at the last switch."""
+    the next. Terminals, on the links `own`, have `labels` labels each. The first and the last switch are joined too, by
+    wires that nothing takes, so that all links are wired. Labels go straight to their switch. `randoms` random
+    headers, behind the labels, are put before packets of all terminals, and discarded at the last switch."""
 
     def __init__(self, back, ahead, own, labels, is_grouped=True, randoms=0):
         self.back, self.ahead, self.own, self.labels = back, ahead, own, labels
@@ -150,7 +150,7 @@ def most_changes():
 
 
 def most_random(count):
-    """The same of so many random headers, which all terminals' links put before packets."""
+    """The same of `count` random headers, which all terminals' links put before packets."""
     chain = Chain(*GROUPED, 1, randoms=HEADERS - SWITCHES * 4)
     step = (HEADERS - chain.end) // count
     headers = range(chain.end + step, HEADERS, step)

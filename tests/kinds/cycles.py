@@ -284,8 +284,8 @@ def example(runner):
 
 
 def random_ring(seed, labels=1):
-    """Switches in a ring, each with a terminal that has so many labels. For each pair of terminals packets go round one
-    way or the other, and every input has all rows, so that the labels are accepted."""
+    """Switches in a ring, each with a terminal that has `labels` labels. For each pair of terminals packets go round
+    one way or the other, and every input has all rows, so that the labels are accepted."""
     pick = random.Random(seed)
     size = pick.randrange(3, 9)
     lines = ['header %d' % (1 if size * labels <= 256 else 2), *('switch s%d' % s for s in range(size))]

@@ -34,31 +34,50 @@ show SWITCH                 shows each wired link
 show SWITCH.LINK            shows a link
 show TERMINAL               shows a terminal
 show waiting                shows which outputs inputs hold and want
+where TERMINAL NUMBER       shows where a packet is: NUMBER is from 0 on, of those that the terminal sent
 A PORT is a terminal, or a switch with a link, as A.0. A `#` begins a comment.
-`help` and `show` are no words of a script, and are faults there. The end of input, Ctrl-D, ends the script.
+`help`, `show` and `where` are no words of a script, and are faults there. The end of input, Ctrl-D, ends the script.
 '''
+
+
+def tokens(count):
+    return b'%d token%s' % (count, b'' if count == 1 else b's')
+
+
+def wait(count):
+    return tokens(count) + (b' waits' if count == 1 else b' wait')
 
 
 def link(port, other, input_side, output_side):
     """How a link stands. Of the input side what it holds, may take and does; of the output side what it holds and
     may send, and its owner."""
-    return (b'%s, on a wire to %s, in tokens: the input holds %d and may take %d more, and %s; the output holds %d '
-            b'and may send %d, and %s\n' % (port, other, *input_side, *output_side))
+    came_in, granted, phase = input_side
+    to_go, credit, owner = output_side
+    return (b'%s, on a wire to %s\n  input: holds %s, may take %d more, %s\n  output: holds %s, may send %d, %s\n'
+            % (port, other, tokens(came_in), granted, phase, tokens(to_go), credit, owner))
 
 
 def terminal(name, other, *counts):
-    return (b'%s, on a wire to %s, in tokens: %d wait to go out, and %d may go; %d came in and wait to arrive, and %d '
-            b'more may come in; %d have arrived\n' % (name, other, *counts))
+    """How a terminal stands: how many tokens wait to go out and may, came in, may come in, and have arrived."""
+    waiting, credit, came_in, granted, arrived = counts
+    return (b'%s, on a wire to %s\n  sends: %s, %d may go\n  receives: %s to arrive, %d more may come in, %d arrived so far\n'
+            % (name, other, wait(waiting), credit, wait(came_in), granted, arrived))
 
 
-FAREWELL = b'the end of input ends the script: Ctrl-D\n'
+FAREWELL = b'type Ctrl-D to end the script: it ends with the input\n'
 IDLE = b'waits for a packet'
 FREE = b'no input owns it'
 
 # The first run with questions among its lines: each line, its answer if it has one, and what it is told.
 TYPED = [
     ('help', UNKNOWN, HELP),
-    *[(*line, b'') for line in FIRST_RUN[:5]],
+    ('where a 0', UNKNOWN, b'a has sent no packet\n'),
+    *[(*line, b'') for line in FIRST_RUN[:1]],
+    ('where a 0', UNKNOWN, b'packet 0 of a: 3 tokens wait at a to go out\n'),
+    *[(*line, b'') for line in FIRST_RUN[1:3]],
+    ('where a 0  # sent in part', UNKNOWN, b'packet 0 of a: 2 tokens wait at a to go out\n1 token at input A.0\n'),
+    *[(*line, b'') for line in FIRST_RUN[3:5]],
+    ('where a 0', UNKNOWN, b'packet 0 of a: 3 tokens at input A.0\n'),
     ('show A', UNKNOWN, link(b'A.0', b'a', (3, 5, IDLE), (0, 0, FREE)) + link(b'A.1', b'b', (0, 0, IDLE), (0, 0, FREE))),
     ('show A.1', UNKNOWN, link(b'A.1', b'b', (0, 0, IDLE), (0, 0, FREE))),
     ('show a  # the sender', UNKNOWN, terminal(b'a', b'A.0', 0, 5, 0, 0, 0)),
@@ -66,17 +85,33 @@ TYPED = [
     ('show A', UNKNOWN, link(b'A.0', b'a', (2, 5, b'wants an output of the group of link 1 for the header 1'), (0, 0, FREE))
         + link(b'A.1', b'b', (0, 0, IDLE), (0, 0, FREE))),
     ('show waiting', UNKNOWN, b'A.0 wants A.1 for the header 1, and it is free\n'),
+    ('where a 0', UNKNOWN, b'packet 0 of a: 3 tokens at input A.0, which wants an output for its header\n'),
     *[(*line, b'') for line in FIRST_RUN[6:9]],
     ('\thelp me', UNKNOWN, HELP),
     (*FIRST_RUN[9], b''),
     ('show A', UNKNOWN, link(b'A.0', b'a', (1, 5, b'streams its packet to output 1'), (0, 0, FREE))
         + link(b'A.1', b'b', (0, 0, IDLE), (1, 7, b'input 0 owns it'))),
     ('show waiting  # for what', UNKNOWN, b'A.0 holds A.1, which leads to b\n'),
+    ('where a 0', UNKNOWN, b'packet 0 of a: 1 token at input A.0\n1 token at output A.1, which leads to b\n'
+        b'1 token came in at b and waits to arrive\n'),
     *[(*line, b'') for line in FIRST_RUN[10:15]],
     ('show b', UNKNOWN, terminal(b'b', b'A.1', 0, 0, 1, 5, 2)),
+    ('where a 0', UNKNOWN, b'packet 0 of a: 1 token came in at b and waits to arrive\n2 tokens arrived at b\n'),
     (*FIRST_RUN[15], b''),
+    ('where a 0', UNKNOWN, b'packet 0 of a: it arrived at b\n'),
     ('send a 09 eop', 'done', b''),
     ('rounds 1', 'done', b''),
+    ('where a 1', UNKNOWN, b'packet 1 of a: 1 token waits at a to go out\n0 tokens at input A.0, which drops it\n'),
+    ('rounds 1', 'done', b''),
+    ('where a 1', UNKNOWN, b'packet 1 of a: its end is nowhere in the network: it was dropped, or cleared by a reset\n'),
+    ('where a 2', UNKNOWN, b'a has sent only 2 packets\n'),
+    ('where b 0', UNKNOWN, b'b has sent no packet\n'),
+    ('where', UNKNOWN, b'the line is `where TERMINAL NUMBER`, as `where a 0` of the first packet that `a` sent\n'),
+    ('where a', UNKNOWN, b'the line is `where TERMINAL NUMBER`, as `where a 0` of the first packet that `a` sent\n'),
+    ('where a first', UNKNOWN, b'a number is 1 to 7 decimal digits: first\n'),
+    ('where A 0', UNKNOWN, b'this is a switch, and a terminal is wanted: A\n'),
+    ('where a.0 0', UNKNOWN, b'a terminal is named without a link: a.0\n'),
+    ('where zz 0', UNKNOWN, b'the description defines no such name: zz\n'),
     ('show waiting', UNKNOWN, b'no input holds an output, and none wants one\n'),
     ('show', UNKNOWN, b'the line is `show SWITCH`, `show SWITCH.LINK`, `show TERMINAL` or `show waiting`\n'),
     ('show B', UNKNOWN, b'the description defines no such name: B; did you mean b?\n'),
@@ -85,7 +120,7 @@ TYPED = [
     ('show b.0', UNKNOWN, b'a terminal is named without a link: b.0\n'),
     ('show B.0', UNKNOWN, b'the description defines no such name: B.0\n'),
     ('quit', UNKNOWN, FAREWELL),
-    ('frob', UNKNOWN, b'c104: -:37: a line begins with `send`, `drain`, `cross`, `credit`, `input`, `claim`, `control`, '
+    ('frob', UNKNOWN, b'c104: -:56: a line begins with `send`, `drain`, `cross`, `credit`, `input`, `claim`, `control`, '
         b'`rounds`, `peek`, `poke`, `link`, `table` or `verify`; `help` lists them, and `show` shows a part of the '
         b'network: frob\n'),
     ('', None, b''),
@@ -305,6 +340,58 @@ def reads_and_drops(runner):
         runner.judge(name, wrong or (None if asked.end() == 1 else 'exit status'))
 
 
+# What is typed, and what the questions among it are told, where packets wait in one another's way.
+IN_PARTS = [
+    ('send a 01 02 eop', None), ('send c 01 eop', None), ('credit A.0', None), ('credit A.2', None), ('credit b', None),
+    ('cross a', None), ('cross c', None), ('input A.0', None), ('claim A 0 1', None), ('input A.2', None),
+    ('where a 0', b'2 tokens wait at a to go out\n1 token at output A.1, which leads to b\n'),
+    ('where c 0', b'1 token waits at c to go out\n1 token at input A.2, which wants an output for its header\n'),
+    ('cross A.1', None),
+    ('where a 0', b'2 tokens wait at a to go out\n1 token came in at b and waits to arrive\n'),
+    ('cross a', None), ('cross a', None), ('send a 01 eop', None), ('cross a', None),
+    ('where a 0', b'2 tokens at input A.0\n1 token came in at b and waits to arrive\n'),
+    ('where a 1', b'1 token waits at a to go out\n1 token at input A.0, behind another packet\n'),
+    ('drain b', None),
+    ('where a 0', b'2 tokens at input A.0\n1 token arrived at b\n'),
+    ('control A 02', None),
+    ('where a 0', b'its end is nowhere in the network: it was dropped, or cleared by a reset\n'),
+    ('where a 1', b'1 token waits at a to go out\n'),
+]
+
+# The same with headers of two bytes, of which one input has read a half, and another drops its packet.
+IN_HEADERS = [
+    ('send a 00 01 aa eop', None), ('send c 07 00 eop', None), ('credit A.0', None), ('credit A.2', None),
+    *[('cross a', None)] * 2, *[('cross c', None)] * 2, ('input A.0', None), *[('input A.2', None)] * 2,
+    ('where a 0', b'2 tokens wait at a to go out\n2 tokens at input A.0, which reads its header\n'),
+    ('where c 0', b'1 token waits at c to go out\n0 tokens at input A.2, which drops it\n'),
+]
+
+
+def where_packets_are(runner):
+    """`where` tells which places hold tokens of a packet, also of one that is behind another, or was cut by a reset."""
+    three = PLAN.replace(b'row A.1 2 1\n', b'row A.1 2 1\nbuffer 8\nterminal c A.2\nrow A.2 2 1\n')
+    for name, plan, lines in [('packets in parts', three, IN_PARTS), ('packets at their headers', READS, IN_HEADERS)]:
+        if not runner.wanted(name):
+            continue
+        with tempfile.TemporaryDirectory() as folder:
+            path = os.path.join(folder, 'network.txt')
+            with open(path, 'wb') as file:
+                file.write(plan)
+            asked = asked_by_person(runner.program + ['debug', path], False)
+            asked.read(asked.errors, b'1> ')
+            wrong = None
+            for number, (line, wanted) in enumerate(lines, 1):
+                asked.send(line.encode() + b'\n')
+                told = asked.read(asked.errors, b'%d> ' % (number + 1))
+                packet = line.split()
+                whole = b'' if wanted is None else b'packet %s of %s: %s' % (packet[2].encode(), packet[1].encode(), wanted)
+                if wanted is not None and not told.startswith(whole):
+                    wrong = wrong or 'line %d: wanted %r, found %r' % (number, whole, told)
+            asked.send(END_OF_INPUT)
+            asked.read(asked.output, None)
+            runner.judge(name, wrong or (None if asked.end() == 1 else 'exit status'))
+
+
 def a_node_of_that_name(runner):
     """`show waiting` shows a node where one has that name."""
     name = 'a switch whose name is waiting'
@@ -356,4 +443,4 @@ def awaited(runner):
 
 
 PARTS = [through_a_pipe, no_questions, same_as_run, at_a_terminal, what_waits, reads_and_drops,
-         a_node_of_that_name, questions_as_faults, awaited]
+         where_packets_are, a_node_of_that_name, questions_as_faults, awaited]

@@ -215,8 +215,8 @@ UNREADY = [
     (b'cross A.1', 'A.1: ' + NO_TOKEN),
     (b'input A.0', 'A.0: ' + NO_TOKEN),
     (b'drain c', 'c: ' + NO_TOKEN),
-    (b'claim A 0 1', 'A.0: the input wants no output; `input` has to read a header first, or to put a random one '
-        'there, which selects a link'),
+    (b'claim A 0 1', 'A.0: the input wants no output: its packet has one, or `input` has to read a header first, or to '
+        'put a random one there'),
     (b'send a 01 02 03 04 05 06 07 eop', None),
     (b'cross a', 'a: a token waits, and there is no credit for it; `credit` grants some at the other end of the '
         'wire: A.0'),

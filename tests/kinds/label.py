@@ -177,6 +177,27 @@ LABELLED = {
         's1 0200 00000002; s1 0240 00000001; s1 0241 00000002; s1 0280 00000000; s1 0281 00000001'),
 }
 
+# What is shown of a description by `row` lines.
+BY_ROWS = {
+    'nothing': (b'', 'header 1; buffer 16'),
+    'rows of one switch': (b'switch A\nterminal a A.0\nrow A.0 1 0\nrow A.0 0 sink\n', 'header 1; buffer 16; switch A;'
+        'terminal a A.0 labels 1 from 0; row A.0 1 0'),
+    'a row as after a reset before one that is not': (b'switch A\nrow A.3 0 sink\nrow A.3 5 7\nbase A.3 0\n',
+        'header 1; buffer 16; switch A; row A.3 0 sink; row A.3 5 7'),
+    'all that is set at links, and in another order': (b'buffer 64\nswitch A\nswitch B\nterminal b B.7 from 9\n'
+        b'terminal a A.31 labels 3\nwire B.0 A.2\nrandom A.31 65534 65536\nrandom A.0 0 0\nbase A.31 65535\nrow B.0 9 discard\n'
+        b'row A.31 65536 31\ncontinue B.2\ncontinue A.31\ndelete a\ndelete b\nheader 2\n',
+        'header 2; buffer 64; switch A; switch B; terminal b B.7 labels 1 from 9; terminal a A.31 labels 3 from 10;'
+        'wire B.0 A.2; continue A.31; continue B.2; delete b; delete a; base A.31 65535; row A.31 65536 31;'
+        'row B.0 9 discard; random A.0 0 0; random A.31 65534 65536'),
+    'a tree of two switches': (TWO_IN_A_TREE, 'header 1; buffer 16; switch A; switch B;'
+        'terminal a A.0 labels 1 from 0; terminal b B.0 labels 2 from 1; wire A.1 B.2;'
+        'row A.0 1 0; row A.0 3 1; row A.1 1 0; row A.1 3 1; row B.0 1 2; row B.0 3 0; row B.2 1 2; row B.2 3 0'),
+    'a mesh of two switches, headers deleted at one': (b'mesh 2 1 1\ndelete t1\nbuffer 8\n', 'header 1; buffer 8; switch s0; switch s1;'
+        'terminal t0 s0.4 labels 1 from 0; terminal t1 s1.4 labels 1 from 1; wire s0.2 s1.1; delete t1;'
+        'row s0.2 1 4; row s0.2 2 2; row s0.4 1 4; row s0.4 2 2; row s1.1 1 1; row s1.1 2 4; row s1.4 1 1; row s1.4 2 4'),
+}
+
 # A network that isn't labelled, by each command.
 UNLABELLED = {
     'a switch without a wire': (b'switch A\nswitch B\nlabel tree A\n', '1 NotConnected'),
@@ -195,10 +216,29 @@ FAULTY = {
 }
 
 
+def lines_of(text):
+    """The lines that a table parts by semicolons."""
+    return ''.join(line.strip() + '\n' for line in text.split(';') if line).encode()
+
+
 def images(runner):
     for name, (text, lines) in {**SHOWN, **LABELLED}.items():
-        expected = ''.join(line.strip() + '\n' for line in lines.split(';') if line)
-        runner.case(name, expected.encode(), words=['label', '-'], data=text)
+        runner.case(name, lines_of(lines), words=['label', '-'], data=text)
+
+
+def by_rows(runner):
+    for name, (text, lines) in BY_ROWS.items():
+        runner.case(name + ', by rows', lines_of(lines), words=['label', '-', '--rows'], data=text)
+    for name, (text, line) in UNLABELLED.items():
+        runner.case(name + ', by rows', b'label %s\n' % line.encode(), 1, words=['label', '--rows', '-'], data=text)
+    for name, (text, line) in FAULTY.items():
+        runner.case(name + ', by rows', b'description %s\n' % line.encode(), 1, words=['label', '--rows', '-'], data=text)
+    # What is shown by `row` lines has the same labels, and is shown again as it is.
+    for name, (text, lines) in {**SHOWN, **LABELLED}.items():
+        if runner.wanted(name + ', read again'):
+            _, shown, _ = runner.run(words=['label', '--rows', '-'], data=text)
+            runner.case(name + ', read again', lines_of(lines), words=['label', '-'], data=shown)
+            runner.case(name + ', read again by rows', shown, words=['label', '--rows', '-'], data=shown)
 
 
 def labelled(runner):
@@ -293,4 +333,4 @@ def devices(runner):
                     data=b'frob\n', stdout=full)
 
 
-PARTS = [images, labelled, runs, descriptions, devices]
+PARTS = [images, by_rows, labelled, runs, descriptions, devices]

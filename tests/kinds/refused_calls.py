@@ -63,7 +63,7 @@ class Run:
         return [(it, self.files.get(it, self.text)) for it in paths] or [('-', self.text)]
 
     def ended_lines(self, reads):
-        """The path of the read that fails after so many reads of one byte, and how many lines of the script had
+        """The path of the read that fails after `reads` reads of one byte, and how many lines of the script had
         ended by then; None where nothing of a script was read. The end of a source is a read too."""
         sources = self.sources()
         for number, (path, data) in enumerate(sources):
@@ -78,7 +78,7 @@ class Run:
 
 
 def answers(out, lines):
-    """Of an output, the answers to so many lines of the script, or to all of them."""
+    """Of an output, the answers to the first `lines` lines of the script, or to all of them."""
     numbers = (re.match(rb'(\d+): ', it) for it in out.splitlines(keepends=True))
     return b''.join(it.string for it in numbers if it and (lines is None or int(it[1]) <= lines))
 
