@@ -122,6 +122,7 @@ fresh_kept net steady stand = record {
       run = ap (network_of net.plan) (sym stand);
       told = λ k. slice_get-map no_entries net.nodes k ∙ ap (λ ns. option_map no_entries (slice_get ns k)) (sym stand);
       counted = refl;
+      ordered = tt;
     },
   );
   within = All-map IsWithinLimit no_entries net.nodes (λ i d inside. omega arith);

@@ -30,6 +30,7 @@ use Rattle.c104_net.specs.Runs.{IsDoneRun}
 use Rattle.c104_net.specs.Standstill.{IsAcyclicRun, StandsStill}
 use Rattle.c104_net.specs.Starts.{start_node}
 use Rattle.c104_net.specs.Traced.{traced_kind}
+use Rattle.c104_net.specs.Traces.{seatless}
 use Rattle.c104_net.specs.TracedRuns.{map_network, map_node}
 use Rattle.c104_net.specs.WiredActs.{IsRecordedAt}
 use Rattle.c104_net.specs.HeaderWork.{random_work}
@@ -52,7 +53,7 @@ module _ (net : NetRecord) (is_plan : IsPlan net.network.plan) (kept : IsNetReco
   events = kept.told.0
 
   sent : AreBytesSent events
-  sent = run_bytes plan (map start_node net.starts) net.network.nodes net.traces net.count kept.told.0 kept.started.in_place kept.told.1 (traces_fit net recorded)
+  sent = run_bytes plan seatless (map start_node net.starts) net.network.nodes net.traces net.count kept.told.0 kept.started.in_place kept.told.1 (traces_fit net recorded)
 
   acyclic_run : IsAcyclicRun plan image net.starts events net.network.nodes
   acyclic_run = record {

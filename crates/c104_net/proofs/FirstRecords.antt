@@ -98,6 +98,7 @@ module _ (plan wires : Plan) (nodes : List (Node Token)) (list : List (NodeRecor
             run = ap (network_of wires) (are.0 ∙ sym are.1);
             told = λ k. ap (λ ts. slice_get ts k) are.2 ∙ slice_get-map no_entries nodes k ∙ ap (λ ns. option_map no_entries (slice_get ns k)) (sym are.1);
             counted = refl;
+            ordered = tt;
           },
         );
         within = subst (All IsWithinLimit) (sym are.2) (All-map IsWithinLimit no_entries nodes (λ i d inside. omega arith));

@@ -1,6 +1,6 @@
 -- In a run from a start whose traces are within their limit, each terminator that arrives tells its packet, and in numbers
 -- that its eight bytes have room for. So what is kept of it tells the same packet.
-use Rattle.std.proofs.Common.{◌≡◌, ◌∙◌, ◌≤◌, ◌<◌, ◌%◌, ◌+◌, ◌++◌, ℕ, suc, zero, Bool, true, false, List, [], ◌∷◌, Option, Some, None, Result, Ok, if◌then◌else◌, length, map, nat_lt, slice_get, refl, sym, ap, subst, arith}
+use Rattle.std.proofs.Common.{◌≡◌, ◌∙◌, ◌≤◌, ◌<◌, ◌%◌, ◌++◌, ℕ, suc, zero, Bool, true, false, List, [], ◌∷◌, Option, Some, None, Result, Ok, if◌then◌else◌, length, map, nat_lt, slice_get, refl, sym, ap, subst, arith}
 use Rattle.std.proofs.lemmas.Bool.{true≢false}
 use Rattle.std.proofs.lemmas.Bool.Decides.{nat_tests}
 use Rattle.std.proofs.lemmas.Option.{slice_get-map}
@@ -16,6 +16,7 @@ use Rattle.c104_event.specs.declared.events.Event.TheVariants as event
 use Rattle.c104_event.specs.declared.faults.EventFault.{EventFault}
 use Rattle.c104_event.specs.declared.faults.EventFault.TheVariants as fault
 use Rattle.c104_net.specs.declared.node.NodeOf.TheVariants as node
+use Rattle.c104_net.specs.declared.stamps.Stamp.{Stamp}
 use Rattle.c104_net.specs.declared.starts.NodeStart.{NodeStart}
 use Rattle.c104_net.specs.Finished.{terminals_of}
 use Rattle.c104_net.specs.Tagged.{tag, tagged_origins, TaggedToken}
@@ -97,38 +98,38 @@ sent_alike t n j x terminal number =
     ap (λ (k : ℕ). sent_token k n j x) one ∙ ap (λ (k : ℕ). sent_token (t % 65536) k j x) two
 
 -- what an event of such a run sends has small numbers
-alike : (net : Network Known) (e : Event) (r : Reply) (ticket : ℕ) (rest : List Deed) → length net.plan.terminals ≤ 65536 → event_fault net.plan e ≡ None → is_ready r ≡ true → IsBounded (counts (map (map_node known_of) net.nodes)) (event_deeds (is_switch_place net.plan) net.plan ticket e r ++ rest) → IsSentAlike known_of known_kind traced_kind plain_known random_known net e
-alike net (event.Cross p) r ticket rest few possible ready bound = tt
-alike net (event.Credit p) r ticket rest few possible ready bound = tt
-alike net (event.Input s l word) r ticket rest few possible ready bound = tt
-alike net (event.Claim s i o) r ticket rest few possible ready bound = tt
-alike net (event.Control s bytes) r ticket rest few possible ready bound = tt
-alike net (event.Drain t) r ticket rest few possible ready bound = tt
-alike net (event.Send t packet) r ticket rest few possible ready bound = λ T at j x.
+alike : (net : Network Known) (e : Event) (r : Reply) (stamp : Stamp) (rest : List Deed) → length net.plan.terminals ≤ 65536 → event_fault net.plan e ≡ None → is_ready r ≡ true → IsBounded (counts (map (map_node known_of) net.nodes)) (event_deeds (is_switch_place net.plan) net.plan stamp e r ++ rest) → IsSentAlike known_of known_kind traced_kind plain_known random_known net e
+alike net (event.Cross p) r stamp rest few possible ready bound = tt
+alike net (event.Credit p) r stamp rest few possible ready bound = tt
+alike net (event.Input s l word) r stamp rest few possible ready bound = tt
+alike net (event.Claim s i o) r stamp rest few possible ready bound = tt
+alike net (event.Control s bytes) r stamp rest few possible ready bound = tt
+alike net (event.Drain t) r stamp rest few possible ready bound = tt
+alike net (event.Send t packet) r stamp rest few possible ready bound = λ T at j x.
     let inside : t < length net.plan.terminals = terminal_there (length net.plan.terminals) t _ possible in
     let there : slice_get (counts (map (map_node known_of) net.nodes)) (terminal_place net.plan t) ≡ Some (length T.sent) =
     slice_get-map sent_count (map (map_node known_of) net.nodes) (terminal_place net.plan t)
     ∙ ap (option_map sent_count) (slice_get-map (map_node known_of) net.nodes (terminal_place net.plan t) ∙ ap (option_map (map_node known_of)) at) in
-    let low = low_number net.plan t packet ticket r (counts (map (map_node known_of) net.nodes)) rest (length T.sent) ready bound there in
+    let low = low_number net.plan t packet stamp r (counts (map (map_node known_of) net.nodes)) rest (length T.sent) ready bound there in
     sent_alike t (length T.sent) j x (omega (arith, inside, few)) (omega (arith, low))
 
 -- a run whose entries are within their limit is one of tokens of which it is known
-known_run : (net : Network Known) (ended : Network Traced) (ticket : ℕ) (events : List (Event × Reply)) → length net.plan.terminals ≤ 65536 → IsBounded (counts (map (map_node known_of) net.nodes)) (run_deeds net.plan ticket events) → IsDoneRun traced_kind (map_network known_of net) events ended → (last : Network Known) × (map_network known_of last ≡ ended)
-known_run net ended ticket [] few bound is = (net, sym is)
-known_run net ended ticket (e ∷ events) few bound is =
+known_run : (net : Network Known) (ended : Network Traced) (stamps : ℕ → Stamp) (n : ℕ) (events : List (Event × Reply)) → length net.plan.terminals ≤ 65536 → IsBounded (counts (map (map_node known_of) net.nodes)) (run_deeds net.plan stamps n events) → IsDoneRun traced_kind (map_network known_of net) events ended → (last : Network Known) × (map_network known_of last ≡ ended)
+known_run net ended stamps n [] few bound is = (net, sym is)
+known_run net ended stamps n (e ∷ events) few bound is =
     let here : Network Traced = map_network known_of net in
     let possible : event_fault net.plan e.0 ≡ None = done_possible traced_kind here is.0 e.0 e.1 is.1 in
     let made : network_step traced_kind here e.0 ≡ Some (e.1, is.0) = done_step_is traced_kind here is.0 e.0 e.1 is.1 is.2 in
     let adds : AddsSent net.plan e.0 (counts here.nodes) (counts is.0.nodes) = step_counts traced_kind net.plan here.nodes e.0 (e.1, is.0) made in
-    let on : IsBounded (counts is.0.nodes) (run_deeds net.plan (suc ticket) events) = bounded_on net.plan e.0 ticket e.1 (counts here.nodes) (counts is.0.nodes) (run_deeds net.plan (suc ticket) events) is.2 adds bound in
+    let on : IsBounded (counts is.0.nodes) (run_deeds net.plan stamps (suc n) events) = bounded_on net.plan e.0 (stamps n) e.1 (counts here.nodes) (counts is.0.nodes) (run_deeds net.plan stamps (suc n) events) is.2 adds bound in
     let same : ◌≡◌ {A = Result Reply EventFault × Network Traced} (Ok e.1, is.0) ((network_apply known_kind net e.0).0, map_network known_of (network_apply known_kind net e.0).1) =
-    is.1 ∙ apply_alike known_of known_kind traced_kind plain_known random_known net e.0 (alike net e.0 e.1 ticket (run_deeds net.plan (suc ticket) events) few possible is.2 bound) in
+    is.1 ∙ apply_alike known_of known_kind traced_kind plain_known random_known net e.0 (alike net e.0 e.1 (stamps n) (run_deeds net.plan stamps (suc n) events) few possible is.2 bound) in
     let after : Network Known = (network_apply known_kind net e.0).1 in
     let next : is.0 ≡ map_network known_of after = ap (λ (z : Result Reply EventFault × Network Traced). z.1) same in
     let plan_same : after.plan ≡ net.plan = apply_plan known_kind net e.0 in
-    known_run after ended (suc ticket) events
+    known_run after ended stamps (suc n) events
     (subst (λ (p : Plan). length p.terminals ≤ 65536) (sym plan_same) few)
-    (subst (λ (p : Plan). IsBounded (counts (map (map_node known_of) after.nodes)) (run_deeds p (suc ticket) events)) (sym plan_same) (subst (λ (n : Network Traced). IsBounded (counts n.nodes) (run_deeds net.plan (suc ticket) events)) next on))
+    (subst (λ (p : Plan). IsBounded (counts (map (map_node known_of) after.nodes)) (run_deeds p stamps (suc n) events)) (sym plan_same) (subst (λ (m : Network Traced). IsBounded (counts m.nodes) (run_deeds net.plan stamps (suc n) events)) next on))
     (subst (λ n. IsDoneRun traced_kind n events ended) next is.3)
 
 all_sure : (l : List Known) → AreSure (map known_of l)
@@ -153,8 +154,8 @@ known_lists (node.Terminal t ∷ nodes) =
     ∙ ap (λ ls. origins_in (map known_of t.arrived) ∷ ls) (known_lists nodes)
 
 -- what is kept of the tokens that arrived in a run from a start tells the same packets
-pub lists_same : (plan : Plan) (starts : List NodeStart) (events : List (Event × Reply)) (ended : Network Traced) → length plan.terminals ≤ 65536 → IsBounded (counts (map (start_node {A = Traced}) starts)) (run_deeds plan 0 events) → IsDoneRun traced_kind (network_of plan (map start_node starts)) events ended → map tagged_lists (terminals_of (map (map_node tag) ended.nodes)) ≡ map terminal_origins (terminals_of ended.nodes)
-lists_same plan starts events ended few bound is =
+pub lists_same : (plan : Plan) (starts : List NodeStart) (stamps : ℕ → Stamp) (events : List (Event × Reply)) (ended : Network Traced) → length plan.terminals ≤ 65536 → IsBounded (counts (map (start_node {A = Traced}) starts)) (run_deeds plan stamps 0 events) → IsDoneRun traced_kind (network_of plan (map start_node starts)) events ended → map tagged_lists (terminals_of (map (map_node tag) ended.nodes)) ≡ map terminal_origins (terminals_of ended.nodes)
+lists_same plan starts stamps events ended few bound is =
     let from : map (start_node {A = Traced}) starts ≡ map (map_node known_of) (map (start_node {A = Known}) starts) = sym (starts_same known_of starts) in
-    let run = known_run (network_of plan (map start_node starts)) ended 0 events few (subst (λ (ns : List (Node Traced)). IsBounded (counts ns) (run_deeds plan 0 events)) from bound) (subst (λ (ns : List (Node Traced)). IsDoneRun traced_kind (network_of plan ns) events ended) from is) in
+    let run = known_run (network_of plan (map start_node starts)) ended stamps 0 events few (subst (λ (ns : List (Node Traced)). IsBounded (counts ns) (run_deeds plan stamps 0 events)) from bound) (subst (λ (ns : List (Node Traced)). IsDoneRun traced_kind (network_of plan ns) events ended) from is) in
     subst (λ (n : Network Traced). map tagged_lists (terminals_of (map (map_node tag) n.nodes)) ≡ map terminal_origins (terminals_of n.nodes)) run.1 (known_lists run.0.nodes)

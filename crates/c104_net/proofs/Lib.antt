@@ -75,10 +75,12 @@ pub mod SureOrigins
 pub mod OriginPieces
 pub mod NamedOrigins
 pub mod LeadingSteps
-pub mod LeadingPlaces
-pub mod LeadingRuns
+pub mod StableSorts
+pub mod GatheredLeads
+pub mod ReplayedRuns
+pub mod MergedEvents
 pub mod ToldEvents
-pub mod ReplaySteps
+pub mod FinishedRuns
 pub mod RunOrigins
 pub mod RoundMembers
 mod EachSoFar

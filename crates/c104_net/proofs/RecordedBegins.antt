@@ -20,6 +20,7 @@ use Rattle.c104_net.specs.Nodes.{Node}
 use Rattle.c104_net.specs.Quiet.{network_begin, node_begin, IsQuietInput, IsQuietNode, IsQuietOutput}
 use Rattle.c104_net.specs.RecordedNets.{begun_told, place_told, places_record, IsReading, IsRecordedNet, Reading}
 use Rattle.c104_net.specs.Runs.{IsRunRecord}
+use Rattle.c104_net.specs.Traces.{seatless}
 use Rattle.c104_net.specs.Starts.{start_node, start_of}
 use Rattle.c104_net.specs.TracedRuns.{map_input, map_node, map_outgoing}
 use Rattle.c104_net.proofs.BegunRecords.{fresh_kept}
@@ -74,11 +75,12 @@ module _ {A P : Type 0} (v : Reading A P) where
   plain n = map_node v.kind.plain n
 
   -- nodes at their starts, of which nothing is kept
-  pub told_first : (plan : Plan) (places : List P) → map start_node (map v.start places) ≡ map v.state places → map v.trace places ≡ map no_entries (map v.state places) → IsRunRecord v.kind plan (map start_node (map v.start places)) (map v.state places) (map v.trace places) 0 []
+  pub told_first : (plan : Plan) (places : List P) → map start_node (map v.start places) ≡ map v.state places → map v.trace places ≡ map no_entries (map v.state places) → IsRunRecord v.kind plan seatless (map start_node (map v.start places)) (map v.state places) (map v.trace places) 0 []
   told_first plan places stand none = record {
     run = ap (network_of plan) (sym stand);
     told = λ k. ap (λ ts. slice_get ts k) none ∙ slice_get-map (no_entries {A = A}) (map v.state places) k ∙ ap (λ ns. option_map (no_entries {A = A}) (slice_get ns k)) (sym stand);
     counted = refl;
+    ordered = tt;
   }
 
   -- nodes that have begun

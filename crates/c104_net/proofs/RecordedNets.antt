@@ -15,7 +15,7 @@ use Rattle.c104_net.specs.NetRecords.{is_done, is_trace_full, ticket_after, IsNe
 use Rattle.c104_net.specs.RecordedNets.{places_record, IsReading, IsRecordedNet, KeepsTokens, Reading}
 use Rattle.c104_net.specs.RecordedRuns.{record_apply, record_at, AnswersRecord}
 use Rattle.c104_net.specs.Stages.{stage_apply, stage_of, Stage}
-use Rattle.c104_net.specs.Traces.{event_deeds, event_full, is_switch_at, is_switch_place, kept_of, noted_all}
+use Rattle.c104_net.specs.Traces.{event_deeds, event_full, is_switch_at, is_switch_place, kept_of, noted_all, seatless}
 use Rattle.c104_net.specs.TracedRuns.{map_node}
 use Rattle.c104_net.proofs.FirstRecords.{map_twice}
 use Rattle.c104_net.proofs.NetRecording.{kept_same}
@@ -159,7 +159,7 @@ module _ {A P : Type 0} (v : Reading A P) (reads : IsReading v) (plan : Plan) (i
     (answers : AnswersWith v.kind (event_full plan (map (λ (p : P). is_trace_full (v.trace p)) old) e) (network_of plan (map v.state old)) e answer (network_of plan (map v.state new)))
     (free : IfOk answer (λ r. is_ready r ≡ true → event_full plan (map (λ (p : P). is_trace_full (v.trace p)) old) e ≡ false))
     (begun : map (some_start v) new ≡ map (some_start v) old)
-    (noted : map v.trace new ≡ noted_all true (map v.trace old) (kept_of (event_deeds (is_switch_at (map v.state old)) plan count e) answer)) where
+    (noted : map v.trace new ≡ noted_all true (map v.trace old) (kept_of (event_deeds (is_switch_at (map v.state old)) plan (seatless count) e) answer)) where
   abbrev fulls : List Bool
   fulls = map (λ (p : P). is_trace_full (v.trace p)) old
 
@@ -186,7 +186,7 @@ module _ {A P : Type 0} (v : Reading A P) (reads : IsReading v) (plan : Plan) (i
   event_records = record {
     answers = subst (λ fs. AnswersWith plain_kind (event_full plan fs e) (network_of plan (map v.shown old)) e answer (network_of plan (map v.shown new))) fulls_told answered;
     free = subst (λ fs. IfOk answer (λ r. is_ready r ≡ true → event_full plan fs e ≡ false)) fulls_told free;
-    traces = noted ∙ ap (noted_all true (map v.trace old)) (kept_same (is_switch_at (map v.state old)) (is_switch_place plan) places_told plan count e answer);
+    traces = noted ∙ ap (noted_all true (map v.trace old)) (kept_same (is_switch_at (map v.state old)) (is_switch_place plan) places_told plan (seatless count) e answer);
     starts = somes_same (map v.start new) (map v.start old) (sym (somes_shown v new) ∙ begun ∙ somes_shown v old);
     count = refl;
   }

@@ -11,7 +11,7 @@ use Rattle.c104_net.specs.Network.{Network, network_apply}
 use Rattle.c104_net.specs.NetRecords.{is_done, is_trace_full, IsNetRecord, NetRecord, RecordsEvent}
 use Rattle.c104_net.specs.RecordedRuns.{record_apply, record_at, record_stage}
 use Rattle.c104_net.specs.Stages.{stage_after, stage_full}
-use Rattle.c104_net.specs.Traces.{event_full, is_switch_at, is_switch_place, noted_all}
+use Rattle.c104_net.specs.Traces.{event_full, is_switch_at, is_switch_place, noted_all, seatless}
 use Rattle.c104_net.proofs.NetRecording.{kept_same}
 use Rattle.c104_net.proofs.RecordSteps.{event_kept}
 use Rattle.c104_net.proofs.RoundJoins.{apply_plan}
@@ -31,7 +31,7 @@ module _ (r : NetRecord) (e : Event) where
   due_recorded before due is free = record {
     answers = inl is;
     free = free_of due.0 free;
-    traces = ap (noted_all true r.traces) (kept_same (is_switch_at r.network.nodes) (is_switch_place plan) (in_place plan r.network.nodes before.steady.in_place) plan r.count e due.0);
+    traces = ap (noted_all true r.traces) (kept_same (is_switch_at r.network.nodes) (is_switch_place plan) (in_place plan r.network.nodes before.steady.in_place) plan (seatless r.count) e due.0);
     starts = refl;
     count = refl;
   }

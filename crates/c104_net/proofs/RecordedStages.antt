@@ -22,14 +22,14 @@ use Rattle.c104_net.specs.Runs.{IsRunRecord}
 use Rattle.c104_net.specs.Stages.{stage_after, stage_apply, stage_full, unless_full, Stage}
 use Rattle.c104_net.specs.Starts.{start_node}
 use Rattle.c104_net.specs.TracedRuns.{map_network, map_node}
-use Rattle.c104_net.specs.Traces.{event_deeds, is_switch_at, kept_of, noted_all, part}
+use Rattle.c104_net.specs.Traces.{event_deeds, is_switch_at, kept_of, noted_all, part, seatless}
 use Rattle.c104_net.proofs.NetRecording.{kept_same}
 use Rattle.c104_net.proofs.RecordedRuns.{record_kept, record_plan}
 use Rattle.c104_net.proofs.RecordSteps.{ticket_left}
 use Rattle.c104_net.proofs.RoundJoins.{apply_plan}
 use Rattle.c104_net.proofs.RoundRuns.{step_replies, Applied}
 use Rattle.c104_net.proofs.RunOrigins.{kinds_plain}
-use Rattle.c104_net.proofs.RunRecords.{record_on}
+use Rattle.c104_net.proofs.RunRecords.{record_on, seatless_order}
 use Rattle.c104_net.proofs.StepMaps.{apply_map}
 use Rattle.c104_net.proofs.UndoneEvents.{undone_deeds}
 
@@ -78,7 +78,7 @@ pub record IsRecordedStage {A : Type 0} (kind : Kind A) (starts : List NodeStart
   pub begun : s.starts ≡ map Some starts
   pub kept : IsNetRecord (record_at starts (plain_stage kind s))
   pub events : List (Event × Reply)
-  pub told : IsRunRecord kind s.network.plan (map start_node starts) s.network.nodes s.traces s.count events
+  pub told : IsRunRecord kind s.network.plan seatless (map start_node starts) s.network.nodes s.traces s.count events
 
 module _ {A : Type 0} (kind : Kind A) (tokens : KeepsTokens kind) where
   -- an event is answered alike over plain tokens, and leaves what is seen of what it leaves
@@ -108,7 +108,7 @@ module _ {A : Type 0} (kind : Kind A) (tokens : KeepsTokens kind) where
         by_full true = refl
         by_full false =
             ap (λ ds. (due.0, record { network = plain_network kind due.1; starts = s.starts; traces = noted_all true s.traces ds; count = ticket_after s.count (is_done due.0) }))
-            (kept_same (is_switch_at s.network.nodes) (is_switch_at (map (map_node kind.plain) s.network.nodes)) (λ k. sym (switches_plain kind s.network.nodes k)) s.network.plan s.count e due.0)
+            (kept_same (is_switch_at s.network.nodes) (is_switch_at (map (map_node kind.plain) s.network.nodes)) (λ k. sym (switches_plain kind s.network.nodes k)) s.network.plan (seatless s.count) e due.0)
 
   -- over plain tokens it is the record after the event
   pub record_plain : (starts : List NodeStart) (s : Stage A) (e : Event) → ◌≡◌ {A = Applied NetRecord} ((stage_apply kind true s e).0, record_at starts (plain_stage kind (stage_apply kind true s e).1)) (record_apply (record_at starts (plain_stage kind s)) e)
@@ -131,7 +131,7 @@ module _ {A : Type 0} (kind : Kind A) (tokens : KeepsTokens kind) where
     after_plan = ap (λ (d : Applied NetRecord). d.1.network.plan) (record_plain starts s e) ∙ record_plan r e
 
     abbrev Told : Stage A → Type 0
-    Told t = (events : List (Event × Reply)) × IsRunRecord kind s.network.plan start t.network.nodes t.traces t.count events
+    Told t = (events : List (Event × Reply)) × IsRunRecord kind s.network.plan seatless start t.network.nodes t.traces t.count events
 
     stage_in_place : AreInPlace s.network.plan s.network.nodes
     stage_in_place = sym (kinds_plain kind.plain s.network.nodes) ∙ is.kept.steady.in_place
@@ -142,9 +142,9 @@ module _ {A : Type 0} (kind : Kind A) (tokens : KeepsTokens kind) where
     told_on : (d : Applied (Network A)) → d ≡ network_apply kind s.network e → (done : Bool) → is_done d.0 ≡ done → Told (left d)
     told_on d is_due false undone =
         let net : d.1 ≡ s.network = ap (λ (x : Applied (Network A)). x.1) is_due ∙ undone_left kind s.network e (ap (λ (x : Applied (Network A)). is_done x.0) (sym is_due) ∙ undone) in
-        let none = undone_deeds (is_switch_at s.network.nodes) s.network.plan s.count e d.0 undone in
+        let none = undone_deeds (is_switch_at s.network.nodes) s.network.plan (seatless s.count) e d.0 undone in
         let same : left d ≡ s =
-        ap (λ (n : Network A). record { network = n; starts = s.starts; traces = noted_all true s.traces (kept_of (event_deeds (is_switch_at s.network.nodes) s.network.plan s.count e) d.0); count = ticket_after s.count (is_done d.0) }) net
+        ap (λ (n : Network A). record { network = n; starts = s.starts; traces = noted_all true s.traces (kept_of (event_deeds (is_switch_at s.network.nodes) s.network.plan (seatless s.count) e) d.0); count = ticket_after s.count (is_done d.0) }) net
         ∙ ap (λ ds. record { network = s.network; starts = s.starts; traces = noted_all true s.traces ds; count = ticket_after s.count (is_done d.0) }) none
         ∙ ap (λ b. record { network = s.network; starts = s.starts; traces = s.traces; count = ticket_after s.count b }) undone in
         subst Told (sym same) (is.events, is.told)
@@ -156,8 +156,8 @@ module _ {A : Type 0} (kind : Kind A) (tokens : KeepsTokens kind) where
             let there : net ≡ network_of s.network.plan net.nodes = ap (λ p. network_of p net.nodes) plan in
             let due : ◌≡◌ {A = Applied (Network A)} (Ok r0, network_of s.network.plan net.nodes) (network_apply kind s.network e) = ap (λ n. (Ok r0, n)) (sym there) ∙ is_due in
             let one : s.count + 1 ≡ ticket_after s.count (is_ready r0) = ticket_left r r is_plan refl is.kept e ∙ ap (ticket_after s.count) (sym ready) in
-            let on = record_on kind s.network.plan start s.network.nodes net.nodes s.traces (noted_all true s.traces (event_deeds (is_switch_at s.network.nodes) s.network.plan s.count e r0)) s.count is.events false e r0 stage_in_place is.told (inl due) ready refl in
-            (is.events ++ (e, r0) ∷ [], subst (λ c. IsRunRecord kind s.network.plan start net.nodes (noted_all true s.traces (event_deeds (is_switch_at s.network.nodes) s.network.plan s.count e r0)) c (is.events ++ (e, r0) ∷ [])) one on)
+            let on = record_on kind s.network.plan seatless start s.network.nodes net.nodes s.traces (noted_all true s.traces (event_deeds (is_switch_at s.network.nodes) s.network.plan (seatless s.count) e r0)) s.count is.events false e r0 stage_in_place is.told (inl due) ready refl (seatless_order s.network.plan 0 (is.events ++ (e, r0) ∷ [])) in
+            (is.events ++ (e, r0) ∷ [], subst (λ c. IsRunRecord kind s.network.plan seatless start net.nodes (noted_all true s.traces (event_deeds (is_switch_at s.network.nodes) s.network.plan (seatless s.count) e r0)) c (is.events ++ (e, r0) ∷ [])) one on)
         by_answer (Err f) net is_due ready = cc
 
     by_full : (refused : Bool) → Told (left (if refused then (Err fault.TraceFull, s.network) else network_apply kind s.network e))
@@ -172,5 +172,5 @@ module _ {A : Type 0} (kind : Kind A) (tokens : KeepsTokens kind) where
           begun = is.begun;
           kept = after_kept;
           events = told.0;
-          told = subst (λ p. IsRunRecord kind p start after.network.nodes after.traces after.count told.0) (sym after_plan) told.1;
+          told = subst (λ p. IsRunRecord kind p seatless start after.network.nodes after.traces after.count told.0) (sym after_plan) told.1;
         }

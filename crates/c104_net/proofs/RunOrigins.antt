@@ -4,13 +4,10 @@ use Rattle.c104_describe.specs.PlanImage.{Image}
 use Rattle.c104_describe.specs.Plans.{IsPlan, Plan}
 use Rattle.c104_event.specs.declared.events.Event.{Event}
 use Rattle.c104_link.specs.Steps.{◌>>=◌}
-use Rattle.c104_net.proofs.EntryCounts.{lengths_same}
 use Rattle.c104_net.proofs.Finishing.{arrived_same, terminals_counted}
 use Rattle.c104_net.proofs.NamedOrigins.{found_origins, named_origins, quiet_traced, sent_plain}
 use Rattle.c104_net.proofs.OriginPieces.{packet_origin}
 use Rattle.c104_net.proofs.Promises.{headline}
-use Rattle.c104_net.proofs.RecordSteps.{nodes_counted}
-use Rattle.c104_net.proofs.ReplaySteps.{all_left}
 use Rattle.c104_net.proofs.SentBytes.{AreBytesSent, IsFitEntry, fit_run, run_bytes}
 use Rattle.c104_net.proofs.StartMaps.{starts_are, still_placed}
 use Rattle.c104_net.proofs.SureOrigins.{arrived_sure}
@@ -19,18 +16,20 @@ use Rattle.c104_net.proofs.TracedRuns.{run_after, token_of, traced_from}
 use Rattle.c104_net.specs.Balance.{AreInPlace, IsSteady, is_switch, credit_at, credit_of, granted_at, granted_of}
 use Rattle.c104_net.specs.Deliveries.{Promise, arrived_at, sent_at}
 use Rattle.c104_net.specs.Ends.{end_of}
-use Rattle.c104_net.specs.EventRuns.{run_events}
+use Rattle.c104_net.specs.EventRuns.{run_events, unless_fault}
 use Rattle.c104_net.specs.Finished.{FinishedRun, network_finish, run_arrived, terminals_of}
-use Rattle.c104_net.specs.FinishedRecords.{FinishedRecord, IsFinishedRecord, record_finish}
-use Rattle.c104_net.specs.Leading.{marked_all}
-use Rattle.c104_net.specs.NetRecords.{IsNetRecord, NetRecord}
+use Rattle.c104_net.specs.FinishedRecords.{ended_record, FinishedRecord, IsFinishedRecord}
+use Rattle.c104_net.specs.NetRecords.{NetRecord}
 use Rattle.c104_net.specs.Network.{Network, network_apply, network_arrived, network_of, terminal_place}
 use Rattle.c104_net.specs.Nodes.{Node, arrived_tokens, node_arrived}
 use Rattle.c104_net.specs.Origins.{AreSure, Origin, origins_in}
 use Rattle.c104_net.specs.Quiet.{IsQuiet}
-use Rattle.c104_net.specs.Replays.{IsLeft}
+use Rattle.c104_net.specs.Replays.{LeadTo}
+use Rattle.c104_net.specs.ToldEvents.{told_events}
+use Rattle.c104_net.specs.declared.stamps.Stamp.{Stamp}
+use Rattle.c104_event.specs.declared.faults.EventFault.{EventFault}
 use Rattle.c104_net.specs.RunOrigins.{AreOrigins}
-use Rattle.c104_net.specs.Runs.{IsRunRecord, at_node, run_deeds}
+use Rattle.c104_net.specs.Runs.{IsRunRecord}
 use Rattle.c104_net.specs.Starts.{start_node}
 use Rattle.c104_net.specs.Terminals.{Terminal}
 use Rattle.c104_net.specs.Traced.{traced_kind}
@@ -48,8 +47,8 @@ use Rattle.c104_switch.specs.Starts.{start_input, start_output}
 use Rattle.c104_switch.specs.declared.link_start.LinkStart.{LinkStart}
 use Rattle.c104_token.specs.Kinds.{plain_kind}
 use Rattle.c104_token.specs.declared.tokens.Token.{Token}
-use Rattle.std.proofs.Common.{All, Err, IfOk, List, None, Ok, Option, Result, Some, [], ap, arith, false, get_or, if◌then◌else◌, length, map, nat_lt, option_map, refl, replicate, slice_get, subst, sym, true, ℕ, ⊎_elim, ◌<◌, ◌∙◌, ◌∷◌, ◌≡◌, ◌≤◌}
-use Rattle.std.proofs.lemmas.List.{length-map, length-replicate}
+use Rattle.std.proofs.Common.{All, Err, IfOk, List, None, Ok, Option, Result, Some, [], ap, arith, false, get_or, if◌then◌else◌, length, map, nat_lt, option_map, refl, slice_get, subst, sym, true, ℕ, ⊎_elim, ◌<◌, ◌∙◌, ◌∷◌, ◌≡◌, ◌≤◌}
+use Rattle.std.proofs.lemmas.List.{length-map}
 use Rattle.std.proofs.lemmas.Bool.Decides.{nat_tests}
 use Rattle.std.proofs.lemmas.Option.{slice_get-map, slice_get_cases}
 use Rattle.c104_net.specs.declared.node.NodeOf.TheVariants as node
@@ -93,11 +92,12 @@ module _ (A B : Type 0) where
     balanced = λ p q wired. let level = steady.balanced p q wired in (level.0, credits_same starts (end_of plan p) ∙ level.1, grants_same starts (end_of plan q) ∙ level.2);
   }
 
--- what the type of a run keeps, by its own fields
+-- a run of a network by its own fields, and that what was sent in it are bytes
 pub record IsKeptRun (run : FinishedRecord) : Type 0 where
+  pub stamps : ℕ → Stamp
   pub events : List (Event × Reply)
   pub nodes : List (Node Token)
-  pub told : IsRunRecord plain_kind run.finished.plan (map start_node run.starts) nodes run.traces run.count events
+  pub told : IsRunRecord plain_kind run.finished.plan stamps (map start_node run.starts) nodes run.traces run.count events
   pub ended : run.finished ≡ network_finish (network_of run.finished.plan nodes)
   pub placed : AreInPlace run.finished.plan nodes
   pub started : IsSteady {A = Token} (network_of run.finished.plan (map start_node run.starts))
@@ -109,19 +109,17 @@ traces_fit net recorded k trace at =
     let found = recorded k trace at in
     fit_run (start_node found.1) found.0 trace found.2.recorded.run
 
-kept_net : (net : NetRecord) → IsNetRecord net → ((k : ℕ) → IsRecordedAt net k) → IsKeptRun (record_finish net)
-kept_net net kept recorded = record {
-  events = kept.told.0;
-  nodes = net.network.nodes;
-  told = kept.told.1;
-  ended = refl;
-  placed = kept.steady.in_place;
-  started = kept.started;
-  sent = run_bytes net.network.plan (map start_node net.starts) net.network.nodes net.traces net.count kept.told.0 kept.started.in_place kept.told.1 (traces_fit net recorded);
-}
-
 pub kept_run : (run : FinishedRecord) → IsFinishedRecord run → IsKeptRun run
-kept_run run is = subst IsKeptRun (sym is.left) (kept_net is.net is.kept is.recorded)
+kept_run run is = record {
+  stamps = is.stamps;
+  events = is.events;
+  nodes = is.nodes;
+  told = is.told;
+  ended = is.ended;
+  placed = is.placed;
+  started = is.started;
+  sent = run_bytes run.finished.plan is.stamps (map start_node run.starts) is.nodes run.traces run.count is.events is.started.in_place is.told (traces_fit (ended_record run is.nodes) is.recorded);
+}
 
 module _ (run : FinishedRecord) (is_plan : IsPlan run.finished.plan) (kept : IsKeptRun run) where
   abbrev plan : Plan
@@ -133,17 +131,6 @@ module _ (run : FinishedRecord) (is_plan : IsPlan run.finished.plan) (kept : IsK
 
   pub steady_start : IsSteady {A = Traced} (network_of run.finished.plan (map start_node run.starts))
   steady_start = still_steady Token Traced run.finished.plan run.starts kept.started
-
-  -- there are few traces
-  pub few_traces : length run.traces ≤ 65536
-  few_traces =
-      let same : length run.traces ≡ length (map (start_node {A = Token}) run.starts) = lengths_same run.traces (map (start_node {A = Token}) run.starts) (λ k n. at_node k (run_deeds run.finished.plan 0 kept.events)) kept.told.told in
-      let counted = nodes_counted run.finished.plan (map (start_node {A = Token}) run.starts) kept.started.in_place in
-      omega (arith, same, counted, is_plan.few_switches, is_plan.terminals.few)
-
-  -- at first all of it is left
-  pub left_first : (leaders : List ℕ) (n : ℕ) → leaders ≡ marked_all 0 run.traces (replicate run.count 0) → IsLeft run.finished.plan (network_of run.finished.plan (map start_node run.starts)) run.traces (replicate n 0) 0 leaders (network_of run.finished.plan traced.0)
-  left_first leaders n marked = all_left run.finished.plan run.starts kept.nodes run.traces run.count kept.events traced.0 leaders (replicate run.count 0) n is_plan kept.started.in_place kept.told traced.1 marked (length-replicate run.count 0)
 
 -- where the nodes stand in place, so do those of the traced run
 pub kinds_plain : {A B : Type 0} (f : A → B) (nodes : List (Node A)) → map is_switch (map (map_node f) nodes) ≡ map is_switch nodes
@@ -209,15 +196,15 @@ module _ (run : FinishedRecord) (is_plan : IsPlan run.finished.plan) (kept : IsK
   unfolding traced_end
   ends_traced =
       ap (λ (events : List Event). (run_events (network_apply traced_kind) (network_of run.finished.plan (map start_node run.starts)) events).1)
-      (events_told run.finished.plan is_plan (map start_node run.starts) kept.nodes run.traces run.count kept.events kept.told kept.started.in_place)
+      (events_told run.finished.plan is_plan kept.stamps (map start_node run.starts) kept.nodes run.traces run.count kept.events kept.told kept.started.in_place)
       ∙ run_after traced_kind (network_of run.finished.plan (map start_node run.starts)) (network_of run.finished.plan (traced run is_plan kept).0) kept.events (traced run is_plan kept).1.run
 
   -- whichever events left this record lead to the same nodes, since the traces tell them
-  pub ends_same : (ends : List (Node Token)) (done : List (Event × Reply)) → IsRunRecord plain_kind run.finished.plan (map start_node run.starts) ends run.traces run.count done → network_of run.finished.plan ends ≡ network_of run.finished.plan kept.nodes
-  ends_same ends done told =
+  pub ends_same : (stamps : ℕ → Stamp) (ends : List (Node Token)) (done : List (Event × Reply)) → IsRunRecord plain_kind run.finished.plan stamps (map start_node run.starts) ends run.traces run.count done → network_of run.finished.plan ends ≡ network_of run.finished.plan kept.nodes
+  ends_same stamps ends done told =
       let same : map (λ (e : Event × Reply). e.0) done ≡ map (λ (e : Event × Reply). e.0) kept.events =
-      sym (events_told run.finished.plan is_plan (map start_node run.starts) ends run.traces run.count done told kept.started.in_place)
-      ∙ events_told run.finished.plan is_plan (map start_node run.starts) kept.nodes run.traces run.count kept.events kept.told kept.started.in_place in
+      sym (events_told run.finished.plan is_plan stamps (map start_node run.starts) ends run.traces run.count done told kept.started.in_place)
+      ∙ events_told run.finished.plan is_plan kept.stamps (map start_node run.starts) kept.nodes run.traces run.count kept.events kept.told kept.started.in_place in
       sym (run_after plain_kind (network_of run.finished.plan (map start_node run.starts)) (network_of run.finished.plan ends) done told.run)
       ∙ ap (λ (events : List Event). (run_events (network_apply plain_kind) (network_of run.finished.plan (map start_node run.starts)) events).1) same
       ∙ run_after plain_kind (network_of run.finished.plan (map start_node run.starts)) (network_of run.finished.plan kept.nodes) kept.events kept.told.run
@@ -228,11 +215,12 @@ module _ (run : FinishedRecord) (is_plan : IsPlan run.finished.plan) (kept : IsK
       let promised : (image : Image) → IsAccepted (routes_of run.finished.plan image) → AreStartsOf run.finished.plan image run.starts → IsUnchanged (routes_of run.finished.plan image) kept.events → Promise (routes_of run.finished.plan image) (network_of run.finished.plan found.0) = λ image accepted are unchanged. headline image (network_of run.finished.plan (map start_node run.starts)) (network_of run.finished.plan found.0) kept.events is_plan accepted (starts_are run.finished.plan image run.starts are) found.1.run unchanged kept.sent in
       let is : network_of run.finished.plan found.0 ≡ traced_end run = sym ends_traced in
       record {
+        stamps = kept.stamps;
         events = kept.events;
         nodes = kept.nodes;
         told = kept.told;
         ended = kept.ended;
-        events_told = events_told run.finished.plan is_plan (map start_node run.starts) kept.nodes run.traces run.count kept.events kept.told kept.started.in_place;
+        events_told = events_told run.finished.plan is_plan kept.stamps (map start_node run.starts) kept.nodes run.traces run.count kept.events kept.told kept.started.in_place;
         once_more = subst (λ (net : Network Traced). IsTracedRun run.finished.plan run.starts kept.events kept.nodes net.nodes) is found.1;
         same_plan = ap (λ (net : Network Traced). net.plan) ends_traced;
         plain = subst (λ (net : Network Traced). (t : ℕ) → t < length run.finished.plan.terminals → run_arrived run.finished t ≡ Some (map (λ (x : Traced). x.token) (arrived_at net t))) is (plain_there run.finished.plan found.0 traced_placed run.finished kept.nodes kept.ended kept.placed found.1.plain);
@@ -241,28 +229,29 @@ module _ (run : FinishedRecord) (is_plan : IsPlan run.finished.plan) (kept : IsK
         each = subst (λ (net : Network Traced). (t : ℕ) → t < length run.finished.plan.terminals → slice_get (map terminal_origins (terminals_of found.0)) t ≡ Some (origins_in (arrived_at net t))) is (list_there run.finished.plan found.0 traced_placed);
         promise = λ image accepted are unchanged. subst (Promise (routes_of run.finished.plan image)) is (promised image accepted are unchanged);
         named = λ image accepted are unchanged. named_origins (routes_of run.finished.plan image) (traced_end run) (subst (Promise (routes_of run.finished.plan image)) is (promised image accepted are unchanged));
-        found = λ image accepted are unchanged done ends told quiet a n t p sent whole owned.
-            let end : network_of run.finished.plan ends ≡ network_of run.finished.plan kept.nodes = ends_same ends done told in
+        found = λ image accepted are unchanged stamps done ends told quiet a n t p sent whole owned.
+            let end : network_of run.finished.plan ends ≡ network_of run.finished.plan kept.nodes = ends_same stamps ends done told in
             subst (λ (net : Network Traced). (k : ℕ) × (slice_get (origins_in (arrived_at net t)) k ≡ Some (packet_origin a n))) is
             (found_origins (routes_of run.finished.plan image) (network_of run.finished.plan found.0) (promised image accepted are unchanged) (quiet_traced run.finished.plan found.0 kept.nodes found.1.plain (subst (λ (net : Network Token). IsQuiet net) end quiet)) a n t p
             (ap (λ ps. slice_get ps n) (sym (sent_plain run.finished.plan found.0 kept.nodes found.1.plain a)) ∙ subst (λ (net : Network Token). slice_get (sent_at net a) n ≡ Some p) end sent) whole owned);
       }
 
-map_same : {X : Type 0} (xs : List X) → map (λ (x : X). x) xs ≡ xs
-map_same [] = refl
-map_same (x ∷ xs) = ap (λ ys. x ∷ ys) (map_same xs)
+-- events that lead somewhere, each applied in turn, end where they lead
+led_there : (net ended : Network Traced) (events : List Event) → LeadTo net events ended → ended ≡ (run_events (network_apply traced_kind) net events).1
+led_there net ended [] is = is
+led_there net ended (e ∷ events) is =
+    led_there is.1 ended events is.3
+    ∙ ap (λ (z : Result Reply EventFault × Network Traced). (unless_fault z.0 z.1 (λ next. run_events (network_apply traced_kind) next events)).1) is.2
 
 module _ (run : FinishedRecord) (is_plan : IsPlan run.finished.plan) (kept : IsKeptRun run) where
-  -- the same of what is lent of the run
-  pub left_lent : (lent : List (List Entry)) (starts : List NodeStart) (net : Network Traced) → lent ≡ run.traces → starts ≡ run.starts → net ≡ network_of run.finished.plan (map start_node starts) →
-      IsLeft run.finished.plan net (map (λ (t : List Entry). t) lent) (replicate (length lent) 0) 0 (marked_all 0 (map (λ (t : List Entry). t) lent) (replicate run.count 0)) (network_of run.finished.plan (traced run is_plan kept).0)
-  left_lent lent starts net lent_is starts_is net_is =
-      let same : map (λ (t : List Entry). t) lent ≡ run.traces = map_same lent ∙ lent_is in
-      let ended : Network Traced = network_of run.finished.plan (traced run is_plan kept).0 in
-      let leaders = marked_all 0 (map (λ (t : List Entry). t) lent) (replicate run.count 0) in
-      let first = left_first run is_plan kept leaders (length lent) (ap (λ ts. marked_all 0 ts (replicate run.count 0)) same) in
-      subst (λ ts. IsLeft run.finished.plan net ts (replicate (length lent) 0) 0 leaders ended) (sym same)
-      (subst (λ n. IsLeft run.finished.plan n run.traces (replicate (length lent) 0) 0 leaders ended) (sym (net_is ∙ ap (λ (s : List NodeStart). network_of run.finished.plan (map start_node s)) starts_is)) first)
+  -- the events that the traces tell lead to the end of the run over tokens that tell where they came from
+  pub led_lent : (lent : List (List Entry)) (starts : List NodeStart) (net ended : Network Traced) → lent ≡ run.traces → starts ≡ run.starts → net ≡ network_of run.finished.plan (map start_node starts) → LeadTo net (told_events run.finished.plan lent) ended → ended ≡ network_of run.finished.plan (traced run is_plan kept).0
+  unfolding traced_end
+  led_lent lent starts net ended lent_is starts_is net_is led =
+      led_there net ended (told_events run.finished.plan lent) led
+      ∙ ap (λ (n : Network Traced). (run_events (network_apply traced_kind) n (told_events run.finished.plan lent)).1) (net_is ∙ ap (λ (s : List NodeStart). network_of run.finished.plan (map start_node s)) starts_is)
+      ∙ ap (λ (ts : List (List Entry)). (run_events (network_apply traced_kind) (network_of run.finished.plan (map start_node run.starts)) (told_events run.finished.plan ts)).1) lent_is
+      ∙ ends_traced run is_plan kept
 
   -- the lists of the run that was done once more are the origins of the run
   pub origins_lent : (net : Network Traced) (again : FinishedRun Traced) (lists : List (List Origin)) → net ≡ network_of run.finished.plan (traced run is_plan kept).0 → again ≡ network_finish net → lists ≡ map terminal_origins again.terminals → AreOrigins run lists

@@ -1,5 +1,5 @@
 -- What traces tell of a run goes on by an event that was done.
-use Rattle.std.proofs.Common.{◌≡◌, ◌∙◌, ◌+◌, ◌++◌, ℕ, zero, suc, Bool, true, false, List, [], ◌∷◌, Option, Some, None, Result, Ok, Err, IfOk, append_assoc, append-nil, if◌then◌else◌, length, length-append, map, nat_eq, nat_lt, replicate, slice_get, inl, inr, refl, sym, ap, subst, arith}
+use Rattle.std.proofs.Common.{◌≡◌, ◌∙◌, ◌+◌, ◌<◌, ◌++◌, ℕ, zero, suc, Bool, true, false, List, [], ◌∷◌, Option, Some, None, Result, Ok, Err, IfOk, append_assoc, append-nil, if◌then◌else◌, length, length-append, map, nat_eq, nat_lt, replicate, slice_get, inl, inr, refl, sym, ap, subst, arith}
 use Rattle.std.proofs.lemmas.Bool.Decides.{nat_tests}
 use Rattle.std.specs.Option.{option_map}
 use Rattle.c104_token.specs.Kinds.{Kind}
@@ -12,13 +12,15 @@ use Rattle.c104_event.specs.declared.events.Event.{Event}
 use Rattle.c104_event.specs.declared.events.Event.TheVariants as event
 use Rattle.c104_event.specs.declared.faults.EventFault.{EventFault}
 use Rattle.c104_net.specs.declared.acts.Entry.{Entry}
+use Rattle.c104_net.specs.declared.stamps.Stamp.{Stamp}
 use Rattle.c104_net.specs.declared.node.NodeOf.TheVariants.{Switch, Terminal}
 use Rattle.c104_net.specs.Balance.{is_switch, AreInPlace}
 use Rattle.c104_net.specs.Ends.{end_of}
 use Rattle.c104_net.specs.Nodes.{Node}
+use Rattle.c104_net.specs.EventPlaces.{event_place}
 use Rattle.c104_net.specs.Network.{Network, network_apply, network_of, AnswersWith}
-use Rattle.c104_net.specs.Traces.{Deed, event_deeds, crossing_deeds, crediting_deeds, is_switch_at, is_switch_place, kept_of, noted_all, noted_at, part}
-use Rattle.c104_net.specs.Runs.{IsDoneRun, IsRunRecord, at_node, run_deeds}
+use Rattle.c104_net.specs.Traces.{Deed, event_deeds, crossing_deeds, crediting_deeds, is_switch_at, is_switch_place, kept_of, noted_all, noted_at, part, seatless}
+use Rattle.c104_net.specs.Runs.{AreBehind, AreInOrder, IsBefore, IsDoneRun, IsRunRecord, at_node, run_deeds}
 use Rattle.c104_net.proofs.Crossing.{get_set_same, get_set_other}
 
 -- where each node stands at its place, the plan tells which are switches
@@ -38,19 +40,19 @@ pub in_place : {A : Type 0} (plan : Plan) (nodes : List (Node A)) → AreInPlace
 in_place plan nodes are k = by_counts (length plan.switches) (length plan.terminals) nodes are k
 
 -- the entries of an event, by which nodes are switches
-module _ (f g : ℕ → Bool) (same : (k : ℕ) → f k ≡ g k) (plan : Plan) (ticket : ℕ) where
-  crossing_same : (p : Port) (r : Reply) (o : Option Port) → part [] (λ q. crossing_deeds f ticket (end_of plan p) (end_of plan q) r) o ≡ part [] (λ q. crossing_deeds g ticket (end_of plan p) (end_of plan q) r) o
+module _ (f g : ℕ → Bool) (same : (k : ℕ) → f k ≡ g k) (plan : Plan) (stamp : Stamp) where
+  crossing_same : (p : Port) (r : Reply) (o : Option Port) → part [] (λ q. crossing_deeds f stamp (end_of plan p) (end_of plan q) r) o ≡ part [] (λ q. crossing_deeds g stamp (end_of plan p) (end_of plan q) r) o
   crossing_same p r None = refl
   crossing_same p reply.Done (Some q) = refl
   crossing_same p reply.NotReady (Some q) = refl
   crossing_same p (reply.Token x) (Some q) = rw (same (end_of plan p).node, same (end_of plan q).node) refl
   crossing_same p (reply.Control bytes) (Some q) = refl
 
-  crediting_same : (p : Port) (r : Reply) (o : Option Port) → part [] (λ q. crediting_deeds f ticket (end_of plan p) (end_of plan q) r) o ≡ part [] (λ q. crediting_deeds g ticket (end_of plan p) (end_of plan q) r) o
+  crediting_same : (p : Port) (r : Reply) (o : Option Port) → part [] (λ q. crediting_deeds f stamp (end_of plan p) (end_of plan q) r) o ≡ part [] (λ q. crediting_deeds g stamp (end_of plan p) (end_of plan q) r) o
   crediting_same p r None = refl
   crediting_same p r (Some q) = rw (same (end_of plan p).node, same (end_of plan q).node) refl
 
-  pub deeds_same : (e : Event) (r : Reply) → event_deeds f plan ticket e r ≡ event_deeds g plan ticket e r
+  pub deeds_same : (e : Event) (r : Reply) → event_deeds f plan stamp e r ≡ event_deeds g plan stamp e r
   deeds_same (event.Cross p) r = crossing_same p r (peer plan p)
   deeds_same (event.Credit p) r = crediting_same p r (peer plan p)
   deeds_same (event.Input s l word) r = refl
@@ -96,35 +98,67 @@ noted_parts (d ∷ ds) traces k = noted_parts ds (noted_at true traces d.0 d.1) 
     joined None = refl
     joined (Some t) = ap Some (append_assoc t (at_node k (d ∷ [])) (at_node k ds) ∙ ap (λ ts. t ++ ts) (sym (at_append k (d ∷ []) ds)))
 
-deeds_append : (plan : Plan) (ticket : ℕ) (events : List (Event × Reply)) (e : Event) (r : Reply) → run_deeds plan ticket (events ++ (e, r) ∷ []) ≡ run_deeds plan ticket events ++ event_deeds (is_switch_place plan) plan (ticket + length events) e r
-deeds_append plan ticket [] e r = append-nil _ ∙ ap (λ t. event_deeds (is_switch_place plan) plan t e r) (let same : ticket ≡ ticket + 0 = omega arith in same)
-deeds_append plan ticket (d ∷ events) e r =
-    let here : List Deed = event_deeds (is_switch_place plan) plan ticket d.0 d.1 in
-    let further : suc ticket + length events ≡ ticket + suc (length events) = omega arith in
-    ap (λ ds. here ++ ds) (deeds_append plan (suc ticket) events e r ∙ ap (λ t. run_deeds plan (suc ticket) events ++ event_deeds (is_switch_place plan) plan t e r) further)
-    ∙ sym (append_assoc here (run_deeds plan (suc ticket) events) (event_deeds (is_switch_place plan) plan (ticket + suc (length events)) e r))
+deeds_append : (plan : Plan) (stamps : ℕ → Stamp) (n : ℕ) (events : List (Event × Reply)) (e : Event) (r : Reply) → run_deeds plan stamps n (events ++ (e, r) ∷ []) ≡ run_deeds plan stamps n events ++ event_deeds (is_switch_place plan) plan (stamps (n + length events)) e r
+deeds_append plan stamps n [] e r = append-nil _ ∙ ap (λ t. event_deeds (is_switch_place plan) plan (stamps t) e r) (let same : n ≡ n + 0 = omega arith in same)
+deeds_append plan stamps n (d ∷ events) e r =
+    let here : List Deed = event_deeds (is_switch_place plan) plan (stamps n) d.0 d.1 in
+    let further : suc n + length events ≡ n + suc (length events) = omega arith in
+    ap (λ ds. here ++ ds) (deeds_append plan stamps (suc n) events e r ∙ ap (λ t. run_deeds plan stamps (suc n) events ++ event_deeds (is_switch_place plan) plan (stamps t) e r) further)
+    ∙ sym (append_assoc here (run_deeds plan stamps (suc n) events) (event_deeds (is_switch_place plan) plan (stamps (n + suc (length events))) e r))
+
+-- where each number is a ticket, events stand in the order of their tickets
+seatless_behind : (plan : Plan) (ticket place n : ℕ) (events : List (Event × Reply)) → ticket < n → AreBehind plan seatless ticket place n events
+seatless_behind plan ticket place n [] before = tt
+seatless_behind plan ticket place n (e ∷ events) before = (inl before, seatless_behind plan ticket place (suc n) events (omega (arith, before)))
+
+pub seatless_order : (plan : Plan) (n : ℕ) (events : List (Event × Reply)) → AreInOrder plan seatless n events
+seatless_order plan n [] = tt
+seatless_order plan n (e ∷ events) = (seatless_behind plan n (event_place plan e.0) (suc n) events (omega arith), seatless_order plan (suc n) events)
+
+-- an event joins others in order, where each of them stands before it
+module _ (plan : Plan) (stamps : ℕ → Stamp) (e : Event) (r : Reply) where
+  behind_on : (ticket place n : ℕ) (events : List (Event × Reply)) → AreBehind plan stamps ticket place n events → IsBefore ticket place (stamps (n + length events)).ticket (event_place plan e) → AreBehind plan stamps ticket place n (events ++ (e, r) ∷ [])
+  behind_on ticket place n [] behind before = (let same : n + 0 ≡ n = omega arith in subst (λ k. IsBefore ticket place (stamps k).ticket (event_place plan e)) same before, tt)
+  behind_on ticket place n (d ∷ events) behind before =
+      let same : n + suc (length events) ≡ suc n + length events = omega arith in
+      (behind.0, behind_on ticket place (suc n) events behind.1 (subst (λ k. IsBefore ticket place (stamps k).ticket (event_place plan e)) same before))
+
+  pub order_on : (n : ℕ) (events : List (Event × Reply)) → AreInOrder plan stamps n events → ((i : ℕ) (d : Event × Reply) → slice_get events i ≡ Some d → IsBefore (stamps (n + i)).ticket (event_place plan d.0) (stamps (n + length events)).ticket (event_place plan e)) → AreInOrder plan stamps n (events ++ (e, r) ∷ [])
+  order_on n [] ordered before = (tt, tt)
+  order_on n (d ∷ events) ordered before =
+      let here : n + 0 ≡ n = omega arith in
+      let last : n + suc (length events) ≡ suc n + length events = omega arith in
+      let first = subst (λ k. IsBefore (stamps n).ticket (event_place plan d.0) (stamps k).ticket (event_place plan e)) last (subst (λ k. IsBefore (stamps k).ticket (event_place plan d.0) (stamps (n + suc (length events))).ticket (event_place plan e)) here (before 0 d refl)) in (
+        behind_on (stamps n).ticket (event_place plan d.0) (suc n) events ordered.0 first,
+        order_on (suc n) events ordered.1 (λ i f at.
+            let next : n + suc i ≡ suc n + i = omega arith in
+            subst (λ k. IsBefore (stamps k).ticket (event_place plan f.0) (stamps (suc n + length events)).ticket (event_place plan e)) next
+            (subst (λ k. IsBefore (stamps (n + suc i)).ticket (event_place plan f.0) (stamps k).ticket (event_place plan e)) last (before (suc i) f at))),
+      )
 
 module _ {A : Type 0} (kind : Kind A) where
   done_append : (net mid after : Network A) (events : List (Event × Reply)) (e : Event) (r : Reply) → IsDoneRun kind net events mid → ◌≡◌ {A = Result Reply EventFault × Network A} (Ok r, after) (network_apply kind mid e) → is_ready r ≡ true → IsDoneRun kind net (events ++ (e, r) ∷ []) after
   done_append net mid after [] e r run due ready = (after, subst (λ n. ◌≡◌ {A = Result Reply EventFault × Network A} (Ok r, after) (network_apply kind n e)) run due, ready, refl)
   done_append net mid after (d ∷ events) e r run due ready = (run.0, run.1, run.2, done_append run.0 mid after events e r run.3 due ready)
 
-  -- the record of a run goes on by an event that was done
-  pub record_on : (plan : Plan) (start nodes after : List (Node A)) (traces more : List (List Entry)) (count : ℕ) (events : List (Event × Reply)) (full : Bool) (e : Event) (r : Reply) →
-      AreInPlace plan nodes → IsRunRecord kind plan start nodes traces count events → AnswersWith kind full (network_of plan nodes) e (Ok r) (network_of plan after) → is_ready r ≡ true →
-      more ≡ noted_all true traces (event_deeds (is_switch_at nodes) plan count e r) →
-      IsRunRecord kind plan start after more (count + 1) (events ++ (e, r) ∷ [])
-  record_on plan start nodes after traces more count events full e r are before answer ready noted =
+  -- the record of a run goes on by an event that was done, with the stamp of its number, where this stands behind all
+  pub record_on : (plan : Plan) (stamps : ℕ → Stamp) (start nodes after : List (Node A)) (traces more : List (List Entry)) (count : ℕ) (events : List (Event × Reply)) (full : Bool) (e : Event) (r : Reply) →
+      AreInPlace plan nodes → IsRunRecord kind plan stamps start nodes traces count events → AnswersWith kind full (network_of plan nodes) e (Ok r) (network_of plan after) → is_ready r ≡ true →
+      more ≡ noted_all true traces (event_deeds (is_switch_at nodes) plan (stamps count) e r) →
+      AreInOrder plan stamps 0 (events ++ (e, r) ∷ []) →
+      IsRunRecord kind plan stamps start after more (count + 1) (events ++ (e, r) ∷ [])
+  record_on plan stamps start nodes after traces more count events full e r are before answer ready noted ordered =
       let due : ◌≡◌ {A = Result Reply EventFault × Network A} (Ok r, network_of plan after) (network_apply kind (network_of plan nodes) e) = elim answer [ inl is ↦ is | inr refused ↦ absurd (cc refused.0) ] in
-      let new : List Deed = event_deeds (is_switch_place plan) plan count e r in
-      let deeds : event_deeds (is_switch_at nodes) plan count e r ≡ new = deeds_same (is_switch_at nodes) (is_switch_place plan) (in_place plan nodes are) plan count e r in
-      let all : run_deeds plan 0 (events ++ (e, r) ∷ []) ≡ run_deeds plan 0 events ++ new = deeds_append plan 0 events e r ∙ ap (λ t. run_deeds plan 0 events ++ event_deeds (is_switch_place plan) plan t e r) (let same : 0 + length events ≡ count = omega (arith, before.counted) in same) in
+      let new : List Deed = event_deeds (is_switch_place plan) plan (stamps count) e r in
+      let deeds : event_deeds (is_switch_at nodes) plan (stamps count) e r ≡ new = deeds_same (is_switch_at nodes) (is_switch_place plan) (in_place plan nodes are) plan (stamps count) e r in
+      let all : run_deeds plan stamps 0 (events ++ (e, r) ∷ []) ≡ run_deeds plan stamps 0 events ++ new = deeds_append plan stamps 0 events e r ∙ ap (λ t. run_deeds plan stamps 0 events ++ event_deeds (is_switch_place plan) plan (stamps t) e r) (let same : 0 + length events ≡ count = omega (arith, before.counted) in same) in
       record {
         run = done_append (network_of plan start) (network_of plan nodes) (network_of plan after) events e r before.run due ready;
         told = λ k.
             ap (λ ts. slice_get ts k) (noted ∙ ap (noted_all true traces) deeds) ∙ noted_parts new traces k ∙ ap (option_map (λ t. t ++ at_node k new)) (before.told k)
-            ∙ grown k (run_deeds plan 0 events) new (run_deeds plan 0 (events ++ (e, r) ∷ [])) all (slice_get start k);
+            ∙ grown k (run_deeds plan stamps 0 events) new (run_deeds plan stamps 0 (events ++ (e, r) ∷ [])) all (slice_get start k);
         counted = let one : length (events ++ (e, r) ∷ []) ≡ length events + 1 = length-append events ((e, r) ∷ []) in omega (arith, one, before.counted);
+        ordered = ordered;
       }
     where
       grown : (k : ℕ) (ds new all : List Deed) → all ≡ ds ++ new → (o : Option (Node A)) → option_map (λ t. t ++ at_node k new) (option_map (λ n. at_node k ds) o) ≡ option_map (λ n. at_node k all) o
@@ -133,9 +167,9 @@ module _ {A : Type 0} (kind : Kind A) where
 
   -- the same, whatever was answered
   pub record_result : (plan : Plan) (start nodes after : List (Node A)) (traces more : List (List Entry)) (count : ℕ) (events : List (Event × Reply)) (full keeps : Bool) (e : Event) (answer : Result Reply EventFault) →
-      keeps ≡ true → AreInPlace plan nodes → IsRunRecord kind plan start nodes traces count events → AnswersWith kind full (network_of plan nodes) e answer (network_of plan after) →
-      more ≡ noted_all keeps traces (kept_of (event_deeds (is_switch_at nodes) plan count e) answer) →
-      IfOk answer (λ r. is_ready r ≡ true → IsRunRecord kind plan start after more (count + 1) (events ++ (e, r) ∷ []))
+      keeps ≡ true → AreInPlace plan nodes → IsRunRecord kind plan seatless start nodes traces count events → AnswersWith kind full (network_of plan nodes) e answer (network_of plan after) →
+      more ≡ noted_all keeps traces (kept_of (event_deeds (is_switch_at nodes) plan (seatless count) e) answer) →
+      IfOk answer (λ r. is_ready r ≡ true → IsRunRecord kind plan seatless start after more (count + 1) (events ++ (e, r) ∷ []))
   record_result plan start nodes after traces more count events full keeps e (Ok r) keep are before answer noted =
-      λ ready. record_on plan start nodes after traces more count events full e r are before answer ready (noted ∙ ap (λ b. noted_all b traces (event_deeds (is_switch_at nodes) plan count e r)) keep)
+      λ ready. record_on plan seatless start nodes after traces more count events full e r are before answer ready (noted ∙ ap (λ b. noted_all b traces (event_deeds (is_switch_at nodes) plan (seatless count) e r)) keep) (seatless_order plan 0 (events ++ (e, r) ∷ []))
   record_result plan start nodes after traces more count events full keeps e (Err f) keep are before answer noted = tt

@@ -23,6 +23,7 @@ use Rattle.c104_event.specs.declared.events.Event.{Event}
 use Rattle.c104_event.specs.declared.events.Event.TheVariants as event
 use Rattle.c104_net.specs.declared.acts.ActOf.{ActOf}
 use Rattle.c104_net.specs.declared.acts.ActOf.TheVariants as act
+use Rattle.c104_net.specs.declared.stamps.Stamp.{Stamp}
 use Rattle.c104_net.specs.declared.acts.Entry.{Entry}
 use Rattle.c104_net.specs.declared.node.NodeOf.TheVariants.{Switch, Terminal}
 use Rattle.c104_net.specs.declared.starts.NodeStart.{NodeStart}
@@ -181,40 +182,40 @@ at_more k (d ∷ ds) rest = by_place (at_more k ds rest) (nat_eq d.0 k)
     by_place less true = omega (arith, less)
     by_place less false = less
 
-lone_first : (ticket k : ℕ) (a : ActOf Token) (r : Reply) (rest : List Deed) → is_ready r ≡ true → at_node k (lone_deed ticket k a r ++ rest) ≡ entry_of ticket a r ∷ at_node k rest
-lone_first ticket k a r rest ready =
+lone_first : (stamp : Stamp) (k : ℕ) (a : ActOf Token) (r : Reply) (rest : List Deed) → is_ready r ≡ true → at_node k (lone_deed stamp k a r ++ rest) ≡ entry_of stamp a r ∷ at_node k rest
+lone_first stamp k a r rest ready =
     let same : nat_eq k k ≡ true = grind (arith, nat_tests) in
-    ap (λ b. at_node k ((if b then (k, entry_of ticket a r) ∷ [] else []) ++ rest)) ready ∙ ap (λ b. if b then entry_of ticket a r ∷ at_node k rest else at_node k rest) same
+    ap (λ b. at_node k ((if b then (k, entry_of stamp a r) ∷ [] else []) ++ rest)) ready ∙ ap (λ b. if b then entry_of stamp a r ∷ at_node k rest else at_node k rest) same
 
 later : (cs after : List ℕ) (ds rest : List Deed) → after ≡ cs → IsBounded cs (ds ++ rest) → IsBounded after rest
 later cs after ds rest same bound = λ k c at. (let one = bound k c (ap (λ xs. slice_get xs k) (sym same) ∙ at) in let more = at_more k ds rest in omega (arith, one, more))
 
 -- a packet that is sent has a number below the limit
-pub low_number : (plan : Plan) (t : ℕ) (packet : Packet) (ticket : ℕ) (r : Reply) (cs : List ℕ) (rest : List Deed) (c : ℕ) → is_ready r ≡ true → IsBounded cs (event_deeds (is_switch_place plan) plan ticket (event.Send t packet) r ++ rest) → slice_get cs (terminal_place plan t) ≡ Some c → c + suc (length (at_node (terminal_place plan t) rest)) ≤ trace_limit
-low_number plan t packet ticket r cs rest c ready bound at =
+pub low_number : (plan : Plan) (t : ℕ) (packet : Packet) (stamp : Stamp) (r : Reply) (cs : List ℕ) (rest : List Deed) (c : ℕ) → is_ready r ≡ true → IsBounded cs (event_deeds (is_switch_place plan) plan stamp (event.Send t packet) r ++ rest) → slice_get cs (terminal_place plan t) ≡ Some c → c + suc (length (at_node (terminal_place plan t) rest)) ≤ trace_limit
+low_number plan t packet stamp r cs rest c ready bound at =
     let one = bound (terminal_place plan t) c at in
-    subst (λ (es : List Entry). c + length es ≤ trace_limit) (lone_first ticket (terminal_place plan t) (act.Send packet) r rest ready) one
+    subst (λ (es : List Entry). c + length es ≤ trace_limit) (lone_first stamp (terminal_place plan t) (act.Send packet) r rest ready) one
 
 -- an event that was done keeps them within the limit
-pub bounded_on : (plan : Plan) (e : Event) (ticket : ℕ) (r : Reply) (cs after : List ℕ) (rest : List Deed) → is_ready r ≡ true → AddsSent plan e cs after → IsBounded cs (event_deeds (is_switch_place plan) plan ticket e r ++ rest) → IsBounded after rest
-bounded_on plan (event.Cross p) ticket r cs after rest ready adds bound = later cs after _ rest adds bound
-bounded_on plan (event.Credit p) ticket r cs after rest ready adds bound = later cs after _ rest adds bound
-bounded_on plan (event.Input s l word) ticket r cs after rest ready adds bound = later cs after _ rest adds bound
-bounded_on plan (event.Claim s i o) ticket r cs after rest ready adds bound = later cs after _ rest adds bound
-bounded_on plan (event.Control s bytes) ticket r cs after rest ready adds bound = later cs after _ rest adds bound
-bounded_on plan (event.Drain t) ticket r cs after rest ready adds bound = later cs after _ rest adds bound
-bounded_on plan (event.Send t packet) ticket r cs after rest ready adds bound = λ k c at.
+pub bounded_on : (plan : Plan) (e : Event) (stamp : Stamp) (r : Reply) (cs after : List ℕ) (rest : List Deed) → is_ready r ≡ true → AddsSent plan e cs after → IsBounded cs (event_deeds (is_switch_place plan) plan stamp e r ++ rest) → IsBounded after rest
+bounded_on plan (event.Cross p) stamp r cs after rest ready adds bound = later cs after _ rest adds bound
+bounded_on plan (event.Credit p) stamp r cs after rest ready adds bound = later cs after _ rest adds bound
+bounded_on plan (event.Input s l word) stamp r cs after rest ready adds bound = later cs after _ rest adds bound
+bounded_on plan (event.Claim s i o) stamp r cs after rest ready adds bound = later cs after _ rest adds bound
+bounded_on plan (event.Control s bytes) stamp r cs after rest ready adds bound = later cs after _ rest adds bound
+bounded_on plan (event.Drain t) stamp r cs after rest ready adds bound = later cs after _ rest adds bound
+bounded_on plan (event.Send t packet) stamp r cs after rest ready adds bound = λ k c at.
     elim (cases_eq (terminal_place plan t) k) [
       | inl same ↦ subst (λ (j : ℕ). c + length (at_node j rest) ≤ trace_limit) same (
           let there : slice_get after (terminal_place plan t) ≡ Some (suc adds.0) = ap (λ xs. slice_get xs (terminal_place plan t)) adds.2 ∙ get_set_same cs (terminal_place plan t) adds.0 (suc adds.0) adds.1 in
           let both : Some c ≡ Some (suc adds.0) = sym at ∙ ap (slice_get after) (sym same) ∙ there in
           let is : c ≡ suc adds.0 = cc in
-          let low = low_number plan t packet ticket r cs rest adds.0 ready bound adds.1 in
+          let low = low_number plan t packet stamp r cs rest adds.0 ready bound adds.1 in
           omega (arith, low, is))
       | inr other ↦ (
           let before : slice_get cs k ≡ Some c = sym (get_set_other cs (terminal_place plan t) k (suc adds.0) other) ∙ ap (λ xs. slice_get xs k) (sym adds.2) ∙ at in
           let one = bound k c before in
-          let more = at_more k (event_deeds (is_switch_place plan) plan ticket (event.Send t packet) r) rest in
+          let more = at_more k (event_deeds (is_switch_place plan) plan stamp (event.Send t packet) r) rest in
           omega (arith, one, more))
     ]
 

@@ -27,6 +27,7 @@ use Rattle.c104_net.specs.Tagged.{tag, tagged_kind, tagged_origins, TaggedToken}
 use Rattle.c104_net.specs.Traced.{traced_kind, Traced}
 use Rattle.c104_net.specs.TracedRuns.{map_network, map_node, IsTracedRun}
 use Rattle.c104_net.specs.TracedEnds.{traced_end}
+use Rattle.c104_net.specs.Traces.{seatless}
 use Rattle.c104_net.specs.RecordedNets.{places_record, IsRecordedNet}
 use Rattle.c104_net.specs.RecordedPlaces.{counted_keeps, counted_reading}
 use Rattle.c104_net.specs.TracedRecords.{traced_start, traced_state, traced_trace, IsFit, TracedRecord}
@@ -125,7 +126,7 @@ module _ (plan : Plan) (is_plan : IsPlan plan) (nodes : List TracedRecord) (coun
   starts = map traced_start nodes
 
   -- the events of the run lead there over plain tokens too
-  told_plain : IsRunRecord plain_kind plan (map start_node net.starts) net.network.nodes net.traces count is.events
+  told_plain : IsRunRecord plain_kind plan seatless (map start_node net.starts) net.network.nodes net.traces count is.events
   told_plain =
       let from : plain_network (network_of plan (map start_node starts)) ≡ network_of plan (map start_node net.starts) = ap (network_of plan) (starts_same token_of starts) in
       let to : plain_network here ≡ net.network = ap (network_of plan) (states_shown counted_reading counted_keeps.reads nodes) in
@@ -133,8 +134,9 @@ module _ (plan : Plan) (is_plan : IsPlan plan) (nodes : List TracedRecord) (coun
         run = subst (λ n. IsDoneRun plain_kind n is.events net.network) from (subst (λ n. IsDoneRun plain_kind (plain_network (network_of plan (map start_node starts))) is.events n) to (run_plain (network_of plan (map start_node starts)) here is.events is.told.run));
         told = λ k.
             is.told.told k
-            ∙ one_part (start_node {A = TaggedToken}) (at_node k (run_deeds plan 0 is.events)) starts k ∙ sym (one_part (start_node {A = Token}) (at_node k (run_deeds plan 0 is.events)) starts k);
+            ∙ one_part (start_node {A = TaggedToken}) (at_node k (run_deeds plan seatless 0 is.events)) starts k ∙ sym (one_part (start_node {A = Token}) (at_node k (run_deeds plan seatless 0 is.events)) starts k);
         counted = is.told.counted;
+        ordered = is.told.ordered;
       }
 
   -- the same run over tokens that all tell where they came from
@@ -149,7 +151,7 @@ module _ (plan : Plan) (is_plan : IsPlan plan) (nodes : List TracedRecord) (coun
   unfolding traced_end
   ends_there =
       ap (λ (events : List Event). (run_events (network_apply traced_kind) (network_of plan (map start_node net.starts)) events).1)
-      (events_told plan is_plan (map start_node net.starts) net.network.nodes net.traces count is.events told_plain is.kept.started.in_place)
+      (events_told plan is_plan seatless (map start_node net.starts) net.network.nodes net.traces count is.events told_plain is.kept.started.in_place)
       ∙ run_after traced_kind (network_of plan (map start_node starts)) there is.events again.1.run
 
   -- and what is kept of its tokens are the tokens of the nodes
@@ -167,21 +169,22 @@ module _ (plan : Plan) (is_plan : IsPlan plan) (nodes : List TracedRecord) (coun
   lists_are : arrived_origins nodes ≡ map terminal_origins (terminals_of again.0)
   lists_are =
       let within : All IsWithinLimit (map traced_trace nodes) = is.kept.within in
-      let bound = bounded_first Traced starts (map traced_trace nodes) (run_deeds plan 0 is.events)
-      (λ k. is.told.told k ∙ one_part (start_node {A = TaggedToken}) (at_node k (run_deeds plan 0 is.events)) starts k ∙ sym (one_part (start_node {A = Traced}) (at_node k (run_deeds plan 0 is.events)) starts k)) within in
+      let bound = bounded_first Traced starts (map traced_trace nodes) (run_deeds plan seatless 0 is.events)
+      (λ k. is.told.told k ∙ one_part (start_node {A = TaggedToken}) (at_node k (run_deeds plan seatless 0 is.events)) starts k ∙ sym (one_part (start_node {A = Traced}) (at_node k (run_deeds plan seatless 0 is.events)) starts k)) within in
       let few : length plan.terminals ≤ 65536 = omega (arith, is_plan.terminals.few) in
-      ap (λ ns. map tagged_lists (terminals_of ns)) (sym tagged_there) ∙ lists_same plan starts is.events there few bound again.1.run
+      ap (λ ns. map tagged_lists (terminals_of ns)) (sym tagged_there) ∙ lists_same plan starts seatless is.events there few bound again.1.run
 
   module _ (fit : (k : ℕ) (m : TracedRecord) → slice_get nodes k ≡ Some m → All IsFit m.trace) where
     kept : IsKeptRun run
     kept = record {
+      stamps = seatless;
       events = is.kept.told.0;
       nodes = net.network.nodes;
       told = is.kept.told.1;
       ended = refl;
       placed = is.kept.steady.in_place;
       started = is.kept.started;
-      sent = run_bytes plan (map start_node net.starts) net.network.nodes net.traces net.count is.kept.told.0 is.kept.started.in_place is.kept.told.1 (fit_there nodes fit);
+      sent = run_bytes plan seatless (map start_node net.starts) net.network.nodes net.traces net.count is.kept.told.0 is.kept.started.in_place is.kept.told.1 (fit_there nodes fit);
     }
 
     pub traced_origins : (lists : List (List Origin)) → lists ≡ arrived_origins nodes → AreOrigins run lists

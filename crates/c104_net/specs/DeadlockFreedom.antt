@@ -26,6 +26,8 @@ use Rattle.c104_net.specs.Runs.{IsDoneRun, IsRunRecord}
 use Rattle.c104_net.specs.Standstill.{IsDeadlocked, IsStartedStart, StandsStill}
 use Rattle.c104_net.specs.Starts.{start_node}
 use Rattle.c104_net.specs.Traced.{Traced, traced_kind}
+use Rattle.c104_net.specs.Traces.{seatless}
+use Rattle.c104_net.specs.declared.stamps.Stamp.{Stamp}
 use Rattle.c104_net.specs.TracedRuns.{map_node}
 use Rattle.c104_net.specs.Unchanged.{AreStartsOf, IsUnchanged}
 use Rattle.c104_net.specs.HeaderWork.{random_bound, random_work}
@@ -44,7 +46,7 @@ pub record IsAcyclicNet (image : Image) (net : NetRecord) : Type 0 where
   pub set : AreStartsOf net.network.plan image net.starts
   pub started : All IsStartedStart net.starts
   -- whichever events the traces tell
-  pub unchanged : (events : List (Event × Reply)) → IsRunRecord plain_kind net.network.plan (map start_node net.starts) net.network.nodes net.traces net.count events → IsUnchanged (routes_of net.network.plan image) events
+  pub unchanged : (events : List (Event × Reply)) → IsRunRecord plain_kind net.network.plan seatless (map start_node net.starts) net.network.nodes net.traces net.count events → IsUnchanged (routes_of net.network.plan image) events
 
 -- an event isn't done: it is answered with NotReady, or refused
 abbrev pub IsUndone : NetRecord → Event → Type 0
@@ -99,8 +101,9 @@ IsFreeOfDeadlock net = (image : Image) → IsAcyclicNet image net → HasNoDeadl
 
 -- the same of a run that is finished: of the events that its traces tell, and the nodes at its end
 pub record EndsWithoutDeadlock (run : FinishedRecord) : Type 0 where
+  pub stamps : ℕ → Stamp
   pub events : List (Event × Reply)
   pub nodes : List (Node Token)
-  pub told : IsRunRecord plain_kind run.finished.plan (map start_node run.starts) nodes run.traces run.count events
+  pub told : IsRunRecord plain_kind run.finished.plan stamps (map start_node run.starts) nodes run.traces run.count events
   pub ended : run.finished ≡ network_finish (network_of run.finished.plan nodes)
   pub stands_quiet : (image : Image) → IsAccepted (routes_of run.finished.plan image) → IsAcyclic (routes_of run.finished.plan image) → AreStartsOf run.finished.plan image run.starts → All IsStartedStart run.starts → IsUnchanged (routes_of run.finished.plan image) events → StandsStill plain_kind (network_of run.finished.plan nodes) → IsQuiet (network_of run.finished.plan nodes)

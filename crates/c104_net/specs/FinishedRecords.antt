@@ -1,12 +1,21 @@
 -- What is left of a run of a network whose nodes keep what they do: the plan and the terminals at its end, where
 -- its nodes started, what they did since, and how many events were done.
-use Rattle.std.specs.Prelude.{ℕ, ◌+◌, ◌≡◌, ◌≤◌, List, [], length}
+use Rattle.std.specs.Prelude.{ℕ, All, ◌+◌, ◌≡◌, ◌≤◌, List, [], length, map}
 use Rattle.c104_token.specs.declared.tokens.Token.{Token}
 use Rattle.c104_describe.specs.Plans.{Plan}
 use Rattle.c104_net.specs.declared.acts.Entry.{Entry}
 use Rattle.c104_net.specs.declared.starts.NodeStart.{NodeStart}
 use Rattle.c104_net.specs.Finished.{FinishedRun, network_finish}
-use Rattle.c104_net.specs.NetRecords.{IsNetRecord, NetRecord}
+use Rattle.c104_event.specs.declared.events.Event.{Event}
+use Rattle.c104_net.specs.Balance.{AreInPlace, IsSteady}
+use Rattle.c104_net.specs.NetRecords.{IsWithinLimit, NetRecord}
+use Rattle.c104_net.specs.Network.{network_of}
+use Rattle.c104_net.specs.Nodes.{Node}
+use Rattle.c104_net.specs.Runs.{IsRunRecord}
+use Rattle.c104_net.specs.Starts.{start_node}
+use Rattle.c104_net.specs.declared.stamps.Stamp.{Stamp}
+use Rattle.c104_switch.specs.Actions.{Reply}
+use Rattle.c104_token.specs.Kinds.{plain_kind}
 use Rattle.c104_net.specs.Terminals.{Terminal}
 use Rattle.c104_net.specs.WiredActs.{IsRecordedAt}
 
@@ -26,14 +35,29 @@ record_finish r = record {
   count = r.count;
 }
 
--- what the type of a run keeps: it is what such a network left. So there is one list of events, each
--- answered and done, which leads from the start to the end, and of which the trace of each node is its part
--- in the order of the tickets. Each trace is a run of its node, over wired links alone.
+-- a run with its nodes at the end, as the network that would be left so
+abbrev pub ended_record : FinishedRecord → List (Node Token) → NetRecord
+ended_record run nodes = record {
+  network = network_of run.finished.plan nodes;
+  starts = run.starts;
+  traces = run.traces;
+  count = run.count;
+}
+
+-- what the type of a run keeps: there is one list of events, each answered and done with its stamp, which leads from
+-- the start to the end, and of which the trace of each node is its part in the order of the tickets. Each trace is a
+-- run of its node, over wired links alone, and within its limit. At the start credit was granted at both ends of each wire
+-- alike.
 pub record IsFinishedRecord (run : FinishedRecord) : Type 0 where
-  pub net : NetRecord
-  pub kept : IsNetRecord net
-  pub left : run ≡ record_finish net
-  pub recorded : (k : ℕ) → IsRecordedAt net k
+  pub stamps : ℕ → Stamp
+  pub events : List (Event × Reply)
+  pub nodes : List (Node Token)
+  pub told : IsRunRecord plain_kind run.finished.plan stamps (map start_node run.starts) nodes run.traces run.count events
+  pub ended : run.finished ≡ network_finish (network_of run.finished.plan nodes)
+  pub placed : AreInPlace run.finished.plan nodes
+  pub started : IsSteady {A = Token} (network_of run.finished.plan (map start_node run.starts))
+  pub recorded : (k : ℕ) → IsRecordedAt (ended_record run nodes) k
+  pub within : All IsWithinLimit run.traces
 
 -- empty lists with room for what is left of a run: of each node where it started and what it did, and the
 -- terminals

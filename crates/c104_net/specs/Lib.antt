@@ -15,6 +15,7 @@ pub mod Traces
 pub mod Starts
 pub mod TerminalStarts
 pub mod Records
+pub mod EventPlaces
 pub mod Runs
 pub mod NetRecords
 pub mod WiredActs
@@ -34,6 +35,7 @@ pub mod Deliveries
 pub mod Unchanged
 pub mod Origins
 pub mod Leading
+pub mod Merges
 pub mod ToldEvents
 pub mod TracedEnds
 pub mod Replays

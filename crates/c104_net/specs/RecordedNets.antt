@@ -15,6 +15,7 @@ use Rattle.c104_net.specs.Runs.{IsRunRecord}
 use Rattle.c104_net.specs.Quiet.{node_begin}
 use Rattle.c104_net.specs.Starts.{start_node, start_of}
 use Rattle.c104_net.specs.TracedRuns.{map_node}
+use Rattle.c104_net.specs.Traces.{seatless}
 
 -- how a place is read: what kind of token its node carries, the node, the node over plain tokens, where it started, and
 -- what it did since
@@ -50,7 +51,7 @@ places_record v plan places count = record {
 pub record IsRecordedNet {A P : Type 0} (v : Reading A P) (plan : Plan) (places : List P) (count : ℕ) : Type 0 where
   pub kept : IsNetRecord (places_record v plan places count)
   pub events : List (Event × Reply)
-  pub told : IsRunRecord v.kind plan (map start_node (map v.start places)) (map v.state places) (map v.trace places) count events
+  pub told : IsRunRecord v.kind plan seatless (map start_node (map v.start places)) (map v.state places) (map v.trace places) count events
 
 -- a token of this kind that is made of a plain one is that one
 pub record KeepsTokens {A : Type 0} (kind : Kind A) : Type 0 where

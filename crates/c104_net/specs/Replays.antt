@@ -1,19 +1,35 @@
--- What is left of a run that is done once more, over tokens that tell where they came from.
-use Rattle.std.specs.Prelude.{ℕ, ◌≡◌, ◌<◌, List, length, Some, slice_get}
-use Rattle.c104_switch.specs.Actions.{Reply}
-use Rattle.c104_describe.specs.Plans.{Plan}
+-- What traces tell of a run that is done once more, over tokens that tell where they came from.
 use Rattle.c104_event.specs.declared.events.Event.{Event}
-use Rattle.c104_net.specs.declared.acts.Entry.{Entry}
-use Rattle.c104_net.specs.Leading.{IsAhead, event_places}
-use Rattle.c104_net.specs.Network.{Network}
-use Rattle.c104_net.specs.Runs.{IsDoneRun}
+use Rattle.c104_event.specs.declared.events.Event.TheVariants as event
+use Rattle.c104_event.specs.declared.faults.EventFault.{EventFault}
+use Rattle.c104_net.specs.Leading.{act_event}
+use Rattle.c104_net.specs.Network.{Network, network_apply}
 use Rattle.c104_net.specs.Traced.{Traced, traced_kind}
+use Rattle.c104_net.specs.declared.acts.Entry.{Entry}
+use Rattle.c104_net.specs.declared.leading.Lead.{Lead}
+use Rattle.c104_switch.specs.Actions.{Reply}
+use Rattle.std.specs.Prelude.{List, None, Ok, Option, Result, Some, [], slice_get, unwrap_or, ℕ, ◌∷◌, ◌≡◌}
 
--- events that lead from one network to another, as the traces tell them behind a given number of entries of each.
--- These are the places of their leading nodes, and there is a trace at each
-pub record IsLeft (plan : Plan) (net : Network Traced) (traces : List (List Entry)) (behind : List ℕ) (ticket : ℕ) (leaders : List ℕ) (ended : Network Traced) : Type 0 where
-  pub events : List (Event × Reply)
-  pub run : IsDoneRun traced_kind net events ended
-  pub ahead : IsAhead plan traces behind ticket events
-  pub leaders_are : leaders ≡ event_places plan events
-  pub inside : (i k : ℕ) → slice_get leaders i ≡ Some k → k < length traces
+-- an event, if there is one, and else a certain one in its place
+abbrev pub event_or : Option Event → Event
+event_or None = event.Drain 0
+event_or (Some e) = e
+
+-- the event that an entry of the node at a place leads in, if there is an entry and it leads
+abbrev pub entry_event : ℕ → ℕ → Option Entry → Event
+entry_event switches k None = event_or None
+entry_event switches k (Some e) = event_or (act_event switches k e.act)
+
+-- the ticket of an entry that leads, and the event that it leads in, as it stands in the traces
+abbrev pub lead_event : ℕ → List (List Entry) → Lead → ℕ × Event
+lead_event switches traces x =
+    (x.ticket, entry_event switches x.place (slice_get (unwrap_or (slice_get traces x.place) []) x.at))
+
+-- events lead from one network to another: each was answered in turn, and none was refused
+abbrev pub LeadTo : Network Traced → List Event → Network Traced → Type 0
+LeadTo net [] ended = ended ≡ net
+LeadTo net (e ∷ events) ended =
+    (r : Reply)
+    × (next : Network Traced)
+    × (◌≡◌ {A = Result Reply EventFault × Network Traced} (Ok r, next) (network_apply traced_kind net e))
+    × LeadTo next events ended

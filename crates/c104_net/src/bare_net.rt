@@ -8,6 +8,7 @@ mod starts;
 use crate::bare_run::{RunOf, terminals_of};
 use crate::events::happen;
 use crate::node::NodeOf;
+use crate::stamps::Stamp;
 use crate::terminal::TerminalOf;
 use crate::wires::Wires;
 use c104_event::{Event, EventFault};
@@ -67,6 +68,10 @@ impl<T: TokenKind> NetOf<T> {
     pub fn apply(&mut self, event: &Event) -> Result<Reply, EventFault>
         ensures { AnswersEvent T.kind self.old event.now result self.new }
     {
-        happen(&self.wires, self.places.as_mut_slice(), 0, event)
+        let stamp = Stamp {
+            ticket: 0,
+            seat: None,
+        };
+        happen(&self.wires, self.places.as_mut_slice(), stamp, event)
     }
 }

@@ -13,6 +13,7 @@ use crate::node::NodeOf;
 use crate::place::Place;
 use crate::recorded::TRACE_LIMIT;
 use crate::recorded_place::RecordedPlace;
+use crate::stamps::Stamp;
 use crate::tagged::TaggedToken;
 use c104_switch::ReplyOf;
 use c104_token::NoMemory;
@@ -106,7 +107,7 @@ impl Place<TaggedToken> for CountedNode {
     fn act(
         &mut self,
         number: usize,
-        ticket: u64,
+        stamp: Stamp,
         act: ActOf<TaggedToken>,
     ) -> Result<ReplyOf<TaggedToken>, NoMemory>
         requires short { IsWithinLimits act }
@@ -118,13 +119,13 @@ impl Place<TaggedToken> for CountedNode {
             (λ _. self.new.state ≡ self.old.state) }
         ensures trace { MatchResult result
             (λ reply. self.new.trace ≡
-            self.old.trace ++ kept_entry tagged_kind ticket act reply ∷ [])
+            self.old.trace ++ kept_entry tagged_kind stamp act reply ∷ [])
             (λ _. self.new.trace ≡ self.old.trace) }
         ensures start { self.new.start ≡ self.old.start }
         ensures memory { MatchResult result (λ _. Unit {0}) (λ _. wants_memory act ≡ true) }
     {
         let reply = self.core.act(number, &act)?;
-        self.history = self.history.with(&ticket, &act, &reply);
+        self.history = self.history.with(&stamp, &act, &reply);
         self.entries += 1;
         Ok(reply)
     }

@@ -1,12 +1,12 @@
 //! The events of a network, over any places of its nodes: one act, or one at each end of a wire.
-ghost use Rattle.std.specs.Prelude.{◌≡◌, ◌⊎◌, ◌+◌, ◌≤◌, ◌++◌, ◌∷◌, [], List, None, Some, true, false, length, map, nat_le, nat_lt, option_map, IfOk};
+ghost use Rattle.std.specs.Prelude.{◌≡◌, ◌⊎◌, ◌+◌, ◌≤◌, ℕ, ◌++◌, ◌∷◌, [], List, None, Some, true, false, length, map, nat_le, nat_lt, option_map, IfOk};
 ghost use Rattle.c104_token.specs.declared.text.TheConstants.{MAX_PACKET_BYTES};
 ghost use Rattle.c104_describe.specs.Plans.{IsPlan};
 ghost use Rattle.c104_event.specs.declared.events.Event.TheVariants as event;
 ghost use Rattle.c104_net.specs.Network.{AnswersWith, inbox_limit, network_of, outbox_limit};
 ghost use Rattle.c104_net.specs.Nodes.{nodes_arrived, nodes_waiting};
 ghost use Rattle.c104_net.specs.Acts.{plain_reply};
-ghost use Rattle.c104_net.specs.Traces.{event_deeds, event_full, is_switch_at, kept_of, noted_all};
+ghost use Rattle.c104_net.specs.Traces.{event_deeds, event_full, is_switch_at, kept_of, noted_all, seatless};
 ghost use Rattle.c104_net.specs.Balance.{AreInPlace};
 ghost use Rattle.c104_net.specs.Nodes.{Node};
 ghost use Rattle.c104_net.specs.Runs.{IsRunRecord};
@@ -17,6 +17,7 @@ use crate::acts::ActOf;
 use crate::place::Place;
 use crate::places::{act_alone, can_drain_at, is_full_at};
 use crate::sent_packet::SentPacket;
+use crate::stamps::Stamp;
 use crate::wire_acts::{credit_at, cross_at};
 use crate::wires::Wires;
 use c104_control::ControlBytes;
@@ -31,12 +32,12 @@ const OUTBOX_LIMIT: usize = 65_536;
 /// The most tokens that may arrive at a terminal.
 const INBOX_LIMIT: usize = 262_144;
 
-/// Does an event at these places, which stand for the nodes of a network of this plan. The ticket is the
-/// event's number among those that were done.
+/// Does an event at these places, which stand for the nodes of a network of this plan. Its entries bear
+/// the stamp.
 pub fn happen<T: TokenKind, P: Place<T>>(
     wires: &Wires,
     places: &mut [P],
-    ticket: u64,
+    stamp: Stamp,
     event: &Event,
 ) -> Result<Reply, EventFault>
     ensures answers { AnswersWith T.kind (event_full wires.now (map P.full places.old) event.now)
@@ -46,25 +47,25 @@ pub fn happen<T: TokenKind, P: Place<T>>(
         event_full wires.now (map P.full places.old) event.now ≡ false) }
     ensures start { map P.start places.new ≡ map P.start places.old }
     ensures trace { map P.trace places.new ≡ noted_all P.keeps (map P.trace places.old)
-        (kept_of (event_deeds (is_switch_at (map P.state places.old)) wires.now ticket event.now)
+        (kept_of (event_deeds (is_switch_at (map P.state places.old)) wires.now stamp event.now)
         result) }
     ensures kept { IsPlan wires.now }
-    ensures recorded { (start : List (Node T)) (events : List (TheEvent × TheReply)) →
-        P.keeps ≡ true → AreInPlace wires.now (map P.state places.old) →
-        IsRunRecord T.kind wires.now start
-        (map P.state places.old) (map P.trace places.old) ticket events →
-        IfOk result (λ reply. is_ready reply ≡ true → IsRunRecord T.kind wires.now start
-        (map P.state places.new) (map P.trace places.new) (ticket + 1)
+    ensures recorded { (start : List (Node T)) (events : List (TheEvent × TheReply)) (count : ℕ) →
+        stamp ≡ seatless count → P.keeps ≡ true → AreInPlace wires.now (map P.state places.old) →
+        IsRunRecord T.kind wires.now seatless start
+        (map P.state places.old) (map P.trace places.old) count events →
+        IfOk result (λ reply. is_ready reply ≡ true → IsRunRecord T.kind wires.now seatless start
+        (map P.state places.new) (map P.trace places.new) (count + 1)
         (events ++ (event.now, reply) ∷ [])) }
 {
-    do_event(wires, places, ticket, event)
+    do_event(wires, places, stamp, event)
 }
 
 /// Does an event at these places, by its kind.
 pub fn do_event<T: TokenKind, P: Place<T>>(
     wires: &Wires,
     places: &mut [P],
-    ticket: u64,
+    stamp: Stamp,
     event: &Event,
 ) -> Result<Reply, EventFault>
     ensures answers { AnswersWith T.kind (event_full wires.now (map P.full places.old) event.now)
@@ -74,23 +75,23 @@ pub fn do_event<T: TokenKind, P: Place<T>>(
         event_full wires.now (map P.full places.old) event.now ≡ false) }
     ensures start { map P.start places.new ≡ map P.start places.old }
     ensures trace { map P.trace places.new ≡ noted_all P.keeps (map P.trace places.old)
-        (kept_of (event_deeds (is_switch_at (map P.state places.old)) wires.now ticket event.now)
+        (kept_of (event_deeds (is_switch_at (map P.state places.old)) wires.now stamp event.now)
         result) }
     ensures kept { IsPlan wires.now }
 {
     let plan = wires.plan();
     match event {
-        Event::Cross(port) => cross(wires, places, ticket, *port),
-        Event::Credit(port) => credit(wires, places, ticket, *port),
-        Event::Input { switch, link, word } => input(wires, places, ticket, *switch, *link, *word),
+        Event::Cross(port) => cross(wires, places, stamp, *port),
+        Event::Credit(port) => credit(wires, places, stamp, *port),
+        Event::Input { switch, link, word } => input(wires, places, stamp, *switch, *link, *word),
         Event::Claim {
             switch,
             input,
             output,
-        } => claim(plan, places, ticket, *switch, *input, *output),
-        Event::Control { switch, bytes } => control(plan, places, ticket, *switch, bytes),
-        Event::Send { terminal, packet } => send(plan, places, ticket, *terminal, packet),
-        Event::Drain { terminal } => drain(wires, places, ticket, *terminal),
+        } => claim(plan, places, stamp, *switch, *input, *output),
+        Event::Control { switch, bytes } => control(plan, places, stamp, *switch, bytes),
+        Event::Send { terminal, packet } => send(plan, places, stamp, *terminal, packet),
+        Event::Drain { terminal } => drain(wires, places, stamp, *terminal),
     }
 }
 
@@ -99,7 +100,7 @@ pub fn do_event<T: TokenKind, P: Place<T>>(
 pub fn cross<T: TokenKind, P: Place<T>>(
     wires: &Wires,
     places: &mut [P],
-    ticket: u64,
+    stamp: Stamp,
     port: Port,
 ) -> Result<Reply, EventFault>
     ensures answers { AnswersWith T.kind (event_full wires.now (map P.full places.old) (event.Cross port))
@@ -109,11 +110,11 @@ pub fn cross<T: TokenKind, P: Place<T>>(
         event_full wires.now (map P.full places.old) (event.Cross port) ≡ false) }
     ensures start { map P.start places.new ≡ map P.start places.old }
     ensures trace { map P.trace places.new ≡ noted_all P.keeps (map P.trace places.old)
-        (kept_of (event_deeds (is_switch_at (map P.state places.old)) wires.now ticket (event.Cross port))
+        (kept_of (event_deeds (is_switch_at (map P.state places.old)) wires.now stamp (event.Cross port))
         result) }
 {
     let ends = wires.ends(port)?;
-    match cross_at(places, ends.near, ends.far, ticket)? {
+    match cross_at(places, ends.near, ends.far, stamp)? {
         Some(token) => Ok(Reply::Token(token.plain())),
         None => Ok(Reply::NotReady),
     }
@@ -123,7 +124,7 @@ pub fn cross<T: TokenKind, P: Place<T>>(
 pub fn credit<T: TokenKind, P: Place<T>>(
     wires: &Wires,
     places: &mut [P],
-    ticket: u64,
+    stamp: Stamp,
     port: Port,
 ) -> Result<Reply, EventFault>
     ensures answers { AnswersWith T.kind (event_full wires.now (map P.full places.old) (event.Credit port))
@@ -133,11 +134,11 @@ pub fn credit<T: TokenKind, P: Place<T>>(
         event_full wires.now (map P.full places.old) (event.Credit port) ≡ false) }
     ensures start { map P.start places.new ≡ map P.start places.old }
     ensures trace { map P.trace places.new ≡ noted_all P.keeps (map P.trace places.old)
-        (kept_of (event_deeds (is_switch_at (map P.state places.old)) wires.now ticket (event.Credit port))
+        (kept_of (event_deeds (is_switch_at (map P.state places.old)) wires.now stamp (event.Credit port))
         result) }
 {
     let ends = wires.ends(port)?;
-    if credit_at(places, ends.near, ends.far, ticket)? {
+    if credit_at(places, ends.near, ends.far, stamp)? {
         Ok(Reply::Done)
     } else {
         Ok(Reply::NotReady)
@@ -149,7 +150,7 @@ pub fn credit<T: TokenKind, P: Place<T>>(
 pub fn input<T: TokenKind, P: Place<T>>(
     wires: &Wires,
     places: &mut [P],
-    ticket: u64,
+    stamp: Stamp,
     switch: usize,
     link: usize,
     word: u32,
@@ -161,7 +162,7 @@ pub fn input<T: TokenKind, P: Place<T>>(
         event_full wires.now (map P.full places.old) (event.Input switch link word) ≡ false) }
     ensures start { map P.start places.new ≡ map P.start places.old }
     ensures trace { map P.trace places.new ≡ noted_all P.keeps (map P.trace places.old)
-        (kept_of (event_deeds (is_switch_at (map P.state places.old)) wires.now ticket (event.Input switch link word))
+        (kept_of (event_deeds (is_switch_at (map P.state places.old)) wires.now stamp (event.Input switch link word))
         result) }
 {
     let plan = wires.plan();
@@ -172,14 +173,14 @@ pub fn input<T: TokenKind, P: Place<T>>(
         return Err(EventFault::NoLink);
     }
     let act = ActOf::Step(ActionOf::Input(link, word));
-    Ok(told(act_alone(places, switch, 0, ticket, act)?))
+    Ok(told(act_alone(places, switch, 0, stamp, act)?))
 }
 
 /// An input of a switch claims an output.
 fn claim<T: TokenKind, P: Place<T>>(
     plan: &Plan,
     places: &mut [P],
-    ticket: u64,
+    stamp: Stamp,
     switch: usize,
     input: usize,
     output: usize,
@@ -191,7 +192,7 @@ fn claim<T: TokenKind, P: Place<T>>(
         event_full plan.now (map P.full places.old) (event.Claim switch input output) ≡ false) }
     ensures start { map P.start places.new ≡ map P.start places.old }
     ensures trace { map P.trace places.new ≡ noted_all P.keeps (map P.trace places.old)
-        (kept_of (event_deeds (is_switch_at (map P.state places.old)) plan.now ticket (event.Claim switch input output))
+        (kept_of (event_deeds (is_switch_at (map P.state places.old)) plan.now stamp (event.Claim switch input output))
         result) }
 {
     if switch >= plan.switches().len() {
@@ -201,14 +202,14 @@ fn claim<T: TokenKind, P: Place<T>>(
         return Err(EventFault::NoLink);
     }
     let act = ActOf::Step(ActionOf::Claim(input, output));
-    Ok(told(act_alone(places, switch, 0, ticket, act)?))
+    Ok(told(act_alone(places, switch, 0, stamp, act)?))
 }
 
 /// A control command comes to a switch.
 fn control<T: TokenKind, P: Place<T>>(
     plan: &Plan,
     places: &mut [P],
-    ticket: u64,
+    stamp: Stamp,
     switch: usize,
     bytes: &ControlBytes,
 ) -> Result<Reply, EventFault>
@@ -219,21 +220,21 @@ fn control<T: TokenKind, P: Place<T>>(
         event_full plan.now (map P.full places.old) (event.Control switch bytes.now) ≡ false) }
     ensures start { map P.start places.new ≡ map P.start places.old }
     ensures trace { map P.trace places.new ≡ noted_all P.keeps (map P.trace places.old)
-        (kept_of (event_deeds (is_switch_at (map P.state places.old)) plan.now ticket (event.Control switch bytes.now))
+        (kept_of (event_deeds (is_switch_at (map P.state places.old)) plan.now stamp (event.Control switch bytes.now))
         result) }
 {
     if switch >= plan.switches().len() {
         return Err(EventFault::NoNode);
     }
     let act = ActOf::Step(ActionOf::Control(ControlBytes::new(bytes.as_slice())));
-    Ok(told(act_alone(places, switch, 0, ticket, act)?))
+    Ok(told(act_alone(places, switch, 0, stamp, act)?))
 }
 
 /// A terminal sends a packet.
 fn send<T: TokenKind, P: Place<T>>(
     plan: &Plan,
     places: &mut [P],
-    ticket: u64,
+    stamp: Stamp,
     terminal: usize,
     packet: &Packet,
 ) -> Result<Reply, EventFault>
@@ -244,7 +245,7 @@ fn send<T: TokenKind, P: Place<T>>(
         event_full plan.now (map P.full places.old) (event.Send terminal packet.now) ≡ false) }
     ensures start { map P.start places.new ≡ map P.start places.old }
     ensures trace { map P.trace places.new ≡ noted_all P.keeps (map P.trace places.old)
-        (kept_of (event_deeds (is_switch_at (map P.state places.old)) plan.now ticket (event.Send terminal packet.now))
+        (kept_of (event_deeds (is_switch_at (map P.state places.old)) plan.now stamp (event.Send terminal packet.now))
         result) }
 {
     if terminal >= plan.terminals().len() {
@@ -270,7 +271,7 @@ fn send<T: TokenKind, P: Place<T>>(
         return Err(EventFault::NoMemory);
     };
     let act = ActOf::Send(copy);
-    Ok(told(act_alone(places, place, terminal, ticket, act)?))
+    Ok(told(act_alone(places, place, terminal, stamp, act)?))
 }
 
 /// The first token that came in at a terminal arrives.
@@ -278,7 +279,7 @@ fn send<T: TokenKind, P: Place<T>>(
 pub fn drain<T: TokenKind, P: Place<T>>(
     wires: &Wires,
     places: &mut [P],
-    ticket: u64,
+    stamp: Stamp,
     terminal: usize,
 ) -> Result<Reply, EventFault>
     ensures answers { AnswersWith T.kind (event_full wires.now (map P.full places.old) (event.Drain terminal))
@@ -288,7 +289,7 @@ pub fn drain<T: TokenKind, P: Place<T>>(
         event_full wires.now (map P.full places.old) (event.Drain terminal) ≡ false) }
     ensures start { map P.start places.new ≡ map P.start places.old }
     ensures trace { map P.trace places.new ≡ noted_all P.keeps (map P.trace places.old)
-        (kept_of (event_deeds (is_switch_at (map P.state places.old)) wires.now ticket (event.Drain terminal))
+        (kept_of (event_deeds (is_switch_at (map P.state places.old)) wires.now stamp (event.Drain terminal))
         result) }
 {
     let plan = wires.plan();
@@ -302,7 +303,7 @@ pub fn drain<T: TokenKind, P: Place<T>>(
     if !fits_inbox(arrived_count(places, place)) {
         return Err(EventFault::InboxFull);
     }
-    Ok(told(act_alone(places, place, terminal, ticket, ActOf::Drain)?))
+    Ok(told(act_alone(places, place, terminal, stamp, ActOf::Drain)?))
 }
 
 /// A reply as it is told, with a plain token.

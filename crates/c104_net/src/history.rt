@@ -12,6 +12,7 @@ ghost use Rattle.c104_net.specs.declared.starts.NodeStart.{NodeStart as TheStart
 
 use crate::acts::ActOf;
 use crate::node::NodeOf;
+use crate::stamps::Stamp;
 use crate::tagged::TaggedToken;
 use c104_switch::ReplyOf;
 use std::marker::Model;
@@ -43,17 +44,17 @@ impl History {
         History {}
     }
 
-    /// The same history with one act more, of an event with this ticket, and its reply.
+    /// The same history with one act more, in the event of this stamp, and its reply.
     #[inline(always)]
     pub fn with(
         &self,
-        _ticket: &u64,
+        _stamp: &Stamp,
         _act: &ActOf<TaggedToken>,
         _reply: &ReplyOf<TaggedToken>,
     ) -> History
         ensures { (result.start ≡ self.now.start)
             × (result.trace ≡ self.now.trace
-            ++ kept_entry tagged_kind _ticket.now _act.now _reply.now ∷ []) }
+            ++ kept_entry tagged_kind _stamp.now _act.now _reply.now ∷ []) }
     {
         History {}
     }

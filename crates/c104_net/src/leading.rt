@@ -1,39 +1,39 @@
 //! The events of a run, found again from the entries of its nodes in the order of tickets.
 //!
-//! Each event is told by the entry that leads in it. The places of the leading entries' nodes, by ticket, are
-//! found once (`note_leaders`); then each event is the next one that its node's trace tells (`next_event`).
-ghost use Rattle.std.specs.Prelude.{◌≡◌, ℕ, [], drop, IfOk, MatchOption, MatchResult};
-ghost use Rattle.c104_net.specs.Leading.{IsLeadingAt, TellsNext, act_event, action_event, led_events, leading_tickets, leads, marked};
+//! Each event is told by the entry that leads in it. Those entries are gathered, one node after the other, and sorted by
+//! ticket (`sorted_leads`); then each tells its event (`event_of`).
+ghost use Rattle.std.specs.Prelude.{◌≡◌, ◌++◌, ℕ, List, Some, map, slice_get, IfOk, OnOk};
+ghost use Rattle.c104_net.specs.Leading.{act_event, action_event, led_events, leads};
+ghost use Rattle.c104_net.specs.Merges.{by_ticket};
+ghost use Rattle.c104_net.specs.Replays.{lead_event};
+ghost use Rattle.c104_net.specs.ToldEvents.{told_by, told_event};
+ghost use Rattle.c104_net.specs.declared.acts.Entry.{Entry as TheEntry};
 
 use crate::acts::{Act, Entry};
 use crate::sent_packet::SentPacket;
 use c104_control::ControlBytes;
 use c104_event::{Event, Port};
 use c104_switch::{Action, ActionOf};
-use c104_token::{NoMemory, Packet};
+use c104_token::{Items, NoMemory, Packet};
+use std::alloc::Global;
+
+/// An entry that leads: its ticket, the place of its node, and its place in the trace there.
+#[derive(Clone, Copy, Debug)]
+pub struct Lead {
+    pub ticket: u64,
+    pub place: usize,
+    pub at: usize,
+}
 
 /// Whether an act leads in its event: it is its only one, or, of the two at the ends of a wire, the one where the
 /// token or the credits go out.
-pub fn is_leading(act: &Act) -> bool
+fn is_leading(act: &Act) -> bool
     ensures { result ≡ leads act.now }
 {
     match act {
         Act::Step(ActionOf::Enter(_, _) | ActionOf::CreditIn(_)) => false,
         Act::Enter(_) | Act::CreditIn => false,
         _ => true,
-    }
-}
-
-/// Writes a node's place at the ticket of each entry of its trace that leads. Tickets past the end of the list are
-/// passed over.
-pub fn note_leaders(leaders: &mut [u16], place: u16, trace: &[Entry])
-    ensures { leaders.new ≡ marked (leading_tickets trace.now) place leaders.old }
-{
-    for entry in trace {
-        let ticket = entry.ticket as usize;
-        if is_leading(&entry.act) && ticket < leaders.len() {
-            leaders[ticket] = place;
-        }
     }
 }
 
@@ -65,7 +65,7 @@ fn action_event(place: usize, action: &Action) -> Option<Event>
 
 /// The event that an act of the node at a place leads in, if it leads. There are `switches` switches, and
 /// the terminals stand behind them. The only error is out of memory, for the copy of a packet.
-pub fn act_event(switches: usize, place: usize, act: &Act) -> Result<Option<Event>, NoMemory>
+fn act_event(switches: usize, place: usize, act: &Act) -> Result<Option<Event>, NoMemory>
     ensures { IfOk result (λ event. event ≡ act_event switches place act.now) }
 {
     let terminal = place.saturating_sub(switches);
@@ -82,36 +82,61 @@ pub fn act_event(switches: usize, place: usize, act: &Act) -> Result<Option<Even
     })
 }
 
-/// The first entry that leads, from place `from` on.
-fn find_leading(trace: &[Entry], from: usize) -> Option<usize>
-    ensures { MatchOption result
-        ((switches k : ℕ) → led_events switches k (drop from trace.now) ≡ [])
-        (λ at. IsLeadingAt trace.now from at) }
+/// The event that an entry leads in. Where there is no such entry, or it doesn't lead, that terminal 0 drains. The
+/// only error is out of memory.
+pub fn event_of(switches: usize, traces: &[Items<Entry>], lead: &Lead) -> Result<Event, NoMemory>
+    ensures { IfOk result (λ event. event ≡ told_event (lead_event switches traces.now lead.now)) }
 {
-    for at in from..trace.len() {
-        if is_leading(&trace[at].act) {
-            return Some(at);
-        }
+    let Some(trace) = traces.get(lead.place) else {
+        return Ok(Event::Drain { terminal: 0 });
+    };
+    let Some(entry) = trace.as_slice().get(lead.at) else {
+        return Ok(Event::Drain { terminal: 0 });
+    };
+    match act_event(switches, lead.place, &entry.act)? {
+        Some(event) => Ok(event),
+        None => Ok(Event::Drain { terminal: 0 }),
     }
-    None
 }
 
-/// The next event that a node's trace tells, behind its first `behind` entries; none where it tells no more. `behind`
-/// then moves past its entry. The only error is out of memory, and then nothing has changed.
-pub fn next_event(
-    switches: usize,
-    place: usize,
-    trace: &[Entry],
-    behind: &mut usize,
-) -> Result<Option<Event>, NoMemory>
-    ensures { MatchResult result
-        (λ event. TellsNext switches place trace.now behind.old behind.new event)
-        (λ _. behind.new ≡ behind.old) }
+/// Adds the entries that lead of the trace of the node at a place. The only error is out of memory.
+fn add_leads(place: usize, trace: &[Entry], leads: &mut Vec<Lead>) -> Result<(), NoMemory>
+    ensures { (switches : ℕ) (traces : List (List TheEntry)) → slice_get traces place ≡ Some trace.now →
+        OnOk result (map (lead_event switches traces) leads.new.items
+        ≡ map (lead_event switches traces) leads.old.items ++ led_events switches place trace.now) }
 {
-    let Some(at) = find_leading(trace, *behind) else {
-        return Ok(None);
-    };
-    let event = act_event(switches, place, &trace[at].act)?;
-    *behind = at + 1;
-    Ok(event)
+    for at in 0..trace.len() {
+        let entry = &trace[at];
+        if is_leading(&entry.act) {
+            leads.push(Lead {
+                ticket: entry.ticket,
+                place,
+                at,
+            })?;
+        }
+    }
+    Ok(())
+}
+
+/// The entries that lead, one trace after the other. The only error is out of memory.
+fn all_leads(alloc: Global, traces: &[Items<Entry>]) -> Result<Vec<Lead>, NoMemory>
+    ensures { (switches : ℕ) → IfOk result (λ leads.
+        map (lead_event switches traces.now) leads.items ≡ told_by switches 0 traces.now) }
+{
+    let mut leads = Vec::new(alloc);
+    for place in 0..traces.len() {
+        add_leads(place, traces[place].as_slice(), &mut leads)?;
+    }
+    Ok(leads)
+}
+
+/// The entries that lead, by ticket, and those of one ticket by the places of their nodes. The only error is out of
+/// memory.
+pub fn sorted_leads(alloc: Global, traces: &[Items<Entry>]) -> Result<Vec<Lead>, NoMemory>
+    ensures { (switches : ℕ) → IfOk result (λ leads.
+        map (lead_event switches traces.now) leads.items ≡ by_ticket (told_by switches 0 traces.now)) }
+{
+    let mut leads = all_leads(alloc, traces)?;
+    leads.sort_by_key(|lead| lead.ticket)?;
+    Ok(leads)
 }

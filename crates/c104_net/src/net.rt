@@ -25,6 +25,7 @@ use crate::recorded_place::retire_places;
 use crate::recording::{place_new_recorded, place_recorded};
 use crate::run::Run;
 use crate::run_parts::{RunParts, parts_of};
+use crate::stamps::Stamp;
 use crate::wires::Wires;
 use c104_describe::{Image, Plan};
 use c104_token::{NoMemory, Token};

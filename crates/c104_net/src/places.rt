@@ -17,13 +17,14 @@ use crate::acts::ActOf;
 use crate::ends::End;
 use crate::place::Place;
 use crate::port_part::PortPart;
+use crate::stamps::Stamp;
 use c104_event::EventFault;
 use c104_switch::{LinkSet, ReplyOf};
 use c104_token::{NoMemory, TokenKind};
 
 /// Whether the node at a place would do an act.
 #[inline(always)]
-fn ready_at<T: TokenKind, P: Place<T>>(
+pub fn ready_at<T: TokenKind, P: Place<T>>(
     places: &[P],
     place: usize,
     number: usize,
@@ -87,7 +88,7 @@ fn act_at<T: TokenKind, P: Place<T>>(
     places: &mut [P],
     place: usize,
     number: usize,
-    ticket: u64,
+    stamp: Stamp,
     act: ActOf<T>,
 ) -> Result<ReplyOf<T>, NoMemory>
     requires inside { place < length places.old }
@@ -101,14 +102,14 @@ fn act_at<T: TokenKind, P: Place<T>>(
     ensures start { map P.start places.new ≡ map P.start places.old }
     ensures trace { MatchResult result
         (λ reply. map P.trace places.new ≡ noted_at P.keeps (map P.trace places.old) place
-        (kept_entry T.kind ticket act reply))
+        (kept_entry T.kind stamp act reply))
         (λ _. map P.trace places.new ≡ map P.trace places.old) }
     ensures memory { MatchResult result (λ _. Unit {0}) (λ _. wants_memory act ≡ true) }
     ensures others { (j : ℕ) → j ≢ place →
         HasRoomAt P.has_room places.old j → HasRoomAt P.has_room places.new j }
 {
     let found = &mut places[place];
-    found.act(number, ticket, act)
+    found.act(number, stamp, act)
 }
 
 /// The node at a place does an act, if it is ready.
@@ -117,7 +118,7 @@ pub fn act_alone<T: TokenKind, P: Place<T>>(
     places: &mut [P],
     place: usize,
     number: usize,
-    ticket: u64,
+    stamp: Stamp,
     act: ActOf<T>,
 ) -> Result<ReplyOf<T>, EventFault>
     requires { IsWithinLimits act }
@@ -132,7 +133,7 @@ pub fn act_alone<T: TokenKind, P: Place<T>>(
         is_ready reply ≡ true → full_at (map P.full places.old) place ≡ false) }
     ensures start { map P.start places.new ≡ map P.start places.old }
     ensures trace { map P.trace places.new ≡ noted_all P.keeps (map P.trace places.old)
-        (kept_of (λ reply. lone_deed ticket place (plain_act T.kind act) (plain_reply T.kind reply))
+        (kept_of (λ reply. lone_deed stamp place (plain_act T.kind act) (plain_reply T.kind reply))
         result) }
 {
     if place >= places.len() || !ready_at(places, place, number, &act) {
@@ -142,7 +143,7 @@ pub fn act_alone<T: TokenKind, P: Place<T>>(
         return Err(fault);
     }
     room_at(places, place)?;
-    Ok(act_at(places, place, number, ticket, act)?)
+    Ok(act_at(places, place, number, stamp, act)?)
 }
 
 /// Whether a token can go out at an end of a wire.
@@ -259,7 +260,7 @@ pub fn next_claim_at<T: TokenKind, P: Place<T>>(
 
 /// A token goes out at an end of a wire, where one can.
 #[inline(always)]
-pub fn leave_at<T: TokenKind, P: Place<T>>(places: &mut [P], end: End, ticket: u64) -> T
+pub fn leave_at<T: TokenKind, P: Place<T>>(places: &mut [P], end: End, stamp: Stamp) -> T
     requires inside { end.node < length places.old }
     requires room { HasRoomAt P.has_room places.old end.node }
     requires ready { is_some
@@ -268,13 +269,13 @@ pub fn leave_at<T: TokenKind, P: Place<T>>(places: &mut [P], end: End, ticket: u
         ≡ Some (result, map P.state places.new) }
     ensures start { map P.start places.new ≡ map P.start places.old }
     ensures trace { map P.trace places.new ≡ noted_at P.keeps (map P.trace places.old) end.node
-        (entry_of ticket (end_leave (is_switch_at (map P.state places.old) end.node) end.link)
+        (entry_of stamp (end_leave (is_switch_at (map P.state places.old) end.node) end.link)
         (reply.Token (T.kind.plain result))) }
     ensures others { (j : ℕ) → j ≢ end.node →
         HasRoomAt P.has_room places.old j → HasRoomAt P.has_room places.new j }
 {
     let act = places[end.node].node().leave_act(end.link);
-    match act_at(places, end.node, 0, ticket, act) {
+    match act_at(places, end.node, 0, stamp, act) {
         Ok(ReplyOf::Token(token)) => token,
         _ => unreachable!(),
     }
@@ -282,7 +283,7 @@ pub fn leave_at<T: TokenKind, P: Place<T>>(places: &mut [P], end: End, ticket: u
 
 /// A token comes in at an end of a wire, where one can.
 #[inline(always)]
-pub fn enter_at<T: TokenKind, P: Place<T>>(places: &mut [P], end: End, ticket: u64, token: T)
+pub fn enter_at<T: TokenKind, P: Place<T>>(places: &mut [P], end: End, stamp: Stamp, token: T)
     requires inside { end.node < length places.old }
     requires room { HasRoomAt P.has_room places.old end.node }
     requires ready { is_some
@@ -291,12 +292,12 @@ pub fn enter_at<T: TokenKind, P: Place<T>>(places: &mut [P], end: End, ticket: u
         ≡ Some (map P.state places.new) }
     ensures start { map P.start places.new ≡ map P.start places.old }
     ensures trace { map P.trace places.new ≡ noted_at P.keeps (map P.trace places.old) end.node
-        (entry_of ticket
+        (entry_of stamp
         (end_enter (T.kind.plain token) (is_switch_at (map P.state places.old) end.node) end.link)
         reply.Done) }
 {
     let act = places[end.node].node().enter_act(end.link, token);
-    match act_at(places, end.node, 0, ticket, act) {
+    match act_at(places, end.node, 0, stamp, act) {
         Ok(_) => (),
         Err(_) => unreachable!(),
     }
@@ -304,7 +305,7 @@ pub fn enter_at<T: TokenKind, P: Place<T>>(places: &mut [P], end: End, ticket: u
 
 /// An end of a wire grants eight more tokens, where it can.
 #[inline(always)]
-pub fn credit_out_at<T: TokenKind, P: Place<T>>(places: &mut [P], end: End, ticket: u64)
+pub fn credit_out_at<T: TokenKind, P: Place<T>>(places: &mut [P], end: End, stamp: Stamp)
     requires inside { end.node < length places.old }
     requires room { HasRoomAt P.has_room places.old end.node }
     requires ready { is_some
@@ -313,13 +314,13 @@ pub fn credit_out_at<T: TokenKind, P: Place<T>>(places: &mut [P], end: End, tick
         ≡ Some (map P.state places.new) }
     ensures start { map P.start places.new ≡ map P.start places.old }
     ensures trace { map P.trace places.new ≡ noted_at P.keeps (map P.trace places.old) end.node
-        (entry_of ticket
+        (entry_of stamp
         (end_credit_out (is_switch_at (map P.state places.old) end.node) end.link) reply.Done) }
     ensures others { (j : ℕ) → j ≢ end.node →
         HasRoomAt P.has_room places.old j → HasRoomAt P.has_room places.new j }
 {
     let act = places[end.node].node().credit_out_act(end.link);
-    match act_at(places, end.node, 0, ticket, act) {
+    match act_at(places, end.node, 0, stamp, act) {
         Ok(_) => (),
         Err(_) => unreachable!(),
     }
@@ -327,7 +328,7 @@ pub fn credit_out_at<T: TokenKind, P: Place<T>>(places: &mut [P], end: End, tick
 
 /// An end of a wire is granted eight more tokens, where it may be.
 #[inline(always)]
-pub fn credit_in_at<T: TokenKind, P: Place<T>>(places: &mut [P], end: End, ticket: u64)
+pub fn credit_in_at<T: TokenKind, P: Place<T>>(places: &mut [P], end: End, stamp: Stamp)
     requires inside { end.node < length places.old }
     requires room { HasRoomAt P.has_room places.old end.node }
     requires ready { is_some
@@ -336,11 +337,11 @@ pub fn credit_in_at<T: TokenKind, P: Place<T>>(places: &mut [P], end: End, ticke
         ≡ Some (map P.state places.new) }
     ensures start { map P.start places.new ≡ map P.start places.old }
     ensures trace { map P.trace places.new ≡ noted_at P.keeps (map P.trace places.old) end.node
-        (entry_of ticket
+        (entry_of stamp
         (end_credit_in (is_switch_at (map P.state places.old) end.node) end.link) reply.Done) }
 {
     let act = places[end.node].node().credit_in_act(end.link);
-    match act_at(places, end.node, 0, ticket, act) {
+    match act_at(places, end.node, 0, stamp, act) {
         Ok(_) => (),
         Err(_) => unreachable!(),
     }

@@ -11,6 +11,7 @@ use crate::node::NodeOf;
 use crate::place::Place;
 use crate::recorded_place::RecordedPlace;
 use crate::run_parts::RunParts;
+use crate::stamps::Stamp;
 use crate::starts::NodeStart;
 use crate::terminal::TerminalOf;
 use c104_switch::Reply;
@@ -148,7 +149,7 @@ impl Place<Token> for Node {
     }
 
     #[inline(always)]
-    fn act(&mut self, number: usize, ticket: u64, act: Act) -> Result<Reply, NoMemory>
+    fn act(&mut self, number: usize, stamp: Stamp, act: Act) -> Result<Reply, NoMemory>
         requires short { IsWithinLimits act }
         requires room { (0 < self.old.1) × (length self.old.0.trace < trace_limit) }
         requires ready { is_some (node_act plain_kind number act self.old.0.state) ≡ true }
@@ -158,7 +159,7 @@ impl Place<Token> for Node {
             (λ _. self.new.0.state ≡ self.old.0.state) }
         ensures trace { MatchResult result
             (λ reply. self.new.0.trace ≡
-            self.old.0.trace ++ kept_entry plain_kind ticket act reply ∷ [])
+            self.old.0.trace ++ kept_entry plain_kind stamp act reply ∷ [])
             (λ _. self.new.0.trace ≡ self.old.0.trace) }
         ensures start { self.new.0.start ≡ self.old.0.start }
         ensures memory { MatchResult result (λ _. Unit {0}) (λ _. wants_memory act ≡ true) }
@@ -166,10 +167,10 @@ impl Place<Token> for Node {
         let reply = self.core.act(number, &act)?;
         let told = same_reply(&reply);
         self.trace.push_reserved(Entry {
-            ticket,
+            ticket: stamp.ticket,
             act,
             reply: told,
-            seat: None,
+            seat: stamp.seat,
         });
         Ok(reply)
     }

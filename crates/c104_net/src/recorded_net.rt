@@ -9,6 +9,7 @@ mod rounds;
 
 use crate::events::happen;
 use crate::recorded_place::{RecordedPlace, retire_places};
+use crate::stamps::Stamp;
 use crate::wires::Wires;
 use c104_describe::Plan;
 use c104_event::{Event, EventFault};
@@ -86,7 +87,11 @@ impl<T: TokenKind, P: RecordedPlace<T>> RecordedNet<T, P> {
         ensures due { AnswersRecord self.old event.now result self.new }
         ensures done { DoneLaw }
     {
-        let answer = happen(&self.wires, self.places.as_mut_slice(), self.count, event);
+        let stamp = Stamp {
+            ticket: self.count,
+            seat: None,
+        };
+        let answer = happen(&self.wires, self.places.as_mut_slice(), stamp, event);
         self.count = ticket_after(self.count, was_done(&answer));
         answer
     }

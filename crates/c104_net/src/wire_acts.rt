@@ -12,6 +12,7 @@ use crate::places::{
     can_credit_in_at, can_credit_out_at, can_enter_at, can_leave_at, credit_in_at, credit_out_at,
     enter_at, is_full_at, leave_at, room_at,
 };
+use crate::stamps::Stamp;
 use c104_event::EventFault;
 use c104_token::{NoMemory, TokenKind};
 
@@ -46,7 +47,7 @@ fn room_at_ends<T: TokenKind, P: Place<T>>(
 
 /// A token goes out at one end of a wire and comes in at the other, where both can act and have room.
 #[inline(always)]
-fn cross_open<T: TokenKind, P: Place<T>>(places: &mut [P], from: End, to: End, ticket: u64) -> T
+fn cross_open<T: TokenKind, P: Place<T>>(places: &mut [P], from: End, to: End, stamp: Stamp) -> T
     requires apart { from.node ≢ to.node }
     requires near { from.node < length places.old }
     requires far { to.node < length places.old }
@@ -60,16 +61,16 @@ fn cross_open<T: TokenKind, P: Place<T>>(places: &mut [P], from: End, to: End, t
         ≡ Some (result, map P.state places.new) }
     ensures start { map P.start places.new ≡ map P.start places.old }
     ensures trace { map P.trace places.new ≡ noted_all P.keeps (map P.trace places.old)
-        (cross_deeds (is_switch_at (map P.state places.old)) ticket from to (T.kind.plain result)) }
+        (cross_deeds (is_switch_at (map P.state places.old)) stamp from to (T.kind.plain result)) }
 {
-    let token = leave_at(places, from, ticket);
-    enter_at(places, to, ticket, token);
+    let token = leave_at(places, from, stamp);
+    enter_at(places, to, stamp, token);
     token
 }
 
 /// One end of a wire grants eight more tokens and the other may send them, where both can act and have room.
 #[inline(always)]
-fn credit_open<T: TokenKind, P: Place<T>>(places: &mut [P], from: End, to: End, ticket: u64)
+fn credit_open<T: TokenKind, P: Place<T>>(places: &mut [P], from: End, to: End, stamp: Stamp)
     requires apart { from.node ≢ to.node }
     requires near { from.node < length places.old }
     requires far { to.node < length places.old }
@@ -83,10 +84,10 @@ fn credit_open<T: TokenKind, P: Place<T>>(places: &mut [P], from: End, to: End, 
         ≡ Some (map P.state places.new) }
     ensures start { map P.start places.new ≡ map P.start places.old }
     ensures trace { map P.trace places.new ≡ noted_all P.keeps (map P.trace places.old)
-        (credit_deeds (is_switch_at (map P.state places.old)) ticket from to) }
+        (credit_deeds (is_switch_at (map P.state places.old)) stamp from to) }
 {
-    credit_out_at(places, from, ticket);
-    credit_in_at(places, to, ticket);
+    credit_out_at(places, from, stamp);
+    credit_in_at(places, to, stamp);
 }
 
 /// A token goes out at one end of a wire and comes in at the other, or nothing changes.
@@ -95,7 +96,7 @@ pub fn cross_at<T: TokenKind, P: Place<T>>(
     places: &mut [P],
     from: End,
     to: End,
-    ticket: u64,
+    stamp: Stamp,
 ) -> Result<Option<T>, EventFault>
     requires { from.node ≢ to.node }
     ensures ends { StepEnds
@@ -108,7 +109,7 @@ pub fn cross_at<T: TokenKind, P: Place<T>>(
     ensures start { map P.start places.new ≡ map P.start places.old }
     ensures trace { map P.trace places.new ≡ noted_all P.keeps (map P.trace places.old)
         (kept_of (some_kept (λ token.
-        cross_deeds (is_switch_at (map P.state places.old)) ticket from to (T.kind.plain token)))
+        cross_deeds (is_switch_at (map P.state places.old)) stamp from to (T.kind.plain token)))
         result) }
 {
     if from.node >= places.len() || !can_leave_at(places, from) {
@@ -125,7 +126,7 @@ pub fn cross_at<T: TokenKind, P: Place<T>>(
     }
     // All growths come before the first change.
     room_at_ends(places, from, to)?;
-    Ok(Some(cross_open(places, from, to, ticket)))
+    Ok(Some(cross_open(places, from, to, stamp)))
 }
 
 /// One end of a wire grants eight more tokens and the other may send them, or nothing changes.
@@ -134,7 +135,7 @@ pub fn credit_at<T: TokenKind, P: Place<T>>(
     places: &mut [P],
     from: End,
     to: End,
-    ticket: u64,
+    stamp: Stamp,
 ) -> Result<bool, EventFault>
     requires { from.node ≢ to.node }
     ensures ends { StepEnds
@@ -147,7 +148,7 @@ pub fn credit_at<T: TokenKind, P: Place<T>>(
     ensures start { map P.start places.new ≡ map P.start places.old }
     ensures trace { map P.trace places.new ≡ noted_all P.keeps (map P.trace places.old)
         (kept_of
-        (made_kept (credit_deeds (is_switch_at (map P.state places.old)) ticket from to)) result) }
+        (made_kept (credit_deeds (is_switch_at (map P.state places.old)) stamp from to)) result) }
 {
     if from.node >= places.len() || !can_credit_out_at(places, from) {
         return Ok(false);
@@ -162,6 +163,6 @@ pub fn credit_at<T: TokenKind, P: Place<T>>(
         return Err(EventFault::TraceFull);
     }
     room_at_ends(places, from, to)?;
-    credit_open(places, from, to, ticket);
+    credit_open(places, from, to, stamp);
     Ok(true)
 }

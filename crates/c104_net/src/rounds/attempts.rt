@@ -10,6 +10,7 @@ ghost use Rattle.c104_net.specs.Stages.{is_kept_full, stage_apply, stage_of};
 
 use crate::events::{credit, cross, do_event, drain, input};
 use crate::place::Place;
+use crate::stamps::Stamp;
 use crate::wires::Wires;
 use c104_event::{Event, EventFault, Port};
 use c104_switch::Reply;
@@ -27,7 +28,11 @@ pub fn attempt<T: TokenKind, P: Place<T>>(
         (stage_of P.state P.start P.trace wires.now places.old count.old) (event.now ∷ [])
         result (stage_of P.state P.start P.trace wires.now places.new count.new) }
 {
-    let answer = do_event(wires, places, *count, event);
+    let stamp = Stamp {
+        ticket: *count,
+        seat: None,
+    };
+    let answer = do_event(wires, places, stamp, event);
     counted(count, answer)
 }
 
@@ -44,7 +49,11 @@ pub fn attempt_cross<T: TokenKind, P: Place<T>>(
         (stage_of P.state P.start P.trace wires.now places.old count.old) (event.Cross port ∷ [])
         result (stage_of P.state P.start P.trace wires.now places.new count.new) }
 {
-    let answer = cross(wires, places, *count, port);
+    let stamp = Stamp {
+        ticket: *count,
+        seat: None,
+    };
+    let answer = cross(wires, places, stamp, port);
     counted(count, answer)
 }
 
@@ -61,7 +70,11 @@ pub fn attempt_credit<T: TokenKind, P: Place<T>>(
         (stage_of P.state P.start P.trace wires.now places.old count.old) (event.Credit port ∷ [])
         result (stage_of P.state P.start P.trace wires.now places.new count.new) }
 {
-    let answer = credit(wires, places, *count, port);
+    let stamp = Stamp {
+        ticket: *count,
+        seat: None,
+    };
+    let answer = credit(wires, places, stamp, port);
     counted(count, answer)
 }
 
@@ -79,7 +92,11 @@ pub fn attempt_turn<T: TokenKind, P: Place<T>>(
         (stage_of P.state P.start P.trace wires.now places.old count.old) (event.Input switch link 0 ∷ [])
         result (stage_of P.state P.start P.trace wires.now places.new count.new) }
 {
-    let answer = input(wires, places, *count, switch, link, 0);
+    let stamp = Stamp {
+        ticket: *count,
+        seat: None,
+    };
+    let answer = input(wires, places, stamp, switch, link, 0);
     counted(count, answer)
 }
 
@@ -96,7 +113,11 @@ pub fn attempt_drain<T: TokenKind, P: Place<T>>(
         (stage_of P.state P.start P.trace wires.now places.old count.old) (event.Drain terminal ∷ [])
         result (stage_of P.state P.start P.trace wires.now places.new count.new) }
 {
-    let answer = drain(wires, places, *count, terminal);
+    let stamp = Stamp {
+        ticket: *count,
+        seat: None,
+    };
+    let answer = drain(wires, places, stamp, terminal);
     counted(count, answer)
 }
 

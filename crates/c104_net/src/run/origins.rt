@@ -7,22 +7,13 @@ ghost use Rattle.c104_net.specs.Terminals.{Terminal};
 ghost use Rattle.c104_net.specs.declared.traced.Traced.{Traced as TheTraced};
 
 use super::Run;
-use crate::acts::Entry;
 use crate::bare_net::NetOf;
 use crate::bare_run::RunOf;
 use crate::origins::{Origin, origins_of};
-use crate::replays::{Trail, replay_all};
+use crate::replays::replay_all;
 use crate::traced::Traced;
-use c104_token::{Items, NoMemory};
+use c104_token::NoMemory;
 use std::alloc::Global;
-
-impl Trail for Items<Entry> {
-    ghost entries = { λ trace. trace };
-
-    fn trace(&self) -> &[Entry] {
-        self.as_slice()
-    }
-}
 
 impl Run {
     /// For each terminal of the plan, in order, the origins of the packets whose terminators arrived there, in the
@@ -36,7 +27,7 @@ impl Run {
         let traces = self.parts.traces.as_slice();
         let starts = self.parts.starts.as_slice();
         let mut net = NetOf::<Traced>::from_starts(alloc, &self.plan, starts)?;
-        let replayed = replay_all(alloc, &mut net, &self.plan, self.count as usize, traces);
+        let replayed = replay_all(alloc, &mut net, &self.plan, traces);
         let run = net.finish();
         origins_after(alloc, replayed, &run)
     }

@@ -1,18 +1,18 @@
-use Rattle.std.proofs.Common.{List, length, map, replicate, subst, sym, ℕ, ◌∙◌}
-use Rattle.c104_net.specs.Replays.{IsLeft}
+use Rattle.std.proofs.Common.{List, OnOk, ap, length, map, subst, ℕ, ◌∙◌, ◌≡◌}
+use Rattle.c104_event.specs.declared.events.Event.{Event}
+use Rattle.c104_net.specs.Merges.{by_ticket}
+use Rattle.c104_net.specs.Replays.{LeadTo, lead_event}
+use Rattle.c104_net.specs.ToldEvents.{told_by, told_event, told_events}
+use Rattle.c104_net.specs.declared.leading.Lead.{Lead}
 use Rattle.c104_net.proofs.replays.replay_all.Goals as goal
 
--- the places that were noted are those of the nodes that lead
-pub replay-requires : goal.replay-requires
-replay-requires g c =
-    let left = c.requires.left in
-    record {
-      left = (
-        left.0,
-        subst (λ (leaders : List ℕ). IsLeft c.args.plan.now c.args.net.now (map g.P.Trail.entries c.args.trails.now) (replicate (length c.args.trails.now) 0) 0 leaders left.0) (sym (c.as_slice.ensures.value ∙ c.in_ok-leaders.ensures)) left.1,
-      );
-    }
-
+-- the sorted entries tell the events of the traces
 pub returns : goal.returns
-returns g c ended left =
-    c.replay.ensures ended (subst (λ (leaders : List ℕ). IsLeft c.args.plan.now c.args.net.now (map g.P.Trail.entries c.args.trails.now) (replicate (length c.args.trails.now) 0) 0 leaders ended) (sym (c.as_slice.ensures.value ∙ c.in_ok-leaders.ensures)) left)
+unfolding told_events
+returns c =
+    let n : ℕ = length c.switches.result.now in
+    let told : map told_event (map (lead_event n c.args.traces.now) c.as_slice.result.now) ≡ told_events c.args.plan.now c.args.traces.now =
+    ap (λ (leads : List Lead). map told_event (map (lead_event n c.args.traces.now) leads)) c.as_slice.ensures.value
+    ∙ ap (map told_event) (c.in_ok-leads.ensures n)
+    ∙ ap (λ (names : List (List ℕ)). map told_event (by_ticket (told_by (length names) 0 c.args.traces.now))) c.switches.ensures.switches in
+    subst (λ (events : List Event). OnOk c.replay.result (LeadTo c.args.net.now events c.replay.new.net)) told c.replay.ensures

@@ -14,8 +14,8 @@ enter_at-requires-clause-ready g c =
 -- an entry at each end
 pub returns-clause-trace : goal.returns-clause-trace
 returns-clause-trace g c =
-    let near : Entry = entry_of c.args.ticket (end_leave (is_switch_at (map g.P.Place.state c.args.places.now) c.args.from.node) c.args.from.link) (reply.Token (g.T.TokenKind.kind.plain c.leave_at-token.result)) in
-    let far : Bool → Entry = λ b. (entry_of c.args.ticket (end_enter (g.T.TokenKind.kind.plain c.leave_at-token.result) b c.args.to.link) reply.Done) in
+    let near : Entry = entry_of c.args.stamp (end_leave (is_switch_at (map g.P.Place.state c.args.places.now) c.args.from.node) c.args.from.link) (reply.Token (g.T.TokenKind.kind.plain c.leave_at-token.result)) in
+    let far : Bool → Entry = λ b. (entry_of c.args.stamp (end_enter (g.T.TokenKind.kind.plain c.leave_at-token.result) b c.args.to.link) reply.Done) in
     both_noted g.P.Place.keeps (map g.P.Place.trace c.args.places.now) (map g.P.Place.trace c.args.places.now) (map g.P.Place.trace c.leave_at-token.new.places) (map g.P.Place.trace c.enter_at.new.places) c.args.from.node c.args.to.node near near (far (is_switch_at (map g.P.Place.state c.leave_at-token.new.places) c.args.to.node)) (far (is_switch_at (map g.P.Place.state c.args.places.now) c.args.to.node))
     refl c.leave_at-token.ensures.trace c.enter_at.ensures.trace refl
     (ap far (yields_elsewhere (map g.P.Place.state c.args.places.now) c.args.from.node c.args.to.node c.requires.apart (node_leave c.args.from.link) (c.leave_at-token.result, map g.P.Place.state c.leave_at-token.new.places) c.leave_at-token.ensures.left))

@@ -1,12 +1,13 @@
-use Rattle.std.proofs.Common.{◌≡◌, ◌∙◌, map, ap, arith}
+use Rattle.std.proofs.Common.{◌≡◌, ◌∙◌, map, ap, arith, subst, sym}
 use Rattle.std.proofs.lemmas.List.{length-map}
 use Rattle.c104_net.specs.Finished.{run_arrived}
-use Rattle.c104_net.specs.FinishedRecords.{record_finish, FinishedRecord}
+use Rattle.c104_net.specs.FinishedRecords.{record_finish, FinishedRecord, IsFinishedRecord}
 use Rattle.c104_net.specs.Network.{network_arrived, network_of}
 use Rattle.c104_net.specs.NetRecords.{net_record, node_state, NetRecord}
 use Rattle.c104_net.proofs.Finishing.{terminals_counted, arrived_same}
 use Rattle.c104_net.proofs.RecordSteps.{nodes_counted}
 use Rattle.c104_net.proofs.RunPartLists.{finish_is}
+use Rattle.c104_net.proofs.FinishedRuns.{finished_record}
 use Rattle.c104_net.proofs.WiredTraces.{all_recorded}
 use Rattle.c104_net.proofs.net.Net.finish.Goals as goal
 
@@ -32,7 +33,7 @@ left_is : (c : goal.After-into_plan) → ◌≡◌ {A = FinishedRecord} (record 
 left_is c = finish_is c.self.inside.wires c.into_plan.result c.self.inside.places.items c.self.inside.count c.parts_of-parts.result.terminals.items c.parts_of-parts.result.starts.items c.parts_of-parts.result.traces.items c.into_plan.ensures c.parts_of-parts.ensures.terminals c.parts_of-parts.ensures.starts c.parts_of-parts.ensures.traces
 
 pub invariant_of-result : goal.invariant_of-result
-invariant_of-result c = record { net = net_record c.self.inside.wires c.self.inside.places.items c.self.inside.count; kept = c.self.invariant.0.kept; left = left_is c; recorded = all_recorded c.self.inside.wires c.plan-plan.ensures.kept c.self.inside.places.items c.self.inside.count c.parts_of-parts.ensures.recorded c.self.invariant.0.kept }
+invariant_of-result c = subst IsFinishedRecord (sym (left_is c)) (finished_record (net_record c.self.inside.wires c.self.inside.places.items c.self.inside.count) c.self.invariant.0.kept (all_recorded c.self.inside.wires c.plan-plan.ensures.kept c.self.inside.places.items c.self.inside.count c.parts_of-parts.ensures.recorded c.self.invariant.0.kept))
 
 pub returns-clause-left : goal.returns-clause-left
 returns-clause-left c = left_is c ∙ ap record_finish c.self.view_is

@@ -17,6 +17,7 @@ returns c =
     let kept : IsKeptRun run = kept_run run c.self.invariant in
     let is_plan : IsPlan run.finished.plan = c.switches-switches.ensures.kept in
     subst EndsWithoutDeadlock c.self.view_is (record {
+      stamps = kept.stamps;
       events = kept.events;
       nodes = kept.nodes;
       told = kept.told;

@@ -1,4 +1,4 @@
-use Rattle.std.proofs.Common.{List, Ok, OnOk, Result, ap, arith, length, map, subst, sym, ℕ, ◌≡◌, ◌≤◌}
+use Rattle.std.proofs.Common.{List, Ok, OnOk, Result, map, subst, sym, ℕ, ◌≡◌}
 use Rattle.c104_token.specs.declared.faults.NoMemory.{NoMemory}
 use Rattle.std.specs.Global.{Vec as Kept}
 use Rattle.c104_describe.specs.Plans.{IsPlan, Plan}
@@ -8,12 +8,14 @@ use Rattle.c104_net.specs.FinishedRecords.{FinishedRecord}
 use Rattle.c104_net.specs.Origins.{Origin}
 use Rattle.c104_net.specs.RunOrigins.{AreOrigins}
 use Rattle.c104_net.specs.declared.acts.Entry.{Entry}
-use Rattle.c104_net.specs.Network.{Network, network_of}
+use Rattle.c104_net.specs.Network.{network_of}
+use Rattle.c104_net.specs.Replays.{LeadTo}
 use Rattle.c104_net.specs.Starts.{start_node}
+use Rattle.c104_net.specs.ToldEvents.{told_events}
 use Rattle.c104_net.specs.declared.starts.NodeStart.{NodeStart}
 use Rattle.c104_net.specs.declared.traced.Traced.{Traced}
 use Rattle.c104_net.specs.Balance.{IsSteady}
-use Rattle.c104_net.proofs.RunOrigins.{IsKeptRun, few_traces, if_ok, kept_run, left_lent, origins_lent, steady_start, terminal_origins, traced}
+use Rattle.c104_net.proofs.RunOrigins.{IsKeptRun, if_ok, kept_run, led_lent, origins_lent, steady_start, terminal_origins, traced}
 use Rattle.c104_net.proofs.run.Run.origins.Goals as goal
 
 -- a run by its fields
@@ -33,35 +35,19 @@ from_starts-requires c =
     subst (λ (starts : List NodeStart). IsSteady {A = Traced} (network_of c.self.inside.plan (map start_node starts))) (sym c.as_slice-starts.ensures.value)
     (steady_start run is_plan kept)
 
--- all of the run is left at first
-pub replay_all-replayed-requires : goal.replay_all-replayed-requires
-replay_all-replayed-requires c =
-    let run : FinishedRecord = run_of c.self.inside.plan c.self.inside.parts.terminals.items c.self.inside.parts.starts.items c.self.inside.parts.traces.items c.self.inside.count in
-    let kept : IsKeptRun run = kept_run run c.self.invariant in
-    let is_plan : IsPlan run.finished.plan = c.switches-switches.ensures.kept in
-    let few : length c.self.inside.parts.traces.items ≤ 65536 = few_traces run is_plan kept in
-    let same = ap length c.as_slice-traces.ensures.value in
-    let ended : Network Traced = network_of run.finished.plan (traced run is_plan kept).0 in
-    record {
-      few = omega (arith, few, same);
-      left = (ended, left_lent run is_plan kept c.as_slice-traces.result.now c.as_slice-starts.result.now c.in_ok-net.net c.as_slice-traces.ensures.value c.as_slice-starts.ensures.value c.in_ok-net.ensures);
-    }
-
--- and it led where it leads over tokens that tell where they came from
+-- the events that its traces tell led where the run leads over tokens that tell where they came from
 pub returns : goal.returns
 returns c =
     let run : FinishedRecord = run_of c.self.inside.plan c.self.inside.parts.terminals.items c.self.inside.parts.starts.items c.self.inside.parts.traces.items c.self.inside.count in
     let kept : IsKeptRun run = kept_run run c.self.invariant in
     let is_plan : IsPlan run.finished.plan = c.switches-switches.ensures.kept in
-    let ended : Network Traced = network_of run.finished.plan (traced run is_plan kept).0 in
-    let left = left_lent run is_plan kept c.as_slice-traces.result.now c.as_slice-starts.result.now c.in_ok-net.net c.as_slice-traces.ensures.value c.as_slice-starts.ensures.value c.in_ok-net.ensures in
-    let led : OnOk c.replay_all-replayed.result (c.replay_all-replayed.new.net ≡ ended) = c.replay_all-replayed.ensures ended left in
     if_ok
     (λ lists. (c.replay_all-replayed.result ≡ Ok tt) × (map (λ (list : Kept Origin). list.items) lists.items ≡ map terminal_origins c.finish-run.result.terminals))
     (λ lists. AreOrigins c.args.self.now (map (λ (list : Kept Origin). list.items) lists.items))
     c.origins_after.result
     (λ lists are.
-    let net_is : c.replay_all-replayed.new.net ≡ ended = subst (λ (r : Result (Unit {0}) NoMemory). OnOk r (c.replay_all-replayed.new.net ≡ ended)) are.0 led in
+    let led : LeadTo c.in_ok-net.net (told_events run.finished.plan c.as_slice-traces.result.now) c.replay_all-replayed.new.net = subst (λ (r : Result (Unit {0}) NoMemory). OnOk r (LeadTo c.in_ok-net.net (told_events run.finished.plan c.as_slice-traces.result.now) c.replay_all-replayed.new.net)) are.0 c.replay_all-replayed.ensures in
+    let net_is : c.replay_all-replayed.new.net ≡ network_of run.finished.plan (traced run is_plan kept).0 = led_lent run is_plan kept c.as_slice-traces.result.now c.as_slice-starts.result.now c.in_ok-net.net c.replay_all-replayed.new.net c.as_slice-traces.ensures.value c.as_slice-starts.ensures.value c.in_ok-net.ensures led in
     subst (λ (run : FinishedRecord). AreOrigins run (map (λ (list : Kept Origin). list.items) lists.items)) c.self.view_is
     (origins_lent run is_plan kept c.replay_all-replayed.new.net c.finish-run.result (map (λ (list : Kept Origin). list.items) lists.items) net_is c.finish-run.ensures are.1))
     c.origins_after.ensures

@@ -1,0 +1,12 @@
+use Rattle.std.proofs.Common.{List, Some, drop, map, slice_get, ℕ, ◌++◌, ◌≡◌}
+use Rattle.c104_net.specs.Leading.{led_events}
+use Rattle.c104_net.specs.Replays.{lead_event}
+use Rattle.c104_net.specs.declared.acts.Entry.{Entry}
+use Rattle.c104_net.proofs.leading.add_leads.Given as goal
+
+-- what was added, and what the entries that are left tell, is all
+abbrev pub invariant-loop-at : goal.invariant-loop-at
+invariant-loop-at l =
+    (switches : ℕ) (traces : List (List Entry)) → slice_get traces l.place ≡ Some l.trace →
+    map (lead_event switches traces) l.leads.items ++ led_events switches l.place (drop l.at l.trace)
+    ≡ map (lead_event switches traces) l.initial.leads.items ++ led_events switches l.place l.trace
