@@ -14,6 +14,8 @@ use Rattle.c104_describe.specs.Plans.{IsPlan, Plan}
 use Rattle.c104_event.specs.declared.events.Event.TheVariants as event
 use Rattle.c104_event.specs.declared.faults.EventFault.{EventFault}
 use Rattle.c104_event.specs.declared.faults.EventFault.TheVariants as event_fault
+use Rattle.c104_net.specs.declared.stamps.Stamp.{Stamp}
+use Rattle.c104_net.specs.Traces.{seatless}
 use Rattle.c104_net.specs.Balance.{AreInPlace}
 use Rattle.c104_net.specs.NetRecords.{NetRecord, fresh_record}
 use Rattle.c104_net.specs.Network.{Network, network_apply, new_network, with_nodes}
@@ -127,12 +129,12 @@ noted_short : (n : ℕ) (traces : List (List Entry)) (k : ℕ) (e : Entry) (o : 
 noted_short n traces k e None is short = still_short n traces short
 noted_short n traces k e (Some trace) is short = set_short n traces k trace e is short
 
-lone_short : (n : ℕ) (traces : List (List Entry)) (ticket k : ℕ) (a : ActOf Token) (r : Reply) (ready : Bool) → is_ready r ≡ ready → AreShort n traces → AreShort (n + 1) (noted_all true traces (lone_deed ticket k a r))
-lone_short n traces ticket k a r true is short = rw is (noted_short n traces k _ (slice_get traces k) refl short)
-lone_short n traces ticket k a r false is short = rw is (still_short n traces short)
+lone_short : (n : ℕ) (traces : List (List Entry)) (stamp : Stamp) (k : ℕ) (a : ActOf Token) (r : Reply) (ready : Bool) → is_ready r ≡ ready → AreShort n traces → AreShort (n + 1) (noted_all true traces (lone_deed stamp k a r))
+lone_short n traces stamp k a r true is short = rw is (noted_short n traces k _ (slice_get traces k) refl short)
+lone_short n traces stamp k a r false is short = rw is (still_short n traces short)
 
-kept_short : (n : ℕ) (r : NetRecord) (k : ℕ) (bytes : List ℕ) (answer : Result Reply EventFault) → AreShort n r.traces → AreShort (n + 1) (noted_all true r.traces (kept_of (event_deeds (is_switch_at r.network.nodes) r.network.plan r.count (event.Control k bytes)) answer))
-kept_short n r k bytes (Ok told) short = lone_short n r.traces r.count k (act.Step (action.Control bytes)) told (is_ready told) refl short
+kept_short : (n : ℕ) (r : NetRecord) (k : ℕ) (bytes : List ℕ) (answer : Result Reply EventFault) → AreShort n r.traces → AreShort (n + 1) (noted_all true r.traces (kept_of (event_deeds (is_switch_at r.network.nodes) r.network.plan (seatless r.count) (event.Control k bytes)) answer))
+kept_short n r k bytes (Ok told) short = lone_short n r.traces (seatless r.count) k (act.Step (action.Control bytes)) told (is_ready told) refl short
 kept_short n r k bytes (Err f) short = still_short n r.traces short
 
 command_short : (n : ℕ) (r : NetRecord) (k : ℕ) (bytes : List ℕ) → AreShort n r.traces → AreShort (n + 1) (net_command r k bytes).1.traces

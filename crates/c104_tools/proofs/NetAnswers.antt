@@ -7,6 +7,7 @@ use Rattle.c104_switch.specs.Control.{switch_control}
 use Rattle.c104_switch.specs.declared.actions.ActionOf.TheVariants as action
 use Rattle.c104_switch.specs.declared.actions.ReplyOf.TheVariants as reply
 use Rattle.c104_event.specs.declared.events.Event.TheVariants as event
+use Rattle.c104_net.specs.Traces.{seatless}
 use Rattle.c104_net.specs.declared.acts.ActOf.TheVariants as act
 use Rattle.c104_net.specs.declared.acts.Entry.{Entry}
 use Rattle.c104_net.specs.NetRecords.{IsNetRecord, NetRecord, RecordsEvent, ticket_after}
@@ -30,13 +31,13 @@ module _ (old new : NetRecord) (before : IsNetRecord old) (after : IsNetRecord n
     it = by_switch (reply.Control told) recorded
 
     abbrev newest : Entry
-    newest = entry_of old.count (act.Step (action.Control bytes)) (reply.Control told)
+    newest = entry_of (seatless old.count) (act.Step (action.Control bytes)) (reply.Control told)
 
     -- there is a trace for each switch
     trace_there : (trace : List Entry) × (slice_get old.traces k ≡ Some trace)
     trace_there =
         let start = stands_at (length old.network.plan.switches) (length old.network.plan.terminals) (map start_node old.starts) before.started.in_place k it.inside in
-        (at_node k (run_deeds old.network.plan 0 before.told.0), before.told.1.told k ∙ ap (option_map (λ (n : Node Token). at_node k (run_deeds old.network.plan 0 before.told.0))) start.there)
+        (at_node k (run_deeds old.network.plan seatless 0 before.told.0), before.told.1.told k ∙ ap (option_map (λ (n : Node Token). at_node k (run_deeds old.network.plan seatless 0 before.told.0))) start.there)
 
     traces_on : new.traces ≡ slice_set old.traces k (trace_there.0 ++ newest ∷ [])
     traces_on = recorded.traces ∙ rw trace_there.1 refl
