@@ -14,7 +14,7 @@ use Rattle.c104_net.proofs.SentBytes.{AreBytesSent, SendsBytes}
 use Rattle.c104_net.proofs.StartMaps.{starts_are}
 use Rattle.c104_net.proofs.TracedRuns.{traced_from}
 use Rattle.c104_net.specs.Balance.{AreInPlace}
-use Rattle.c104_net.specs.Leading.{event_place}
+use Rattle.c104_net.specs.EventPlaces.{event_place}
 use Rattle.c104_net.specs.NetRecords.{IsNetRecord, NetRecord, fresh_record, record_begun_if}
 use Rattle.c104_net.specs.Network.{Network, network_of}
 use Rattle.c104_net.specs.Nodes.{Node}
@@ -22,9 +22,10 @@ use Rattle.c104_net.specs.Quiet.{network_begin, node_begin}
 use Rattle.c104_net.specs.Runs.{IsRunRecord, at_node}
 use Rattle.c104_net.specs.Starts.{start_node, start_of}
 use Rattle.c104_net.specs.TracedRuns.{map_node, map_switch}
-use Rattle.c104_net.specs.Traces.{Deed, event_deeds, is_switch_place, part}
+use Rattle.c104_net.specs.Traces.{Deed, event_deeds, is_switch_place, part, seatless}
 use Rattle.c104_net.specs.Unchanged.{AreStartsOf, IsUnchanged, MayHappen}
 use Rattle.c104_net.specs.declared.acts.Entry.{Entry}
+use Rattle.c104_net.specs.declared.stamps.Stamp.{Stamp}
 use Rattle.c104_net.specs.declared.starts.NodeStart.{NodeStart}
 use Rattle.c104_net.specs.declared.traced.Traced.{Traced}
 use Rattle.c104_regs.specs.declared.settings.Settings.{Settings}
@@ -45,14 +46,14 @@ use Rattle.c104_net.specs.declared.starts.NodeStart.TheVariants as start
 use Rattle.c104_switch.specs.declared.actions.ActionOf.TheVariants as action
 
 -- an event whose entry is calm
-was_calm : (routes : Routes) (plan : Plan) (ticket : ℕ) (e : Event) (r : Reply) (es : List Deed) → IsTold plan e r → All (IsCalmEntry routes) (at_node (event_place plan e) (event_deeds (is_switch_place plan) plan ticket e r ++ es)) → IsCalmDone routes e r
-was_calm routes plan ticket (event.Cross p) r es told all = tt
-was_calm routes plan ticket (event.Credit p) r es told all = tt
-was_calm routes plan ticket (event.Input s l word) r es told all = tt
-was_calm routes plan ticket (event.Claim s i o) r es told all = tt
-was_calm routes plan ticket (event.Control s bytes) r es told all = lone_is (IsCalmEntry routes) ticket s (act.Step (action.Control bytes)) r es told all
-was_calm routes plan ticket (event.Send t p) r es told all = lone_is (IsCalmEntry routes) ticket _ (act.Send p) r es told all
-was_calm routes plan ticket (event.Drain t) r es told all = tt
+was_calm : (routes : Routes) (plan : Plan) (stamp : Stamp) (e : Event) (r : Reply) (es : List Deed) → IsTold plan e r → All (IsCalmEntry routes) (at_node (event_place plan e) (event_deeds (is_switch_place plan) plan stamp e r ++ es)) → IsCalmDone routes e r
+was_calm routes plan stamp (event.Cross p) r es told all = tt
+was_calm routes plan stamp (event.Credit p) r es told all = tt
+was_calm routes plan stamp (event.Input s l word) r es told all = tt
+was_calm routes plan stamp (event.Claim s i o) r es told all = tt
+was_calm routes plan stamp (event.Control s bytes) r es told all = lone_is (IsCalmEntry routes) stamp s (act.Step (action.Control bytes)) r es told all
+was_calm routes plan stamp (event.Send t p) r es told all = lone_is (IsCalmEntry routes) stamp _ (act.Send p) r es told all
+was_calm routes plan stamp (event.Drain t) r es told all = tt
 
 -- such an event may happen
 may_happen : (routes : Routes) (e : Event) (r : Reply) → IsCalmDone routes e r → MayHappen routes e r
@@ -84,10 +85,10 @@ bytes_all : (routes : Routes) (events : List (Event × Reply)) → AreCalm route
 bytes_all routes [] each = tt
 bytes_all routes (e ∷ events) each = (sends_bytes routes e.0 e.1 each.0, bytes_all routes events each.1)
 
-module _ (routes : Routes) (plan : Plan) (starts : List NodeStart) (nodes : List (Node Token)) (traces : List (List Entry)) (count : ℕ) (events : List (Event × Reply)) (placed : AreInPlace {A = Token} plan (map start_node starts)) (calm : All (IsCalmTrace routes) traces) (told : IsRunRecord plain_kind plan (map start_node starts) nodes traces count events) where
+module _ (routes : Routes) (plan : Plan) (stamps : ℕ → Stamp) (starts : List NodeStart) (nodes : List (Node Token)) (traces : List (List Entry)) (count : ℕ) (events : List (Event × Reply)) (placed : AreInPlace {A = Token} plan (map start_node starts)) (calm : All (IsCalmTrace routes) traces) (told : IsRunRecord plain_kind plan stamps (map start_node starts) nodes traces count events) where
   -- the events of a run whose nodes did nothing that changes a register
   calm_run : AreCalm routes events
-  calm_run = all_events (IsCalmEntry routes) plan (λ (e : Event × Reply). IsCalmDone routes e.0 e.1) (was_calm routes plan) (map start_node starts) nodes traces count events placed told (λ k trace at. All-place (IsCalmTrace routes) traces k trace at calm)
+  calm_run = all_events (IsCalmEntry routes) plan (λ (e : Event × Reply). IsCalmDone routes e.0 e.1) (was_calm routes plan) stamps (map start_node starts) nodes traces count events placed told (λ k trace at. All-place (IsCalmTrace routes) traces k trace at calm)
 
   pub unchanged : IsUnchanged routes events
   unchanged = unchanged_all routes events calm_run
@@ -97,13 +98,13 @@ module _ (routes : Routes) (plan : Plan) (starts : List NodeStart) (nodes : List
 
 module _ (plan : Plan) (image : Image) (is_plan : IsPlan plan) (accepted : IsAccepted (routes_of plan image)) where
   -- where such a run ended each switch is set as it was
-  still_set : (first : List NodeStart) (nodes : List (Node Token)) (traces : List (List Entry)) (count : ℕ) (events : List (Event × Reply)) → AreStartsOf plan image first → All (IsCalmTrace (routes_of plan image)) traces → IsRunRecord plain_kind plan (map start_node first) nodes traces count events → (k : ℕ) (s : Switch Token) → slice_get nodes k ≡ Some (node.Switch s) → s.settings ≡ settings_in image.settings k
+  still_set : (first : List NodeStart) (nodes : List (Node Token)) (traces : List (List Entry)) (count : ℕ) (events : List (Event × Reply)) → AreStartsOf plan image first → All (IsCalmTrace (routes_of plan image)) traces → IsRunRecord plain_kind plan seatless (map start_node first) nodes traces count events → (k : ℕ) (s : Switch Token) → slice_get nodes k ≡ Some (node.Switch s) → s.settings ≡ settings_in image.settings k
   still_set first nodes traces count events are calm told k s at =
       let labelled : IsLabelled (routes_of plan image) = record { accepted = accepted; positive = header_positive plan image } in
       let traced = traced_from plan first nodes events told.run in
       let begun : List (Node Traced) = map start_node first in
-      let quiet = unchanged (routes_of plan image) plan first nodes traces count events are.in_place calm told in
-      let sent = bytes_sent (routes_of plan image) plan first nodes traces count events are.in_place calm told in
+      let quiet = unchanged (routes_of plan image) plan seatless first nodes traces count events are.in_place calm told in
+      let sent = bytes_sent (routes_of plan image) plan seatless first nodes traces count events are.in_place calm told in
       let ended = each plan image is_plan labelled begun (network_of plan traced.0) events traced.1.run quiet sent (starts plan image is_plan labelled begun (starts_are plan image first are)) in
       let same : ended.0 ≡ traced.0 = ap (λ (net : Network Traced). net.nodes) ended.1 in
       let there : option_map (map_node (λ (x : Traced). x.token)) (slice_get traced.0 k) ≡ Some (node.Switch s) = sym (slice_get-map (map_node (λ (x : Traced). x.token)) traced.0 k) ∙ ap (λ ns. slice_get ns k) traced.1.plain ∙ at in
@@ -129,7 +130,7 @@ module _ (plan : Plan) (image : Image) (is_plan : IsPlan plan) (accepted : IsAcc
   begun_calm false old new kept after is calm = subst (IsCalm plan image) (sym is) calm
   begun_calm true old new kept after is calm =
       let begun : IsNetRecord (fresh_record (network_begin old.network)) = subst IsNetRecord is after in
-      let told : IsRunRecord plain_kind plan (map start_node old.starts) old.network.nodes old.traces old.count kept.told.0 = subst (λ p. IsRunRecord plain_kind p (map start_node old.starts) old.network.nodes old.traces old.count kept.told.0) calm.same_plan kept.told.1 in
+      let told : IsRunRecord plain_kind plan seatless (map start_node old.starts) old.network.nodes old.traces old.count kept.told.0 = subst (λ p. IsRunRecord plain_kind p seatless (map start_node old.starts) old.network.nodes old.traces old.count kept.told.0) calm.same_plan kept.told.1 in
       subst (IsCalm plan image) (sym is) (record {
         same_plan = calm.same_plan;
         starts = record {

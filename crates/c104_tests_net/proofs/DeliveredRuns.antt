@@ -17,6 +17,7 @@ use Rattle.c104_tests_net.proofs.CalmRuns.{unchanged}
 use Rattle.c104_tests_net.specs.CalmNets.{IsCalm, IsCalmTrace}
 use Rattle.c104_tests_net.specs.DeliveredNets.{DeliversByRanks, DeliversWithin}
 use Rattle.c104_token.specs.Kinds.{plain_kind}
+use Rattle.c104_net.specs.Traces.{seatless}
 use Rattle.std.proofs.Common.{All, Err, IfOk, Ok, Result, arith, subst, sym, ℕ, ◌<◌}
 
 -- what such a network keeps is what the theorem asks for
@@ -31,7 +32,7 @@ acyclic_net plan image net calm fits accepted acyclic started =
       acyclic = subst (λ p. IsAcyclic (routes_of p image)) back acyclic;
       set = set;
       started = started;
-      unchanged = λ events told. unchanged (routes_of net.network.plan image) net.network.plan net.starts net.network.nodes net.traces net.count events set.in_place quiet told;
+      unchanged = λ events told. unchanged (routes_of net.network.plan image) net.network.plan seatless net.starts net.network.nodes net.traces net.count events set.in_place quiet told;
     }
 
 -- where it stands still, it is quiet, also where random headers are put before packets

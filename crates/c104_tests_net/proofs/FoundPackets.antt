@@ -10,6 +10,7 @@ use Rattle.c104_net.specs.Origins.{origins_in}
 use Rattle.c104_net.specs.Quiet.{IsQuiet}
 use Rattle.c104_net.specs.RunOrigins.{AreOrigins}
 use Rattle.c104_net.specs.TracedEnds.{traced_end}
+use Rattle.c104_net.specs.Traces.{seatless}
 use Rattle.c104_net.specs.Unchanged.{AreStartsOf, IsUnchanged}
 use Rattle.c104_net.specs.declared.origins.Origin.{Origin}
 use Rattle.c104_net.specs.declared.traced.Traced.{Traced}
@@ -34,7 +35,7 @@ same_list xs ys is = cc
 
 module _ (image : Image) (run : FinishedRecord) (lists : List (List Origin)) (accepted : IsAccepted (routes_of run.finished.plan image)) (starts : AreStartsOf run.finished.plan image run.starts) (calm : All (IsCalmTrace (routes_of run.finished.plan image)) run.traces) (are : AreOrigins run lists) where
   still : IsUnchanged (routes_of run.finished.plan image) are.events
-  still = unchanged (routes_of run.finished.plan image) run.finished.plan run.starts are.nodes run.traces run.count are.events starts.in_place calm are.told
+  still = unchanged (routes_of run.finished.plan image) run.finished.plan are.stamps run.starts are.nodes run.traces run.count are.events starts.in_place calm are.told
 
   promised : Promise (routes_of run.finished.plan image) (traced_end run)
   promised = are.promise image accepted starts still
@@ -65,7 +66,7 @@ module _ (image : Image) (run : FinishedRecord) (lists : List (List Origin)) (ac
 module _ (image : Image) (net : NetRecord) (lists : List (Kept Origin)) (accepted : IsAccepted (routes_of net.network.plan image)) (starts : AreStartsOf net.network.plan image net.starts) (calm : All (IsCalmTrace (routes_of net.network.plan image)) net.traces) (quiet : IsQuiet net.network) (kept : IsNetRecord net) (are : AreOrigins (record_finish net) (map (λ (l : Kept Origin). l.items) lists)) where
   found_there : (a n t : ℕ) (p : Packet) → t < length net.network.plan.terminals → slice_get (sent_at net.network a) n ≡ Some p → has_header (routes_of net.network.plan image) p ≡ true → owner (routes_of net.network.plan image) (header_of (routes_of net.network.plan image) p) ≡ Some t → (k : ℕ) × IsListed lists t k (record { terminal = a; number = n })
   found_there a n t p inside sent whole owned =
-      let met = are.found image accepted starts (still image (record_finish net) (map (λ (l : Kept Origin). l.items) lists) accepted starts calm are) kept.told.0 net.network.nodes kept.told.1 quiet a n t p sent whole owned in
+      let met = are.found image accepted starts (still image (record_finish net) (map (λ (l : Kept Origin). l.items) lists) accepted starts calm are) seatless kept.told.0 net.network.nodes kept.told.1 quiet a n t p sent whole owned in
       let there = listed_there lists t (origins_in (arrived_at (traced_end (record_finish net)) t)) (are.each t inside) in
       (met.0, (there.0, there.1, ap (λ os. slice_get os met.0) there.2 ∙ met.1))
 

@@ -109,7 +109,7 @@ named_here image run lists t k accepted starts calm are list listed o there =
     let traced : List (Node Traced) = (traced_end run).nodes in
     let ended : Network Traced = network_of plan traced in
     let end_is : traced_end run ≡ ended = placed_end (traced_end run) plan are.same_plan in
-    let quiet = unchanged routes plan run.starts are.nodes run.traces run.count are.events starts.in_place calm are.told in
+    let quiet = unchanged routes plan are.stamps run.starts are.nodes run.traces run.count are.events starts.in_place calm are.told in
     let within : t < length lists = slice_get_within lists t list listed in
     let inside : t < length plan.terminals = (let counted = are.counted in omega (arith, within, counted)) in
     let each : slice_get lists t ≡ Some (origins_in (arrived_at ended t)) = subst (λ (n : Network Traced). slice_get lists t ≡ Some (origins_in (arrived_at n t))) end_is (are.each t inside) in
