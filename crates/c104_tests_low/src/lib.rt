@@ -37,4 +37,6 @@ mod row_plans;
 #[cfg(test)]
 mod switch;
 #[cfg(test)]
+mod tickets;
+#[cfg(test)]
 mod token;
