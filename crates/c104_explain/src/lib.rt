@@ -15,6 +15,7 @@
 //! the others say isn't.
 #![tactic(auto)]
 
+mod buffers;
 mod commands;
 mod description_mistakes;
 mod descriptions;
