@@ -1,5 +1,5 @@
 -- Each event keeps every network in balance.
-use Rattle.std.proofs.Common.{◌≡◌, inl, inr, Bool, false, List, Option, Some, None, Result, refl, sym, ap, subst}
+use Rattle.std.proofs.Common.{◌≡◌, inl, inr, Bool, false, List, Option, Some, None, Result, refl, sym, ap, subst, ◌∙◌}
 use Rattle.c104_token.specs.Kinds.{Kind}
 use Rattle.c104_link.specs.Steps.{step_at, yield_step_at}
 use Rattle.c104_link.proofs.MadeSteps.{given}
@@ -11,9 +11,10 @@ use Rattle.c104_event.specs.declared.events.Event.{Event}
 use Rattle.c104_event.specs.declared.events.Event.TheVariants as event
 use Rattle.c104_event.specs.declared.faults.EventFault.{EventFault}
 use Rattle.c104_net.specs.Nodes.{Node, node_input, node_claim, node_control, node_send, node_drain}
-use Rattle.c104_net.specs.Wires.{nodes_cross, nodes_credit}
+use Rattle.c104_net.proofs.NamedWires.{nodes_cross, nodes_credit}
 use Rattle.c104_net.specs.Ends.{end_of}
-use Rattle.c104_net.specs.Network.{Network, network_of, network_step, terminal_place, event_fault, limit_fault, limited_node, outcome_within_limit, outcome_if_ready, outcome_if_possible, AnswersEvent, AnswersWith}
+use Rattle.c104_net.proofs.EventSteps.{by_name, named_step}
+use Rattle.c104_net.specs.Network.{Network, network_of, network_step, terminal_place, event_fault, event_limit, outcome_within_limit, outcome_if_ready, outcome_if_possible, AnswersEvent, AnswersWith}
 use Rattle.c104_net.specs.Balance.{IsSteady}
 use Rattle.c104_net.proofs.BalanceNodes.{input_rests, claim_rests, control_rests, send_rests, drain_rests}
 use Rattle.c104_net.proofs.BalanceSteps.{steady_at, steady_from, steady_crossed, steady_credited}
@@ -29,21 +30,24 @@ module _ {A : Type 0} (kind : Kind A) (plan : Plan) (is_plan : IsPlan plan) (nod
       subst (λ (r : Reply × Network A). IsSteady r.1) same holds
 
   -- what an event leaves, where it was ready
-  step_steady : (e : Event) (r : Reply × Network A) → network_step kind net e ≡ Some r → IsSteady r.1
-  step_steady (event.Cross p) r is = given (peer plan p) _ r is (λ q wired more. given (nodes_cross nodes (end_of plan p) (end_of plan q)) _ r more (λ v made last.
+  named_steady : (e : Event) (r : Reply × Network A) → named_step kind net e ≡ Some r → IsSteady r.1
+  named_steady (event.Cross p) r is = given (peer plan p) _ r is (λ q wired more. given (nodes_cross nodes (end_of plan p) (end_of plan q)) _ r more (λ v made last.
       by_last (reply.Token (kind.plain v.0)) v.1 r last (steady_crossed plan is_plan p q wired nodes v made steady)))
-  step_steady (event.Credit p) r is = given (peer plan p) _ r is (λ q wired more. given (nodes_credit nodes (end_of plan p) (end_of plan q)) _ r more (λ v made last.
+  named_steady (event.Credit p) r is = given (peer plan p) _ r is (λ q wired more. given (nodes_credit nodes (end_of plan p) (end_of plan q)) _ r more (λ v made last.
       by_last reply.Done v r last (steady_credited plan is_plan p q wired nodes v made steady)))
-  step_steady (event.Input s l word) r is = given (step_at nodes s (node_input kind l word)) _ r is (λ v made last.
+  named_steady (event.Input s l word) r is = given (step_at nodes s (node_input kind l word)) _ r is (λ v made last.
       by_last reply.Done v r last (steady_at plan nodes v s (node_input kind l word) made (input_rests kind l word) steady))
-  step_steady (event.Claim s i o) r is = given (step_at nodes s (node_claim i o)) _ r is (λ v made last.
+  named_steady (event.Claim s i o) r is = given (step_at nodes s (node_claim i o)) _ r is (λ v made last.
       by_last reply.Done v r last (steady_at plan nodes v s (node_claim i o) made (claim_rests i o) steady))
-  step_steady (event.Control s bytes) r is = given (yield_step_at nodes s (node_control bytes)) _ r is (λ v made last.
+  named_steady (event.Control s bytes) r is = given (yield_step_at nodes s (node_control bytes)) _ r is (λ v made last.
       by_last (reply.Control v.0) v.1 r last (steady_from plan nodes s (node_control bytes) v made (control_rests bytes) steady))
-  step_steady (event.Send t packet) r is = given (step_at nodes (terminal_place plan t) (node_send kind t packet)) _ r is (λ v made last.
+  named_steady (event.Send t packet) r is = given (step_at nodes (terminal_place plan t) (node_send kind t packet)) _ r is (λ v made last.
       by_last reply.Done v r last (steady_at plan nodes v (terminal_place plan t) (node_send kind t packet) made (send_rests kind t packet) steady))
-  step_steady (event.Drain t) r is = given (yield_step_at nodes (terminal_place plan t) node_drain) _ r is (λ v made last.
+  named_steady (event.Drain t) r is = given (yield_step_at nodes (terminal_place plan t) node_drain) _ r is (λ v made last.
       by_last (reply.Token (kind.plain v.0)) v.1 r last (steady_from plan nodes (terminal_place plan t) node_drain v made drain_rests steady))
+
+  step_steady : (e : Event) (r : Reply × Network A) → network_step kind net e ≡ Some r → IsSteady r.1
+  step_steady e r is = named_steady e r (sym (by_name kind net is_plan steady.in_place e) ∙ is)
 
   by_limit : (limit : Option EventFault) (r : Reply × Network A) → IsSteady r.1 → IsSteady (outcome_within_limit kind net limit r).1
   by_limit None r holds = holds
@@ -51,7 +55,7 @@ module _ {A : Type 0} (kind : Kind A) (plan : Plan) (is_plan : IsPlan plan) (nod
 
   by_step : (e : Event) (made : Option (Reply × Network A)) → network_step kind net e ≡ made → IsSteady (outcome_if_ready kind net e made).1
   by_step e None made = steady
-  by_step e (Some r) made = by_limit (limit_fault (limited_node net e) e) r (step_steady e r made)
+  by_step e (Some r) made = by_limit (event_limit net e) r (step_steady e r made)
 
   by_fault : (e : Event) (fault : Option EventFault) → IsSteady (outcome_if_possible kind net e fault).1
   by_fault e None = by_step e (network_step kind net e) refl

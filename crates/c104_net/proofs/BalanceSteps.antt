@@ -6,7 +6,7 @@ use Rattle.c104_describe.specs.declared.ports.Port.{Port}
 use Rattle.c104_net.specs.declared.ends.End.{End}
 use Rattle.c104_describe.specs.Plans.{Plan, IsPlan}
 use Rattle.c104_net.specs.Nodes.{Node, node_enter, node_leave, node_credit_out, node_credit_in}
-use Rattle.c104_net.specs.Wires.{nodes_cross, nodes_credit}
+use Rattle.c104_net.proofs.NamedWires.{nodes_cross, nodes_credit}
 use Rattle.c104_describe.specs.Wiring.{peer}
 use Rattle.c104_net.specs.Ends.{end_of}
 use Rattle.c104_net.specs.Network.{network_of}

@@ -10,7 +10,7 @@ use Rattle.c104_net.specs.declared.ends.End.{End}
 use Rattle.c104_net.specs.declared.node.NodeOf.TheVariants.{Switch, Terminal}
 use Rattle.c104_net.specs.Terminals as terminal
 use Rattle.c104_net.specs.Nodes.{Node, node_enter, node_leave, node_credit_out, node_credit_in}
-use Rattle.c104_net.specs.Wires.{nodes_cross}
+use Rattle.c104_net.proofs.NamedWires.{nodes_cross}
 
 -- the element at a place that was changed
 pub get_set_same : {X : Type 0} (xs : List X) (i : ℕ) (x y : X) → slice_get xs i ≡ Some x → slice_get (slice_set xs i y) i ≡ Some y

@@ -1,11 +1,10 @@
 -- A token crosses, and credit does, where both ends can act.
-use Rattle.std.proofs.Common.{◌≡◌, ◌∙◌, ◌≤◌, true, false, List, Option, Some, None, length, slice_get, is_some, refl, sym}
-use Rattle.std.proofs.lemmas.Option.{slice_get_past}
+use Rattle.std.proofs.Common.{◌≡◌, ◌∙◌, true, false, List, Option, Some, None, is_some, refl, sym}
 use Rattle.c104_link.specs.Steps.{◌>>=◌, step_at, yield_step_at}
 use Rattle.c104_net.specs.declared.ends.End.{End}
 use Rattle.c104_net.specs.Nodes.{Node, node_enter, node_leave, node_credit_out, node_credit_in}
-use Rattle.c104_net.specs.Wires.{nodes_cross, nodes_credit}
-use Rattle.c104_net.proofs.Crossing.{entry_kept, credit_kept, none_crosses}
+use Rattle.c104_net.proofs.NamedWires.{nodes_cross, nodes_credit}
+use Rattle.c104_net.proofs.Crossing.{entry_kept, credit_kept}
 
 abbrev with_token : {A : Type 0} → A → List (Node A) → Option (A × List (Node A))
 with_token x nodes = Some (x, nodes)
@@ -21,10 +20,6 @@ module _ {A : Type 0} (nodes : List (Node A)) (from to : End) where
       by_left : (o : Option (A × List (Node A))) → yield_step_at nodes from.node (node_leave from.link) ≡ o → true ≡ is_some o → is_some (o >>= (λ r. step_at r.1 to.node (node_enter r.0 to.link) >>= with_token r.0)) ≡ true
       by_left None left can = sym can
       by_left (Some r) left can = by_entered (step_at r.1 to.node (node_enter r.0 to.link)) r.0 (entry_kept nodes from to r.0 r left ∙ sym (opened r.0))
-
-  -- past the nodes nothing can come in
-  pub past_crosses : length nodes ≤ to.node → nodes_cross nodes from to ≡ None
-  past_crosses past = none_crosses nodes from to (λ x. (let none : slice_get nodes to.node ≡ None = slice_get_past nodes to.node past in rw none refl))
 
   pub can_credit : true ≡ is_some (step_at nodes from.node (node_credit_out from.link)) → true ≡ is_some (step_at nodes to.node (node_credit_in to.link)) → is_some (nodes_credit nodes from to) ≡ true
   can_credit can opened = by_out (step_at nodes from.node (node_credit_out from.link)) refl can
@@ -44,7 +39,3 @@ module _ {A : Type 0} (nodes : List (Node A)) (from to : End) where
       by_out : (o : Option (List (Node A))) → step_at nodes from.node (node_credit_out from.link) ≡ o → (o >>= (λ granted. step_at granted to.node (node_credit_in to.link))) ≡ None
       by_out None out = refl
       by_out (Some granted) out = by_in (step_at granted to.node (node_credit_in to.link)) (credit_kept nodes from to granted out ∙ closed)
-
-  -- nor where there is no node at the other end
-  pub past_credits : length nodes ≤ to.node → nodes_credit nodes from to ≡ None
-  past_credits past = none_credited (let none : slice_get nodes to.node ≡ None = slice_get_past nodes to.node past in rw none refl)

@@ -18,7 +18,8 @@ use Rattle.c104_net.proofs.PortChanges.{at, at_other}
 use Rattle.c104_net.proofs.TokenMoves.{claim_world, pass_world, read_world, still_world}
 use Rattle.c104_net.proofs.RandomHeaders.{random_length}
 use Rattle.c104_net.specs.Deliveries.{deletes}
-use Rattle.c104_net.specs.Network.{Network, network_of, network_step}
+use Rattle.c104_net.proofs.EventSteps.{named_step}
+use Rattle.c104_net.specs.Network.{Network, network_of}
 use Rattle.c104_net.specs.Nodes.{Node, node_claim, node_input}
 use Rattle.c104_net.specs.Traced.{traced_kind}
 use Rattle.c104_net.specs.Traces.{part}
@@ -172,7 +173,7 @@ module _ (plan : Plan) (image : Image) (labelled : IsLabelled (routes_of plan im
         holds = k;
       }
 
-  pub input_kept : (net' : Network Traced) (s i word : ℕ) (r : Reply) → network_step traced_kind (network_of plan nodes) (event.Input s i word) ≡ Some (r, net') → Leaves plan image nodes net' (StillHolds plan image)
+  pub input_kept : (net' : Network Traced) (s i word : ℕ) (r : Reply) → named_step traced_kind (network_of plan nodes) (event.Input s i word) ≡ Some (r, net') → Leaves plan image nodes net' (StillHolds plan image)
   input_kept net' s i word r e =
       given (step_at nodes s (node_input traced_kind i word)) _ (r, net') e (λ ended ea e2.
       at_place_made nodes s (node_input traced_kind i word) ended ea (λ n n' en en' hv. by_node n n' en en' ended hv e2))
@@ -235,7 +236,7 @@ module _ (plan : Plan) (image : Image) (labelled : IsLabelled (routes_of plan im
       kept_items true b' l v e = rw e (sym (append-nil l))
       kept_items false b' l v e = rw e refl
 
-  pub claim_kept : (net' : Network Traced) (s i o : ℕ) (r : Reply) → network_step traced_kind (network_of plan nodes) (event.Claim s i o) ≡ Some (r, net') → Leaves plan image nodes net' (StillHolds plan image)
+  pub claim_kept : (net' : Network Traced) (s i o : ℕ) (r : Reply) → named_step traced_kind (network_of plan nodes) (event.Claim s i o) ≡ Some (r, net') → Leaves plan image nodes net' (StillHolds plan image)
   claim_kept net' s i o r e =
       given (step_at nodes s (node_claim i o)) _ (r, net') e (λ ended ea e2.
       at_place_made nodes s (node_claim i o) ended ea (λ n n' en en' hv. by_node n n' en en' ended hv e2))

@@ -5,16 +5,14 @@ use Rattle.std.proofs.lemmas.List.{map-id, map-set}
 use Rattle.std.specs.Option.{option_map}
 use Rattle.c104_token.specs.Kinds.{Kind}
 use Rattle.c104_switch.specs.Actions.{Reply}
-use Rattle.c104_describe.specs.declared.ports.Port.{Port}
 use Rattle.c104_describe.specs.Plans.{Plan}
-use Rattle.c104_describe.specs.Wiring.{peer}
 use Rattle.c104_event.specs.declared.events.Event.{Event}
-use Rattle.c104_event.specs.declared.events.Event.TheVariants as event
 use Rattle.c104_event.specs.declared.faults.EventFault.{EventFault}
-use Rattle.c104_net.specs.Ends.{end_of}
+use Rattle.c104_net.specs.EventActs.{Acts, event_acts, port_place}
+use Rattle.c104_token.specs.declared.tokens.Token.{Token}
 use Rattle.c104_net.specs.Nodes.{Node}
-use Rattle.c104_net.specs.Network.{Network, network_of, terminal_place, AnswersWith, AnswersEvent}
-use Rattle.c104_net.specs.Traces.{event_full, full_at, full_ends, noted, noted_at, part}
+use Rattle.c104_net.specs.Network.{Network, network_of, AnswersWith, AnswersEvent}
+use Rattle.c104_net.specs.Traces.{acts_full, event_full, full_at, noted, noted_at, part}
 use Rattle.c104_net.proofs.Crossing.{get_set_other}
 use Rattle.c104_net.proofs.PlaceSteps.{shown_same}
 
@@ -33,19 +31,14 @@ module _ {P : Type 0} (full : P → Bool) where
         by_place None = refl
         by_place (Some p) = never p
 
-    none_of_ends : (plan : Plan) (xs : List P) (p : Port) (o : Option Port) → part false (λ q. full_ends (map full xs) (end_of plan p) (end_of plan q)) o ≡ false
-    none_of_ends plan xs p None = refl
-    none_of_ends plan xs p (Some q) = rw (none_full xs (end_of plan p).node, none_full xs (end_of plan q).node) refl
-
     -- nor is any that an event would add to
     event_not_full : (plan : Plan) (xs : List P) (e : Event) → event_full plan (map full xs) e ≡ false
-    event_not_full plan xs (event.Cross p) = none_of_ends plan xs p (peer plan p)
-    event_not_full plan xs (event.Credit p) = none_of_ends plan xs p (peer plan p)
-    event_not_full plan xs (event.Input s l word) = none_full xs s
-    event_not_full plan xs (event.Claim s i o) = none_full xs s
-    event_not_full plan xs (event.Control s bytes) = none_full xs s
-    event_not_full plan xs (event.Send t packet) = none_full xs (terminal_place plan t)
-    event_not_full plan xs (event.Drain t) = none_full xs (terminal_place plan t)
+    event_not_full plan xs e = by_acts (event_acts plan e)
+      where
+        by_acts : (o : Option (Acts Token)) → part false (λ (acts : Acts Token). acts_full plan (map full xs) acts) o ≡ false
+        by_acts None = refl
+        by_acts (Some (Acts.Alone k a)) = none_full xs k
+        by_acts (Some (Acts.Joint p q crossing)) = rw (none_full xs (port_place plan p), none_full xs (port_place plan q)) refl
 
     -- so an event is refused for want of memory alone
     pub never_refused : {A : Type 0} (kind : Kind A) (plan : Plan) (xs : List P) (net after : Network A) (e : Event) (answer : Result Reply EventFault) → AnswersWith kind (event_full plan (map full xs) e) net e answer after → AnswersEvent kind net e answer after

@@ -28,7 +28,7 @@ use Rattle.c104_net.specs.Starts.{start_node}
 use Rattle.c104_net.specs.Terminals.{Terminal}
 use Rattle.c104_net.specs.Traced.{sent_token, traced_kind, Source, Traced}
 use Rattle.c104_net.specs.TracedRuns.{map_network, map_node}
-use Rattle.c104_net.specs.Traces.{event_deeds, is_switch_place, Deed}
+use Rattle.c104_net.specs.Traces.{event_deeds, Deed}
 use Rattle.c104_net.proofs.TaggedRuns.{origins_same, IsSmall}
 use Rattle.c104_net.proofs.RoundJoins.{apply_plan}
 use Rattle.c104_net.proofs.RunOrigins.{terminal_origins}
@@ -98,7 +98,7 @@ sent_alike t n j x terminal number =
     ap (λ (k : ℕ). sent_token k n j x) one ∙ ap (λ (k : ℕ). sent_token (t % 65536) k j x) two
 
 -- what an event of such a run sends has small numbers
-alike : (net : Network Known) (e : Event) (r : Reply) (stamp : Stamp) (rest : List Deed) → length net.plan.terminals ≤ 65536 → event_fault net.plan e ≡ None → is_ready r ≡ true → IsBounded (counts (map (map_node known_of) net.nodes)) (event_deeds (is_switch_place net.plan) net.plan stamp e r ++ rest) → IsSentAlike known_of known_kind traced_kind plain_known random_known net e
+alike : (net : Network Known) (e : Event) (r : Reply) (stamp : Stamp) (rest : List Deed) → length net.plan.terminals ≤ 65536 → event_fault net.plan e ≡ None → is_ready r ≡ true → IsBounded (counts (map (map_node known_of) net.nodes)) (event_deeds net.plan stamp e r ++ rest) → IsSentAlike known_of known_kind traced_kind plain_known random_known net e
 alike net (event.Cross p) r stamp rest few possible ready bound = tt
 alike net (event.Credit p) r stamp rest few possible ready bound = tt
 alike net (event.Input s l word) r stamp rest few possible ready bound = tt

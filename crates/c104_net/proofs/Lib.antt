@@ -2,10 +2,17 @@ pub mod Sending
 pub mod ActionSteps
 pub mod PlaceSteps
 pub mod KeptEntries
+pub mod ActSteps
+pub mod ActAnswers
+pub mod ActAttempts
+pub mod NamedWires
+pub mod EventSteps
+pub mod FarPorts
+pub mod LimitedEnds
+pub mod JointEnds
+pub mod JointKeeps
 pub mod Crossing
 pub mod CrossingActs
-pub mod WireEntries
-pub mod WireRefusals
 pub mod FarEndLists
 pub mod Running
 pub mod NodeRuns
@@ -14,7 +21,6 @@ pub mod EntryCounts
 pub mod UndoneEvents
 pub mod RecordSteps
 pub mod WiredTraces
-pub mod NetRecording
 pub mod StartsBack
 pub mod FirstRecords
 pub mod RoundLists
@@ -68,6 +74,7 @@ pub mod StillWires
 pub mod StillPorts
 pub mod TokenMaps
 pub mod SwitchMaps
+pub mod TurnMaps
 pub mod StepMaps
 pub mod StartMaps
 pub mod TracedRuns

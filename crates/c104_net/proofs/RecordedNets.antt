@@ -10,20 +10,18 @@ use Rattle.c104_event.specs.declared.faults.EventFault.{EventFault}
 use Rattle.c104_net.specs.declared.acts.Entry.{Entry}
 use Rattle.c104_net.specs.declared.starts.NodeStart.{NodeStart}
 use Rattle.c104_net.specs.EventRuns.{Answers, EventsEnd}
-use Rattle.c104_net.specs.Network.{limit_fault, limited_node, Network, network_of, network_step, AnswersWith, WouldBeDone}
+use Rattle.c104_net.specs.Network.{Network, network_of, network_step, AnswersWith, WouldBeDone}
 use Rattle.c104_net.specs.NetRecords.{is_done, is_trace_full, ticket_after, IsNetRecord, NetRecord, RecordsEvent}
 use Rattle.c104_net.specs.RecordedNets.{places_record, IsReading, IsRecordedNet, KeepsTokens, Reading}
 use Rattle.c104_net.specs.RecordedRuns.{record_apply, record_at, AnswersRecord}
 use Rattle.c104_net.specs.Stages.{stage_apply, stage_of, Stage}
-use Rattle.c104_net.specs.Traces.{event_deeds, event_full, is_switch_at, is_switch_place, kept_of, noted_all, seatless}
+use Rattle.c104_net.specs.Traces.{event_deeds, event_full, kept_of, noted_all, seatless}
 use Rattle.c104_net.specs.TracedRuns.{map_node}
 use Rattle.c104_net.proofs.FirstRecords.{map_twice}
-use Rattle.c104_net.proofs.NetRecording.{kept_same}
-use Rattle.c104_net.proofs.RecordedStages.{after_plan, apply_plain, plain_network, plain_stage, record_plain, stage_on, switches_plain, IsRecordedStage}
+use Rattle.c104_net.proofs.RecordedStages.{after_plan, apply_plain, plain_network, plain_stage, record_plain, stage_on, IsRecordedStage}
 use Rattle.c104_net.proofs.RoundRuns.{ends_keep, ends_seen, Applied}
-use Rattle.c104_net.proofs.RunRecords.{in_place}
 use Rattle.c104_net.proofs.StageSteps.{fulls_kept, stage_answers}
-use Rattle.c104_net.proofs.StepMaps.{limit_map, limited_map, step_map}
+use Rattle.c104_net.proofs.StepMaps.{limit_map, step_map}
 
 -- a list that is mapped by two functions that agree
 pub map_same : {X Y : Type 0} (f g : X → Y) → ((x : X) → f x ≡ g x) → (xs : List X) → map f xs ≡ map g xs
@@ -148,7 +146,7 @@ module _ {A : Type 0} (kind : Kind A) (tokens : KeepsTokens kind) (net after : N
   would_plain would = (
     would.0,
     ap is_some (step_map kind.plain kind plain_kind (λ x. refl) random_plain sent_plain net e) ∙ some_map _ (network_step kind net e) ∙ would.1,
-    ap (λ n. limit_fault n e) (limited_map kind.plain kind plain_kind (λ x. refl) random_plain sent_plain net e) ∙ limit_map kind.plain kind plain_kind (λ x. refl) random_plain sent_plain (limited_node net e) e ∙ would.2,
+    limit_map kind.plain kind plain_kind (λ x. refl) random_plain net e ∙ would.2,
   )
 
   pub answers_plain : (full : Bool) (answer : Result Reply EventFault) → AnswersWith kind full net e answer after → AnswersWith plain_kind full (plain_network kind net) e answer (plain_network kind after)
@@ -159,7 +157,7 @@ module _ {A P : Type 0} (v : Reading A P) (reads : IsReading v) (plan : Plan) (i
     (answers : AnswersWith v.kind (event_full plan (map (λ (p : P). is_trace_full (v.trace p)) old) e) (network_of plan (map v.state old)) e answer (network_of plan (map v.state new)))
     (free : IfOk answer (λ r. is_ready r ≡ true → event_full plan (map (λ (p : P). is_trace_full (v.trace p)) old) e ≡ false))
     (begun : map (some_start v) new ≡ map (some_start v) old)
-    (noted : map v.trace new ≡ noted_all true (map v.trace old) (kept_of (event_deeds (is_switch_at (map v.state old)) plan (seatless count) e) answer)) where
+    (noted : map v.trace new ≡ noted_all true (map v.trace old) (kept_of (event_deeds plan (seatless count) e) answer)) where
   abbrev fulls : List Bool
   fulls = map (λ (p : P). is_trace_full (v.trace p)) old
 
@@ -172,10 +170,6 @@ module _ {A P : Type 0} (v : Reading A P) (reads : IsReading v) (plan : Plan) (i
   fulls_told : fulls ≡ map is_trace_full (map v.trace old)
   fulls_told = sym (map_twice is_trace_full v.trace old)
 
-  -- over plain tokens it is told of the same places
-  places_told : (k : ℕ) → is_switch_at (map v.state old) k ≡ is_switch_place plan k
-  places_told k = sym (switches_plain v.kind (map v.state old) k) ∙ ap (λ ns. is_switch_at ns k) (states_shown v reads old) ∙ in_place plan (map v.shown old) before.kept.steady.in_place k
-
   answered : AnswersWith plain_kind (event_full plan fulls e) (network_of plan (map v.shown old)) e answer (network_of plan (map v.shown new))
   answered =
       subst (λ ns. AnswersWith plain_kind (event_full plan fulls e) (network_of plan ns) e answer (network_of plan (map v.shown new))) (states_shown v reads old)
@@ -186,7 +180,7 @@ module _ {A P : Type 0} (v : Reading A P) (reads : IsReading v) (plan : Plan) (i
   event_records = record {
     answers = subst (λ fs. AnswersWith plain_kind (event_full plan fs e) (network_of plan (map v.shown old)) e answer (network_of plan (map v.shown new))) fulls_told answered;
     free = subst (λ fs. IfOk answer (λ r. is_ready r ≡ true → event_full plan fs e ≡ false)) fulls_told free;
-    traces = noted ∙ ap (noted_all true (map v.trace old)) (kept_same (is_switch_at (map v.state old)) (is_switch_place plan) places_told plan (seatless count) e answer);
+    traces = noted;
     starts = somes_same (map v.start new) (map v.start old) (sym (somes_shown v new) ∙ begun ∙ somes_shown v old);
     count = refl;
   }

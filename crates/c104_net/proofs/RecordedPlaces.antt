@@ -12,7 +12,7 @@ use Rattle.c104_net.specs.NetRecords.{is_done, is_trace_full, ticket_after, Reco
 use Rattle.c104_net.specs.RecordedNets.{places_record, IsRecordedNet, KeepsRecord, Reading}
 use Rattle.c104_net.specs.RecordedRuns.{record_apply, AnswersRecord}
 use Rattle.c104_net.specs.Stages.{is_kept_full, stage_apply, stage_of}
-use Rattle.c104_net.specs.Traces.{event_deeds, event_full, is_switch_at, kept_of, noted_all, seatless}
+use Rattle.c104_net.specs.Traces.{event_deeds, event_full, kept_of, noted_all, seatless}
 use Rattle.c104_net.proofs.RecordedNets.{event_answers, event_on, event_records, events_end, events_on, map_same, places_stage, some_start, stepped}
 
 -- how a network goes on by an event
@@ -52,7 +52,7 @@ module _ {A P : Type 0} (v : Reading A P) (keeps : Bool) (start : P → Option N
         (answers : AnswersWith v.kind (event_full plan (map full lent) e) (network_of plan (map v.state lent)) e answer (network_of plan (map v.state new)))
         (free : IfOk answer (λ r. is_ready r ≡ true → event_full plan (map full lent) e ≡ false))
         (begun : map start new ≡ map start lent)
-        (noted : map v.trace new ≡ noted_all keeps (map v.trace lent) (kept_of (event_deeds (is_switch_at (map v.state lent)) plan (seatless count) e) answer))
+        (noted : map v.trace new ≡ noted_all keeps (map v.trace lent) (kept_of (event_deeds plan (seatless count) e) answer))
         (told : counted ≡ ticket_after count (is_done answer)) where
       answers_are : AnswersWith v.kind (event_full plan (fulls lent) e) (network_of plan (map v.state lent)) e answer (network_of plan (map v.state new))
       answers_are = subst (λ fs. AnswersWith v.kind (event_full plan fs e) (network_of plan (map v.state lent)) e answer (network_of plan (map v.state new))) (fulls_are lent) answers
@@ -63,8 +63,8 @@ module _ {A P : Type 0} (v : Reading A P) (keeps : Bool) (start : P → Option N
       begun_is : map (some_start v) new ≡ map (some_start v) lent
       begun_is = sym (starts_are new) ∙ begun ∙ starts_are lent
 
-      noted_is : map v.trace new ≡ noted_all true (map v.trace lent) (kept_of (event_deeds (is_switch_at (map v.state lent)) plan (seatless count) e) answer)
-      noted_is = noted ∙ ap (λ b. noted_all b (map v.trace lent) (kept_of (event_deeds (is_switch_at (map v.state lent)) plan (seatless count) e) answer)) is.keeping
+      noted_is : map v.trace new ≡ noted_all true (map v.trace lent) (kept_of (event_deeds plan (seatless count) e) answer)
+      noted_is = noted ∙ ap (λ b. noted_all b (map v.trace lent) (kept_of (event_deeds plan (seatless count) e) answer)) is.keeping
 
       goes_there : GoesOn v plan lent new count counted e answer
       goes_there =

@@ -1,5 +1,5 @@
 -- A network with its record goes on by events.
-use Rattle.std.proofs.Common.{◌≡◌, ◌&&◌, Bool, true, false, Result, Ok, Err, IfOk, if◌then◌else◌, map, inl, refl, ap}
+use Rattle.std.proofs.Common.{◌≡◌, ◌&&◌, Bool, true, false, Result, Ok, Err, IfOk, if◌then◌else◌, map, inl, refl}
 use Rattle.c104_token.specs.declared.tokens.Token.{Token}
 use Rattle.c104_token.specs.Kinds.{plain_kind}
 use Rattle.c104_switch.specs.Actions.{Reply, is_ready}
@@ -11,12 +11,10 @@ use Rattle.c104_net.specs.Network.{Network, network_apply}
 use Rattle.c104_net.specs.NetRecords.{is_done, is_trace_full, IsNetRecord, NetRecord, RecordsEvent}
 use Rattle.c104_net.specs.RecordedRuns.{record_apply, record_at, record_stage}
 use Rattle.c104_net.specs.Stages.{stage_after, stage_full}
-use Rattle.c104_net.specs.Traces.{event_full, is_switch_at, is_switch_place, noted_all, seatless}
-use Rattle.c104_net.proofs.NetRecording.{kept_same}
+use Rattle.c104_net.specs.Traces.{event_full}
 use Rattle.c104_net.proofs.RecordSteps.{event_kept}
 use Rattle.c104_net.proofs.RoundJoins.{apply_plan}
 use Rattle.c104_net.proofs.RoundRuns.{Applied}
-use Rattle.c104_net.proofs.RunRecords.{in_place}
 
 module _ (r : NetRecord) (e : Event) where
   abbrev plan : Plan
@@ -31,7 +29,7 @@ module _ (r : NetRecord) (e : Event) where
   due_recorded before due is free = record {
     answers = inl is;
     free = free_of due.0 free;
-    traces = ap (noted_all true r.traces) (kept_same (is_switch_at r.network.nodes) (is_switch_place plan) (in_place plan r.network.nodes before.steady.in_place) plan (seatless r.count) e due.0);
+    traces = refl;
     starts = refl;
     count = refl;
   }

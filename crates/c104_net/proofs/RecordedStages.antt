@@ -1,6 +1,5 @@
 -- Events over any kind of token, as they are seen over plain tokens; and what they keep of a run.
-use Rattle.std.proofs.Common.{◌≡◌, ◌∙◌, ◌+◌, ◌&&◌, ◌++◌, ℕ, Bool, true, false, List, [], ◌∷◌, Option, Some, None, Result, Ok, Err, if◌then◌else◌, map, option_map, slice_get, inl, refl, sym, ap, subst}
-use Rattle.std.proofs.lemmas.Option.{slice_get-map}
+use Rattle.std.proofs.Common.{◌≡◌, ◌∙◌, ◌+◌, ◌&&◌, ◌++◌, Bool, true, false, List, [], ◌∷◌, Option, Some, None, Result, Ok, Err, if◌then◌else◌, map, inl, refl, sym, ap, subst}
 use Rattle.c104_token.specs.declared.tokens.Token.{Token}
 use Rattle.c104_token.specs.declared.tokens.Token.TheVariants.{Byte}
 use Rattle.c104_token.specs.Kinds.{Kind, plain_kind}
@@ -10,10 +9,9 @@ use Rattle.c104_describe.specs.Plans.{IsPlan}
 use Rattle.c104_event.specs.declared.events.Event.{Event}
 use Rattle.c104_event.specs.declared.faults.EventFault.{EventFault}
 use Rattle.c104_event.specs.declared.faults.EventFault.TheVariants as fault
-use Rattle.c104_net.specs.declared.node.NodeOf.TheVariants as node
 use Rattle.c104_net.specs.declared.starts.NodeStart.{NodeStart}
-use Rattle.c104_net.specs.Balance.{is_switch, AreInPlace}
-use Rattle.c104_net.specs.Network.{Network, network_apply, network_of, network_step, event_fault, limit_fault, limited_node, outcome_if_possible, outcome_if_ready, outcome_within_limit}
+use Rattle.c104_net.specs.Balance.{AreInPlace}
+use Rattle.c104_net.specs.Network.{Network, network_apply, network_of, network_step, event_fault, event_limit, outcome_if_possible, outcome_if_ready, outcome_within_limit}
 use Rattle.c104_net.specs.NetRecords.{is_done, ticket_after, IsNetRecord, NetRecord}
 use Rattle.c104_net.specs.Nodes.{Node}
 use Rattle.c104_net.specs.RecordedNets.{KeepsTokens}
@@ -21,9 +19,8 @@ use Rattle.c104_net.specs.RecordedRuns.{record_apply, record_at}
 use Rattle.c104_net.specs.Runs.{IsRunRecord}
 use Rattle.c104_net.specs.Stages.{stage_after, stage_apply, stage_full, unless_full, Stage}
 use Rattle.c104_net.specs.Starts.{start_node}
-use Rattle.c104_net.specs.TracedRuns.{map_network, map_node}
-use Rattle.c104_net.specs.Traces.{event_deeds, is_switch_at, kept_of, noted_all, part, seatless}
-use Rattle.c104_net.proofs.NetRecording.{kept_same}
+use Rattle.c104_net.specs.TracedRuns.{map_network}
+use Rattle.c104_net.specs.Traces.{event_deeds, kept_of, noted_all, seatless}
 use Rattle.c104_net.proofs.RecordedRuns.{record_kept, record_plan}
 use Rattle.c104_net.proofs.RecordSteps.{ticket_left}
 use Rattle.c104_net.proofs.RoundJoins.{apply_plan}
@@ -47,7 +44,7 @@ module _ {A : Type 0} (kind : Kind A) (net : Network A) (e : Event) where
 
   ready_leaves : (made : Option (Reply × Network A)) → network_step kind net e ≡ made → is_done (outcome_if_ready kind net e made).0 ≡ false → (outcome_if_ready kind net e made).1 ≡ net
   ready_leaves None at undone = refl
-  ready_leaves (Some r) at undone = limit_leaves (limit_fault (limited_node net e) e) r at undone
+  ready_leaves (Some r) at undone = limit_leaves (event_limit net e) r at undone
 
   there_leaves : (fault : Option EventFault) → is_done (outcome_if_possible kind net e fault).0 ≡ false → (outcome_if_possible kind net e fault).1 ≡ net
   there_leaves None undone = ready_leaves (network_step kind net e) refl undone
@@ -64,14 +61,6 @@ module _ {A : Type 0} (kind : Kind A) where
   -- the stage over plain tokens
   abbrev pub plain_stage : Stage A → Stage Token
   plain_stage s = record { network = plain_network s.network; starts = s.starts; traces = s.traces; count = s.count }
-
-  switch_plain : (o : Option (Node A)) → part false is_switch (option_map (map_node kind.plain) o) ≡ part false is_switch o
-  switch_plain None = refl
-  switch_plain (Some (node.Switch s)) = refl
-  switch_plain (Some (node.Terminal t)) = refl
-
-  pub switches_plain : (nodes : List (Node A)) (k : ℕ) → is_switch_at (map (map_node kind.plain) nodes) k ≡ is_switch_at nodes k
-  switches_plain nodes k = ap (part false is_switch) (slice_get-map (map_node kind.plain) nodes k) ∙ switch_plain (slice_get nodes k)
 
 -- what is kept of a stage of a run over this kind of token
 pub record IsRecordedStage {A : Type 0} (kind : Kind A) (starts : List NodeStart) (s : Stage A) : Type 0 where
@@ -106,9 +95,7 @@ module _ {A : Type 0} (kind : Kind A) (tokens : KeepsTokens kind) where
             ((stage_after true s e (if refused then (Err fault.TraceFull, s.network) else due)).0, plain_stage kind (stage_after true s e (if refused then (Err fault.TraceFull, s.network) else due)).1)
             (stage_after true (plain_stage kind s) e (if refused then (Err fault.TraceFull, plain_network kind s.network) else seen due))
         by_full true = refl
-        by_full false =
-            ap (λ ds. (due.0, record { network = plain_network kind due.1; starts = s.starts; traces = noted_all true s.traces ds; count = ticket_after s.count (is_done due.0) }))
-            (kept_same (is_switch_at s.network.nodes) (is_switch_at (map (map_node kind.plain) s.network.nodes)) (λ k. sym (switches_plain kind s.network.nodes k)) s.network.plan (seatless s.count) e due.0)
+        by_full false = refl
 
   -- over plain tokens it is the record after the event
   pub record_plain : (starts : List NodeStart) (s : Stage A) (e : Event) → ◌≡◌ {A = Applied NetRecord} ((stage_apply kind true s e).0, record_at starts (plain_stage kind (stage_apply kind true s e).1)) (record_apply (record_at starts (plain_stage kind s)) e)
@@ -142,9 +129,9 @@ module _ {A : Type 0} (kind : Kind A) (tokens : KeepsTokens kind) where
     told_on : (d : Applied (Network A)) → d ≡ network_apply kind s.network e → (done : Bool) → is_done d.0 ≡ done → Told (left d)
     told_on d is_due false undone =
         let net : d.1 ≡ s.network = ap (λ (x : Applied (Network A)). x.1) is_due ∙ undone_left kind s.network e (ap (λ (x : Applied (Network A)). is_done x.0) (sym is_due) ∙ undone) in
-        let none = undone_deeds (is_switch_at s.network.nodes) s.network.plan (seatless s.count) e d.0 undone in
+        let none = undone_deeds s.network.plan (seatless s.count) e d.0 undone in
         let same : left d ≡ s =
-        ap (λ (n : Network A). record { network = n; starts = s.starts; traces = noted_all true s.traces (kept_of (event_deeds (is_switch_at s.network.nodes) s.network.plan (seatless s.count) e) d.0); count = ticket_after s.count (is_done d.0) }) net
+        ap (λ (n : Network A). record { network = n; starts = s.starts; traces = noted_all true s.traces (kept_of (event_deeds s.network.plan (seatless s.count) e) d.0); count = ticket_after s.count (is_done d.0) }) net
         ∙ ap (λ ds. record { network = s.network; starts = s.starts; traces = noted_all true s.traces ds; count = ticket_after s.count (is_done d.0) }) none
         ∙ ap (λ b. record { network = s.network; starts = s.starts; traces = s.traces; count = ticket_after s.count b }) undone in
         subst Told (sym same) (is.events, is.told)
@@ -156,8 +143,8 @@ module _ {A : Type 0} (kind : Kind A) (tokens : KeepsTokens kind) where
             let there : net ≡ network_of s.network.plan net.nodes = ap (λ p. network_of p net.nodes) plan in
             let due : ◌≡◌ {A = Applied (Network A)} (Ok r0, network_of s.network.plan net.nodes) (network_apply kind s.network e) = ap (λ n. (Ok r0, n)) (sym there) ∙ is_due in
             let one : s.count + 1 ≡ ticket_after s.count (is_ready r0) = ticket_left r r is_plan refl is.kept e ∙ ap (ticket_after s.count) (sym ready) in
-            let on = record_on kind s.network.plan seatless start s.network.nodes net.nodes s.traces (noted_all true s.traces (event_deeds (is_switch_at s.network.nodes) s.network.plan (seatless s.count) e r0)) s.count is.events false e r0 stage_in_place is.told (inl due) ready refl (seatless_order s.network.plan 0 (is.events ++ (e, r0) ∷ [])) in
-            (is.events ++ (e, r0) ∷ [], subst (λ c. IsRunRecord kind s.network.plan seatless start net.nodes (noted_all true s.traces (event_deeds (is_switch_at s.network.nodes) s.network.plan (seatless s.count) e r0)) c (is.events ++ (e, r0) ∷ [])) one on)
+            let on = record_on kind s.network.plan seatless start s.network.nodes net.nodes s.traces (noted_all true s.traces (event_deeds s.network.plan (seatless s.count) e r0)) s.count is.events false e r0 stage_in_place is.told (inl due) ready refl (seatless_order s.network.plan 0 (is.events ++ (e, r0) ∷ [])) in
+            (is.events ++ (e, r0) ∷ [], subst (λ c. IsRunRecord kind s.network.plan seatless start net.nodes (noted_all true s.traces (event_deeds s.network.plan (seatless s.count) e r0)) c (is.events ++ (e, r0) ∷ [])) one on)
         by_answer (Err f) net is_due ready = cc
 
     by_full : (refused : Bool) → Told (left (if refused then (Err fault.TraceFull, s.network) else network_apply kind s.network e))

@@ -1,20 +1,18 @@
 -- A run that stops at the first fault, by a prefix of its events, and what it keeps; and what leaves a
 -- network as it was.
-use Rattle.std.proofs.Common.{true, false, ℕ, ◌≡◌, List, [], ◌∷◌, ◌++◌, Result, Ok, Err, IsErr, IsErrAnd, Option, Some, None, refl, sym, ap, ◌∙◌, subst, inl, inr}
+use Rattle.std.proofs.Common.{true, false, ◌≡◌, List, [], ◌∷◌, ◌++◌, Result, Ok, Err, IsErr, IsErrAnd, Option, Some, None, refl, sym, ap, ◌∙◌, subst, inl, inr}
 use Rattle.c104_token.specs.Kinds.{Kind}
 use Rattle.c104_switch.specs.Actions.{Reply}
+use Rattle.c104_switch.specs.declared.actions.ReplyOf.{ReplyOf}
 use Rattle.c104_switch.specs.declared.actions.ReplyOf.TheVariants as reply
-use Rattle.c104_link.specs.Steps.{◌>>=◌, step_at, yield_step_at}
-use Rattle.c104_describe.specs.declared.ports.Port.{Port}
+use Rattle.c104_link.proofs.MadeSteps.{given}
 use Rattle.c104_event.specs.declared.events.Event.{Event}
-use Rattle.c104_event.specs.declared.events.Event.TheVariants as event
 use Rattle.c104_event.specs.declared.faults.EventFault.{EventFault}
 use Rattle.c104_event.specs.declared.faults.EventFault.TheVariants as fault
-use Rattle.c104_net.specs.Nodes.{Node, node_input, node_claim, node_control, node_send, node_drain}
-use Rattle.c104_net.specs.Wires.{nodes_cross, nodes_credit}
-use Rattle.c104_describe.specs.Wiring.{peer}
-use Rattle.c104_net.specs.Ends.{end_of}
-use Rattle.c104_net.specs.Network.{AnswersEvent, Network, network_apply, done_step, event_fault, outcome_if_ready, outcome_if_possible, limit_fault, limited_node, token_step, control_step, network_step, terminal_place, outcome_within_limit}
+use Rattle.c104_net.proofs.ActSteps.{step_ready}
+use Rattle.c104_net.specs.Acts.{plain_reply}
+use Rattle.c104_net.specs.EventActs.{acts_step, event_acts}
+use Rattle.c104_net.specs.Network.{AnswersEvent, Network, event_fault, event_limit, network_apply, network_step, outcome_if_possible, outcome_if_ready, outcome_within_limit, with_nodes}
 use Rattle.c104_net.specs.NetRecords.{is_done}
 use Rattle.c104_net.specs.EventRuns.{run_events, unless_fault, Answers, EventsEnd, Outcome}
 use Rattle.c104_switch.specs.Actions.{is_ready}
@@ -121,30 +119,17 @@ module _ {A : Type 0} (kind : Kind A) where
   abbrev Replies : Option (Reply × Network A) → Type 0
   Replies made = (r : Reply × Network A) → made ≡ Some r → r.0 ≡ reply.NotReady → ⊥
 
-  done_replies : (net : Network A) (made : Option (List (Node A))) → Replies (done_step kind net made)
-  done_replies net None r made unready = cc
-  done_replies net (Some nodes) r made unready = let reply : reply.Done ≡ r.0 = cc in cc
-
-  moved_replies : (net : Network A) (made : Option (A × List (Node A))) → Replies (token_step kind net made)
-  moved_replies net None r made unready = cc
-  moved_replies net (Some m) r made unready = let reply : reply.Token (kind.plain m.0) ≡ r.0 = cc in cc
-
-  replied_replies : (net : Network A) (made : Option (List ℕ × List (Node A))) → Replies (control_step kind net made)
-  replied_replies net None r made unready = cc
-  replied_replies net (Some m) r made unready = let reply : reply.Control m.0 ≡ r.0 = cc in cc
-
-  wired_replies : (peer : Option Port) (made : Port → Option (Reply × Network A)) → ((q : Port) → Replies (made q)) → Replies (peer >>= made)
-  wired_replies None made each r was unready = cc
-  wired_replies (Some q) made each r was unready = each q r was unready
+  -- what is told of a reply that is one
+  plain_replies : (r : ReplyOf A) → is_ready r ≡ true → plain_reply kind r ≡ reply.NotReady → ⊥
+  plain_replies reply.Done ready unready = cc
+  plain_replies reply.NotReady ready unready = cc
+  plain_replies (reply.Token x) ready unready = cc
+  plain_replies (reply.Control bytes) ready unready = cc
 
   pub step_replies : (net : Network A) (e : Event) → Replies (network_step kind net e)
-  step_replies net (event.Cross p) = wired_replies (peer net.plan p) (λ q. token_step kind net (nodes_cross net.nodes (end_of net.plan p) (end_of net.plan q))) (λ q. moved_replies net (nodes_cross net.nodes (end_of net.plan p) (end_of net.plan q)))
-  step_replies net (event.Credit p) = wired_replies (peer net.plan p) (λ q. done_step kind net (nodes_credit net.nodes (end_of net.plan p) (end_of net.plan q))) (λ q. done_replies net (nodes_credit net.nodes (end_of net.plan p) (end_of net.plan q)))
-  step_replies net (event.Input s l word) = done_replies net (step_at net.nodes s (node_input kind l word))
-  step_replies net (event.Claim s i o) = done_replies net (step_at net.nodes s (node_claim i o))
-  step_replies net (event.Control s bytes) = replied_replies net (yield_step_at net.nodes s (node_control bytes))
-  step_replies net (event.Send t packet) = done_replies net (step_at net.nodes (terminal_place net.plan t) (node_send kind t packet))
-  step_replies net (event.Drain t) = moved_replies net (yield_step_at net.nodes (terminal_place net.plan t) node_drain)
+  step_replies net e r is unready = given (event_acts net.plan e) _ r is (λ acts known more. given (acts_step kind net.plan net.nodes acts) _ r more (λ made stepped last.
+      (let told : plain_reply kind made.0 ≡ r.0 = (let both : ◌≡◌ {A = Reply × Network A} (plain_reply kind made.0, with_nodes net made.1) r = cc in ap (λ (s : Reply × Network A). s.0) both) in
+      plain_replies made.0 (step_ready kind net.plan net.nodes acts made stepped) (told ∙ unready))))
 
   -- an event that isn't ready changes nothing
   abbrev Answered : Type 0
@@ -162,7 +147,7 @@ module _ {A : Type 0} (kind : Kind A) where
 
   ready_stays : (net after : Network A) (e : Event) (made : Option (Reply × Network A)) → Replies made → ◌≡◌ {A = Answered} (Ok reply.NotReady, after) (outcome_if_ready kind net e made) → after ≡ net
   ready_stays net after e None replies was = same_network _ _ was
-  ready_stays net after e (Some r) replies was = limit_stays net after (limit_fault (limited_node net e) e) r (replies r refl) was
+  ready_stays net after e (Some r) replies was = limit_stays net after (event_limit net e) r (replies r refl) was
 
   there_stays : (net after : Network A) (e : Event) (f : Option EventFault) → ◌≡◌ {A = Answered} (Ok reply.NotReady, after) (outcome_if_possible kind net e f) → after ≡ net
   there_stays net after e None was = ready_stays net after e (network_step kind net e) (step_replies net e) was

@@ -4,24 +4,27 @@ use Rattle.std.proofs.lemmas.Bool.Decides.{nat_tests}
 use Rattle.std.specs.Option.{option_map}
 use Rattle.c104_token.specs.Kinds.{Kind}
 use Rattle.c104_switch.specs.Actions.{Reply, is_ready}
-use Rattle.c104_switch.specs.declared.actions.ReplyOf.TheVariants as reply
-use Rattle.c104_describe.specs.declared.ports.Port.{Port}
 use Rattle.c104_describe.specs.Plans.{Plan}
-use Rattle.c104_describe.specs.Wiring.{peer}
 use Rattle.c104_event.specs.declared.events.Event.{Event}
-use Rattle.c104_event.specs.declared.events.Event.TheVariants as event
 use Rattle.c104_event.specs.declared.faults.EventFault.{EventFault}
 use Rattle.c104_net.specs.declared.acts.Entry.{Entry}
 use Rattle.c104_net.specs.declared.stamps.Stamp.{Stamp}
 use Rattle.c104_net.specs.declared.node.NodeOf.TheVariants.{Switch, Terminal}
 use Rattle.c104_net.specs.Balance.{is_switch, AreInPlace}
-use Rattle.c104_net.specs.Ends.{end_of}
 use Rattle.c104_net.specs.Nodes.{Node}
 use Rattle.c104_net.specs.EventPlaces.{event_place}
 use Rattle.c104_net.specs.Network.{Network, network_apply, network_of, AnswersWith}
-use Rattle.c104_net.specs.Traces.{Deed, event_deeds, crossing_deeds, crediting_deeds, is_switch_at, is_switch_place, kept_of, noted_all, noted_at, part, seatless}
+use Rattle.c104_net.specs.Traces.{Deed, event_deeds, kept_of, noted_all, noted_at, seatless, part}
 use Rattle.c104_net.specs.Runs.{AreBehind, AreInOrder, IsBefore, IsDoneRun, IsRunRecord, at_node, run_deeds}
 use Rattle.c104_net.proofs.Crossing.{get_set_same, get_set_other}
+
+-- whether there is a switch at a place
+abbrev is_switch_at : {A : Type 0} → List (Node A) → ℕ → Bool
+is_switch_at nodes k = part false is_switch (slice_get nodes k)
+
+-- whether a plan has a switch at a place: the switches stand first
+abbrev pub is_switch_place : Plan → ℕ → Bool
+is_switch_place plan k = nat_lt k (length plan.switches)
 
 -- where each node stands at its place, the plan tells which are switches
 by_counts : {A : Type 0} (a b : ℕ) (nodes : List (Node A)) → map is_switch nodes ≡ replicate a true ++ replicate b false → (k : ℕ) → is_switch_at nodes k ≡ nat_lt k a
@@ -38,28 +41,6 @@ by_counts (suc a) b (Terminal t ∷ nodes) are k = cc
 
 pub in_place : {A : Type 0} (plan : Plan) (nodes : List (Node A)) → AreInPlace plan nodes → (k : ℕ) → is_switch_at nodes k ≡ is_switch_place plan k
 in_place plan nodes are k = by_counts (length plan.switches) (length plan.terminals) nodes are k
-
--- the entries of an event, by which nodes are switches
-module _ (f g : ℕ → Bool) (same : (k : ℕ) → f k ≡ g k) (plan : Plan) (stamp : Stamp) where
-  crossing_same : (p : Port) (r : Reply) (o : Option Port) → part [] (λ q. crossing_deeds f stamp (end_of plan p) (end_of plan q) r) o ≡ part [] (λ q. crossing_deeds g stamp (end_of plan p) (end_of plan q) r) o
-  crossing_same p r None = refl
-  crossing_same p reply.Done (Some q) = refl
-  crossing_same p reply.NotReady (Some q) = refl
-  crossing_same p (reply.Token x) (Some q) = rw (same (end_of plan p).node, same (end_of plan q).node) refl
-  crossing_same p (reply.Control bytes) (Some q) = refl
-
-  crediting_same : (p : Port) (r : Reply) (o : Option Port) → part [] (λ q. crediting_deeds f stamp (end_of plan p) (end_of plan q) r) o ≡ part [] (λ q. crediting_deeds g stamp (end_of plan p) (end_of plan q) r) o
-  crediting_same p r None = refl
-  crediting_same p r (Some q) = rw (same (end_of plan p).node, same (end_of plan q).node) refl
-
-  pub deeds_same : (e : Event) (r : Reply) → event_deeds f plan stamp e r ≡ event_deeds g plan stamp e r
-  deeds_same (event.Cross p) r = crossing_same p r (peer plan p)
-  deeds_same (event.Credit p) r = crediting_same p r (peer plan p)
-  deeds_same (event.Input s l word) r = refl
-  deeds_same (event.Claim s i o) r = refl
-  deeds_same (event.Control s bytes) r = refl
-  deeds_same (event.Send t packet) r = refl
-  deeds_same (event.Drain t) r = refl
 
 -- an entry that joins a trace is seen at its place alone
 noted_one : (traces : List (List Entry)) (j k : ℕ) (e : Entry) → slice_get (noted_at true traces j e) k ≡ option_map (λ t. t ++ at_node k ((j, e) ∷ [])) (slice_get traces k)
@@ -98,13 +79,13 @@ noted_parts (d ∷ ds) traces k = noted_parts ds (noted_at true traces d.0 d.1) 
     joined None = refl
     joined (Some t) = ap Some (append_assoc t (at_node k (d ∷ [])) (at_node k ds) ∙ ap (λ ts. t ++ ts) (sym (at_append k (d ∷ []) ds)))
 
-deeds_append : (plan : Plan) (stamps : ℕ → Stamp) (n : ℕ) (events : List (Event × Reply)) (e : Event) (r : Reply) → run_deeds plan stamps n (events ++ (e, r) ∷ []) ≡ run_deeds plan stamps n events ++ event_deeds (is_switch_place plan) plan (stamps (n + length events)) e r
-deeds_append plan stamps n [] e r = append-nil _ ∙ ap (λ t. event_deeds (is_switch_place plan) plan (stamps t) e r) (let same : n ≡ n + 0 = omega arith in same)
+deeds_append : (plan : Plan) (stamps : ℕ → Stamp) (n : ℕ) (events : List (Event × Reply)) (e : Event) (r : Reply) → run_deeds plan stamps n (events ++ (e, r) ∷ []) ≡ run_deeds plan stamps n events ++ event_deeds plan (stamps (n + length events)) e r
+deeds_append plan stamps n [] e r = append-nil _ ∙ ap (λ t. event_deeds plan (stamps t) e r) (let same : n ≡ n + 0 = omega arith in same)
 deeds_append plan stamps n (d ∷ events) e r =
-    let here : List Deed = event_deeds (is_switch_place plan) plan (stamps n) d.0 d.1 in
+    let here : List Deed = event_deeds plan (stamps n) d.0 d.1 in
     let further : suc n + length events ≡ n + suc (length events) = omega arith in
-    ap (λ ds. here ++ ds) (deeds_append plan stamps (suc n) events e r ∙ ap (λ t. run_deeds plan stamps (suc n) events ++ event_deeds (is_switch_place plan) plan (stamps t) e r) further)
-    ∙ sym (append_assoc here (run_deeds plan stamps (suc n) events) (event_deeds (is_switch_place plan) plan (stamps (n + suc (length events))) e r))
+    ap (λ ds. here ++ ds) (deeds_append plan stamps (suc n) events e r ∙ ap (λ t. run_deeds plan stamps (suc n) events ++ event_deeds plan (stamps t) e r) further)
+    ∙ sym (append_assoc here (run_deeds plan stamps (suc n) events) (event_deeds plan (stamps (n + suc (length events))) e r))
 
 -- where each number is a ticket, events stand in the order of their tickets
 seatless_behind : (plan : Plan) (ticket place n : ℕ) (events : List (Event × Reply)) → ticket < n → AreBehind plan seatless ticket place n events
@@ -144,18 +125,17 @@ module _ {A : Type 0} (kind : Kind A) where
   -- the record of a run goes on by an event that was done, with the stamp of its number, where this stands behind all
   pub record_on : (plan : Plan) (stamps : ℕ → Stamp) (start nodes after : List (Node A)) (traces more : List (List Entry)) (count : ℕ) (events : List (Event × Reply)) (full : Bool) (e : Event) (r : Reply) →
       AreInPlace plan nodes → IsRunRecord kind plan stamps start nodes traces count events → AnswersWith kind full (network_of plan nodes) e (Ok r) (network_of plan after) → is_ready r ≡ true →
-      more ≡ noted_all true traces (event_deeds (is_switch_at nodes) plan (stamps count) e r) →
+      more ≡ noted_all true traces (event_deeds plan (stamps count) e r) →
       AreInOrder plan stamps 0 (events ++ (e, r) ∷ []) →
       IsRunRecord kind plan stamps start after more (count + 1) (events ++ (e, r) ∷ [])
   record_on plan stamps start nodes after traces more count events full e r are before answer ready noted ordered =
       let due : ◌≡◌ {A = Result Reply EventFault × Network A} (Ok r, network_of plan after) (network_apply kind (network_of plan nodes) e) = elim answer [ inl is ↦ is | inr refused ↦ absurd (cc refused.0) ] in
-      let new : List Deed = event_deeds (is_switch_place plan) plan (stamps count) e r in
-      let deeds : event_deeds (is_switch_at nodes) plan (stamps count) e r ≡ new = deeds_same (is_switch_at nodes) (is_switch_place plan) (in_place plan nodes are) plan (stamps count) e r in
-      let all : run_deeds plan stamps 0 (events ++ (e, r) ∷ []) ≡ run_deeds plan stamps 0 events ++ new = deeds_append plan stamps 0 events e r ∙ ap (λ t. run_deeds plan stamps 0 events ++ event_deeds (is_switch_place plan) plan (stamps t) e r) (let same : 0 + length events ≡ count = omega (arith, before.counted) in same) in
+      let new : List Deed = event_deeds plan (stamps count) e r in
+      let all : run_deeds plan stamps 0 (events ++ (e, r) ∷ []) ≡ run_deeds plan stamps 0 events ++ new = deeds_append plan stamps 0 events e r ∙ ap (λ t. run_deeds plan stamps 0 events ++ event_deeds plan (stamps t) e r) (let same : 0 + length events ≡ count = omega (arith, before.counted) in same) in
       record {
         run = done_append (network_of plan start) (network_of plan nodes) (network_of plan after) events e r before.run due ready;
         told = λ k.
-            ap (λ ts. slice_get ts k) (noted ∙ ap (noted_all true traces) deeds) ∙ noted_parts new traces k ∙ ap (option_map (λ t. t ++ at_node k new)) (before.told k)
+            ap (λ ts. slice_get ts k) noted ∙ noted_parts new traces k ∙ ap (option_map (λ t. t ++ at_node k new)) (before.told k)
             ∙ grown k (run_deeds plan stamps 0 events) new (run_deeds plan stamps 0 (events ++ (e, r) ∷ [])) all (slice_get start k);
         counted = let one : length (events ++ (e, r) ∷ []) ≡ length events + 1 = length-append events ((e, r) ∷ []) in omega (arith, one, before.counted);
         ordered = ordered;
@@ -168,8 +148,8 @@ module _ {A : Type 0} (kind : Kind A) where
   -- the same, whatever was answered
   pub record_result : (plan : Plan) (start nodes after : List (Node A)) (traces more : List (List Entry)) (count : ℕ) (events : List (Event × Reply)) (full keeps : Bool) (e : Event) (answer : Result Reply EventFault) →
       keeps ≡ true → AreInPlace plan nodes → IsRunRecord kind plan seatless start nodes traces count events → AnswersWith kind full (network_of plan nodes) e answer (network_of plan after) →
-      more ≡ noted_all keeps traces (kept_of (event_deeds (is_switch_at nodes) plan (seatless count) e) answer) →
+      more ≡ noted_all keeps traces (kept_of (event_deeds plan (seatless count) e) answer) →
       IfOk answer (λ r. is_ready r ≡ true → IsRunRecord kind plan seatless start after more (count + 1) (events ++ (e, r) ∷ []))
   record_result plan start nodes after traces more count events full keeps e (Ok r) keep are before answer noted =
-      λ ready. record_on plan seatless start nodes after traces more count events full e r are before answer ready (noted ∙ ap (λ b. noted_all b traces (event_deeds (is_switch_at nodes) plan (seatless count) e r)) keep) (seatless_order plan 0 (events ++ (e, r) ∷ []))
+      λ ready. record_on plan seatless start nodes after traces more count events full e r are before answer ready (noted ∙ ap (λ b. noted_all b traces (event_deeds plan (seatless count) e r)) keep) (seatless_order plan 0 (events ++ (e, r) ∷ []))
   record_result plan start nodes after traces more count events full keeps e (Err f) keep are before answer noted = tt

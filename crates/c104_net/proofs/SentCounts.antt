@@ -19,6 +19,8 @@ use Rattle.c104_switch.specs.Claims as claims
 use Rattle.c104_switch.specs.Control as controls
 use Rattle.c104_describe.specs.Plans.{Plan}
 use Rattle.c104_describe.specs.Wiring.{peer}
+use Rattle.c104_describe.specs.declared.ports.Port.{Port}
+use Rattle.c104_link.specs.Steps.{◌>>=◌}
 use Rattle.c104_event.specs.declared.events.Event.{Event}
 use Rattle.c104_event.specs.declared.events.Event.TheVariants as event
 use Rattle.c104_net.specs.declared.acts.ActOf.{ActOf}
@@ -28,16 +30,19 @@ use Rattle.c104_net.specs.declared.acts.Entry.{Entry}
 use Rattle.c104_net.specs.declared.node.NodeOf.TheVariants.{Switch, Terminal}
 use Rattle.c104_net.specs.declared.starts.NodeStart.{NodeStart}
 use Rattle.c104_net.specs.declared.starts.NodeStart.TheVariants as start
-use Rattle.c104_net.specs.Ends.{end_of}
-use Rattle.c104_net.specs.Network.{Network, network_of, network_step, terminal_place}
+use Rattle.c104_net.specs.Network.{Network, network_of, network_step, terminal_place, told_step}
 use Rattle.c104_net.specs.NetRecords.{IsWithinLimit}
 use Rattle.c104_net.specs.Nodes.{Node, node_claim, node_control, node_credit_in, node_credit_out, node_drain, node_enter, node_input, node_leave, node_send}
 use Rattle.c104_net.specs.Runs.{at_node}
 use Rattle.c104_net.specs.Starts.{start_node}
 use Rattle.c104_net.specs.Terminals as terminal
-use Rattle.c104_net.specs.Traces.{entry_of, event_deeds, is_switch_place, lone_deed, trace_limit, Deed}
-use Rattle.c104_net.specs.Wires.{nodes_credit, nodes_cross}
+use Rattle.c104_net.specs.Traces.{entry_of, event_deeds, lone_deed, trace_limit, Deed}
 use Rattle.c104_net.proofs.Crossing.{get_set_other, get_set_same}
+use Rattle.c104_net.proofs.EventSteps.{claim_named, control_named, drain_named, input_named, send_named}
+use Rattle.c104_net.proofs.JointKeeps.{crossing_keeps}
+use Rattle.c104_net.specs.EventActs.{acts_step, crossing_acts}
+use Rattle.c104_net.specs.declared.crossings.Crossing.{Crossing}
+use Rattle.c104_net.specs.declared.crossings.Crossing.TheVariants as crossing
 
 module _ {A : Type 0} where
   abbrev pub sent_count : Node A → ℕ
@@ -122,15 +127,6 @@ module _ {A : Type 0} where
   yield_kept : {Y : Type 0} (nodes : List (Node A)) (i : ℕ) (f : Node A → Option (Y × Node A)) (r : Y × List (Node A)) → yield_step_at nodes i f ≡ Some r → ((n : Node A) (y : Y × Node A) → f n ≡ Some y → sent_count y.1 ≡ sent_count n) → counts r.1 ≡ counts nodes
   yield_kept {Y} nodes i f r is keeps = from_place_made nodes i f r is (λ n y here made set. ap (λ (z : Y × List (Node A)). counts z.1) (sym set) ∙ set_counts nodes i n y.1 here (keeps n y made))
 
-  cross_kept : (nodes : List (Node A)) (k l j i : ℕ) (v : A × List (Node A)) → nodes_cross nodes (record { node = k; link = l }) (record { node = j; link = i }) ≡ Some v → counts v.1 ≡ counts nodes
-  cross_kept nodes k l j i v is = given (yield_step_at nodes k (node_leave l)) _ v is (λ r left more. given (step_at r.1 j (node_enter r.0 i)) _ v more (λ after entered last.
-      let same : ◌≡◌ {A = A × List (Node A)} (r.0, after) v = cc in
-      ap (λ (z : A × List (Node A)). counts z.1) (sym same) ∙ step_kept r.1 j (node_enter r.0 i) after entered (enter_keeps r.0 i) ∙ yield_kept nodes k (node_leave l) r left (leave_keeps l)))
-
-  credit_kept : (nodes : List (Node A)) (k l j i : ℕ) (v : List (Node A)) → nodes_credit nodes (record { node = k; link = l }) (record { node = j; link = i }) ≡ Some v → counts v ≡ counts nodes
-  credit_kept nodes k l j i v is = given (step_at nodes k (node_credit_out l)) _ v is (λ mid left more.
-      step_kept mid j (node_credit_in i) v more (credit_in_keeps i) ∙ step_kept nodes k (node_credit_out l) mid left (credit_out_keeps l))
-
 -- what an event does to the numbers
 abbrev pub AddsSent : Plan → Event → List ℕ → List ℕ → Type 0
 AddsSent plan (event.Cross p) before after = after ≡ before
@@ -147,18 +143,21 @@ module _ {A : Type 0} (kind : Kind A) (plan : Plan) (nodes : List (Node A)) wher
       let same : ◌≡◌ {A = Reply × Network A} (told, network_of plan after) r = cc in
       subst (λ (r : Reply × Network A). P (counts r.1.nodes)) same holds
 
+  crossing_counts : (c : Crossing) (p : Port) (r : Reply × Network A) → (crossing_acts c p (peer plan p) >>= (λ acts. told_step kind (network_of plan nodes) (acts_step kind plan nodes acts))) ≡ Some r → counts r.1.nodes ≡ counts nodes
+  crossing_counts c p r is =
+      crossing_keeps kind (λ n m. sent_count m ≡ sent_count n) leave_keeps enter_keeps credit_out_keeps credit_in_keeps (λ ns. counts ns ≡ counts nodes) (λ ns k n m here keeps same. set_counts ns k n m here keeps ∙ same)
+      plan nodes c p (peer plan p) r is refl
+
   pub step_counts : (e : Event) (r : Reply × Network A) → network_step kind (network_of plan nodes) e ≡ Some r → AddsSent plan e (counts nodes) (counts r.1.nodes)
-  step_counts (event.Cross p) r is = given (peer plan p) _ r is (λ q wired more. given (nodes_cross nodes (end_of plan p) (end_of plan q)) _ r more (λ v made last.
-      by_last (reply.Token (kind.plain v.0)) v.1 r (λ cs. cs ≡ counts nodes) last (cross_kept nodes (end_of plan p).node (end_of plan p).link (end_of plan q).node (end_of plan q).link v made)))
-  step_counts (event.Credit p) r is = given (peer plan p) _ r is (λ q wired more. given (nodes_credit nodes (end_of plan p) (end_of plan q)) _ r more (λ v made last.
-      by_last reply.Done v r (λ cs. cs ≡ counts nodes) last (credit_kept nodes (end_of plan p).node (end_of plan p).link (end_of plan q).node (end_of plan q).link v made)))
-  step_counts (event.Input s l word) r is = given (step_at nodes s (node_input kind l word)) _ r is (λ v made last.
+  step_counts (event.Cross p) r is = crossing_counts crossing.Token p r is
+  step_counts (event.Credit p) r is = crossing_counts crossing.Grant p r is
+  step_counts (event.Input s l word) r is = given (step_at nodes s (node_input kind l word)) _ r (input_named kind (network_of plan nodes) s l word ∙ is) (λ v made last.
       by_last reply.Done v r (λ cs. cs ≡ counts nodes) last (step_kept nodes s (node_input kind l word) v made (input_keeps kind l word)))
-  step_counts (event.Claim s i o) r is = given (step_at nodes s (node_claim i o)) _ r is (λ v made last.
+  step_counts (event.Claim s i o) r is = given (step_at nodes s (node_claim i o)) _ r (claim_named kind (network_of plan nodes) s i o ∙ is) (λ v made last.
       by_last reply.Done v r (λ cs. cs ≡ counts nodes) last (step_kept nodes s (node_claim i o) v made (claim_keeps i o)))
-  step_counts (event.Control s bytes) r is = given (yield_step_at nodes s (node_control bytes)) _ r is (λ v made last.
+  step_counts (event.Control s bytes) r is = given (yield_step_at nodes s (node_control bytes)) _ r (control_named kind (network_of plan nodes) s bytes ∙ is) (λ v made last.
       by_last (reply.Control v.0) v.1 r (λ cs. cs ≡ counts nodes) last (yield_kept nodes s (node_control bytes) v made (control_keeps bytes)))
-  step_counts (event.Send t packet) r is = given (step_at nodes (terminal_place plan t) (node_send kind t packet)) _ r is (λ v made last.
+  step_counts (event.Send t packet) r is = given (step_at nodes (terminal_place plan t) (node_send kind t packet)) _ r (send_named kind (network_of plan nodes) t packet ∙ is) (λ v made last.
       by_last reply.Done v r (λ cs. AddsSent plan (event.Send t packet) (counts nodes) cs) last (at_place_made nodes (terminal_place plan t) (node_send kind t packet) v made (λ n m here step set. (
         sent_count n,
         slice_get-map sent_count nodes (terminal_place plan t) ∙ ap (option_map sent_count) here,
@@ -167,7 +166,7 @@ module _ {A : Type 0} (kind : Kind A) (plan : Plan) (nodes : List (Node A)) wher
     where
       set_there : (k : ℕ) (m : Node A) → counts (slice_set nodes k m) ≡ slice_set (counts nodes) k (sent_count m)
       set_there k m = rw (map-set sent_count nodes k m) refl
-  step_counts (event.Drain t) r is = given (yield_step_at nodes (terminal_place plan t) node_drain) _ r is (λ v made last.
+  step_counts (event.Drain t) r is = given (yield_step_at nodes (terminal_place plan t) node_drain) _ r (drain_named kind (network_of plan nodes) t ∙ is) (λ v made last.
       by_last (reply.Token (kind.plain v.0)) v.1 r (λ cs. cs ≡ counts nodes) last (yield_kept nodes (terminal_place plan t) node_drain v made drain_keeps))
 
 -- as many packets as were sent, and as many entries as are to come, are within the limit of a trace
@@ -191,13 +190,13 @@ later : (cs after : List ℕ) (ds rest : List Deed) → after ≡ cs → IsBound
 later cs after ds rest same bound = λ k c at. (let one = bound k c (ap (λ xs. slice_get xs k) (sym same) ∙ at) in let more = at_more k ds rest in omega (arith, one, more))
 
 -- a packet that is sent has a number below the limit
-pub low_number : (plan : Plan) (t : ℕ) (packet : Packet) (stamp : Stamp) (r : Reply) (cs : List ℕ) (rest : List Deed) (c : ℕ) → is_ready r ≡ true → IsBounded cs (event_deeds (is_switch_place plan) plan stamp (event.Send t packet) r ++ rest) → slice_get cs (terminal_place plan t) ≡ Some c → c + suc (length (at_node (terminal_place plan t) rest)) ≤ trace_limit
+pub low_number : (plan : Plan) (t : ℕ) (packet : Packet) (stamp : Stamp) (r : Reply) (cs : List ℕ) (rest : List Deed) (c : ℕ) → is_ready r ≡ true → IsBounded cs (event_deeds plan stamp (event.Send t packet) r ++ rest) → slice_get cs (terminal_place plan t) ≡ Some c → c + suc (length (at_node (terminal_place plan t) rest)) ≤ trace_limit
 low_number plan t packet stamp r cs rest c ready bound at =
     let one = bound (terminal_place plan t) c at in
     subst (λ (es : List Entry). c + length es ≤ trace_limit) (lone_first stamp (terminal_place plan t) (act.Send packet) r rest ready) one
 
 -- an event that was done keeps them within the limit
-pub bounded_on : (plan : Plan) (e : Event) (stamp : Stamp) (r : Reply) (cs after : List ℕ) (rest : List Deed) → is_ready r ≡ true → AddsSent plan e cs after → IsBounded cs (event_deeds (is_switch_place plan) plan stamp e r ++ rest) → IsBounded after rest
+pub bounded_on : (plan : Plan) (e : Event) (stamp : Stamp) (r : Reply) (cs after : List ℕ) (rest : List Deed) → is_ready r ≡ true → AddsSent plan e cs after → IsBounded cs (event_deeds plan stamp e r ++ rest) → IsBounded after rest
 bounded_on plan (event.Cross p) stamp r cs after rest ready adds bound = later cs after _ rest adds bound
 bounded_on plan (event.Credit p) stamp r cs after rest ready adds bound = later cs after _ rest adds bound
 bounded_on plan (event.Input s l word) stamp r cs after rest ready adds bound = later cs after _ rest adds bound
@@ -215,7 +214,7 @@ bounded_on plan (event.Send t packet) stamp r cs after rest ready adds bound = �
       | inr other ↦ (
           let before : slice_get cs k ≡ Some c = sym (get_set_other cs (terminal_place plan t) k (suc adds.0) other) ∙ ap (λ xs. slice_get xs k) (sym adds.2) ∙ at in
           let one = bound k c before in
-          let more = at_more k (event_deeds (is_switch_place plan) plan stamp (event.Send t packet) r) rest in
+          let more = at_more k (event_deeds plan stamp (event.Send t packet) r) rest in
           omega (arith, one, more))
     ]
 

@@ -6,6 +6,7 @@ use Rattle.c104_event.specs.declared.events.Event.{Event}
 use Rattle.c104_link.proofs.MadeSteps.{from_place_made, given}
 use Rattle.c104_link.specs.Steps.{step_at, yield_step_at}
 use Rattle.c104_net.proofs.CommandEvents.{SameSides, read_sides}
+use Rattle.c104_net.proofs.EventSteps.{control_named, send_named}
 use Rattle.c104_net.proofs.RunSteps.{done_step_is}
 use Rattle.c104_net.proofs.WorkEvents.{AreStarted, started_at, started_set, event_started}
 use Rattle.c104_net.specs.Network.{Network, network_of, network_step, terminal_place}
@@ -46,10 +47,10 @@ module _ {A : Type 0} (kind : Kind A) (plan : Plan) (nodes : List (Node A)) (sta
   step_started routes (event.Input s l word) r net' may is = event_started kind plan nodes started (event.Input s l word) r net' tt is
   step_started routes (event.Claim s i o) r net' may is = event_started kind plan nodes started (event.Claim s i o) r net' tt is
   step_started routes (event.Drain t) r net' may is = event_started kind plan nodes started (event.Drain t) r net' tt is
-  step_started routes (event.Send t p) r net' may is = given (step_at nodes (terminal_place plan t) (node_send kind t p)) _ (r, net') is (λ after ea e2.
+  step_started routes (event.Send t p) r net' may is = given (step_at nodes (terminal_place plan t) (node_send kind t p)) _ (r, net') (send_named kind (network_of plan nodes) t p ∙ is) (λ after ea e2.
       (let all = started_at nodes (terminal_place plan t) (node_send kind t p) after ea (send_started kind t p) started in
       let d : network_of plan after ≡ net' = (some_pair_parts reply.Done r (network_of plan after) net' e2).1 in subst IsStarted d all))
-  step_started routes (event.Control s bytes) r net' may is = given (yield_step_at nodes s (node_control bytes)) _ (r, net') is (λ v ev e2.
+  step_started routes (event.Control s bytes) r net' may is = given (yield_step_at nodes s (node_control bytes)) _ (r, net') (control_named kind (network_of plan nodes) s bytes ∙ is) (λ v ev e2.
       from_place_made nodes s (node_control bytes) v ev (λ n y en ey hv. by_node n y en ey v hv e2))
     where
       by_node : (n : Node A) (y : List ℕ × Node A) → slice_get nodes s ≡ Some n → node_control bytes n ≡ Some y → (v : List ℕ × List (Node A)) → ◌≡◌ {A = List ℕ × List (Node A)} (y.0, slice_set nodes s y.1) v → ◌≡◌ {A = Option (Reply × Network A)} (Some (reply.Control v.0, network_of plan v.1)) (Some (r, net')) → IsStarted net'

@@ -1,7 +1,7 @@
 -- A round is walked part by part: each of its events has a reason why it isn't ready exactly where the network stands
 -- still.
 use Rattle.c104_describe.proofs.RangeLists.{all_of_each}
-use Rattle.c104_describe.specs.Plans.{Plan}
+use Rattle.c104_describe.specs.Plans.{IsPlan, Plan}
 use Rattle.c104_describe.specs.declared.ports.Port.{Port}
 use Rattle.c104_event.specs.declared.events.Event.{Event}
 use Rattle.c104_event.specs.declared.faults.EventFault.{EventFault}
@@ -126,7 +126,7 @@ module _ (p : Event → Bool) where
       regroup false b c d e = refl
 
 -- a network stands still exactly where each event of a round has a reason
-module _ {A : Type 0} (kind : Kind A) (net : Network A) (steady : IsSteady net) where
+module _ {A : Type 0} (kind : Kind A) (net : Network A) (is_plan : IsPlan net.plan) (steady : IsSteady net) where
   unready_is : (answer : Result Reply EventFault) → is_unready answer ≡ true → answer ≡ Ok reply.NotReady
   unready_is (Ok reply.Done) is = absurd (cc is)
   unready_is (Ok reply.NotReady) is = refl
@@ -135,10 +135,10 @@ module _ {A : Type 0} (kind : Kind A) (net : Network A) (steady : IsSteady net) 
   unready_is (Err f) is = absurd (cc is)
 
   reason_unready : (e : Event) → has_reason net e ≡ true → IsUnready kind net e
-  reason_unready e is = unready_is (network_apply kind net e).0 (sym (unready_answered kind net steady e) ∙ is)
+  reason_unready e is = unready_is (network_apply kind net e).0 (sym (unready_answered kind net is_plan steady e) ∙ is)
 
   unready_reason : (e : Event) → IsUnready kind net e → has_reason net e ≡ true
-  unready_reason e is = unready_answered kind net steady e ∙ ap is_unready is
+  unready_reason e is = unready_answered kind net is_plan steady e ∙ ap is_unready is
 
   each_unready : (es : List Event) → have_reasons net es ≡ true → AllByRecursion (IsUnready kind net) es
   each_unready [] is = tt

@@ -130,7 +130,7 @@ module _ {A : Type 0} (kind : Kind A) (plan : Plan) (is_plan : IsPlan plan) (nod
   reason_of e is = by_why (network_why (network_of plan nodes) e) refl
     where
       by_why : (why : Option Reason) → network_why (network_of plan nodes) e ≡ why → (r : Reason) × IsEventReason (network_of plan nodes) e r
-      by_why None k = absurd (true≢false (sym (ap is_unready is) ∙ sym (unready_answered kind (network_of plan nodes) steady e) ∙ ap is_some k))
+      by_why None k = absurd (true≢false (sym (ap is_unready is) ∙ sym (unready_answered kind (network_of plan nodes) is_plan steady e) ∙ ap is_some k))
       by_why (Some r) k = (r, subst (λ o. IfSome o (IsEventReason (network_of plan nodes) e)) k (event_reason_holds (network_of plan nodes) e))
 
   -- a switch's link with a wire, and its two sides

@@ -6,8 +6,6 @@ use Rattle.c104_link.specs.declared.outgoing.TheConstants.{CREDIT_LIMIT, OUTPUT_
 use Rattle.c104_net.specs.Nodes.{Node, node_credit_in, node_credit_out, node_drain, node_enter, node_leave}
 use Rattle.c104_net.specs.Terminals.{Terminal, terminal_credit_in, terminal_credit_out, terminal_drain, terminal_enter, terminal_leave}
 use Rattle.c104_net.specs.TracedRuns.{map_incoming, map_input, map_node, map_outgoing, map_switch, map_terminal}
-use Rattle.c104_net.specs.Wires.{nodes_credit, nodes_cross}
-use Rattle.c104_net.specs.declared.ends.End.{End}
 use Rattle.c104_switch.specs.Phases.{with_header}
 use Rattle.c104_switch.specs.Switch.{Switch, input_accept, input_grant, switch_credit_in, switch_credit_out, switch_enter, switch_leave}
 use Rattle.c104_switch.specs.declared.phase.Phase.{Phase}
@@ -104,14 +102,6 @@ module _ {A B : Type 0} (f : A → B) where
   pub credit_in_node_map : (l : ℕ) (n : Node A) → node_credit_in l (map_node f n) ≡ option_map (map_node f) (node_credit_in l n)
   credit_in_node_map l (node.Switch S) = bind_both (map_switch f) (map_node f) (switch_credit_in S l) _ _ _ (s_credit_in_map l S) (λ s. refl)
   credit_in_node_map l (node.Terminal T) = bind_both (map_terminal f) (map_node f) (terminal_credit_in T) _ _ _ (bind_both (map_outgoing f) (map_terminal f) (outgoing_credited T.output) _ _ _ (credited_map T.output) (λ q. refl)) (λ t. refl)
-
-  pub crossed_map : (nodes : List (Node A)) (from to : End) → nodes_cross (map (map_node f) nodes) from to ≡ option_map (λ (z : A × List (Node A)). (f z.0, map (map_node f) z.1)) (nodes_cross nodes from to)
-  crossed_map nodes from to = bind_both (λ (z : A × List (Node A)). (f z.0, map (map_node f) z.1)) _ (yield_step_at nodes from.node (node_leave from.link)) _ _ _ (from_map (map_node f) f nodes from.node (node_leave from.link) (node_leave from.link) (leave_node_map from.link)) (λ r.
-      bind_both (map (map_node f)) _ (step_at r.1 to.node (node_enter r.0 to.link)) _ _ _ (place_map (map_node f) r.1 to.node (node_enter r.0 to.link) (node_enter (f r.0) to.link) (enter_node_map r.0 to.link)) (λ z. refl))
-
-  pub credited_nodes_map : (nodes : List (Node A)) (from to : End) → nodes_credit (map (map_node f) nodes) from to ≡ option_map (map (map_node f)) (nodes_credit nodes from to)
-  credited_nodes_map nodes from to = bind_both (map (map_node f)) _ (step_at nodes from.node (node_credit_out from.link)) _ _ _ (place_map (map_node f) nodes from.node (node_credit_out from.link) (node_credit_out from.link) (credit_out_node_map from.link)) (λ mid.
-      place_map (map_node f) mid to.node (node_credit_in to.link) (node_credit_in to.link) (credit_in_node_map to.link))
 
   pub drained_map : (T : Terminal A) → terminal_drain (map_terminal f T) ≡ option_map (λ (z : A × Terminal A). (f z.0, map_terminal f z.1)) (terminal_drain T)
   drained_map T = bind_both f _ (slice_get T.input.items 0) _ _ _ (first_map T.input.items) (λ x. ap Some (rw (drop_map T.input.items, map-append f T.arrived (x ∷ [])) refl))

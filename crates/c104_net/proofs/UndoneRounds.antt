@@ -11,17 +11,22 @@ use Rattle.c104_net.proofs.PartRuns.{single, singles}
 use Rattle.c104_net.proofs.RoundLists.{links_passed}
 use Rattle.c104_net.proofs.RoundRuns.{Applied}
 use Rattle.c104_net.specs.DeadlockFreedom.{HasFullInbox, HasFullTrace, IsUndone, NothingDone}
-use Rattle.c104_net.specs.Ends.{end_of}
 use Rattle.c104_net.specs.NetRecords.{NetRecord, is_done, is_trace_full}
-use Rattle.c104_net.specs.Network.{Network, event_fault, inbox_limit, limit_fault, limited_node, link_fault, network_apply, network_step, node_fault, outcome_if_possible, outcome_if_ready, outcome_within_limit, terminal_place, wire_fault, wired_fault}
+use Rattle.c104_net.specs.Network.{Network, event_fault, event_limit, link_fault, network_apply, network_step, node_fault, outcome_if_possible, outcome_if_ready, outcome_within_limit, terminal_place, wire_fault, wired_fault}
 use Rattle.c104_net.specs.Nodes.{Node, arrived_tokens}
 use Rattle.c104_net.specs.RecordedRuns.{record_apply, record_stage}
 use Rattle.c104_net.specs.Rounds.{all_claims, all_drains, claims_of, is_wired, link_numbers, round, switch_claims, turn_at, wired_links, wired_ports, wired_terminals}
 use Rattle.c104_net.specs.Stages.{stage_full}
 use Rattle.c104_net.specs.Standstill.{IsUnready, StandsStill}
-use Rattle.c104_net.specs.Traces.{event_full, full_at, full_ends, part}
+use Rattle.c104_net.specs.EventActs.{Acts, act_limit, acts_limit, crossing_acts, event_acts, inbox_limit, port_place}
+use Rattle.c104_net.specs.declared.acts.ActOf.TheVariants as act
+use Rattle.c104_net.specs.declared.crossings.Crossing.{Crossing}
+use Rattle.c104_net.specs.declared.crossings.Crossing.TheVariants as crossing
+use Rattle.c104_link.specs.Steps.{◌>>=◌}
+use Rattle.c104_switch.specs.declared.actions.ActionOf.TheVariants as action
+use Rattle.c104_net.specs.Traces.{acts_full, event_full, full_at, part}
 use Rattle.c104_net.specs.declared.acts.Entry.{Entry}
-use Rattle.c104_switch.specs.Actions.{Reply}
+use Rattle.c104_switch.specs.Actions.{Action, Reply}
 use Rattle.c104_token.specs.Kinds.{plain_kind}
 use Rattle.c104_token.specs.declared.tokens.Token.{Token}
 use Rattle.std.specs.List.{AllByRecursion, flat_map, range_with_len}
@@ -54,18 +59,13 @@ module _ (net : NetRecord) where
       by_first true first all = full_trace j first
       by_first false first all = full_trace k all
 
-  ends_full : (p : Port) (o : Option Port) → part false (λ q. full_ends (map is_trace_full net.traces) (end_of plan p) (end_of plan q)) o ≡ true → HasFullTrace net
-  ends_full p None is = absurd (cc is)
-  ends_full p (Some q) is = either (end_of plan p).node (end_of plan q).node is
+  acts_trace : (o : Option (Acts Token)) → part false (λ (acts : Acts Token). acts_full plan (map is_trace_full net.traces) acts) o ≡ true → HasFullTrace net
+  acts_trace None is = absurd (cc is)
+  acts_trace (Some (Acts.Alone k a)) is = full_trace k is
+  acts_trace (Some (Acts.Joint p q c)) is = either (port_place plan p) (port_place plan q) is
 
   event_trace : (e : Event) → event_full plan (map is_trace_full net.traces) e ≡ true → HasFullTrace net
-  event_trace (event.Cross p) full = ends_full p (peer plan p) full
-  event_trace (event.Credit p) full = ends_full p (peer plan p) full
-  event_trace (event.Input s l word) full = full_trace s full
-  event_trace (event.Claim s i o) full = full_trace s full
-  event_trace (event.Control s bytes) full = full_trace s full
-  event_trace (event.Send t p) full = full_trace (terminal_place plan t) full
-  event_trace (event.Drain t) full = full_trace (terminal_place plan t) full
+  event_trace e full = acts_trace (event_acts plan e) full
 
   -- what hinders an event that isn't done: it isn't ready, or an inbox or a trace is full
   abbrev Hindered : Event → Type 0
@@ -75,15 +75,15 @@ module _ (net : NetRecord) where
   Due = Applied (Network Token)
 
   -- a fault of an event that is possible is that of its limit
-  limit_is : (e : Event) (o : Option (Reply × Network Token)) (f : EventFault) → (outcome_if_ready plain_kind net.network e o).0 ≡ Err f → limit_fault (limited_node net.network e) e ≡ Some f
+  limit_is : (e : Event) (o : Option (Reply × Network Token)) (f : EventFault) → (outcome_if_ready plain_kind net.network e o).0 ≡ Err f → event_limit net.network e ≡ Some f
   limit_is e None f is = absurd (cc is)
-  limit_is e (Some r) f is = by_limit (limit_fault (limited_node net.network e) e) is
+  limit_is e (Some r) f is = by_limit (event_limit net.network e) is
     where
       by_limit : (limit : Option EventFault) → (outcome_within_limit plain_kind net.network limit r).0 ≡ Err f → limit ≡ Some f
       by_limit None is = absurd (cc is)
       by_limit (Some g) is = cc
 
-  hindered : (e : Event) → event_fault plan e ≡ None → ((f : EventFault) → limit_fault (limited_node net.network e) e ≡ Some f → (record_apply net e).0 ≡ Err f → HasFullInbox net) → IsUndone net e → Hindered e
+  hindered : (e : Event) → event_fault plan e ≡ None → ((f : EventFault) → event_limit net.network e ≡ Some f → (record_apply net e).0 ≡ Err f → HasFullInbox net) → IsUndone net e → Hindered e
   hindered e possible limited undone = by_full (stage_full true (record_stage net) e) refl (is_done (network_apply plain_kind net.network e).0) refl undone (λ f. limited f)
     where
       by_answer : (answer : Result Reply EventFault) → (network_apply plain_kind net.network e).0 ≡ answer → is_done answer ≡ false → ((f : EventFault) → answer ≡ Err f → HasFullInbox net) → Hindered e
@@ -95,7 +95,7 @@ module _ (net : NetRecord) where
 
       by_full : (full : Bool) → stage_full true (record_stage net) e ≡ full → (done : Bool) → is_done (network_apply plain_kind net.network e).0 ≡ done →
           is_done (if◌then◌else◌ {A = Due} (full && done) (Err fault.TraceFull, net.network) (network_apply plain_kind net.network e)).0 ≡ false →
-          ((f : EventFault) → limit_fault (limited_node net.network e) e ≡ Some f → (if◌then◌else◌ {A = Due} (full && done) (Err fault.TraceFull, net.network) (network_apply plain_kind net.network e)).0 ≡ Err f → HasFullInbox net) → Hindered e
+          ((f : EventFault) → event_limit net.network e ≡ Some f → (if◌then◌else◌ {A = Due} (full && done) (Err fault.TraceFull, net.network) (network_apply plain_kind net.network e)).0 ≡ Err f → HasFullInbox net) → Hindered e
       by_full true full true done none limit = inr (inr (event_trace e full))
       by_full true full false done none limit = by_answer (network_apply plain_kind net.network e).0 refl done (λ f is. limit f (limit_is e (network_step plain_kind net.network e) f (ap (λ o. (outcome_if_possible plain_kind net.network e o).0) (sym possible) ∙ is)) is)
       by_full false full done is none limit = by_answer (network_apply plain_kind net.network e).0 refl none (λ f is. limit f (limit_is e (network_step plain_kind net.network e) f (ap (λ o. (outcome_if_possible plain_kind net.network e o).0) (sym possible) ∙ is)) is)
@@ -121,24 +121,31 @@ module _ (net : NetRecord) where
     abbrev May : Event → Type 0
     May e = IsUndone net e → Hindered e
 
+    none_limits : (c : Crossing) (p q : Port) → peer plan p ≡ Some q → (crossing_acts c p (peer plan p) >>= acts_limit net.network.nodes) ≡ None
+    none_limits c p q wire = ap (λ o. crossing_acts c p o >>= acts_limit net.network.nodes) wire
+
+    step_unlimited : (o : Option (Node Token)) (a : Action) → act_limit o (act.Step a) ≡ None
+    step_unlimited None a = refl
+    step_unlimited (Some n) a = refl
+
     credit_may : (p q : Port) → peer plan p ≡ Some q → May (event.Credit p)
-    credit_may p q wire = hindered (event.Credit p) (wired_possible p q wire) (λ f is told. no_limit f is)
+    credit_may p q wire = hindered (event.Credit p) (wired_possible p q wire) (λ f is told. no_limit f (sym (none_limits crossing.Grant p q wire) ∙ is))
 
     cross_may : (p q : Port) → peer plan p ≡ Some q → May (event.Cross p)
-    cross_may p q wire = hindered (event.Cross p) (wired_possible p q wire) (λ f is told. no_limit f is)
+    cross_may p q wire = hindered (event.Cross p) (wired_possible p q wire) (λ f is told. no_limit f (sym (none_limits crossing.Token p q wire) ∙ is))
 
     turn_may : (s l : ℕ) (q : Port) → peer plan (port.Switch s l) ≡ Some q → May (event.Input s l 0)
     turn_may s l q wire =
         let inside = switch_inside plan is_plan s l q wire in
-        hindered (event.Input s l 0) (below (length plan.switches) s (omega (arith, inside.0)) (link_fault l None) ∙ below_link l (omega (arith, inside.1)) None) (λ f is told. no_limit f is)
+        hindered (event.Input s l 0) (below (length plan.switches) s (omega (arith, inside.0)) (link_fault l None) ∙ below_link l (omega (arith, inside.1)) None) (λ f is told. no_limit f (sym (step_unlimited (slice_get net.network.nodes s) (action.Input l 0)) ∙ is))
 
     claim_may : (s i o : ℕ) → s < length plan.switches → i < 32 → o < 32 → May (event.Claim s i o)
-    claim_may s i o inside input output = hindered (event.Claim s i o) (below (length plan.switches) s inside (link_fault i (link_fault o None)) ∙ below_link i input (link_fault o None) ∙ below_link o output None) (λ f is told. no_limit f is)
+    claim_may s i o inside input output = hindered (event.Claim s i o) (below (length plan.switches) s inside (link_fault i (link_fault o None)) ∙ below_link i input (link_fault o None) ∙ below_link o output None) (λ f is told. no_limit f (sym (step_unlimited (slice_get net.network.nodes s) (action.Claim i o)) ∙ is))
 
     drain_may : (t : ℕ) → t < length plan.terminals → May (event.Drain t)
-    drain_may t inside = hindered (event.Drain t) (below (length plan.terminals) t inside None) (λ f is told. (t, told ∙ ap Err (full (limited_node net.network (event.Drain t)) f is)))
+    drain_may t inside = hindered (event.Drain t) (below (length plan.terminals) t inside None) (λ f is told. (t, told ∙ ap Err (full (slice_get net.network.nodes (terminal_place plan t)) f is)))
       where
-        full : (o : Option (Node Token)) (f : EventFault) → limit_fault o (event.Drain t) ≡ Some f → f ≡ fault.InboxFull
+        full : (o : Option (Node Token)) (f : EventFault) → act_limit o act.Drain ≡ Some f → f ≡ fault.InboxFull
         full None f is = absurd (let no : ⊥ = cc in no)
         full (Some n) f is = by_test (nat_lt (length (arrived_tokens n)) inbox_limit) is
           where

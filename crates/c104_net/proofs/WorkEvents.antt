@@ -6,18 +6,23 @@ use Rattle.c104_describe.specs.declared.ports.Port.{Port}
 use Rattle.c104_event.specs.declared.events.Event.{Event}
 use Rattle.c104_link.proofs.MadeSteps.{at_place_made, from_place_made, given, length-at_place, place_after_set, required, with_place_made}
 use Rattle.c104_link.specs.Buffers.{Incoming, Outgoing, incoming_accept, incoming_grant, outgoing_credited, outgoing_emit, outgoing_put, without_first}
-use Rattle.c104_link.specs.Steps.{joint_step_at, step_at, yield_step_at}
+use Rattle.c104_link.specs.Steps.{◌>>=◌, joint_step_at, step_at, yield_step_at}
+use Rattle.c104_net.proofs.EventSteps.{by_name, claim_named, drain_named, input_named, named_step}
+use Rattle.c104_net.proofs.JointKeeps.{crossing_keeps}
+use Rattle.c104_net.specs.EventActs.{acts_step, crossing_acts}
+use Rattle.c104_net.specs.declared.crossings.Crossing.{Crossing}
+use Rattle.c104_net.specs.declared.crossings.Crossing.TheVariants as crossing
 use Rattle.c104_net.proofs.BalanceWires.{peer_back}
 use Rattle.c104_net.proofs.LinkActs.{Matches, first_some, leave_same, credit_out_same}
 use Rattle.c104_net.proofs.PlanWires.{matches}
 use Rattle.c104_net.proofs.WorkSteps.{at_far, at_own, claim_work, credit_in_work, credit_out_work, drain_work, enter_work, far_of, input_set, leave_work, own, sum_set, turn_work}
 use Rattle.c104_net.specs.Balance.{AreInPlace, is_switch}
 use Rattle.c104_net.specs.Ends.{end_of}
-use Rattle.c104_net.specs.Network.{Network, network_of, network_step, terminal_place}
+use Rattle.c104_net.specs.Network.{Network, network_of, network_step, terminal_place, told_step}
 use Rattle.c104_net.specs.Nodes.{Node, node_claim, node_credit_in, node_credit_out, node_drain, node_enter, node_input, node_leave}
 use Rattle.c104_net.specs.Standstill.{IsStarted, IsStartedNode, IsStartedSwitch}
 use Rattle.c104_net.specs.Terminals.{Terminal, terminal_credit_in, terminal_credit_out, terminal_drain, terminal_enter, terminal_leave}
-use Rattle.c104_net.specs.Wires.{nodes_credit, nodes_cross}
+use Rattle.c104_net.proofs.NamedWires.{nodes_credit, nodes_cross}
 use Rattle.c104_net.specs.HeaderWork.{ahead_at, full_node, full_work}
 use Rattle.c104_net.specs.Work.{level}
 use Rattle.c104_check.specs.Walks.{port_of}
@@ -72,7 +77,7 @@ module _ {A : Type 0} (kind : Kind A) (plan : Plan) (is_plan : IsPlan plan) (ran
   left_is : (told r : Reply) (after : List (Node A)) (net' : Network A) → ◌≡◌ {A = Option (Reply × Network A)} (Some (told, network_of plan after)) (Some (r, net')) → full_work plan rank ahead after + 1 ≤ full_work plan rank ahead nodes → Less net'
   left_is told r after net' e less = let d : network_of plan after ≡ net' = (some_pair_parts told r (network_of plan after) net' e).1 in subst Less d less
 
-  cross_less : (P : Port) (r : Reply) (net' : Network A) → network_step kind (network_of plan nodes) (event.Cross P) ≡ Some (r, net') → Less net'
+  cross_less : (P : Port) (r : Reply) (net' : Network A) → named_step kind (network_of plan nodes) (event.Cross P) ≡ Some (r, net') → Less net'
   cross_less P r net' e =
       given (peer plan P) _ (r, net') e (λ Q eQ e1.
       given (nodes_cross nodes (end_of plan P) (end_of plan Q)) _ (r, net') e1 (λ c ec e2.
@@ -96,7 +101,7 @@ module _ {A : Type 0} (kind : Kind A) (plan : Plan) (is_plan : IsPlan plan) (ran
       let d : (v.0, after) ≡ c = cc in
       left_is (reply.Token (kind.plain c.0)) r c.1 net' e2 (subst (λ (z : A × List (Node A)). full_work plan rank ahead z.1 + 1 ≤ full_work plan rank ahead nodes) d (omega (arith, one, two, first, second, same, ahead_is, a, b))))))))))
 
-  credit_less : (P : Port) (r : Reply) (net' : Network A) → network_step kind (network_of plan nodes) (event.Credit P) ≡ Some (r, net') → Less net'
+  credit_less : (P : Port) (r : Reply) (net' : Network A) → named_step kind (network_of plan nodes) (event.Credit P) ≡ Some (r, net') → Less net'
   credit_less P r net' e =
       given (peer plan P) _ (r, net') e (λ Q eQ e1.
       given (nodes_credit nodes (end_of plan P) (end_of plan Q)) _ (r, net') e1 (λ after ec e2.
@@ -115,14 +120,14 @@ module _ {A : Type 0} (kind : Kind A) (plan : Plan) (is_plan : IsPlan plan) (ran
       let b : full_work plan rank ahead (slice_set mid (end_of plan Q).node m') ≡ full_work plan rank ahead after = ap (full_work plan rank ahead) hm in
       left_is reply.Done r after net' e2 (omega (arith, one, two, first, second, a, b))))))))
 
-  drain_less : (t : ℕ) (r : Reply) (net' : Network A) → network_step kind (network_of plan nodes) (event.Drain t) ≡ Some (r, net') → Less net'
+  drain_less : (t : ℕ) (r : Reply) (net' : Network A) → named_step kind (network_of plan nodes) (event.Drain t) ≡ Some (r, net') → Less net'
   drain_less t r net' e =
       given (yield_step_at nodes (terminal_place plan t) node_drain) _ (r, net') e (λ v ev e2.
       from_place_made nodes (terminal_place plan t) node_drain v ev (λ n y en ey hv.
       (let one = one_less (terminal_place plan t) n y.1 en (drain_work plan rank ahead (terminal_place plan t) n y ey) in
       left_is (reply.Token (kind.plain v.0)) r v.1 net' e2 (subst (λ (z : A × List (Node A)). full_work plan rank ahead z.1 + 1 ≤ full_work plan rank ahead nodes) hv one))))
 
-  input_less : (s i word : ℕ) (r : Reply) (net' : Network A) → network_step kind (network_of plan nodes) (event.Input s i word) ≡ Some (r, net') → Less net'
+  input_less : (s i word : ℕ) (r : Reply) (net' : Network A) → named_step kind (network_of plan nodes) (event.Input s i word) ≡ Some (r, net') → Less net'
   input_less s i word r net' e =
       given (step_at nodes s (node_input kind i word)) _ (r, net') e (λ ended ea e2.
       at_place_made nodes s (node_input kind i word) ended ea (λ n n' en en' hv. left_is reply.Done r ended net' e2 (subst (λ z. full_work plan rank ahead z + 1 ≤ full_work plan rank ahead nodes) hv (one_less s n n' en (by_node n n' en en')))))
@@ -142,7 +147,7 @@ module _ {A : Type 0} (kind : Kind A) (plan : Plan) (is_plan : IsPlan plan) (ran
           let d : ◌≡◌ {A = Node A} (node.Switch (with_sides S (slice_set S.inputs i y.0, y.1))) n' = ap (λ (z : List (Input A) × List (Outgoing A)). node.Switch (with_sides S z)) d1 ∙ ap node.Switch b ∙ c in
           subst (λ z. full_node plan rank ahead s z + 1 ≤ full_node plan rank ahead s (node.Switch S)) d (omega (arith, less, all)))))))))
 
-  claim_less : (s i o : ℕ) (r : Reply) (net' : Network A) → network_step kind (network_of plan nodes) (event.Claim s i o) ≡ Some (r, net') → Less net'
+  claim_less : (s i o : ℕ) (r : Reply) (net' : Network A) → named_step kind (network_of plan nodes) (event.Claim s i o) ≡ Some (r, net') → Less net'
   claim_less s i o r net' e =
       given (step_at nodes s (node_claim i o)) _ (r, net') e (λ ended ea e2.
       at_place_made nodes s (node_claim i o) ended ea (λ n n' en en' hv. left_is reply.Done r ended net' e2 (subst (λ z. full_work plan rank ahead z + 1 ≤ full_work plan rank ahead nodes) hv (one_less s n n' en (by_node n n' en en')))))
@@ -161,15 +166,18 @@ module _ {A : Type 0} (kind : Kind A) (plan : Plan) (is_plan : IsPlan plan) (ran
           let d : ◌≡◌ {A = Node A} (node.Switch (with_sides S (slice_set S.inputs i y.0, y.1))) n' = ap (λ (z : List (Input A) × List (Outgoing A)). node.Switch (with_sides S z)) d1 ∙ ap node.Switch b ∙ c in
           subst (λ z. full_node plan rank ahead s z + 1 ≤ full_node plan rank ahead s (node.Switch S)) d (omega (arith, less, all))))))))
 
+  by_event : (e : Event) (r : Reply) (net' : Network A) → IsOfRound e → named_step kind (network_of plan nodes) e ≡ Some (r, net') → Less net'
+  by_event (event.Cross P) r net' of is = cross_less P r net' is
+  by_event (event.Credit P) r net' of is = credit_less P r net' is
+  by_event (event.Input s i word) r net' of is = input_less s i word r net' is
+  by_event (event.Claim s i o) r net' of is = claim_less s i o r net' is
+  by_event (event.Drain t) r net' of is = drain_less t r net' is
+  by_event (event.Send t p) r net' of is = absurd of
+  by_event (event.Control s bytes) r net' of is = absurd of
+
   -- each event of a round that is done leaves less
   pub event_less : (e : Event) (r : Reply) (net' : Network A) → IsOfRound e → network_step kind (network_of plan nodes) e ≡ Some (r, net') → Less net'
-  event_less (event.Cross P) r net' of is = cross_less P r net' is
-  event_less (event.Credit P) r net' of is = credit_less P r net' is
-  event_less (event.Input s i word) r net' of is = input_less s i word r net' is
-  event_less (event.Claim s i o) r net' of is = claim_less s i o r net' is
-  event_less (event.Drain t) r net' of is = drain_less t r net' is
-  event_less (event.Send t p) r net' of is = absurd of
-  event_less (event.Control s bytes) r net' of is = absurd of
+  event_less e r net' of is = by_event e r net' of (sym (by_name kind (network_of plan nodes) is_plan placed e) ∙ is)
 
 -- what keeps a node started
 module _ {A : Type 0} where
@@ -311,25 +319,17 @@ module _ {A : Type 0} (kind : Kind A) (plan : Plan) (nodes : List (Node A)) (sta
   started_left : (told r : Reply) (after : List (Node A)) (net' : Network A) → ◌≡◌ {A = Option (Reply × Network A)} (Some (told, network_of plan after)) (Some (r, net')) → AreStarted after → IsStarted net'
   started_left told r after net' e all = let d : network_of plan after ≡ net' = (some_pair_parts told r (network_of plan after) net' e).1 in subst IsStarted d all
 
+  crossing_started : (c : Crossing) (P : Port) (r : Reply × Network A) → (crossing_acts c P (peer plan P) >>= (λ acts. told_step kind (network_of plan nodes) (acts_step kind plan nodes acts))) ≡ Some r → IsStarted r.1
+  crossing_started c P r e =
+      crossing_keeps kind (λ n m. IsStartedNode n → IsStartedNode m) leave_started enter_started credit_out_started credit_in_started AreStarted (λ ns k n m here keeps all. started_set ns k m all (keeps (all k n here)))
+      plan nodes c P (peer plan P) r e started
+
   -- each event of a round keeps each node started
   pub event_started : (e : Event) (r : Reply) (net' : Network A) → IsOfRound e → network_step kind (network_of plan nodes) e ≡ Some (r, net') → IsStarted net'
-  event_started (event.Cross P) r net' of e =
-      given (peer plan P) _ (r, net') e (λ Q eQ e1.
-      given (nodes_cross nodes (end_of plan P) (end_of plan Q)) _ (r, net') e1 (λ c ec e2.
-      given (yield_step_at nodes (end_of plan P).node (node_leave (end_of plan P).link)) _ c ec (λ v ev f1.
-      given (step_at v.1 (end_of plan Q).node (node_enter v.0 (end_of plan Q).link)) _ c f1 (λ after ea f2.
-      (let mid = started_from nodes (end_of plan P).node (node_leave (end_of plan P).link) v ev (leave_started (end_of plan P).link) started in
-      let last = started_at v.1 (end_of plan Q).node (node_enter v.0 (end_of plan Q).link) after ea (enter_started v.0 (end_of plan Q).link) mid in
-      let d : (v.0, after) ≡ c = cc in
-      started_left (reply.Token (kind.plain c.0)) r c.1 net' e2 (subst (λ (z : A × List (Node A)). AreStarted z.1) d last))))))
-  event_started (event.Credit P) r net' of e =
-      given (peer plan P) _ (r, net') e (λ Q eQ e1.
-      given (nodes_credit nodes (end_of plan P) (end_of plan Q)) _ (r, net') e1 (λ after ec e2.
-      given (step_at nodes (end_of plan P).node (node_credit_out (end_of plan P).link)) _ after ec (λ mid ev f1.
-      (let first = started_at nodes (end_of plan P).node (node_credit_out (end_of plan P).link) mid ev (credit_out_started (end_of plan P).link) started in
-      started_left reply.Done r after net' e2 (started_at mid (end_of plan Q).node (node_credit_in (end_of plan Q).link) after f1 (credit_in_started (end_of plan Q).link) first)))))
-  event_started (event.Input s i word) r net' of e = given (step_at nodes s (node_input kind i word)) _ (r, net') e (λ after ea e2. started_left reply.Done r after net' e2 (started_at nodes s (node_input kind i word) after ea (input_started kind i word) started))
-  event_started (event.Claim s i o) r net' of e = given (step_at nodes s (node_claim i o)) _ (r, net') e (λ after ea e2. started_left reply.Done r after net' e2 (started_at nodes s (node_claim i o) after ea (claim_started i o) started))
-  event_started (event.Drain t) r net' of e = given (yield_step_at nodes (terminal_place plan t) node_drain) _ (r, net') e (λ v ev e2. started_left (reply.Token (kind.plain v.0)) r v.1 net' e2 (started_from nodes (terminal_place plan t) node_drain v ev drain_started started))
+  event_started (event.Cross P) r net' of e = crossing_started crossing.Token P (r, net') e
+  event_started (event.Credit P) r net' of e = crossing_started crossing.Grant P (r, net') e
+  event_started (event.Input s i word) r net' of e = given (step_at nodes s (node_input kind i word)) _ (r, net') (input_named kind (network_of plan nodes) s i word ∙ e) (λ after ea e2. started_left reply.Done r after net' e2 (started_at nodes s (node_input kind i word) after ea (input_started kind i word) started))
+  event_started (event.Claim s i o) r net' of e = given (step_at nodes s (node_claim i o)) _ (r, net') (claim_named kind (network_of plan nodes) s i o ∙ e) (λ after ea e2. started_left reply.Done r after net' e2 (started_at nodes s (node_claim i o) after ea (claim_started i o) started))
+  event_started (event.Drain t) r net' of e = given (yield_step_at nodes (terminal_place plan t) node_drain) _ (r, net') (drain_named kind (network_of plan nodes) t ∙ e) (λ v ev e2. started_left (reply.Token (kind.plain v.0)) r v.1 net' e2 (started_from nodes (terminal_place plan t) node_drain v ev drain_started started))
   event_started (event.Send t p) r net' of e = absurd of
   event_started (event.Control s bytes) r net' of e = absurd of

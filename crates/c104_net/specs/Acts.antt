@@ -1,4 +1,4 @@
--- What a node does and answers, one word for every act; and the acts of a node at the end of a wire.
+-- What a node does and answers, one word for every act.
 use Rattle.std.specs.Prelude.{ℕ, ◌<◌, ◌≤◌, All, Bool, true, false, List, Option, Some, None, length}
 use Rattle.c104_token.specs.declared.text.TheConstants.{MAX_PACKET_BYTES}
 use Rattle.c104_token.specs.Kinds.{Kind}
@@ -67,26 +67,6 @@ module _ {A : Type 0} (kind : Kind A) where
   plain_reply reply.NotReady = reply.NotReady
   plain_reply (reply.Token x) = reply.Token (kind.plain x)
   plain_reply (reply.Control bytes) = reply.Control bytes
-
--- the act by which a token goes out over a link's wire
-abbrev pub leave_act : {A : Type 0} → ℕ → Node A → ActOf A
-leave_act l (Switch s) = act.Step (action.Leave l)
-leave_act l (Terminal t) = act.Leave
-
--- the act by which a token comes in over a link's wire
-abbrev pub enter_act : {A : Type 0} → A → ℕ → Node A → ActOf A
-enter_act x l (Switch s) = act.Step (action.Enter l x)
-enter_act x l (Terminal t) = act.Enter x
-
--- the act by which a link grants eight more tokens
-abbrev pub credit_out_act : {A : Type 0} → ℕ → Node A → ActOf A
-credit_out_act l (Switch s) = act.Step (action.CreditOut l)
-credit_out_act l (Terminal t) = act.CreditOut
-
--- the act by which a link may send eight more tokens
-abbrev pub credit_in_act : {A : Type 0} → ℕ → Node A → ActOf A
-credit_in_act l (Switch s) = act.Step (action.CreditIn l)
-credit_in_act l (Terminal t) = act.CreditIn
 
 -- an act is within the limits of a packet: one that is sent has at most 4,096 bytes, and each is below 256
 abbrev pub IsWithinLimits : {A : Type 0} → ActOf A → Type 0

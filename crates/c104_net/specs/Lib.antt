@@ -1,9 +1,9 @@
 pub mod Terminals
 pub mod Nodes
-pub mod Wires
 pub mod Ends
 pub mod FarEnds
 pub mod Acts
+pub mod EventActs
 pub mod Places
 pub mod Network
 pub mod Views
@@ -16,6 +16,7 @@ pub mod Starts
 pub mod TerminalStarts
 pub mod Records
 pub mod EventPlaces
+pub mod AskedActs
 pub mod Runs
 pub mod NetRecords
 pub mod WiredActs

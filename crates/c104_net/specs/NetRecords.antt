@@ -15,7 +15,7 @@ use Rattle.c104_net.specs.Records.{NodeRecord}
 use Rattle.c104_net.specs.Runs.{IsRunRecord}
 use Rattle.c104_net.specs.Quiet.{network_begin}
 use Rattle.c104_net.specs.Starts.{start_node, start_of}
-use Rattle.c104_net.specs.Traces.{event_deeds, event_full, is_switch_place, kept_of, noted_all, seatless, trace_limit}
+use Rattle.c104_net.specs.Traces.{event_deeds, event_full, kept_of, noted_all, seatless, trace_limit}
 
 -- what is seen of a node with its record, beside the room for further entries
 abbrev pub node_state : NodeRecord × ℕ → Node Token
@@ -114,6 +114,6 @@ pub record IsNetRecord (r : NetRecord) : Type 0 where
 pub record RecordsEvent (old : NetRecord) (e : Event) (answer : Result Reply EventFault) (new : NetRecord) : Type 0 where
   pub answers : AnswersWith plain_kind (event_full old.network.plan (map is_trace_full old.traces) e) old.network e answer new.network
   pub free : IfOk answer (λ r. is_ready r ≡ true → event_full old.network.plan (map is_trace_full old.traces) e ≡ false)
-  pub traces : new.traces ≡ noted_all true old.traces (kept_of (event_deeds (is_switch_place old.network.plan) old.network.plan (seatless old.count) e) answer)
+  pub traces : new.traces ≡ noted_all true old.traces (kept_of (event_deeds old.network.plan (seatless old.count) e) answer)
   pub starts : new.starts ≡ old.starts
   pub count : new.count ≡ ticket_after old.count (is_done answer)

@@ -1,8 +1,8 @@
 -- A network: a plan, and its nodes; and what each event does and answers.
-use Rattle.std.specs.Prelude.{ℕ, ◌+◌, ◌≡◌, ◌⊎◌, Bool, true, false, List, ◌++◌, length, map, nat_lt, nat_le, Option, Some, None, is_some, Result, Ok, Err, if◌then◌else◌, slice_get}
+use Rattle.std.specs.Prelude.{ℕ, ◌+◌, ◌≡◌, ◌⊎◌, Bool, true, false, List, ◌++◌, length, map, nat_lt, nat_le, Option, Some, None, is_some, Result, Ok, Err, if◌then◌else◌}
 use Rattle.c104_token.specs.declared.text.TheConstants.{MAX_PACKET_BYTES}
 use Rattle.c104_token.specs.Kinds.{Kind}
-use Rattle.c104_link.specs.Steps.{◌>>=◌, step_at, yield_step_at}
+use Rattle.c104_link.specs.Steps.{◌>>=◌}
 use Rattle.c104_switch.specs.Actions.{Reply}
 use Rattle.c104_switch.specs.declared.actions.ReplyOf.TheVariants as reply
 use Rattle.c104_regs.specs.declared.registers.TheConstants.{LINKS}
@@ -19,10 +19,11 @@ use Rattle.c104_event.specs.declared.events.Event.{Event}
 use Rattle.c104_event.specs.declared.events.Event.TheVariants as event
 use Rattle.c104_event.specs.declared.faults.EventFault.{EventFault}
 use Rattle.c104_event.specs.declared.faults.EventFault.TheVariants as fault
-use Rattle.c104_net.specs.Nodes.{Node, node_input, node_claim, node_control, node_send, node_drain, waiting_tokens, arrived_tokens, nodes_arrived, nodes_peek}
-use Rattle.c104_net.specs.Wires.{nodes_cross, nodes_credit}
+use Rattle.c104_switch.specs.declared.actions.ReplyOf.{ReplyOf}
+use Rattle.c104_net.specs.Acts.{plain_reply}
+use Rattle.c104_net.specs.EventActs.{acts_limit, acts_step, event_acts}
+use Rattle.c104_net.specs.Nodes.{Node, nodes_arrived, nodes_peek}
 use Rattle.c104_describe.specs.Wiring.{peer}
-use Rattle.c104_net.specs.Ends.{end_of}
 
 -- a network: its plan, and the state of its nodes
 pub record Network (A : Type 0) : Type 0 where
@@ -53,14 +54,6 @@ network_arrived net t =
 abbrev pub network_peek : {A : Type 0} → Network A → ℕ → ℕ → Option ℕ
 network_peek net s a =
     if nat_lt s (length net.plan.switches) then nodes_peek net.nodes s a else None
-
--- how many tokens may wait at a terminal to go out
-abbrev pub outbox_limit : ℕ
-outbox_limit = 65536
-
--- how many tokens may have arrived at a terminal
-abbrev pub inbox_limit : ℕ
-inbox_limit = 262144
 
 -- switches at first, with buffers of this size, each started with these settings
 abbrev pub switch_nodes : {A : Type 0} → ℕ → List (List Settings) → List (Node A)
@@ -130,56 +123,17 @@ event_fault plan (event.Send t packet) = node_fault (length plan.terminals) t
 event_fault plan (event.Drain t) = node_fault (length plan.terminals) t None
 
 -- why an event that is ready can't happen now: a terminal's list would pass its limit
-abbrev pub limit_fault : {A : Type 0} → Option (Node A) → Event → Option EventFault
-limit_fault None e = None
-limit_fault (Some n) (event.Cross p) = None
-limit_fault (Some n) (event.Credit p) = None
-limit_fault (Some n) (event.Input s l word) = None
-limit_fault (Some n) (event.Claim s i o) = None
-limit_fault (Some n) (event.Control s bytes) = None
-limit_fault (Some n) (event.Send t packet) =
-    if nat_le (length (waiting_tokens n) + length packet.bytes + 1) outbox_limit
-    then None
-    else Some fault.OutboxFull
-limit_fault (Some n) (event.Drain t) =
-    if nat_lt (length (arrived_tokens n)) inbox_limit then None else Some fault.InboxFull
-
--- the node whose list an event's limit is about
-abbrev pub limited_node : {A : Type 0} → Network A → Event → Option (Node A)
-limited_node net (event.Cross p) = None
-limited_node net (event.Credit p) = None
-limited_node net (event.Input s l word) = None
-limited_node net (event.Claim s i o) = None
-limited_node net (event.Control s bytes) = None
-limited_node net (event.Send t packet) = slice_get net.nodes (terminal_place net.plan t)
-limited_node net (event.Drain t) = slice_get net.nodes (terminal_place net.plan t)
+abbrev pub event_limit : {A : Type 0} → Network A → Event → Option EventFault
+event_limit net e = event_acts net.plan e >>= acts_limit net.nodes
 
 module _ {A : Type 0} (kind : Kind A) where
-  -- what is left where nothing else comes of an event
-  abbrev pub done_step : Network A → Option (List (Node A)) → Option (Reply × Network A)
-  done_step net made = made >>= (λ nodes. Some (reply.Done, with_nodes net nodes))
+  -- what was answered, as it is told, and the network that is left
+  abbrev pub told_step : Network A → Option (ReplyOf A × List (Node A)) → Option (Reply × Network A)
+  told_step net made = made >>= (λ r. Some (plain_reply kind r.0, with_nodes net r.1))
 
-  -- the same, where a token comes of it
-  abbrev pub token_step : Network A → Option (A × List (Node A)) → Option (Reply × Network A)
-  token_step net made = made >>= (λ r. Some (reply.Token (kind.plain r.0), with_nodes net r.1))
-
-  -- the same, where a switch replies to a command
-  abbrev pub control_step : Network A → Option (List ℕ × List (Node A)) → Option (Reply × Network A)
-  control_step net made = made >>= (λ r. Some (reply.Control r.0, with_nodes net r.1))
-
-  -- what an event answers and leaves, where it is ready
+  -- what an event answers and leaves, where it is ready: the step of its acts
   abbrev pub network_step : Network A → Event → Option (Reply × Network A)
-  network_step net (event.Cross p) = peer net.plan p >>= (λ q.
-      token_step net (nodes_cross net.nodes (end_of net.plan p) (end_of net.plan q)))
-  network_step net (event.Credit p) = peer net.plan p >>= (λ q.
-      done_step net (nodes_credit net.nodes (end_of net.plan p) (end_of net.plan q)))
-  network_step net (event.Input s l word) = done_step net (step_at net.nodes s (node_input kind l word))
-  network_step net (event.Claim s i o) = done_step net (step_at net.nodes s (node_claim i o))
-  network_step net (event.Control s bytes) = control_step net (yield_step_at net.nodes s (node_control bytes))
-  network_step net (event.Send t packet) =
-      done_step net (step_at net.nodes (terminal_place net.plan t) (node_send kind t packet))
-  network_step net (event.Drain t) =
-      token_step net (yield_step_at net.nodes (terminal_place net.plan t) node_drain)
+  network_step net e = event_acts net.plan e >>= (λ acts. told_step net (acts_step kind net.plan net.nodes acts))
 
   -- an event that is ready is done, if no limit is passed
   abbrev pub outcome_within_limit : Network A → Option EventFault → Reply × Network A → Result Reply EventFault × Network A
@@ -189,7 +143,7 @@ module _ {A : Type 0} (kind : Kind A) where
   -- an event that isn't ready changes nothing; one that is ready is done, if no limit is passed
   abbrev pub outcome_if_ready : Network A → Event → Option (Reply × Network A) → Result Reply EventFault × Network A
   outcome_if_ready net e None = (Ok reply.NotReady, net)
-  outcome_if_ready net e (Some r) = outcome_within_limit net (limit_fault (limited_node net e) e) r
+  outcome_if_ready net e (Some r) = outcome_within_limit net (event_limit net e) r
 
   -- an event that can't happen is refused, and changes nothing; any other is done if it is ready
   abbrev pub outcome_if_possible : Network A → Event → Option EventFault → Result Reply EventFault × Network A
@@ -206,7 +160,7 @@ module _ {A : Type 0} (kind : Kind A) where
   WouldBeDone net e =
       (event_fault net.plan e ≡ None)
       × (is_some (network_step net e) ≡ true)
-      × (limit_fault (limited_node net e) e ≡ None)
+      × (event_limit net e ≡ None)
 
   -- an answer and the network after it: what is due; or, of an event that would be done, that a trace
   -- is full or memory has run out, and nothing changed

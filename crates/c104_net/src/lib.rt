@@ -18,13 +18,17 @@
 #![tactic(auto)]
 
 mod acts;
+mod asked;
 mod bare_net;
 mod bare_run;
 mod counted;
+mod crossings;
+mod doing;
 mod ends;
 mod events;
 mod faults;
 mod history;
+mod joint;
 mod leading;
 mod net;
 mod node;
@@ -53,7 +57,6 @@ mod terminal;
 mod traced;
 mod traced_net;
 mod watch;
-mod wire_acts;
 mod wires;
 
 pub use acts::{Act, ActOf, Entry};

@@ -1,10 +1,9 @@
 //! One act of one place among all places.
-ghost use Rattle.std.specs.Prelude.{◌≡◌, ◌≢◌, ◌<◌, ◌≤◌, ℕ, None, Some, true, false, length, is_some, map, unwrap_or, IfOk, IfSome, MatchOption, MatchResult, OnOk};
-ghost use Rattle.c104_event.specs.declared.faults.EventFault.TheVariants as fault;
+ghost use Rattle.std.specs.Prelude.{◌≡◌, ◌≢◌, ◌<◌, ◌≤◌, ℕ, None, Some, true, false, length, is_some, map, unwrap_or, IfOk, IfSome, MatchResult, OnOk};
 ghost use Rattle.c104_regs.specs.declared.registers.TheConstants.{LINKS};
 ghost use Rattle.c104_link.specs.Steps.{step_at, yield_step_at};
 ghost use Rattle.c104_net.specs.Acts.{IsWithinLimits, nodes_act, reply_outcome, wants_memory};
-ghost use Rattle.c104_net.specs.Traces.{end_credit_in, end_credit_out, end_enter, end_leave, entry_of, full_at, is_switch_at, kept_entry, kept_of, lone_deed, noted_all, noted_at, plain_act};
+ghost use Rattle.c104_net.specs.Traces.{full_at, kept_entry, kept_of, lone_deed, noted_all, noted_at, plain_act};
 ghost use Rattle.c104_switch.specs.Actions.{is_ready};
 ghost use Rattle.c104_switch.specs.Claims.{IsNextLink};
 ghost use Rattle.c104_net.specs.Nodes.{node_enter, node_leave, node_credit_out, node_credit_in, node_claim, node_drain};
@@ -46,20 +45,6 @@ pub fn is_full_at<T: TokenKind, P: Place<T>>(places: &[P], place: usize) -> bool
     match places.get(place) {
         Some(found) => found.is_full(),
         None => false,
-    }
-}
-
-/// Why an act at a place is refused where no further entry may be kept there.
-#[inline(always)]
-fn trace_fault_at<T: TokenKind, P: Place<T>>(places: &[P], place: usize) -> Option<EventFault>
-    ensures { MatchOption result
-        (full_at (map P.full places.now) place ≡ false)
-        (λ f. (f ≡ fault.TraceFull) × (full_at (map P.full places.now) place ≡ true)) }
-{
-    if is_full_at(places, place) {
-        Some(EventFault::TraceFull)
-    } else {
-        None
     }
 }
 
@@ -112,6 +97,32 @@ fn act_at<T: TokenKind, P: Place<T>>(
     found.act(number, stamp, act)
 }
 
+/// The node at a place does an act that it is ready for, and that wants no memory.
+#[inline(always)]
+pub fn act_sure<T: TokenKind, P: Place<T>>(
+    places: &mut [P],
+    place: usize,
+    stamp: Stamp,
+    act: ActOf<T>,
+) -> ReplyOf<T>
+    requires inside { place < length places.old }
+    requires short { IsWithinLimits act }
+    requires light { wants_memory act ≡ false }
+    requires room { HasRoomAt P.has_room places.old place }
+    requires ready { is_some (nodes_act T.kind (map P.state places.old) place 0 act) ≡ true }
+    ensures acted { nodes_act T.kind (map P.state places.old) place 0 act ≡ Some (result, map P.state places.new) }
+    ensures start { map P.start places.new ≡ map P.start places.old }
+    ensures trace { map P.trace places.new ≡ noted_at P.keeps (map P.trace places.old) place
+        (kept_entry T.kind stamp act result) }
+    ensures others { (j : ℕ) → j ≢ place →
+        HasRoomAt P.has_room places.old j → HasRoomAt P.has_room places.new j }
+{
+    match act_at(places, place, 0, stamp, act) {
+        Ok(told) => told,
+        Err(_) => unreachable!(),
+    }
+}
+
 /// The node at a place does an act, if it is ready.
 #[inline(always)]
 pub fn act_alone<T: TokenKind, P: Place<T>>(
@@ -139,8 +150,37 @@ pub fn act_alone<T: TokenKind, P: Place<T>>(
     if place >= places.len() || !ready_at(places, place, number, &act) {
         return Ok(ReplyOf::NotReady);
     }
-    if let Some(fault) = trace_fault_at(places, place) {
-        return Err(fault);
+    act_ready(places, place, number, stamp, act)
+}
+
+/// The node at a place does an act that it is ready for, unless nothing more can be kept of it.
+#[inline(always)]
+pub fn act_ready<T: TokenKind, P: Place<T>>(
+    places: &mut [P],
+    place: usize,
+    number: usize,
+    stamp: Stamp,
+    act: ActOf<T>,
+) -> Result<ReplyOf<T>, EventFault>
+    requires inside { place < length places.old }
+    requires short { IsWithinLimits act }
+    requires ready { is_some (nodes_act T.kind (map P.state places.old) place number act) ≡ true }
+    ensures ends { StepEnds
+        (reply_outcome
+        (nodes_act T.kind (map P.state places.old) place number act)
+        (map P.state places.old))
+        (is_some (nodes_act T.kind (map P.state places.old) place number act))
+        (full_at (map P.full places.old) place)
+        (map P.state places.old) result (map P.state places.new) }
+    ensures free { IfOk result (λ reply.
+        is_ready reply ≡ true → full_at (map P.full places.old) place ≡ false) }
+    ensures start { map P.start places.new ≡ map P.start places.old }
+    ensures trace { map P.trace places.new ≡ noted_all P.keeps (map P.trace places.old)
+        (kept_of (λ reply. lone_deed stamp place (plain_act T.kind act) (plain_reply T.kind reply))
+        result) }
+{
+    if is_full_at(places, place) {
+        return Err(EventFault::TraceFull);
     }
     room_at(places, place)?;
     Ok(act_at(places, place, number, stamp, act)?)
@@ -158,18 +198,6 @@ pub fn can_leave_at<T: TokenKind, P: Place<T>>(places: &[P], end: End) -> bool
     }
 }
 
-/// Whether a token can come in at an end of a wire.
-#[inline(always)]
-pub fn can_enter_at<T: TokenKind, P: Place<T>>(places: &[P], end: End) -> bool
-    ensures { (token : T) → result ≡
-        is_some (step_at (map P.state places.now) end.node (node_enter token end.link)) }
-{
-    match places.get(end.node) {
-        Some(found) => found.node().can_enter(end.link),
-        None => false,
-    }
-}
-
 /// Whether an end of a wire can grant eight more tokens.
 #[inline(always)]
 pub fn can_credit_out_at<T: TokenKind, P: Place<T>>(places: &[P], end: End) -> bool
@@ -178,29 +206,6 @@ pub fn can_credit_out_at<T: TokenKind, P: Place<T>>(places: &[P], end: End) -> b
 {
     match places.get(end.node) {
         Some(found) => found.node().can_credit_out(end.link),
-        None => false,
-    }
-}
-
-/// Whether an end of a wire may be granted eight more tokens.
-#[inline(always)]
-pub fn can_credit_in_at<T: TokenKind, P: Place<T>>(places: &[P], end: End) -> bool
-    ensures { result ≡
-        is_some (step_at (map P.state places.now) end.node (node_credit_in end.link)) }
-{
-    match places.get(end.node) {
-        Some(found) => found.node().can_credit_in(end.link),
-        None => false,
-    }
-}
-
-/// Whether a token can arrive at a place.
-#[inline(always)]
-pub fn can_drain_at<T: TokenKind, P: Place<T>>(places: &[P], place: usize) -> bool
-    ensures { result ≡ is_some (yield_step_at (map P.state places.now) place node_drain) }
-{
-    match places.get(place) {
-        Some(found) => found.node().can_drain(),
         None => false,
     }
 }
@@ -255,94 +260,5 @@ pub fn next_claim_at<T: TokenKind, P: Place<T>>(
     match places.get(place) {
         Some(found) => found.node().next_claim(input, from),
         None => None,
-    }
-}
-
-/// A token goes out at an end of a wire, where one can.
-#[inline(always)]
-pub fn leave_at<T: TokenKind, P: Place<T>>(places: &mut [P], end: End, stamp: Stamp) -> T
-    requires inside { end.node < length places.old }
-    requires room { HasRoomAt P.has_room places.old end.node }
-    requires ready { is_some
-        (yield_step_at (map P.state places.old) end.node (node_leave end.link)) ≡ true }
-    ensures left { yield_step_at (map P.state places.old) end.node (node_leave end.link)
-        ≡ Some (result, map P.state places.new) }
-    ensures start { map P.start places.new ≡ map P.start places.old }
-    ensures trace { map P.trace places.new ≡ noted_at P.keeps (map P.trace places.old) end.node
-        (entry_of stamp (end_leave (is_switch_at (map P.state places.old) end.node) end.link)
-        (reply.Token (T.kind.plain result))) }
-    ensures others { (j : ℕ) → j ≢ end.node →
-        HasRoomAt P.has_room places.old j → HasRoomAt P.has_room places.new j }
-{
-    let act = places[end.node].node().leave_act(end.link);
-    match act_at(places, end.node, 0, stamp, act) {
-        Ok(ReplyOf::Token(token)) => token,
-        _ => unreachable!(),
-    }
-}
-
-/// A token comes in at an end of a wire, where one can.
-#[inline(always)]
-pub fn enter_at<T: TokenKind, P: Place<T>>(places: &mut [P], end: End, stamp: Stamp, token: T)
-    requires inside { end.node < length places.old }
-    requires room { HasRoomAt P.has_room places.old end.node }
-    requires ready { is_some
-        (step_at (map P.state places.old) end.node (node_enter token end.link)) ≡ true }
-    ensures entered { step_at (map P.state places.old) end.node (node_enter token end.link)
-        ≡ Some (map P.state places.new) }
-    ensures start { map P.start places.new ≡ map P.start places.old }
-    ensures trace { map P.trace places.new ≡ noted_at P.keeps (map P.trace places.old) end.node
-        (entry_of stamp
-        (end_enter (T.kind.plain token) (is_switch_at (map P.state places.old) end.node) end.link)
-        reply.Done) }
-{
-    let act = places[end.node].node().enter_act(end.link, token);
-    match act_at(places, end.node, 0, stamp, act) {
-        Ok(_) => (),
-        Err(_) => unreachable!(),
-    }
-}
-
-/// An end of a wire grants eight more tokens, where it can.
-#[inline(always)]
-pub fn credit_out_at<T: TokenKind, P: Place<T>>(places: &mut [P], end: End, stamp: Stamp)
-    requires inside { end.node < length places.old }
-    requires room { HasRoomAt P.has_room places.old end.node }
-    requires ready { is_some
-        (step_at (map P.state places.old) end.node (node_credit_out end.link)) ≡ true }
-    ensures granted { step_at (map P.state places.old) end.node (node_credit_out end.link)
-        ≡ Some (map P.state places.new) }
-    ensures start { map P.start places.new ≡ map P.start places.old }
-    ensures trace { map P.trace places.new ≡ noted_at P.keeps (map P.trace places.old) end.node
-        (entry_of stamp
-        (end_credit_out (is_switch_at (map P.state places.old) end.node) end.link) reply.Done) }
-    ensures others { (j : ℕ) → j ≢ end.node →
-        HasRoomAt P.has_room places.old j → HasRoomAt P.has_room places.new j }
-{
-    let act = places[end.node].node().credit_out_act(end.link);
-    match act_at(places, end.node, 0, stamp, act) {
-        Ok(_) => (),
-        Err(_) => unreachable!(),
-    }
-}
-
-/// An end of a wire is granted eight more tokens, where it may be.
-#[inline(always)]
-pub fn credit_in_at<T: TokenKind, P: Place<T>>(places: &mut [P], end: End, stamp: Stamp)
-    requires inside { end.node < length places.old }
-    requires room { HasRoomAt P.has_room places.old end.node }
-    requires ready { is_some
-        (step_at (map P.state places.old) end.node (node_credit_in end.link)) ≡ true }
-    ensures credited { step_at (map P.state places.old) end.node (node_credit_in end.link)
-        ≡ Some (map P.state places.new) }
-    ensures start { map P.start places.new ≡ map P.start places.old }
-    ensures trace { map P.trace places.new ≡ noted_at P.keeps (map P.trace places.old) end.node
-        (entry_of stamp
-        (end_credit_in (is_switch_at (map P.state places.old) end.node) end.link) reply.Done) }
-{
-    let act = places[end.node].node().credit_in_act(end.link);
-    match act_at(places, end.node, 0, stamp, act) {
-        Ok(_) => (),
-        Err(_) => unreachable!(),
     }
 }

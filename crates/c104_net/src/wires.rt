@@ -150,6 +150,25 @@ impl Wires {
         })
     }
 
+    /// The ends of the wire at a port that has one, which are at two nodes.
+    #[inline(always)]
+    pub fn wired_ends(&self, port: Port) -> Ends
+        requires { wired_fault self.now port ≡ None }
+        ensures near { result.near ≡ end_of self.now port }
+        ensures far { far_end self.now port ≡ Some result.far }
+        ensures apart { result.near.node ≢ result.far.node }
+    {
+        // The proof reads here what every plan keeps.
+        let _switches = self.plan.switches();
+        let Some(far) = self.far_end(port) else {
+            unreachable!()
+        };
+        Ends {
+            near: end_of(&self.plan, port),
+            far,
+        }
+    }
+
     /// The far end of the wire at a port of the plan. None where it has no wire.
     #[inline(always)]
     fn far_end(&self, port: Port) -> Option<End>

@@ -1,9 +1,8 @@
 //! The acts of a node.
 ghost use Rattle.std.specs.Prelude.{◌≡◌, ◌<◌, ◌≤◌, ℕ, None, true, is_some, unwrap_or, IfSome, MatchResult};
 ghost use Rattle.c104_net.specs.Acts.{IsWithinLimits, node_act, reply_outcome, wants_memory};
-ghost use Rattle.c104_net.specs.Acts.{leave_act, enter_act, credit_out_act, credit_in_act};
 ghost use Rattle.c104_regs.specs.declared.registers.TheConstants.{LINKS};
-ghost use Rattle.c104_net.specs.Nodes.{node_enter, node_leave, node_credit_out, node_credit_in, node_claim, node_drain};
+ghost use Rattle.c104_net.specs.Nodes.{node_leave, node_credit_out, node_claim};
 ghost use Rattle.c104_switch.specs.Actions.{done_reply, token_reply};
 ghost use Rattle.c104_switch.specs.Claims.{IsNextLink};
 ghost use Rattle.c104_net.specs.PortParts.{is_node_ready, PassesUnready};
@@ -75,50 +74,6 @@ impl<T: TokenKind> NodeOf<T> {
         }
     }
 
-    /// The act by which a token goes out over a link's wire.
-    #[inline(always)]
-    pub fn leave_act(&self, link: usize) -> ActOf<T>
-        ensures { result ≡ leave_act link self.now }
-    {
-        match self {
-            NodeOf::Switch(_) => ActOf::Step(ActionOf::Leave(link)),
-            NodeOf::Terminal(_) => ActOf::Leave,
-        }
-    }
-
-    /// The act by which a token comes in over a link's wire.
-    #[inline(always)]
-    pub fn enter_act(&self, link: usize, token: T) -> ActOf<T>
-        ensures { result ≡ enter_act token link self.now }
-    {
-        match self {
-            NodeOf::Switch(_) => ActOf::Step(ActionOf::Enter(link, token)),
-            NodeOf::Terminal(_) => ActOf::Enter(token),
-        }
-    }
-
-    /// The act by which a link grants eight more tokens.
-    #[inline(always)]
-    pub fn credit_out_act(&self, link: usize) -> ActOf<T>
-        ensures { result ≡ credit_out_act link self.now }
-    {
-        match self {
-            NodeOf::Switch(_) => ActOf::Step(ActionOf::CreditOut(link)),
-            NodeOf::Terminal(_) => ActOf::CreditOut,
-        }
-    }
-
-    /// The act by which a link may send eight more tokens.
-    #[inline(always)]
-    pub fn credit_in_act(&self, link: usize) -> ActOf<T>
-        ensures { result ≡ credit_in_act link self.now }
-    {
-        match self {
-            NodeOf::Switch(_) => ActOf::Step(ActionOf::CreditIn(link)),
-            NodeOf::Terminal(_) => ActOf::CreditIn,
-        }
-    }
-
     /// Whether a token can go out over a link's wire.
     #[inline(always)]
     pub fn can_leave(&self, link: usize) -> bool
@@ -127,17 +82,6 @@ impl<T: TokenKind> NodeOf<T> {
         match self {
             NodeOf::Switch(switch) => switch.can_leave(link),
             NodeOf::Terminal(terminal) => terminal.can_leave(),
-        }
-    }
-
-    /// Whether a token can come in over a link's wire.
-    #[inline(always)]
-    pub fn can_enter(&self, link: usize) -> bool
-        ensures { (token : T) → result ≡ is_some (node_enter token link self.now) }
-    {
-        match self {
-            NodeOf::Switch(switch) => switch.can_enter(link),
-            NodeOf::Terminal(terminal) => terminal.can_enter(),
         }
     }
 
@@ -180,17 +124,6 @@ impl<T: TokenKind> NodeOf<T> {
         }
     }
 
-    /// Whether a token can arrive.
-    #[inline(always)]
-    pub fn can_drain(&self) -> bool
-        ensures { result ≡ is_some (node_drain self.now) }
-    {
-        match self {
-            NodeOf::Switch(_) => false,
-            NodeOf::Terminal(terminal) => terminal.can_drain(),
-        }
-    }
-
     /// Whether a link can grant eight more tokens.
     #[inline(always)]
     pub fn can_credit_out(&self, link: usize) -> bool
@@ -199,17 +132,6 @@ impl<T: TokenKind> NodeOf<T> {
         match self {
             NodeOf::Switch(switch) => switch.can_credit_out(link),
             NodeOf::Terminal(terminal) => terminal.can_credit_out(),
-        }
-    }
-
-    /// Whether a link may be granted eight more tokens.
-    #[inline(always)]
-    pub fn can_credit_in(&self, link: usize) -> bool
-        ensures { result ≡ is_some (node_credit_in link self.now) }
-    {
-        match self {
-            NodeOf::Switch(switch) => switch.can_credit_in(link),
-            NodeOf::Terminal(terminal) => terminal.can_credit_in(),
         }
     }
 }

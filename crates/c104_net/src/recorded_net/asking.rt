@@ -37,8 +37,9 @@ impl<T: TokenKind, P: RecordedPlace<T>> RecordedNet<T, P> {
             is_unready (network_apply plain_kind self.now.network event.now).0 }
         ensures holds { IfSome result (IsEventReason self.now.network event.now) }
     {
-        // The proof reads by this name what every such network keeps.
+        // The proof reads by these names what every such network and every plan keeps.
         let _count = self.count;
+        let _plan = self.wires.plan();
         first_reason(&self.wires, self.places.as_slice(), event)
     }
 
@@ -48,8 +49,9 @@ impl<T: TokenKind, P: RecordedPlace<T>> RecordedNet<T, P> {
     pub fn stands_still(&self) -> bool
         ensures { IsTrue result ↔ StandsStill plain_kind self.now.network }
     {
-        // The proof reads by this name what every such network keeps.
+        // The proof reads by these names what every such network and every plan keeps.
         let _count = self.count;
+        let _plan = self.wires.plan();
         round_stands(&self.wires, self.places.as_slice())
     }
 

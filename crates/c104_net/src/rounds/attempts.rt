@@ -1,84 +1,66 @@
 //! One event of a round, which tells whether it was done, and is counted where it was.
 //!
-//! Of the kinds that a round has most, each has a function of its own, which is inlined, so that a walk holds no code
-//! of other kinds. `attempt` is for the rest, which are claims.
-ghost use Rattle.std.specs.Prelude.{◌≡◌, ◌∷◌, []};
+//! A round knows of each of its events that it can happen, and what acts it asks: so an event is tried by its acts.
+ghost use Rattle.std.specs.Prelude.{◌≡◌, ◌<◌, ◌∷◌, [], None, Some, length};
+ghost use Rattle.c104_describe.specs.Wiring.{peer};
+ghost use Rattle.c104_describe.specs.declared.ports.Port.TheVariants as port;
+ghost use Rattle.c104_event.specs.declared.events.Event.{Event as TheEvent};
 ghost use Rattle.c104_event.specs.declared.events.Event.TheVariants as event;
+ghost use Rattle.c104_regs.specs.declared.registers.TheConstants.{LINKS};
+ghost use Rattle.c104_net.specs.Acts.{IsWithinLimits};
+ghost use Rattle.c104_net.specs.AskedActs.{told_answer};
+ghost use Rattle.c104_net.specs.EventActs.{Acts};
+ghost use Rattle.c104_net.specs.EventActs.{crossing_acts, event_acts};
+ghost use Rattle.c104_net.specs.Network.{event_fault, wired_fault};
 ghost use Rattle.c104_net.specs.NetRecords.{is_done, ticket_after};
 ghost use Rattle.c104_net.specs.RoundParts.{PartEnds, done_answer};
 ghost use Rattle.c104_net.specs.Stages.{is_kept_full, stage_apply, stage_of};
 
-use crate::events::{credit, cross, do_event, drain, input};
+use crate::acts::ActOf;
+use crate::asked::far_port;
+use crate::crossings::{Crossing, Joint};
+use crate::doing::do_alone;
+use crate::joint::joint_at;
 use crate::place::Place;
 use crate::stamps::Stamp;
 use crate::wires::Wires;
-use c104_event::{Event, EventFault, Port};
-use c104_switch::Reply;
+use c104_event::{EventFault, Port};
+use c104_switch::{ActionOf, ReplyOf};
 use c104_token::TokenKind;
 
-/// Tries an event, and tells whether it was done. Its ticket is the count of those before it.
-pub fn attempt<T: TokenKind, P: Place<T>>(
-    wires: &Wires,
-    places: &mut [P],
-    count: &mut u64,
-    event: &Event,
-) -> Result<bool, EventFault>
-    requires full { (p : P) → P.full p ≡ is_kept_full P.keeps (P.trace p) }
-    ensures { PartEnds (stage_apply T.kind P.keeps)
-        (stage_of P.state P.start P.trace wires.now places.old count.old) (event.now ∷ [])
-        result (stage_of P.state P.start P.trace wires.now places.new count.new) }
-{
-    let stamp = Stamp {
-        ticket: *count,
-        seat: None,
-    };
-    let answer = do_event(wires, places, stamp, event);
-    counted(count, answer)
-}
-
-/// The same of a crossing.
+/// Tries a crossing from a port that is wired, and tells whether it was done. Its ticket is the count of the events
+/// before it.
 #[inline(always)]
-pub fn attempt_cross<T: TokenKind, P: Place<T>>(
+pub fn attempt_joint<T: TokenKind, P: Place<T>>(
     wires: &Wires,
     places: &mut [P],
     count: &mut u64,
     port: Port,
+    crossing: Crossing,
 ) -> Result<bool, EventFault>
     requires full { (p : P) → P.full p ≡ is_kept_full P.keeps (P.trace p) }
-    ensures { PartEnds (stage_apply T.kind P.keeps)
-        (stage_of P.state P.start P.trace wires.now places.old count.old) (event.Cross port ∷ [])
+    requires wired { wired_fault wires.now port ≡ None }
+    ensures { (e : TheEvent) → event_fault wires.now e ≡ None →
+        event_acts {A = T} wires.now e ≡ crossing_acts crossing port (peer wires.now port) →
+        PartEnds (stage_apply T.kind P.keeps)
+        (stage_of P.state P.start P.trace wires.now places.old count.old) (e ∷ [])
         result (stage_of P.state P.start P.trace wires.now places.new count.new) }
 {
+    let ends = wires.wired_ends(port);
+    let joint = Joint {
+        near: port,
+        far: far_port(wires, port, ends.far),
+        crossing,
+    };
     let stamp = Stamp {
         ticket: *count,
         seat: None,
     };
-    let answer = cross(wires, places, stamp, port);
+    let answer = joint_at(places, ends.near.node, ends.far.node, joint, stamp);
     counted(count, answer)
 }
 
-/// The same of a credit.
-#[inline(always)]
-pub fn attempt_credit<T: TokenKind, P: Place<T>>(
-    wires: &Wires,
-    places: &mut [P],
-    count: &mut u64,
-    port: Port,
-) -> Result<bool, EventFault>
-    requires full { (p : P) → P.full p ≡ is_kept_full P.keeps (P.trace p) }
-    ensures { PartEnds (stage_apply T.kind P.keeps)
-        (stage_of P.state P.start P.trace wires.now places.old count.old) (event.Credit port ∷ [])
-        result (stage_of P.state P.start P.trace wires.now places.new count.new) }
-{
-    let stamp = Stamp {
-        ticket: *count,
-        seat: None,
-    };
-    let answer = credit(wires, places, stamp, port);
-    counted(count, answer)
-}
-
-/// The same of a turn of an input, with word 0.
+/// The same of a turn of the input at a wired link, with word 0.
 #[inline(always)]
 pub fn attempt_turn<T: TokenKind, P: Place<T>>(
     wires: &Wires,
@@ -88,16 +70,34 @@ pub fn attempt_turn<T: TokenKind, P: Place<T>>(
     link: usize,
 ) -> Result<bool, EventFault>
     requires full { (p : P) → P.full p ≡ is_kept_full P.keeps (P.trace p) }
+    requires wired { wired_fault wires.now (port.Switch switch link) ≡ None }
     ensures { PartEnds (stage_apply T.kind P.keeps)
         (stage_of P.state P.start P.trace wires.now places.old count.old) (event.Input switch link 0 ∷ [])
         result (stage_of P.state P.start P.trace wires.now places.new count.new) }
 {
-    let stamp = Stamp {
-        ticket: *count,
-        seat: None,
-    };
-    let answer = input(wires, places, stamp, switch, link, 0);
-    counted(count, answer)
+    let act = ActOf::Step(ActionOf::Input(link, 0));
+    attempt_alone(wires, places, count, switch, act)
+}
+
+/// The same of a claim.
+pub fn attempt_claim<T: TokenKind, P: Place<T>>(
+    wires: &Wires,
+    places: &mut [P],
+    count: &mut u64,
+    switch: usize,
+    input: usize,
+    output: usize,
+) -> Result<bool, EventFault>
+    requires full { (p : P) → P.full p ≡ is_kept_full P.keeps (P.trace p) }
+    requires switch { switch < length wires.now.switches }
+    requires input { input < LINKS }
+    requires output { output < LINKS }
+    ensures { PartEnds (stage_apply T.kind P.keeps)
+        (stage_of P.state P.start P.trace wires.now places.old count.old) (event.Claim switch input output ∷ [])
+        result (stage_of P.state P.start P.trace wires.now places.new count.new) }
+{
+    let act = ActOf::Step(ActionOf::Claim(input, output));
+    attempt_alone(wires, places, count, switch, act)
 }
 
 /// The same of an arrival at a terminal.
@@ -109,27 +109,53 @@ pub fn attempt_drain<T: TokenKind, P: Place<T>>(
     terminal: usize,
 ) -> Result<bool, EventFault>
     requires full { (p : P) → P.full p ≡ is_kept_full P.keeps (P.trace p) }
+    requires terminal { terminal < length wires.now.terminals }
     ensures { PartEnds (stage_apply T.kind P.keeps)
         (stage_of P.state P.start P.trace wires.now places.old count.old) (event.Drain terminal ∷ [])
         result (stage_of P.state P.start P.trace wires.now places.new count.new) }
 {
+    let place = wires.plan().switches().len() + terminal;
+    attempt_alone(wires, places, count, place, ActOf::Drain)
+}
+
+/// Tries an event that can happen and asks an act of one node, and tells whether it was done.
+#[inline(always)]
+fn attempt_alone<T: TokenKind, P: Place<T>>(
+    wires: &Wires,
+    places: &mut [P],
+    count: &mut u64,
+    place: usize,
+    act: ActOf<T>,
+) -> Result<bool, EventFault>
+    requires full { (p : P) → P.full p ≡ is_kept_full P.keeps (P.trace p) }
+    requires short { IsWithinLimits act }
+    ensures { (e : TheEvent) → event_fault wires.now e ≡ None →
+        event_acts wires.now e ≡ Some (Acts.Alone place act) →
+        PartEnds (stage_apply T.kind P.keeps)
+        (stage_of P.state P.start P.trace wires.now places.old count.old) (e ∷ [])
+        result (stage_of P.state P.start P.trace wires.now places.new count.new) }
+{
+    let switches = wires.plan().switches().len();
     let stamp = Stamp {
         ticket: *count,
         seat: None,
     };
-    let answer = drain(wires, places, stamp, terminal);
+    let answer = do_alone(switches, places, place, act, stamp);
     counted(count, answer)
 }
 
 /// Counts an event that was answered so, if it was done, and tells whether it was.
 // Saturating: no network comes near the end, since its traces are full long before.
 #[inline(always)]
-fn counted(count: &mut u64, answer: Result<Reply, EventFault>) -> Result<bool, EventFault>
-    ensures told { result ≡ done_answer answer }
-    ensures count { count.new ≡ ticket_after count.old (is_done answer) }
+fn counted<T: TokenKind>(
+    count: &mut u64,
+    answer: Result<ReplyOf<T>, EventFault>,
+) -> Result<bool, EventFault>
+    ensures told { result ≡ done_answer (told_answer T.kind answer) }
+    ensures count { count.new ≡ ticket_after count.old (is_done (told_answer T.kind answer)) }
 {
     match answer {
-        Ok(Reply::NotReady) => Ok(false),
+        Ok(ReplyOf::NotReady) => Ok(false),
         Ok(_) => {
             *count = count.saturating_add(1);
             Ok(true)

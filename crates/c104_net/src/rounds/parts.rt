@@ -7,13 +7,13 @@ ghost use Rattle.c104_net.specs.Rounds.{turn_at, wired_ports};
 ghost use Rattle.c104_net.specs.RoundParts.{PartEnds};
 ghost use Rattle.c104_net.specs.Stages.{is_kept_full, stage_apply, stage_of};
 
-use super::attempts::{attempt, attempt_drain};
+use super::attempts::{attempt_claim, attempt_drain};
 use super::ports::walk_ports;
 use crate::place::Place;
 use crate::places::{next_claim_at, next_wanting_at};
 use crate::port_part::PortPart;
 use crate::wires::Wires;
-use c104_event::{Event, EventFault};
+use c104_event::EventFault;
 use c104_token::TokenKind;
 
 /// Credit of each wired port.
@@ -120,16 +120,7 @@ fn claim_for_input<T: TokenKind, P: Place<T>>(
     let mut changed = false;
     let mut from = 0;
     while let Some(output) = next_claim_at(places, switch, input, from) {
-        let done = attempt(
-            wires,
-            places,
-            count,
-            &Event::Claim {
-                switch,
-                input,
-                output,
-            },
-        )?;
+        let done = attempt_claim(wires, places, count, switch, input, output)?;
         changed |= done;
         from = output + 1;
     }

@@ -12,7 +12,8 @@ ghost use Rattle.c104_net.specs.Rounds.{is_wired, turn_at, wired_links, wired_po
 ghost use Rattle.c104_net.specs.RoundParts.{PartEnds};
 ghost use Rattle.c104_net.specs.Stages.{is_kept_full, stage_apply, stage_of};
 
-use super::attempts::{attempt_credit, attempt_cross, attempt_turn};
+use super::attempts::{attempt_joint, attempt_turn};
+use crate::crossings::Crossing;
 use crate::place::Place;
 use crate::places::{can_credit_out_at, can_leave_at, next_ready_at};
 use crate::port_part::PortPart;
@@ -180,7 +181,7 @@ fn may_be_ready<T: TokenKind, P: Place<T>>(
     }
 }
 
-/// The event of a part at a port.
+/// The event of a part at a wired port.
 #[inline(always)]
 fn try_at<T: TokenKind, P: Place<T>>(
     wires: &Wires,
@@ -190,18 +191,19 @@ fn try_at<T: TokenKind, P: Place<T>>(
     port: Port,
 ) -> Result<bool, EventFault>
     requires full { (p : P) → P.full p ≡ is_kept_full P.keeps (P.trace p) }
+    requires wired { wired_fault wires.now port ≡ None }
     ensures { PartEnds (stage_apply T.kind P.keeps)
         (stage_of P.state P.start P.trace wires.now places.old count.old) (port_events part port)
         result (stage_of P.state P.start P.trace wires.now places.new count.new) }
 {
     match part {
-        PortPart::Credit => attempt_credit(wires, places, count, port),
-        PortPart::Cross => attempt_cross(wires, places, count, port),
+        PortPart::Credit => attempt_joint(wires, places, count, port, Crossing::Grant),
+        PortPart::Cross => attempt_joint(wires, places, count, port, Crossing::Token),
         PortPart::Turn => try_turn(wires, places, count, port),
     }
 }
 
-/// The input at a port takes a turn, with word 0, if it is a switch's.
+/// The input at a wired port takes a turn, with word 0, if it is a switch's.
 #[inline(always)]
 fn try_turn<T: TokenKind, P: Place<T>>(
     wires: &Wires,
@@ -210,6 +212,7 @@ fn try_turn<T: TokenKind, P: Place<T>>(
     port: Port,
 ) -> Result<bool, EventFault>
     requires full { (p : P) → P.full p ≡ is_kept_full P.keeps (P.trace p) }
+    requires wired { wired_fault wires.now port ≡ None }
     ensures { PartEnds (stage_apply T.kind P.keeps)
         (stage_of P.state P.start P.trace wires.now places.old count.old) (turn_at port)
         result (stage_of P.state P.start P.trace wires.now places.new count.new) }

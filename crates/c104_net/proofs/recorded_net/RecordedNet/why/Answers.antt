@@ -1,5 +1,6 @@
 use Rattle.std.proofs.Common.{◌≡◌, ◌∙◌, List, IfSome, ap, is_some, map, sym, subst}
 use Rattle.c104_token.specs.Kinds.{plain_kind}
+use Rattle.c104_describe.specs.Plans.{IsPlan}
 use Rattle.c104_net.specs.NetRecords.{IsNetRecord, NetRecord}
 use Rattle.c104_net.specs.Network.{network_apply, network_of}
 use Rattle.c104_net.specs.Reasons.{is_unready, network_why}
@@ -30,7 +31,8 @@ returns-clause-ready g c =
     ∙ ap (λ ns. network_why (network_of c.self.inside.wires ns) c.args.event.now) (states_shown v g.met.P.RecordedPlace.keeps_record.reads c.self.inside.places.items)
     ∙ ap (λ (r : NetRecord). network_why r.network c.args.event.now) c.self.view_is in
     let kept : IsNetRecord c.args.self.now = subst IsNetRecord c.self.view_is c.self.invariant.0.kept in
-    subst (λ told. is_some told ≡ is_unready (network_apply plain_kind c.args.self.now.network c.args.event.now).0) (sym why) (unready_answered plain_kind c.args.self.now.network kept.steady c.args.event.now)
+    let is_plan : IsPlan c.args.self.now.network.plan = subst (λ (r : NetRecord). IsPlan r.network.plan) c.self.view_is c.plan-plan.ensures.kept in
+    subst (λ told. is_some told ≡ is_unready (network_apply plain_kind c.args.self.now.network c.args.event.now).0) (sym why) (unready_answered plain_kind c.args.self.now.network is_plan kept.steady c.args.event.now)
 
 pub returns-clause-holds : goal.returns-clause-holds
 returns-clause-holds g c =

@@ -1,0 +1,143 @@
+-- The step of some acts: what it answers is a reply, and of what crosses a wire it is what crossed.
+use Rattle.c104_describe.specs.Plans.{Plan}
+use Rattle.c104_describe.specs.declared.ports.Port.{Port}
+use Rattle.c104_link.proofs.MadeSteps.{from_place_made, given}
+use Rattle.c104_describe.specs.Wiring.{peer}
+use Rattle.c104_event.specs.declared.events.Event.{Event}
+use Rattle.c104_event.specs.declared.events.Event.TheVariants as event
+use Rattle.c104_describe.specs.declared.ports.Port.TheVariants as port
+use Rattle.c104_link.specs.Steps.{◌>>=◌, step_at, yield_step_at}
+use Rattle.c104_net.specs.Ends.{end_of}
+use Rattle.c104_net.specs.Network.{Network, told_step}
+use Rattle.c104_net.specs.declared.crossings.Crossing.TheVariants.{Grant, Token}
+use Rattle.c104_net.proofs.JointEnds.{near_answers, ready_answer}
+use Rattle.c104_net.specs.Acts.{control_by, done_by, node_act, nodes_act, token_by}
+use Rattle.c104_net.specs.EventActs.{Acts, IsAnswerOf, acts_step, crossing_acts, event_acts, far_act, joint_step, near_act, port_credit_out, port_leave, port_place}
+use Rattle.c104_net.specs.Nodes.{Node, node_claim, node_control, node_credit_in, node_credit_out, node_drain, node_enter, node_input, node_leave, node_send}
+use Rattle.c104_net.specs.declared.acts.ActOf.{ActOf}
+use Rattle.c104_net.specs.declared.crossings.Crossing.{Crossing}
+use Rattle.c104_switch.specs.Actions.{is_ready}
+use Rattle.c104_switch.specs.declared.actions.ReplyOf.{ReplyOf}
+use Rattle.c104_token.specs.Kinds.{Kind}
+use Rattle.std.proofs.Common.{List, None, Option, Some, ap, false, is_some, length, refl, slice_get, slice_set, sym, true, ℕ, ◌-◌, ◌∙◌, ◌≡◌, subst}
+use Rattle.c104_net.specs.declared.acts.ActOf.TheVariants as act
+use Rattle.c104_net.specs.declared.node.NodeOf.TheVariants as node
+use Rattle.c104_switch.specs.declared.actions.ActionOf.TheVariants as action
+use Rattle.c104_switch.specs.declared.actions.ReplyOf.TheVariants as reply
+
+module _ {A S : Type 0} where
+  done_ready : (made : Option S) (r : ReplyOf A × S) → done_by made ≡ Some r → is_ready r.0 ≡ true
+  done_ready None r is = absurd (cc)
+  done_ready (Some s) r is = let same : reply.Done ≡ r.0 = (let both : ◌≡◌ {A = Option (ReplyOf A × S)} (Some (reply.Done, s)) (Some r) = is in cc) in ap is_ready (sym same)
+
+  token_ready : (made : Option (A × S)) (r : ReplyOf A × S) → token_by made ≡ Some r → is_ready r.0 ≡ true
+  token_ready None r is = absurd (cc)
+  token_ready (Some v) r is = let same : reply.Token v.0 ≡ r.0 = (let both : ◌≡◌ {A = Option (ReplyOf A × S)} (Some (reply.Token v.0, v.1)) (Some r) = is in cc) in ap is_ready (sym same)
+
+  control_ready : (made : Option (List ℕ × S)) (r : ReplyOf A × S) → control_by made ≡ Some r → is_ready r.0 ≡ true
+  control_ready None r is = absurd (cc)
+  control_ready (Some v) r is = let same : reply.Control v.0 ≡ r.0 = (let both : ◌≡◌ {A = Option (ReplyOf A × S)} (Some (reply.Control v.0, v.1)) (Some r) = is in cc) in ap is_ready (sym same)
+
+module _ {A : Type 0} (kind : Kind A) where
+  -- an act that is done answers something else than that it isn't ready
+  act_ready : (number : ℕ) (a : ActOf A) (n : Node A) (r : ReplyOf A × Node A) → node_act kind number a n ≡ Some r → is_ready r.0 ≡ true
+  act_ready number (act.Step (action.Enter l x)) (node.Switch s) r is = done_ready (node_enter x l (node.Switch s)) r is
+  act_ready number (act.Step (action.Leave l)) (node.Switch s) r is = token_ready (node_leave l (node.Switch s)) r is
+  act_ready number (act.Step (action.CreditOut l)) (node.Switch s) r is = done_ready (node_credit_out l (node.Switch s)) r is
+  act_ready number (act.Step (action.CreditIn l)) (node.Switch s) r is = done_ready (node_credit_in l (node.Switch s)) r is
+  act_ready number (act.Step (action.Input l word)) (node.Switch s) r is = done_ready (node_input kind l word (node.Switch s)) r is
+  act_ready number (act.Step (action.Claim i o)) (node.Switch s) r is = done_ready (node_claim i o (node.Switch s)) r is
+  act_ready number (act.Step (action.Control bytes)) (node.Switch s) r is = control_ready (node_control bytes (node.Switch s)) r is
+  act_ready number (act.Step a) (node.Terminal t) r is = absurd (cc)
+  act_ready number (act.Send packet) n r is = done_ready (node_send kind number packet n) r is
+  act_ready number act.Drain n r is = token_ready (node_drain n) r is
+  act_ready number act.Leave (node.Switch s) r is = absurd (cc)
+  act_ready number act.Leave (node.Terminal t) r is = token_ready (node_leave 0 (node.Terminal t)) r is
+  act_ready number (act.Enter x) (node.Switch s) r is = absurd (cc)
+  act_ready number (act.Enter x) (node.Terminal t) r is = done_ready (node_enter x 0 (node.Terminal t)) r is
+  act_ready number act.CreditOut (node.Switch s) r is = absurd (cc)
+  act_ready number act.CreditOut (node.Terminal t) r is = done_ready (node_credit_out 0 (node.Terminal t)) r is
+  act_ready number act.CreditIn (node.Switch s) r is = absurd (cc)
+  act_ready number act.CreditIn (node.Terminal t) r is = done_ready (node_credit_in 0 (node.Terminal t)) r is
+
+  -- what crosses a wire answers that, and nodes stand at both ends
+  pub joint_answers : (near far : ℕ) (p q : Port) (crossing : Crossing) (nodes : List (Node A)) (r : ReplyOf A × List (Node A)) → joint_step kind near far p q crossing nodes ≡ Some r → IsAnswerOf crossing r.0
+  joint_answers near far p q crossing nodes r is =
+      given (nodes_act kind nodes near 0 (near_act crossing p)) _ r is (λ v left more.
+      given (nodes_act kind v.1 far 0 (far_act q v.0)) _ r more (λ w came last.
+      from_place_made nodes near (node_act kind 0 (near_act crossing p)) v left (λ n y here made set.
+      (let one : y.0 ≡ v.0 = ap (λ (z : ReplyOf A × List (Node A)). z.0) set in
+      let two : v.0 ≡ r.0 = (let both : ◌≡◌ {A = ReplyOf A × List (Node A)} (v.0, w.1) r = cc in ap (λ (z : ReplyOf A × List (Node A)). z.0) both) in
+      subst (IsAnswerOf crossing) (one ∙ two) (near_answers kind crossing p n y made)))))
+
+  -- the step of acts answers something else than that they aren't ready
+  pub step_ready : (plan : Plan) (nodes : List (Node A)) (acts : Acts A) (r : ReplyOf A × List (Node A)) → acts_step kind plan nodes acts ≡ Some r → is_ready r.0 ≡ true
+  step_ready plan nodes (Acts.Alone k a) r is =
+      from_place_made nodes k (node_act kind (k - length plan.switches) a) r is (λ n y here made set.
+      (let one : y.0 ≡ r.0 = ap (λ (z : ReplyOf A × List (Node A)). z.0) set in ap is_ready (sym one) ∙ act_ready (k - length plan.switches) a n y made))
+  step_ready plan nodes (Acts.Joint p q crossing) r is = ready_answer crossing r.0 (joint_answers (port_place plan p) (port_place plan q) p q crossing nodes r is)
+
+-- what crosses a wire in an event crosses that of its port
+pub joint_wired : {A : Type 0} (plan : Plan) (e : Event) (p q : Port) (crossing : Crossing) → ◌≡◌ {A = Option (Acts A)} (event_acts plan e) (Some (Acts.Joint p q crossing)) → peer plan p ≡ Some q
+joint_wired {A} plan (event.Cross o) p q crossing is = by_peer (peer plan o) refl is
+  where
+    by_peer : (other : Option Port) → peer plan o ≡ other → ◌≡◌ {A = Option (Acts A)} (crossing_acts Token o other) (Some (Acts.Joint p q crossing)) → peer plan p ≡ Some q
+    by_peer None wired is = absurd (cc)
+    by_peer (Some r) wired is = let near : o ≡ p = cc in let far : r ≡ q = cc in sym (ap (peer plan) near) ∙ wired ∙ ap Some far
+joint_wired {A} plan (event.Credit o) p q crossing is = by_peer (peer plan o) refl is
+  where
+    by_peer : (other : Option Port) → peer plan o ≡ other → ◌≡◌ {A = Option (Acts A)} (crossing_acts Grant o other) (Some (Acts.Joint p q crossing)) → peer plan p ≡ Some q
+    by_peer None wired is = absurd (cc)
+    by_peer (Some r) wired is = let near : o ≡ p = cc in let far : r ≡ q = cc in sym (ap (peer plan) near) ∙ wired ∙ ap Some far
+joint_wired plan (event.Input s l word) p q crossing is = absurd (cc)
+joint_wired plan (event.Claim s i o) p q crossing is = absurd (cc)
+joint_wired plan (event.Control s bytes) p q crossing is = absurd (cc)
+joint_wired plan (event.Send t packet) p q crossing is = absurd (cc)
+joint_wired plan (event.Drain t) p q crossing is = absurd (cc)
+
+-- where the near end isn't ready, nothing crosses
+module _ {A : Type 0} (kind : Kind A) where
+  pub joint_unready : (net : Network A) (crossing : Crossing) (p : Port) → nodes_act kind net.nodes (port_place net.plan p) 0 (near_act crossing p) ≡ None → (o : Option Port) → (crossing_acts crossing p o >>= (λ acts. told_step kind net (acts_step kind net.plan net.nodes acts))) ≡ None
+  joint_unready net crossing p none None = refl
+  joint_unready net crossing p none (Some q) = rw none refl
+
+  module _ (plan : Plan) (nodes : List (Node A)) where
+    abbrev set_at : {Y : Type 0} → Port → Y × Node A → Option (Y × List (Node A))
+    set_at p y = Some (y.0, slice_set nodes (port_place plan p) y.1)
+
+    abbrev put_at : Port → Node A → Option (List (Node A))
+    put_at p n = Some (slice_set nodes (port_place plan p) n)
+
+    leave_none : (p : Port) (n : Node A) → node_leave (end_of plan p).link n ≡ None → node_act kind 0 (port_leave p) n ≡ None
+    leave_none (port.Switch s l) (node.Switch x) is = ap token_by is
+    leave_none (port.Switch s l) (node.Terminal x) is = refl
+    leave_none (port.Terminal t) (node.Switch x) is = refl
+    leave_none (port.Terminal t) (node.Terminal x) is = ap token_by is
+
+    grant_none : (p : Port) (n : Node A) → node_credit_out (end_of plan p).link n ≡ None → node_act kind 0 (port_credit_out p) n ≡ None
+    grant_none (port.Switch s l) (node.Switch x) is = ap done_by is
+    grant_none (port.Switch s l) (node.Terminal x) is = refl
+    grant_none (port.Terminal t) (node.Switch x) is = refl
+    grant_none (port.Terminal t) (node.Terminal x) is = ap done_by is
+
+    pub leave_unready : (p : Port) → is_some (yield_step_at nodes (end_of plan p).node (node_leave (end_of plan p).link)) ≡ false → nodes_act kind nodes (port_place plan p) 0 (near_act Token p) ≡ None
+    leave_unready p = by_node (slice_get nodes (port_place plan p))
+      where
+        by_made : (n : Node A) (made : Option (A × Node A)) → node_leave (end_of plan p).link n ≡ made → is_some (made >>= set_at p) ≡ false → (node_act kind 0 (port_leave p) n >>= set_at p) ≡ None
+        by_made n None is unready = rw (leave_none p n is) refl
+        by_made n (Some y) is unready = absurd (cc)
+
+        by_node : (o : Option (Node A)) → is_some (o >>= (λ n. node_leave (end_of plan p).link n >>= set_at p)) ≡ false → (o >>= (λ n. node_act kind 0 (port_leave p) n >>= set_at p)) ≡ None
+        by_node None unready = refl
+        by_node (Some n) unready = by_made n (node_leave (end_of plan p).link n) refl unready
+
+    pub grant_unready : (p : Port) → is_some (step_at nodes (end_of plan p).node (node_credit_out (end_of plan p).link)) ≡ false → nodes_act kind nodes (port_place plan p) 0 (near_act Grant p) ≡ None
+    grant_unready p = by_node (slice_get nodes (port_place plan p))
+      where
+        by_made : (n : Node A) (made : Option (Node A)) → node_credit_out (end_of plan p).link n ≡ made → is_some (made >>= put_at p) ≡ false → (node_act kind 0 (port_credit_out p) n >>= set_at p) ≡ None
+        by_made n None is unready = rw (grant_none p n is) refl
+        by_made n (Some y) is unready = absurd (cc)
+
+        by_node : (o : Option (Node A)) → is_some (o >>= (λ n. node_credit_out (end_of plan p).link n >>= put_at p)) ≡ false → (o >>= (λ n. node_act kind 0 (port_credit_out p) n >>= set_at p)) ≡ None
+        by_node None unready = refl
+        by_node (Some n) unready = by_made n (node_credit_out (end_of plan p).link n) refl unready

@@ -1,0 +1,172 @@
+//! What crosses a wire, done at the nodes of both its ends, or at neither.
+ghost use Rattle.std.specs.Prelude.{◌≡◌, ◌≢◌, ◌<◌, ◌||◌, ℕ, Some, map, length, true, false, IfOk, is_some, OnOk};
+ghost use Rattle.c104_switch.specs.Actions.{is_ready};
+ghost use Rattle.c104_switch.specs.declared.actions.ReplyOf.{ReplyOf as TheReply};
+ghost use Rattle.c104_switch.specs.declared.actions.ReplyOf.TheVariants as reply;
+ghost use Rattle.c104_net.specs.Acts.{nodes_act, reply_outcome};
+ghost use Rattle.c104_net.specs.EventActs.{IsAnswerOf, far_act, joint_step, near_act};
+ghost use Rattle.c104_net.specs.Places.{HasRoomAt, StepEnds};
+ghost use Rattle.c104_net.specs.Traces.{full_at, joint_deeds, kept_entry, kept_of, noted_all, noted_at};
+
+use crate::acts::ActOf;
+use crate::crossings::{Joint, can_far, can_near, far_act, near_act};
+use crate::place::Place;
+use crate::places::{act_sure, is_full_at, room_at};
+use crate::stamps::Stamp;
+use c104_event::EventFault;
+use c104_switch::ReplyOf;
+use c104_token::{NoMemory, TokenKind};
+
+/// Something crosses a wire between the nodes at two places, or nothing changes.
+#[inline(always)]
+pub fn joint_at<T: TokenKind, P: Place<T>>(
+    places: &mut [P],
+    near: usize,
+    far: usize,
+    joint: Joint,
+    stamp: Stamp,
+) -> Result<ReplyOf<T>, EventFault>
+    requires { near ≢ far }
+    ensures ends { StepEnds
+        (reply_outcome
+        (joint_step T.kind near far joint.near joint.far joint.crossing (map P.state places.old))
+        (map P.state places.old))
+        (is_some (joint_step T.kind near far joint.near joint.far joint.crossing (map P.state places.old)))
+        (full_at (map P.full places.old) near || full_at (map P.full places.old) far)
+        (map P.state places.old) result (map P.state places.new) }
+    ensures free { IfOk result (λ told. is_ready told ≡ true →
+        (full_at (map P.full places.old) near || full_at (map P.full places.old) far) ≡ false) }
+    ensures start { map P.start places.new ≡ map P.start places.old }
+    ensures trace { map P.trace places.new ≡ noted_all P.keeps (map P.trace places.old)
+        (kept_of (joint_deeds T.kind stamp near far joint.near joint.far joint.crossing) result) }
+{
+    if near >= places.len() || !can_near_at(places, near, joint) {
+        return Ok(ReplyOf::NotReady);
+    }
+    if !can_far_at(places, far, joint) {
+        return Ok(ReplyOf::NotReady);
+    }
+    if far >= places.len() {
+        return Ok(ReplyOf::NotReady);
+    }
+    if are_full_at(places, near, far) {
+        return Err(EventFault::TraceFull);
+    }
+    // All growths come before the first change.
+    room_at_both(places, near, far)?;
+    Ok(cross_open(places, near, far, joint, stamp))
+}
+
+/// Whether the node at a place would do the act at the port from which something crosses.
+#[inline(always)]
+fn can_near_at<T: TokenKind, P: Place<T>>(places: &[P], place: usize, joint: Joint) -> bool
+    ensures { result ≡ is_some (nodes_act T.kind (map P.state places.now) place 0 (near_act joint.crossing joint.near)) }
+{
+    match places.get(place) {
+        Some(found) => can_near(found.node(), joint.crossing, joint.near),
+        None => false,
+    }
+}
+
+/// Whether the node at a place would do the act at the other port, whatever token crosses.
+#[inline(always)]
+fn can_far_at<T: TokenKind, P: Place<T>>(places: &[P], place: usize, joint: Joint) -> bool
+    ensures { (reply : TheReply T) → IsAnswerOf joint.crossing reply →
+        result ≡ is_some (nodes_act T.kind (map P.state places.now) place 0 (far_act joint.far reply)) }
+{
+    match places.get(place) {
+        Some(found) => can_far(found.node(), joint.crossing, joint.far),
+        None => false,
+    }
+}
+
+/// The act of the node at a place, at the port from which something crosses, where it would do it.
+#[inline(always)]
+fn near_act_at<T: TokenKind, P: Place<T>>(places: &[P], place: usize, joint: Joint) -> ActOf<T>
+    requires { is_some (nodes_act T.kind (map P.state places.now) place 0 (near_act joint.crossing joint.near)) ≡ true }
+    ensures { result ≡ near_act joint.crossing joint.near }
+{
+    match places.get(place) {
+        Some(found) => near_act(found.node(), joint.crossing, joint.near),
+        None => unreachable!(),
+    }
+}
+
+/// The act of the node at a place, at the other port, where it would do it.
+#[inline(always)]
+fn far_act_at<T: TokenKind, P: Place<T>>(
+    places: &[P],
+    place: usize,
+    joint: Joint,
+    told: &ReplyOf<T>,
+) -> ActOf<T>
+    requires answer { IsAnswerOf joint.crossing told.now }
+    requires ready { is_some (nodes_act T.kind (map P.state places.now) place 0 (far_act joint.far told.now)) ≡ true }
+    ensures { result ≡ far_act joint.far told.now }
+{
+    match places.get(place) {
+        Some(found) => far_act(found.node(), joint.crossing, joint.far, told),
+        None => unreachable!(),
+    }
+}
+
+/// Whether no further entry may be kept at one of two places.
+#[inline(always)]
+fn are_full_at<T: TokenKind, P: Place<T>>(places: &[P], near: usize, far: usize) -> bool
+    ensures { result ≡ (full_at (map P.full places.now) near || full_at (map P.full places.now) far) }
+{
+    is_full_at(places, near) || is_full_at(places, far)
+}
+
+/// Makes room at two places for whatever is kept of one act at each, where neither is full.
+#[inline(always)]
+fn room_at_both<T: TokenKind, P: Place<T>>(
+    places: &mut [P],
+    near: usize,
+    far: usize,
+) -> Result<(), NoMemory>
+    requires apart { near ≢ far }
+    requires near { near < length places.old }
+    requires far { far < length places.old }
+    requires free { (full_at (map P.full places.old) near || full_at (map P.full places.old) far) ≡ false }
+    ensures state { map P.state places.new ≡ map P.state places.old }
+    ensures start { map P.start places.new ≡ map P.start places.old }
+    ensures trace { map P.trace places.new ≡ map P.trace places.old }
+    ensures near { OnOk result (HasRoomAt P.has_room places.new near) }
+    ensures far { OnOk result (HasRoomAt P.has_room places.new far) }
+{
+    room_at(places, near)?;
+    room_at(places, far)
+}
+
+/// Something crosses a wire between the nodes at two places, where both can act and have room.
+#[inline(always)]
+fn cross_open<T: TokenKind, P: Place<T>>(
+    places: &mut [P],
+    near: usize,
+    far: usize,
+    joint: Joint,
+    stamp: Stamp,
+) -> ReplyOf<T>
+    requires apart { near ≢ far }
+    requires near { near < length places.old }
+    requires far { far < length places.old }
+    requires near_room { HasRoomAt P.has_room places.old near }
+    requires far_room { HasRoomAt P.has_room places.old far }
+    requires goes { is_some
+        (nodes_act T.kind (map P.state places.old) near 0 (near_act joint.crossing joint.near)) ≡ true }
+    requires comes { (reply : TheReply T) → IsAnswerOf joint.crossing reply → is_some
+        (nodes_act T.kind (map P.state places.old) far 0 (far_act joint.far reply)) ≡ true }
+    ensures crossed { joint_step T.kind near far joint.near joint.far joint.crossing (map P.state places.old)
+        ≡ Some (result, map P.state places.new) }
+    ensures done { is_ready result ≡ true }
+    ensures start { map P.start places.new ≡ map P.start places.old }
+    ensures trace { map P.trace places.new ≡ noted_all P.keeps (map P.trace places.old)
+        (joint_deeds T.kind stamp near far joint.near joint.far joint.crossing result) }
+{
+    let going = near_act_at(places, near, joint);
+    let told = act_sure(places, near, stamp, going);
+    let coming = far_act_at(places, far, joint, &told);
+    act_sure(places, far, stamp, coming);
+    told
+}
