@@ -18,9 +18,10 @@ use Rattle.c104_net.specs.declared.stamps.Stamp.{Stamp}
 use Rattle.c104_net.specs.Traces.{seatless}
 use Rattle.c104_net.specs.Balance.{AreInPlace}
 use Rattle.c104_net.specs.NetRecords.{NetRecord, fresh_record}
+use Rattle.c104_net.proofs.EventSteps.{control_applied}
 use Rattle.c104_net.specs.Network.{Network, network_apply, new_network, with_nodes}
 use Rattle.c104_net.specs.Stages.{is_kept_full, unless_full}
-use Rattle.c104_net.specs.Traces.{event_deeds, full_at, is_switch_at, kept_of, lone_deed, noted_all, noted_in, trace_limit}
+use Rattle.c104_net.specs.Traces.{event_deeds, full_at, kept_of, lone_deed, noted_all, noted_in, trace_limit}
 use Rattle.c104_net.specs.declared.acts.ActOf.{ActOf}
 use Rattle.c104_net.specs.declared.acts.ActOf.TheVariants as act
 use Rattle.c104_net.specs.declared.acts.Entry.{Entry}
@@ -133,7 +134,7 @@ lone_short : (n : ℕ) (traces : List (List Entry)) (stamp : Stamp) (k : ℕ) (a
 lone_short n traces stamp k a r true is short = rw is (noted_short n traces k _ (slice_get traces k) refl short)
 lone_short n traces stamp k a r false is short = rw is (still_short n traces short)
 
-kept_short : (n : ℕ) (r : NetRecord) (k : ℕ) (bytes : List ℕ) (answer : Result Reply EventFault) → AreShort n r.traces → AreShort (n + 1) (noted_all true r.traces (kept_of (event_deeds (is_switch_at r.network.nodes) r.network.plan (seatless r.count) (event.Control k bytes)) answer))
+kept_short : (n : ℕ) (r : NetRecord) (k : ℕ) (bytes : List ℕ) (answer : Result Reply EventFault) → AreShort n r.traces → AreShort (n + 1) (noted_all true r.traces (kept_of (event_deeds r.network.plan (seatless r.count) (event.Control k bytes)) answer))
 kept_short n r k bytes (Ok told) short = lone_short n r.traces (seatless r.count) k (act.Step (action.Control bytes)) told (is_ready told) refl short
 kept_short n r k bytes (Err f) short = still_short n r.traces short
 
@@ -160,7 +161,7 @@ module _ (r : NetRecord) (k : ℕ) (bytes : List ℕ) (are : AreInPlace r.networ
       let at = stands_at (length net.plan.switches) (length net.plan.terminals) net.nodes are k inside in
       let done = switch_control at.switch bytes in
       let here : nat_lt k (length net.plan.switches) ≡ true = grind (arith, nat_tests) in
-      let made : network_apply plain_kind net (event.Control k bytes) ≡ (Ok (reply.Control done.0), with_nodes net (slice_set net.nodes k (node.Switch done.1))) = rw (here, at.there) refl in
+      let made : network_apply plain_kind net (event.Control k bytes) ≡ (Ok (reply.Control done.0), with_nodes net (slice_set net.nodes k (node.Switch done.1))) = control_applied plain_kind net k bytes at.switch here at.there in
       (done.0, by_due (network_apply plain_kind net (event.Control k bytes)) done.0 (ap (λ (t : Answered). t.0) made) _ (none_full n r.traces k low short))
     where
       by_due : (due : Answered) (told : List ℕ) → due.0 ≡ Ok (reply.Control told) → (full : Bool) → full ≡ false → control_given (unless_full full r.network due).0 ≡ Ok told

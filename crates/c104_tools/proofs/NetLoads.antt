@@ -14,6 +14,7 @@ use Rattle.c104_link.specs.Buffers.{empty_outgoing}
 use Rattle.c104_net.proofs.BalancePlaces.{still_in_place}
 use Rattle.c104_net.specs.Balance.{AreInPlace, is_switch}
 use Rattle.c104_net.specs.NetRecords.{NetRecord, fresh_record, record_begun_if}
+use Rattle.c104_net.proofs.EventSteps.{control_applied}
 use Rattle.c104_net.specs.Network.{Network, network_apply, network_of, new_network, new_switch_nodes, placed_network, switch_nodes, terminal_nodes, with_nodes}
 use Rattle.c104_net.specs.Nodes.{Node}
 use Rattle.c104_net.specs.Quiet.{IsQuiet, IsQuietInput, IsQuietNode, IsQuietOutput, IsQuietSwitch, network_begin, node_begin}
@@ -96,7 +97,7 @@ apply_keeps net k bytes are = by_inside (nat_lt k (length net.plan.switches)) re
         let inside : k < length net.plan.switches = grind (arith, nat_tests) in
         let at = stands_at (length net.plan.switches) (length net.plan.terminals) net.nodes are k inside in
         let done = switch_control at.switch bytes in
-        let made : network_apply plain_kind net (event.Control k bytes) ≡ (Ok (reply.Control done.0), with_nodes net (slice_set net.nodes k (node.Switch done.1))) = rw (is, at.there) refl in
+        let made : network_apply plain_kind net (event.Control k bytes) ≡ (Ok (reply.Control done.0), with_nodes net (slice_set net.nodes k (node.Switch done.1))) = control_applied plain_kind net k bytes at.switch is at.there in
         subst (λ (t : Answered). Keeps net t.1) (sym made)
         (record { plan = refl; kinds = still_in_place net.nodes k (node.Switch at.switch) (node.Switch done.1) at.there refl; terminals = terminals_set net.nodes k at.switch done.1 at.there })
 
