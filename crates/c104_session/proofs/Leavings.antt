@@ -1,5 +1,5 @@
 -- What is left of a network where there was no memory for what a line asks.
-use Rattle.std.proofs.Common.{◌≡◌, ℕ, ◌&&◌, Bool, true, false, if◌then◌else◌, List, [], ◌∷◌, ◌++◌, Option, Some, None, Result, Ok, Err, OnErr, inl, inr, sym, ap, ◌∙◌, refl, subst}
+use Rattle.std.proofs.Common.{◌≡◌, ℕ, ◌&&◌, Bool, true, false, if◌then◌else◌, [], ◌∷◌, Option, Some, None, Result, Ok, Err, OnErr, inl, inr, sym, ap, ◌∙◌, refl, subst}
 use Rattle.std.proofs.lemmas.List.{append-nil}
 use Rattle.c104_token.specs.Kinds.{plain_kind}
 use Rattle.c104_token.specs.declared.tokens.Token.{Token}
@@ -8,7 +8,7 @@ use Rattle.c104_event.specs.declared.events.Event.{Event}
 use Rattle.c104_event.specs.declared.faults.EventFault.{EventFault}
 use Rattle.c104_event.specs.declared.faults.EventFault.TheVariants as fault
 use Rattle.c104_net.specs.NetRecords.{NetRecord, is_done}
-use Rattle.c104_net.specs.Network.{Network, event_fault, limit_fault, limited_node, network_apply, network_step, outcome_if_possible, outcome_if_ready, outcome_within_limit}
+use Rattle.c104_net.specs.Network.{Network, event_fault, event_limit, network_apply, network_step, outcome_if_possible, outcome_if_ready, outcome_within_limit}
 use Rattle.c104_net.specs.RecordedRuns.{AnswersRecord, RecordsRounds, record_apply, record_at, record_stage}
 use Rattle.c104_net.specs.Rounds.{rounds}
 use Rattle.c104_net.specs.Stages.{stage_after, stage_full}
@@ -27,7 +27,7 @@ within_keeps net (Some g) r f is = refl
 
 ready_keeps : (net : Network Token) (event : Event) (made : Option (Reply × Network Token)) (f : EventFault) → (outcome_if_ready plain_kind net event made).0 ≡ Err f → (outcome_if_ready plain_kind net event made).1 ≡ net
 ready_keeps net event None f is = absurd (cc is)
-ready_keeps net event (Some r) f is = within_keeps net (limit_fault (limited_node net event) event) r f is
+ready_keeps net event (Some r) f is = within_keeps net (event_limit net event) r f is
 
 possible_keeps : (net : Network Token) (event : Event) (due : Option EventFault) (f : EventFault) → (outcome_if_possible plain_kind net event due).0 ≡ Err f → (outcome_if_possible plain_kind net event due).1 ≡ net
 possible_keeps net event None f is = ready_keeps net event (network_step plain_kind net event) f is
