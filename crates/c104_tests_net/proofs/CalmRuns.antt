@@ -22,7 +22,7 @@ use Rattle.c104_net.specs.Quiet.{network_begin, node_begin}
 use Rattle.c104_net.specs.Runs.{IsRunRecord, at_node}
 use Rattle.c104_net.specs.Starts.{start_node, start_of}
 use Rattle.c104_net.specs.TracedRuns.{map_node, map_switch}
-use Rattle.c104_net.specs.Traces.{Deed, event_deeds, is_switch_place, part, seatless}
+use Rattle.c104_net.specs.Traces.{Deed, event_deeds, part, seatless}
 use Rattle.c104_net.specs.Unchanged.{AreStartsOf, IsUnchanged, MayHappen}
 use Rattle.c104_net.specs.declared.acts.Entry.{Entry}
 use Rattle.c104_net.specs.declared.stamps.Stamp.{Stamp}
@@ -46,7 +46,7 @@ use Rattle.c104_net.specs.declared.starts.NodeStart.TheVariants as start
 use Rattle.c104_switch.specs.declared.actions.ActionOf.TheVariants as action
 
 -- an event whose entry is calm
-was_calm : (routes : Routes) (plan : Plan) (stamp : Stamp) (e : Event) (r : Reply) (es : List Deed) → IsTold plan e r → All (IsCalmEntry routes) (at_node (event_place plan e) (event_deeds (is_switch_place plan) plan stamp e r ++ es)) → IsCalmDone routes e r
+was_calm : (routes : Routes) (plan : Plan) (stamp : Stamp) (e : Event) (r : Reply) (es : List Deed) → IsTold plan e r → All (IsCalmEntry routes) (at_node (event_place plan e) (event_deeds plan stamp e r ++ es)) → IsCalmDone routes e r
 was_calm routes plan stamp (event.Cross p) r es told all = tt
 was_calm routes plan stamp (event.Credit p) r es told all = tt
 was_calm routes plan stamp (event.Input s l word) r es told all = tt

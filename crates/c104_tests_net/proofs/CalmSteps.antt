@@ -8,7 +8,7 @@ use Rattle.c104_event.specs.declared.events.Event.{Event}
 use Rattle.c104_event.specs.declared.faults.EventFault.{EventFault}
 use Rattle.c104_link.proofs.MadeSteps.{All-place}
 use Rattle.c104_net.proofs.RecordedRuns.{record_plan}
-use Rattle.c104_net.specs.Ends.{end_of}
+use Rattle.c104_net.specs.EventActs.{crossing_acts, far_act, near_act, port_place}
 use Rattle.c104_net.specs.EventRuns.{EventsEnd, Outcome, run_events, unless_fault}
 use Rattle.c104_net.specs.NetRecords.{IsNetRecord, NetRecord, fresh_record}
 use Rattle.c104_net.specs.Network.{network_apply, placed_network, switch_nodes, terminal_nodes}
@@ -17,11 +17,12 @@ use Rattle.c104_net.specs.RecordedRuns.{AnswersRecord, RecordsRounds, record_app
 use Rattle.c104_net.specs.Rounds.{all_claims, all_drains, claims_of, link_numbers, round, rounds, switch_claims, turn_at, wired_ports}
 use Rattle.c104_net.specs.Stages.{stage_full, unless_full}
 use Rattle.c104_net.specs.Starts.{start_of}
-use Rattle.c104_net.specs.Traces.{Deed, crediting_deeds, crossing_deeds, end_credit_in, end_credit_out, end_enter, end_leave, entry_of, event_deeds, is_switch_at, kept_of, lone_deed, noted_all, noted_at, noted_in, part, seatless}
+use Rattle.c104_net.specs.Traces.{Deed, acts_deeds, entry_of, event_deeds, kept_of, lone_deed, noted_all, noted_at, noted_in, part, seatless}
 use Rattle.c104_net.specs.declared.acts.ActOf.{ActOf}
 use Rattle.c104_net.specs.declared.acts.Entry.{Entry}
+use Rattle.c104_net.specs.declared.crossings.Crossing.{Crossing}
+use Rattle.c104_net.specs.declared.crossings.Crossing.TheVariants as crossing
 use Rattle.c104_net.specs.declared.stamps.Stamp.{Stamp}
-use Rattle.c104_net.specs.declared.ends.End.{End}
 use Rattle.c104_check.specs.Routes.{Routes, routes_of, settings_in}
 use Rattle.c104_describe.specs.Wiring.{peer}
 use Rattle.c104_regs.specs.declared.settings.Settings.{Settings}
@@ -58,7 +59,7 @@ module _ (routes : Routes) where
   all_noted (d ∷ ds) traces each all = all_noted ds (noted_at true traces d.0 d.1) each.1 (noted_calm traces d.0 d.1 each.0 all)
 
 -- the entries of an event
-module _ (routes : Routes) (f : ℕ → Bool) (plan : Plan) (stamp : Stamp) where
+module _ (routes : Routes) (plan : Plan) (stamp : Stamp) where
   lone_calm : (k : ℕ) (a : ActOf Token) (r : Reply) → IsCalmAct routes a r → AllByRecursion (IsCalmDeed routes) (lone_deed stamp k a r)
   lone_calm k a r one = by_test (is_ready r)
     where
@@ -66,47 +67,40 @@ module _ (routes : Routes) (f : ℕ → Bool) (plan : Plan) (stamp : Stamp) wher
       by_test true = (one, tt)
       by_test false = tt
 
-  leave_calm : (b : Bool) (l : ℕ) (r : Reply) → IsCalmAct routes (end_leave b l) r
-  leave_calm true l r = tt
-  leave_calm false l r = tt
+  near_calm : (c : Crossing) (p : Port) (r : Reply) → IsCalmAct routes (near_act c p) r
+  near_calm crossing.Token (port.Switch s l) r = tt
+  near_calm crossing.Token (port.Terminal t) r = tt
+  near_calm crossing.Grant (port.Switch s l) r = tt
+  near_calm crossing.Grant (port.Terminal t) r = tt
 
-  enter_calm : (x : Token) (b : Bool) (l : ℕ) (r : Reply) → IsCalmAct routes (end_enter x b l) r
-  enter_calm x true l r = tt
-  enter_calm x false l r = tt
+  far_calm : (q : Port) (told r : Reply) → IsCalmAct routes (far_act q told) r
+  far_calm (port.Switch s l) reply.Done r = tt
+  far_calm (port.Switch s l) reply.NotReady r = tt
+  far_calm (port.Switch s l) (reply.Token x) r = tt
+  far_calm (port.Switch s l) (reply.Control bytes) r = tt
+  far_calm (port.Terminal t) reply.Done r = tt
+  far_calm (port.Terminal t) reply.NotReady r = tt
+  far_calm (port.Terminal t) (reply.Token x) r = tt
+  far_calm (port.Terminal t) (reply.Control bytes) r = tt
 
-  out_calm : (b : Bool) (l : ℕ) (r : Reply) → IsCalmAct routes (end_credit_out b l) r
-  out_calm true l r = tt
-  out_calm false l r = tt
-
-  in_calm : (b : Bool) (l : ℕ) (r : Reply) → IsCalmAct routes (end_credit_in b l) r
-  in_calm true l r = tt
-  in_calm false l r = tt
-
-  crossing_calm : (from : End) (r : Reply) (o : Option Port) → AllByRecursion (IsCalmDeed routes) (part [] (λ q. crossing_deeds f stamp from (end_of plan q) r) o)
-  crossing_calm from r None = tt
-  crossing_calm from reply.Done (Some q) = tt
-  crossing_calm from reply.NotReady (Some q) = tt
-  crossing_calm from (reply.Token x) (Some q) = (leave_calm (f from.node) from.link (reply.Token x), (enter_calm x (f (end_of plan q).node) (end_of plan q).link reply.Done, tt))
-  crossing_calm from (reply.Control bytes) (Some q) = tt
-
-  crediting_calm : (from : End) (r : Reply) (o : Option Port) → AllByRecursion (IsCalmDeed routes) (part [] (λ q. crediting_deeds f stamp from (end_of plan q) r) o)
-  crediting_calm from r None = tt
-  crediting_calm from r (Some q) = by_test (is_ready r)
+  joint_calm : (c : Crossing) (p : Port) (r : Reply) (o : Option Port) → AllByRecursion (IsCalmDeed routes) (part [] (λ acts. acts_deeds plan stamp acts r) (crossing_acts c p o))
+  joint_calm c p r None = tt
+  joint_calm c p r (Some q) = by_test (is_ready r)
     where
-      by_test : (b : Bool) → AllByRecursion (IsCalmDeed routes) (if b then (from.node, entry_of stamp (end_credit_out (f from.node) from.link) reply.Done) ∷ ((end_of plan q).node, entry_of stamp (end_credit_in (f (end_of plan q).node) (end_of plan q).link) reply.Done) ∷ [] else [])
-      by_test true = (out_calm (f from.node) from.link reply.Done, (in_calm (f (end_of plan q).node) (end_of plan q).link reply.Done, tt))
+      by_test : (b : Bool) → AllByRecursion (IsCalmDeed routes) (if b then (port_place plan p, entry_of stamp (near_act c p) r) ∷ (port_place plan q, entry_of stamp (far_act q r) reply.Done) ∷ [] else [])
+      by_test true = (near_calm c p r, (far_calm q r reply.Done, tt))
       by_test false = tt
 
-  event_calm : (e : Event) (r : Reply) → IsCalmDone routes e r → AllByRecursion (IsCalmDeed routes) (event_deeds f plan stamp e r)
-  event_calm (event.Cross p) r may = crossing_calm (end_of plan p) r (peer plan p)
-  event_calm (event.Credit p) r may = crediting_calm (end_of plan p) r (peer plan p)
+  event_calm : (e : Event) (r : Reply) → IsCalmDone routes e r → AllByRecursion (IsCalmDeed routes) (event_deeds plan stamp e r)
+  event_calm (event.Cross p) r may = joint_calm crossing.Token p r (peer plan p)
+  event_calm (event.Credit p) r may = joint_calm crossing.Grant p r (peer plan p)
   event_calm (event.Input s l word) r may = lone_calm s (act.Step (action.Input l word)) r tt
   event_calm (event.Claim s i o) r may = lone_calm s (act.Step (action.Claim i o)) r tt
   event_calm (event.Control s bytes) r may = lone_calm s (act.Step (action.Control bytes)) r may
   event_calm (event.Send t p) r may = lone_calm _ (act.Send p) r may
   event_calm (event.Drain t) r may = lone_calm _ act.Drain r tt
 
-  kept_calm : (e : Event) (answer : Result Reply EventFault) → IsCalmEvent routes e → AllByRecursion (IsCalmDeed routes) (kept_of (event_deeds f plan stamp e) answer)
+  kept_calm : (e : Event) (answer : Result Reply EventFault) → IsCalmEvent routes e → AllByRecursion (IsCalmDeed routes) (kept_of (event_deeds plan stamp e) answer)
   kept_calm e (Ok r) calm = event_calm e r (calm r)
   kept_calm e (Err f) calm = tt
 
@@ -121,7 +115,7 @@ module _ (plan : Plan) (image : Image) where
       record {
         same_plan = record_plan net e ∙ calm.same_plan;
         starts = calm.starts;
-        traces = all_noted net_routes (kept_of (event_deeds (is_switch_at net.network.nodes) net.network.plan (seatless net.count) e) answer) net.traces (kept_calm net_routes (is_switch_at net.network.nodes) net.network.plan (seatless net.count) e answer fine) calm.traces;
+        traces = all_noted net_routes (kept_of (event_deeds net.network.plan (seatless net.count) e) answer) net.traces (kept_calm net_routes net.network.plan (seatless net.count) e answer fine) calm.traces;
       }
 
   pub event_kept : (old new : NetRecord) (e : Event) (answer : Result Reply EventFault) → IsCalmEvent net_routes e → AnswersRecord old e answer new → IsCalm plan image old → IsCalm plan image new
