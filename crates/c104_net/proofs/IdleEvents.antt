@@ -1,9 +1,11 @@
 -- Events of a round whose near end isn't ready: they do nothing.
-use Rattle.std.proofs.Common.{◌≡◌, ◌<◌, ◌∙◌, ℕ, nat_lt, Bool, true, false, [], ◌∷◌, Option, Some, None, Ok, is_some, if◌then◌else◌, length, refl, sym, ap, arith}
+use Rattle.std.proofs.Common.{◌≡◌, ◌<◌, ◌-◌, ◌∙◌, ℕ, nat_lt, Bool, true, false, [], ◌∷◌, Option, Some, None, Ok, is_some, if◌then◌else◌, length, refl, sym, ap, arith}
 use Rattle.std.proofs.lemmas.Bool.Decides.{nat_tests}
 use Rattle.c104_token.specs.Kinds.{Kind}
-use Rattle.c104_link.specs.Steps.{step_at, yield_step_at}
+use Rattle.c104_link.specs.Steps.{step_at}
+use Rattle.c104_switch.specs.declared.actions.ActionOf.TheVariants as action
 use Rattle.c104_switch.specs.declared.actions.ReplyOf.TheVariants as reply
+use Rattle.c104_net.specs.declared.acts.ActOf.TheVariants as act
 use Rattle.c104_describe.specs.declared.ports.Port.{Port}
 use Rattle.c104_describe.specs.declared.ports.Port.TheVariants as port
 use Rattle.c104_describe.specs.Plans.{Plan}
@@ -12,11 +14,12 @@ use Rattle.c104_event.specs.declared.events.Event.{Event}
 use Rattle.c104_event.specs.declared.events.Event.TheVariants as event
 use Rattle.c104_event.specs.declared.faults.EventFault.{EventFault}
 use Rattle.c104_event.specs.declared.faults.EventFault.TheVariants as fault
-use Rattle.c104_net.specs.Nodes.{node_leave, node_credit_out, node_input, node_claim}
-use Rattle.c104_net.proofs.ActSteps.{grant_unready, joint_unready, leave_unready}
-use Rattle.c104_net.proofs.EventSteps.{claim_named, done_step, input_named}
+use Rattle.c104_net.specs.Acts.{nodes_act}
+use Rattle.c104_net.specs.EventActs.{near_act, port_place}
+use Rattle.c104_net.specs.Nodes.{node_claim}
+use Rattle.c104_net.proofs.ActSteps.{joint_unready}
+use Rattle.c104_net.proofs.EventSteps.{claim_named, done_step}
 use Rattle.c104_net.specs.declared.crossings.Crossing.TheVariants.{Grant, Token}
-use Rattle.c104_net.specs.Ends.{end_of}
 use Rattle.c104_net.specs.Network.{network_apply, network_step, event_fault, outcome_if_possible, outcome_if_ready, node_fault, link_fault, wire_fault, wired_fault}
 use Rattle.c104_net.specs.RoundParts.{PartEnds}
 use Rattle.c104_net.specs.Stages.{stage_apply, Stage}
@@ -71,18 +74,20 @@ module _ {A : Type 0} (kind : Kind A) (keeps : Bool) (s : Stage A) where
       let unchanged : network_apply kind s.network e ≡ (Ok reply.NotReady, s.network) = ap (outcome_if_possible kind s.network e) possible ∙ ap (outcome_if_ready kind s.network e) unready in
       unready_part kind keeps s e unchanged
 
-  pub idle_credit : (p : Port) → wired_fault s.network.plan p ≡ None → is_some (step_at s.network.nodes (end_of s.network.plan p).node (node_credit_out (end_of s.network.plan p).link)) ≡ false → PartEnds (stage_apply kind keeps) s (event.Credit p ∷ []) (Ok false) s
-  idle_credit p wired unready = idle_event (event.Credit p) wired (joint_unready kind s.network Grant p (grant_unready kind s.network.plan s.network.nodes p unready) (peer s.network.plan p))
+  -- nothing crosses from a port whose node isn't ready
+  pub idle_credit : (p : Port) → wired_fault s.network.plan p ≡ None → is_some (nodes_act kind s.network.nodes (port_place s.network.plan p) 0 (near_act Grant p)) ≡ false → PartEnds (stage_apply kind keeps) s (event.Credit p ∷ []) (Ok false) s
+  idle_credit p wired unready = idle_event (event.Credit p) wired (joint_unready kind s.network Grant p (none_of _ unready) (peer s.network.plan p))
 
-  pub idle_cross : (p : Port) → wired_fault s.network.plan p ≡ None → is_some (yield_step_at s.network.nodes (end_of s.network.plan p).node (node_leave (end_of s.network.plan p).link)) ≡ false → PartEnds (stage_apply kind keeps) s (event.Cross p ∷ []) (Ok false) s
-  idle_cross p wired unready = idle_event (event.Cross p) wired (joint_unready kind s.network Token p (leave_unready kind s.network.plan s.network.nodes p unready) (peer s.network.plan p))
+  pub idle_cross : (p : Port) → wired_fault s.network.plan p ≡ None → is_some (nodes_act kind s.network.nodes (port_place s.network.plan p) 0 (near_act Token p)) ≡ false → PartEnds (stage_apply kind keeps) s (event.Cross p ∷ []) (Ok false) s
+  idle_cross p wired unready = idle_event (event.Cross p) wired (joint_unready kind s.network Token p (none_of _ unready) (peer s.network.plan p))
 
-  pub idle_turn : (k l : ℕ) → wired_fault s.network.plan (port.Switch k l) ≡ None → is_some (step_at s.network.nodes k (node_input kind l 0)) ≡ false → PartEnds (stage_apply kind keeps) s (event.Input k l 0 ∷ []) (Ok false) s
+  pub idle_turn : (k l : ℕ) → wired_fault s.network.plan (port.Switch k l) ≡ None → is_some (nodes_act kind s.network.nodes k 0 (act.Step (action.Input l 0))) ≡ false → PartEnds (stage_apply kind keeps) s (event.Input k l 0 ∷ []) (Ok false) s
   idle_turn k l wired unready =
       let inside = port_inside s.network.plan (port.Switch k l) wired in
       let is_switch : nat_lt k (length s.network.plan.switches) ≡ true = let below : k < length s.network.plan.switches = inside.0 in grind (arith, nat_tests) in
       let is_link : nat_lt l 32 ≡ true = let below : l < 32 = inside.1 in grind (arith, nat_tests) in
-      idle_event (event.Input k l 0) (rw (is_switch, is_link) refl) (sym (input_named kind s.network k l 0) ∙ ap (done_step kind s.network) (none_of (step_at s.network.nodes k (node_input kind l 0)) unready))
+      let first : k - length s.network.plan.switches ≡ 0 = let below : k < length s.network.plan.switches = inside.0 in omega arith in
+      idle_event (event.Input k l 0) (rw (is_switch, is_link) refl) (rw first (rw (none_of (nodes_act kind s.network.nodes k 0 (act.Step (action.Input l 0))) unready) refl))
 
   pub idle_claim : (k i o : ℕ) → k < length s.network.plan.switches → i < 32 → o < 32 → step_at s.network.nodes k (node_claim i o) ≡ None → PartEnds (stage_apply kind keeps) s (event.Claim k i o ∷ []) (Ok false) s
   idle_claim k i o switch input output none =

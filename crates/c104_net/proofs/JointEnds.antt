@@ -15,7 +15,8 @@ use Rattle.c104_net.specs.declared.crossings.Crossing.TheVariants.{Grant, Token}
 use Rattle.c104_switch.specs.Actions.{is_ready}
 use Rattle.c104_switch.specs.declared.actions.ReplyOf.{ReplyOf}
 use Rattle.c104_token.specs.Kinds.{Kind}
-use Rattle.std.proofs.Common.{Bool, [], if◌then◌else◌, ◌∷◌, List, None, Option, Some, ap, false, is_some, length, refl, slice_get, slice_set, subst, sym, true, ℕ, ◌≤◌, ◌∙◌, ◌≡◌, ◌≢◌}
+use Rattle.std.proofs.Common.{Bool, [], if◌then◌else◌, ◌∷◌, List, None, Option, Some, ap, arith, false, is_some, length, nat_lt, refl, slice_get, slice_set, subst, sym, true, ℕ, ◌<◌, ◌≤◌, ◌∙◌, ◌≡◌, ◌≢◌}
+use Rattle.std.proofs.lemmas.Bool.Decides.{nat_tests}
 use Rattle.std.proofs.lemmas.Option.{slice_get_past}
 use Rattle.c104_describe.specs.declared.ports.Port.TheVariants as port
 use Rattle.c104_net.specs.declared.node.NodeOf.TheVariants as node
@@ -69,6 +70,19 @@ module _ {A : Type 0} (kind : Kind A) where
   far_done Grant reply.NotReady q m r answer is = absurd answer
   far_done Grant (reply.Token x) q m r answer is = absurd answer
   far_done Grant (reply.Control bytes) q m r answer is = absurd answer
+
+  -- a node that can act is there
+  pub acts_inside : (nodes : List (Node A)) (k : ℕ) (a : ActOf A) → is_some (nodes_act kind nodes k 0 a) ≡ true → k < length nodes
+  acts_inside nodes k a ready = by_test (nat_lt k (length nodes)) refl
+    where
+      by_test : (b : Bool) → nat_lt k (length nodes) ≡ b → k < length nodes
+      by_test true is = grind (arith, nat_tests)
+      by_test false is =
+          let past : length nodes ≤ k = grind (arith, nat_tests) in
+          let none : slice_get nodes k ≡ None = slice_get_past nodes k past in
+          let gone : nodes_act kind nodes k 0 a ≡ None = rw none refl in
+          let no : false ≡ true = sym (ap is_some gone) ∙ ready in
+          absurd (cc)
 
 module _ {A : Type 0} (kind : Kind A) (p q : Port) (crossing : Crossing) (near far : ℕ) (nodes : List (Node A)) where
   abbrev put_at : List (Node A) → ℕ → ReplyOf A × Node A → Option (ReplyOf A × List (Node A))
@@ -154,7 +168,3 @@ module _ {A : Type 0} (kind : Kind A) (p q : Port) (crossing : Crossing) (near f
         by_near : (made : Option (ReplyOf A × List (Node A))) → nodes_act kind nodes near 0 (near_act crossing p) ≡ made → (made >>= from_near) ≡ None
         by_near None gone = refl
         by_near (Some r) gone = by_far r.0 (nodes_act kind r.1 far 0 (far_act q r.0)) (closed r.0 (gone_answers r gone) ∙ sym (far_kept (far_act q r.0) r gone))
-
-    -- nor where there is no node at the far end
-    pub joint_past : length nodes ≤ far → joint_step kind near far p q crossing nodes ≡ None
-    joint_past past = joint_closed (λ a answer. (let none : slice_get nodes far ≡ None = slice_get_past nodes far past in rw none refl))

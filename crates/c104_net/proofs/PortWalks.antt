@@ -13,8 +13,10 @@ use Rattle.c104_event.specs.declared.events.Event.{Event}
 use Rattle.c104_event.specs.declared.faults.EventFault.{EventFault}
 use Rattle.c104_net.specs.declared.port_part.PortPart.{PortPart}
 use Rattle.c104_net.specs.declared.port_part.PortPart.TheVariants.{Credit, Cross, Turn}
+use Rattle.c104_net.specs.EventActs.{port_place}
 use Rattle.c104_net.specs.Network.{wired_fault}
-use Rattle.c104_net.specs.PortParts.{is_ready_at, port_events, wired_events}
+use Rattle.c104_net.specs.Nodes.{Node}
+use Rattle.c104_net.specs.PortParts.{IsFoundReady, IsNearReady, is_ready_at, port_events, wired_events}
 use Rattle.c104_net.specs.Rounds.{is_wired, link_numbers, wired_links, wired_terminals}
 use Rattle.c104_net.specs.RoundParts.{PartEnds}
 use Rattle.c104_net.proofs.IdleEvents.{idle_credit, idle_cross, idle_turn}
@@ -86,7 +88,13 @@ passed_link kind keeps s part k l among linked wired unready = by_wire (is_wired
     by_wire true is = at_wired s.network.plan part (stage_apply kind keeps) s s (Ok false) (port.Switch k l) is (idle_link kind keeps s part k l (wired (linked ∙ is)) (unready (linked ∙ is)))
     by_wire false is = at_unwired s.network.plan part (stage_apply kind keeps) s (port.Switch k l) is
 
+-- what was found is ready, as the near end of its wire
+pub near_ready : {A : Type 0} (kind : Kind A) (plan : Plan) (part : PortPart) (nodes : List (Node A)) (s l : ℕ) → IsFoundReady part (is_ready_at kind part nodes s l) → IsNearReady kind part nodes (port_place plan (port.Switch s l)) (port.Switch s l)
+near_ready kind plan Credit nodes s l is = is
+near_ready kind plan Cross nodes s l is = is
+near_ready kind plan Turn nodes s l is = tt
+
 -- what is before a link that was found, or before the end, is a link
-pub below_links : (from l : ℕ) (P : ℕ → Type 0) (found : Option ℕ) → IfSome found (λ i. (from ≤ i) × (i < 32) × P i) → l < unwrap_or found 32 → l < 32
-below_links from l P None is below = below
-below_links from l P (Some i) is below = let inside : i < 32 = is.1 in omega arith
+pub below_links : (l : ℕ) (found : Option ℕ) → IfSome found (λ i. i < 32) → l < unwrap_or found 32 → l < 32
+below_links l None is below = below
+below_links l (Some i) is below = omega arith

@@ -1,17 +1,22 @@
 -- The parts of a round that are about ports: the event of each port, and whether the near end is ready for it.
-use Rattle.std.specs.Prelude.{ℕ, ◌≡◌, ◌<◌, ◌≤◌, Bool, true, false, List, [], ◌∷◌, Option, IfSome, unwrap_or, filter, is_some}
+use Rattle.std.specs.Prelude.{ℕ, ◌≡◌, ◌<◌, ◌≤◌, Bool, true, false, List, [], ◌∷◌, IfSome, Option, unwrap_or, filter, is_some}
 use Rattle.std.specs.List.{flat_map}
 use Rattle.c104_crossbar.specs.Groups.{has_bit}
 use Rattle.c104_regs.specs.declared.registers.TheConstants.{LINKS}
 use Rattle.c104_token.specs.Kinds.{Kind}
-use Rattle.c104_link.specs.Steps.{step_at, yield_step_at}
+use Rattle.c104_switch.specs.declared.actions.ActionOf.TheVariants as action
 use Rattle.c104_describe.specs.Plans.{Plan}
 use Rattle.c104_describe.specs.declared.ports.Port.{Port}
 use Rattle.c104_event.specs.declared.events.Event.{Event}
 use Rattle.c104_event.specs.declared.events.Event.TheVariants as event
+use Rattle.c104_net.specs.declared.acts.ActOf.{ActOf}
+use Rattle.c104_net.specs.declared.acts.ActOf.TheVariants as act
+use Rattle.c104_net.specs.declared.crossings.Crossing.TheVariants as crossing
 use Rattle.c104_net.specs.declared.port_part.PortPart.{PortPart}
 use Rattle.c104_net.specs.declared.port_part.PortPart.TheVariants.{Credit, Cross, Turn}
-use Rattle.c104_net.specs.Nodes.{Node, node_leave, node_credit_out, node_input}
+use Rattle.c104_net.specs.Acts.{node_act, nodes_act}
+use Rattle.c104_net.specs.EventActs.{near_act}
+use Rattle.c104_net.specs.Nodes.{Node}
 use Rattle.c104_net.specs.Rounds.{is_wired, turn_at}
 
 -- what a part has for a port
@@ -24,20 +29,34 @@ port_events Turn p = turn_at p
 abbrev pub wired_events : Plan → PortPart → Port → List Event
 wired_events plan part p = flat_map (port_events part) (filter (is_wired plan) (p ∷ []))
 
--- whether a node is ready for its own act of a part, at a link
-abbrev pub is_node_ready : {A : Type 0} → Kind A → PortPart → ℕ → Node A → Bool
-is_node_ready kind Credit l n = is_some (node_credit_out l n)
-is_node_ready kind Cross l n = is_some (node_leave l n)
-is_node_ready kind Turn l n = is_some (node_input kind l 0 n)
+-- the act of a switch in a part, at a link
+abbrev pub part_act : {A : Type 0} → PortPart → ℕ → ActOf A
+part_act Credit l = act.Step (action.CreditOut l)
+part_act Cross l = act.Step (action.Leave l)
+part_act Turn l = act.Step (action.Input l 0)
 
--- the same of the node at a place
+-- whether a node is ready for it
+abbrev pub is_node_ready : {A : Type 0} → Kind A → PortPart → ℕ → Node A → Bool
+is_node_ready kind part l n = is_some (node_act kind 0 (part_act part l) n)
+
+-- whether the node at a switch's place is ready for its act of a part, at a link
 abbrev pub is_ready_at : {A : Type 0} → Kind A → PortPart → List (Node A) → ℕ → ℕ → Bool
-is_ready_at kind Credit nodes place l = is_some (step_at nodes place (node_credit_out l))
-is_ready_at kind Cross nodes place l = is_some (yield_step_at nodes place (node_leave l))
-is_ready_at kind Turn nodes place l = is_some (step_at nodes place (node_input kind l 0))
+is_ready_at kind part nodes place l = is_some (nodes_act kind nodes place 0 (part_act part l))
+
+-- the near end of a wire is ready, where a part has something cross from there
+abbrev pub IsNearReady : {A : Type 0} → Kind A → PortPart → List (Node A) → ℕ → Port → Type 0
+IsNearReady kind Credit nodes place p = is_some (nodes_act kind nodes place 0 (near_act crossing.Grant p)) ≡ true
+IsNearReady kind Cross nodes place p = is_some (nodes_act kind nodes place 0 (near_act crossing.Token p)) ≡ true
+IsNearReady kind Turn nodes place p = Unit {0}
+
+-- what is found among links is ready, where a part has something cross from there
+abbrev pub IsFoundReady : PortPart → Bool → Type 0
+IsFoundReady Credit ready = ready ≡ true
+IsFoundReady Cross ready = ready ≡ true
+IsFoundReady Turn ready = Unit {0}
 
 -- the next link of a set, from this one on: of those that were passed over none is ready
-abbrev pub PassesUnready : (ℕ → Bool) → ℕ → ℕ → Option ℕ → Type 0
-PassesUnready ready from among found =
+abbrev pub PassesUnready : PortPart → (ℕ → Bool) → ℕ → ℕ → Option ℕ → Type 0
+PassesUnready part ready from among found =
     ((l : ℕ) → from ≤ l → l < unwrap_or found LINKS → has_bit among l ≡ true → ready l ≡ false)
-    × IfSome found (λ l. (from ≤ l) × (l < LINKS) × (has_bit among l ≡ true))
+    × IfSome found (λ l. (from ≤ l) × (l < LINKS) × (has_bit among l ≡ true) × IsFoundReady part (ready l))

@@ -9,11 +9,11 @@ ghost use Rattle.c104_net.specs.Places.{HasRoomAt, StepEnds};
 ghost use Rattle.c104_net.specs.Traces.{full_at, joint_deeds, kept_entry, kept_of, noted_all, noted_at};
 
 use crate::acts::ActOf;
-use crate::crossings::{Joint, can_far, can_near, far_act, near_act};
+use crate::crossings::{Crossing, Joint, can_far, can_near, far_act, near_act};
 use crate::place::Place;
 use crate::places::{act_sure, is_full_at, room_at};
 use crate::stamps::Stamp;
-use c104_event::EventFault;
+use c104_event::{EventFault, Port};
 use c104_switch::ReplyOf;
 use c104_token::{NoMemory, TokenKind};
 
@@ -40,13 +40,38 @@ pub fn joint_at<T: TokenKind, P: Place<T>>(
     ensures trace { map P.trace places.new ≡ noted_all P.keeps (map P.trace places.old)
         (kept_of (joint_deeds T.kind stamp near far joint.near joint.far joint.crossing) result) }
 {
-    if near >= places.len() || !can_near_at(places, near, joint) {
+    if !can_near_at(places, near, joint.crossing, joint.near) {
         return Ok(ReplyOf::NotReady);
     }
+    joint_from(places, near, far, joint, stamp)
+}
+
+/// The same where the node at the first place is ready.
+#[inline(always)]
+pub fn joint_from<T: TokenKind, P: Place<T>>(
+    places: &mut [P],
+    near: usize,
+    far: usize,
+    joint: Joint,
+    stamp: Stamp,
+) -> Result<ReplyOf<T>, EventFault>
+    requires apart { near ≢ far }
+    requires goes { is_some
+        (nodes_act T.kind (map P.state places.old) near 0 (near_act joint.crossing joint.near)) ≡ true }
+    ensures ends { StepEnds
+        (reply_outcome
+        (joint_step T.kind near far joint.near joint.far joint.crossing (map P.state places.old))
+        (map P.state places.old))
+        (is_some (joint_step T.kind near far joint.near joint.far joint.crossing (map P.state places.old)))
+        (full_at (map P.full places.old) near || full_at (map P.full places.old) far)
+        (map P.state places.old) result (map P.state places.new) }
+    ensures free { IfOk result (λ told. is_ready told ≡ true →
+        (full_at (map P.full places.old) near || full_at (map P.full places.old) far) ≡ false) }
+    ensures start { map P.start places.new ≡ map P.start places.old }
+    ensures trace { map P.trace places.new ≡ noted_all P.keeps (map P.trace places.old)
+        (kept_of (joint_deeds T.kind stamp near far joint.near joint.far joint.crossing) result) }
+{
     if !can_far_at(places, far, joint) {
-        return Ok(ReplyOf::NotReady);
-    }
-    if far >= places.len() {
         return Ok(ReplyOf::NotReady);
     }
     if are_full_at(places, near, far) {
@@ -59,11 +84,16 @@ pub fn joint_at<T: TokenKind, P: Place<T>>(
 
 /// Whether the node at a place would do the act at the port from which something crosses.
 #[inline(always)]
-fn can_near_at<T: TokenKind, P: Place<T>>(places: &[P], place: usize, joint: Joint) -> bool
-    ensures { result ≡ is_some (nodes_act T.kind (map P.state places.now) place 0 (near_act joint.crossing joint.near)) }
+pub fn can_near_at<T: TokenKind, P: Place<T>>(
+    places: &[P],
+    place: usize,
+    crossing: Crossing,
+    port: Port,
+) -> bool
+    ensures { result ≡ is_some (nodes_act T.kind (map P.state places.now) place 0 (near_act crossing port)) }
 {
     match places.get(place) {
-        Some(found) => can_near(found.node(), joint.crossing, joint.near),
+        Some(found) => can_near(found.node(), crossing, port),
         None => false,
     }
 }
@@ -71,8 +101,9 @@ fn can_near_at<T: TokenKind, P: Place<T>>(places: &[P], place: usize, joint: Joi
 /// Whether the node at a place would do the act at the other port, whatever token crosses.
 #[inline(always)]
 fn can_far_at<T: TokenKind, P: Place<T>>(places: &[P], place: usize, joint: Joint) -> bool
-    ensures { (reply : TheReply T) → IsAnswerOf joint.crossing reply →
+    ensures ready { (reply : TheReply T) → IsAnswerOf joint.crossing reply →
         result ≡ is_some (nodes_act T.kind (map P.state places.now) place 0 (far_act joint.far reply)) }
+    ensures inside { result ≡ true → place < length places.now }
 {
     match places.get(place) {
         Some(found) => can_far(found.node(), joint.crossing, joint.far),

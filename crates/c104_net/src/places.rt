@@ -13,7 +13,6 @@ ghost use Rattle.c104_net.specs.Places.{HasRoomAt, StepEnds};
 ghost use Rattle.c104_net.specs.PortParts.{is_ready_at, PassesUnready};
 
 use crate::acts::ActOf;
-use crate::ends::End;
 use crate::place::Place;
 use crate::port_part::PortPart;
 use crate::stamps::Stamp;
@@ -186,31 +185,8 @@ pub fn act_ready<T: TokenKind, P: Place<T>>(
     Ok(act_at(places, place, number, stamp, act)?)
 }
 
-/// Whether a token can go out at an end of a wire.
-#[inline(always)]
-pub fn can_leave_at<T: TokenKind, P: Place<T>>(places: &[P], end: End) -> bool
-    ensures { result ≡ is_some
-        (yield_step_at (map P.state places.now) end.node (node_leave end.link)) }
-{
-    match places.get(end.node) {
-        Some(found) => found.node().can_leave(end.link),
-        None => false,
-    }
-}
-
-/// Whether an end of a wire can grant eight more tokens.
-#[inline(always)]
-pub fn can_credit_out_at<T: TokenKind, P: Place<T>>(places: &[P], end: End) -> bool
-    ensures { result ≡
-        is_some (step_at (map P.state places.now) end.node (node_credit_out end.link)) }
-{
-    match places.get(end.node) {
-        Some(found) => found.node().can_credit_out(end.link),
-        None => false,
-    }
-}
-
-/// The next link of a set, from this one on, that may be ready for the act of a part at this place.
+/// The next link of a set, from this one on, at which the switch at a place is ready for its act of a part; of a turn, at
+/// which it may be.
 #[inline(always)]
 pub fn next_ready_at<T: TokenKind, P: Place<T>>(
     places: &[P],
@@ -219,7 +195,7 @@ pub fn next_ready_at<T: TokenKind, P: Place<T>>(
     from: usize,
     among: LinkSet,
 ) -> Option<usize>
-    ensures { PassesUnready (is_ready_at T.kind part (map P.state places.now) place)
+    ensures { PassesUnready part (is_ready_at T.kind part (map P.state places.now) place)
         from among result }
 {
     match places.get(place) {

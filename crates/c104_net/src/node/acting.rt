@@ -2,7 +2,7 @@
 ghost use Rattle.std.specs.Prelude.{◌≡◌, ◌<◌, ◌≤◌, ℕ, None, true, is_some, unwrap_or, IfSome, MatchResult};
 ghost use Rattle.c104_net.specs.Acts.{IsWithinLimits, node_act, reply_outcome, wants_memory};
 ghost use Rattle.c104_regs.specs.declared.registers.TheConstants.{LINKS};
-ghost use Rattle.c104_net.specs.Nodes.{node_leave, node_credit_out, node_claim};
+ghost use Rattle.c104_net.specs.Nodes.{node_claim};
 ghost use Rattle.c104_switch.specs.Actions.{done_reply, token_reply};
 ghost use Rattle.c104_switch.specs.Claims.{IsNextLink};
 ghost use Rattle.c104_net.specs.PortParts.{is_node_ready, PassesUnready};
@@ -74,21 +74,10 @@ impl<T: TokenKind> NodeOf<T> {
         }
     }
 
-    /// Whether a token can go out over a link's wire.
-    #[inline(always)]
-    pub fn can_leave(&self, link: usize) -> bool
-        ensures { result ≡ is_some (node_leave link self.now) }
-    {
-        match self {
-            NodeOf::Switch(switch) => switch.can_leave(link),
-            NodeOf::Terminal(terminal) => terminal.can_leave(),
-        }
-    }
-
-    /// The next link of a set, from this one on, that may be ready for its own act of a part.
+    /// The next link of a set, from this one on, that is ready for a switch's act of a part; of a turn, that may be.
     #[inline(always)]
     pub fn next_ready(&self, part: PortPart, from: usize, among: LinkSet) -> Option<usize>
-        ensures { PassesUnready (λ l. is_node_ready T.kind part l self.now) from among result }
+        ensures { PassesUnready part (λ l. is_node_ready T.kind part l self.now) from among result }
     {
         match self {
             NodeOf::Switch(switch) => match part {
@@ -96,7 +85,7 @@ impl<T: TokenKind> NodeOf<T> {
                 PortPart::Cross => switch.next_leaving(from, among),
                 PortPart::Turn => switch.next_turning(from, among),
             },
-            NodeOf::Terminal(_) => among.next(from, among),
+            NodeOf::Terminal(_) => None,
         }
     }
 
@@ -121,17 +110,6 @@ impl<T: TokenKind> NodeOf<T> {
         match self {
             NodeOf::Switch(switch) => switch.next_claim(input, from),
             NodeOf::Terminal(_) => None,
-        }
-    }
-
-    /// Whether a link can grant eight more tokens.
-    #[inline(always)]
-    pub fn can_credit_out(&self, link: usize) -> bool
-        ensures { result ≡ is_some (node_credit_out link self.now) }
-    {
-        match self {
-            NodeOf::Switch(switch) => switch.can_credit_out(link),
-            NodeOf::Terminal(terminal) => terminal.can_credit_out(),
         }
     }
 }

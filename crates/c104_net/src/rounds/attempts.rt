@@ -1,16 +1,16 @@
 //! One event of a round, which tells whether it was done, and is counted where it was.
 //!
 //! A round knows of each of its events that it can happen, and what acts it asks: so an event is tried by its acts.
-ghost use Rattle.std.specs.Prelude.{◌≡◌, ◌<◌, ◌∷◌, [], None, Some, length};
+ghost use Rattle.std.specs.Prelude.{◌≡◌, ◌<◌, ◌∷◌, [], None, Some, is_some, length, map, true};
 ghost use Rattle.c104_describe.specs.Wiring.{peer};
 ghost use Rattle.c104_describe.specs.declared.ports.Port.TheVariants as port;
 ghost use Rattle.c104_event.specs.declared.events.Event.{Event as TheEvent};
 ghost use Rattle.c104_event.specs.declared.events.Event.TheVariants as event;
 ghost use Rattle.c104_regs.specs.declared.registers.TheConstants.{LINKS};
-ghost use Rattle.c104_net.specs.Acts.{IsWithinLimits};
+ghost use Rattle.c104_net.specs.Acts.{IsWithinLimits, nodes_act};
 ghost use Rattle.c104_net.specs.AskedActs.{told_answer};
 ghost use Rattle.c104_net.specs.EventActs.{Acts};
-ghost use Rattle.c104_net.specs.EventActs.{crossing_acts, event_acts};
+ghost use Rattle.c104_net.specs.EventActs.{crossing_acts, event_acts, near_act, port_place};
 ghost use Rattle.c104_net.specs.Network.{event_fault, wired_fault};
 ghost use Rattle.c104_net.specs.NetRecords.{is_done, ticket_after};
 ghost use Rattle.c104_net.specs.RoundParts.{PartEnds, done_answer};
@@ -20,7 +20,7 @@ use crate::acts::ActOf;
 use crate::asked::far_port;
 use crate::crossings::{Crossing, Joint};
 use crate::doing::do_alone;
-use crate::joint::joint_at;
+use crate::joint::joint_from;
 use crate::place::Place;
 use crate::stamps::Stamp;
 use crate::wires::Wires;
@@ -28,8 +28,8 @@ use c104_event::{EventFault, Port};
 use c104_switch::{ActionOf, ReplyOf};
 use c104_token::TokenKind;
 
-/// Tries a crossing from a port that is wired, and tells whether it was done. Its ticket is the count of the events
-/// before it.
+/// Tries a crossing from a port that is wired and ready, and tells whether it was done. Its ticket is the count of the
+/// events before it.
 #[inline(always)]
 pub fn attempt_joint<T: TokenKind, P: Place<T>>(
     wires: &Wires,
@@ -40,6 +40,8 @@ pub fn attempt_joint<T: TokenKind, P: Place<T>>(
 ) -> Result<bool, EventFault>
     requires full { (p : P) → P.full p ≡ is_kept_full P.keeps (P.trace p) }
     requires wired { wired_fault wires.now port ≡ None }
+    requires goes { is_some
+        (nodes_act T.kind (map P.state places.old) (port_place wires.now port) 0 (near_act crossing port)) ≡ true }
     ensures { (e : TheEvent) → event_fault wires.now e ≡ None →
         event_acts {A = T} wires.now e ≡ crossing_acts crossing port (peer wires.now port) →
         PartEnds (stage_apply T.kind P.keeps)
@@ -56,7 +58,7 @@ pub fn attempt_joint<T: TokenKind, P: Place<T>>(
         ticket: *count,
         seat: None,
     };
-    let answer = joint_at(places, ends.near.node, ends.far.node, joint, stamp);
+    let answer = joint_from(places, ends.near.node, ends.far.node, joint, stamp);
     counted(count, answer)
 }
 

@@ -2,11 +2,12 @@
 //! of terminals each is asked, so that no event is tried of which it is known that its near end isn't ready.
 //!
 //! The walks are inlined, since each part is a code of its own.
-ghost use Rattle.std.specs.Prelude.{◌≡◌, ◌<◌, ◌≤◌, ℕ, None, false, true, flat_map, length, unwrap_or, IfSome, Ok};
+ghost use Rattle.std.specs.Prelude.{◌≡◌, ◌<◌, ◌≤◌, ℕ, None, false, true, flat_map, length, map, unwrap_or, IfSome, Ok};
 ghost use Rattle.c104_describe.specs.declared.ports.Port.TheVariants as port;
 ghost use Rattle.c104_regs.specs.declared.registers.TheConstants.{LINKS};
 ghost use Rattle.c104_net.specs.Network.{wired_fault};
-ghost use Rattle.c104_net.specs.PortParts.{port_events, wired_events};
+ghost use Rattle.c104_net.specs.EventActs.{port_place};
+ghost use Rattle.c104_net.specs.PortParts.{IsNearReady, port_events, wired_events};
 ghost use Rattle.std.specs.List.{range_with_len};
 ghost use Rattle.c104_net.specs.Rounds.{is_wired, turn_at, wired_links, wired_ports, wired_terminals};
 ghost use Rattle.c104_net.specs.RoundParts.{PartEnds};
@@ -14,8 +15,9 @@ ghost use Rattle.c104_net.specs.Stages.{is_kept_full, stage_apply, stage_of};
 
 use super::attempts::{attempt_joint, attempt_turn};
 use crate::crossings::Crossing;
+use crate::joint::can_near_at;
 use crate::place::Place;
-use crate::places::{can_credit_out_at, can_leave_at, next_ready_at};
+use crate::places::next_ready_at;
 use crate::port_part::PortPart;
 use crate::wires::Wires;
 use c104_event::{EventFault, Port};
@@ -90,7 +92,7 @@ fn walk_links<T: TokenKind, P: Place<T>>(
     Ok(changed)
 }
 
-/// The next wired link of a switch, from this one on, that may be ready for its event of a part.
+/// The next wired link of a switch, from this one on, that is ready for its event of a part; of a turn, that may be.
 #[inline(always)]
 fn next_link<T: TokenKind, P: Place<T>>(
     wires: &Wires,
@@ -107,6 +109,8 @@ fn next_link<T: TokenKind, P: Place<T>>(
     ensures found { IfSome result (λ l. (from ≤ l) × (l < LINKS)) }
     ensures wired { IfSome result (λ l. wired_fault wires.now (port.Switch switch l) ≡ None) }
     ensures linked { IfSome result (λ l. is_wired wires.now (port.Switch switch l) ≡ true) }
+    ensures ready { IfSome result (λ l. IsNearReady T.kind part
+        (map P.state places.now) (port_place wires.now (port.Switch switch l)) (port.Switch switch l)) }
 {
     let among = wires.linked(switch);
     next_ready_at(places, switch, part, from, among)
@@ -154,34 +158,37 @@ fn try_terminal<T: TokenKind, P: Place<T>>(
     if !wires.is_linked(terminal) {
         return Ok(false);
     }
-    if !may_be_ready(wires, places, part, terminal) {
+    if !is_ready(wires, places, part, terminal) {
         return Ok(false);
     }
     try_at(wires, places, count, part, Port::Terminal(terminal))
 }
 
-/// Whether a wired terminal may be ready for its event of a part. It has no input.
+/// Whether a wired terminal is ready for its event of a part. It has no input.
 #[inline(always)]
-fn may_be_ready<T: TokenKind, P: Place<T>>(
+fn is_ready<T: TokenKind, P: Place<T>>(
     wires: &Wires,
     places: &[P],
     part: PortPart,
     terminal: usize,
 ) -> bool
     requires { wired_fault wires.now (port.Terminal terminal) ≡ None }
-    ensures { (count : ℕ) → result ≡ false → PartEnds (stage_apply T.kind P.keeps)
+    ensures passed { (count : ℕ) → result ≡ false → PartEnds (stage_apply T.kind P.keeps)
         (stage_of P.state P.start P.trace wires.now places.now count) (port_events part (port.Terminal terminal))
         (Ok false) (stage_of P.state P.start P.trace wires.now places.now count) }
+    ensures ready { result ≡ true → IsNearReady T.kind part
+        (map P.state places.now) (port_place wires.now (port.Terminal terminal)) (port.Terminal terminal) }
 {
-    let end = wires.near_end(Port::Terminal(terminal));
+    let port = Port::Terminal(terminal);
+    let place = wires.near_end(port).node;
     match part {
-        PortPart::Credit => can_credit_out_at(places, end),
-        PortPart::Cross => can_leave_at(places, end),
+        PortPart::Credit => can_near_at(places, place, Crossing::Grant, port),
+        PortPart::Cross => can_near_at(places, place, Crossing::Token, port),
         PortPart::Turn => false,
     }
 }
 
-/// The event of a part at a wired port.
+/// The event of a part at a wired port, which is ready for it; for a turn, which may be.
 #[inline(always)]
 fn try_at<T: TokenKind, P: Place<T>>(
     wires: &Wires,
@@ -192,6 +199,7 @@ fn try_at<T: TokenKind, P: Place<T>>(
 ) -> Result<bool, EventFault>
     requires full { (p : P) → P.full p ≡ is_kept_full P.keeps (P.trace p) }
     requires wired { wired_fault wires.now port ≡ None }
+    requires ready { IsNearReady T.kind part (map P.state places.old) (port_place wires.now port) port }
     ensures { PartEnds (stage_apply T.kind P.keeps)
         (stage_of P.state P.start P.trace wires.now places.old count.old) (port_events part port)
         result (stage_of P.state P.start P.trace wires.now places.new count.new) }
