@@ -4,12 +4,15 @@ use Rattle.c104_describe.specs.Wiring.{peer}
 use Rattle.c104_describe.specs.declared.ports.Port.{Port}
 use Rattle.c104_event.specs.declared.events.Event.{Event}
 use Rattle.c104_event.specs.declared.faults.EventFault.{EventFault}
-use Rattle.c104_net.specs.Acts.{plain_reply}
-use Rattle.c104_net.specs.AskedActs.{ActsEnd, acts_kept, limited_outcome, told_answer}
+use Rattle.c104_net.specs.Acts.{plain_reply, reply_outcome}
 use Rattle.c104_net.specs.EventActs.{Acts, acts_limit, acts_step, crossing_acts, event_acts, far_act, near_act}
-use Rattle.c104_net.specs.Network.{AnswersWith, Network, event_fault, event_limit, network_apply, network_of, network_step, outcome_if_possible, outcome_if_ready, room_fault, told_step}
+use Rattle.c104_net.specs.EventsAtPlaces.{ActsDone, EventDone, acts_kept, told_answer}
+use Rattle.c104_net.specs.Network.{AnswersWith, Network, event_fault, event_limit, network_apply, network_of, network_step}
+use Rattle.c104_net.specs.Network.{outcome_if_possible, outcome_if_ready, told_step}
 use Rattle.c104_net.specs.Nodes.{Node}
-use Rattle.c104_net.specs.Traces.{acts_deeds, acts_full, event_deeds, event_full, kept_of, part, plain_act}
+use Rattle.c104_net.specs.PlaceActs.{ActsEnd}
+use Rattle.c104_net.specs.Places.{Shown, fulls, room_fault, states, traces}
+use Rattle.c104_net.specs.Traces.{acts_deeds, acts_full, event_deeds, event_full, kept_of, noted_all, part, plain_act}
 use Rattle.c104_net.specs.declared.crossings.Crossing.{Crossing}
 use Rattle.c104_net.specs.declared.crossings.Crossing.TheVariants.{Grant, Token}
 use Rattle.c104_net.specs.declared.stamps.Stamp.{Stamp}
@@ -17,7 +20,8 @@ use Rattle.c104_switch.specs.Actions.{Reply, is_ready}
 use Rattle.c104_switch.specs.declared.actions.ReplyOf.{ReplyOf}
 use Rattle.c104_token.specs.Kinds.{Kind}
 use Rattle.c104_token.specs.declared.tokens.Token.{Token as PlainToken}
-use Rattle.std.proofs.Common.{Bool, Err, IfOk, List, None, Ok, Option, Result, Some, [], ap, false, inl, inr, is_some, option_map, refl, sym, true, ◌∙◌, ◌≡◌}
+use Rattle.std.proofs.Common.{Bool, Err, IfOk, List, None, Ok, Option, Result, Some, [], ap, false, inl, inr, is_some, option_map}
+use Rattle.std.proofs.Common.{refl, sym, true, unwrap_or, ◌∙◌, ◌≡◌}
 use Rattle.c104_describe.specs.declared.ports.Port.TheVariants as port
 use Rattle.c104_event.specs.declared.events.Event.TheVariants as event
 use Rattle.c104_switch.specs.declared.actions.ReplyOf.TheVariants as reply
@@ -84,45 +88,75 @@ module _ {A : Type 0} (kind : Kind A) where
     event_kept : (stamp : Stamp) (r : ReplyOf A) → event_deeds plan stamp e (plain_reply kind r) ≡ acts_kept kind plan stamp acts r
     event_kept stamp r = ap (part [] (λ made. acts_deeds plan stamp made (plain_reply kind r))) plain_known ∙ deeds_plain plan stamp acts r
 
-    full_known : (fulls : List Bool) → event_full plan fulls e ≡ acts_full plan fulls acts
-    full_known fulls = ap (part false (λ (made : Acts PlainToken). acts_full plan fulls made)) plain_known ∙ full_plain plan fulls acts
-
     -- the entries of what was answered
-    pub answer_kept : (stamp : Stamp) (told : Result (ReplyOf A) EventFault) → kept_of (acts_kept kind plan stamp acts) told ≡ kept_of (event_deeds plan stamp e) (told_answer kind told)
+    answer_kept : (stamp : Stamp) (told : Result (ReplyOf A) EventFault) → kept_of (acts_kept kind plan stamp acts) told ≡ kept_of (event_deeds plan stamp e) (told_answer kind told)
     answer_kept stamp (Ok r) = sym (event_kept stamp r)
     answer_kept stamp (Err f) = refl
 
-    pub answer_free : (fulls : List Bool) (told : Result (ReplyOf A) EventFault) → IfOk told (λ r. is_ready r ≡ true → acts_full plan fulls acts ≡ false) → IfOk (told_answer kind told) (λ r. is_ready r ≡ true → event_full plan fulls e ≡ false)
-    answer_free fulls (Ok r) free = λ ready. full_known fulls ∙ free (sym (ready_plain r) ∙ ready)
-    answer_free fulls (Err f) free = tt
+    full_known : (fulls : List Bool) → event_full plan fulls e ≡ acts_full plan fulls acts
+    full_known fulls = ap (part false (λ (made : Acts PlainToken). acts_full plan fulls made)) plain_known ∙ full_plain plan fulls acts
 
     -- what acts answer and leave is what the event does
-    module _ (possible : event_fault plan e ≡ None) (nodes : List (Node A)) where
-      abbrev told_outcome : Result (ReplyOf A) EventFault × List (Node A) → Result Reply EventFault × Network A
-      told_outcome r = (told_answer kind r.0, network_of plan r.1)
+    module _ (possible : event_fault plan e ≡ None) (nodes after : List (Node A)) (fulls : List Bool) where
+      abbrev net : Network A
+      net = network_of plan nodes
 
-      limit_known : event_limit (network_of plan nodes) e ≡ acts_limit nodes acts
+      abbrev made : Option (ReplyOf A × List (Node A))
+      made = acts_step kind plan nodes acts
+
+      abbrev told_outcome : ReplyOf A × List (Node A) → Result Reply EventFault × Network A
+      told_outcome r = (Ok (plain_reply kind r.0), network_of plan r.1)
+
+      limit_known : event_limit net e ≡ acts_limit nodes acts
       limit_known = rw known refl
 
-      step_known : network_step kind (network_of plan nodes) e ≡ told_step kind (network_of plan nodes) (acts_step kind plan nodes acts)
+      step_known : network_step kind net e ≡ told_step kind net made
       step_known = rw known refl
 
-      outcome_told : (limit : Option EventFault) (made : Option (ReplyOf A × List (Node A))) → event_limit (network_of plan nodes) e ≡ limit → outcome_if_ready kind (network_of plan nodes) e (told_step kind (network_of plan nodes) made) ≡ told_outcome (limited_outcome nodes limit made)
-      outcome_told limit None is = refl
-      outcome_told None (Some r) is = rw is refl
-      outcome_told (Some f) (Some r) is = rw is refl
+      apply_known : network_apply kind net e ≡ outcome_if_ready kind net e (told_step kind net made)
+      apply_known = ap (outcome_if_possible kind net e) possible ∙ ap (outcome_if_ready kind net e) step_known
 
-      apply_known : network_apply kind (network_of plan nodes) e ≡ told_outcome (limited_outcome nodes (acts_limit nodes acts) (acts_step kind plan nodes acts))
-      apply_known = ap (outcome_if_possible kind (network_of plan nodes) e) possible ∙ ap (outcome_if_ready kind (network_of plan nodes) e) step_known ∙ outcome_told (acts_limit nodes acts) (acts_step kind plan nodes acts) limit_known
+      told_made : (m : Option (ReplyOf A × List (Node A))) → is_some (told_step kind net m) ≡ is_some m
+      told_made None = refl
+      told_made (Some r) = refl
 
-      told_made : (made : Option (ReplyOf A × List (Node A))) → is_some made ≡ true → is_some (told_step kind (network_of plan nodes) made) ≡ true
-      told_made None ready = ready
-      told_made (Some r) ready = refl
+      -- what is due where no limit is passed
+      due_told : (m : Option (ReplyOf A × List (Node A))) → (is_some m ≡ true → event_limit net e ≡ None) → outcome_if_ready kind net e (told_step kind net m) ≡ told_outcome (reply_outcome m nodes)
+      due_told None within = refl
+      due_told (Some r) within = rw (within refl) refl
 
-      pub acts_answer : (fulls : List Bool) (told : Result (ReplyOf A) EventFault) (after : List (Node A)) → ActsEnd kind plan nodes acts (acts_full plan fulls acts) told after → AnswersWith kind (event_full plan fulls e) (network_of plan nodes) e (told_answer kind told) (network_of plan after)
-      acts_answer fulls told after (inl due) = inl (ap told_outcome due ∙ sym apply_known)
-      acts_answer fulls told after (inr refused) = inr (
-        ap (told_answer kind) refused.0 ∙ ap (λ b. Err (room_fault b)) (sym (full_known fulls)),
-        (possible, ap is_some step_known ∙ told_made (acts_step kind plan nodes acts) refused.1, limit_known ∙ refused.2),
-        ap (network_of plan) refused.3,
+      -- what a limit refuses
+      limit_told : (f : EventFault) (m : Option (ReplyOf A × List (Node A))) → is_some m ≡ true → event_limit net e ≡ Some f → outcome_if_ready kind net e (told_step kind net m) ≡ (Err f, net)
+      limit_told f None ready is = absurd (cc ready)
+      limit_told f (Some r) ready is = rw is refl
+
+      refused_told : (f : EventFault) (limit : Option EventFault) → event_limit net e ≡ limit → f ≡ unwrap_or limit (room_fault (acts_full plan fulls acts)) → is_some made ≡ true → after ≡ nodes → AnswersWith kind (event_full plan fulls e) net e (Err f) (network_of plan after)
+      refused_told f None within is ready same = inr (
+        ap (λ (x : EventFault). Err x) is ∙ ap (λ b. Err (room_fault b)) (sym (full_known fulls)),
+        (possible, ap is_some step_known ∙ told_made made ∙ ready, within),
+        ap (network_of plan) same,
       )
+      refused_told f (Some g) limited is ready same =
+          inl (ap (λ (ns : List (Node A)). (Err f, network_of plan ns)) same ∙ ap (λ (x : EventFault). (Err x, net)) is ∙ sym (apply_known ∙ limit_told g made ready limited))
+
+      acts_answer : (told : Result (ReplyOf A) EventFault) → ActsEnd (acts_limit nodes acts) made (acts_full plan fulls acts) nodes told after → AnswersWith kind (event_full plan fulls e) net e (told_answer kind told) (network_of plan after)
+      acts_answer (Ok r) ends = inl (ap told_outcome ends.0 ∙ sym (apply_known ∙ due_told made (λ ready. limit_known ∙ (ends.1 ready).0)))
+      acts_answer (Err f) ends = refused_told f (acts_limit nodes acts) limit_known ends.0 ends.1 ends.2
+
+      done_made : (m : Option (ReplyOf A × List (Node A))) (r : ReplyOf A) → ◌≡◌ {A = ReplyOf A × List (Node A)} (r, after) (reply_outcome m nodes) → is_ready r ≡ true → is_some m ≡ true
+      done_made None r is ready = absurd (let told : r ≡ reply.NotReady = ap (λ (t : ReplyOf A × List (Node A)). t.0) is in let no : is_ready {A = A} reply.NotReady ≡ true = ap is_ready (sym told) ∙ ready in cc)
+      done_made (Some s) r is ready = refl
+
+      acts_free : (told : Result (ReplyOf A) EventFault) → ActsEnd (acts_limit nodes acts) made (acts_full plan fulls acts) nodes told after → IfOk (told_answer kind told) (λ r. is_ready r ≡ true → event_full plan fulls e ≡ false)
+      acts_free (Ok r) ends = λ ready. full_known fulls ∙ (ends.1 (done_made made r ends.0 (sym (ready_plain r) ∙ ready))).1
+      acts_free (Err f) ends = tt
+
+    -- an event that can happen, by its acts
+    pub event_done : (keeps : Bool) (stamp : Stamp) → event_fault plan e ≡ None → (olds : List (Shown A)) (told : Result (ReplyOf A) EventFault) (news : List (Shown A)) → ActsDone kind keeps plan stamp acts olds told news →
+        EventDone kind keeps plan stamp e olds (told_answer kind told) news
+    event_done keeps stamp possible olds told news done = record {
+      answers = acts_answer possible (states olds) (states news) (fulls olds) told done.ends;
+      free = acts_free possible (states olds) (states news) (fulls olds) told done.ends;
+      start = done.start;
+      trace = done.trace ∙ ap (noted_all keeps (traces olds)) (answer_kept stamp told);
+    }

@@ -5,21 +5,20 @@ use Rattle.c104_link.proofs.MadeSteps.{from_place_made, given}
 use Rattle.c104_describe.specs.Wiring.{peer}
 use Rattle.c104_event.specs.declared.events.Event.{Event}
 use Rattle.c104_event.specs.declared.events.Event.TheVariants as event
-use Rattle.c104_describe.specs.declared.ports.Port.TheVariants as port
-use Rattle.c104_link.specs.Steps.{◌>>=◌, step_at, yield_step_at}
-use Rattle.c104_net.specs.Ends.{end_of}
+use Rattle.c104_link.specs.Steps.{◌>>=◌}
 use Rattle.c104_net.specs.Network.{Network, told_step}
 use Rattle.c104_net.specs.declared.crossings.Crossing.TheVariants.{Grant, Token}
 use Rattle.c104_net.proofs.JointEnds.{near_answers, ready_answer}
 use Rattle.c104_net.specs.Acts.{control_by, done_by, node_act, nodes_act, token_by}
-use Rattle.c104_net.specs.EventActs.{Acts, IsAnswerOf, acts_step, crossing_acts, event_acts, far_act, joint_step, near_act, port_credit_out, port_leave, port_place}
-use Rattle.c104_net.specs.Nodes.{Node, node_claim, node_control, node_credit_in, node_credit_out, node_drain, node_enter, node_input, node_leave, node_send}
+use Rattle.c104_net.specs.EventActs.{Acts, IsAnswerOf, acts_step, crossing_acts, event_acts, far_act, joint_step, near_act, port_place}
+use Rattle.c104_net.specs.Nodes.{Node, node_claim, node_control, node_credit_in, node_credit_out, node_drain, node_enter, node_input}
+use Rattle.c104_net.specs.Nodes.{node_leave, node_send}
 use Rattle.c104_net.specs.declared.acts.ActOf.{ActOf}
 use Rattle.c104_net.specs.declared.crossings.Crossing.{Crossing}
 use Rattle.c104_switch.specs.Actions.{is_ready}
 use Rattle.c104_switch.specs.declared.actions.ReplyOf.{ReplyOf}
 use Rattle.c104_token.specs.Kinds.{Kind}
-use Rattle.std.proofs.Common.{List, None, Option, Some, ap, false, is_some, length, refl, slice_get, slice_set, sym, true, ℕ, ◌-◌, ◌∙◌, ◌≡◌, subst}
+use Rattle.std.proofs.Common.{List, None, Option, Some, ap, length, refl, sym, true, ℕ, ◌-◌, ◌∙◌, ◌≡◌, subst}
 use Rattle.c104_net.specs.declared.acts.ActOf.TheVariants as act
 use Rattle.c104_net.specs.declared.node.NodeOf.TheVariants as node
 use Rattle.c104_switch.specs.declared.actions.ActionOf.TheVariants as action

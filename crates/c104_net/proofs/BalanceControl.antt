@@ -1,5 +1,6 @@
 -- A control command keeps what each input has granted and what credit each output has.
-use Rattle.std.proofs.Common.{◌≡◌, ℕ, zero, suc, Bool, true, false, List, [], ◌∷◌, Option, Result, Ok, Err, map, slice_get, refl, if◌then◌else◌}
+use Rattle.std.proofs.Common.{◌≡◌, ℕ, zero, suc, Bool, true, false, List, [], ◌∷◌, Option, Result, Ok, Err, map, slice_get, refl}
+use Rattle.std.proofs.Common.{if◌then◌else◌}
 use Rattle.c104_link.specs.Steps.{◌>>=◌}
 use Rattle.c104_link.specs.Buffers.{outgoing_clear}
 use Rattle.c104_control.specs.declared.commands.Command.{Command}

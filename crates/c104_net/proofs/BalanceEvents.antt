@@ -14,7 +14,8 @@ use Rattle.c104_net.specs.Nodes.{Node, node_input, node_claim, node_control, nod
 use Rattle.c104_net.proofs.NamedWires.{nodes_cross, nodes_credit}
 use Rattle.c104_net.specs.Ends.{end_of}
 use Rattle.c104_net.proofs.EventSteps.{by_name, named_step}
-use Rattle.c104_net.specs.Network.{Network, network_of, network_step, terminal_place, event_fault, event_limit, outcome_within_limit, outcome_if_ready, outcome_if_possible, AnswersEvent, AnswersWith}
+use Rattle.c104_net.specs.Network.{Network, network_of, network_step, terminal_place, event_fault, event_limit, outcome_within_limit}
+use Rattle.c104_net.specs.Network.{outcome_if_ready, outcome_if_possible, AnswersEvent, AnswersWith}
 use Rattle.c104_net.specs.Balance.{IsSteady}
 use Rattle.c104_net.proofs.BalanceNodes.{input_rests, claim_rests, control_rests, send_rests, drain_rests}
 use Rattle.c104_net.proofs.BalanceSteps.{steady_at, steady_from, steady_crossed, steady_credited}

@@ -1,5 +1,6 @@
 -- What a change at one place of a list says of a number that is read at the places.
-use Rattle.std.proofs.Common.{◌≡◌, ◌≢◌, ◌<◌, ◌+◌, ◌-◌, ◌++◌, ℕ, zero, suc, true, false, inl, inr, List, [], ◌∷◌, Option, Some, length, map, replicate, slice_get, slice_set, refl, sym, ◌∙◌, ap, subst, arith}
+use Rattle.std.proofs.Common.{◌≡◌, ◌≢◌, ◌<◌, ◌+◌, ◌-◌, ◌++◌, ℕ, zero, suc, true, false, inl, inr, List, [], ◌∷◌, Option, Some, length, map}
+use Rattle.std.proofs.Common.{replicate, slice_get, slice_set, refl, sym, ◌∙◌, ap, subst, arith}
 use Rattle.std.proofs.lemmas.Bool.{cases_eq}
 use Rattle.c104_link.specs.Steps.{◌>>=◌}
 use Rattle.c104_net.specs.declared.ends.End.{End}
@@ -49,7 +50,7 @@ Reading A = ℕ → Node A → Option ℕ
 abbrev pub read_at : {A : Type 0} → Reading A → List (Node A) → End → Option ℕ
 read_at reading nodes end = slice_get nodes end.node >>= reading end.link
 
--- the nodes at the first so many places are switches
+-- the nodes at the places below a number are switches
 abbrev pub AreSwitches : {A : Type 0} → ℕ → List (Node A) → Type 0
 AreSwitches {A} count nodes = (place : ℕ) (n : Node A) → place < count → slice_get nodes place ≡ Some n → is_switch n ≡ true
 

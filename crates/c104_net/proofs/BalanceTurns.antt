@@ -1,5 +1,6 @@
 -- A turn and a claim keep what an input has granted and what credit each output has.
-use Rattle.std.proofs.Common.{◌≡◌, ◌+◌, ◌-◌, ◌++◌, ◌&&◌, not, ℕ, Bool, true, false, List, [], ◌∷◌, Option, Some, slice_get, length, nat_lt, nat_le, drop, refl, sym, ap, subst, if◌then◌else◌}
+use Rattle.std.proofs.Common.{◌≡◌, ◌+◌, ◌-◌, ◌++◌, ◌&&◌, not, ℕ, Bool, true, false, List, [], ◌∷◌, Option, Some, slice_get, length, nat_lt}
+use Rattle.std.proofs.Common.{nat_le, drop, refl, sym, ap, subst, if◌then◌else◌}
 use Rattle.c104_token.specs.Tokens.{is_end}
 use Rattle.c104_token.specs.Kinds.{Kind}
 use Rattle.c104_link.specs.Steps.{◌>>=◌, ◌>>◌, require, step_at}

@@ -1,5 +1,6 @@
 -- Nodes with their records begin a run where they are quiet.
-use Rattle.std.proofs.Common.{◌≡◌, ◌∙◌, ℕ, All, true, false, List, [], ◌∷◌, Option, Some, None, length, map, slice_get, refl, sym, ap, subst, arith}
+use Rattle.std.proofs.Common.{◌≡◌, ◌∙◌, ℕ, All, true, false, List, [], ◌∷◌, Option, Some, None, length, map, slice_get, refl, sym, ap}
+use Rattle.std.proofs.Common.{subst, arith}
 use Rattle.std.proofs.lemmas.Option.{slice_get-map}
 use Rattle.std.specs.Option.{option_map}
 use Rattle.c104_link.specs.Buffers.{Outgoing}

@@ -1,5 +1,6 @@
 -- What goes out at one end of a wire changes nothing of what can come in at the other.
-use Rattle.std.proofs.Common.{◌≡◌, ◌≢◌, ℕ, zero, suc, inl, inr, false, List, [], ◌∷◌, Option, Some, None, slice_get, slice_set, is_some, refl, sym, ◌∙◌, ap, subst}
+use Rattle.std.proofs.Common.{◌≡◌, ◌≢◌, ℕ, zero, suc, inl, inr, false, List, [], ◌∷◌, Option, Some, None, slice_get, slice_set, is_some}
+use Rattle.std.proofs.Common.{refl, sym, ◌∙◌, ap, subst}
 use Rattle.std.proofs.lemmas.Bool.{cases_eq}
 use Rattle.c104_link.specs.Steps.{◌>>=◌, step_at, yield_step_at}
 use Rattle.c104_link.proofs.MadeSteps.{given, required, at_place_made}
@@ -26,7 +27,7 @@ get_set_other (a ∷ xs) zero (suc j) y differs = refl
 get_set_other (a ∷ xs) (suc i) zero y differs = refl
 get_set_other (a ∷ xs) (suc i) (suc j) y differs = get_set_other xs i j y (λ same. differs (ap suc same))
 
--- whether a step can be made at a place hangs on the element there alone
+-- whether a step can be made at a place is told by the element there alone
 can_there : {X : Type 0} (xs : List X) (j : ℕ) (g : X → Option X) (x : X) → slice_get xs j ≡ Some x → is_some (step_at xs j g) ≡ is_some (g x)
 can_there {X} xs j g x is = by_step (g x) refl
   where

@@ -18,7 +18,8 @@ use Rattle.c104_net.proofs.TracedRuns.{token_of, traced_from}
 use Rattle.c104_net.proofs.UndoneRounds.{undone_stands}
 use Rattle.c104_net.proofs.FullWork.{plain_work, random_within}
 use Rattle.c104_net.proofs.WorkBounds.{bound_by_tokens}
-use Rattle.c104_net.specs.DeadlockFreedom.{HasFullInbox, HasFullTrace, HasNoDeadlock, IsAcyclicNet, IsAllDelivered, NothingDone, RoundsDeliver}
+use Rattle.c104_net.specs.DeadlockFreedom.{HasFullInbox, HasFullTrace, HasNoDeadlock, IsAcyclicNet, IsAllDelivered, NothingDone}
+use Rattle.c104_net.specs.DeadlockFreedom.{RoundsDeliver}
 use Rattle.c104_net.specs.Deliveries.{Promise}
 use Rattle.c104_net.specs.EventRuns.{Outcome, StopsShort, run_events}
 use Rattle.c104_net.specs.NetRecords.{IsNetRecord, NetRecord}

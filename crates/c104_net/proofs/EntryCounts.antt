@@ -1,12 +1,13 @@
 -- The entries of one event: there is a trace for each, which has room for it.
-use Rattle.std.proofs.Common.{◌≡◌, ◌≢◌, ◌∙◌, ◌+◌, ◌*◌, ◌<◌, ◌≤◌, ◌++◌, ℕ, zero, suc, All, true, false, List, [], ◌∷◌, Some, get_or, length, length-append, map, nat_le, slice_get, slice_set, refl, sym, ap, arith}
+use Rattle.std.proofs.Common.{◌≡◌, ◌≢◌, ◌∙◌, ◌+◌, ◌*◌, ◌<◌, ◌≤◌, ◌++◌, ℕ, zero, suc, All, true, false, List, [], ◌∷◌, Some, get_or, length}
+use Rattle.std.proofs.Common.{length-append, map, nat_le, slice_get, slice_set, refl, sym, ap, arith}
 use Rattle.std.proofs.lemmas.Bool.Decides.{nat_tests}
 use Rattle.std.proofs.lemmas.List.Elements.{All-head, All-set, All-tail}
 use Rattle.std.proofs.lemmas.Option.{slice_get-get_or, slice_get-map, slice_get_within}
 use Rattle.std.specs.Option.{option_map}
 use Rattle.c104_net.specs.declared.acts.Entry.{Entry}
-use Rattle.c104_net.specs.NetRecords.{is_trace_full, total_entries, IsWithinLimit}
-use Rattle.c104_net.specs.Traces.{Deed, full_at, noted_all, noted_at, trace_limit}
+use Rattle.c104_net.specs.NetRecords.{total_entries, IsWithinLimit}
+use Rattle.c104_net.specs.Traces.{Deed, full_at, noted_all, noted_at, trace_limit, is_trace_full}
 use Rattle.c104_net.proofs.Crossing.{get_set_other}
 
 -- there is a trace at a place, and it has room for an entry

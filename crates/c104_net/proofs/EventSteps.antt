@@ -11,9 +11,12 @@ use Rattle.c104_net.proofs.RunRecords.{in_place, is_switch_place}
 use Rattle.c104_net.specs.Acts.{control_by, done_by, node_act, nodes_act, token_by}
 use Rattle.c104_net.specs.Balance.{AreInPlace, is_switch}
 use Rattle.c104_net.specs.Ends.{end_of}
-use Rattle.c104_net.specs.EventActs.{Acts, act_limit, acts_step, crossing_acts, far_act, port_credit_in, port_credit_out, port_enter, port_leave, port_place}
-use Rattle.c104_net.specs.Network.{Network, event_fault, event_limit, network_apply, network_step, outcome_if_possible, outcome_if_ready, outcome_within_limit, terminal_place, told_step, with_nodes}
-use Rattle.c104_net.specs.Nodes.{Node, node_claim, node_control, node_credit_in, node_credit_out, node_drain, node_enter, node_input, node_leave, node_send}
+use Rattle.c104_net.specs.EventActs.{Acts, act_limit, acts_step, crossing_acts, far_act, port_credit_in, port_credit_out, port_enter}
+use Rattle.c104_net.specs.EventActs.{port_leave, port_place}
+use Rattle.c104_net.specs.Network.{Network, event_fault, event_limit, network_apply, network_step, outcome_if_possible, outcome_if_ready}
+use Rattle.c104_net.specs.Network.{outcome_within_limit, terminal_place, told_step, with_nodes}
+use Rattle.c104_net.specs.Nodes.{Node, node_claim, node_control, node_credit_in, node_credit_out, node_drain, node_enter, node_input}
+use Rattle.c104_net.specs.Nodes.{node_leave, node_send}
 use Rattle.c104_net.specs.Traces.{part}
 use Rattle.c104_net.proofs.NamedWires.{nodes_credit, nodes_cross}
 use Rattle.c104_net.specs.declared.acts.ActOf.{ActOf}
@@ -24,7 +27,8 @@ use Rattle.c104_switch.specs.Switch.{Switch}
 use Rattle.c104_switch.specs.declared.actions.ReplyOf.{ReplyOf}
 use Rattle.c104_token.specs.Kinds.{Kind}
 use Rattle.c104_token.specs.declared.packets.Packet.{Packet}
-use Rattle.std.proofs.Common.{Bool, List, None, Ok, Option, Some, ap, arith, false, length, nat_lt, refl, slice_get, slice_set, sym, true, ℕ, ◌+◌, ◌-◌, ◌<◌, ◌∙◌, ◌≡◌}
+use Rattle.std.proofs.Common.{Bool, List, None, Ok, Option, Some, ap, arith, false, length, nat_lt, refl, slice_get, slice_set, sym, true}
+use Rattle.std.proofs.Common.{ℕ, ◌+◌, ◌-◌, ◌<◌, ◌∙◌, ◌≡◌}
 use Rattle.std.proofs.lemmas.Bool.Decides.{nat_tests}
 use Rattle.c104_describe.specs.declared.ports.Port.TheVariants as port
 use Rattle.c104_event.specs.declared.events.Event.TheVariants as event

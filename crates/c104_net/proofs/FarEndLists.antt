@@ -1,5 +1,5 @@
 -- The table of wires: how long its lists are, and what stands at the place of a port.
-use Rattle.std.proofs.Common.{◌≡◌, ◌<◌, ◌∙◌, ◌+◌, ◌*◌, ◌/◌, ◌%◌, ℕ, Option, Some, None, List, get_or, length, is_some, option_map, ap, refl, arith}
+use Rattle.std.proofs.Common.{◌≡◌, ◌<◌, ◌∙◌, ◌+◌, ◌*◌, ◌/◌, ◌%◌, ℕ, Option, List, get_or, length, is_some, ap, arith}
 use Rattle.std.specs.List.{range_with_len}
 use Rattle.std.proofs.lemmas.List.{length-map}
 use Rattle.std.proofs.lemmas.List.FromFn.{get_or-map-range_with_len, length-range_with_len}
@@ -10,10 +10,7 @@ use Rattle.c104_describe.specs.Wiring.{peer}
 use Rattle.c104_net.specs.Ends.{end_of}
 use Rattle.c104_net.specs.FarEnds.{far_end, link_ends, terminal_ends}
 use Rattle.c104_net.specs.Rounds.{is_wired}
-
-same_some : {A B : Type 0} (f : A → B) (x : Option A) → is_some (option_map f x) ≡ is_some x
-same_some f None = refl
-same_some f (Some a) = refl
+use Rattle.c104_net.proofs.WiredPorts.{some_mapped}
 
 module _ (plan : Plan) (ends : List (Option End)) where
   -- the far end that stands at a place of the table of links
@@ -46,4 +43,4 @@ module _ (plan : Plan) (ends : List (Option End)) where
 
   -- whether a link is wired, by what stands at its place
   pub wired_at : ends ≡ link_ends plan → (s l : ℕ) (d : Option End) → s < length plan.switches → l < 32 → is_some (get_or ends (s * 32 + l) d) ≡ is_wired plan (port.Switch s l)
-  wired_at is s l d inside below = ap is_some (link_at is s l d inside below) ∙ same_some (end_of plan) (peer plan (port.Switch s l))
+  wired_at is s l d inside below = ap is_some (link_at is s l d inside below) ∙ some_mapped (end_of plan) (peer plan (port.Switch s l))

@@ -9,14 +9,16 @@ use Rattle.c104_describe.specs.Wiring.{peer}
 use Rattle.c104_describe.specs.declared.ports.Port.{Port}
 use Rattle.c104_link.specs.Buffers.{Outgoing}
 use Rattle.c104_net.proofs.WorkBounds.{level_more, sum_more, weigh_more}
-use Rattle.c104_net.specs.HeaderWork.{ahead_at, ahead_by, first_ahead, full_input, full_link, full_node, full_output, full_work, random_ahead, random_bound, random_work}
+use Rattle.c104_net.specs.HeaderWork.{ahead_at, ahead_by, first_ahead, full_input, full_link, full_node, full_output, full_work}
+use Rattle.c104_net.specs.HeaderWork.{random_ahead, random_bound, random_work}
 use Rattle.c104_net.specs.Nodes.{Node}
 use Rattle.c104_net.specs.Work.{header_held, highest_rank, input_work, level, link_work, node_work, output_work, sum_at, weigh, work}
 use Rattle.c104_regs.specs.declared.settings.Settings.{Settings}
 use Rattle.c104_switch.specs.Switch.{Input}
 use Rattle.c104_switch.specs.declared.phase.Phase.{Phase}
 use Rattle.c104_switch.specs.declared.phase.Phase.TheVariants.{Fresh, Head, Sinking, Stream, Want}
-use Rattle.std.proofs.Common.{List, None, Option, Some, [], ap, arith, false, length, refl, suc, true, zero, ℕ, ⊎_elim, ◌*◌, ◌+◌, ◌-◌, ◌∷◌, ◌≡◌, ◌≤◌}
+use Rattle.std.proofs.Common.{List, None, Option, Some, [], ap, arith, false, length, refl, suc, true, zero, ℕ, ⊎_elim, ◌*◌, ◌+◌, ◌-◌, ◌∷◌}
+use Rattle.std.proofs.Common.{◌≡◌, ◌≤◌}
 use Rattle.std.proofs.Math.Nat.{suc-mul, zero-mul}
 use Rattle.std.proofs.lemmas.Bool.{cases_Bool}
 use Rattle.c104_describe.specs.declared.ports.Port.TheVariants as port

@@ -1,13 +1,15 @@
 -- The entries that lead, as they are gathered.
 use Rattle.c104_event.specs.declared.events.Event.{Event}
-use Rattle.c104_net.proofs.LeadingSteps.{drop_here, leads_any}
+use Rattle.c104_net.proofs.LeadingSteps.{leads_any}
 use Rattle.c104_net.specs.Leading.{act_event, leads, led_events, told_first}
 use Rattle.c104_net.specs.Replays.{entry_event, event_or, lead_event}
 use Rattle.c104_net.specs.ToldEvents.{told_by}
 use Rattle.c104_net.specs.declared.acts.Entry.{Entry}
 use Rattle.c104_net.specs.declared.leading.Lead.{Lead}
-use Rattle.std.proofs.Common.{List, None, Option, Some, [], ap, append_assoc, arith, drop, false, is_some, map, refl, slice_get, suc, sym, true, unwrap_or, ℕ, ◌++◌, ◌+◌, ◌∙◌, ◌∷◌, ◌≡◌}
+use Rattle.std.proofs.Common.{List, None, Option, Some, [], ap, append_assoc, arith, drop, false, is_some, map, refl, slice_get, suc, sym}
+use Rattle.std.proofs.Common.{true, unwrap_or, ℕ, ◌++◌, ◌+◌, ◌∙◌, ◌∷◌, ◌≡◌}
 use Rattle.std.proofs.lemmas.List.{map-append}
+use Rattle.c104_net.proofs.Waiting.{drop_there}
 
 module _ (switches k : ℕ) where
   -- an entry that leads tells its event first
@@ -44,7 +46,7 @@ module _ (switches : ℕ) (traces : List (List Entry)) (place : ℕ) where
       let next : suc at ≡ at + 1 = omega arith in
       let one : ℕ × Event = (e.ticket, entry_event switches place (Some e)) in
       let rest : List (ℕ × Event) = led_events switches place (drop (at + 1) trace) in
-      let head : led_events switches place (drop at trace) ≡ one ∷ rest = ap (led_events switches place) (drop_here trace at e here) ∙ led_true switches place e (drop (suc at) trace) is ∙ ap (λ i. one ∷ led_events switches place (drop i trace)) next in
+      let head : led_events switches place (drop at trace) ≡ one ∷ rest = ap (led_events switches place) (drop_there trace at e here) ∙ led_true switches place e (drop (suc at) trace) is ∙ ap (λ i. one ∷ led_events switches place (drop i trace)) next in
       ap (λ xs. SoFar xs rest) added ∙ ap (λ xs. xs ++ rest) (map-append (lead_event switches traces) items (record { ticket = e.ticket; place = place; at = at } ∷ []))
       ∙ ap (λ x. (map (lead_event switches traces) items ++ x ∷ []) ++ rest) (lead_at at trace e there here) ∙ append_assoc (map (lead_event switches traces) items) (one ∷ []) rest
       ∙ ap (SoFar items) (sym head) ∙ before
@@ -54,7 +56,7 @@ module _ (switches : ℕ) (traces : List (List Entry)) (place : ℕ) where
       SoFar items (led_events switches place (drop at trace)) ≡ all → SoFar new (led_events switches place (drop (at + 1) trace)) ≡ all
   pass_on at trace e items new all here is same before =
       let next : suc at ≡ at + 1 = omega arith in
-      let head : led_events switches place (drop at trace) ≡ led_events switches place (drop (at + 1) trace) = ap (led_events switches place) (drop_here trace at e here) ∙ led_false switches place e (drop (suc at) trace) is ∙ ap (λ i. led_events switches place (drop i trace)) next in
+      let head : led_events switches place (drop at trace) ≡ led_events switches place (drop (at + 1) trace) = ap (led_events switches place) (drop_there trace at e here) ∙ led_false switches place e (drop (suc at) trace) is ∙ ap (λ i. led_events switches place (drop i trace)) next in
       ap (λ xs. SoFar xs (led_events switches place (drop (at + 1) trace))) same ∙ ap (SoFar items) (sym head) ∙ before
 
   -- those of one more trace were added
@@ -64,5 +66,5 @@ module _ (switches : ℕ) (traces : List (List Entry)) (place : ℕ) where
   trace_on trace items new all there added before =
       let next : suc place ≡ place + 1 = omega arith in
       let rest : List (ℕ × Event) = told_by switches (place + 1) (drop (place + 1) traces) in
-      let head : told_by switches place (drop place traces) ≡ led_events switches place trace ++ rest = ap (told_by switches place) (drop_here traces place trace there) ∙ ap (λ i. led_events switches place trace ++ told_by switches i (drop i traces)) next in
+      let head : told_by switches place (drop place traces) ≡ led_events switches place trace ++ rest = ap (told_by switches place) (drop_there traces place trace there) ∙ ap (λ i. led_events switches place trace ++ told_by switches i (drop i traces)) next in
       ap (λ xs. xs ++ rest) added ∙ append_assoc (map (lead_event switches traces) items) (led_events switches place trace) rest ∙ ap (SoFar items) (sym head) ∙ before

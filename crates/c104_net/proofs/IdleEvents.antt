@@ -1,5 +1,6 @@
 -- Events of a round whose near end isn't ready: they do nothing.
-use Rattle.std.proofs.Common.{◌≡◌, ◌<◌, ◌-◌, ◌∙◌, ℕ, nat_lt, Bool, true, false, [], ◌∷◌, Option, Some, None, Ok, is_some, if◌then◌else◌, length, refl, sym, ap, arith}
+use Rattle.std.proofs.Common.{◌≡◌, ◌<◌, ◌-◌, ◌∙◌, ℕ, nat_lt, Bool, true, false, [], ◌∷◌, Option, Some, None, Ok, is_some, length, refl, sym}
+use Rattle.std.proofs.Common.{ap, arith}
 use Rattle.std.proofs.lemmas.Bool.Decides.{nat_tests}
 use Rattle.c104_token.specs.Kinds.{Kind}
 use Rattle.c104_link.specs.Steps.{step_at}
@@ -13,17 +14,18 @@ use Rattle.c104_describe.specs.Wiring.{peer, IsPlanPort}
 use Rattle.c104_event.specs.declared.events.Event.{Event}
 use Rattle.c104_event.specs.declared.events.Event.TheVariants as event
 use Rattle.c104_event.specs.declared.faults.EventFault.{EventFault}
-use Rattle.c104_event.specs.declared.faults.EventFault.TheVariants as fault
 use Rattle.c104_net.specs.Acts.{nodes_act}
 use Rattle.c104_net.specs.EventActs.{near_act, port_place}
 use Rattle.c104_net.specs.Nodes.{node_claim}
 use Rattle.c104_net.proofs.ActSteps.{joint_unready}
 use Rattle.c104_net.proofs.EventSteps.{claim_named, done_step}
 use Rattle.c104_net.specs.declared.crossings.Crossing.TheVariants.{Grant, Token}
-use Rattle.c104_net.specs.Network.{network_apply, network_step, event_fault, outcome_if_possible, outcome_if_ready, node_fault, link_fault, wire_fault, wired_fault}
+use Rattle.c104_net.specs.Network.{network_apply, network_step, event_fault, outcome_if_possible, outcome_if_ready, link_fault, wire_fault}
+use Rattle.c104_net.specs.Network.{wired_fault}
 use Rattle.c104_net.specs.RoundParts.{PartEnds}
 use Rattle.c104_net.specs.Stages.{stage_apply, Stage}
 use Rattle.c104_net.proofs.StageSteps.{unready_part}
+use Rattle.c104_net.proofs.NoFaults.{link_there, node_there, past_node}
 
 pub none_of : {X : Type 0} (o : Option X) → is_some o ≡ false → o ≡ None
 none_of None is = refl
@@ -31,32 +33,11 @@ none_of (Some x) is = absurd (cc is)
 
 -- a port of the plan that has a wire
 module _ (plan : Plan) where
-  there : (count : ℕ) (n : ℕ) (other : Option EventFault) → node_fault count n other ≡ None → n < count
-  there count n other is = by_test (nat_lt n count) refl is
-    where
-      by_test : (below : Bool) → nat_lt n count ≡ below → (if below then other else Some fault.NoNode) ≡ None → n < count
-      by_test true test is = grind (arith, nat_tests)
-      by_test false test is = absurd (cc is)
-
-  linked : (l : ℕ) (other : Option EventFault) → link_fault l other ≡ None → l < 32
-  linked l other is = by_test (nat_lt l 32) refl is
-    where
-      by_test : (below : Bool) → nat_lt l 32 ≡ below → (if below then other else Some fault.NoLink) ≡ None → l < 32
-      by_test true test is = grind (arith, nat_tests)
-      by_test false test is = absurd (cc is)
-
-  past_node : (count n : ℕ) (other : Option EventFault) → node_fault count n other ≡ None → other ≡ None
-  past_node count n other is = by_test (nat_lt n count) is
-    where
-      by_test : (below : Bool) → (if below then other else Some fault.NoNode) ≡ None → other ≡ None
-      by_test true is = is
-      by_test false is = absurd (cc is)
-
   pub port_inside : (p : Port) → wired_fault plan p ≡ None → IsPlanPort plan p
   port_inside (port.Switch s l) wired =
       let other : Option EventFault = wire_fault (peer plan (port.Switch s l)) in
-      (there (length plan.switches) s (link_fault l other) wired, linked l other (past_node (length plan.switches) s (link_fault l other) wired))
-  port_inside (port.Terminal t) wired = there (length plan.terminals) t (wire_fault (peer plan (port.Terminal t))) wired
+      (node_there (link_fault l other) (length plan.switches) s wired, link_there other l (past_node (link_fault l other) (length plan.switches) s wired))
+  port_inside (port.Terminal t) wired = node_there (wire_fault (peer plan (port.Terminal t))) (length plan.terminals) t wired
 
   pub wired_inside : (p q : Port) → IsPlanPort plan p → peer plan p ≡ Some q → wired_fault plan p ≡ None
   wired_inside (port.Switch s l) q inside is =

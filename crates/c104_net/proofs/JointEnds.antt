@@ -3,19 +3,24 @@ use Rattle.c104_describe.specs.declared.ports.Port.{Port}
 use Rattle.c104_link.specs.Steps.{◌>>=◌}
 use Rattle.c104_link.proofs.MadeSteps.{from_place_made}
 use Rattle.c104_net.proofs.Crossing.{get_set_other}
-use Rattle.c104_net.specs.Acts.{done_by, node_act, nodes_act, token_by}
+use Rattle.c104_event.specs.declared.faults.EventFault.{EventFault}
+use Rattle.c104_net.specs.Acts.{done_by, node_act, nodes_act, reply_outcome, token_by}
 use Rattle.c104_net.specs.EventActs.{IsAnswerOf, far_act, joint_step, near_act}
 use Rattle.c104_net.specs.Nodes.{Node, node_credit_in, node_credit_out, node_enter, node_leave}
-use Rattle.c104_net.specs.Traces.{joint_deeds, kept_entry, noted_all, noted_at}
+use Rattle.c104_net.specs.PlaceActs.{JointDone}
+use Rattle.c104_net.specs.Places.{Shown, fulls, room_fault, starts, states, traces}
+use Rattle.c104_net.specs.Traces.{full_at, joint_deeds, kept_entry, noted_all, noted_at}
 use Rattle.c104_net.specs.declared.acts.ActOf.{ActOf}
 use Rattle.c104_net.specs.declared.acts.Entry.{Entry}
 use Rattle.c104_net.specs.declared.stamps.Stamp.{Stamp}
 use Rattle.c104_net.specs.declared.crossings.Crossing.{Crossing}
+use Rattle.c104_net.specs.declared.crossings.Joint.{Joint}
 use Rattle.c104_net.specs.declared.crossings.Crossing.TheVariants.{Grant, Token}
 use Rattle.c104_switch.specs.Actions.{is_ready}
 use Rattle.c104_switch.specs.declared.actions.ReplyOf.{ReplyOf}
 use Rattle.c104_token.specs.Kinds.{Kind}
-use Rattle.std.proofs.Common.{Bool, [], if◌then◌else◌, ◌∷◌, List, None, Option, Some, ap, arith, false, is_some, length, nat_lt, refl, slice_get, slice_set, subst, sym, true, ℕ, ◌<◌, ◌≤◌, ◌∙◌, ◌≡◌, ◌≢◌}
+use Rattle.std.proofs.Common.{Bool, Err, Ok, ◌||◌, [], if◌then◌else◌, ◌∷◌, List, None, Option, Some, ap, arith, false, is_some, length}
+use Rattle.std.proofs.Common.{nat_lt, refl, slice_get, slice_set, subst, sym, true, ℕ, ◌<◌, ◌≤◌, ◌∙◌, ◌≡◌, ◌≢◌}
 use Rattle.std.proofs.lemmas.Bool.Decides.{nat_tests}
 use Rattle.std.proofs.lemmas.Option.{slice_get_past}
 use Rattle.c104_describe.specs.declared.ports.Port.TheVariants as port
@@ -119,7 +124,7 @@ module _ {A : Type 0} (kind : Kind A) (p q : Port) (crossing : Crossing) (near f
       ∙ sym (ap (λ b. noted_all keeps before (if b then (near, kept_entry kind stamp (near_act crossing p) told) ∷ (far, kept_entry kind stamp (far_act q told) reply.Done) ∷ [] else [])) ready)
 
   module _ (apart : near ≢ far) where
-    -- whether the far end can act hangs on the node there alone
+    -- whether the far end can act is told by the node there alone
     some_at : (a : ActOf A) (ns ms : List (Node A)) → slice_get ns far ≡ slice_get ms far → is_some (nodes_act kind ns far 0 a) ≡ is_some (nodes_act kind ms far 0 a)
     some_at a ns ms same = ap (λ (o : Option (Node A)). is_some (o >>= (λ n. node_act kind 0 a n >>= put_at ns far))) same ∙ by_node (slice_get ms far)
       where
@@ -168,3 +173,20 @@ module _ {A : Type 0} (kind : Kind A) (p q : Port) (crossing : Crossing) (near f
         by_near : (made : Option (ReplyOf A × List (Node A))) → nodes_act kind nodes near 0 (near_act crossing p) ≡ made → (made >>= from_near) ≡ None
         by_near None gone = refl
         by_near (Some r) gone = by_far r.0 (nodes_act kind r.1 far 0 (far_act q r.0)) (closed r.0 (gone_answers r gone) ∙ sym (far_kept (far_act q r.0) r gone))
+
+-- what crosses a wire, as it ends at all places
+module _ {A : Type 0} (kind : Kind A) (keeps : Bool) (near far : ℕ) (joint : Joint) (stamp : Stamp) (olds : List (Shown A)) where
+  abbrev made : Option (ReplyOf A × List (Node A))
+  made = joint_step kind near far joint.near joint.far joint.crossing (states olds)
+
+  -- where one end isn't ready
+  pub none_crosses : made ≡ None → JointDone kind keeps near far joint stamp olds (Ok reply.NotReady) olds
+  none_crosses none = record {
+    ends = (ap (λ (m : Option (ReplyOf A × List (Node A))). reply_outcome m (states olds)) (sym none), λ ready. absurd (let no : ⊥ = cc in no));
+    start = refl;
+    trace = refl;
+  }
+
+  -- where both are, and it is refused
+  pub crossing_refused : (f : EventFault) (news : List (Shown A)) → f ≡ room_fault (full_at (fulls olds) near || full_at (fulls olds) far) → is_some made ≡ true → news ≡ olds → JointDone kind keeps near far joint stamp olds (Err f) news
+  crossing_refused f news is ready same = record { ends = (is, ready, ap states same); start = ap starts same; trace = ap traces same }

@@ -1,8 +1,8 @@
 -- In a run from a start whose traces are within their limit, each terminator that arrives tells its packet, and in numbers
 -- that its eight bytes have room for. So what is kept of it tells the same packet.
-use Rattle.std.proofs.Common.{◌≡◌, ◌∙◌, ◌≤◌, ◌<◌, ◌%◌, ◌++◌, ℕ, suc, zero, Bool, true, false, List, [], ◌∷◌, Option, Some, None, Result, Ok, if◌then◌else◌, length, map, nat_lt, slice_get, refl, sym, ap, subst, arith}
+use Rattle.std.proofs.Common.{◌≡◌, ◌∙◌, ◌≤◌, ◌<◌, ◌%◌, ◌++◌, ℕ, suc, zero, true, false, List, [], ◌∷◌, Some, None, Result, Ok, length, map}
+use Rattle.std.proofs.Common.{slice_get, refl, sym, ap, subst, arith}
 use Rattle.std.proofs.lemmas.Bool.{true≢false}
-use Rattle.std.proofs.lemmas.Bool.Decides.{nat_tests}
 use Rattle.std.proofs.lemmas.Option.{slice_get-map}
 use Rattle.std.specs.Option.{option_map}
 use Rattle.c104_token.specs.Kinds.{Kind}
@@ -14,13 +14,12 @@ use Rattle.c104_describe.specs.Plans.{Plan}
 use Rattle.c104_event.specs.declared.events.Event.{Event}
 use Rattle.c104_event.specs.declared.events.Event.TheVariants as event
 use Rattle.c104_event.specs.declared.faults.EventFault.{EventFault}
-use Rattle.c104_event.specs.declared.faults.EventFault.TheVariants as fault
 use Rattle.c104_net.specs.declared.node.NodeOf.TheVariants as node
 use Rattle.c104_net.specs.declared.stamps.Stamp.{Stamp}
 use Rattle.c104_net.specs.declared.starts.NodeStart.{NodeStart}
 use Rattle.c104_net.specs.Finished.{terminals_of}
 use Rattle.c104_net.specs.Tagged.{tag, tagged_origins, TaggedToken}
-use Rattle.c104_net.specs.Network.{network_apply, network_of, network_step, event_fault, node_fault, terminal_place, Network}
+use Rattle.c104_net.specs.Network.{network_apply, network_of, network_step, event_fault, terminal_place, Network}
 use Rattle.c104_net.specs.Nodes.{Node}
 use Rattle.c104_net.specs.Origins.{origins_in, AreSure, IsSure, Origin}
 use Rattle.c104_net.specs.Runs.{run_deeds, IsDoneRun}
@@ -36,6 +35,8 @@ use Rattle.c104_net.proofs.RunSteps.{done_possible, done_step_is}
 use Rattle.c104_net.proofs.SentCounts.{bounded_on, counts, low_number, sent_count, step_counts, AddsSent, IsBounded}
 use Rattle.c104_net.proofs.StartMaps.{starts_same}
 use Rattle.c104_net.proofs.StepMaps.{apply_alike, IsSentAlike}
+use Rattle.c104_net.proofs.NoFaults.{node_there}
+use Rattle.c104_net.proofs.SureOrigins.{sure_sent}
 
 -- a token with what is known of it
 abbrev pub Known : Type 0
@@ -52,9 +53,6 @@ small_sent t n j x terminal number = record {
 
 small_none : (x : Token) → IsSmall (record { token = x; source = None })
 small_none x = record { terminal = λ s is. absurd (let no : ⊥ = cc in no); number = λ s is. absurd (let no : ⊥ = cc in no) }
-
-sure_sent : (t n j : ℕ) (x : Token) → IsSure (sent_token t n j x)
-sure_sent t n j x = λ e. (record { terminal = t; number = n; place = j }, refl)
 
 within_terminal : (t : ℕ) → t % 65536 < 65536
 within_terminal t = grind arith
@@ -83,14 +81,6 @@ plain_known x = refl
 random_known : (j b : ℕ) → traced_kind.random j (Byte b) ≡ known_of (known_kind.random j (Byte b))
 random_known j b = refl
 
--- a terminal that no fault is about is there
-terminal_there : (count n : ℕ) (other : Option EventFault) → node_fault count n other ≡ None → n < count
-terminal_there count n other is = by_test (nat_lt n count) refl is
-  where
-    by_test : (b : Bool) → nat_lt n count ≡ b → (if b then other else Some fault.NoNode) ≡ None → n < count
-    by_test true inside is = grind (arith, nat_tests)
-    by_test false inside is = absurd (cc)
-
 sent_alike : (t n j : ℕ) (x : Token) → t < 65536 → n < 4294967296 → sent_token t n j x ≡ sent_token (t % 65536) (n % 4294967296) j x
 sent_alike t n j x terminal number =
     let one : t ≡ t % 65536 = grind (arith, terminal) in
@@ -106,7 +96,7 @@ alike net (event.Claim s i o) r stamp rest few possible ready bound = tt
 alike net (event.Control s bytes) r stamp rest few possible ready bound = tt
 alike net (event.Drain t) r stamp rest few possible ready bound = tt
 alike net (event.Send t packet) r stamp rest few possible ready bound = λ T at j x.
-    let inside : t < length net.plan.terminals = terminal_there (length net.plan.terminals) t _ possible in
+    let inside : t < length net.plan.terminals = node_there _ (length net.plan.terminals) t possible in
     let there : slice_get (counts (map (map_node known_of) net.nodes)) (terminal_place net.plan t) ≡ Some (length T.sent) =
     slice_get-map sent_count (map (map_node known_of) net.nodes) (terminal_place net.plan t)
     ∙ ap (option_map sent_count) (slice_get-map (map_node known_of) net.nodes (terminal_place net.plan t) ∙ ap (option_map (map_node known_of)) at) in

@@ -2,11 +2,11 @@
 use Rattle.c104_net.specs.Leading.{act_event, leads}
 use Rattle.c104_net.specs.declared.acts.ActOf.{ActOf}
 use Rattle.c104_token.specs.declared.tokens.Token.{Token}
-use Rattle.std.proofs.Common.{List, Some, [], ap, drop, is_some, refl, slice_get, suc, zero, ℕ, ◌∷◌, ◌≡◌}
+use Rattle.std.proofs.Common.{is_some, refl, ℕ, ◌≡◌}
 use Rattle.c104_net.specs.declared.acts.ActOf.TheVariants as act
 use Rattle.c104_switch.specs.declared.actions.ActionOf.TheVariants as action
 
--- whether an act leads hangs on nothing but the act
+-- whether an act leads is told by the act alone
 pub leads_any : (switches k : ℕ) (a : ActOf Token) → is_some (act_event switches k a) ≡ leads a
 leads_any switches k (act.Step (action.Enter l x)) = refl
 leads_any switches k (act.Step (action.Leave l)) = refl
@@ -21,9 +21,3 @@ leads_any switches k act.Leave = refl
 leads_any switches k (act.Enter x) = refl
 leads_any switches k act.CreditOut = refl
 leads_any switches k act.CreditIn = refl
-
--- a list from a place on begins with the element there
-pub drop_here : {X : Type 0} (xs : List X) (i : ℕ) (x : X) → slice_get xs i ≡ Some x → drop i xs ≡ x ∷ drop (suc i) xs
-drop_here [] i x here = absurd (cc)
-drop_here (y ∷ xs) zero x here = let same : y ≡ x = cc in ap (λ z. z ∷ xs) same
-drop_here (y ∷ xs) (suc i) x here = drop_here xs i x here

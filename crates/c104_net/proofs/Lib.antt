@@ -1,14 +1,12 @@
-pub mod Sending
 pub mod ActionSteps
 pub mod PlaceSteps
-pub mod KeptEntries
+pub mod BarePlaces
 pub mod ActSteps
 pub mod ActAnswers
 pub mod ActAttempts
 pub mod NamedWires
 pub mod EventSteps
 pub mod FarPorts
-pub mod LimitedEnds
 pub mod JointEnds
 pub mod JointKeeps
 pub mod Crossing
@@ -28,6 +26,7 @@ pub mod RoundRuns
 pub mod RoundsTaken
 pub mod PartRuns
 pub mod StageSteps
+pub mod NoFaults
 pub mod IdleEvents
 pub mod RoundJoins
 pub mod RecordedRuns

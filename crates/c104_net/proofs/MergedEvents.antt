@@ -9,7 +9,8 @@ use Rattle.c104_net.specs.ToldEvents.{told_by, told_event}
 use Rattle.c104_net.specs.declared.acts.Entry.{Entry}
 use Rattle.c104_net.specs.declared.stamps.Stamp.{Stamp}
 use Rattle.c104_switch.specs.Actions.{Reply}
-use Rattle.std.proofs.Common.{Bool, List, Some, [], ap, arith, false, if◌then◌else◌, inl, inr, length, map, nat_eq, nat_le, refl, slice_get, subst, suc, sym, true, ℕ, ◌++◌, ◌+◌, ◌<◌, ◌∙◌, ◌∷◌, ◌≡◌, ◌≤◌}
+use Rattle.std.proofs.Common.{Bool, List, Some, [], ap, arith, false, if◌then◌else◌, inl, inr, length, map, nat_eq, nat_le, refl, slice_get}
+use Rattle.std.proofs.Common.{subst, suc, sym, true, ℕ, ◌++◌, ◌+◌, ◌<◌, ◌∙◌, ◌∷◌, ◌≡◌, ◌≤◌}
 use Rattle.std.proofs.lemmas.Bool.Decides.{nat_tests}
 
 -- the event alone, without its reply

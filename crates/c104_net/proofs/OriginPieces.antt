@@ -16,7 +16,8 @@ use Rattle.c104_token.specs.Tokens.{end_token, is_end}
 use Rattle.c104_token.specs.declared.tokens.Mark.{Mark}
 use Rattle.c104_token.specs.declared.tokens.Token.{Token}
 use Rattle.c104_token.specs.declared.tokens.Token.TheVariants.{Byte}
-use Rattle.std.proofs.Common.{Bool, List, None, Option, Some, [], ap, append-nil, append_assoc, arith, drop, false, flat_map, if◌then◌else◌, length, map, refl, suc, sym, true, zero, ℕ, ⊎_elim, ◌++◌, ◌∙◌, ◌∷◌, ◌≡◌, ◌≤◌}
+use Rattle.std.proofs.Common.{Bool, List, None, Option, Some, [], ap, append-nil, append_assoc, arith, drop, false, flat_map, if◌then◌else◌}
+use Rattle.std.proofs.Common.{length, map, refl, suc, sym, true, zero, ℕ, ⊎_elim, ◌++◌, ◌∙◌, ◌∷◌, ◌≡◌, ◌≤◌}
 use Rattle.std.proofs.lemmas.Bool.{cases_Bool, leb-true}
 use Rattle.std.specs.Prelude.{option_to_list}
 use Rattle.c104_token.specs.declared.tokens.Mark.TheVariants as mark

@@ -1,5 +1,6 @@
 -- Parts of a round: one goes on from the one before, and an event that isn't ready may be left out.
-use Rattle.std.proofs.Common.{true, false, ℕ, zero, suc, ◌≡◌, ◌+◌, ◌<◌, ◌≤◌, ◌-◌, ◌||◌, Bool, List, [], ◌∷◌, ◌++◌, Ok, Err, get_or, length, take, drop, map, refl, sym, subst, ap, ◌∙◌, append_assoc, append-nil, arith, inl, inr}
+use Rattle.std.proofs.Common.{true, false, ℕ, zero, suc, ◌≡◌, ◌+◌, ◌<◌, ◌≤◌, ◌-◌, ◌||◌, Bool, List, [], ◌∷◌, ◌++◌, Ok, Err, get_or, length}
+use Rattle.std.proofs.Common.{take, drop, map, refl, sym, subst, ap, ◌∙◌, append_assoc, append-nil, arith, inl, inr}
 use Rattle.std.specs.List.{flat_map, range_with_len}
 use Rattle.std.proofs.lemmas.List.{drop_more, take-append-drop, take_all, take_more}
 use Rattle.std.proofs.lemmas.List.FromFn.{get_or-range_with_len, length-range_with_len}
@@ -12,7 +13,7 @@ use Rattle.c104_net.specs.RoundParts.{PartEnds}
 use Rattle.c104_net.proofs.RoundRuns.{run_append, run_from, run_reply, Applied}
 
 -- where one of two is so, and it isn't, neither is
-neither : (a b : Bool) → (a || b) ≡ false → (a ≡ false) × (b ≡ false)
+pub neither : (a b : Bool) → (a || b) ≡ false → (a ≡ false) × (b ≡ false)
 neither true b none = absurd (cc none)
 neither false b none = (refl, none)
 
@@ -77,7 +78,7 @@ module _ {S : Type 0} (apply : S → Event → Applied S) where
   )
 
   module _ {X : Type 0} (part : X → List Event) (xs : List X) where
-    -- the parts of so many of a list, and the next one
+    -- the parts of the first elements of a list, and that of the next one
     pub part_next : (i : ℕ) (x : X) (net mid after : S) (a b : Bool) → i < length xs → x ≡ get_or xs i x → PartEnds apply net (flat_map part (take i xs)) (Ok a) mid → PartEnds apply mid (part x) (Ok b) after →
         PartEnds apply net (flat_map part (take (i + 1) xs)) (Ok (a || b)) after
     part_next i x net mid after a b inside is first next =

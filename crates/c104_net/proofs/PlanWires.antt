@@ -13,7 +13,8 @@ use Rattle.c104_net.specs.Balance.{AreInPlace, is_switch}
 use Rattle.c104_net.specs.Ends.{end_of}
 use Rattle.c104_net.specs.Network.{terminal_place}
 use Rattle.c104_net.specs.Nodes.{Node}
-use Rattle.std.proofs.Common.{List, None, Option, Some, [], ap, arith, false, length, map, refl, replicate, slice_get, subst, suc, sym, true, zero, ℕ, ◌++◌, ◌+◌, ◌<◌, ◌∙◌, ◌∷◌, ◌≡◌}
+use Rattle.std.proofs.Common.{List, None, Option, Some, [], ap, arith, false, length, map, refl, replicate, slice_get, subst, suc, sym}
+use Rattle.std.proofs.Common.{true, zero, ℕ, ◌++◌, ◌+◌, ◌<◌, ◌∙◌, ◌∷◌, ◌≡◌}
 use Rattle.std.proofs.lemmas.Bool.{true≢false}
 use Rattle.c104_net.specs.declared.node.NodeOf.TheVariants as node
 use Rattle.c104_describe.specs.declared.plans.Terminal as plans

@@ -1,6 +1,7 @@
 -- A switch is quiet where all its links are seen to be, and only there; and a run that begins keeps the
 -- balance.
-use Rattle.std.proofs.Common.{◌≡◌, ◌∙◌, ◌+◌, ◌<◌, ◌&&◌, ℕ, Bool, true, false, List, [], ◌∷◌, Option, Some, None, get_or, length, map, nat_eq, slice_get, option_map, inl, inr, refl, sym, ap, subst, arith}
+use Rattle.std.proofs.Common.{◌≡◌, ◌∙◌, ◌+◌, ◌<◌, ◌&&◌, ℕ, Bool, true, false, List, [], ◌∷◌, Option, Some, None, get_or, length, map}
+use Rattle.std.proofs.Common.{nat_eq, slice_get, option_map, inl, inr, refl, sym, ap, subst, arith}
 use Rattle.std.proofs.lemmas.Bool.{cases_eq}
 use Rattle.std.proofs.lemmas.Bool.Decides.{nat_tests}
 use Rattle.std.proofs.lemmas.Option.{slice_get-get_or, slice_get-map}
@@ -19,7 +20,8 @@ use Rattle.c104_net.specs.declared.node.NodeOf.TheVariants.{Switch, Terminal}
 use Rattle.c104_net.specs.Ends.{end_of}
 use Rattle.c104_net.specs.Balance.{credit_of, granted_of, is_switch, IsSteady}
 use Rattle.c104_net.specs.Network.{Network}
-use Rattle.c104_net.specs.Quiet.{network_begin, node_begin, is_fresh, is_quiet_view, IsQuietInput, IsQuietNode, IsQuietOutput, IsQuietSwitch}
+use Rattle.c104_net.specs.Quiet.{network_begin, node_begin, is_fresh, is_quiet_view, IsQuietInput, IsQuietNode, IsQuietOutput}
+use Rattle.c104_net.specs.Quiet.{IsQuietSwitch}
 
 -- where one of two is not, not both are
 both : (a b : Bool) → (a && b) ≡ true → (a ≡ true) × (b ≡ true)

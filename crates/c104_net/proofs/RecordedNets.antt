@@ -1,9 +1,9 @@
 -- A network whose nodes are seen with their records goes on by events.
-use Rattle.std.proofs.Common.{◌≡◌, ◌∙◌, ℕ, Bool, true, false, List, [], ◌∷◌, Option, Some, None, Result, is_some, IfOk, map, option_map, inl, inr, refl, sym, ap, subst}
+use Rattle.std.proofs.Common.{◌≡◌, ◌∙◌, ℕ, Bool, true, List, [], ◌∷◌, Option, Some, Result, is_some, map, inl, inr, refl, sym, ap, subst}
 use Rattle.c104_token.specs.declared.tokens.Token.{Token}
 use Rattle.c104_token.specs.declared.tokens.Token.TheVariants.{Byte}
 use Rattle.c104_token.specs.Kinds.{Kind, plain_kind}
-use Rattle.c104_switch.specs.Actions.{Reply, is_ready}
+use Rattle.c104_switch.specs.Actions.{Reply}
 use Rattle.c104_describe.specs.Plans.{Plan, IsPlan}
 use Rattle.c104_event.specs.declared.events.Event.{Event}
 use Rattle.c104_event.specs.declared.faults.EventFault.{EventFault}
@@ -11,24 +11,24 @@ use Rattle.c104_net.specs.declared.acts.Entry.{Entry}
 use Rattle.c104_net.specs.declared.starts.NodeStart.{NodeStart}
 use Rattle.c104_net.specs.EventRuns.{Answers, EventsEnd}
 use Rattle.c104_net.specs.Network.{Network, network_of, network_step, AnswersWith, WouldBeDone}
-use Rattle.c104_net.specs.NetRecords.{is_done, is_trace_full, ticket_after, IsNetRecord, NetRecord, RecordsEvent}
-use Rattle.c104_net.specs.RecordedNets.{places_record, IsReading, IsRecordedNet, KeepsTokens, Reading}
+use Rattle.c104_net.specs.NetRecords.{is_done, IsNetRecord, NetRecord}
+use Rattle.c104_net.specs.RecordedNets.{places_record, read_state, read_trace, IsReading, IsRecordedNet, KeepsTokens, Reading}
 use Rattle.c104_net.specs.RecordedRuns.{record_apply, record_at, AnswersRecord}
-use Rattle.c104_net.specs.Stages.{stage_apply, stage_of, Stage}
-use Rattle.c104_net.specs.Traces.{event_deeds, event_full, kept_of, noted_all, seatless}
+use Rattle.c104_net.specs.Places.{Shown, states}
+use Rattle.c104_net.specs.Stages.{stage_apply, Stage}
 use Rattle.c104_net.specs.TracedRuns.{map_node}
 use Rattle.c104_net.proofs.FirstRecords.{map_twice}
 use Rattle.c104_net.proofs.RecordedStages.{after_plan, apply_plain, plain_network, plain_stage, record_plain, stage_on, IsRecordedStage}
 use Rattle.c104_net.proofs.RoundRuns.{ends_keep, ends_seen, Applied}
-use Rattle.c104_net.proofs.StageSteps.{fulls_kept, stage_answers}
 use Rattle.c104_net.proofs.StepMaps.{limit_map, step_map}
+use Rattle.c104_net.proofs.WiredPorts.{some_mapped}
 
 -- a list that is mapped by two functions that agree
 pub map_same : {X Y : Type 0} (f g : X → Y) → ((x : X) → f x ≡ g x) → (xs : List X) → map f xs ≡ map g xs
 map_same f g same [] = refl
 map_same f g same (x ∷ xs) = ap (λ y. y ∷ map f xs) (same x) ∙ ap (λ ys. g x ∷ ys) (map_same f g same xs)
 
-somes_same : (xs ys : List NodeStart) → map Some xs ≡ map Some ys → xs ≡ ys
+pub somes_same : (xs ys : List NodeStart) → map Some xs ≡ map Some ys → xs ≡ ys
 somes_same [] [] is = refl
 somes_same [] (y ∷ ys) is = cc
 somes_same (x ∷ xs) [] is = cc
@@ -46,9 +46,14 @@ module _ {A P : Type 0} (v : Reading A P) where
 
   -- the stage that such places show
   abbrev pub places_stage : Plan → List P → ℕ → Stage A
-  places_stage plan places count = stage_of v.state some_start v.trace plan places count
+  places_stage plan places count = record {
+    network = network_of plan (map (read_state v) places);
+    starts = map some_start places;
+    traces = map (read_trace v) places;
+    count = count;
+  }
 
-  somes_shown : (places : List P) → map some_start places ≡ map Some (map v.start places)
+  pub somes_shown : (places : List P) → map some_start places ≡ map Some (map v.start places)
   somes_shown places = sym (map_twice Some v.start places)
 
   same_starts : (plan : Plan) (places : List P) (count : ℕ) (starts : List NodeStart) → IsRecordedStage v.kind starts (places_stage plan places count) → starts ≡ map v.start places
@@ -56,12 +61,23 @@ module _ {A P : Type 0} (v : Reading A P) where
 
 module _ {A P : Type 0} (v : Reading A P) (reads : IsReading v) where
   -- what places show over plain tokens
-  pub states_shown : (places : List P) → map (map_node v.kind.plain) (map v.state places) ≡ map v.shown places
-  states_shown places = map_twice (map_node v.kind.plain) v.state places ∙ map_same (λ p. map_node v.kind.plain (v.state p)) v.shown (λ p. sym (reads.plain p)) places
+  pub states_shown : (places : List P) → map (map_node v.kind.plain) (map (read_state v) places) ≡ map v.plain places
+  states_shown places = map_twice (map_node v.kind.plain) (read_state v) places ∙ map_same (λ p. map_node v.kind.plain (read_state v p)) v.plain (λ p. sym (reads.plain p)) places
+
+  -- the same, by what the places show
+  pub states_plain : (places : List P) → map (map_node v.kind.plain) (states (map v.shown places)) ≡ map v.plain places
+  states_plain places = ap (map (map_node v.kind.plain)) (map_twice (λ (s : Shown A). s.state) v.shown places) ∙ states_shown places
 
   -- over plain tokens their stage is that of the network
   pub places_plain : (plan : Plan) (places : List P) (count : ℕ) → record_at (map v.start places) (plain_stage v.kind (places_stage v plan places count)) ≡ places_record v plan places count
-  places_plain plan places count = ap (λ ns. record_of (network_of plan ns) (map v.start places) (map v.trace places) count) (states_shown places)
+  places_plain plan places count = ap (λ ns. record_of (network_of plan ns) (map v.start places) (map (read_trace v) places) count) (states_shown places)
+
+  -- what is seen of the nodes of lent places, as it is seen of the network
+  pub seen_plain : {X : Type 0} (of : Network A → X) (told : Network Token → X) → ((net : Network A) → told (plain_network v.kind net) ≡ of net) → (plan : Plan) (items lent : List P) → lent ≡ items → (count : ℕ) (r : NetRecord) → places_record v plan items count ≡ r →
+      of (network_of plan (states (map v.shown lent))) ≡ told r.network
+  seen_plain of told same plan items lent lent_is count r is =
+      ap (λ (ps : List P). of (network_of plan (states (map v.shown ps)))) lent_is ∙ sym (same (network_of plan (states (map v.shown items))))
+      ∙ ap (λ ns. told (network_of plan ns)) (states_plain items) ∙ ap (λ (x : NetRecord). told x.network) is
 
   stage_kept : (plan : Plan) (places : List P) (count : ℕ) → IsRecordedNet v plan places count → IsRecordedStage v.kind (map v.start places) (places_stage v plan places count)
   stage_kept plan places count is = record {
@@ -132,10 +148,6 @@ module _ {A P : Type 0} (v : Reading A P) (reads : IsReading v) where
 
 -- what an event over any kind of token answers and leaves is what it does over plain tokens
 module _ {A : Type 0} (kind : Kind A) (tokens : KeepsTokens kind) (net after : Network A) (e : Event) where
-  some_map : {X Y : Type 0} (f : X → Y) (o : Option X) → is_some (option_map f o) ≡ is_some o
-  some_map f None = refl
-  some_map f (Some x) = refl
-
   random_plain : (j b : ℕ) → ◌≡◌ {A = Token} (Byte b) (kind.plain (kind.random j (Byte b)))
   random_plain j b = sym (tokens.random j (Byte b))
 
@@ -145,42 +157,10 @@ module _ {A : Type 0} (kind : Kind A) (tokens : KeepsTokens kind) (net after : N
   would_plain : WouldBeDone kind net e → WouldBeDone plain_kind (plain_network kind net) e
   would_plain would = (
     would.0,
-    ap is_some (step_map kind.plain kind plain_kind (λ x. refl) random_plain sent_plain net e) ∙ some_map _ (network_step kind net e) ∙ would.1,
+    ap is_some (step_map kind.plain kind plain_kind (λ x. refl) random_plain sent_plain net e) ∙ some_mapped _ (network_step kind net e) ∙ would.1,
     limit_map kind.plain kind plain_kind (λ x. refl) random_plain net e ∙ would.2,
   )
 
   pub answers_plain : (full : Bool) (answer : Result Reply EventFault) → AnswersWith kind full net e answer after → AnswersWith plain_kind full (plain_network kind net) e answer (plain_network kind after)
   answers_plain full answer (inl due) = inl (ap (λ (d : Applied (Network A)). (d.0, plain_network kind d.1)) due ∙ sym (apply_plain kind tokens net e))
   answers_plain full answer (inr refused) = inr (refused.0, would_plain refused.1, ap (plain_network kind) refused.2)
-
-module _ {A P : Type 0} (v : Reading A P) (reads : IsReading v) (plan : Plan) (is_plan : IsPlan plan) (old new : List P) (count : ℕ) (before : IsRecordedNet v plan old count) (e : Event) (answer : Result Reply EventFault)
-    (answers : AnswersWith v.kind (event_full plan (map (λ (p : P). is_trace_full (v.trace p)) old) e) (network_of plan (map v.state old)) e answer (network_of plan (map v.state new)))
-    (free : IfOk answer (λ r. is_ready r ≡ true → event_full plan (map (λ (p : P). is_trace_full (v.trace p)) old) e ≡ false))
-    (begun : map (some_start v) new ≡ map (some_start v) old)
-    (noted : map v.trace new ≡ noted_all true (map v.trace old) (kept_of (event_deeds plan (seatless count) e) answer)) where
-  abbrev fulls : List Bool
-  fulls = map (λ (p : P). is_trace_full (v.trace p)) old
-
-  pub stepped : (counted : ℕ) → counted ≡ ticket_after count (is_done answer) → Answers (stage_apply v.kind true) (places_stage v plan old count) e answer (places_stage v plan new counted)
-  stepped counted told =
-      stage_answers v.kind true (places_stage v plan old count) (places_stage v plan new counted) (event_full plan fulls e) e
-      (ap (λ fs. event_full plan fs e) (fulls_kept (λ (p : P). is_trace_full (v.trace p)) v.trace true (λ p. refl) old))
-      answer (begun, noted, told) answers free
-
-  fulls_told : fulls ≡ map is_trace_full (map v.trace old)
-  fulls_told = sym (map_twice is_trace_full v.trace old)
-
-  answered : AnswersWith plain_kind (event_full plan fulls e) (network_of plan (map v.shown old)) e answer (network_of plan (map v.shown new))
-  answered =
-      subst (λ ns. AnswersWith plain_kind (event_full plan fulls e) (network_of plan ns) e answer (network_of plan (map v.shown new))) (states_shown v reads old)
-      (subst (λ ns. AnswersWith plain_kind (event_full plan fulls e) (network_of plan (map (map_node v.kind.plain) (map v.state old))) e answer (network_of plan ns)) (states_shown v reads new)
-      (answers_plain v.kind reads.tokens (network_of plan (map v.state old)) (network_of plan (map v.state new)) e (event_full plan fulls e) answer answers))
-
-  pub event_records : RecordsEvent (places_record v plan old count) e answer (places_record v plan new (ticket_after count (is_done answer)))
-  event_records = record {
-    answers = subst (λ fs. AnswersWith plain_kind (event_full plan fs e) (network_of plan (map v.shown old)) e answer (network_of plan (map v.shown new))) fulls_told answered;
-    free = subst (λ fs. IfOk answer (λ r. is_ready r ≡ true → event_full plan fs e ≡ false)) fulls_told free;
-    traces = noted;
-    starts = somes_same (map v.start new) (map v.start old) (sym (somes_shown v new) ∙ begun ∙ somes_shown v old);
-    count = refl;
-  }

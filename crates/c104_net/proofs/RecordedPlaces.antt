@@ -1,19 +1,25 @@
 -- What the answers of a network whose nodes are seen with their records cite: whatever a place keeps when it runs, an
 -- event or rounds over such places are those of the network.
-use Rattle.std.proofs.Common.{◌≡◌, ◌∙◌, ℕ, Bool, true, false, List, Option, Result, IfOk, map, sym, ap, subst}
+use Rattle.std.proofs.Common.{◌≡◌, ◌∙◌, ℕ, Bool, true, false, List, Result, IfOk, map, refl, sym, ap, subst}
 use Rattle.c104_switch.specs.Actions.{Reply, is_ready}
+use Rattle.c104_token.specs.Kinds.{plain_kind}
 use Rattle.c104_describe.specs.Plans.{Plan, IsPlan}
 use Rattle.c104_event.specs.declared.events.Event.{Event}
 use Rattle.c104_event.specs.declared.faults.EventFault.{EventFault}
-use Rattle.c104_net.specs.declared.starts.NodeStart.{NodeStart}
-use Rattle.c104_net.specs.EventRuns.{EventsEnd}
+use Rattle.c104_net.specs.EventRuns.{Answers, EventsEnd}
+use Rattle.c104_net.specs.EventsAtPlaces.{EventDone}
 use Rattle.c104_net.specs.Network.{network_of, AnswersWith}
-use Rattle.c104_net.specs.NetRecords.{is_done, is_trace_full, ticket_after, RecordsEvent}
-use Rattle.c104_net.specs.RecordedNets.{places_record, IsRecordedNet, KeepsRecord, Reading}
+use Rattle.c104_net.specs.NetRecords.{is_done, ticket_after, RecordsEvent}
+use Rattle.c104_net.specs.Places.{IsFullByTrace, Shown, fulls, is_kept_full, starts, states, traces}
+use Rattle.c104_net.specs.RecordedNets.{places_record, read_trace, IsRecordedNet, KeepsRecord, Reading}
 use Rattle.c104_net.specs.RecordedRuns.{record_apply, AnswersRecord}
-use Rattle.c104_net.specs.Stages.{is_kept_full, stage_apply, stage_of}
-use Rattle.c104_net.specs.Traces.{event_deeds, event_full, kept_of, noted_all, seatless}
-use Rattle.c104_net.proofs.RecordedNets.{event_answers, event_on, event_records, events_end, events_on, map_same, places_stage, some_start, stepped}
+use Rattle.c104_net.specs.Stages.{stage_apply, stage_of, Stage}
+use Rattle.c104_net.specs.TracedRuns.{map_node}
+use Rattle.c104_net.specs.Traces.{event_deeds, event_full, is_trace_full, kept_of, noted_all, seatless}
+use Rattle.c104_net.proofs.FirstRecords.{map_twice}
+use Rattle.c104_net.proofs.RecordedNets.{answers_plain, event_answers, event_on, events_end, events_on, map_same, places_stage, some_start}
+use Rattle.c104_net.proofs.RecordedNets.{somes_same, somes_shown, states_plain}
+use Rattle.c104_net.proofs.StageSteps.{fulls_kept, same_stage, stage_done}
 
 -- how a network goes on by an event
 pub record GoesOn {A P : Type 0} (v : Reading A P) (plan : Plan) (old new : List P) (count counted : ℕ) (e : Event) (answer : Result Reply EventFault) : Type 0 where
@@ -26,71 +32,78 @@ pub record RunsOn {A P : Type 0} (v : Reading A P) (plan : Plan) (old new : List
   pub kept : IsRecordedNet v plan new counted
   pub ends : EventsEnd record_apply (places_record v plan old count) events result (places_record v plan new counted)
 
-module _ {A P : Type 0} (v : Reading A P) (keeps : Bool) (start : P → Option NodeStart) (full : P → Bool) (is : KeepsRecord v keeps start full) where
-  -- a place is full where its trace is, if entries are kept
-  pub full_is : (p : P) → full p ≡ is_kept_full keeps (v.trace p)
-  full_is p = is.limited p ∙ ap (λ b. is_kept_full b (v.trace p)) (sym is.keeping)
+module _ {A P : Type 0} (v : Reading A P) (keeps : Bool) (is : KeepsRecord v keeps) (limited : (p : P) → IsFullByTrace keeps (v.shown p)) where
+  starts_are : (places : List P) → starts (map v.shown places) ≡ map (some_start v) places
+  starts_are places = map_twice (λ (s : Shown A). s.start) v.shown places ∙ map_same (λ p. (v.shown p).start) (some_start v) is.started places
 
-  abbrev fulls : List P → List Bool
-  fulls places = map (λ (p : P). is_trace_full (v.trace p)) places
+  traces_are : (places : List P) → traces (map v.shown places) ≡ map (read_trace v) places
+  traces_are places = map_twice (λ (s : Shown A). s.trace) v.shown places
 
-  fulls_are : (places : List P) → map full places ≡ fulls places
-  fulls_are places = map_same full (λ p. is_trace_full (v.trace p)) is.limited places
+  fulls_are : (places : List P) → fulls (map v.shown places) ≡ map is_trace_full (map (read_trace v) places)
+  fulls_are places =
+      fulls_kept keeps v.shown limited places ∙ ap (λ b. map (is_kept_full b) (traces (map v.shown places))) is.keeping
+      ∙ ap (map is_trace_full) (traces_are places)
 
-  starts_are : (places : List P) → map start places ≡ map (some_start v) places
-  starts_are places = map_same start (some_start v) is.started places
+  stage_is : (plan : Plan) (places : List P) (count : ℕ) → stage_of plan (map v.shown places) count ≡ places_stage v plan places count
+  stage_is plan places count =
+      same_stage (stage_of plan (map v.shown places) count) (places_stage v plan places count)
+      (ap (network_of plan) (map_twice (λ (s : Shown A). s.state) v.shown places)) (starts_are places) (traces_are places) refl
 
-  stage_is : (plan : Plan) (places : List P) (count : ℕ) → stage_of v.state start v.trace plan places count ≡ places_stage v plan places count
-  stage_is plan places count = ap (λ ss. record { network = network_of plan (map v.state places); starts = ss; traces = map v.trace places; count = count }) (starts_are places)
+  -- what is so of the stages that places show is so of those of the network
+  stages_are : (plan : Plan) (old new : List P) (count counted : ℕ) (Ends : Bool → Stage A → Stage A → Type 0) → Ends keeps (stage_of plan (map v.shown old) count) (stage_of plan (map v.shown new) counted) →
+      Ends true (places_stage v plan old count) (places_stage v plan new counted)
+  stages_are plan old new count counted Ends ends =
+      subst (λ s. Ends true (places_stage v plan old count) s) (stage_is plan new counted)
+      (subst (λ s. Ends true s (stage_of plan (map v.shown new) counted)) (stage_is plan old count)
+      (subst (λ b. Ends b (stage_of plan (map v.shown old) count) (stage_of plan (map v.shown new) counted)) is.keeping ends))
 
   -- the places are lent by a list and put back
   module _ (plan : Plan) (is_plan : IsPlan plan) (items lent new put : List P) (lent_is : lent ≡ items) (put_is : put ≡ new) (count counted : ℕ) (before : IsRecordedNet v plan items count) where
     abbrev here : IsRecordedNet v plan lent count
     here = subst (λ ps. IsRecordedNet v plan ps count) (sym lent_is) before
 
-    module _ (e : Event) (answer : Result Reply EventFault)
-        (answers : AnswersWith v.kind (event_full plan (map full lent) e) (network_of plan (map v.state lent)) e answer (network_of plan (map v.state new)))
-        (free : IfOk answer (λ r. is_ready r ≡ true → event_full plan (map full lent) e ≡ false))
-        (begun : map start new ≡ map start lent)
-        (noted : map v.trace new ≡ noted_all keeps (map v.trace lent) (kept_of (event_deeds plan (seatless count) e) answer))
-        (told : counted ≡ ticket_after count (is_done answer)) where
-      answers_are : AnswersWith v.kind (event_full plan (fulls lent) e) (network_of plan (map v.state lent)) e answer (network_of plan (map v.state new))
-      answers_are = subst (λ fs. AnswersWith v.kind (event_full plan fs e) (network_of plan (map v.state lent)) e answer (network_of plan (map v.state new))) (fulls_are lent) answers
+    module _ (e : Event) (answer : Result Reply EventFault) (done : EventDone v.kind keeps plan (seatless count) e (map v.shown lent) answer (map v.shown new)) (told : counted ≡ ticket_after count (is_done answer)) where
+      answered : AnswersWith plain_kind (event_full plan (map is_trace_full (map (read_trace v) lent)) e) (network_of plan (map v.plain lent)) e answer (network_of plan (map v.plain new))
+      answered =
+          subst (λ fs. AnswersWith plain_kind (event_full plan fs e) (network_of plan (map v.plain lent)) e answer (network_of plan (map v.plain new))) (fulls_are lent)
+          (subst (λ ns. AnswersWith plain_kind (event_full plan (fulls (map v.shown lent)) e) (network_of plan ns) e answer (network_of plan (map v.plain new))) (states_plain v is.reads lent)
+          (subst (λ ns. AnswersWith plain_kind (event_full plan (fulls (map v.shown lent)) e) (network_of plan (map (map_node v.kind.plain) (states (map v.shown lent)))) e answer (network_of plan ns)) (states_plain v is.reads new)
+          (answers_plain v.kind is.reads.tokens (network_of plan (states (map v.shown lent))) (network_of plan (states (map v.shown new))) e (event_full plan (fulls (map v.shown lent)) e) answer done.answers)))
 
-      free_is : IfOk answer (λ r. is_ready r ≡ true → event_full plan (fulls lent) e ≡ false)
-      free_is = subst (λ fs. IfOk answer (λ r. is_ready r ≡ true → event_full plan fs e ≡ false)) (fulls_are lent) free
+      noted : map (read_trace v) new ≡ noted_all true (map (read_trace v) lent) (kept_of (event_deeds plan (seatless count) e) answer)
+      noted =
+          sym (traces_are new) ∙ done.trace ∙ ap (λ b. noted_all b (traces (map v.shown lent)) (kept_of (event_deeds plan (seatless count) e) answer)) is.keeping
+          ∙ ap (λ ts. noted_all true ts (kept_of (event_deeds plan (seatless count) e) answer)) (traces_are lent)
 
-      begun_is : map (some_start v) new ≡ map (some_start v) lent
-      begun_is = sym (starts_are new) ∙ begun ∙ starts_are lent
-
-      noted_is : map v.trace new ≡ noted_all true (map v.trace lent) (kept_of (event_deeds plan (seatless count) e) answer)
-      noted_is = noted ∙ ap (λ b. noted_all b (map v.trace lent) (kept_of (event_deeds plan (seatless count) e) answer)) is.keeping
+      begun : map v.start new ≡ map v.start lent
+      begun = somes_same (map v.start new) (map v.start lent) (sym (somes_shown v new) ∙ sym (starts_are new) ∙ done.start ∙ starts_are lent ∙ somes_shown v lent)
 
       goes_there : GoesOn v plan lent new count counted e answer
       goes_there =
-          let step = stepped v is.reads plan is_plan lent new count here e answer answers_are free_is begun_is noted_is counted told in
+          let step = stages_are plan lent new count counted (λ b s t. Answers (stage_apply v.kind b) s e answer t) (stage_done v.kind keeps plan (map v.shown lent) (map v.shown new) count counted (fulls_kept keeps v.shown limited lent) e answer done told) in
           record {
             kept = event_on v is.reads plan is_plan lent new count counted here e answer step;
-            records = subst (λ n. RecordsEvent (places_record v plan lent count) e answer (places_record v plan new n)) (sym told) (event_records v is.reads plan is_plan lent new count here e answer answers_are free_is begun_is noted_is);
+            records = record {
+              answers = answered;
+              free = subst (λ fs. IfOk answer (λ r. is_ready r ≡ true → event_full plan fs e ≡ false)) (fulls_are lent) done.free;
+              traces = noted;
+              starts = begun;
+              count = told;
+            };
             answers = event_answers v is.reads plan is_plan lent new count counted here e answer step;
           }
 
       pub goes_on : GoesOn v plan items put count counted e answer
       goes_on = subst (λ ps. GoesOn v plan ps put count counted e answer) lent_is (subst (λ ps. GoesOn v plan lent ps count counted e answer) (sym put_is) goes_there)
 
-    module _ (events : List Event) (result : Result (Unit {0}) EventFault)
-        (ends : EventsEnd (stage_apply v.kind keeps) (stage_of v.state start v.trace plan lent count) events result (stage_of v.state start v.trace plan new counted)) where
-      ends_are : EventsEnd (stage_apply v.kind true) (places_stage v plan lent count) events result (places_stage v plan new counted)
-      ends_are =
-          subst (λ s. EventsEnd (stage_apply v.kind true) (places_stage v plan lent count) events result s) (stage_is plan new counted)
-          (subst (λ s. EventsEnd (stage_apply v.kind true) s events result (stage_of v.state start v.trace plan new counted)) (stage_is plan lent count)
-          (subst (λ b. EventsEnd (stage_apply v.kind b) (stage_of v.state start v.trace plan lent count) events result (stage_of v.state start v.trace plan new counted)) is.keeping ends))
-
+    module _ (events : List Event) (result : Result (Unit {0}) EventFault) (ends : EventsEnd (stage_apply v.kind keeps) (stage_of plan (map v.shown lent) count) events result (stage_of plan (map v.shown new) counted)) where
       runs_there : RunsOn v plan lent new count counted events result
-      runs_there = record {
-        kept = events_on v is.reads plan is_plan lent new count counted here events result ends_are;
-        ends = events_end v is.reads plan is_plan lent new count counted here events result ends_are;
-      }
+      runs_there =
+          let there = stages_are plan lent new count counted (λ b s t. EventsEnd (stage_apply v.kind b) s events result t) ends in
+          record {
+            kept = events_on v is.reads plan is_plan lent new count counted here events result there;
+            ends = events_end v is.reads plan is_plan lent new count counted here events result there;
+          }
 
       pub runs_on : RunsOn v plan items put count counted events result
       runs_on = subst (λ ps. RunsOn v plan ps put count counted events result) lent_is (subst (λ ps. RunsOn v plan lent ps count counted events result) (sym put_is) runs_there)

@@ -13,7 +13,8 @@ use Rattle.c104_net.specs.Stages.{stage_full}
 use Rattle.c104_switch.specs.Actions.{Reply, is_ready}
 use Rattle.c104_token.specs.Kinds.{Kind, plain_kind}
 use Rattle.c104_token.specs.declared.tokens.Token.{Token}
-use Rattle.std.proofs.Common.{Bool, Err, List, Ok, Result, [], ap, false, if◌then◌else◌, inl, refl, subst, sym, true, ◌&&◌, ◌++◌, ◌∙◌, ◌∷◌, ◌≡◌}
+use Rattle.std.proofs.Common.{Bool, Err, List, Ok, Result, [], ap, false, if◌then◌else◌, inl, refl, subst, sym, true, ◌&&◌, ◌++◌, ◌∙◌, ◌∷◌}
+use Rattle.std.proofs.Common.{◌≡◌}
 use Rattle.c104_event.specs.declared.faults.EventFault.TheVariants as fault
 
 module _ (r : NetRecord) (e : Event) where

@@ -1,17 +1,18 @@
 -- Events over any kind of token, as they are seen over plain tokens; and what they keep of a run.
-use Rattle.std.proofs.Common.{◌≡◌, ◌∙◌, ◌+◌, ◌&&◌, ◌++◌, Bool, true, false, List, [], ◌∷◌, Option, Some, None, Result, Ok, Err, if◌then◌else◌, map, inl, refl, sym, ap, subst}
+use Rattle.std.proofs.Common.{◌≡◌, ◌∙◌, ◌+◌, ◌&&◌, ◌++◌, Bool, true, false, List, [], ◌∷◌, Option, Some, None, Result, Ok, Err}
+use Rattle.std.proofs.Common.{if◌then◌else◌, map, inl, refl, sym, ap, subst}
 use Rattle.c104_token.specs.declared.tokens.Token.{Token}
 use Rattle.c104_token.specs.declared.tokens.Token.TheVariants.{Byte}
 use Rattle.c104_token.specs.Kinds.{Kind, plain_kind}
 use Rattle.c104_switch.specs.Actions.{Reply, is_ready}
-use Rattle.c104_switch.specs.declared.actions.ReplyOf.TheVariants as reply
 use Rattle.c104_describe.specs.Plans.{IsPlan}
 use Rattle.c104_event.specs.declared.events.Event.{Event}
 use Rattle.c104_event.specs.declared.faults.EventFault.{EventFault}
 use Rattle.c104_event.specs.declared.faults.EventFault.TheVariants as fault
 use Rattle.c104_net.specs.declared.starts.NodeStart.{NodeStart}
 use Rattle.c104_net.specs.Balance.{AreInPlace}
-use Rattle.c104_net.specs.Network.{Network, network_apply, network_of, network_step, event_fault, event_limit, outcome_if_possible, outcome_if_ready, outcome_within_limit}
+use Rattle.c104_net.specs.Network.{Network, network_apply, network_of, network_step, event_fault, event_limit, outcome_if_possible}
+use Rattle.c104_net.specs.Network.{outcome_if_ready, outcome_within_limit}
 use Rattle.c104_net.specs.NetRecords.{is_done, ticket_after, IsNetRecord, NetRecord}
 use Rattle.c104_net.specs.Nodes.{Node}
 use Rattle.c104_net.specs.RecordedNets.{KeepsTokens}
@@ -24,7 +25,7 @@ use Rattle.c104_net.specs.Traces.{event_deeds, kept_of, noted_all, seatless}
 use Rattle.c104_net.proofs.RecordedRuns.{record_kept, record_plan}
 use Rattle.c104_net.proofs.RecordSteps.{ticket_left}
 use Rattle.c104_net.proofs.RoundJoins.{apply_plan}
-use Rattle.c104_net.proofs.RoundRuns.{step_replies, Applied}
+use Rattle.c104_net.proofs.RoundRuns.{is_told, step_replies, Applied}
 use Rattle.c104_net.proofs.RunOrigins.{kinds_plain}
 use Rattle.c104_net.proofs.RunRecords.{record_on, seatless_order}
 use Rattle.c104_net.proofs.StepMaps.{apply_map}
@@ -32,12 +33,6 @@ use Rattle.c104_net.proofs.UndoneEvents.{undone_deeds}
 
 -- an event that isn't done leaves the network as it was
 module _ {A : Type 0} (kind : Kind A) (net : Network A) (e : Event) where
-  is_told : (r : Reply) → (r ≡ reply.NotReady → ⊥) → is_ready r ≡ true
-  is_told reply.Done other = refl
-  is_told reply.NotReady other = absurd (other refl)
-  is_told (reply.Token x) other = refl
-  is_told (reply.Control bytes) other = refl
-
   limit_leaves : (limit : Option EventFault) (r : Reply × Network A) → network_step kind net e ≡ Some r → is_done (outcome_within_limit kind net limit r).0 ≡ false → (outcome_within_limit kind net limit r).1 ≡ net
   limit_leaves None r made undone = let told : is_ready r.0 ≡ true = is_told r.0 (step_replies kind net e r made) in let no : true ≡ false = sym told ∙ undone in cc
   limit_leaves (Some f) r made undone = refl

@@ -2,15 +2,15 @@
 use Rattle.c104_event.specs.declared.events.Event.{Event}
 use Rattle.c104_event.specs.declared.faults.EventFault.{EventFault}
 use Rattle.c104_event.specs.declared.faults.EventFault.TheVariants as fault
-use Rattle.c104_net.proofs.LeadingSteps.{drop_here}
-use Rattle.c104_net.specs.EventRuns.{run_events, unless_fault}
-use Rattle.c104_net.specs.Network.{AnswersEvent, Network, network_apply}
+use Rattle.c104_net.proofs.Waiting.{drop_there}
+use Rattle.c104_net.specs.Network.{AnswersEvent, Network}
 use Rattle.c104_net.specs.Replays.{LeadTo}
 use Rattle.c104_net.specs.ToldEvents.{told_event}
 use Rattle.c104_net.specs.Traced.{Traced, traced_kind}
 use Rattle.c104_net.specs.declared.leading.Lead.{Lead}
 use Rattle.c104_switch.specs.Actions.{Reply}
-use Rattle.std.proofs.Common.{Err, List, Ok, Result, Some, [], ap, arith, drop, inl, inr, map, refl, slice_get, subst, suc, sym, ℕ, ◌+◌, ◌∙◌, ◌∷◌, ◌≡◌}
+use Rattle.std.proofs.Common.{Err, List, Ok, Result, Some, [], ap, arith, drop, inl, inr, map, refl, slice_get, subst, suc, sym, ℕ, ◌+◌}
+use Rattle.std.proofs.Common.{◌∙◌, ◌∷◌, ◌≡◌}
 
 -- an event that is answered leads on
 pub one_led : (net next : Network Traced) (e : Event) (r : Reply) (told : Result Reply EventFault) → AnswersEvent traced_kind net e told next → told ≡ Ok r → LeadTo net (e ∷ []) next
@@ -24,17 +24,10 @@ one_led net next e r told (inr refused) is = absurd (let no : Ok r ≡ Err fault
 pub led_on : (net next ended : Network Traced) (e : Event) (events : List Event) → LeadTo net (e ∷ []) next → LeadTo next events ended → LeadTo net (e ∷ events) ended
 led_on net next ended e events one rest = (one.0, one.1, one.2, subst (λ n. LeadTo n events ended) one.3 rest)
 
--- where they lead is where they end
-pub led_ended : (net ended : Network Traced) (events : List Event) → LeadTo net events ended → (run_events (network_apply traced_kind) net events).1 ≡ ended
-led_ended net ended [] is = sym is
-led_ended net ended (e ∷ events) is =
-    ap (λ (z : Result Reply EventFault × Network Traced). (unless_fault z.0 z.1 (λ next. run_events (network_apply traced_kind) next events)).1) (sym is.2)
-    ∙ led_ended is.1 ended events is.3
-
 -- the next of some events is done, and the others lead on from there
 pub next_led : (f : Lead → ℕ × Event) (net next ended : Network Traced) (leads : List Lead) (at : ℕ) (lead : Lead) → slice_get leads at ≡ Some lead → LeadTo net (told_event (f lead) ∷ []) next →
     LeadTo next (map told_event (map f (drop (at + 1) leads))) ended → LeadTo net (map told_event (map f (drop at leads))) ended
 next_led f net next ended leads at lead here one rest =
     let after : at + 1 ≡ suc at = omega arith in
-    subst (λ xs. LeadTo net (map told_event (map f xs)) ended) (sym (drop_here leads at lead here))
+    subst (λ xs. LeadTo net (map told_event (map f xs)) ended) (sym (drop_there leads at lead here))
     (led_on net next ended (told_event (f lead)) (map told_event (map f (drop (suc at) leads))) one (subst (λ i. LeadTo next (map told_event (map f (drop i leads))) ended) after rest))

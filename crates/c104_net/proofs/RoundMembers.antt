@@ -6,12 +6,14 @@ use Rattle.c104_event.specs.declared.events.Event.{Event}
 use Rattle.c104_net.proofs.BalanceWires.{switch_inside, terminal_inside}
 use Rattle.c104_net.proofs.RoundLists.{links_passed}
 use Rattle.c104_net.specs.Network.{Network}
-use Rattle.c104_net.specs.Rounds.{all_claims, all_drains, claims_of, is_wired, link_numbers, round, switch_claims, turn_at, wired_links, wired_ports, wired_terminals}
+use Rattle.c104_net.specs.Rounds.{all_claims, all_drains, claims_of, is_wired, link_numbers, round, switch_claims, turn_at, wired_links}
+use Rattle.c104_net.specs.Rounds.{wired_ports, wired_terminals}
 use Rattle.c104_net.specs.Standstill.{StandsStill, IsStill, IsUnready}
 use Rattle.c104_token.specs.Kinds.{Kind}
 use Rattle.std.specs.Prelude.{Contains}
 use Rattle.std.specs.List.{flat_map, range_with_len}
-use Rattle.std.proofs.Common.{Bool, List, Some, [], ap, arith, false, filter, if◌then◌else◌, inl, inr, is_some, length, map, refl, subst, suc, sym, true, zero, ℕ, ⊎_elim, ◌++◌, ◌+◌, ◌<◌, ◌∙◌, ◌∷◌, ◌≡◌, ◌≤◌, ◌≢◌, ◌⊎◌}
+use Rattle.std.proofs.Common.{Bool, List, Some, [], ap, arith, false, filter, if◌then◌else◌, inl, inr, is_some, length, map, refl, subst}
+use Rattle.std.proofs.Common.{suc, sym, true, zero, ℕ, ⊎_elim, ◌++◌, ◌+◌, ◌<◌, ◌∙◌, ◌∷◌, ◌≡◌, ◌≤◌, ◌≢◌, ◌⊎◌}
 use Rattle.std.proofs.lemmas.Bool.{cases_eq}
 use Rattle.std.proofs.lemmas.List.Elements.{All-contains}
 use Rattle.c104_describe.specs.declared.ports.Port.TheVariants as port

@@ -1,6 +1,7 @@
 -- A run that stops at the first fault, by a prefix of its events, and what it keeps; and what leaves a
 -- network as it was.
-use Rattle.std.proofs.Common.{true, false, ◌≡◌, List, [], ◌∷◌, ◌++◌, Result, Ok, Err, IsErr, IsErrAnd, Option, Some, None, refl, sym, ap, ◌∙◌, subst, inl, inr}
+use Rattle.std.proofs.Common.{true, false, ◌≡◌, List, [], ◌∷◌, ◌++◌, Result, Ok, Err, IsErr, IsErrAnd, Option, Some, None, refl, sym, ap}
+use Rattle.std.proofs.Common.{◌∙◌, subst, inl, inr}
 use Rattle.c104_token.specs.Kinds.{Kind}
 use Rattle.c104_switch.specs.Actions.{Reply}
 use Rattle.c104_switch.specs.declared.actions.ReplyOf.{ReplyOf}
@@ -12,7 +13,8 @@ use Rattle.c104_event.specs.declared.faults.EventFault.TheVariants as fault
 use Rattle.c104_net.proofs.ActSteps.{step_ready}
 use Rattle.c104_net.specs.Acts.{plain_reply}
 use Rattle.c104_net.specs.EventActs.{acts_step, event_acts}
-use Rattle.c104_net.specs.Network.{AnswersEvent, Network, event_fault, event_limit, network_apply, network_step, outcome_if_possible, outcome_if_ready, outcome_within_limit, with_nodes}
+use Rattle.c104_net.specs.Network.{AnswersEvent, Network, event_fault, event_limit, network_apply, network_step, outcome_if_possible}
+use Rattle.c104_net.specs.Network.{outcome_if_ready, outcome_within_limit, with_nodes}
 use Rattle.c104_net.specs.NetRecords.{is_done}
 use Rattle.c104_net.specs.EventRuns.{run_events, unless_fault, Answers, EventsEnd, Outcome}
 use Rattle.c104_switch.specs.Actions.{is_ready}
@@ -20,6 +22,13 @@ use Rattle.c104_switch.specs.Actions.{is_ready}
 pub err_is : {X E : Type 0} (result : Result X E) (e : E) → IsErr result × IsErrAnd result (λ d. d ≡ e) → result ≡ Err e
 err_is (Ok x) e is = absurd (cc is.0)
 err_is (Err d) e is = ap Err is.1
+
+-- what isn't NotReady is done
+pub is_told : (r : Reply) → (r ≡ reply.NotReady → ⊥) → is_ready r ≡ true
+is_told reply.Done other = refl
+is_told reply.NotReady other = absurd (other refl)
+is_told (reply.Token x) other = refl
+is_told (reply.Control bytes) other = refl
 
 -- what one event comes to
 abbrev pub Applied : Type 0 → Type 0

@@ -34,7 +34,8 @@ use Rattle.c104_net.specs.Starts.{start_node}
 use Rattle.c104_net.specs.Traced.{traced_kind}
 use Rattle.c104_net.specs.TracedRuns.{map_incoming, map_input, map_network, map_node, map_outgoing}
 use Rattle.c104_net.specs.Unchanged.{IsUnchanged}
-use Rattle.c104_net.specs.HeaderWork.{ahead_at, first_ahead, full_incoming, full_input, full_link, full_node, full_work, random_ahead, random_work}
+use Rattle.c104_net.specs.HeaderWork.{ahead_at, first_ahead, full_incoming, full_input, full_link, full_node, full_work, random_ahead}
+use Rattle.c104_net.specs.HeaderWork.{random_work}
 use Rattle.c104_net.specs.Work.{header_held, level, sum_at, weigh}
 use Rattle.c104_net.specs.declared.starts.NodeStart.{NodeStart}
 use Rattle.c104_net.specs.declared.traced.Traced.{Traced}
@@ -45,7 +46,8 @@ use Rattle.c104_switch.specs.declared.phase.Phase.{Phase}
 use Rattle.c104_switch.specs.declared.phase.Phase.TheVariants.{Fresh, Head, Sinking, Stream, Want}
 use Rattle.c104_token.specs.Kinds.{plain_kind}
 use Rattle.c104_token.specs.declared.tokens.Token.{Token}
-use Rattle.std.proofs.Common.{Err, List, Ok, Result, Some, [], ap, get_or, length, map, refl, subst, suc, sym, ℕ, ◌+◌, ◌-◌, ◌*◌, ◌<◌, ◌∙◌, ◌∷◌, ◌≡◌}
+use Rattle.std.proofs.Common.{Err, List, Ok, Result, Some, [], ap, get_or, length, map, refl, subst, suc, sym, ℕ, ◌+◌, ◌-◌, ◌*◌, ◌<◌, ◌∙◌}
+use Rattle.std.proofs.Common.{◌∷◌, ◌≡◌}
 use Rattle.std.proofs.lemmas.List.{length-map}
 use Rattle.std.proofs.lemmas.List.Elements.{All-map}
 use Rattle.c104_net.specs.declared.node.NodeOf.TheVariants as node

@@ -1,5 +1,7 @@
 -- What traces tell of a run goes on by an event that was done.
-use Rattle.std.proofs.Common.{◌≡◌, ◌∙◌, ◌+◌, ◌<◌, ◌++◌, ℕ, zero, suc, Bool, true, false, List, [], ◌∷◌, Option, Some, None, Result, Ok, Err, IfOk, append_assoc, append-nil, if◌then◌else◌, length, length-append, map, nat_eq, nat_lt, replicate, slice_get, inl, inr, refl, sym, ap, subst, arith}
+use Rattle.std.proofs.Common.{◌≡◌, ◌∙◌, ◌+◌, ◌<◌, ◌++◌, ℕ, zero, suc, Bool, true, false, List, [], ◌∷◌, Option, Some, None, Result, Ok}
+use Rattle.std.proofs.Common.{append_assoc, append-nil, if◌then◌else◌, length, length-append, map, nat_eq, nat_lt, replicate, slice_get}
+use Rattle.std.proofs.Common.{inl, inr, refl, sym, ap, subst, arith}
 use Rattle.std.proofs.lemmas.Bool.Decides.{nat_tests}
 use Rattle.std.specs.Option.{option_map}
 use Rattle.c104_token.specs.Kinds.{Kind}
@@ -14,8 +16,8 @@ use Rattle.c104_net.specs.Balance.{is_switch, AreInPlace}
 use Rattle.c104_net.specs.Nodes.{Node}
 use Rattle.c104_net.specs.EventPlaces.{event_place}
 use Rattle.c104_net.specs.Network.{Network, network_apply, network_of, AnswersWith}
-use Rattle.c104_net.specs.Traces.{Deed, event_deeds, kept_of, noted_all, noted_at, seatless, part}
-use Rattle.c104_net.specs.Runs.{AreBehind, AreInOrder, IsBefore, IsDoneRun, IsRunRecord, at_node, run_deeds}
+use Rattle.c104_net.specs.Traces.{Deed, event_deeds, noted_all, noted_at, seatless, part}
+use Rattle.c104_net.specs.Runs.{AreBehind, AreInOrder, IsDoneRun, IsRunRecord, at_node, run_deeds}
 use Rattle.c104_net.proofs.Crossing.{get_set_same, get_set_other}
 
 -- whether there is a switch at a place
@@ -96,27 +98,6 @@ pub seatless_order : (plan : Plan) (n : ℕ) (events : List (Event × Reply)) �
 seatless_order plan n [] = tt
 seatless_order plan n (e ∷ events) = (seatless_behind plan n (event_place plan e.0) (suc n) events (omega arith), seatless_order plan (suc n) events)
 
--- an event joins others in order, where each of them stands before it
-module _ (plan : Plan) (stamps : ℕ → Stamp) (e : Event) (r : Reply) where
-  behind_on : (ticket place n : ℕ) (events : List (Event × Reply)) → AreBehind plan stamps ticket place n events → IsBefore ticket place (stamps (n + length events)).ticket (event_place plan e) → AreBehind plan stamps ticket place n (events ++ (e, r) ∷ [])
-  behind_on ticket place n [] behind before = (let same : n + 0 ≡ n = omega arith in subst (λ k. IsBefore ticket place (stamps k).ticket (event_place plan e)) same before, tt)
-  behind_on ticket place n (d ∷ events) behind before =
-      let same : n + suc (length events) ≡ suc n + length events = omega arith in
-      (behind.0, behind_on ticket place (suc n) events behind.1 (subst (λ k. IsBefore ticket place (stamps k).ticket (event_place plan e)) same before))
-
-  pub order_on : (n : ℕ) (events : List (Event × Reply)) → AreInOrder plan stamps n events → ((i : ℕ) (d : Event × Reply) → slice_get events i ≡ Some d → IsBefore (stamps (n + i)).ticket (event_place plan d.0) (stamps (n + length events)).ticket (event_place plan e)) → AreInOrder plan stamps n (events ++ (e, r) ∷ [])
-  order_on n [] ordered before = (tt, tt)
-  order_on n (d ∷ events) ordered before =
-      let here : n + 0 ≡ n = omega arith in
-      let last : n + suc (length events) ≡ suc n + length events = omega arith in
-      let first = subst (λ k. IsBefore (stamps n).ticket (event_place plan d.0) (stamps k).ticket (event_place plan e)) last (subst (λ k. IsBefore (stamps k).ticket (event_place plan d.0) (stamps (n + suc (length events))).ticket (event_place plan e)) here (before 0 d refl)) in (
-        behind_on (stamps n).ticket (event_place plan d.0) (suc n) events ordered.0 first,
-        order_on (suc n) events ordered.1 (λ i f at.
-            let next : n + suc i ≡ suc n + i = omega arith in
-            subst (λ k. IsBefore (stamps k).ticket (event_place plan f.0) (stamps (suc n + length events)).ticket (event_place plan e)) next
-            (subst (λ k. IsBefore (stamps (n + suc i)).ticket (event_place plan f.0) (stamps k).ticket (event_place plan e)) last (before (suc i) f at))),
-      )
-
 module _ {A : Type 0} (kind : Kind A) where
   done_append : (net mid after : Network A) (events : List (Event × Reply)) (e : Event) (r : Reply) → IsDoneRun kind net events mid → ◌≡◌ {A = Result Reply EventFault × Network A} (Ok r, after) (network_apply kind mid e) → is_ready r ≡ true → IsDoneRun kind net (events ++ (e, r) ∷ []) after
   done_append net mid after [] e r run due ready = (after, subst (λ n. ◌≡◌ {A = Result Reply EventFault × Network A} (Ok r, after) (network_apply kind n e)) run due, ready, refl)
@@ -144,12 +125,3 @@ module _ {A : Type 0} (kind : Kind A) where
       grown : (k : ℕ) (ds new all : List Deed) → all ≡ ds ++ new → (o : Option (Node A)) → option_map (λ t. t ++ at_node k new) (option_map (λ n. at_node k ds) o) ≡ option_map (λ n. at_node k all) o
       grown k ds new all is None = refl
       grown k ds new all is (Some n) = ap Some (sym (ap (at_node k) is ∙ at_append k ds new))
-
-  -- the same, whatever was answered
-  pub record_result : (plan : Plan) (start nodes after : List (Node A)) (traces more : List (List Entry)) (count : ℕ) (events : List (Event × Reply)) (full keeps : Bool) (e : Event) (answer : Result Reply EventFault) →
-      keeps ≡ true → AreInPlace plan nodes → IsRunRecord kind plan seatless start nodes traces count events → AnswersWith kind full (network_of plan nodes) e answer (network_of plan after) →
-      more ≡ noted_all keeps traces (kept_of (event_deeds plan (seatless count) e) answer) →
-      IfOk answer (λ r. is_ready r ≡ true → IsRunRecord kind plan seatless start after more (count + 1) (events ++ (e, r) ∷ []))
-  record_result plan start nodes after traces more count events full keeps e (Ok r) keep are before answer noted =
-      λ ready. record_on plan seatless start nodes after traces more count events full e r are before answer ready (noted ∙ ap (λ b. noted_all b traces (event_deeds plan (seatless count) e r)) keep) (seatless_order plan 0 (events ++ (e, r) ∷ []))
-  record_result plan start nodes after traces more count events full keeps e (Err f) keep are before answer noted = tt

@@ -1,6 +1,8 @@
 -- How many packets each node has sent: a Send that is done adds one at its terminal, and nothing else changes it. So the
 -- number of a packet is lower than the most entries of a trace.
-use Rattle.std.proofs.Common.{◌≡◌, ◌∙◌, ◌≤◌, ◌+◌, ◌++◌, ℕ, suc, zero, Bool, true, false, All, List, [], ◌∷◌, Option, Some, None, if◌then◌else◌, inl, inr, length, length-append, map, nat_eq, option_map, slice_get, slice_set, refl, sym, ap, subst, arith}
+use Rattle.std.proofs.Common.{◌≡◌, ◌∙◌, ◌≤◌, ◌+◌, ◌++◌, ℕ, suc, zero, Bool, true, false, All, List, [], ◌∷◌, Option, Some, None}
+use Rattle.std.proofs.Common.{if◌then◌else◌, inl, inr, length, length-append, map, nat_eq, option_map, slice_get, slice_set, refl, sym, ap}
+use Rattle.std.proofs.Common.{subst, arith}
 use Rattle.std.proofs.lemmas.Bool.{cases_eq}
 use Rattle.std.proofs.lemmas.Bool.Decides.{nat_tests}
 use Rattle.std.proofs.lemmas.List.{map-set}
@@ -32,7 +34,8 @@ use Rattle.c104_net.specs.declared.starts.NodeStart.{NodeStart}
 use Rattle.c104_net.specs.declared.starts.NodeStart.TheVariants as start
 use Rattle.c104_net.specs.Network.{Network, network_of, network_step, terminal_place, told_step}
 use Rattle.c104_net.specs.NetRecords.{IsWithinLimit}
-use Rattle.c104_net.specs.Nodes.{Node, node_claim, node_control, node_credit_in, node_credit_out, node_drain, node_enter, node_input, node_leave, node_send}
+use Rattle.c104_net.specs.Nodes.{Node, node_claim, node_control, node_credit_in, node_credit_out, node_drain, node_enter, node_input}
+use Rattle.c104_net.specs.Nodes.{node_leave, node_send}
 use Rattle.c104_net.specs.Runs.{at_node}
 use Rattle.c104_net.specs.Starts.{start_node}
 use Rattle.c104_net.specs.Terminals as terminal

@@ -26,7 +26,7 @@ abbrev pub switch_start : NodeStart → Bool
 switch_start (start.Switch s) = true
 switch_start (start.Terminal t) = false
 
--- whether a node is a switch hangs on its start alone
+-- whether a node is a switch is told by its start alone
 pub kinds_started : (A : Type 0) (starts : List NodeStart) → map is_switch (map (start_node {A = A}) starts) ≡ map switch_start starts
 kinds_started A [] = refl
 kinds_started A (start.Switch s ∷ starts) = ap (λ bs. true ∷ bs) (kinds_started A starts)

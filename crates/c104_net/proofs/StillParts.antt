@@ -2,7 +2,6 @@
 -- still.
 use Rattle.c104_describe.proofs.RangeLists.{all_of_each}
 use Rattle.c104_describe.specs.Plans.{IsPlan, Plan}
-use Rattle.c104_describe.specs.declared.ports.Port.{Port}
 use Rattle.c104_event.specs.declared.events.Event.{Event}
 use Rattle.c104_event.specs.declared.faults.EventFault.{EventFault}
 use Rattle.c104_link.proofs.MadeSteps.{All-place}
@@ -12,17 +11,18 @@ use Rattle.c104_net.proofs.RoundLists.{links_passed}
 use Rattle.c104_net.proofs.UnreadyEvents.{unready_answered}
 use Rattle.c104_net.specs.Balance.{IsSteady}
 use Rattle.c104_net.specs.Network.{Network, network_apply}
-use Rattle.c104_net.specs.PortParts.{port_events, wired_events}
+use Rattle.c104_net.specs.PortParts.{port_events}
 use Rattle.c104_net.specs.Reasons.{is_unready}
-use Rattle.c104_net.specs.Rounds.{all_claims, all_drains, claims_of, is_wired, link_numbers, round, switch_claims, turn_at, wired_links, wired_ports, wired_terminals}
+use Rattle.c104_net.specs.Rounds.{all_claims, all_drains, claims_of, link_numbers, round, switch_claims, turn_at, wired_links, wired_ports}
+use Rattle.c104_net.specs.Rounds.{wired_terminals}
 use Rattle.c104_net.specs.Standstill.{IsUnready, StandsStill, has_reason, have_reasons}
 use Rattle.c104_net.specs.declared.port_part.PortPart.{PortPart}
 use Rattle.c104_net.specs.declared.port_part.PortPart.TheVariants.{Credit, Cross, Turn}
 use Rattle.c104_switch.specs.Actions.{Reply}
 use Rattle.c104_token.specs.Kinds.{Kind}
 use Rattle.std.specs.List.{AllByRecursion, flat_map, list_all, range_with_len}
-use Rattle.std.proofs.Common.{Bool, Err, List, Ok, Result, Some, [], ap, arith, false, length, map, refl, slice_get, suc, sym, true, ℕ, ◌&&◌, ◌++◌, ◌+◌, ◌-◌, ◌<◌, ◌∙◌, ◌∷◌, ◌≡◌, ◌≤◌}
-use Rattle.std.proofs.lemmas.Grind.{flat_map-append}
+use Rattle.std.proofs.Common.{Bool, Err, List, Ok, Result, Some, [], ap, arith, false, length, map, refl, slice_get, suc, sym, true, ℕ}
+use Rattle.std.proofs.Common.{◌&&◌, ◌++◌, ◌+◌, ◌-◌, ◌<◌, ◌∙◌, ◌∷◌, ◌≡◌, ◌≤◌}
 use Rattle.std.proofs.lemmas.List.Folds.{list_all-append}
 use Rattle.c104_describe.specs.declared.ports.Port.TheVariants as port
 use Rattle.c104_event.specs.declared.events.Event.TheVariants as event
@@ -80,29 +80,9 @@ module _ (p : Event → Bool) where
   pub of_drains : (n : ℕ) → tested (single event.Drain) n ≡ list_all p (all_drains n)
   of_drains n = ap (list_all p) (singles event.Drain (range_with_len 0 n))
 
-  -- a port without a wire has no event
-  pub of_unwired : (plan : Plan) (part : PortPart) (q : Port) → is_wired plan q ≡ false → true ≡ list_all p (wired_events plan part q)
-  of_unwired plan part q none = rw none refl
-
-  pub of_wired : (plan : Plan) (part : PortPart) (q : Port) → is_wired plan q ≡ true → list_all p (port_events part q) ≡ list_all p (wired_events plan part q)
-  of_wired plan part q some = rw some (sym (kept (port_events part q)))
-    where
-      kept : (es : List Event) → list_all p (es ++ []) ≡ list_all p es
-      kept es = list_all-append p es [] ∙ both (list_all p es)
-        where
-          both : (b : Bool) → (b && true) ≡ b
-          both true = refl
-          both false = refl
-
   -- the parts of all ports, and of a round
   abbrev pub ports : Plan → PortPart → Bool
   ports plan part = list_all p (flat_map (port_events part) (wired_ports plan))
-
-  pub of_ports : (plan : Plan) (part : PortPart) → ports plan part ≡ (list_all p (flat_map (port_events part) (flat_map (wired_links plan) (range_with_len 0 (length plan.switches)))) && list_all p (flat_map (port_events part) (wired_terminals plan)))
-  of_ports plan part = ap (list_all p) (joined (flat_map (wired_links plan) (range_with_len 0 (length plan.switches))) (wired_terminals plan)) ∙ list_all-append p (flat_map (port_events part) (flat_map (wired_links plan) (range_with_len 0 (length plan.switches)))) (flat_map (port_events part) (wired_terminals plan))
-    where
-      joined : (xs ys : List Port) → flat_map (port_events part) (xs ++ ys) ≡ flat_map (port_events part) xs ++ flat_map (port_events part) ys
-      joined xs ys = flat_map-append (port_events part) xs ys
 
   pub of_round : (plan : Plan) → list_all p (round plan) ≡ (ports plan Credit && (ports plan Cross && (ports plan Turn && (list_all p (all_claims (length plan.switches)) && list_all p (all_drains (length plan.terminals))))))
   of_round plan =
@@ -157,3 +137,6 @@ module _ {A : Type 0} (kind : Kind A) (net : Network A) (is_plan : IsPlan net.pl
 
   pub reasons_where : StandsStill kind net → have_reasons net (round net.plan) ≡ true
   reasons_where all = all_reasons (round net.plan) (λ i e at. All-place (IsUnready kind net) (round net.plan) i e at all)
+
+-- what the loops over the events of a round cite
+pub ruleset still_parts = (one_event, left_first, left_next, left_stops, left_none, of_links, of_switches, of_terminals, of_claims, of_inputs, of_drains)

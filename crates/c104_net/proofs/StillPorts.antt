@@ -35,14 +35,15 @@ use Rattle.c104_switch.specs.Actions.{Reply}
 use Rattle.c104_switch.specs.Switch.{Input}
 use Rattle.c104_switch.specs.declared.phase.Phase.{Phase}
 use Rattle.c104_switch.specs.declared.phase.Phase.TheVariants.{Fresh, Head, Sinking, Stream, Want}
-use Rattle.std.proofs.Common.{Bool, List, None, Option, Some, [], ap, arith, false, get_or, inl, inr, length, nat_lt, refl, slice_get, subst, suc, sym, true, zero, ℕ, ⊎_elim, ◌++◌, ◌+◌, ◌-◌, ◌<◌, ◌∙◌, ◌∷◌, ◌≡◌, ◌≢◌, ◌≤◌, ◌⊎◌}
+use Rattle.std.proofs.Common.{Bool, List, None, Option, Some, [], ap, arith, false, get_or, inl, inr, length, nat_lt, refl, slice_get}
+use Rattle.std.proofs.Common.{subst, suc, sym, true, zero, ℕ, ⊎_elim, ◌++◌, ◌+◌, ◌-◌, ◌<◌, ◌∙◌, ◌∷◌, ◌≡◌, ◌≢◌, ◌≤◌, ◌⊎◌}
 use Rattle.std.proofs.lemmas.Bool.{cases_eq}
 use Rattle.std.proofs.lemmas.Bool.Decides.{nat_tests}
 use Rattle.std.proofs.lemmas.Option.{slice_get-get_or}
 use Rattle.c104_net.specs.declared.node.NodeOf.TheVariants as node
 use Rattle.c104_describe.specs.declared.ports.Port.TheVariants as port
 
--- the sum of what a function says of the first so many numbers, which bounds each
+-- the sum of what a function says of the numbers below a limit, which bounds each
 total : (ℕ → ℕ) → ℕ → ℕ
 total f zero = 0
 total f (suc n) = f n + total f n

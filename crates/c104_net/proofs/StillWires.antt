@@ -25,9 +25,12 @@ use Rattle.c104_switch.specs.ReasonMeanings.{IsEmitReason, IsGrantReason, IsAcce
 use Rattle.c104_switch.specs.Switch.{Input, Switch}
 use Rattle.c104_switch.specs.declared.phase.Phase.TheVariants.{Stream, Want}
 use Rattle.c104_switch.specs.declared.unready.Unready.{Unready}
-use Rattle.c104_switch.specs.declared.unready.Unready.TheVariants.{NoLink, NotStarted, NoToken, NoCredit, NotGranted, NoRoom, CreditFull, WantsOutput, OutputFull, WantsNothing, OutsideGroup, Owned, NoRoomForHeader}
+use Rattle.c104_switch.specs.declared.unready.Unready.TheVariants.{NoLink, NotStarted, NoToken, NoCredit, NotGranted, NoRoom, CreditFull}
+use Rattle.c104_switch.specs.declared.unready.Unready.TheVariants.{WantsOutput, OutputFull, WantsNothing, OutsideGroup, Owned}
+use Rattle.c104_switch.specs.declared.unready.Unready.TheVariants.{NoRoomForHeader}
 use Rattle.c104_token.specs.Kinds.{Kind}
-use Rattle.std.proofs.Common.{Bool, IfSome, IsSomeAnd, List, None, Option, Some, [], ap, arith, false, inl, inr, is_some, length, nat_le, refl, slice_get, subst, suc, sym, true, zero, ℕ, ⊎_elim, ◌+◌, ◌-◌, ◌<◌, ◌∙◌, ◌∷◌, ◌≡◌, ◌≤◌, ◌⊎◌}
+use Rattle.std.proofs.Common.{Bool, IfSome, IsSomeAnd, List, None, Option, Some, [], ap, arith, false, inl, inr, is_some, length, nat_le}
+use Rattle.std.proofs.Common.{refl, slice_get, subst, suc, sym, true, zero, ℕ, ⊎_elim, ◌+◌, ◌-◌, ◌<◌, ◌∙◌, ◌∷◌, ◌≡◌, ◌≤◌, ◌⊎◌}
 use Rattle.std.proofs.lemmas.Bool.{true≢false}
 use Rattle.std.proofs.lemmas.Bool.Decides.{nat_tests}
 use Rattle.std.proofs.lemmas.Option.{slice_get_within}

@@ -28,7 +28,7 @@ use Rattle.c104_token.specs.declared.tokens.Token.TheVariants as token
 abbrev Sure : Type 0
 Sure = (x : Traced) × IsSure x
 
-sure_sent : (terminal number place : ℕ) (x : Token) → IsSure (sent_token terminal number place x)
+pub sure_sent : (terminal number place : ℕ) (x : Token) → IsSure (sent_token terminal number place x)
 sure_sent terminal number place x = λ e. (record { terminal = terminal; number = number; place = place }, refl)
 
 sure_random : Token → Sure

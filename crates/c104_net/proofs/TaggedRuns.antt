@@ -1,5 +1,6 @@
 -- A run over tagged tokens is that over tokens that all tell where they came from.
-use Rattle.std.proofs.Common.{◌≡◌, ◌∙◌, ◌<◌, ◌%◌, ◌++◌, ℕ, Bool, true, false, List, [], ◌∷◌, Option, Some, None, Result, map, slice_get, suc, refl, sym, ap, arith}
+use Rattle.std.proofs.Common.{◌≡◌, ◌∙◌, ◌<◌, ◌%◌, ◌++◌, ℕ, Bool, true, false, List, [], ◌∷◌, Option, Some, None, Result, map, slice_get}
+use Rattle.std.proofs.Common.{suc, refl, sym, ap, arith}
 use Rattle.std.specs.Option.{option_to_list}
 use Rattle.c104_token.specs.declared.tokens.Token.{Token}
 use Rattle.c104_token.specs.Tokens.{is_end}
@@ -12,10 +13,7 @@ use Rattle.c104_net.specs.Origins.{origin_by, origin_of, origins_in, AreSure, Is
 use Rattle.c104_net.specs.Traced.{traced_kind, Source, Traced}
 use Rattle.c104_net.specs.TracedRuns.{map_network}
 use Rattle.c104_net.proofs.StepMaps.{apply_map}
-
-plain_by : (e : Bool) (x : Token) (t n : ℕ) → (tagged_by e x t n).token ≡ x
-plain_by true x t n = refl
-plain_by false x t n = refl
+use Rattle.c104_net.specs.RecordedPlaces.{plain_by}
 
 plain_tagged : (x : Token) (o : Option Source) → (tag (record { token = x; source = o })).token ≡ x
 plain_tagged x None = refl

@@ -1,18 +1,21 @@
 -- What arrived in a network of tagged tokens is what arrived over plain tokens.
-use Rattle.std.proofs.Common.{◌≡◌, ◌∙◌, ℕ, Bool, true, false, List, Option, Some, None, if◌then◌else◌, length, map, nat_lt, option_map, slice_get, refl, sym, ap}
+use Rattle.std.proofs.Common.{◌≡◌, ◌∙◌, ℕ, Bool, true, false, List, Option, Some, None, if◌then◌else◌, length, map, nat_lt, option_map}
+use Rattle.std.proofs.Common.{slice_get, refl, ap}
 use Rattle.std.proofs.lemmas.Option.{slice_get-map}
+use Rattle.c104_token.specs.declared.tokens.Token.{Token}
 use Rattle.c104_link.specs.Steps.{◌>>=◌}
 use Rattle.c104_describe.specs.Plans.{Plan}
 use Rattle.c104_net.specs.declared.node.NodeOf.TheVariants as node
 use Rattle.c104_net.specs.NetRecords.{NetRecord}
 use Rattle.c104_net.specs.Network.{network_arrived, network_of, terminal_place, Network}
 use Rattle.c104_net.specs.Nodes.{node_arrived, Node}
+use Rattle.c104_net.specs.Places.{states}
 use Rattle.c104_net.specs.RecordedNets.{places_record}
-use Rattle.c104_net.specs.RecordedPlaces.{counted_keeps, counted_reading}
+use Rattle.c104_net.specs.RecordedPlaces.{counted_keeps, counted_reading, counted_shown}
 use Rattle.c104_net.specs.Tagged.{TaggedToken}
-use Rattle.c104_net.specs.TracedRecords.{traced_state, TracedRecord}
+use Rattle.c104_net.specs.TracedRecords.{TracedRecord}
 use Rattle.c104_net.specs.TracedRuns.{map_node}
-use Rattle.c104_net.proofs.RecordedNets.{states_shown}
+use Rattle.c104_net.proofs.RecordedNets.{seen_plain}
 use Rattle.c104_net.proofs.TaggedRuns.{plain_network, token_of}
 
 arrived_plain : (n : Node TaggedToken) → node_arrived (map_node token_of n) ≡ option_map (map token_of) (node_arrived n)
@@ -30,9 +33,8 @@ network_arrived_plain net t = by_place (nat_lt t (length net.plan.terminals))
     by_place true = ap (λ o. o >>= node_arrived) (slice_get-map (map_node token_of) net.nodes (terminal_place net.plan t)) ∙ map_there (slice_get net.nodes (terminal_place net.plan t))
     by_place false = refl
 
-pub arrived_there : (plan : Plan) (nodes lent : List TracedRecord) (count t : ℕ) (r : NetRecord) (o : Option (List TaggedToken)) → lent ≡ nodes → places_record counted_reading plan nodes count ≡ r → ◌≡◌ {A = Option (List TaggedToken)} o (network_arrived (network_of plan (map traced_state lent)) t) → option_map (map token_of) o ≡ network_arrived r.network t
+pub arrived_there : (plan : Plan) (nodes lent : List TracedRecord) (count t : ℕ) (r : NetRecord) (o : Option (List TaggedToken)) → lent ≡ nodes → places_record counted_reading plan nodes count ≡ r →
+    ◌≡◌ {A = Option (List TaggedToken)} o (network_arrived (network_of plan (states (map counted_shown lent))) t) → option_map (map token_of) o ≡ network_arrived r.network t
 arrived_there plan nodes lent count t r o lent_is shown is =
-    ap (option_map (map token_of)) (is ∙ ap (λ (ns : List TracedRecord). network_arrived (network_of plan (map traced_state ns)) t) lent_is)
-    ∙ sym (network_arrived_plain (network_of plan (map traced_state nodes)) t)
-    ∙ ap (λ ns. network_arrived (network_of plan ns) t) (states_shown counted_reading counted_keeps.reads nodes)
-    ∙ ap (λ (r : NetRecord). network_arrived r.network t) shown
+    ap (option_map (map token_of)) is
+    ∙ seen_plain counted_reading counted_keeps.reads (λ (net : Network TaggedToken). option_map (map token_of) (network_arrived net t)) (λ (net : Network Token). network_arrived net t) (λ net. network_arrived_plain net t) plan nodes lent lent_is count r shown

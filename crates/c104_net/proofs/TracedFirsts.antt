@@ -10,7 +10,7 @@ use Rattle.c104_net.specs.declared.node.NodeOf.TheVariants as node
 use Rattle.c104_net.specs.Network.{network_of, new_network}
 use Rattle.c104_net.specs.NetRecords.{first_record, fresh_record, net_record, node_start, node_state, node_trace, shown_record, IsNetRecord}
 use Rattle.c104_net.specs.Nodes.{Node}
-use Rattle.c104_net.specs.RecordedNets.{places_record, IsRecordedNet, Reading}
+use Rattle.c104_net.specs.RecordedNets.{places_record, read_trace, IsRecordedNet, Reading}
 use Rattle.c104_net.specs.RecordedPlaces.{counted_reading}
 use Rattle.c104_net.specs.Records.{NodeRecord}
 use Rattle.c104_net.specs.Starts.{start_node, start_of}
@@ -24,7 +24,7 @@ use Rattle.c104_net.proofs.RecordSteps.{same_record}
 
 -- a place as it is seen, as a node of plain tokens that keeps its record
 abbrev seen : {A P : Type 0} → Reading A P → P → NodeRecord × ℕ
-seen v p = (record { state = v.shown p; start = v.start p; trace = v.trace p }, 0)
+seen v p = (record { state = v.plain p; start = v.start p; trace = read_trace v p }, 0)
 
 record_seen : {A P : Type 0} (v : Reading A P) (plan : Plan) (places : List P) (count : ℕ) → places_record v plan places count ≡ net_record plan (map (seen v) places) count
 record_seen v plan places count =

@@ -1,5 +1,6 @@
 -- The origins that the tagged tokens of a network tell are those of its run.
-use Rattle.std.proofs.Common.{◌≡◌, ◌∙◌, ◌≤◌, ◌++◌, ◌<◌, ◌+◌, ℕ, zero, suc, All, List, [], ◌∷◌, Option, Some, None, Result, get_or, length, map, slice_get, take, refl, sym, ap, subst, arith, append-nil, inl, inr}
+use Rattle.std.proofs.Common.{◌≡◌, ◌∙◌, ◌≤◌, ◌++◌, ◌<◌, ◌+◌, ℕ, zero, suc, All, List, [], ◌∷◌, Option, Some, None, Result, get_or, length}
+use Rattle.std.proofs.Common.{map, slice_get, take, refl, sym, ap, subst, arith, append-nil, inl, inr}
 use Rattle.std.proofs.lemmas.Bool.{cases_eq}
 use Rattle.std.proofs.lemmas.List.{map-append, map_more}
 use Rattle.std.proofs.lemmas.Option.{slice_get-map}

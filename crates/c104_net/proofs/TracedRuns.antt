@@ -5,7 +5,7 @@ use Rattle.c104_event.specs.declared.faults.EventFault.{EventFault}
 use Rattle.c104_net.proofs.StartMaps.{starts_same}
 use Rattle.c104_net.proofs.StepMaps.{run_lift}
 use Rattle.c104_net.specs.EventRuns.{run_events, unless_fault}
-use Rattle.c104_net.specs.Network.{AnswersEvent, Network, network_apply, network_of}
+use Rattle.c104_net.specs.Network.{Network, network_apply, network_of}
 use Rattle.c104_net.specs.Nodes.{Node}
 use Rattle.c104_net.specs.Runs.{IsDoneRun}
 use Rattle.c104_net.specs.Starts.{start_node}
@@ -16,8 +16,7 @@ use Rattle.c104_net.specs.declared.traced.Traced.{Traced}
 use Rattle.c104_switch.specs.Actions.{Reply}
 use Rattle.c104_token.specs.Kinds.{Kind, plain_kind}
 use Rattle.c104_token.specs.declared.tokens.Token.{Token}
-use Rattle.std.proofs.Common.{Err, List, Ok, Result, [], ap, inl, inr, map, refl, subst, sym, ◌∙◌, ◌∷◌, ◌≡◌, ◌⊎◌}
-use Rattle.c104_event.specs.declared.faults.EventFault.TheVariants as fault
+use Rattle.std.proofs.Common.{List, Result, [], ap, map, refl, subst, sym, ◌∙◌, ◌∷◌, ◌≡◌}
 
 -- the token alone
 abbrev pub token_of : Traced → Token
@@ -47,10 +46,3 @@ run_after kind net ended [] is = sym is
 run_after {A} kind net ended (e ∷ events) is =
     ap (λ (z : Result Reply EventFault × Network A). (unless_fault z.0 z.1 (λ next. run_events (network_apply kind) next (map (λ (d : Event × Reply). d.0) events))).1) (sym is.1)
     ∙ run_after kind is.0 ended events is.3
-
--- an event of a run is answered as it was, unless memory runs out, and then the run goes on
-pub replay_next : (net next ended : Network Traced) (e : Event × Reply) (events : List (Event × Reply)) (told : Result Reply EventFault) → IsDoneRun traced_kind net (e ∷ events) ended → AnswersEvent traced_kind net e.0 told next → ((told ≡ Err fault.NoMemory) × (next ≡ net)) ⊎ ((told ≡ Ok e.1) × IsDoneRun traced_kind next events ended)
-replay_next net next ended e events told is (inl due) =
-    let same : ◌≡◌ {A = Result Reply EventFault × Network Traced} (told, next) (Ok e.1, is.0) = due ∙ sym is.1 in
-    inr (ap (λ (z : Result Reply EventFault × Network Traced). z.0) same, subst (λ n. IsDoneRun traced_kind n events ended) (sym (ap (λ (z : Result Reply EventFault × Network Traced). z.1) same)) is.3)
-replay_next net next ended e events told is (inr refused) = inl (refused.0, refused.2)

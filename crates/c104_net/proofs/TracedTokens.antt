@@ -9,13 +9,16 @@ use Rattle.c104_net.specs.FinishedRecords.{record_finish}
 use Rattle.c104_net.specs.NetRecords.{NetRecord}
 use Rattle.c104_net.specs.Network.{network_of, terminal_place, Network}
 use Rattle.c104_net.specs.Nodes.{Node}
+use Rattle.c104_net.specs.Places.{Shown, states}
 use Rattle.c104_net.specs.RecordedNets.{places_record, IsRecordedNet}
-use Rattle.c104_net.specs.RecordedPlaces.{counted_reading}
+use Rattle.c104_net.specs.RecordedPlaces.{counted_reading, counted_shown}
 use Rattle.c104_net.specs.Tagged.{tag, TaggedToken}
 use Rattle.c104_net.specs.TracedEnds.{traced_end}
 use Rattle.c104_net.specs.TracedRecords.{traced_state, TracedRecord}
 use Rattle.c104_net.specs.TracedRuns.{map_input, map_network, map_node, map_outgoing}
-use Rattle.c104_net.specs.Views.{network_input_token, network_output_token, node_input_token, node_output_token, nodes_input_token, nodes_output_token}
+use Rattle.c104_net.specs.Views.{network_input_token, network_output_token, node_input_token, node_output_token, nodes_input_token}
+use Rattle.c104_net.specs.Views.{nodes_output_token}
+use Rattle.c104_net.proofs.FirstRecords.{map_twice}
 use Rattle.c104_net.proofs.TokenMaps.{bind_both, if_map}
 use Rattle.c104_net.proofs.TracedOrigins.{tagged_end}
 
@@ -41,14 +44,15 @@ module _ {A B : Type 0} (f : A → B) where
       (bind_both (map_node f) f (slice_get net.nodes s) _ _ _ (slice_get-map (map_node f) net.nodes s) (output_map l k)) refl
 
 module _ (plan : Plan) (is_plan : IsPlan plan) (nodes lent : List TracedRecord) (count : ℕ) (is : IsRecordedNet counted_reading plan nodes count) (r : NetRecord) (lent_is : lent ≡ nodes) (shown : places_record counted_reading plan nodes count ≡ r) where
-  end_is : network_of plan (map traced_state lent) ≡ map_network tag (traced_end (record_finish r))
+  end_is : network_of plan (states (map counted_shown lent)) ≡ map_network tag (traced_end (record_finish r))
   end_is =
-      ap (λ (ns : List TracedRecord). network_of plan (map traced_state ns)) lent_is
+      ap (network_of plan) (map_twice (λ (s : Shown TaggedToken). s.state) counted_shown lent)
+      ∙ ap (λ (ns : List TracedRecord). network_of plan (map traced_state ns)) lent_is
       ∙ sym (tagged_end plan is_plan nodes count is)
       ∙ ap (λ (r : NetRecord). map_network tag (traced_end (record_finish r))) shown
 
-  pub input_there : (p : Port) (k : ℕ) (o : Option TaggedToken) → o ≡ network_input_token (network_of plan (map traced_state lent)) p k → o ≡ option_map tag (network_input_token (traced_end (record_finish r)) p k)
+  pub input_there : (p : Port) (k : ℕ) (o : Option TaggedToken) → o ≡ network_input_token (network_of plan (states (map counted_shown lent))) p k → o ≡ option_map tag (network_input_token (traced_end (record_finish r)) p k)
   input_there p k o told = told ∙ ap (λ (n : Network TaggedToken). network_input_token n p k) end_is ∙ network_input_map tag (traced_end (record_finish r)) p k
 
-  pub output_there : (s l k : ℕ) (o : Option TaggedToken) → o ≡ network_output_token (network_of plan (map traced_state lent)) s l k → o ≡ option_map tag (network_output_token (traced_end (record_finish r)) s l k)
+  pub output_there : (s l k : ℕ) (o : Option TaggedToken) → o ≡ network_output_token (network_of plan (states (map counted_shown lent))) s l k → o ≡ option_map tag (network_output_token (traced_end (record_finish r)) s l k)
   output_there s l k o told = told ∙ ap (λ (n : Network TaggedToken). network_output_token n s l k) end_is ∙ network_output_map tag (traced_end (record_finish r)) s l k

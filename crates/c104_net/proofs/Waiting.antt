@@ -1,5 +1,6 @@
 -- What waits, by a place in what was sent: its first token, and what a packet adds.
-use Rattle.std.proofs.Common.{◌≡◌, ◌∙◌, ◌≤◌, ◌<◌, ◌+◌, ◌-◌, ◌++◌, ℕ, zero, suc, List, [], ◌∷◌, Option, Some, None, drop, length, length-append, append-nil, append_assoc, map, slice_get, refl, subst, sym, ap, arith}
+use Rattle.std.proofs.Common.{◌≡◌, ◌∙◌, ◌≤◌, ◌<◌, ◌+◌, ◌-◌, ◌++◌, ℕ, zero, suc, List, [], ◌∷◌, Option, Some, None, drop, length}
+use Rattle.std.proofs.Common.{length-append, append-nil, append_assoc, map, slice_get, refl, subst, sym, ap, arith}
 use Rattle.std.proofs.lemmas.Option.{slice_get_within}
 use Rattle.c104_link.specs.Buffers.{Incoming}
 use Rattle.std.proofs.lemmas.List.{length-map, map-append}
@@ -12,8 +13,8 @@ use Rattle.c104_token.specs.declared.tokens.Token.TheVariants.{Byte}
 use Rattle.c104_net.specs.Terminals.{sent_from, sent_tokens, terminal_send, Terminal}
 use Rattle.c104_net.specs.Outboxes.{packet_of, posted_tokens, taken_of, waiting_from, waiting_taken, IsOutbox, IsPlace, TerminalPacket}
 
--- a list from a place on
-drop_there : {X : Type 0} (xs : List X) (k : ℕ) (x : X) → slice_get xs k ≡ Some x → drop k xs ≡ x ∷ drop (suc k) xs
+-- a list from a place on begins with the element there
+pub drop_there : {X : Type 0} (xs : List X) (k : ℕ) (x : X) → slice_get xs k ≡ Some x → drop k xs ≡ x ∷ drop (suc k) xs
 drop_there [] k x is = cc
 drop_there (y ∷ xs) zero x is = let same : y ≡ x = cc in ap (λ z. z ∷ xs) same
 drop_there (y ∷ xs) (suc k) x is = drop_there xs k x is
@@ -29,7 +30,7 @@ drop_past [] ys k is = ap (λ j. drop j ys) is
 drop_past (x ∷ xs) ys zero is = absurd (let no : ⊥ = omega (arith, is) in no)
 drop_past (x ∷ xs) ys (suc k) is = drop_past xs ys k (omega (arith, is))
 
-get_before : {X : Type 0} (xs ys : List X) (k : ℕ) (x : X) → slice_get xs k ≡ Some x → slice_get (xs ++ ys) k ≡ Some x
+pub get_before : {X : Type 0} (xs ys : List X) (k : ℕ) (x : X) → slice_get xs k ≡ Some x → slice_get (xs ++ ys) k ≡ Some x
 get_before [] ys k x is = cc
 get_before (y ∷ xs) ys zero x is = is
 get_before (y ∷ xs) ys (suc k) x is = get_before xs ys k x is
@@ -38,6 +39,10 @@ drop_append : {X : Type 0} (xs ys : List X) (k : ℕ) → k ≤ length xs → dr
 drop_append xs ys zero inside = refl
 drop_append [] ys (suc k) inside = absurd (let no : ⊥ = omega (arith, inside) in no)
 drop_append (x ∷ xs) ys (suc k) inside = drop_append xs ys k (omega (arith, inside))
+
+first_place : (o : Option TerminalPacket) → IsPlace 0 o
+first_place None = refl
+first_place (Some q) = omega arith
 
 module _ {A : Type 0} (kind : Kind A) where
   from_length : (t n j : ℕ) (xs : List Token) → length (sent_from kind t n j xs) ≡ length xs
@@ -113,10 +118,6 @@ module _ {A : Type 0} (kind : Kind A) where
             counted = omega (arith, all, counted);
           }),
         )
-      where
-        first_place : (o : Option TerminalPacket) → IsPlace 0 o
-        first_place None = refl
-        first_place (Some q) = omega arith
 
   pub takes_none : (t : Terminal A) (posted : List TerminalPacket) (next place : ℕ) → slice_get posted next ≡ None → IsPlace place (slice_get posted next) → t.output.items ≡ waiting_from kind next place posted → waiting_taken t ≡ (None, t)
   takes_none t posted next place none is items =
@@ -175,8 +176,4 @@ module _ {A : Type 0} (kind : Kind A) where
       where
         by_place : (o : Option TerminalPacket) → slice_get posted next ≡ o → IsPlace place o → IsPlace place (slice_get (posted ++ p ∷ []) next)
         by_place (Some q) at placed = subst (IsPlace place) (sym (get_before posted (p ∷ []) next q at)) placed
-        by_place None at placed = subst (λ (j : ℕ). IsPlace j (slice_get (posted ++ p ∷ []) next)) (sym placed) (any (slice_get (posted ++ p ∷ []) next))
-          where
-            any : (o : Option TerminalPacket) → IsPlace 0 o
-            any None = refl
-            any (Some q) = omega arith
+        by_place None at placed = subst (λ (j : ℕ). IsPlace j (slice_get (posted ++ p ∷ []) next)) (sym placed) (first_place (slice_get (posted ++ p ∷ []) next))

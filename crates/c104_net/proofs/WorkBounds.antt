@@ -7,7 +7,8 @@ use Rattle.c104_describe.specs.declared.ports.Port.{Port}
 use Rattle.c104_link.specs.Buffers.{Outgoing}
 use Rattle.c104_net.specs.Nodes.{Node}
 use Rattle.c104_net.specs.Traces.{part}
-use Rattle.c104_net.specs.Work.{header_held, highest_rank, input_work, level, link_work, most_weight, node_room, node_tokens, node_work, output_work, room_held, sum_at, told_work, tokens_held, weigh, work, work_bound}
+use Rattle.c104_net.specs.Work.{header_held, highest_rank, input_work, level, link_work, most_weight, node_room, node_tokens, node_work}
+use Rattle.c104_net.specs.Work.{output_work, room_held, sum_at, told_work, tokens_held, weigh, work, work_bound}
 use Rattle.c104_link.proofs.MadeSteps.{given}
 use Rattle.c104_switch.specs.Phases.{with_header}
 use Rattle.c104_switch.specs.Views.{link_view, sides_view}
@@ -17,7 +18,8 @@ use Rattle.c104_switch.specs.Rooms.{room_left}
 use Rattle.c104_switch.specs.Switch.{Input, Switch}
 use Rattle.c104_switch.specs.declared.phase.Phase.{Phase}
 use Rattle.c104_switch.specs.declared.phase.Phase.TheVariants.{Fresh, Head, Sinking, Stream, Want}
-use Rattle.std.proofs.Common.{List, None, Option, Some, [], ap, arith, inl, inr, length, map, min, refl, slice_get, subst, suc, sym, take, zero, ℕ, ⊎_elim, ◌*◌, ◌+◌, ◌-◌, ◌<◌, ◌∙◌, ◌∷◌, ◌≡◌, ◌≤◌, ◌⊎◌}
+use Rattle.std.proofs.Common.{List, None, Option, Some, [], ap, arith, inl, inr, length, map, min, refl, slice_get, subst, suc, sym, take}
+use Rattle.std.proofs.Common.{zero, ℕ, ⊎_elim, ◌*◌, ◌+◌, ◌-◌, ◌<◌, ◌∙◌, ◌∷◌, ◌≡◌, ◌≤◌, ◌⊎◌}
 use Rattle.std.proofs.Math.Nat.{add-mul, min-eq_left, min-eq_right, suc-mul, zero-mul}
 use Rattle.std.proofs.lemmas.Bool.{cases_lt}
 use Rattle.std.proofs.lemmas.List.{length-map}

@@ -11,7 +11,8 @@ use Rattle.c104_switch.specs.declared.actions.ReplyOf.TheVariants as reply
 use Rattle.c104_net.specs.declared.acts.ActOf.{ActOf}
 use Rattle.c104_net.specs.declared.acts.ActOf.TheVariants as act
 use Rattle.c104_net.specs.declared.node.NodeOf.TheVariants.{Switch, Terminal}
-use Rattle.c104_net.specs.Nodes.{Node, node_enter, node_leave, node_credit_out, node_credit_in, node_input, node_claim, node_control, node_send, node_drain}
+use Rattle.c104_net.specs.Nodes.{Node, node_enter, node_leave, node_credit_out, node_credit_in, node_input, node_claim, node_control}
+use Rattle.c104_net.specs.Nodes.{node_send, node_drain}
 
 -- what is answered, and what is left, where nothing else comes of a step
 abbrev pub done_by : {A S : Type 0} → Option S → Option (ReplyOf A × S)

@@ -16,7 +16,7 @@ use Rattle.c104_net.specs.declared.acts.Entry.{Entry}
 use Rattle.c104_net.specs.Deliveries.{Promise}
 use Rattle.c104_net.specs.Finished.{network_finish}
 use Rattle.c104_net.specs.FinishedRecords.{FinishedRecord}
-use Rattle.c104_net.specs.NetRecords.{NetRecord, is_done, is_trace_full}
+use Rattle.c104_net.specs.NetRecords.{NetRecord, is_done}
 use Rattle.c104_net.specs.Network.{network_of}
 use Rattle.c104_net.specs.Nodes.{Node}
 use Rattle.c104_net.specs.Quiet.{IsQuiet}
@@ -26,7 +26,7 @@ use Rattle.c104_net.specs.Runs.{IsDoneRun, IsRunRecord}
 use Rattle.c104_net.specs.Standstill.{IsDeadlocked, IsStartedStart, StandsStill}
 use Rattle.c104_net.specs.Starts.{start_node}
 use Rattle.c104_net.specs.Traced.{Traced, traced_kind}
-use Rattle.c104_net.specs.Traces.{seatless}
+use Rattle.c104_net.specs.Traces.{seatless, is_trace_full}
 use Rattle.c104_net.specs.declared.stamps.Stamp.{Stamp}
 use Rattle.c104_net.specs.TracedRuns.{map_node}
 use Rattle.c104_net.specs.Unchanged.{AreStartsOf, IsUnchanged}
@@ -46,7 +46,9 @@ pub record IsAcyclicNet (image : Image) (net : NetRecord) : Type 0 where
   pub set : AreStartsOf net.network.plan image net.starts
   pub started : All IsStartedStart net.starts
   -- whichever events the traces tell
-  pub unchanged : (events : List (Event × Reply)) → IsRunRecord plain_kind net.network.plan seatless (map start_node net.starts) net.network.nodes net.traces net.count events → IsUnchanged (routes_of net.network.plan image) events
+  pub unchanged : (events : List (Event × Reply)) →
+      IsRunRecord plain_kind net.network.plan seatless (map start_node net.starts) net.network.nodes net.traces net.count events →
+      IsUnchanged (routes_of net.network.plan image) events
 
 -- an event isn't done: it is answered with NotReady, or refused
 abbrev pub IsUndone : NetRecord → Event → Type 0
@@ -86,14 +88,22 @@ pub record HasNoDeadlock (image : Image) (net : NetRecord) : Type 0 where
   pub never : IsDeadlocked plain_kind net.network → ⊥
   pub stands_quiet : StandsStill plain_kind net.network → IsQuiet net.network
   -- more rounds than work, by any ranks that fall along the dependencies, deliver all
-  pub rounds_deliver : (rank : SwitchPort → ℕ) → IsRanking (routes_of net.network.plan image) rank → (n : ℕ) → random_work net.network.plan (routes_of net.network.plan image) rank net.network.nodes < n → RoundsDeliver (routes_of net.network.plan image) net n
+  pub rounds_deliver : (rank : SwitchPort → ℕ) → IsRanking (routes_of net.network.plan image) rank → (n : ℕ) →
+      random_work net.network.plan (routes_of net.network.plan image) rank net.network.nodes < n →
+      RoundsDeliver (routes_of net.network.plan image) net n
   -- and so do more rounds than the bound of work
-  pub rounds_suffice : (n : ℕ) → random_bound net.network.plan (routes_of net.network.plan image) net.network.nodes < n → RoundsDeliver (routes_of net.network.plan image) net n
+  pub rounds_suffice : (n : ℕ) → random_bound net.network.plan (routes_of net.network.plan image) net.network.nodes < n →
+      RoundsDeliver (routes_of net.network.plan image) net n
   -- where no link puts random headers before packets, these are the work and the bound by tokens that there are
-  pub plain_work : IsNeverRandomized (routes_of net.network.plan image) → (rank : SwitchPort → ℕ) → random_work net.network.plan (routes_of net.network.plan image) rank net.network.nodes ≡ work net.network.plan rank net.network.nodes
-  pub plain_bound : IsNeverRandomized (routes_of net.network.plan image) → random_bound net.network.plan (routes_of net.network.plan image) net.network.nodes ≡ work_bound net.network.plan net.network.nodes
+  pub plain_work : IsNeverRandomized (routes_of net.network.plan image) → (rank : SwitchPort → ℕ) →
+      random_work net.network.plan (routes_of net.network.plan image) rank net.network.nodes
+      ≡ work net.network.plan rank net.network.nodes
+  pub plain_bound : IsNeverRandomized (routes_of net.network.plan image) →
+      random_bound net.network.plan (routes_of net.network.plan image) net.network.nodes
+      ≡ work_bound net.network.plan net.network.nodes
   -- which is at most the highest weight for each token, and the room that buffers could still grant
-  pub bounded : work_bound net.network.plan net.network.nodes ≤ tokens_held net.network.nodes * most_weight net.network.plan + room_held net.network.nodes
+  pub bounded : work_bound net.network.plan net.network.nodes
+      ≤ tokens_held net.network.nodes * most_weight net.network.plan + room_held net.network.nodes
 
 -- what is so of every network with its record
 abbrev pub IsFreeOfDeadlock : NetRecord → Type 0
@@ -106,4 +116,7 @@ pub record EndsWithoutDeadlock (run : FinishedRecord) : Type 0 where
   pub nodes : List (Node Token)
   pub told : IsRunRecord plain_kind run.finished.plan stamps (map start_node run.starts) nodes run.traces run.count events
   pub ended : run.finished ≡ network_finish (network_of run.finished.plan nodes)
-  pub stands_quiet : (image : Image) → IsAccepted (routes_of run.finished.plan image) → IsAcyclic (routes_of run.finished.plan image) → AreStartsOf run.finished.plan image run.starts → All IsStartedStart run.starts → IsUnchanged (routes_of run.finished.plan image) events → StandsStill plain_kind (network_of run.finished.plan nodes) → IsQuiet (network_of run.finished.plan nodes)
+  pub stands_quiet : (image : Image) → IsAccepted (routes_of run.finished.plan image) →
+      IsAcyclic (routes_of run.finished.plan image) → AreStartsOf run.finished.plan image run.starts →
+      All IsStartedStart run.starts → IsUnchanged (routes_of run.finished.plan image) events →
+      StandsStill plain_kind (network_of run.finished.plan nodes) → IsQuiet (network_of run.finished.plan nodes)

@@ -65,6 +65,11 @@ pub record Promise (routes : Routes) (net : Network Traced) : Type 0 where
   -- each received packet is one that was sent there
   pub delivered : (t k : ℕ) (piece : List Traced) → slice_get (received net t) k ≡ Some piece → IsDelivered routes net t piece
   -- no packet is received twice
-  pub once : (t u i j : ℕ) (p q : List Traced) → slice_get (received net t) i ≡ Some p → slice_get (received net u) j ≡ Some q → (d : IsDelivered routes net t p) (e : IsDelivered routes net u q) → d.terminal ≡ e.terminal → d.number ≡ e.number → (t ≡ u) × (i ≡ j)
+  pub once : (t u i j : ℕ) (p q : List Traced) → slice_get (received net t) i ≡ Some p → slice_get (received net u) j ≡ Some q →
+      (d : IsDelivered routes net t p) (e : IsDelivered routes net u q) → d.terminal ≡ e.terminal → d.number ≡ e.number →
+      (t ≡ u) × (i ≡ j)
   -- where no token stands anywhere, each packet with a whole header that has an owner was received by it
-  pub all : IsQuiet net → (a n t : ℕ) (p : Packet) → slice_get (sent_at net a) n ≡ Some p → has_header routes p ≡ true → owner routes (header_of routes p) ≡ Some t → (k : ℕ) × (piece : List Traced) × (slice_get (received net t) k ≡ Some piece) × (d : IsDelivered routes net t piece) × (d.terminal ≡ a) × (d.number ≡ n)
+  pub all : IsQuiet net → (a n t : ℕ) (p : Packet) → slice_get (sent_at net a) n ≡ Some p → has_header routes p ≡ true →
+      owner routes (header_of routes p) ≡ Some t →
+      (k : ℕ) × (piece : List Traced) × (slice_get (received net t) k ≡ Some piece) × (d : IsDelivered routes net t piece)
+      × (d.terminal ≡ a) × (d.number ≡ n)

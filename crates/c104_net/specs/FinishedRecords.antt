@@ -61,7 +61,8 @@ pub record IsFinishedRecord (run : FinishedRecord) : Type 0 where
 
 -- empty lists with room for what is left of a run: of each node where it started and what it did, and the
 -- terminals
-pub record HaveRunRoom (plan : Plan) (starts : List NodeStart) (traces : List (List Entry)) (terminals : List (Terminal Token)) (start_room trace_room terminal_room : ℕ) : Type 0 where
+pub record HaveRunRoom (plan : Plan) (starts : List NodeStart) (traces : List (List Entry)) (terminals : List (Terminal Token))
+    (start_room trace_room terminal_room : ℕ) : Type 0 where
   pub no_start : starts ≡ []
   pub no_trace : traces ≡ []
   pub no_terminal : terminals ≡ []

@@ -71,7 +71,10 @@ module _ (plan : Plan) (rank ahead : SwitchPort → ℕ) where
     full_outputs s qs = sum_at (full_link s) 0 qs
 
     abbrev pub full_terminal : ℕ → Terminal A → ℕ
-    full_terminal k t = full_incoming 0 0 t.input + full_output (level plan rank (peer plan (port.Terminal (k - length plan.switches)))) (ahead_at (peer plan (port.Terminal (k - length plan.switches)))) t.output
+    full_terminal k t =
+        full_incoming 0 0 t.input
+        + full_output (level plan rank (peer plan (port.Terminal (k - length plan.switches))))
+        (ahead_at (peer plan (port.Terminal (k - length plan.switches)))) t.output
 
     abbrev pub full_node : ℕ → Node A → ℕ
     full_node k (node.Switch s) = full_inputs k s.inputs + full_outputs k s.outputs

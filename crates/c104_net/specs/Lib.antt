@@ -5,6 +5,8 @@ pub mod FarEnds
 pub mod Acts
 pub mod EventActs
 pub mod Places
+pub mod PlaceActs
+pub mod EventsAtPlaces
 pub mod Network
 pub mod Views
 pub mod Reasons

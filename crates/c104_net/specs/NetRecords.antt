@@ -1,5 +1,5 @@
 -- A network with its record: its nodes with their starts and their traces, and how many events were done.
-use Rattle.std.specs.Prelude.{ℕ, ◌+◌, ◌≡◌, ◌≤◌, All, Bool, true, false, List, [], ◌∷◌, Result, Ok, Err, IfOk, length, map, min, nat_le}
+use Rattle.std.specs.Prelude.{ℕ, ◌+◌, ◌≡◌, ◌≤◌, All, Bool, true, false, List, [], ◌∷◌, Result, Ok, Err, IfOk, length, map, min}
 use Rattle.c104_token.specs.declared.tokens.Token.{Token}
 use Rattle.c104_token.specs.Kinds.{plain_kind}
 use Rattle.c104_switch.specs.Actions.{Reply, is_ready}
@@ -15,7 +15,7 @@ use Rattle.c104_net.specs.Records.{NodeRecord}
 use Rattle.c104_net.specs.Runs.{IsRunRecord}
 use Rattle.c104_net.specs.Quiet.{network_begin}
 use Rattle.c104_net.specs.Starts.{start_node, start_of}
-use Rattle.c104_net.specs.Traces.{event_deeds, event_full, kept_of, noted_all, seatless, trace_limit}
+use Rattle.c104_net.specs.Traces.{event_deeds, event_full, is_trace_full, kept_of, noted_all, seatless, trace_limit}
 
 -- what is seen of a node with its record, beside the room for further entries
 abbrev pub node_state : NodeRecord × ℕ → Node Token
@@ -73,10 +73,6 @@ ticket_after n true = min (n + 1) largest_ticket
 abbrev pub is_done : Result Reply EventFault → Bool
 is_done (Ok r) = is_ready r
 is_done (Err f) = false
-
--- whether a trace has as many entries as it may have
-abbrev pub is_trace_full : List Entry → Bool
-is_trace_full trace = nat_le trace_limit (length trace)
 
 -- there is one list of events, each answered and done, which leads from the start to the present nodes,
 -- and of which the trace of each node is its part in the order of the tickets: each event has its number for a

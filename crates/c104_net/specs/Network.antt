@@ -1,5 +1,6 @@
 -- A network: a plan, and its nodes; and what each event does and answers.
-use Rattle.std.specs.Prelude.{ℕ, ◌+◌, ◌≡◌, ◌⊎◌, Bool, true, false, List, ◌++◌, length, map, nat_lt, nat_le, Option, Some, None, is_some, Result, Ok, Err, if◌then◌else◌}
+use Rattle.std.specs.Prelude.{ℕ, ◌+◌, ◌≡◌, ◌⊎◌, Bool, true, false, List, ◌++◌, length, map, nat_lt, nat_le, Option, Some, None, is_some}
+use Rattle.std.specs.Prelude.{Result, Ok, Err, if◌then◌else◌}
 use Rattle.c104_token.specs.declared.text.TheConstants.{MAX_PACKET_BYTES}
 use Rattle.c104_token.specs.Kinds.{Kind}
 use Rattle.c104_link.specs.Steps.{◌>>=◌}
@@ -23,6 +24,7 @@ use Rattle.c104_switch.specs.declared.actions.ReplyOf.{ReplyOf}
 use Rattle.c104_net.specs.Acts.{plain_reply}
 use Rattle.c104_net.specs.EventActs.{acts_limit, acts_step, event_acts}
 use Rattle.c104_net.specs.Nodes.{Node, nodes_arrived, nodes_peek}
+use Rattle.c104_net.specs.Places.{room_fault}
 use Rattle.c104_describe.specs.Wiring.{peer}
 
 -- a network: its plan, and the state of its nodes
@@ -81,12 +83,6 @@ placed_network plan image = record {
   plan = plan;
   nodes = switch_nodes plan.cap image.settings ++ terminal_nodes plan.cap plan.terminals;
 }
-
--- what refuses an event that would be done, of which nothing can be kept: a trace that would grow is
--- full, or else memory has run out
-abbrev pub room_fault : Bool → EventFault
-room_fault true = fault.TraceFull
-room_fault false = fault.NoMemory
 
 -- no such node, where n isn't below count; and else the other fault, if there is one
 abbrev pub node_fault : ℕ → ℕ → Option EventFault → Option EventFault

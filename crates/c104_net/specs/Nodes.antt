@@ -91,10 +91,6 @@ abbrev pub node_arrived : {A : Type 0} → Node A → Option (List A)
 node_arrived (Switch s) = None
 node_arrived (Terminal t) = Some t.arrived
 
--- how many tokens wait at the node at this place, if it is a terminal
-abbrev pub nodes_waiting : {A : Type 0} → List (Node A) → ℕ → Option ℕ
-nodes_waiting nodes place = slice_get nodes place >>= node_waiting
-
 -- the tokens that arrived at the node at this place, if it is a terminal
 abbrev pub nodes_arrived : {A : Type 0} → List (Node A) → ℕ → Option (List A)
 nodes_arrived nodes place = slice_get nodes place >>= node_arrived

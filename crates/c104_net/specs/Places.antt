@@ -1,14 +1,52 @@
--- Places of nodes: a node, and whatever is kept beside it.
-use Rattle.std.specs.Prelude.{ℕ, ◌≡◌, List, Some, Bool, true, Result, Ok, Err, slice_get}
+-- Places of nodes: a node, and whatever is kept beside it; what is shown of it, and room for what is kept.
+use Rattle.std.specs.Prelude.{ℕ, ◌≡◌, ◌&&◌, Bool, true, false, List, [], Option, Some, None, map, slice_get}
 use Rattle.c104_event.specs.declared.faults.EventFault.{EventFault}
-use Rattle.c104_net.specs.Network.{room_fault}
+use Rattle.c104_event.specs.declared.faults.EventFault.TheVariants as fault
+use Rattle.c104_net.specs.declared.acts.Entry.{Entry}
+use Rattle.c104_net.specs.declared.starts.NodeStart.{NodeStart}
+use Rattle.c104_net.specs.Nodes.{Node}
+use Rattle.c104_net.specs.Traces.{is_trace_full}
+
+-- what a place shows: its node, where the node started, if that is kept, the entries that are kept of it, and whether
+-- no further one may be kept
+pub record Shown (A : Type 0) : Type 0 where
+  pub state : Node A
+  pub start : Option NodeStart
+  pub trace : List Entry
+  pub full : Bool
+
+-- a node alone, of which nothing is kept
+abbrev pub bare_shown : {A : Type 0} → Node A → Shown A
+bare_shown n = record { state = n; start = None; trace = []; full = false }
+
+module _ {A : Type 0} where
+  -- one thing of what each of some places shows
+  abbrev pub states : List (Shown A) → List (Node A)
+  states shown = map (λ (s : Shown A). s.state) shown
+
+  abbrev pub starts : List (Shown A) → List (Option NodeStart)
+  starts shown = map (λ (s : Shown A). s.start) shown
+
+  abbrev pub traces : List (Shown A) → List (List Entry)
+  traces shown = map (λ (s : Shown A). s.trace) shown
+
+  abbrev pub fulls : List (Shown A) → List Bool
+  fulls shown = map (λ (s : Shown A). s.full) shown
+
+-- whether a trace is full, where entries are kept
+abbrev pub is_kept_full : Bool → List Entry → Bool
+is_kept_full keeps trace = keeps && is_trace_full trace
+
+-- a place is full where its trace is
+abbrev pub IsFullByTrace : {A : Type 0} → Bool → Shown A → Type 0
+IsFullByTrace keeps s = s.full ≡ is_kept_full keeps s.trace
+
+-- what refuses acts that would be done, of which nothing can be kept: a trace that would grow is full, or else memory
+-- has run out
+abbrev pub room_fault : Bool → EventFault
+room_fault true = fault.TraceFull
+room_fault false = fault.NoMemory
 
 -- there is room at a place of a list
 abbrev pub HasRoomAt : {P : Type 0} → (P → Type 0) → List P → ℕ → Type 0
 HasRoomAt {P} has_room places k = (p : P) → slice_get places k ≡ Some p → has_room p
-
--- how a step ends of which something may be kept: with what is due; or, where it could be made, out of
--- room or of memory for what would be kept, and nothing changed
-abbrev pub StepEnds : {R S : Type 0} → R × S → Bool → Bool → S → Result R EventFault → S → Type 0
-StepEnds {R} {S} due could_be full old (Ok r) new = ◌≡◌ {A = R × S} (r, new) due
-StepEnds due could_be full old (Err e) new = (e ≡ room_fault full) × (could_be ≡ true) × (new ≡ old)

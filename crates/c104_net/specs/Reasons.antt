@@ -65,7 +65,8 @@ abbrev pub end_why : {A : Type 0} → List (Node A) → End → (ℕ → Node A 
 end_why nodes end why = why_at nodes end.node (why end.link)
 
 -- why what crosses the wire at a port doesn't: the end that is named can't act, or else the other one
-abbrev pub wire_why : {A : Type 0} → Network A → Port → Option Port → (ℕ → Node A → Option Unready) → (ℕ → Node A → Option Unready) → Option Reason
+abbrev pub wire_why : {A : Type 0} → Network A → Port → Option Port → (ℕ → Node A → Option Unready) →
+    (ℕ → Node A → Option Unready) → Option Reason
 wire_why net p None near far = None
 wire_why net p (Some q) near far = option_or
     (port_reason p (end_why net.nodes (end_of net.plan p) near))

@@ -8,10 +8,10 @@ use Rattle.c104_event.specs.declared.faults.EventFault.{EventFault}
 use Rattle.c104_net.specs.declared.starts.NodeStart.{NodeStart}
 use Rattle.c104_net.specs.EventRuns.{Answers, EventsEnd}
 use Rattle.c104_net.specs.Network.{WouldBeDone}
-use Rattle.c104_net.specs.NetRecords.{is_done, is_trace_full, NetRecord}
+use Rattle.c104_net.specs.NetRecords.{is_done, NetRecord}
 use Rattle.c104_net.specs.Rounds.{rounds}
 use Rattle.c104_net.specs.Stages.{stage_apply, Stage}
-use Rattle.c104_net.specs.Traces.{event_full}
+use Rattle.c104_net.specs.Traces.{event_full, is_trace_full}
 
 -- the stage that a network with its record is at
 abbrev pub record_stage : NetRecord → Stage Token

@@ -88,7 +88,8 @@ IsStartedStart (start.Terminal t) = IsTerminalStart t
 -- a run from a start, in a network whose labels the check accepts, and whose channels don't depend on one another in a
 -- cycle: at the start each switch is started and nothing stands anywhere, nobody changed the network since, and what
 -- terminals sent where random headers are put before packets doesn't begin with a random header itself
-pub record IsAcyclicRun (plan : Plan) (image : Image) (starts : List NodeStart) (events : List (Event × Reply)) (nodes : List (Node Token)) : Type 0 where
+pub record IsAcyclicRun (plan : Plan) (image : Image) (starts : List NodeStart) (events : List (Event × Reply))
+    (nodes : List (Node Token)) : Type 0 where
   pub accepted : IsAccepted (routes_of plan image)
   pub acyclic : IsAcyclic (routes_of plan image)
   pub set : AreStartsOf plan image starts

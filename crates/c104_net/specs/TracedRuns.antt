@@ -57,6 +57,7 @@ module _ {A B : Type 0} (f : A → B) where
 
 -- a run from a start, over tokens that tell where they came from: the same events were done with the same
 -- replies, and without their sources its end is that of the plain run
-pub record IsTracedRun (plan : Plan) (starts : List NodeStart) (events : List (Event × Reply)) (nodes : List (Node Token)) (traced : List (Node Traced)) : Type 0 where
+pub record IsTracedRun (plan : Plan) (starts : List NodeStart) (events : List (Event × Reply)) (nodes : List (Node Token))
+    (traced : List (Node Traced)) : Type 0 where
   pub run : IsDoneRun traced_kind (network_of plan (map start_node starts)) events (network_of plan traced)
   pub plain : map (map_node (λ (x : Traced). x.token)) traced ≡ nodes

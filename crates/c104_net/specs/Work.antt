@@ -50,7 +50,8 @@ module _ (plan : Plan) (rank : SwitchPort → ℕ) where
     incoming_work far b = weigh (8 * far + 2) b.items + room_left b
 
     abbrev pub input_work : ℕ → ℕ → Input A → ℕ
-    input_work s l p = incoming_work (level (Some (port.Switch s l))) p.buffer + weigh (8 * level (Some (port.Switch s l))) (header_held p.phase)
+    input_work s l p =
+        incoming_work (level (Some (port.Switch s l))) p.buffer + weigh (8 * level (Some (port.Switch s l))) (header_held p.phase)
 
     -- and of the tokens that wait to go out
     abbrev pub output_work : ℕ → Outgoing A → ℕ
@@ -87,7 +88,8 @@ work_bound plan nodes = work plan (highest_rank plan) nodes
 
 -- how many tokens a node holds, and how many more its buffers could grant
 abbrev pub node_tokens : {A : Type 0} → Node A → ℕ
-node_tokens (node.Switch s) = sum_at (λ l p. length p.buffer.items + length (header_held p.phase)) 0 s.inputs + sum_at (λ l q. length q.items) 0 s.outputs
+node_tokens (node.Switch s) =
+    sum_at (λ l p. length p.buffer.items + length (header_held p.phase)) 0 s.inputs + sum_at (λ l q. length q.items) 0 s.outputs
 node_tokens (node.Terminal t) = length t.input.items + length t.output.items
 
 abbrev pub node_room : {A : Type 0} → Node A → ℕ

@@ -63,20 +63,18 @@ impl CountedNode {
 }
 
 impl Place<TaggedToken> for CountedNode {
-    ghost use Rattle.std.specs.Prelude.{◌≡◌, ◌<◌, ◌++◌, ◌∷◌, [], Some, length, true, false, nat_le, is_some, OnOk, MatchResult};
-    ghost use Rattle.c104_net.specs.Acts.{IsWithinLimits, node_act, reply_outcome, wants_memory};
+    ghost use Rattle.std.specs.Prelude.{◌≡◌, ◌<◌, false, is_some, length, refl, true, OnOk};
+    ghost use Rattle.c104_net.specs.Acts.{IsWithinLimits, node_act};
+    ghost use Rattle.c104_net.specs.PlaceActs.{ActEnds};
+    ghost use Rattle.c104_net.specs.RecordedPlaces.{counted_shown};
     ghost use Rattle.c104_net.specs.Tagged.{tagged_kind};
-    ghost use Rattle.c104_net.specs.Traces.{kept_entry, trace_limit};
+    ghost use Rattle.c104_net.specs.Traces.{trace_limit};
 
-    ghost state = { λ n. n.state };
+    ghost shown = { counted_shown };
 
     ghost keeps = { true };
 
-    ghost trace = { λ n. n.trace };
-
-    ghost start = { λ n. Some n.start };
-
-    ghost full = { λ n. nat_le trace_limit (length n.trace) };
+    ghost limited = { λ n. refl };
 
     ghost has_room = { λ n. length n.trace < trace_limit };
 
@@ -89,15 +87,15 @@ impl Place<TaggedToken> for CountedNode {
 
     #[inline(always)]
     fn is_full(&self) -> bool
-        ensures { result ≡ nat_le trace_limit (length self.now.trace) }
+        ensures { result ≡ (counted_shown self.now).full }
     {
         self.entries >= TRACE_LIMIT
     }
 
     #[inline(always)]
     fn room(&mut self) -> Result<(), NoMemory>
-        requires { nat_le trace_limit (length self.old.trace) ≡ false }
-        ensures same { self.new ≡ self.old }
+        requires { (counted_shown self.old).full ≡ false }
+        ensures shown { counted_shown self.new ≡ counted_shown self.old }
         ensures room { OnOk result (length self.new.trace < trace_limit) }
     {
         Ok(())
@@ -113,16 +111,7 @@ impl Place<TaggedToken> for CountedNode {
         requires short { IsWithinLimits act }
         requires room { length self.old.trace < trace_limit }
         requires ready { is_some (node_act tagged_kind number act self.old.state) ≡ true }
-        ensures acted { MatchResult result
-            (λ reply. (reply, self.new.state) ≡
-            reply_outcome (node_act tagged_kind number act self.old.state) self.old.state)
-            (λ _. self.new.state ≡ self.old.state) }
-        ensures trace { MatchResult result
-            (λ reply. self.new.trace ≡
-            self.old.trace ++ kept_entry tagged_kind stamp act reply ∷ [])
-            (λ _. self.new.trace ≡ self.old.trace) }
-        ensures start { self.new.start ≡ self.old.start }
-        ensures memory { MatchResult result (λ _. Unit {0}) (λ _. wants_memory act ≡ true) }
+        ensures { ActEnds tagged_kind true number stamp act (counted_shown self.old) result (counted_shown self.new) }
     {
         let reply = self.core.act(number, &act)?;
         self.history = self.history.with(&stamp, &act, &reply);
@@ -138,7 +127,7 @@ impl RecordedPlace<TaggedToken> for CountedNode {
     // A count leaves nothing at the end.
     type Room = ();
 
-    ghost shown = { λ n. plain_node n.state };
+    ghost plain = { λ n. plain_node n.state };
 
     ghost begun_at = { λ n. n.start };
 

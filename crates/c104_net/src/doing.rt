@@ -1,17 +1,20 @@
 //! The acts of an event, done at the places of nodes.
-ghost use Rattle.std.specs.Prelude.{◌≡◌, ◌-◌, IfOk, false, map, slice_get, true};
-ghost use Rattle.c104_net.specs.Acts.{IsWithinLimits, nodes_act, plain_reply};
-ghost use Rattle.c104_net.specs.AskedActs.{ActsEnd, AreEnds, LimitedEnd, acts_asked, acts_kept};
-ghost use Rattle.c104_net.specs.EventActs.{act_limit};
-ghost use Rattle.c104_switch.specs.Actions.{is_ready};
+ghost use Rattle.std.specs.Prelude.{◌≡◌, ◌+◌, ◌-◌, ◌<◌, ◌≤◌, None, Some, if◌then◌else◌, length, map, nat_le, slice_get};
+ghost use Rattle.c104_event.specs.declared.faults.EventFault.TheVariants as fault;
+ghost use Rattle.c104_token.specs.declared.text.TheConstants.{MAX_PACKET_BYTES};
+ghost use Rattle.c104_net.specs.Acts.{IsWithinLimits};
+ghost use Rattle.c104_net.specs.AskedActs.{AreEnds, acts_asked};
+ghost use Rattle.c104_net.specs.EventActs.{act_limit, outbox_limit};
+ghost use Rattle.c104_net.specs.EventsAtPlaces.{ActsDone};
+ghost use Rattle.c104_net.specs.PlaceActs.{AloneDone};
+ghost use Rattle.c104_net.specs.Places.{states};
 ghost use Rattle.c104_net.specs.declared.acts.ActOf.TheVariants as act;
-ghost use Rattle.c104_net.specs.Traces.{acts_full, full_at, kept_of, lone_deed, noted_all, plain_act};
 
 use crate::acts::ActOf;
 use crate::asked::Asked;
 use crate::joint::joint_at;
 use crate::place::Place;
-use crate::places::{act_alone, act_ready, is_full_at, ready_at};
+use crate::places::{act_ready, is_full_at, node_at, ready_at};
 use crate::sent_packet::SentPacket;
 use crate::stamps::Stamp;
 use c104_describe::Plan;
@@ -25,6 +28,19 @@ const OUTBOX_LIMIT: usize = 65_536;
 /// The most tokens that may arrive at a terminal.
 const INBOX_LIMIT: usize = 262_144;
 
+/// Why a packet of this length can't be sent now, by how many tokens wait to go out.
+#[inline(always)]
+fn outbox_fault(waiting: usize, length: usize) -> Option<EventFault>
+    requires { length ≤ MAX_PACKET_BYTES }
+    ensures { result ≡ if nat_le (waiting + length + 1) outbox_limit then None else Some fault.OutboxFull }
+{
+    if waiting > OUTBOX_LIMIT - (length + 1) {
+        Some(EventFault::OutboxFull)
+    } else {
+        None
+    }
+}
+
 /// Why an act that is ready can't be done now: a terminal's list would pass its limit.
 #[inline(always)]
 fn limit_at<T: TokenKind, P: Place<T>>(
@@ -33,21 +49,16 @@ fn limit_at<T: TokenKind, P: Place<T>>(
     act: &ActOf<T>,
 ) -> Option<EventFault>
     requires { IsWithinLimits act.now }
-    ensures { result ≡ act_limit (slice_get (map P.state places.now) place) act.now }
+    ensures { result ≡ act_limit (slice_get (states (map P.shown places.now)) place) act.now }
 {
-    let found = places.get(place)?;
+    let node = node_at(places, place)?;
     match act {
         ActOf::Send(packet) => {
-            let waiting = found.node().waiting()?;
-            let length = packet.packet().bytes.as_bytes().len();
-            if waiting > OUTBOX_LIMIT - (length + 1) {
-                Some(EventFault::OutboxFull)
-            } else {
-                None
-            }
+            let waiting = node.waiting()?;
+            outbox_fault(waiting, packet.packet().bytes.as_bytes().len())
         }
         ActOf::Drain => {
-            let arrived = found.node().arrived()?;
+            let arrived = node.arrived()?;
             if arrived.len() >= INBOX_LIMIT {
                 Some(EventFault::InboxFull)
             } else {
@@ -68,14 +79,8 @@ pub fn do_alone<T: TokenKind, P: Place<T>>(
     stamp: Stamp,
 ) -> Result<ReplyOf<T>, EventFault>
     requires { IsWithinLimits act }
-    ensures ends { LimitedEnd (map P.state places.old)
-        (act_limit (slice_get (map P.state places.old) place) act)
-        (nodes_act T.kind (map P.state places.old) place (place - switches) act)
-        (full_at (map P.full places.old) place) result (map P.state places.new) }
-    ensures free { IfOk result (λ told. is_ready told ≡ true → full_at (map P.full places.old) place ≡ false) }
-    ensures start { map P.start places.new ≡ map P.start places.old }
-    ensures trace { map P.trace places.new ≡ noted_all P.keeps (map P.trace places.old)
-        (kept_of (λ told. lone_deed stamp place (plain_act T.kind act) (plain_reply T.kind told)) result) }
+    ensures { AloneDone T.kind P.keeps place (place - switches) stamp act
+        (map P.shown places.old) result (map P.shown places.new) }
 {
     let number = place.saturating_sub(switches);
     if place >= places.len() || !ready_at(places, place, number, &act) {
@@ -97,24 +102,17 @@ fn do_send<T: TokenKind, P: Place<T>>(
     stamp: Stamp,
 ) -> Result<ReplyOf<T>, EventFault>
     requires { IsWithinLimits {A = T} (act.Send packet.now) }
-    ensures ends { LimitedEnd (map P.state places.old)
-        (act_limit (slice_get (map P.state places.old) place) (act.Send packet.now))
-        (nodes_act T.kind (map P.state places.old) place (place - switches) (act.Send packet.now))
-        (full_at (map P.full places.old) place) result (map P.state places.new) }
-    ensures free { IfOk result (λ told. is_ready told ≡ true → full_at (map P.full places.old) place ≡ false) }
-    ensures start { map P.start places.new ≡ map P.start places.old }
-    ensures trace { map P.trace places.new ≡ noted_all P.keeps (map P.trace places.old)
-        (kept_of (λ told. lone_deed stamp place (act.Send packet.now) (plain_reply T.kind told)) result) }
+    ensures { AloneDone T.kind P.keeps place (place - switches) stamp (act.Send packet.now)
+        (map P.shown places.old) result (map P.shown places.new) }
 {
-    let length = packet.bytes.as_bytes().len();
-    let Some(found) = places.get(place) else {
+    let Some(node) = node_at(places, place) else {
         return Ok(ReplyOf::NotReady);
     };
-    let Some(waiting) = found.node().waiting() else {
+    let Some(waiting) = node.waiting() else {
         return Ok(ReplyOf::NotReady);
     };
-    if waiting > OUTBOX_LIMIT - (length + 1) {
-        return Err(EventFault::OutboxFull);
+    if let Some(fault) = outbox_fault(waiting, packet.bytes.as_bytes().len()) {
+        return Err(fault);
     }
     if is_full_at(places, place) {
         return Err(EventFault::TraceFull);
@@ -123,7 +121,7 @@ fn do_send<T: TokenKind, P: Place<T>>(
         return Err(EventFault::NoMemory);
     };
     let number = place.saturating_sub(switches);
-    act_alone(places, place, number, stamp, ActOf::Send(copy))
+    act_ready(places, place, number, stamp, ActOf::Send(copy))
 }
 
 /// Does what an event asks at these places, or changes nothing.
@@ -135,13 +133,8 @@ pub fn do_acts<T: TokenKind, P: Place<T>>(
     stamp: Stamp,
 ) -> Result<ReplyOf<T>, EventFault>
     requires { AreEnds plan.now asked }
-    ensures ends { ActsEnd T.kind plan.now (map P.state places.old) (acts_asked asked.entry)
-        (acts_full plan.now (map P.full places.old) (acts_asked asked.entry)) result (map P.state places.new) }
-    ensures free { IfOk result (λ told. is_ready told ≡ true →
-        acts_full plan.now (map P.full places.old) (acts_asked asked.entry) ≡ false) }
-    ensures start { map P.start places.new ≡ map P.start places.old }
-    ensures trace { map P.trace places.new ≡ noted_all P.keeps (map P.trace places.old)
-        (kept_of (acts_kept T.kind plan.now stamp (acts_asked asked.entry)) result) }
+    ensures { ActsDone T.kind P.keeps plan.now stamp (acts_asked asked.entry)
+        (map P.shown places.old) result (map P.shown places.new) }
 {
     let switches = plan.switches().len();
     match asked {

@@ -1,14 +1,7 @@
 //! The events of a network, over any places of its nodes: one act, or one at each end of a wire.
-ghost use Rattle.std.specs.Prelude.{◌≡◌, ◌+◌, ℕ, ◌++◌, ◌∷◌, [], List, true, false, map, IfOk};
+ghost use Rattle.std.specs.Prelude.{◌≡◌, map};
 ghost use Rattle.c104_describe.specs.Plans.{IsPlan};
-ghost use Rattle.c104_net.specs.Network.{AnswersWith, network_of};
-ghost use Rattle.c104_net.specs.AskedActs.{told_answer};
-ghost use Rattle.c104_net.specs.Traces.{event_deeds, event_full, kept_of, noted_all, seatless};
-ghost use Rattle.c104_net.specs.Balance.{AreInPlace};
-ghost use Rattle.c104_net.specs.Nodes.{Node};
-ghost use Rattle.c104_net.specs.Runs.{IsRunRecord};
-ghost use Rattle.c104_event.specs.declared.events.Event.{Event as TheEvent};
-ghost use Rattle.c104_switch.specs.Actions.{is_ready, Reply as TheReply};
+ghost use Rattle.c104_net.specs.EventsAtPlaces.{EventDone, told_answer};
 
 use crate::asked::acts_of;
 use crate::doing::do_acts;
@@ -19,52 +12,19 @@ use c104_event::{Event, EventFault};
 use c104_switch::{Reply, ReplyOf};
 use c104_token::TokenKind;
 
-/// Does an event at these places, which stand for the nodes of a network of this plan. Its entries bear
-/// the stamp.
+/// Does an event at these places, which stand for the nodes of a network of this plan: the acts that it asks, or none.
+/// Its entries bear the stamp.
 pub fn happen<T: TokenKind, P: Place<T>>(
     wires: &Wires,
     places: &mut [P],
     stamp: Stamp,
     event: &Event,
 ) -> Result<Reply, EventFault>
-    ensures answers { AnswersWith T.kind (event_full wires.now (map P.full places.old) event.now)
-        (network_of wires.now (map P.state places.old)) event.now
-        result (network_of wires.now (map P.state places.new)) }
-    ensures free { IfOk result (λ reply. is_ready reply ≡ true →
-        event_full wires.now (map P.full places.old) event.now ≡ false) }
-    ensures start { map P.start places.new ≡ map P.start places.old }
-    ensures trace { map P.trace places.new ≡ noted_all P.keeps (map P.trace places.old)
-        (kept_of (event_deeds wires.now stamp event.now) result) }
-    ensures kept { IsPlan wires.now }
-    ensures recorded { (start : List (Node T)) (events : List (TheEvent × TheReply)) (count : ℕ) →
-        stamp ≡ seatless count → P.keeps ≡ true → AreInPlace wires.now (map P.state places.old) →
-        IsRunRecord T.kind wires.now seatless start
-        (map P.state places.old) (map P.trace places.old) count events →
-        IfOk result (λ reply. is_ready reply ≡ true → IsRunRecord T.kind wires.now seatless start
-        (map P.state places.new) (map P.trace places.new) (count + 1)
-        (events ++ (event.now, reply) ∷ [])) }
-{
-    do_event(wires, places, stamp, event)
-}
-
-/// Does an event at these places: the acts that it asks, or none.
-fn do_event<T: TokenKind, P: Place<T>>(
-    wires: &Wires,
-    places: &mut [P],
-    stamp: Stamp,
-    event: &Event,
-) -> Result<Reply, EventFault>
-    ensures answers { AnswersWith T.kind (event_full wires.now (map P.full places.old) event.now)
-        (network_of wires.now (map P.state places.old)) event.now
-        result (network_of wires.now (map P.state places.new)) }
-    ensures free { IfOk result (λ reply. is_ready reply ≡ true →
-        event_full wires.now (map P.full places.old) event.now ≡ false) }
-    ensures start { map P.start places.new ≡ map P.start places.old }
-    ensures trace { map P.trace places.new ≡ noted_all P.keeps (map P.trace places.old)
-        (kept_of (event_deeds wires.now stamp event.now) result) }
+    ensures done { EventDone T.kind P.keeps wires.now stamp event.now (map P.shown places.old) result (map P.shown places.new) }
     ensures kept { IsPlan wires.now }
 {
-    // Each kind has code of its own, in which it is known what acts are asked.
+    // Each arm is a code of its own for its kind of event, in which it is known what acts are asked: a control command
+    // takes about 70 instructions less than by one call for all kinds.
     match event {
         Event::Cross(_) => do_asked(wires, places, stamp, event),
         Event::Credit(_) => do_asked(wires, places, stamp, event),
@@ -84,14 +44,7 @@ fn do_asked<T: TokenKind, P: Place<T>>(
     stamp: Stamp,
     event: &Event,
 ) -> Result<Reply, EventFault>
-    ensures answers { AnswersWith T.kind (event_full wires.now (map P.full places.old) event.now)
-        (network_of wires.now (map P.state places.old)) event.now
-        result (network_of wires.now (map P.state places.new)) }
-    ensures free { IfOk result (λ reply. is_ready reply ≡ true →
-        event_full wires.now (map P.full places.old) event.now ≡ false) }
-    ensures start { map P.start places.new ≡ map P.start places.old }
-    ensures trace { map P.trace places.new ≡ noted_all P.keeps (map P.trace places.old)
-        (kept_of (event_deeds wires.now stamp event.now) result) }
+    ensures done { EventDone T.kind P.keeps wires.now stamp event.now (map P.shown places.old) result (map P.shown places.new) }
     ensures kept { IsPlan wires.now }
 {
     let plan = wires.plan();

@@ -1,17 +1,17 @@
 //! What crosses a wire, done at the nodes of both its ends, or at neither.
-ghost use Rattle.std.specs.Prelude.{◌≡◌, ◌≢◌, ◌<◌, ◌||◌, ℕ, Some, map, length, true, false, IfOk, is_some, OnOk};
+ghost use Rattle.std.specs.Prelude.{◌≡◌, ◌≢◌, ◌<◌, ◌||◌, ℕ, Some, map, length, true, false, is_some, OnOk};
 ghost use Rattle.c104_switch.specs.Actions.{is_ready};
 ghost use Rattle.c104_switch.specs.declared.actions.ReplyOf.{ReplyOf as TheReply};
-ghost use Rattle.c104_switch.specs.declared.actions.ReplyOf.TheVariants as reply;
-ghost use Rattle.c104_net.specs.Acts.{nodes_act, reply_outcome};
+ghost use Rattle.c104_net.specs.Acts.{nodes_act};
 ghost use Rattle.c104_net.specs.EventActs.{IsAnswerOf, far_act, joint_step, near_act};
-ghost use Rattle.c104_net.specs.Places.{HasRoomAt, StepEnds};
-ghost use Rattle.c104_net.specs.Traces.{full_at, joint_deeds, kept_entry, kept_of, noted_all, noted_at};
+ghost use Rattle.c104_net.specs.PlaceActs.{JointDone};
+ghost use Rattle.c104_net.specs.Places.{HasRoomAt, fulls, starts, states, traces};
+ghost use Rattle.c104_net.specs.Traces.{full_at, joint_deeds, noted_all};
 
 use crate::acts::ActOf;
 use crate::crossings::{Crossing, Joint, can_far, can_near, far_act, near_act};
 use crate::place::Place;
-use crate::places::{act_sure, is_full_at, room_at};
+use crate::places::{act_sure, is_full_at, node_at, room_at};
 use crate::stamps::Stamp;
 use c104_event::{EventFault, Port};
 use c104_switch::ReplyOf;
@@ -27,18 +27,7 @@ pub fn joint_at<T: TokenKind, P: Place<T>>(
     stamp: Stamp,
 ) -> Result<ReplyOf<T>, EventFault>
     requires { near ≢ far }
-    ensures ends { StepEnds
-        (reply_outcome
-        (joint_step T.kind near far joint.near joint.far joint.crossing (map P.state places.old))
-        (map P.state places.old))
-        (is_some (joint_step T.kind near far joint.near joint.far joint.crossing (map P.state places.old)))
-        (full_at (map P.full places.old) near || full_at (map P.full places.old) far)
-        (map P.state places.old) result (map P.state places.new) }
-    ensures free { IfOk result (λ told. is_ready told ≡ true →
-        (full_at (map P.full places.old) near || full_at (map P.full places.old) far) ≡ false) }
-    ensures start { map P.start places.new ≡ map P.start places.old }
-    ensures trace { map P.trace places.new ≡ noted_all P.keeps (map P.trace places.old)
-        (kept_of (joint_deeds T.kind stamp near far joint.near joint.far joint.crossing) result) }
+    ensures { JointDone T.kind P.keeps near far joint stamp (map P.shown places.old) result (map P.shown places.new) }
 {
     if !can_near_at(places, near, joint.crossing, joint.near) {
         return Ok(ReplyOf::NotReady);
@@ -57,19 +46,8 @@ pub fn joint_from<T: TokenKind, P: Place<T>>(
 ) -> Result<ReplyOf<T>, EventFault>
     requires apart { near ≢ far }
     requires goes { is_some
-        (nodes_act T.kind (map P.state places.old) near 0 (near_act joint.crossing joint.near)) ≡ true }
-    ensures ends { StepEnds
-        (reply_outcome
-        (joint_step T.kind near far joint.near joint.far joint.crossing (map P.state places.old))
-        (map P.state places.old))
-        (is_some (joint_step T.kind near far joint.near joint.far joint.crossing (map P.state places.old)))
-        (full_at (map P.full places.old) near || full_at (map P.full places.old) far)
-        (map P.state places.old) result (map P.state places.new) }
-    ensures free { IfOk result (λ told. is_ready told ≡ true →
-        (full_at (map P.full places.old) near || full_at (map P.full places.old) far) ≡ false) }
-    ensures start { map P.start places.new ≡ map P.start places.old }
-    ensures trace { map P.trace places.new ≡ noted_all P.keeps (map P.trace places.old)
-        (kept_of (joint_deeds T.kind stamp near far joint.near joint.far joint.crossing) result) }
+        (nodes_act T.kind (states (map P.shown places.old)) near 0 (near_act joint.crossing joint.near)) ≡ true }
+    ensures { JointDone T.kind P.keeps near far joint stamp (map P.shown places.old) result (map P.shown places.new) }
 {
     if !can_far_at(places, far, joint) {
         return Ok(ReplyOf::NotReady);
@@ -90,10 +68,10 @@ pub fn can_near_at<T: TokenKind, P: Place<T>>(
     crossing: Crossing,
     port: Port,
 ) -> bool
-    ensures { result ≡ is_some (nodes_act T.kind (map P.state places.now) place 0 (near_act crossing port)) }
+    ensures { result ≡ is_some (nodes_act T.kind (states (map P.shown places.now)) place 0 (near_act crossing port)) }
 {
-    match places.get(place) {
-        Some(found) => can_near(found.node(), crossing, port),
+    match node_at(places, place) {
+        Some(node) => can_near(node, crossing, port),
         None => false,
     }
 }
@@ -102,11 +80,11 @@ pub fn can_near_at<T: TokenKind, P: Place<T>>(
 #[inline(always)]
 fn can_far_at<T: TokenKind, P: Place<T>>(places: &[P], place: usize, joint: Joint) -> bool
     ensures ready { (reply : TheReply T) → IsAnswerOf joint.crossing reply →
-        result ≡ is_some (nodes_act T.kind (map P.state places.now) place 0 (far_act joint.far reply)) }
+        result ≡ is_some (nodes_act T.kind (states (map P.shown places.now)) place 0 (far_act joint.far reply)) }
     ensures inside { result ≡ true → place < length places.now }
 {
-    match places.get(place) {
-        Some(found) => can_far(found.node(), joint.crossing, joint.far),
+    match node_at(places, place) {
+        Some(node) => can_far(node, joint.crossing, joint.far),
         None => false,
     }
 }
@@ -114,11 +92,11 @@ fn can_far_at<T: TokenKind, P: Place<T>>(places: &[P], place: usize, joint: Join
 /// The act of the node at a place, at the port from which something crosses, where it would do it.
 #[inline(always)]
 fn near_act_at<T: TokenKind, P: Place<T>>(places: &[P], place: usize, joint: Joint) -> ActOf<T>
-    requires { is_some (nodes_act T.kind (map P.state places.now) place 0 (near_act joint.crossing joint.near)) ≡ true }
+    requires { is_some (nodes_act T.kind (states (map P.shown places.now)) place 0 (near_act joint.crossing joint.near)) ≡ true }
     ensures { result ≡ near_act joint.crossing joint.near }
 {
-    match places.get(place) {
-        Some(found) => near_act(found.node(), joint.crossing, joint.near),
+    match node_at(places, place) {
+        Some(node) => near_act(node, joint.crossing, joint.near),
         None => unreachable!(),
     }
 }
@@ -132,11 +110,11 @@ fn far_act_at<T: TokenKind, P: Place<T>>(
     told: &ReplyOf<T>,
 ) -> ActOf<T>
     requires answer { IsAnswerOf joint.crossing told.now }
-    requires ready { is_some (nodes_act T.kind (map P.state places.now) place 0 (far_act joint.far told.now)) ≡ true }
+    requires ready { is_some (nodes_act T.kind (states (map P.shown places.now)) place 0 (far_act joint.far told.now)) ≡ true }
     ensures { result ≡ far_act joint.far told.now }
 {
-    match places.get(place) {
-        Some(found) => far_act(found.node(), joint.crossing, joint.far, told),
+    match node_at(places, place) {
+        Some(node) => far_act(node, joint.crossing, joint.far, told),
         None => unreachable!(),
     }
 }
@@ -144,7 +122,7 @@ fn far_act_at<T: TokenKind, P: Place<T>>(
 /// Whether no further entry may be kept at one of two places.
 #[inline(always)]
 fn are_full_at<T: TokenKind, P: Place<T>>(places: &[P], near: usize, far: usize) -> bool
-    ensures { result ≡ (full_at (map P.full places.now) near || full_at (map P.full places.now) far) }
+    ensures { result ≡ (full_at (fulls (map P.shown places.now)) near || full_at (fulls (map P.shown places.now)) far) }
 {
     is_full_at(places, near) || is_full_at(places, far)
 }
@@ -159,10 +137,8 @@ fn room_at_both<T: TokenKind, P: Place<T>>(
     requires apart { near ≢ far }
     requires near { near < length places.old }
     requires far { far < length places.old }
-    requires free { (full_at (map P.full places.old) near || full_at (map P.full places.old) far) ≡ false }
-    ensures state { map P.state places.new ≡ map P.state places.old }
-    ensures start { map P.start places.new ≡ map P.start places.old }
-    ensures trace { map P.trace places.new ≡ map P.trace places.old }
+    requires free { (full_at (fulls (map P.shown places.old)) near || full_at (fulls (map P.shown places.old)) far) ≡ false }
+    ensures shown { map P.shown places.new ≡ map P.shown places.old }
     ensures near { OnOk result (HasRoomAt P.has_room places.new near) }
     ensures far { OnOk result (HasRoomAt P.has_room places.new far) }
 {
@@ -185,14 +161,14 @@ fn cross_open<T: TokenKind, P: Place<T>>(
     requires near_room { HasRoomAt P.has_room places.old near }
     requires far_room { HasRoomAt P.has_room places.old far }
     requires goes { is_some
-        (nodes_act T.kind (map P.state places.old) near 0 (near_act joint.crossing joint.near)) ≡ true }
+        (nodes_act T.kind (states (map P.shown places.old)) near 0 (near_act joint.crossing joint.near)) ≡ true }
     requires comes { (reply : TheReply T) → IsAnswerOf joint.crossing reply → is_some
-        (nodes_act T.kind (map P.state places.old) far 0 (far_act joint.far reply)) ≡ true }
-    ensures crossed { joint_step T.kind near far joint.near joint.far joint.crossing (map P.state places.old)
-        ≡ Some (result, map P.state places.new) }
+        (nodes_act T.kind (states (map P.shown places.old)) far 0 (far_act joint.far reply)) ≡ true }
+    ensures crossed { joint_step T.kind near far joint.near joint.far joint.crossing (states (map P.shown places.old))
+        ≡ Some (result, states (map P.shown places.new)) }
     ensures done { is_ready result ≡ true }
-    ensures start { map P.start places.new ≡ map P.start places.old }
-    ensures trace { map P.trace places.new ≡ noted_all P.keeps (map P.trace places.old)
+    ensures start { starts (map P.shown places.new) ≡ starts (map P.shown places.old) }
+    ensures trace { traces (map P.shown places.new) ≡ noted_all P.keeps (traces (map P.shown places.old))
         (joint_deeds T.kind stamp near far joint.near joint.far joint.crossing result) }
 {
     let going = near_act_at(places, near, joint);

@@ -2,9 +2,12 @@
 ghost use Rattle.std.specs.Prelude.{◌≡◌, map};
 ghost use Rattle.std.specs.Option.{option_copied};
 ghost use Rattle.c104_net.specs.Network.{network_of};
-ghost use Rattle.c104_net.specs.Views.{network_input_token, network_output_token, network_sent_packet, nodes_input_token, nodes_output_token, nodes_sent_packet};
+ghost use Rattle.c104_net.specs.Views.{network_input_token, network_output_token, network_sent_packet};
+ghost use Rattle.c104_net.specs.Views.{nodes_input_token, nodes_output_token, nodes_sent_packet};
+ghost use Rattle.c104_net.specs.Places.{states};
 
 use crate::place::Place;
+use crate::places::node_at;
 use crate::wires::Wires;
 use c104_event::Port;
 use c104_token::{Packet, TokenKind};
@@ -16,21 +19,20 @@ pub fn input_token_at<T: TokenKind, P: Place<T>>(
     port: Port,
     index: usize,
 ) -> Option<T>
-    ensures { result ≡ network_input_token (network_of wires.now (map P.state places.now)) port index }
+    ensures { result ≡ network_input_token (network_of wires.now (states (map P.shown places.now))) port index }
 {
-    let plan = wires.plan();
     match port {
         Port::Switch(switch, link) => {
-            if switch >= plan.switches().len() {
+            if switch >= wires.switch_count() {
                 return None;
             }
             input_token_place(places, switch, link, index)
         }
         Port::Terminal(terminal) => {
-            if terminal >= plan.terminals().len() {
+            if terminal >= wires.terminal_count() {
                 return None;
             }
-            let place = plan.switches().len() + terminal;
+            let place = wires.terminal_place(terminal);
             input_token_place(places, place, 0, index)
         }
     }
@@ -43,10 +45,10 @@ fn input_token_place<T: TokenKind, P: Place<T>>(
     link: usize,
     index: usize,
 ) -> Option<T>
-    ensures { result ≡ nodes_input_token (map P.state places.now) place link index }
+    ensures { result ≡ nodes_input_token (states (map P.shown places.now)) place link index }
 {
-    match places.get(place) {
-        Some(found) => found.node().input_token(link, index),
+    match node_at(places, place) {
+        Some(node) => node.input_token(link, index),
         None => None,
     }
 }
@@ -60,9 +62,9 @@ pub fn output_token_at<T: TokenKind, P: Place<T>>(
     link: usize,
     index: usize,
 ) -> Option<T>
-    ensures { result ≡ network_output_token (network_of wires.now (map P.state places.now)) switch link index }
+    ensures { result ≡ network_output_token (network_of wires.now (states (map P.shown places.now))) switch link index }
 {
-    if switch >= wires.plan().switches().len() {
+    if switch >= wires.switch_count() {
         return None;
     }
     output_token_place(places, switch, link, index)
@@ -75,10 +77,10 @@ fn output_token_place<T: TokenKind, P: Place<T>>(
     link: usize,
     index: usize,
 ) -> Option<T>
-    ensures { result ≡ nodes_output_token (map P.state places.now) place link index }
+    ensures { result ≡ nodes_output_token (states (map P.shown places.now)) place link index }
 {
-    match places.get(place) {
-        Some(found) => found.node().output_token(link, index),
+    match node_at(places, place) {
+        Some(node) => node.output_token(link, index),
         None => None,
     }
 }
@@ -90,13 +92,12 @@ pub fn sent_packet_at<'a, T: TokenKind + 'a, P: Place<T>>(
     terminal: usize,
     number: usize,
 ) -> Option<&'a Packet>
-    ensures { option_copied result ≡ network_sent_packet (network_of wires.now (map P.state places.now)) terminal number }
+    ensures { option_copied result ≡ network_sent_packet (network_of wires.now (states (map P.shown places.now))) terminal number }
 {
-    let plan = wires.plan();
-    if terminal >= plan.terminals().len() {
+    if terminal >= wires.terminal_count() {
         return None;
     }
-    let place = plan.switches().len() + terminal;
+    let place = wires.terminal_place(terminal);
     sent_packet_place(places, place, number)
 }
 
@@ -106,10 +107,10 @@ fn sent_packet_place<'a, T: TokenKind + 'a, P: Place<T>>(
     place: usize,
     number: usize,
 ) -> Option<&'a Packet>
-    ensures { option_copied result ≡ nodes_sent_packet (map P.state places.now) place number }
+    ensures { option_copied result ≡ nodes_sent_packet (states (map P.shown places.now)) place number }
 {
-    match places.get(place) {
-        Some(found) => found.node().sent_packet(number),
+    match node_at(places, place) {
+        Some(node) => node.sent_packet(number),
         None => None,
     }
 }

@@ -6,8 +6,10 @@ ghost use Rattle.c104_net.specs.Network.{network_arrived, network_of, network_pe
 ghost use Rattle.c104_net.specs.Nodes.{nodes_arrived, nodes_peek};
 ghost use Rattle.c104_net.specs.Quiet.{IsQuietNode};
 ghost use Rattle.c104_net.specs.Views.{network_link_view, network_terminal_view, nodes_link_view, nodes_terminal_view};
+ghost use Rattle.c104_net.specs.Places.{states};
 
 use crate::place::Place;
+use crate::places::node_at;
 use crate::terminal::TerminalView;
 use crate::wires::Wires;
 use c104_switch::LinkView;
@@ -20,9 +22,9 @@ pub fn peek_at<T: TokenKind, P: Place<T>>(
     switch: usize,
     addr: u16,
 ) -> Option<u32>
-    ensures { result ≡ network_peek (network_of wires.now (map P.state places.now)) switch addr }
+    ensures { result ≡ network_peek (network_of wires.now (states (map P.shown places.now))) switch addr }
 {
-    if switch >= wires.plan().switches().len() {
+    if switch >= wires.switch_count() {
         return None;
     }
     peek_place(places, switch, addr)
@@ -30,10 +32,10 @@ pub fn peek_at<T: TokenKind, P: Place<T>>(
 
 /// The value of a register of the node at a place.
 fn peek_place<T: TokenKind, P: Place<T>>(places: &[P], place: usize, addr: u16) -> Option<u32>
-    ensures { result ≡ nodes_peek (map P.state places.now) place addr }
+    ensures { result ≡ nodes_peek (states (map P.shown places.now)) place addr }
 {
-    match places.get(place) {
-        Some(found) => found.node().peek(addr),
+    match node_at(places, place) {
+        Some(node) => node.peek(addr),
         None => None,
     }
 }
@@ -45,9 +47,9 @@ pub fn view_link_at<T: TokenKind, P: Place<T>>(
     switch: usize,
     link: usize,
 ) -> Option<LinkView>
-    ensures { result ≡ network_link_view T.kind (network_of wires.now (map P.state places.now)) switch link }
+    ensures { result ≡ network_link_view T.kind (network_of wires.now (states (map P.shown places.now))) switch link }
 {
-    if switch >= wires.plan().switches().len() {
+    if switch >= wires.switch_count() {
         return None;
     }
     view_link_place(places, switch, link)
@@ -59,10 +61,10 @@ fn view_link_place<T: TokenKind, P: Place<T>>(
     place: usize,
     link: usize,
 ) -> Option<LinkView>
-    ensures { result ≡ nodes_link_view T.kind (map P.state places.now) place link }
+    ensures { result ≡ nodes_link_view T.kind (states (map P.shown places.now)) place link }
 {
-    match places.get(place) {
-        Some(found) => found.node().view_link(link),
+    match node_at(places, place) {
+        Some(node) => node.view_link(link),
         None => None,
     }
 }
@@ -73,13 +75,12 @@ pub fn view_terminal_at<T: TokenKind, P: Place<T>>(
     places: &[P],
     terminal: usize,
 ) -> Option<TerminalView>
-    ensures { result ≡ network_terminal_view (network_of wires.now (map P.state places.now)) terminal }
+    ensures { result ≡ network_terminal_view (network_of wires.now (states (map P.shown places.now))) terminal }
 {
-    let plan = wires.plan();
-    if terminal >= plan.terminals().len() {
+    if terminal >= wires.terminal_count() {
         return None;
     }
-    let place = plan.switches().len() + terminal;
+    let place = wires.terminal_place(terminal);
     view_terminal_place(places, place)
 }
 
@@ -88,10 +89,10 @@ fn view_terminal_place<T: TokenKind, P: Place<T>>(
     places: &[P],
     place: usize,
 ) -> Option<TerminalView>
-    ensures { result ≡ nodes_terminal_view (map P.state places.now) place }
+    ensures { result ≡ nodes_terminal_view (states (map P.shown places.now)) place }
 {
-    match places.get(place) {
-        Some(found) => found.node().view_terminal(),
+    match node_at(places, place) {
+        Some(node) => node.view_terminal(),
         None => None,
     }
 }
@@ -102,29 +103,28 @@ pub fn arrived_at<'a, T: TokenKind, P: Place<T>>(
     places: &'a [P],
     terminal: usize,
 ) -> Option<&'a [T]>
-    ensures { option_copied result ≡ network_arrived (network_of wires.now (map P.state places.now)) terminal }
+    ensures { option_copied result ≡ network_arrived (network_of wires.now (states (map P.shown places.now))) terminal }
 {
-    let plan = wires.plan();
-    if terminal >= plan.terminals().len() {
+    if terminal >= wires.terminal_count() {
         return None;
     }
-    let place = plan.switches().len() + terminal;
+    let place = wires.terminal_place(terminal);
     arrived_place(places, place)
 }
 
 /// The tokens that arrived at the node at a place, if it is a terminal.
 fn arrived_place<T: TokenKind, P: Place<T>>(places: &[P], place: usize) -> Option<&[T]>
-    ensures { option_copied result ≡ nodes_arrived (map P.state places.now) place }
+    ensures { option_copied result ≡ nodes_arrived (states (map P.shown places.now)) place }
 {
-    match places.get(place) {
-        Some(found) => found.node().arrived(),
+    match node_at(places, place) {
+        Some(node) => node.arrived(),
         None => None,
     }
 }
 
 /// Whether all of these nodes are quiet.
 pub fn are_quiet<T: TokenKind, P: Place<T>>(places: &[P]) -> bool
-    ensures { IsTrue result ↔ All IsQuietNode (map P.state places.now) }
+    ensures { IsTrue result ↔ All IsQuietNode (states (map P.shown places.now)) }
 {
     for place in places {
         if !place.node().is_quiet() {

@@ -4,10 +4,13 @@ ghost use Rattle.c104_event.specs.declared.events.Event.TheVariants as event;
 ghost use Rattle.c104_switch.specs.Reasons.{why_at};
 ghost use Rattle.c104_net.specs.Network.{network_of};
 ghost use Rattle.c104_net.specs.Reasons.{claim_reason, end_why, network_why};
-ghost use Rattle.c104_net.specs.Reasons.{node_enter_why, node_leave_why, node_credit_out_why, node_credit_in_why, node_input_why, node_claim_why, node_drain_why};
+ghost use Rattle.c104_net.specs.Reasons.{node_enter_why, node_leave_why, node_credit_out_why, node_credit_in_why};
+ghost use Rattle.c104_net.specs.Reasons.{node_input_why, node_claim_why, node_drain_why};
+ghost use Rattle.c104_net.specs.Places.{states};
 
 use crate::ends::End;
 use crate::place::Place;
+use crate::places::node_at;
 use crate::reason::Reason;
 use crate::wires::Wires;
 use c104_event::{Event, Port};
@@ -20,7 +23,7 @@ pub fn first_reason<T: TokenKind, P: Place<T>>(
     places: &[P],
     event: &Event,
 ) -> Option<Reason>
-    ensures { result ≡ network_why (network_of wires.now (map P.state places.now)) event.now }
+    ensures { result ≡ network_why (network_of wires.now (states (map P.shown places.now))) event.now }
 {
     match event {
         Event::Cross(port) => why_cross(wires, places, *port),
@@ -42,7 +45,7 @@ pub fn first_reason<T: TokenKind, P: Place<T>>(
 
 /// Why no token crosses the wire at a port.
 fn why_cross<T: TokenKind, P: Place<T>>(wires: &Wires, places: &[P], port: Port) -> Option<Reason>
-    ensures { result ≡ network_why (network_of wires.now (map P.state places.now)) (event.Cross port) }
+    ensures { result ≡ network_why (network_of wires.now (states (map P.shown places.now))) (event.Cross port) }
 {
     let Ok(ends) = wires.ends(port) else {
         return None;
@@ -60,7 +63,7 @@ fn why_cross<T: TokenKind, P: Place<T>>(wires: &Wires, places: &[P], port: Port)
 
 /// Why a port grants no eight more tokens to the other end of its wire.
 fn why_credit<T: TokenKind, P: Place<T>>(wires: &Wires, places: &[P], port: Port) -> Option<Reason>
-    ensures { result ≡ network_why (network_of wires.now (map P.state places.now)) (event.Credit port) }
+    ensures { result ≡ network_why (network_of wires.now (states (map P.shown places.now))) (event.Credit port) }
 {
     let Ok(ends) = wires.ends(port) else {
         return None;
@@ -83,9 +86,9 @@ fn why_input<T: TokenKind, P: Place<T>>(
     switch: usize,
     link: usize,
 ) -> Option<Reason>
-    ensures { result ≡ network_why (network_of wires.now (map P.state places.now)) (event.Input switch link 0) }
+    ensures { result ≡ network_why (network_of wires.now (states (map P.shown places.now))) (event.Input switch link 0) }
 {
-    if switch >= wires.plan().switches().len() {
+    if switch >= wires.switch_count() {
         return None;
     }
     if link >= LINKS {
@@ -106,9 +109,9 @@ fn why_claim<T: TokenKind, P: Place<T>>(
     input: usize,
     output: usize,
 ) -> Option<Reason>
-    ensures { result ≡ network_why (network_of wires.now (map P.state places.now)) (event.Claim switch input output) }
+    ensures { result ≡ network_why (network_of wires.now (states (map P.shown places.now))) (event.Claim switch input output) }
 {
-    if switch >= wires.plan().switches().len() {
+    if switch >= wires.switch_count() {
         return None;
     }
     if input >= LINKS {
@@ -127,13 +130,12 @@ fn why_drain<T: TokenKind, P: Place<T>>(
     places: &[P],
     terminal: usize,
 ) -> Option<Reason>
-    ensures { result ≡ network_why (network_of wires.now (map P.state places.now)) (event.Drain terminal) }
+    ensures { result ≡ network_why (network_of wires.now (states (map P.shown places.now))) (event.Drain terminal) }
 {
-    let plan = wires.plan();
-    if terminal >= plan.terminals().len() {
+    if terminal >= wires.terminal_count() {
         return None;
     }
-    let place = plan.switches().len() + terminal;
+    let place = wires.terminal_place(terminal);
     let unready = why_drain_at(places, place)?;
     Some(Reason {
         port: Port::Terminal(terminal),
@@ -157,40 +159,40 @@ fn claim_reason(switch: usize, input: usize, output: usize, unready: Unready) ->
 
 /// Why no token can go out at an end of a wire.
 fn why_leave_at<T: TokenKind, P: Place<T>>(places: &[P], end: End) -> Option<Unready>
-    ensures { result ≡ end_why (map P.state places.now) end node_leave_why }
+    ensures { result ≡ end_why (states (map P.shown places.now)) end node_leave_why }
 {
-    match places.get(end.node) {
-        Some(found) => found.node().why_leave(end.link),
+    match node_at(places, end.node) {
+        Some(node) => node.why_leave(end.link),
         None => Some(Unready::NoLink),
     }
 }
 
 /// Why no token can come in at an end of a wire.
 fn why_enter_at<T: TokenKind, P: Place<T>>(places: &[P], end: End) -> Option<Unready>
-    ensures { result ≡ end_why (map P.state places.now) end node_enter_why }
+    ensures { result ≡ end_why (states (map P.shown places.now)) end node_enter_why }
 {
-    match places.get(end.node) {
-        Some(found) => found.node().why_enter(end.link),
+    match node_at(places, end.node) {
+        Some(node) => node.why_enter(end.link),
         None => Some(Unready::NoLink),
     }
 }
 
 /// Why an end of a wire can't grant eight more tokens.
 fn why_credit_out_at<T: TokenKind, P: Place<T>>(places: &[P], end: End) -> Option<Unready>
-    ensures { result ≡ end_why (map P.state places.now) end node_credit_out_why }
+    ensures { result ≡ end_why (states (map P.shown places.now)) end node_credit_out_why }
 {
-    match places.get(end.node) {
-        Some(found) => found.node().why_credit_out(end.link),
+    match node_at(places, end.node) {
+        Some(node) => node.why_credit_out(end.link),
         None => Some(Unready::NoLink),
     }
 }
 
 /// Why an end of a wire may not be granted eight more tokens.
 fn why_credit_in_at<T: TokenKind, P: Place<T>>(places: &[P], end: End) -> Option<Unready>
-    ensures { result ≡ end_why (map P.state places.now) end node_credit_in_why }
+    ensures { result ≡ end_why (states (map P.shown places.now)) end node_credit_in_why }
 {
-    match places.get(end.node) {
-        Some(found) => found.node().why_credit_in(end.link),
+    match node_at(places, end.node) {
+        Some(node) => node.why_credit_in(end.link),
         None => Some(Unready::NoLink),
     }
 }
@@ -201,10 +203,10 @@ fn why_input_at<T: TokenKind, P: Place<T>>(
     place: usize,
     link: usize,
 ) -> Option<Unready>
-    ensures { result ≡ why_at (map P.state places.now) place (node_input_why link) }
+    ensures { result ≡ why_at (states (map P.shown places.now)) place (node_input_why link) }
 {
-    match places.get(place) {
-        Some(found) => found.node().why_input(link),
+    match node_at(places, place) {
+        Some(node) => node.why_input(link),
         None => Some(Unready::NoLink),
     }
 }
@@ -216,20 +218,20 @@ fn why_claim_at<T: TokenKind, P: Place<T>>(
     input: usize,
     output: usize,
 ) -> Option<Unready>
-    ensures { result ≡ why_at (map P.state places.now) place (node_claim_why input output) }
+    ensures { result ≡ why_at (states (map P.shown places.now)) place (node_claim_why input output) }
 {
-    match places.get(place) {
-        Some(found) => found.node().why_claim(input, output),
+    match node_at(places, place) {
+        Some(node) => node.why_claim(input, output),
         None => Some(Unready::NoLink),
     }
 }
 
 /// Why no token can arrive at a place.
 fn why_drain_at<T: TokenKind, P: Place<T>>(places: &[P], place: usize) -> Option<Unready>
-    ensures { result ≡ why_at (map P.state places.now) place node_drain_why }
+    ensures { result ≡ why_at (states (map P.shown places.now)) place node_drain_why }
 {
-    match places.get(place) {
-        Some(found) => found.node().why_drain(),
+    match node_at(places, place) {
+        Some(node) => node.why_drain(),
         None => Some(Unready::NoLink),
     }
 }

@@ -108,20 +108,18 @@ fn write_start(core: &NodeOf<Token>, start: &mut NodeStart)
 }
 
 impl Place<Token> for Node {
-    ghost use Rattle.std.specs.Prelude.{◌≡◌, ◌<◌, ◌++◌, ◌∷◌, [], Some, length, true, false, nat_le, is_some, OnOk, MatchResult};
+    ghost use Rattle.std.specs.Prelude.{◌≡◌, ◌<◌, false, is_some, length, refl, true, OnOk};
     ghost use Rattle.c104_token.specs.Kinds.{plain_kind};
-    ghost use Rattle.c104_net.specs.Acts.{IsWithinLimits, node_act, reply_outcome, wants_memory};
-    ghost use Rattle.c104_net.specs.Traces.{kept_entry, trace_limit};
+    ghost use Rattle.c104_net.specs.Acts.{IsWithinLimits, node_act};
+    ghost use Rattle.c104_net.specs.PlaceActs.{ActEnds};
+    ghost use Rattle.c104_net.specs.RecordedPlaces.{node_shown};
+    ghost use Rattle.c104_net.specs.Traces.{trace_limit};
 
-    ghost state = { λ n. n.0.state };
+    ghost shown = { node_shown };
 
     ghost keeps = { true };
 
-    ghost trace = { λ n. n.0.trace };
-
-    ghost start = { λ n. Some n.0.start };
-
-    ghost full = { λ n. nat_le trace_limit (length n.0.trace) };
+    ghost limited = { λ n. refl };
 
     ghost has_room = { λ n. (0 < n.1) × (length n.0.trace < trace_limit) };
 
@@ -133,15 +131,15 @@ impl Place<Token> for Node {
 
     #[inline(always)]
     fn is_full(&self) -> bool
-        ensures { result ≡ nat_le trace_limit (length self.now.0.trace) }
+        ensures { result ≡ (node_shown self.now).full }
     {
         self.trace.len() >= TRACE_LIMIT
     }
 
     #[inline(always)]
     fn room(&mut self) -> Result<(), NoMemory>
-        requires { nat_le trace_limit (length self.old.0.trace) ≡ false }
-        ensures same { self.new.0 ≡ self.old.0 }
+        requires { (node_shown self.old).full ≡ false }
+        ensures shown { node_shown self.new ≡ node_shown self.old }
         ensures room { OnOk result ((0 < self.new.1) × (length self.new.0.trace < trace_limit)) }
     {
         self.trace.reserve(1)?;
@@ -153,16 +151,7 @@ impl Place<Token> for Node {
         requires short { IsWithinLimits act }
         requires room { (0 < self.old.1) × (length self.old.0.trace < trace_limit) }
         requires ready { is_some (node_act plain_kind number act self.old.0.state) ≡ true }
-        ensures acted { MatchResult result
-            (λ reply. (reply, self.new.0.state) ≡
-            reply_outcome (node_act plain_kind number act self.old.0.state) self.old.0.state)
-            (λ _. self.new.0.state ≡ self.old.0.state) }
-        ensures trace { MatchResult result
-            (λ reply. self.new.0.trace ≡
-            self.old.0.trace ++ kept_entry plain_kind stamp act reply ∷ [])
-            (λ _. self.new.0.trace ≡ self.old.0.trace) }
-        ensures start { self.new.0.start ≡ self.old.0.start }
-        ensures memory { MatchResult result (λ _. Unit {0}) (λ _. wants_memory act ≡ true) }
+        ensures { ActEnds plain_kind true number stamp act (node_shown self.old) result (node_shown self.new) }
     {
         let reply = self.core.act(number, &act)?;
         let told = same_reply(&reply);
@@ -184,7 +173,7 @@ impl RecordedPlace<Token> for Node {
     // Room for what is left at the end, so that `finish` takes no memory.
     type Room = RunParts;
 
-    ghost shown = { λ n. n.0.state };
+    ghost plain = { λ n. n.0.state };
 
     ghost begun_at = { λ n. n.0.start };
 

@@ -39,10 +39,10 @@ impl<T: TokenKind, P: RecordedPlace<T>> Model for RecordedNet<T, P> {
     ghost Value = { NetRecord };
 
     ghost view = { λ net.
-        places_record (reading T.kind P.state P.shown P.begun_at P.trace) net.wires net.places.items net.count };
+        places_record (reading T.kind P.shown P.plain P.begun_at) net.wires net.places.items net.count };
 
     ghost invariant = { λ net.
-        IsRecordedNet (reading T.kind P.state P.shown P.begun_at P.trace) net.wires net.places.items net.count
+        IsRecordedNet (reading T.kind P.shown P.plain P.begun_at) net.wires net.places.items net.count
         × P.fits net.wires net.room };
 }
 

@@ -1,11 +1,11 @@
 //! A place of a network that in contracts keeps a record: where its node started, and what it did since.
-ghost use Rattle.std.specs.Prelude.{◌≡◌, List, Option, []};
+ghost use Rattle.std.specs.Prelude.{◌≡◌};
 ghost use Rattle.c104_token.specs.declared.tokens.Token.{Token as TheToken};
 ghost use Rattle.c104_describe.specs.Plans.{Plan as ThePlan};
 ghost use Rattle.c104_net.specs.Nodes.{Node};
-ghost use Rattle.c104_net.specs.Quiet.{node_begin, IsQuietNode};
-ghost use Rattle.c104_net.specs.RecordedNets.{reading, KeepsRecord};
-ghost use Rattle.c104_net.specs.Starts.{start_node, start_of};
+ghost use Rattle.c104_net.specs.Quiet.{IsQuietNode};
+ghost use Rattle.c104_net.specs.RecordedNets.{begun_told, place_told, reading, KeepsRecord};
+ghost use Rattle.c104_net.specs.Starts.{start_node};
 ghost use Rattle.c104_net.specs.declared.starts.NodeStart.{NodeStart as TheStart};
 
 use crate::place::Place;
@@ -18,7 +18,7 @@ pub trait RecordedPlace<T: TokenKind>: Place<T> {
     type Room: Drop;
 
     /// The node over plain tokens.
-    ghost shown: { Self → Node TheToken };
+    ghost plain: { Self → Node TheToken };
 
     /// Where the node started.
     ghost begun_at: { Self → TheStart };
@@ -29,17 +29,15 @@ pub trait RecordedPlace<T: TokenKind>: Place<T> {
     /// Starts a run where the node stands, if it is quiet: what it sent and what arrived is forgotten, and
     /// what it did. It takes no memory.
     fn begin(&mut self)
-        requires { IsQuietNode (Self.state self.old) }
-        ensures begun { Self.state self.new ≡ node_begin (Self.state self.old) }
-        ensures start { begun_at self.new ≡ start_of (Self.state self.old) }
-        ensures trace { Self.trace self.new ≡ [] }
-        ensures stands { Self.state self.new ≡ start_node (begun_at self.new) };
+        requires { IsQuietNode (Self.shown self.old).state }
+        ensures begun { place_told Self.shown begun_at self.new ≡ begun_told (place_told Self.shown begun_at self.old) }
+        ensures stands { (Self.shown self.new).state ≡ start_node (begun_at self.new) };
 
     /// Disposes of the node, and of what is kept of it.
     fn retire(self);
 
     /// The place keeps the record that is seen.
-    ghost keeps_record: { KeepsRecord (reading T.kind Self.state shown begun_at Self.trace) Self.keeps Self.start Self.full };
+    ghost keeps_record: { KeepsRecord (reading T.kind Self.shown plain begun_at) Self.keeps };
 }
 
 /// Disposes of places.

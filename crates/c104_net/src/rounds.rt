@@ -2,12 +2,12 @@
 //!
 //! No list of a round's events is made. Each part walks what its events are about, and leaves out an
 //! event of which the near end says that it isn't ready: it would change nothing.
-ghost use Rattle.std.specs.Prelude.{◌≡◌};
+ghost use Rattle.std.specs.Prelude.{map, ◌≡◌};
 ghost use Rattle.c104_describe.specs.Plans.{IsPlan};
 ghost use Rattle.c104_net.specs.EventRuns.{EventsEnd};
 ghost use Rattle.c104_net.specs.Rounds.{round, rounds};
 ghost use Rattle.c104_net.specs.RoundParts.{PartEnds};
-ghost use Rattle.c104_net.specs.Stages.{is_kept_full, stage_apply, stage_of};
+ghost use Rattle.c104_net.specs.Stages.{stage_apply, stage_of};
 
 mod attempts;
 mod parts;
@@ -29,10 +29,9 @@ pub fn rounds_at<T: TokenKind, P: Place<T>, W: Watch>(
     times: u32,
     watch: &mut W,
 ) -> Result<(), EventFault>
-    requires full { (p : P) → P.full p ≡ is_kept_full P.keeps (P.trace p) }
     ensures ends { EventsEnd (stage_apply T.kind P.keeps)
-        (stage_of P.state P.start P.trace wires.now places.old count.old) (rounds wires.now times)
-        result (stage_of P.state P.start P.trace wires.now places.new count.new) }
+        (stage_of wires.now (map P.shown places.old) count.old) (rounds wires.now times)
+        result (stage_of wires.now (map P.shown places.new) count.new) }
     ensures kept { IsPlan wires.now }
 {
     let _plan = wires.plan();
@@ -53,10 +52,9 @@ fn round_at<T: TokenKind, P: Place<T>>(
     places: &mut [P],
     count: &mut u64,
 ) -> Result<bool, EventFault>
-    requires full { (p : P) → P.full p ≡ is_kept_full P.keeps (P.trace p) }
     ensures { PartEnds (stage_apply T.kind P.keeps)
-        (stage_of P.state P.start P.trace wires.now places.old count.old) (round wires.now)
-        result (stage_of P.state P.start P.trace wires.now places.new count.new) }
+        (stage_of wires.now (map P.shown places.old) count.old) (round wires.now)
+        result (stage_of wires.now (map P.shown places.new) count.new) }
 {
     let credited = credit_ports(wires, places, count)?;
     let crossed = cross_ports(wires, places, count)?;

@@ -1,6 +1,8 @@
 //! Whether a network stands still: whether no event of a round is ready.
 //!
 //! The events are asked in the order of a round, up to the first that is ready or refused. No list of them is made.
+#![tactic(auto, using(crate::proofs::StillParts::still_parts))]
+
 ghost use Rattle.std.specs.Prelude.{◌≡◌, flat_map, length, map};
 ghost use Rattle.std.specs.List.{range_with_len};
 ghost use Rattle.c104_net.specs.Network.{network_of};
@@ -8,6 +10,7 @@ ghost use Rattle.c104_net.specs.PortParts.{port_events, wired_events};
 ghost use Rattle.c104_net.specs.Rounds.{all_claims, all_drains, claims_of, round, switch_claims, turn_at};
 ghost use Rattle.c104_net.specs.Rounds.{wired_links, wired_ports, wired_terminals};
 ghost use Rattle.c104_net.specs.Standstill.{has_reason, have_reasons};
+ghost use Rattle.c104_net.specs.Places.{states};
 
 use crate::place::Place;
 use crate::port_part::PortPart;
@@ -19,7 +22,7 @@ use c104_token::TokenKind;
 
 /// Whether no event of a round is ready.
 pub fn round_stands<T: TokenKind, P: Place<T>>(wires: &Wires, places: &[P]) -> bool
-    ensures { result ≡ have_reasons (network_of wires.now (map P.state places.now)) (round wires.now) }
+    ensures { result ≡ have_reasons (network_of wires.now (states (map P.shown places.now))) (round wires.now) }
 {
     ports_stand(wires, places, PortPart::Credit)
         && ports_stand(wires, places, PortPart::Cross)
@@ -30,7 +33,7 @@ pub fn round_stands<T: TokenKind, P: Place<T>>(wires: &Wires, places: &[P]) -> b
 
 /// Whether no event of a part is ready at any wired port.
 fn ports_stand<T: TokenKind, P: Place<T>>(wires: &Wires, places: &[P], part: PortPart) -> bool
-    ensures { result ≡ have_reasons (network_of wires.now (map P.state places.now))
+    ensures { result ≡ have_reasons (network_of wires.now (states (map P.shown places.now)))
         (flat_map (port_events part) (wired_ports wires.now)) }
 {
     switches_stand(wires, places, part) && terminals_stand(wires, places, part)
@@ -38,11 +41,11 @@ fn ports_stand<T: TokenKind, P: Place<T>>(wires: &Wires, places: &[P], part: Por
 
 /// The same of the wired links of the switches.
 fn switches_stand<T: TokenKind, P: Place<T>>(wires: &Wires, places: &[P], part: PortPart) -> bool
-    ensures { result ≡ have_reasons (network_of wires.now (map P.state places.now))
+    ensures { result ≡ have_reasons (network_of wires.now (states (map P.shown places.now)))
         (flat_map (port_events part)
         (flat_map (wired_links wires.now) (range_with_len 0 (length wires.now.switches)))) }
 {
-    let switches = wires.plan().switches().len();
+    let switches = wires.switch_count();
     for switch in 0..switches {
         if !links_stand(wires, places, part, switch) {
             return false;
@@ -58,7 +61,7 @@ fn links_stand<T: TokenKind, P: Place<T>>(
     part: PortPart,
     switch: usize,
 ) -> bool
-    ensures { result ≡ have_reasons (network_of wires.now (map P.state places.now))
+    ensures { result ≡ have_reasons (network_of wires.now (states (map P.shown places.now)))
         (flat_map (port_events part) (wired_links wires.now switch)) }
 {
     for link in 0..LINKS {
@@ -71,10 +74,10 @@ fn links_stand<T: TokenKind, P: Place<T>>(
 
 /// The same of the wired terminals.
 fn terminals_stand<T: TokenKind, P: Place<T>>(wires: &Wires, places: &[P], part: PortPart) -> bool
-    ensures { result ≡ have_reasons (network_of wires.now (map P.state places.now))
+    ensures { result ≡ have_reasons (network_of wires.now (states (map P.shown places.now)))
         (flat_map (port_events part) (wired_terminals wires.now)) }
 {
-    let terminals = wires.plan().terminals().len();
+    let terminals = wires.terminal_count();
     for terminal in 0..terminals {
         if !port_stands(wires, places, part, Port::Terminal(terminal)) {
             return false;
@@ -90,7 +93,7 @@ fn port_stands<T: TokenKind, P: Place<T>>(
     part: PortPart,
     port: Port,
 ) -> bool
-    ensures { result ≡ have_reasons (network_of wires.now (map P.state places.now))
+    ensures { result ≡ have_reasons (network_of wires.now (states (map P.shown places.now)))
         (wired_events wires.now part port) }
 {
     if wires.plan().peer(port).is_none() {
@@ -105,7 +108,7 @@ fn port_stands<T: TokenKind, P: Place<T>>(
 
 /// Whether the input at a port, if it is a switch's, takes no turn.
 fn turn_stands<T: TokenKind, P: Place<T>>(wires: &Wires, places: &[P], port: Port) -> bool
-    ensures { result ≡ have_reasons (network_of wires.now (map P.state places.now)) (turn_at port) }
+    ensures { result ≡ have_reasons (network_of wires.now (states (map P.shown places.now))) (turn_at port) }
 {
     match port {
         Port::Switch(switch, link) => has_reason(
@@ -123,10 +126,10 @@ fn turn_stands<T: TokenKind, P: Place<T>>(wires: &Wires, places: &[P], port: Por
 
 /// Whether no claim is ready.
 fn claims_stand<T: TokenKind, P: Place<T>>(wires: &Wires, places: &[P]) -> bool
-    ensures { result ≡ have_reasons (network_of wires.now (map P.state places.now))
+    ensures { result ≡ have_reasons (network_of wires.now (states (map P.shown places.now)))
         (all_claims (length wires.now.switches)) }
 {
-    let switches = wires.plan().switches().len();
+    let switches = wires.switch_count();
     for switch in 0..switches {
         if !switch_claims_stand(wires, places, switch) {
             return false;
@@ -141,7 +144,7 @@ fn switch_claims_stand<T: TokenKind, P: Place<T>>(
     places: &[P],
     switch: usize,
 ) -> bool
-    ensures { result ≡ have_reasons (network_of wires.now (map P.state places.now)) (switch_claims switch) }
+    ensures { result ≡ have_reasons (network_of wires.now (states (map P.shown places.now))) (switch_claims switch) }
 {
     for input in 0..LINKS {
         if !input_claims_stand(wires, places, switch, input) {
@@ -158,7 +161,7 @@ fn input_claims_stand<T: TokenKind, P: Place<T>>(
     switch: usize,
     input: usize,
 ) -> bool
-    ensures { result ≡ have_reasons (network_of wires.now (map P.state places.now)) (claims_of switch input) }
+    ensures { result ≡ have_reasons (network_of wires.now (states (map P.shown places.now))) (claims_of switch input) }
 {
     for output in 0..LINKS {
         let claim = Event::Claim {
@@ -175,10 +178,10 @@ fn input_claims_stand<T: TokenKind, P: Place<T>>(
 
 /// Whether at no terminal a token arrives.
 fn drains_stand<T: TokenKind, P: Place<T>>(wires: &Wires, places: &[P]) -> bool
-    ensures { result ≡ have_reasons (network_of wires.now (map P.state places.now))
+    ensures { result ≡ have_reasons (network_of wires.now (states (map P.shown places.now)))
         (all_drains (length wires.now.terminals)) }
 {
-    let terminals = wires.plan().terminals().len();
+    let terminals = wires.terminal_count();
     for terminal in 0..terminals {
         if !has_reason(wires, places, &Event::Drain { terminal }) {
             return false;
@@ -189,7 +192,7 @@ fn drains_stand<T: TokenKind, P: Place<T>>(wires: &Wires, places: &[P]) -> bool
 
 /// Whether an event has a reason why it isn't ready.
 fn has_reason<T: TokenKind, P: Place<T>>(wires: &Wires, places: &[P], event: &Event) -> bool
-    ensures { result ≡ has_reason (network_of wires.now (map P.state places.now)) event.now }
+    ensures { result ≡ has_reason (network_of wires.now (states (map P.shown places.now))) event.now }
 {
     first_reason(wires, places, event).is_some()
 }

@@ -3,7 +3,8 @@ ghost use Rattle.std.specs.Prelude.{◌≡◌, ◌↔◌, ◌<◌, ◌≤◌, �
 ghost use Rattle.c104_token.specs.declared.text.TheConstants.{MAX_PACKET_BYTES};
 ghost use Rattle.c104_link.specs.Buffers.{IsValidCap};
 ghost use Rattle.c104_link.specs.Steps.{bool_outcome, option_outcome};
-ghost use Rattle.c104_net.specs.Terminals.{new_terminal, terminal_enter, terminal_leave, terminal_credit_out, terminal_credit_in, terminal_drain};
+ghost use Rattle.c104_net.specs.Terminals.{new_terminal, terminal_enter, terminal_leave, terminal_credit_out};
+ghost use Rattle.c104_net.specs.Terminals.{terminal_credit_in, terminal_drain};
 ghost use Rattle.c104_net.specs.Outboxes.{waiting_taken};
 ghost use Rattle.c104_net.specs.Terminals.{terminal_begin, terminal_send};
 

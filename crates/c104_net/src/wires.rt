@@ -6,7 +6,7 @@ ghost use Rattle.c104_describe.specs.Plans.{IsPlan};
 ghost use Rattle.c104_describe.specs.Wiring.{IsPlanPort};
 ghost use Rattle.c104_net.specs.Ends.{end_of};
 ghost use Rattle.c104_net.specs.FarEnds.{far_end, link_ends, terminal_ends};
-ghost use Rattle.c104_net.specs.Network.{wired_fault};
+ghost use Rattle.c104_net.specs.Network.{terminal_place, wired_fault};
 ghost use Rattle.c104_net.specs.Rounds.{is_wired};
 ghost use Rattle.c104_net.specs.LinkedSets.{AreLinked};
 ghost use Rattle.c104_regs.specs.declared.registers.TheConstants.{LINKS};
@@ -76,6 +76,31 @@ impl Wires {
         // The proof reads here what every plan keeps.
         let _switches = self.plan.switches();
         &self.plan
+    }
+
+    /// How many switches the plan has.
+    #[inline(always)]
+    pub fn switch_count(&self) -> usize
+        ensures { result ≡ length self.now.switches }
+    {
+        self.plan.switches().len()
+    }
+
+    /// How many terminals it has.
+    #[inline(always)]
+    pub fn terminal_count(&self) -> usize
+        ensures { result ≡ length self.now.terminals }
+    {
+        self.plan.terminals().len()
+    }
+
+    /// The place of a terminal among the nodes.
+    #[inline(always)]
+    pub fn terminal_place(&self, terminal: usize) -> usize
+        requires { terminal < length self.now.terminals }
+        ensures { result ≡ terminal_place self.now terminal }
+    {
+        self.plan.switches().len() + terminal
     }
 
     /// The wired links of a switch.

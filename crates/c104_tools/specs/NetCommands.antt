@@ -11,10 +11,10 @@ use Rattle.c104_net.specs.declared.acts.ActOf.{ActOf}
 use Rattle.c104_net.specs.declared.acts.ActOf.TheVariants as act
 use Rattle.c104_net.specs.declared.acts.Entry.{Entry}
 use Rattle.c104_net.specs.declared.node.NodeOf.TheVariants as node
-use Rattle.c104_net.specs.Network.{room_fault}
-use Rattle.c104_net.specs.NetRecords.{is_trace_full, NetRecord}
+use Rattle.c104_net.specs.Places.{room_fault}
+use Rattle.c104_net.specs.NetRecords.{NetRecord}
 use Rattle.c104_net.specs.Nodes.{Node}
-use Rattle.c104_net.specs.Traces.{full_at}
+use Rattle.c104_net.specs.Traces.{full_at, is_trace_full}
 use Rattle.c104_tools.specs.Ports.{Switches, command_asked}
 use Rattle.c104_tools.specs.declared.ports.Asked.{Asked}
 

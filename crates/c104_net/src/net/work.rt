@@ -9,7 +9,8 @@ ghost use Rattle.c104_check.specs.declared.ports.SwitchPort.{SwitchPort as TheIn
 ghost use Rattle.c104_describe.specs.Wiring.{peer};
 ghost use Rattle.c104_net.specs.NetRecords.{node_state};
 ghost use Rattle.c104_net.specs.Traces.{part};
-ghost use Rattle.c104_net.specs.Work.{header_held, input_work, inputs_work, level, link_work, node_work, outputs_work, terminal_work, told_work, work, work_bound};
+ghost use Rattle.c104_net.specs.Work.{header_held, input_work, inputs_work, level, link_work, node_work, outputs_work};
+ghost use Rattle.c104_net.specs.Work.{terminal_work, told_work, work, work_bound};
 ghost use Rattle.c104_regs.specs.declared.registers.TheConstants.{LINKS};
 
 use super::Net;

@@ -1,6 +1,7 @@
 //! Whether a network is quiet, and the start of a run there.
 ghost use Rattle.std.specs.Prelude.{◌≡◌, ◌↔◌, map, All, IsTrue};
 ghost use Rattle.c104_net.specs.NetRecords.{record_begun_if};
+ghost use Rattle.c104_net.specs.Places.{states};
 ghost use Rattle.c104_net.specs.Quiet.{IsQuiet, IsQuietNode};
 ghost use Rattle.c104_net.specs.RecordedNets.{begun_told, place_told};
 ghost use Rattle.c104_net.specs.Starts.{start_node};
@@ -36,10 +37,10 @@ impl<T: TokenKind, P: RecordedPlace<T>> RecordedNet<T, P> {
 
 /// All of these nodes, which are quiet, start a run.
 fn begin_all<T: TokenKind, P: RecordedPlace<T>>(places: &mut [P])
-    requires { All IsQuietNode (map P.state places.old) }
-    ensures begun { map (place_told P.state P.begun_at P.trace) places.new
-        ≡ map begun_told (map (place_told P.state P.begun_at P.trace) places.old) }
-    ensures stand { map start_node (map P.begun_at places.new) ≡ map P.state places.new }
+    requires { All IsQuietNode (states (map P.shown places.old)) }
+    ensures begun { map (place_told P.shown P.begun_at) places.new
+        ≡ map begun_told (map (place_told P.shown P.begun_at) places.old) }
+    ensures stand { map start_node (map P.begun_at places.new) ≡ states (map P.shown places.new) }
 {
     for place in places.iter_mut() {
         place.begin();

@@ -8,13 +8,14 @@ ghost use Rattle.c104_event.specs.declared.events.Event.{Event as TheEvent};
 ghost use Rattle.c104_event.specs.declared.events.Event.TheVariants as event;
 ghost use Rattle.c104_regs.specs.declared.registers.TheConstants.{LINKS};
 ghost use Rattle.c104_net.specs.Acts.{IsWithinLimits, nodes_act};
-ghost use Rattle.c104_net.specs.AskedActs.{told_answer};
+ghost use Rattle.c104_net.specs.EventsAtPlaces.{told_answer};
 ghost use Rattle.c104_net.specs.EventActs.{Acts};
 ghost use Rattle.c104_net.specs.EventActs.{crossing_acts, event_acts, near_act, port_place};
 ghost use Rattle.c104_net.specs.Network.{event_fault, wired_fault};
 ghost use Rattle.c104_net.specs.NetRecords.{is_done, ticket_after};
 ghost use Rattle.c104_net.specs.RoundParts.{PartEnds, done_answer};
-ghost use Rattle.c104_net.specs.Stages.{is_kept_full, stage_apply, stage_of};
+ghost use Rattle.c104_net.specs.Stages.{stage_apply, stage_of};
+ghost use Rattle.c104_net.specs.Places.{states};
 
 use crate::acts::ActOf;
 use crate::asked::far_port;
@@ -38,15 +39,14 @@ pub fn attempt_joint<T: TokenKind, P: Place<T>>(
     port: Port,
     crossing: Crossing,
 ) -> Result<bool, EventFault>
-    requires full { (p : P) → P.full p ≡ is_kept_full P.keeps (P.trace p) }
     requires wired { wired_fault wires.now port ≡ None }
     requires goes { is_some
-        (nodes_act T.kind (map P.state places.old) (port_place wires.now port) 0 (near_act crossing port)) ≡ true }
+        (nodes_act T.kind (states (map P.shown places.old)) (port_place wires.now port) 0 (near_act crossing port)) ≡ true }
     ensures { (e : TheEvent) → event_fault wires.now e ≡ None →
         event_acts {A = T} wires.now e ≡ crossing_acts crossing port (peer wires.now port) →
         PartEnds (stage_apply T.kind P.keeps)
-        (stage_of P.state P.start P.trace wires.now places.old count.old) (e ∷ [])
-        result (stage_of P.state P.start P.trace wires.now places.new count.new) }
+        (stage_of wires.now (map P.shown places.old) count.old) (e ∷ [])
+        result (stage_of wires.now (map P.shown places.new) count.new) }
 {
     let ends = wires.wired_ends(port);
     let joint = Joint {
@@ -71,11 +71,10 @@ pub fn attempt_turn<T: TokenKind, P: Place<T>>(
     switch: usize,
     link: usize,
 ) -> Result<bool, EventFault>
-    requires full { (p : P) → P.full p ≡ is_kept_full P.keeps (P.trace p) }
     requires wired { wired_fault wires.now (port.Switch switch link) ≡ None }
     ensures { PartEnds (stage_apply T.kind P.keeps)
-        (stage_of P.state P.start P.trace wires.now places.old count.old) (event.Input switch link 0 ∷ [])
-        result (stage_of P.state P.start P.trace wires.now places.new count.new) }
+        (stage_of wires.now (map P.shown places.old) count.old) (event.Input switch link 0 ∷ [])
+        result (stage_of wires.now (map P.shown places.new) count.new) }
 {
     let act = ActOf::Step(ActionOf::Input(link, 0));
     attempt_alone(wires, places, count, switch, act)
@@ -90,13 +89,12 @@ pub fn attempt_claim<T: TokenKind, P: Place<T>>(
     input: usize,
     output: usize,
 ) -> Result<bool, EventFault>
-    requires full { (p : P) → P.full p ≡ is_kept_full P.keeps (P.trace p) }
     requires switch { switch < length wires.now.switches }
     requires input { input < LINKS }
     requires output { output < LINKS }
     ensures { PartEnds (stage_apply T.kind P.keeps)
-        (stage_of P.state P.start P.trace wires.now places.old count.old) (event.Claim switch input output ∷ [])
-        result (stage_of P.state P.start P.trace wires.now places.new count.new) }
+        (stage_of wires.now (map P.shown places.old) count.old) (event.Claim switch input output ∷ [])
+        result (stage_of wires.now (map P.shown places.new) count.new) }
 {
     let act = ActOf::Step(ActionOf::Claim(input, output));
     attempt_alone(wires, places, count, switch, act)
@@ -110,13 +108,12 @@ pub fn attempt_drain<T: TokenKind, P: Place<T>>(
     count: &mut u64,
     terminal: usize,
 ) -> Result<bool, EventFault>
-    requires full { (p : P) → P.full p ≡ is_kept_full P.keeps (P.trace p) }
     requires terminal { terminal < length wires.now.terminals }
     ensures { PartEnds (stage_apply T.kind P.keeps)
-        (stage_of P.state P.start P.trace wires.now places.old count.old) (event.Drain terminal ∷ [])
-        result (stage_of P.state P.start P.trace wires.now places.new count.new) }
+        (stage_of wires.now (map P.shown places.old) count.old) (event.Drain terminal ∷ [])
+        result (stage_of wires.now (map P.shown places.new) count.new) }
 {
-    let place = wires.plan().switches().len() + terminal;
+    let place = wires.terminal_place(terminal);
     attempt_alone(wires, places, count, place, ActOf::Drain)
 }
 
@@ -129,15 +126,14 @@ fn attempt_alone<T: TokenKind, P: Place<T>>(
     place: usize,
     act: ActOf<T>,
 ) -> Result<bool, EventFault>
-    requires full { (p : P) → P.full p ≡ is_kept_full P.keeps (P.trace p) }
     requires short { IsWithinLimits act }
     ensures { (e : TheEvent) → event_fault wires.now e ≡ None →
         event_acts wires.now e ≡ Some (Acts.Alone place act) →
         PartEnds (stage_apply T.kind P.keeps)
-        (stage_of P.state P.start P.trace wires.now places.old count.old) (e ∷ [])
-        result (stage_of P.state P.start P.trace wires.now places.new count.new) }
+        (stage_of wires.now (map P.shown places.old) count.old) (e ∷ [])
+        result (stage_of wires.now (map P.shown places.new) count.new) }
 {
-    let switches = wires.plan().switches().len();
+    let switches = wires.switch_count();
     let stamp = Stamp {
         ticket: *count,
         seat: None,

@@ -5,7 +5,7 @@ ghost use Rattle.c104_regs.specs.declared.registers.TheConstants.{LINKS};
 ghost use Rattle.c104_net.specs.Rounds.{all_claims, all_drains, claims_of, switch_claims};
 ghost use Rattle.c104_net.specs.Rounds.{turn_at, wired_ports};
 ghost use Rattle.c104_net.specs.RoundParts.{PartEnds};
-ghost use Rattle.c104_net.specs.Stages.{is_kept_full, stage_apply, stage_of};
+ghost use Rattle.c104_net.specs.Stages.{stage_apply, stage_of};
 
 use super::attempts::{attempt_claim, attempt_drain};
 use super::ports::walk_ports;
@@ -22,10 +22,9 @@ pub fn credit_ports<T: TokenKind, P: Place<T>>(
     places: &mut [P],
     count: &mut u64,
 ) -> Result<bool, EventFault>
-    requires full { (p : P) → P.full p ≡ is_kept_full P.keeps (P.trace p) }
     ensures { PartEnds (stage_apply T.kind P.keeps)
-        (stage_of P.state P.start P.trace wires.now places.old count.old) (map event.Credit (wired_ports wires.now))
-        result (stage_of P.state P.start P.trace wires.now places.new count.new) }
+        (stage_of wires.now (map P.shown places.old) count.old) (map event.Credit (wired_ports wires.now))
+        result (stage_of wires.now (map P.shown places.new) count.new) }
 {
     walk_ports(wires, places, count, PortPart::Credit)
 }
@@ -36,10 +35,9 @@ pub fn cross_ports<T: TokenKind, P: Place<T>>(
     places: &mut [P],
     count: &mut u64,
 ) -> Result<bool, EventFault>
-    requires full { (p : P) → P.full p ≡ is_kept_full P.keeps (P.trace p) }
     ensures { PartEnds (stage_apply T.kind P.keeps)
-        (stage_of P.state P.start P.trace wires.now places.old count.old) (map event.Cross (wired_ports wires.now))
-        result (stage_of P.state P.start P.trace wires.now places.new count.new) }
+        (stage_of wires.now (map P.shown places.old) count.old) (map event.Cross (wired_ports wires.now))
+        result (stage_of wires.now (map P.shown places.new) count.new) }
 {
     walk_ports(wires, places, count, PortPart::Cross)
 }
@@ -50,10 +48,9 @@ pub fn turn_inputs<T: TokenKind, P: Place<T>>(
     places: &mut [P],
     count: &mut u64,
 ) -> Result<bool, EventFault>
-    requires full { (p : P) → P.full p ≡ is_kept_full P.keeps (P.trace p) }
     ensures { PartEnds (stage_apply T.kind P.keeps)
-        (stage_of P.state P.start P.trace wires.now places.old count.old) (flat_map turn_at (wired_ports wires.now))
-        result (stage_of P.state P.start P.trace wires.now places.new count.new) }
+        (stage_of wires.now (map P.shown places.old) count.old) (flat_map turn_at (wired_ports wires.now))
+        result (stage_of wires.now (map P.shown places.new) count.new) }
 {
     walk_ports(wires, places, count, PortPart::Turn)
 }
@@ -64,13 +61,12 @@ pub fn claim_outputs<T: TokenKind, P: Place<T>>(
     places: &mut [P],
     count: &mut u64,
 ) -> Result<bool, EventFault>
-    requires full { (p : P) → P.full p ≡ is_kept_full P.keeps (P.trace p) }
     ensures { PartEnds (stage_apply T.kind P.keeps)
-        (stage_of P.state P.start P.trace wires.now places.old count.old) (all_claims (length wires.now.switches))
-        result (stage_of P.state P.start P.trace wires.now places.new count.new) }
+        (stage_of wires.now (map P.shown places.old) count.old) (all_claims (length wires.now.switches))
+        result (stage_of wires.now (map P.shown places.new) count.new) }
 {
     let mut changed = false;
-    let switches = wires.plan().switches().len();
+    let switches = wires.switch_count();
     for switch in 0..switches {
         let done = claim_in_switch(wires, places, count, switch)?;
         changed |= done;
@@ -85,11 +81,10 @@ fn claim_in_switch<T: TokenKind, P: Place<T>>(
     count: &mut u64,
     switch: usize,
 ) -> Result<bool, EventFault>
-    requires full { (p : P) → P.full p ≡ is_kept_full P.keeps (P.trace p) }
     requires switch { switch < length wires.now.switches }
     ensures { PartEnds (stage_apply T.kind P.keeps)
-        (stage_of P.state P.start P.trace wires.now places.old count.old) (switch_claims switch)
-        result (stage_of P.state P.start P.trace wires.now places.new count.new) }
+        (stage_of wires.now (map P.shown places.old) count.old) (switch_claims switch)
+        result (stage_of wires.now (map P.shown places.new) count.new) }
 {
     let mut changed = false;
     let mut from = 0;
@@ -110,12 +105,11 @@ fn claim_for_input<T: TokenKind, P: Place<T>>(
     switch: usize,
     input: usize,
 ) -> Result<bool, EventFault>
-    requires full { (p : P) → P.full p ≡ is_kept_full P.keeps (P.trace p) }
     requires switch { switch < length wires.now.switches }
     requires input { input < LINKS }
     ensures { PartEnds (stage_apply T.kind P.keeps)
-        (stage_of P.state P.start P.trace wires.now places.old count.old) (claims_of switch input)
-        result (stage_of P.state P.start P.trace wires.now places.new count.new) }
+        (stage_of wires.now (map P.shown places.old) count.old) (claims_of switch input)
+        result (stage_of wires.now (map P.shown places.new) count.new) }
 {
     let mut changed = false;
     let mut from = 0;
@@ -133,13 +127,12 @@ pub fn drain_terminals<T: TokenKind, P: Place<T>>(
     places: &mut [P],
     count: &mut u64,
 ) -> Result<bool, EventFault>
-    requires full { (p : P) → P.full p ≡ is_kept_full P.keeps (P.trace p) }
     ensures { PartEnds (stage_apply T.kind P.keeps)
-        (stage_of P.state P.start P.trace wires.now places.old count.old) (all_drains (length wires.now.terminals))
-        result (stage_of P.state P.start P.trace wires.now places.new count.new) }
+        (stage_of wires.now (map P.shown places.old) count.old) (all_drains (length wires.now.terminals))
+        result (stage_of wires.now (map P.shown places.new) count.new) }
 {
     let mut changed = false;
-    let terminals = wires.plan().terminals().len();
+    let terminals = wires.terminal_count();
     for terminal in 0..terminals {
         let done = attempt_drain(wires, places, count, terminal)?;
         changed |= done;

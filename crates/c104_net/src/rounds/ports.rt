@@ -11,7 +11,8 @@ ghost use Rattle.c104_net.specs.PortParts.{IsNearReady, port_events, wired_event
 ghost use Rattle.std.specs.List.{range_with_len};
 ghost use Rattle.c104_net.specs.Rounds.{is_wired, turn_at, wired_links, wired_ports, wired_terminals};
 ghost use Rattle.c104_net.specs.RoundParts.{PartEnds};
-ghost use Rattle.c104_net.specs.Stages.{is_kept_full, stage_apply, stage_of};
+ghost use Rattle.c104_net.specs.Stages.{stage_apply, stage_of};
+ghost use Rattle.c104_net.specs.Places.{states};
 
 use super::attempts::{attempt_joint, attempt_turn};
 use crate::crossings::Crossing;
@@ -31,11 +32,10 @@ pub fn walk_ports<T: TokenKind, P: Place<T>>(
     count: &mut u64,
     part: PortPart,
 ) -> Result<bool, EventFault>
-    requires full { (p : P) → P.full p ≡ is_kept_full P.keeps (P.trace p) }
     ensures { PartEnds (stage_apply T.kind P.keeps)
-        (stage_of P.state P.start P.trace wires.now places.old count.old)
+        (stage_of wires.now (map P.shown places.old) count.old)
         (flat_map (port_events part) (wired_ports wires.now))
-        result (stage_of P.state P.start P.trace wires.now places.new count.new) }
+        result (stage_of wires.now (map P.shown places.new) count.new) }
 {
     let of_switches = walk_switches(wires, places, count, part)?;
     let of_terminals = walk_terminals(wires, places, count, part)?;
@@ -50,15 +50,14 @@ fn walk_switches<T: TokenKind, P: Place<T>>(
     count: &mut u64,
     part: PortPart,
 ) -> Result<bool, EventFault>
-    requires full { (p : P) → P.full p ≡ is_kept_full P.keeps (P.trace p) }
     ensures { PartEnds (stage_apply T.kind P.keeps)
-        (stage_of P.state P.start P.trace wires.now places.old count.old)
+        (stage_of wires.now (map P.shown places.old) count.old)
         (flat_map (port_events part)
         (flat_map (wired_links wires.now) (range_with_len 0 (length wires.now.switches))))
-        result (stage_of P.state P.start P.trace wires.now places.new count.new) }
+        result (stage_of wires.now (map P.shown places.new) count.new) }
 {
     let mut changed = false;
-    let switches = wires.plan().switches().len();
+    let switches = wires.switch_count();
     for switch in 0..switches {
         let done = walk_links(wires, places, count, part, switch)?;
         changed |= done;
@@ -75,12 +74,11 @@ fn walk_links<T: TokenKind, P: Place<T>>(
     part: PortPart,
     switch: usize,
 ) -> Result<bool, EventFault>
-    requires full { (p : P) → P.full p ≡ is_kept_full P.keeps (P.trace p) }
     requires switch { switch < length wires.now.switches }
     ensures { PartEnds (stage_apply T.kind P.keeps)
-        (stage_of P.state P.start P.trace wires.now places.old count.old)
+        (stage_of wires.now (map P.shown places.old) count.old)
         (flat_map (port_events part) (wired_links wires.now switch))
-        result (stage_of P.state P.start P.trace wires.now places.new count.new) }
+        result (stage_of wires.now (map P.shown places.new) count.new) }
 {
     let mut changed = false;
     let mut from = 0;
@@ -103,14 +101,14 @@ fn next_link<T: TokenKind, P: Place<T>>(
 ) -> Option<usize>
     requires { switch < length wires.now.switches }
     ensures passed { (l count : ℕ) → from ≤ l → l < unwrap_or result LINKS → PartEnds (stage_apply T.kind P.keeps)
-        (stage_of P.state P.start P.trace wires.now places.now count)
+        (stage_of wires.now (map P.shown places.now) count)
         (wired_events wires.now part (port.Switch switch l))
-        (Ok false) (stage_of P.state P.start P.trace wires.now places.now count) }
+        (Ok false) (stage_of wires.now (map P.shown places.now) count) }
     ensures found { IfSome result (λ l. (from ≤ l) × (l < LINKS)) }
     ensures wired { IfSome result (λ l. wired_fault wires.now (port.Switch switch l) ≡ None) }
     ensures linked { IfSome result (λ l. is_wired wires.now (port.Switch switch l) ≡ true) }
     ensures ready { IfSome result (λ l. IsNearReady T.kind part
-        (map P.state places.now) (port_place wires.now (port.Switch switch l)) (port.Switch switch l)) }
+        (states (map P.shown places.now)) (port_place wires.now (port.Switch switch l)) (port.Switch switch l)) }
 {
     let among = wires.linked(switch);
     next_ready_at(places, switch, part, from, among)
@@ -124,14 +122,13 @@ fn walk_terminals<T: TokenKind, P: Place<T>>(
     count: &mut u64,
     part: PortPart,
 ) -> Result<bool, EventFault>
-    requires full { (p : P) → P.full p ≡ is_kept_full P.keeps (P.trace p) }
     ensures { PartEnds (stage_apply T.kind P.keeps)
-        (stage_of P.state P.start P.trace wires.now places.old count.old)
+        (stage_of wires.now (map P.shown places.old) count.old)
         (flat_map (port_events part) (wired_terminals wires.now))
-        result (stage_of P.state P.start P.trace wires.now places.new count.new) }
+        result (stage_of wires.now (map P.shown places.new) count.new) }
 {
     let mut changed = false;
-    let terminals = wires.plan().terminals().len();
+    let terminals = wires.terminal_count();
     for terminal in 0..terminals {
         let done = try_terminal(wires, places, count, part, terminal)?;
         changed |= done;
@@ -148,12 +145,11 @@ fn try_terminal<T: TokenKind, P: Place<T>>(
     part: PortPart,
     terminal: usize,
 ) -> Result<bool, EventFault>
-    requires full { (p : P) → P.full p ≡ is_kept_full P.keeps (P.trace p) }
     requires terminal { terminal < length wires.now.terminals }
     ensures { PartEnds (stage_apply T.kind P.keeps)
-        (stage_of P.state P.start P.trace wires.now places.old count.old)
+        (stage_of wires.now (map P.shown places.old) count.old)
         (wired_events wires.now part (port.Terminal terminal))
-        result (stage_of P.state P.start P.trace wires.now places.new count.new) }
+        result (stage_of wires.now (map P.shown places.new) count.new) }
 {
     if !wires.is_linked(terminal) {
         return Ok(false);
@@ -174,10 +170,10 @@ fn is_ready<T: TokenKind, P: Place<T>>(
 ) -> bool
     requires { wired_fault wires.now (port.Terminal terminal) ≡ None }
     ensures passed { (count : ℕ) → result ≡ false → PartEnds (stage_apply T.kind P.keeps)
-        (stage_of P.state P.start P.trace wires.now places.now count) (port_events part (port.Terminal terminal))
-        (Ok false) (stage_of P.state P.start P.trace wires.now places.now count) }
+        (stage_of wires.now (map P.shown places.now) count) (port_events part (port.Terminal terminal))
+        (Ok false) (stage_of wires.now (map P.shown places.now) count) }
     ensures ready { result ≡ true → IsNearReady T.kind part
-        (map P.state places.now) (port_place wires.now (port.Terminal terminal)) (port.Terminal terminal) }
+        (states (map P.shown places.now)) (port_place wires.now (port.Terminal terminal)) (port.Terminal terminal) }
 {
     let port = Port::Terminal(terminal);
     let place = wires.near_end(port).node;
@@ -197,12 +193,11 @@ fn try_at<T: TokenKind, P: Place<T>>(
     part: PortPart,
     port: Port,
 ) -> Result<bool, EventFault>
-    requires full { (p : P) → P.full p ≡ is_kept_full P.keeps (P.trace p) }
     requires wired { wired_fault wires.now port ≡ None }
-    requires ready { IsNearReady T.kind part (map P.state places.old) (port_place wires.now port) port }
+    requires ready { IsNearReady T.kind part (states (map P.shown places.old)) (port_place wires.now port) port }
     ensures { PartEnds (stage_apply T.kind P.keeps)
-        (stage_of P.state P.start P.trace wires.now places.old count.old) (port_events part port)
-        result (stage_of P.state P.start P.trace wires.now places.new count.new) }
+        (stage_of wires.now (map P.shown places.old) count.old) (port_events part port)
+        result (stage_of wires.now (map P.shown places.new) count.new) }
 {
     match part {
         PortPart::Credit => attempt_joint(wires, places, count, port, Crossing::Grant),
@@ -219,11 +214,10 @@ fn try_turn<T: TokenKind, P: Place<T>>(
     count: &mut u64,
     port: Port,
 ) -> Result<bool, EventFault>
-    requires full { (p : P) → P.full p ≡ is_kept_full P.keeps (P.trace p) }
     requires wired { wired_fault wires.now port ≡ None }
     ensures { PartEnds (stage_apply T.kind P.keeps)
-        (stage_of P.state P.start P.trace wires.now places.old count.old) (turn_at port)
-        result (stage_of P.state P.start P.trace wires.now places.new count.new) }
+        (stage_of wires.now (map P.shown places.old) count.old) (turn_at port)
+        result (stage_of wires.now (map P.shown places.new) count.new) }
 {
     match port {
         Port::Switch(switch, link) => attempt_turn(wires, places, count, switch, link),

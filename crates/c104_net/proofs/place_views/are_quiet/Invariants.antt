@@ -1,8 +1,9 @@
 use Rattle.std.proofs.Common.{◌<◌, ℕ, get_or, map}
 use Rattle.c104_net.specs.Nodes.{Node}
 use Rattle.c104_net.specs.Quiet.{IsQuietNode}
+use Rattle.c104_net.specs.Places.{states}
 use Rattle.c104_net.proofs.place_views.are_quiet.Given as goal
 
 -- the nodes so far are quiet
 abbrev pub invariant-loop-place : goal.invariant-loop-place
-invariant-loop-place g l = (k : ℕ) (d : Node g.row.T.Denot) → k < l.place-index → IsQuietNode (get_or (map g.P.Place.state l.places) k d)
+invariant-loop-place g l = (k : ℕ) (d : Node g.row.T.Denot) → k < l.place-index → IsQuietNode (get_or (states (map g.P.Place.shown l.places)) k d)

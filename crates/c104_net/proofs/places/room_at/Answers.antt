@@ -1,18 +1,12 @@
-use Rattle.c104_net.proofs.PlaceSteps.{shown_same, room_made, room_others}
-use Rattle.c104_net.proofs.KeptEntries.{full_others}
+use Rattle.std.proofs.Math.Seq.{map-set_same}
+use Rattle.c104_net.proofs.PlaceSteps.{free_there, room_made, room_others}
 use Rattle.c104_net.proofs.places.room_at.Goals as goal
 
-pub returns-clause-state : goal.returns-clause-state
-returns-clause-state g c = shown_same c.args.places.now c.args.place c.index-places-place.result c.room.new.self c.requires.inside g.P.Place.state c.room.ensures.state
+pub room-requires : goal.room-requires
+room-requires g c = free_there g.P.Place.shown c.args.places.now c.args.place c.index-places-place.result c.requires.inside c.requires.free
 
-pub returns-clause-trace : goal.returns-clause-trace
-returns-clause-trace g c = shown_same c.args.places.now c.args.place c.index-places-place.result c.room.new.self c.requires.inside g.P.Place.trace c.room.ensures.trace
-
-pub returns-clause-start : goal.returns-clause-start
-returns-clause-start g c = shown_same c.args.places.now c.args.place c.index-places-place.result c.room.new.self c.requires.inside g.P.Place.start c.room.ensures.start
-
-pub returns-clause-full : goal.returns-clause-full
-returns-clause-full g c = λ j differs. full_others g.P.Place.full c.args.places.now c.args.place c.room.new.self j differs
+pub returns-clause-shown : goal.returns-clause-shown
+returns-clause-shown g c = map-set_same g.P.Place.shown c.args.places.now c.args.place c.room.new.self c.index-places-place.result c.room.ensures.shown
 
 pub returns-clause-room : goal.returns-clause-room
 returns-clause-room g c = room_made g.P.Place.has_room c.args.places.now c.args.place c.index-places-place.result c.room.new.self c.requires.inside c.room.result c.room.ensures.room

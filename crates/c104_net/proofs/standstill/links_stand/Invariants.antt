@@ -4,8 +4,9 @@ use Rattle.c104_net.specs.Standstill.{has_reason}
 use Rattle.c104_net.proofs.StillParts.{left, tested}
 use Rattle.c104_net.proofs.PortWalks.{wired_by}
 use Rattle.c104_describe.specs.declared.ports.Port.TheVariants as port
+use Rattle.c104_net.specs.Places.{states}
 use Rattle.c104_net.proofs.standstill.links_stand.Given as goal
 
 -- those that are left tell it
 abbrev pub invariant-loop-link : goal.invariant-loop-link
-invariant-loop-link g l = left (has_reason (network_of l.wires (map g.P.Place.state l.places))) (wired_by l.wires l.part (port.Switch l.switch)) 32 l.link ≡ tested (has_reason (network_of l.wires (map g.P.Place.state l.places))) (wired_by l.wires l.part (port.Switch l.switch)) 32
+invariant-loop-link g l = left (has_reason (network_of l.wires (states (map g.P.Place.shown l.places)))) (wired_by l.wires l.part (port.Switch l.switch)) 32 l.link ≡ tested (has_reason (network_of l.wires (states (map g.P.Place.shown l.places)))) (wired_by l.wires l.part (port.Switch l.switch)) 32

@@ -3,8 +3,9 @@ use Rattle.c104_net.specs.Network.{network_of}
 use Rattle.c104_net.specs.Standstill.{has_reason}
 use Rattle.c104_net.proofs.StillParts.{left, tested}
 use Rattle.c104_net.specs.Rounds.{claims_of}
+use Rattle.c104_net.specs.Places.{states}
 use Rattle.c104_net.proofs.standstill.switch_claims_stand.Given as goal
 
 -- those that are left tell it
 abbrev pub invariant-loop-input : goal.invariant-loop-input
-invariant-loop-input g l = left (has_reason (network_of l.wires (map g.P.Place.state l.places))) (claims_of l.switch) 32 l.input ≡ tested (has_reason (network_of l.wires (map g.P.Place.state l.places))) (claims_of l.switch) 32
+invariant-loop-input g l = left (has_reason (network_of l.wires (states (map g.P.Place.shown l.places)))) (claims_of l.switch) 32 l.input ≡ tested (has_reason (network_of l.wires (states (map g.P.Place.shown l.places)))) (claims_of l.switch) 32

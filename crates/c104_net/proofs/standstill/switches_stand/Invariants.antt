@@ -3,8 +3,9 @@ use Rattle.c104_net.specs.Network.{network_of}
 use Rattle.c104_net.specs.Standstill.{has_reason}
 use Rattle.c104_net.proofs.StillParts.{left, tested}
 use Rattle.c104_net.proofs.PortWalks.{of_switch}
+use Rattle.c104_net.specs.Places.{states}
 use Rattle.c104_net.proofs.standstill.switches_stand.Given as goal
 
 -- those that are left tell it
 abbrev pub invariant-loop-switch : goal.invariant-loop-switch
-invariant-loop-switch g l = left (has_reason (network_of l.wires (map g.P.Place.state l.places))) (of_switch l.wires l.part) (length l.wires.switches) l.switch ≡ tested (has_reason (network_of l.wires (map g.P.Place.state l.places))) (of_switch l.wires l.part) (length l.wires.switches)
+invariant-loop-switch g l = left (has_reason (network_of l.wires (states (map g.P.Place.shown l.places)))) (of_switch l.wires l.part) (length l.wires.switches) l.switch ≡ tested (has_reason (network_of l.wires (states (map g.P.Place.shown l.places)))) (of_switch l.wires l.part) (length l.wires.switches)

@@ -5,7 +5,7 @@ use Rattle.c104_net.specs.Nodes.{Node}
 use Rattle.c104_net.specs.Network.{AnswersEvent, network_of}
 use Rattle.c104_net.specs.Balance.{IsSteady}
 use Rattle.c104_net.proofs.BalanceEvents.{applied_steady}
-use Rattle.c104_net.proofs.KeptEntries.{as_they_are}
+use Rattle.c104_net.proofs.BarePlaces.{as_they_are}
 use Rattle.c104_net.proofs.bare_net.NetOf.apply.Goals as goal
 
 -- the nodes that an event leaves are those of the list
@@ -13,7 +13,7 @@ pub invariant_of-self : goal.invariant_of-self
 invariant_of-self g c =
     let old : List (Node g.row.T.Denot) = c.self.inside.places.items in
     let new : List (Node g.row.T.Denot) = c.happen.new.places in
-    let answers : AnswersEvent g.T.TokenKind.kind (network_of c.self.inside.wires old) c.args.event.now c.happen.result (network_of c.self.inside.wires new) = as_they_are g.T.TokenKind.kind c.self.inside.wires old c.as_mut_slice.result.now new c.args.event.now c.happen.result c.as_mut_slice.ensures.value c.happen.ensures.answers in
+    let answers : AnswersEvent g.T.TokenKind.kind (network_of c.self.inside.wires old) c.args.event.now c.happen.result (network_of c.self.inside.wires new) = as_they_are g.T.TokenKind.kind c.self.inside.wires _ old c.as_mut_slice.result.now new c.args.event.now c.happen.result c.as_mut_slice.ensures.value c.happen.ensures.done in
     let steady : IsSteady (network_of c.self.inside.wires new) = applied_steady g.T.TokenKind.kind c.self.inside.wires c.happen.ensures.kept old c.self.invariant.0 c.args.event.now c.happen.result (network_of c.self.inside.wires new) answers in
     let placed : (with_items c.self.inside.places new).items ≡ new = with_items_is c.self.inside.places new (c.happen.auto.places ∙ c.as_mut_slice.ensures.len) in
     (subst (λ ns. IsSteady (network_of c.self.inside.wires ns)) (sym placed) steady, c.self.invariant.1, c.self.invariant.2)
@@ -22,6 +22,6 @@ pub returns : goal.returns
 returns g c =
     let old : List (Node g.row.T.Denot) = c.self.inside.places.items in
     let new : List (Node g.row.T.Denot) = c.happen.new.places in
-    let answers : AnswersEvent g.T.TokenKind.kind (network_of c.self.inside.wires old) c.args.event.now c.happen.result (network_of c.self.inside.wires new) = as_they_are g.T.TokenKind.kind c.self.inside.wires old c.as_mut_slice.result.now new c.args.event.now c.happen.result c.as_mut_slice.ensures.value c.happen.ensures.answers in
+    let answers : AnswersEvent g.T.TokenKind.kind (network_of c.self.inside.wires old) c.args.event.now c.happen.result (network_of c.self.inside.wires new) = as_they_are g.T.TokenKind.kind c.self.inside.wires _ old c.as_mut_slice.result.now new c.args.event.now c.happen.result c.as_mut_slice.ensures.value c.happen.ensures.done in
     let placed : (with_items c.self.inside.places new).items ≡ new = with_items_is c.self.inside.places new (c.happen.auto.places ∙ c.as_mut_slice.ensures.len) in
     rw (sym c.self.view_is) (subst (λ ns. AnswersEvent g.T.TokenKind.kind (network_of c.self.inside.wires old) c.args.event.now c.happen.result (network_of c.self.inside.wires ns)) (sym placed) answers)

@@ -3,26 +3,20 @@ use Rattle.std.specs.Vec.{with_items}
 use Rattle.std.proofs.lemmas.List.{with_items_is}
 use Rattle.c104_net.specs.RecordedNets.{reading, Reading}
 use Rattle.c104_net.specs.Rounds.{rounds}
-use Rattle.c104_net.proofs.RecordedPlaces.{full_is, runs_on}
+use Rattle.c104_net.proofs.RecordedPlaces.{runs_on}
 use Rattle.c104_net.proofs.recorded_net.RecordedNet.rounds_watched.Goals as goal
-
--- a place is full where its trace is
-pub rounds_at-requires : goal.rounds_at-requires
-rounds_at-requires g c =
-    let v : Reading g.row.T.Denot g.row.P.Denot = reading g.T.TokenKind.kind g.P.Place.state g.P.RecordedPlace.shown g.P.RecordedPlace.begun_at g.P.Place.trace in
-    record { full = full_is v g.P.Place.keeps g.P.Place.start g.P.Place.full g.met.P.RecordedPlace.keeps_record }
 
 -- the run goes on by the events of these rounds
 pub invariant_of-self : goal.invariant_of-self
 invariant_of-self g c =
-    let v : Reading g.row.T.Denot g.row.P.Denot = reading g.T.TokenKind.kind g.P.Place.state g.P.RecordedPlace.shown g.P.RecordedPlace.begun_at g.P.Place.trace in
+    let v : Reading g.row.T.Denot g.row.P.Denot = reading g.T.TokenKind.kind g.P.Place.shown g.P.RecordedPlace.plain g.P.RecordedPlace.begun_at in
     let put_is = with_items_is c.self.inside.places c.rounds_at.new.places (c.rounds_at.auto.places ∙ c.as_mut_slice.ensures.len) in
-    let on = runs_on v g.P.Place.keeps g.P.Place.start g.P.Place.full g.met.P.RecordedPlace.keeps_record c.self.inside.wires c.rounds_at.ensures.kept c.self.inside.places.items c.as_mut_slice.result.now c.rounds_at.new.places (with_items c.self.inside.places c.rounds_at.new.places).items c.as_mut_slice.ensures.value put_is c.self.inside.count c.rounds_at.new.count c.self.invariant.0 (rounds c.self.inside.wires c.args.count) c.rounds_at.result c.rounds_at.ensures.ends in
+    let on = runs_on v g.P.Place.keeps g.met.P.RecordedPlace.keeps_record g.met.P.Place.limited c.self.inside.wires c.rounds_at.ensures.kept c.self.inside.places.items c.as_mut_slice.result.now c.rounds_at.new.places (with_items c.self.inside.places c.rounds_at.new.places).items c.as_mut_slice.ensures.value put_is c.self.inside.count c.rounds_at.new.count c.self.invariant.0 (rounds c.self.inside.wires c.args.count) c.rounds_at.result c.rounds_at.ensures.ends in
     (on.kept, c.self.invariant.1)
 
 pub returns : goal.returns
 returns g c =
-    let v : Reading g.row.T.Denot g.row.P.Denot = reading g.T.TokenKind.kind g.P.Place.state g.P.RecordedPlace.shown g.P.RecordedPlace.begun_at g.P.Place.trace in
+    let v : Reading g.row.T.Denot g.row.P.Denot = reading g.T.TokenKind.kind g.P.Place.shown g.P.RecordedPlace.plain g.P.RecordedPlace.begun_at in
     let put_is = with_items_is c.self.inside.places c.rounds_at.new.places (c.rounds_at.auto.places ∙ c.as_mut_slice.ensures.len) in
-    let on = runs_on v g.P.Place.keeps g.P.Place.start g.P.Place.full g.met.P.RecordedPlace.keeps_record c.self.inside.wires c.rounds_at.ensures.kept c.self.inside.places.items c.as_mut_slice.result.now c.rounds_at.new.places (with_items c.self.inside.places c.rounds_at.new.places).items c.as_mut_slice.ensures.value put_is c.self.inside.count c.rounds_at.new.count c.self.invariant.0 (rounds c.self.inside.wires c.args.count) c.rounds_at.result c.rounds_at.ensures.ends in
+    let on = runs_on v g.P.Place.keeps g.met.P.RecordedPlace.keeps_record g.met.P.Place.limited c.self.inside.wires c.rounds_at.ensures.kept c.self.inside.places.items c.as_mut_slice.result.now c.rounds_at.new.places (with_items c.self.inside.places c.rounds_at.new.places).items c.as_mut_slice.ensures.value put_is c.self.inside.count c.rounds_at.new.count c.self.invariant.0 (rounds c.self.inside.wires c.args.count) c.rounds_at.result c.rounds_at.ensures.ends in
     rw (sym c.self.view_is) on.ends

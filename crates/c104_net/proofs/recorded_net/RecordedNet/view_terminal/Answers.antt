@@ -1,16 +1,13 @@
-use Rattle.std.proofs.Common.{◌∙◌, List, ap, map, sym}
+use Rattle.std.proofs.Common.{◌∙◌}
+use Rattle.c104_token.specs.declared.tokens.Token.{Token}
 use Rattle.c104_net.specs.Views.{network_terminal_view}
-use Rattle.c104_net.specs.NetRecords.{NetRecord}
-use Rattle.c104_net.specs.Network.{network_of}
+use Rattle.c104_net.specs.Network.{Network}
 use Rattle.c104_net.specs.RecordedNets.{reading, Reading}
-use Rattle.c104_net.proofs.RecordedNets.{states_shown}
+use Rattle.c104_net.proofs.RecordedNets.{seen_plain}
 use Rattle.c104_net.proofs.RecordedViews.{network_terminal_plain}
 use Rattle.c104_net.proofs.recorded_net.RecordedNet.view_terminal.Goals as goal
 
 pub returns : goal.returns
 returns g c =
-    let v : Reading g.row.T.Denot g.row.P.Denot = reading g.T.TokenKind.kind g.P.Place.state g.P.RecordedPlace.shown g.P.RecordedPlace.begun_at g.P.Place.trace in
-    c.view_terminal_at.ensures ∙ ap (λ (ps : List g.row.P.Denot). network_terminal_view (network_of c.self.inside.wires (map v.state ps)) c.args.terminal) c.as_slice.ensures.value
-    ∙ sym (network_terminal_plain v.kind (network_of c.self.inside.wires (map v.state c.self.inside.places.items)) c.args.terminal)
-    ∙ ap (λ ns. network_terminal_view (network_of c.self.inside.wires ns) c.args.terminal) (states_shown v g.met.P.RecordedPlace.keeps_record.reads c.self.inside.places.items)
-    ∙ ap (λ (r : NetRecord). network_terminal_view r.network c.args.terminal) c.self.view_is
+    let v : Reading g.row.T.Denot g.row.P.Denot = reading g.T.TokenKind.kind g.P.Place.shown g.P.RecordedPlace.plain g.P.RecordedPlace.begun_at in
+    c.view_terminal_at.ensures ∙ seen_plain v g.met.P.RecordedPlace.keeps_record.reads (λ (net : Network g.row.T.Denot). network_terminal_view net c.args.terminal) (λ (net : Network Token). network_terminal_view net c.args.terminal) (λ net. network_terminal_plain v.kind net c.args.terminal) c.self.inside.wires c.self.inside.places.items c.as_slice.result.now c.as_slice.ensures.value c.self.inside.count c.args.self.now c.self.view_is

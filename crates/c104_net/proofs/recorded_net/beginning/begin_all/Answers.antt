@@ -6,13 +6,13 @@ use Rattle.c104_net.specs.declared.acts.Entry.{Entry}
 use Rattle.c104_net.specs.declared.starts.NodeStart.{NodeStart}
 use Rattle.c104_net.specs.Nodes.{Node}
 use Rattle.c104_net.specs.RecordedNets.{begun_told, place_told}
-use Rattle.c104_net.proofs.RecordedBegins.{all_stand, stand_on, told_begun, waits_first, waits_on}
+use Rattle.c104_net.proofs.RecordedBegins.{all_stand, stand_on, waits_first, waits_on}
 use Rattle.c104_net.proofs.recorded_net.beginning.begin_all.Goals as goal
 
 pub loop-place-init : goal.loop-place-init
 loop-place-init g c = record {
   begun = refl;
-  waits = waits_first g.P.Place.state g.P.RecordedPlace.begun_at c.args.places.now c.requires;
+  waits = waits_first g.P.Place.shown g.P.RecordedPlace.begun_at c.args.places.now c.requires;
   stand = λ k p below here. absurd (let no : ⊥ = omega (arith, below) in no);
 }
 
@@ -21,22 +21,22 @@ begin-requires g c = c.loop-place.invariant.waits c.loop-place.place-index (get_
 
 pub loop-place-preserved : goal.loop-place-preserved
 loop-place-preserved g c =
-    let told : g.row.P.Denot → Node g.row.T.Denot × NodeStart × List Entry = place_told g.P.Place.state g.P.RecordedPlace.begun_at g.P.Place.trace in
+    let told : g.row.P.Denot → Node g.row.T.Denot × NodeStart × List Entry = place_told g.P.Place.shown g.P.RecordedPlace.begun_at in
     let old : List (Node g.row.T.Denot × NodeStart × List Entry) = map told c.args.places.now in
     let same = length-map c.args.places.now told in
     let item : told c.place-item.result ≡ get_or (map told c.loop-place.places) c.loop-place.place-index (told c.place-item.result) = ap told c.place-item.is ∙ sym (get_or-map told c.loop-place.places c.loop-place.place-index c.place-item.result (told c.place-item.result) (omega arith)) in
     let began : told c.begin.new.self ≡ begun_told (told c.place-item.result) =
-    told_begun g.P.Place.state g.P.RecordedPlace.begun_at g.P.Place.trace (get_or c.loop-place.places c.loop-place.place-index c.place-item.result) c.begin.new.self c.begin.ensures.begun c.begin.ensures.start c.begin.ensures.trace ∙ ap (λ p. begun_told (told p)) (sym c.place-item.is) in
+    c.begin.ensures.begun ∙ ap (λ p. begun_told (told p)) (sym c.place-item.is) in
     record {
       begun = map-set told c.loop-place.places c.loop-place.place-index c.begin.new.self ∙ ap (slice_set (map told c.loop-place.places) c.loop-place.place-index) began
           ∙ map_over_more begun_told old (map told c.loop-place.places) c.loop-place.place-index (told c.place-item.result) (omega (arith, same)) c.loop-place.invariant.begun item;
-      waits = waits_on g.P.Place.state g.P.RecordedPlace.begun_at c.loop-place.places c.loop-place.place-index c.begin.new.self c.loop-place.invariant.waits;
-      stand = stand_on g.P.Place.state g.P.RecordedPlace.begun_at c.loop-place.places c.loop-place.place-index c.begin.new.self c.begin.ensures.stands c.loop-place.invariant.stand;
+      waits = waits_on g.P.Place.shown g.P.RecordedPlace.begun_at c.loop-place.places c.loop-place.place-index c.begin.new.self c.loop-place.invariant.waits;
+      stand = stand_on g.P.Place.shown g.P.RecordedPlace.begun_at c.loop-place.places c.loop-place.place-index c.begin.new.self c.begin.ensures.stands c.loop-place.invariant.stand;
     }
 
 pub returns-clause-begun : goal.returns-clause-begun
 returns-clause-begun g c =
-    let told : g.row.P.Denot → Node g.row.T.Denot × NodeStart × List Entry = place_told g.P.Place.state g.P.RecordedPlace.begun_at g.P.Place.trace in
+    let told : g.row.P.Denot → Node g.row.T.Denot × NodeStart × List Entry = place_told g.P.Place.shown g.P.RecordedPlace.begun_at in
     let old : List (Node g.row.T.Denot × NodeStart × List Entry) = map told c.args.places.now in
     let same = length-map c.args.places.now told in
     let past : length old ≤ c.loop-place.place-index = omega (arith, same) in
@@ -44,4 +44,4 @@ returns-clause-begun g c =
     ∙ ap (map begun_told) (take_all c.loop-place.place-index old past)
 
 pub returns-clause-stand : goal.returns-clause-stand
-returns-clause-stand g c = all_stand g.P.Place.state g.P.RecordedPlace.begun_at c.loop-place.places (λ k p here. let inside = slice_get_within c.loop-place.places k p here in c.loop-place.invariant.stand k p (omega (arith, inside)) here)
+returns-clause-stand g c = all_stand g.P.Place.shown g.P.RecordedPlace.begun_at c.loop-place.places (λ k p here. let inside = slice_get_within c.loop-place.places k p here in c.loop-place.invariant.stand k p (omega (arith, inside)) here)

@@ -6,7 +6,7 @@ use Rattle.c104_net.proofs.recorded_net.beginning.begin_all.Given as goal
 -- the places so far have begun, and their nodes stand at their starts; and the others are quiet
 abbrev pub invariant-loop-place : goal.invariant-loop-place
 invariant-loop-place g l = record {
-  begun : map (place_told g.P.Place.state g.P.RecordedPlace.begun_at g.P.Place.trace) l.places ≡ map begun_told (take l.place-index (map (place_told g.P.Place.state g.P.RecordedPlace.begun_at g.P.Place.trace) l.initial.places)) ++ drop l.place-index (map (place_told g.P.Place.state g.P.RecordedPlace.begun_at g.P.Place.trace) l.initial.places);
-  waits : Waits g.P.Place.state g.P.RecordedPlace.begun_at l.places l.place-index;
-  stand : Stand g.P.Place.state g.P.RecordedPlace.begun_at l.places l.place-index;
+  begun : map (place_told g.P.Place.shown g.P.RecordedPlace.begun_at) l.places ≡ map begun_told (take l.place-index (map (place_told g.P.Place.shown g.P.RecordedPlace.begun_at) l.initial.places)) ++ drop l.place-index (map (place_told g.P.Place.shown g.P.RecordedPlace.begun_at) l.initial.places);
+  waits : Waits g.P.Place.shown g.P.RecordedPlace.begun_at l.places l.place-index;
+  stand : Stand g.P.Place.shown g.P.RecordedPlace.begun_at l.places l.place-index;
 }

@@ -1,4 +1,4 @@
-use Rattle.std.proofs.Common.{◌-◌, ◌≤◌, take, Ok}
+use Rattle.std.proofs.Common.{◌-◌, ◌≤◌, take, Ok, map}
 use Rattle.std.specs.List.{flat_map, range_with_len}
 use Rattle.c104_describe.specs.declared.ports.Port.TheVariants as port
 use Rattle.c104_net.specs.Stages.{stage_apply, stage_of}
@@ -9,7 +9,7 @@ use Rattle.c104_net.proofs.rounds.ports.walk_links.Given as goal
 -- the events of the links so far
 abbrev pub invariant-loop-link : goal.invariant-loop-link
 invariant-loop-link g l = record {
-  ends : PartEnds (stage_apply g.T.TokenKind.kind g.P.Place.keeps) (stage_of g.P.Place.state g.P.Place.start g.P.Place.trace l.wires l.initial.places l.initial.count) (flat_map (wired_by l.wires l.part (port.Switch l.switch)) (take l.from (range_with_len 0 32))) (Ok l.changed) (stage_of g.P.Place.state g.P.Place.start g.P.Place.trace l.wires l.places l.count);
+  ends : PartEnds (stage_apply g.T.TokenKind.kind g.P.Place.keeps) (stage_of l.wires (map g.P.Place.shown l.initial.places) l.initial.count) (flat_map (wired_by l.wires l.part (port.Switch l.switch)) (take l.from (range_with_len 0 32))) (Ok l.changed) (stage_of l.wires (map g.P.Place.shown l.places) l.count);
   within : l.from ≤ 32;
 }
 

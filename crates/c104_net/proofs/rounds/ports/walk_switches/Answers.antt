@@ -1,5 +1,4 @@
-use Rattle.std.proofs.Common.{Err, Ok, ap, arith, length}
-use Rattle.c104_describe.specs.Plans.{Plan}
+use Rattle.std.proofs.Common.{Err, Ok, arith, length, map}
 use Rattle.c104_net.specs.Stages.{stage_apply, stage_of}
 use Rattle.c104_net.proofs.PartRuns.{number_next, number_stops, numbers_done}
 use Rattle.c104_net.proofs.PortWalks.{of_switch, of_switches}
@@ -8,19 +7,13 @@ use Rattle.c104_net.proofs.rounds.ports.walk_switches.Goals as goal
 
 pub loop-switch-preserved : goal.loop-switch-preserved
 loop-switch-preserved g c =
-    let counted = ap length c.switches-switches.ensures.switches in
-    let planned = ap (λ (p : Plan). length p.switches) c.plan.ensures.plan in
-    number_next (stage_apply g.T.TokenKind.kind g.P.Place.keeps) (of_switch c.args.wires.now c.args.part) (length c.args.wires.now.switches) c.loop-switch.switch (stage_of g.P.Place.state g.P.Place.start g.P.Place.trace c.args.wires.now c.args.places.now c.args.count.now) (stage_of g.P.Place.state g.P.Place.start g.P.Place.trace c.args.wires.now c.loop-switch.places c.loop-switch.count) (stage_of g.P.Place.state g.P.Place.start g.P.Place.trace c.args.wires.now c.walk_links.new.places c.walk_links.new.count) c.loop-switch.changed c.in_ok-done.done (omega (arith, counted, planned, c.loop-switch-test.true)) c.loop-switch.invariant c.in_ok-done.ensures
+    number_next (stage_apply g.T.TokenKind.kind g.P.Place.keeps) (of_switch c.args.wires.now c.args.part) (length c.args.wires.now.switches) c.loop-switch.switch (stage_of c.args.wires.now (map g.P.Place.shown c.args.places.now) c.args.count.now) (stage_of c.args.wires.now (map g.P.Place.shown c.loop-switch.places) c.loop-switch.count) (stage_of c.args.wires.now (map g.P.Place.shown c.walk_links.new.places) c.walk_links.new.count) c.loop-switch.changed c.in_ok-done.done (omega (arith, c.switch_count-switches.ensures, c.loop-switch-test.true)) c.loop-switch.invariant c.in_ok-done.ensures
 
 pub returns : goal.returns
 returns g c =
-    let counted = ap length c.switches-switches.ensures.switches in
-    let planned = ap (λ (p : Plan). length p.switches) c.plan.ensures.plan in
-    of_switches c.args.wires.now c.args.part (stage_apply g.T.TokenKind.kind g.P.Place.keeps) (stage_of g.P.Place.state g.P.Place.start g.P.Place.trace c.args.wires.now c.args.places.now c.args.count.now) (stage_of g.P.Place.state g.P.Place.start g.P.Place.trace c.args.wires.now c.loop-switch.places c.loop-switch.count) (Ok c.loop-switch.changed) (length c.args.wires.now.switches) (numbers_done (stage_apply g.T.TokenKind.kind g.P.Place.keeps) (of_switch c.args.wires.now c.args.part) (length c.args.wires.now.switches) c.loop-switch.switch (stage_of g.P.Place.state g.P.Place.start g.P.Place.trace c.args.wires.now c.args.places.now c.args.count.now) (stage_of g.P.Place.state g.P.Place.start g.P.Place.trace c.args.wires.now c.loop-switch.places c.loop-switch.count) c.loop-switch.changed (omega (arith, counted, planned)) c.loop-switch.invariant)
+    of_switches c.args.wires.now c.args.part (stage_apply g.T.TokenKind.kind g.P.Place.keeps) (stage_of c.args.wires.now (map g.P.Place.shown c.args.places.now) c.args.count.now) (stage_of c.args.wires.now (map g.P.Place.shown c.loop-switch.places) c.loop-switch.count) (Ok c.loop-switch.changed) (length c.args.wires.now.switches) (numbers_done (stage_apply g.T.TokenKind.kind g.P.Place.keeps) (of_switch c.args.wires.now c.args.part) (length c.args.wires.now.switches) c.loop-switch.switch (stage_of c.args.wires.now (map g.P.Place.shown c.args.places.now) c.args.count.now) (stage_of c.args.wires.now (map g.P.Place.shown c.loop-switch.places) c.loop-switch.count) c.loop-switch.changed (omega (arith, c.switch_count-switches.ensures)) c.loop-switch.invariant)
 
 pub returns-in_err-done : goal.returns-in_err-done
 returns-in_err-done g c =
-    let counted = ap length c.switches-switches.ensures.switches in
-    let planned = ap (λ (p : Plan). length p.switches) c.plan.ensures.plan in
     rw (err_is _ _ c.from_residual.ensures)
-    (of_switches c.args.wires.now c.args.part (stage_apply g.T.TokenKind.kind g.P.Place.keeps) (stage_of g.P.Place.state g.P.Place.start g.P.Place.trace c.args.wires.now c.args.places.now c.args.count.now) (stage_of g.P.Place.state g.P.Place.start g.P.Place.trace c.args.wires.now c.walk_links.new.places c.walk_links.new.count) (Err c.in_err-done.field-0.0) (length c.args.wires.now.switches) (number_stops (stage_apply g.T.TokenKind.kind g.P.Place.keeps) (of_switch c.args.wires.now c.args.part) (length c.args.wires.now.switches) c.loop-switch.switch (stage_of g.P.Place.state g.P.Place.start g.P.Place.trace c.args.wires.now c.args.places.now c.args.count.now) (stage_of g.P.Place.state g.P.Place.start g.P.Place.trace c.args.wires.now c.loop-switch.places c.loop-switch.count) (stage_of g.P.Place.state g.P.Place.start g.P.Place.trace c.args.wires.now c.walk_links.new.places c.walk_links.new.count) c.loop-switch.changed c.in_err-done.field-0.0 (omega (arith, counted, planned, c.loop-switch-test.true)) c.loop-switch.invariant c.in_err-done.ensures))
+    (of_switches c.args.wires.now c.args.part (stage_apply g.T.TokenKind.kind g.P.Place.keeps) (stage_of c.args.wires.now (map g.P.Place.shown c.args.places.now) c.args.count.now) (stage_of c.args.wires.now (map g.P.Place.shown c.walk_links.new.places) c.walk_links.new.count) (Err c.in_err-done.field-0.0) (length c.args.wires.now.switches) (number_stops (stage_apply g.T.TokenKind.kind g.P.Place.keeps) (of_switch c.args.wires.now c.args.part) (length c.args.wires.now.switches) c.loop-switch.switch (stage_of c.args.wires.now (map g.P.Place.shown c.args.places.now) c.args.count.now) (stage_of c.args.wires.now (map g.P.Place.shown c.loop-switch.places) c.loop-switch.count) (stage_of c.args.wires.now (map g.P.Place.shown c.walk_links.new.places) c.walk_links.new.count) c.loop-switch.changed c.in_err-done.field-0.0 (omega (arith, c.switch_count-switches.ensures, c.loop-switch-test.true)) c.loop-switch.invariant c.in_err-done.ensures))

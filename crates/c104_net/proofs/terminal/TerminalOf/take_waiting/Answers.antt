@@ -1,4 +1,5 @@
-use Rattle.std.proofs.Common.{◌≡◌, ◌∙◌, ◌≤◌, ◌<◌, ℕ, ◌+◌, suc, List, Some, get_or, length, map, slice_get, slice_index_or, refl, subst, sym, ap, arith}
+use Rattle.std.proofs.Common.{◌≡◌, ◌∙◌, ◌≤◌, ◌<◌, ℕ, ◌+◌, suc, List, Some, get_or, length, map, slice_get, slice_index_or, refl, subst, sym}
+use Rattle.std.proofs.Common.{ap, arith}
 use Rattle.std.proofs.lemmas.Option.{slice_get-get_or}
 use Rattle.c104_net.specs.Outboxes.{packet_of, waiting_from, waiting_taken, IsPlace, TerminalPacket}
 use Rattle.c104_net.proofs.Waiting.{byte_keeps, end_keeps, takes_byte, takes_end}

@@ -1,0 +1,15 @@
+use Rattle.std.proofs.Common.{◌∙◌, List, ap, map}
+use Rattle.c104_token.specs.declared.tokens.Token.{Token}
+use Rattle.c104_net.specs.NetRecords.{NetRecord, node_state}
+use Rattle.c104_net.specs.Network.{network_arrived, network_of}
+use Rattle.c104_net.specs.Nodes.{Node}
+use Rattle.c104_net.specs.Places.{Shown}
+use Rattle.c104_net.specs.RecordedPlaces.{node_shown}
+use Rattle.c104_net.proofs.FirstRecords.{map_twice}
+use Rattle.c104_net.proofs.net.Net.arrived.Goals as goal
+
+pub returns : goal.returns
+returns c =
+    c.arrived_at.ensures
+    ∙ ap (λ (ns : List (Node Token)). network_arrived (network_of c.self.inside.wires ns) c.args.terminal) (map_twice (λ (s : Shown Token). s.state) node_shown c.as_slice.result.now ∙ ap (map node_state) c.as_slice.ensures.value)
+    ∙ ap (λ (r : NetRecord). network_arrived r.network c.args.terminal) c.self.view_is
