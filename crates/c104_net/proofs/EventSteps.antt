@@ -72,9 +72,6 @@ is_switch_port (port.Terminal t) = false
 module _ {A : Type 0} (kind : Kind A) where
   -- one act at a place, as the step that its name says
   module _ (net : Network A) (k number : ℕ) (a : ActOf A) where
-    abbrev as_told : Option (ReplyOf A × List (Node A)) → Option (Reply × Network A)
-    as_told made = told_step kind net made
-
     done_alone : (f : Node A → Option (Node A)) → ((n : Node A) → node_act kind number a n ≡ done_by (f n)) → done_step kind net (step_at net.nodes k f) ≡ told_step kind net (nodes_act kind net.nodes k number a)
     done_alone f same = by_node (slice_get net.nodes k)
       where

@@ -1,6 +1,6 @@
 -- In a run from a start whose traces are within their limit, each terminator that arrives tells its packet, and in numbers
 -- that its eight bytes have room for. So what is kept of it tells the same packet.
-use Rattle.std.proofs.Common.{◌≡◌, ◌∙◌, ◌≤◌, ◌<◌, ◌%◌, ◌++◌, ℕ, suc, zero, true, false, List, [], ◌∷◌, Some, None, Result, Ok, length, map}
+use Rattle.std.proofs.Common.{◌≡◌, ◌∙◌, ◌≤◌, ◌<◌, ◌%◌, ◌++◌, ℕ, suc, zero, true, List, [], ◌∷◌, Some, None, Result, Ok, length, map}
 use Rattle.std.proofs.Common.{slice_get, refl, sym, ap, subst, arith}
 use Rattle.std.proofs.lemmas.Bool.{true≢false}
 use Rattle.std.proofs.lemmas.Option.{slice_get-map}

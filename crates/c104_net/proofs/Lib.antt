@@ -119,6 +119,3 @@ pub mod TracedTokens
 pub mod TracedArrivals
 pub mod RandomOwners
 pub mod RandomHeaders
-mod RandomRuns
-mod RandomAccepted
-mod RandomPortals

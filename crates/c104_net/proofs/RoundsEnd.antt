@@ -9,35 +9,29 @@ use Rattle.c104_describe.specs.Wiring.{peer}
 use Rattle.c104_event.specs.declared.events.Event.{Event}
 use Rattle.c104_event.specs.declared.faults.EventFault.{EventFault}
 use Rattle.c104_link.specs.Buffers.{Incoming}
-use Rattle.c104_net.proofs.StartedRuns.{run_started}
 use Rattle.c104_net.proofs.PacketInvariant.{IsLabelled}
 use Rattle.c104_net.proofs.Promises.{each, promised, starts, IsStart}
-use Rattle.c104_net.proofs.RunOrigins.{still_steady}
 use Rattle.c104_net.proofs.RunSteps.{header_positive}
 use Rattle.c104_net.proofs.SentBytes.{AreBytesSent}
-use Rattle.c104_net.proofs.StandingRuns.{started_traced, quiet_map, run_steady}
-use Rattle.c104_net.proofs.StartMaps.{starts_are}
 use Rattle.c104_net.proofs.StepMaps.{apply_map}
-use Rattle.c104_net.proofs.TracedRuns.{token_of, traced_from}
+use Rattle.c104_net.proofs.TracedRuns.{token_of}
 use Rattle.c104_net.proofs.WorkRounds.{rounds_rest}
 use Rattle.c104_net.specs.Balance.{IsSteady}
 use Rattle.c104_net.specs.Deliveries.{Promise}
 use Rattle.c104_net.specs.EventRuns.{Outcome, run_events, unless_fault}
-use Rattle.c104_net.specs.Network.{Network, network_apply, network_of}
+use Rattle.c104_net.specs.Network.{Network, network_apply}
 use Rattle.c104_net.specs.Nodes.{Node}
-use Rattle.c104_net.specs.Quiet.{IsQuiet, IsQuietNode}
+use Rattle.c104_net.specs.Quiet.{IsQuiet}
 use Rattle.c104_net.specs.Rounds.{rounds}
 use Rattle.c104_net.specs.Runs.{IsDoneRun}
-use Rattle.c104_net.specs.Standstill.{IsStarted, IsAcyclicRun}
+use Rattle.c104_net.specs.Standstill.{IsStarted}
 use Rattle.c104_check.specs.ChannelDependencies.{IsRanking}
-use Rattle.c104_net.specs.Starts.{start_node}
 use Rattle.c104_net.specs.Traced.{traced_kind}
 use Rattle.c104_net.specs.TracedRuns.{map_incoming, map_input, map_network, map_node, map_outgoing}
 use Rattle.c104_net.specs.Unchanged.{IsUnchanged}
 use Rattle.c104_net.specs.HeaderWork.{ahead_at, first_ahead, full_incoming, full_input, full_link, full_node, full_work, random_ahead}
 use Rattle.c104_net.specs.HeaderWork.{random_work}
 use Rattle.c104_net.specs.Work.{header_held, level, sum_at, weigh}
-use Rattle.c104_net.specs.declared.starts.NodeStart.{NodeStart}
 use Rattle.c104_net.specs.declared.traced.Traced.{Traced}
 use Rattle.c104_switch.specs.Actions.{Reply}
 use Rattle.c104_switch.specs.Phases.{with_header}
@@ -46,10 +40,9 @@ use Rattle.c104_switch.specs.declared.phase.Phase.{Phase}
 use Rattle.c104_switch.specs.declared.phase.Phase.TheVariants.{Fresh, Head, Sinking, Stream, Want}
 use Rattle.c104_token.specs.Kinds.{plain_kind}
 use Rattle.c104_token.specs.declared.tokens.Token.{Token}
-use Rattle.std.proofs.Common.{Err, List, Ok, Result, Some, [], ap, get_or, length, map, refl, subst, suc, sym, ℕ, ◌+◌, ◌-◌, ◌*◌, ◌<◌, ◌∙◌}
+use Rattle.std.proofs.Common.{Err, List, Ok, Result, Some, [], ap, length, map, refl, subst, suc, sym, ℕ, ◌+◌, ◌-◌, ◌*◌, ◌<◌, ◌∙◌}
 use Rattle.std.proofs.Common.{◌∷◌, ◌≡◌}
 use Rattle.std.proofs.lemmas.List.{length-map}
-use Rattle.std.proofs.lemmas.List.Elements.{All-map}
 use Rattle.c104_net.specs.declared.node.NodeOf.TheVariants as node
 use Rattle.c104_describe.specs.declared.ports.Port.TheVariants as port
 
@@ -121,21 +114,3 @@ rounds_deliver image start mid ended events rank n is_plan accepted falls is_sta
     (subst (λ (net : Network Traced). random_work start.plan (routes_of start.plan image) rank net.nodes < n) (sym k.1) few)
     (subst (λ net. ◌≡◌ {A = Outcome (Network Traced)} (run_events (network_apply traced_kind) net (rounds start.plan n)) (Ok tt, ended)) (sym k.1) is) in
     (subst IsQuiet r.is r.quiet, subst (Promise (routes_of start.plan image)) r.is (promised start.plan image is_plan labelled r.nodes r.good))
-
--- over plain tokens: after more rounds than there is work nothing stands anywhere
-pub rounds_end : (plan : Plan) (image : Image) (starts : List NodeStart) (events : List (Event × Reply)) (nodes : List (Node Token)) (ended : Network Token) (n : ℕ) → IsPlan plan → (is : IsAcyclicRun plan image starts events nodes) → AreBytesSent events → random_work plan (routes_of plan image) is.acyclic.0 nodes < n →
-    ◌≡◌ {A = Outcome (Network Token)} (run_events (network_apply plain_kind) (network_of plan nodes) (rounds plan n)) (Ok tt, ended) → IsQuiet ended
-rounds_end plan image starts events nodes ended n is_plan is sent few end =
-    let rank : SwitchPort → ℕ = is.acyclic.0 in
-    let found = traced_from plan starts nodes events is.run in
-    let balance = run_steady traced_kind (network_of plan (map start_node starts)) (network_of plan found.0) events is_plan found.1.run (still_steady Token Traced plan starts is.steady) in
-    let started = run_started plain_kind (routes_of plan image) (network_of plan (map start_node starts)) (network_of plan nodes) events is.run is.unchanged is.started in
-    let same : random_work plan (routes_of plan image) is.acyclic.0 found.0 ≡ random_work plan (routes_of plan image) is.acyclic.0 nodes = sym (work_map token_of plan (routes_of plan image) is.acyclic.0 found.0) ∙ ap (random_work plan (routes_of plan image) is.acyclic.0) found.1.plain in
-    let after = run_events (network_apply traced_kind) (network_of plan found.0) (rounds plan n) in
-    let both : ◌≡◌ {A = Outcome (Network Token)} (after.0, map_network token_of after.1) (Ok tt, ended) = sym (run_plain (network_of plan found.0) (rounds plan n)) ∙ ap (λ ns. run_events (network_apply plain_kind) (network_of plan ns) (rounds plan n)) found.1.plain ∙ end in
-    let told : after.0 ≡ Ok tt = ap (λ (z : Outcome (Network Token)). z.0) both in
-    let whole : ◌≡◌ {A = Outcome (Network Traced)} after (Ok tt, after.1) = ap (λ o. (o, after.1)) told in
-    let quiet = (rounds_deliver image (network_of plan (map start_node starts)) (network_of plan found.0) after.1 events is.acyclic.0 n is_plan is.accepted is.acyclic.1 (starts_are plan image starts is.set) found.1.run is.unchanged sent balance
-    (started_traced plan starts nodes events is_plan is.run found.0 found.1.plain started) (subst (λ k. k < n) (sym same) few) whole).0 in
-    let last : map_network token_of after.1 ≡ ended = ap (λ (z : Outcome (Network Token)). z.1) both in
-    subst IsQuiet last (All-map IsQuietNode (map_node token_of) after.1.nodes (λ k d inside. quiet_map token_of (get_or after.1.nodes k d) (quiet k d inside)))

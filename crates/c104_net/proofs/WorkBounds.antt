@@ -8,7 +8,7 @@ use Rattle.c104_link.specs.Buffers.{Outgoing}
 use Rattle.c104_net.specs.Nodes.{Node}
 use Rattle.c104_net.specs.Traces.{part}
 use Rattle.c104_net.specs.Work.{header_held, highest_rank, input_work, level, link_work, most_weight, node_room, node_tokens, node_work}
-use Rattle.c104_net.specs.Work.{output_work, room_held, sum_at, told_work, tokens_held, weigh, work, work_bound}
+use Rattle.c104_net.specs.Work.{output_work, room_held, sum_at, told_work, tokens_held, weigh, work_bound}
 use Rattle.c104_link.proofs.MadeSteps.{given}
 use Rattle.c104_switch.specs.Phases.{with_header}
 use Rattle.c104_switch.specs.Views.{link_view, sides_view}
@@ -76,13 +76,6 @@ module _ (plan : Plan) (rank high : SwitchPort → ℕ) (less : (p : SwitchPort)
         let outputs = sum_more (link_work plan rank k) (link_work plan high k) (λ l q. output_more (peer plan (port.Switch k l)) q) 0 S.outputs in
         omega (arith, inputs, outputs)
     node_more k (node.Terminal T) = let out = output_more (peer plan (port.Terminal (k - length plan.switches))) T.output in omega (arith, out)
-
-    pub work_more : (nodes : List (Node A)) → work plan rank nodes ≤ work plan high nodes
-    work_more nodes = sum_more (node_work plan rank) (node_work plan high) node_more 0 nodes
-
--- where no rank is higher than there are inputs, no work is above the bound
-pub work_within : {A : Type 0} (plan : Plan) (rank : SwitchPort → ℕ) → ((p : SwitchPort) → rank p ≤ 32 * length plan.switches) → (nodes : List (Node A)) → work plan rank nodes ≤ work_bound plan nodes
-work_within plan rank low nodes = work_more plan rank (highest_rank plan) low nodes
 
 -- the bound by tokens and room alone
 module _ (most : ℕ) where
