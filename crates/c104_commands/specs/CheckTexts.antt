@@ -2,7 +2,7 @@
 use Rattle.std.specs.Prelude.{ℕ, List, [], ◌∷◌, ◌++◌, flat_map, codes}
 use Rattle.std.specs.Fmt.{decimal}
 use Rattle.c104_describe.specs.Plans.{Plan}
-use Rattle.c104_describe.specs.PlanPrint.{port_text, terminal_name}
+use Rattle.c104_describe.specs.PortTexts.{port_text, terminal_name}
 use Rattle.c104_check.specs.Routes.{to_port}
 use Rattle.c104_check.specs.declared.ports.SwitchPort.{SwitchPort}
 use Rattle.c104_check.specs.CheckFaults.{check_fault_name, check_fault_number}

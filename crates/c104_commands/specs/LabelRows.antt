@@ -3,7 +3,8 @@ use Rattle.std.specs.Prelude.{ℕ, ◌≡◌, ◌≤◌, Bool, false, List, leng
 use Rattle.c104_describe.specs.Plans.{Plan}
 use Rattle.c104_describe.specs.PlanImage.{Image, hand_image}
 use Rattle.c104_describe.specs.PlanPrint.{plan_text}
-use Rattle.c104_describe.specs.PlanText.{most_bytes, read_description}
+use Rattle.c104_describe.specs.PlanText.{read_description}
+use Rattle.c104_describe.specs.TextCut.{most_bytes}
 use Rattle.c104_describe.specs.RowPlans.{IsOfNetwork, row_plan}
 use Rattle.c104_describe.specs.declared.plans.Shape.TheVariants.{Hand}
 

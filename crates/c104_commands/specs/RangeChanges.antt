@@ -5,7 +5,7 @@ use Rattle.std.specs.Prelude.{◌≡◌, ◌≢◌, ◌⊎◌, ℕ, ◌+◌, ◌
 use Rattle.std.specs.Fmt.{decimal}
 use Rattle.c104_describe.specs.Plans.{Plan, host_port}
 use Rattle.c104_describe.specs.declared.plans.Terminal.{Terminal}
-use Rattle.c104_describe.specs.PlanPrint.{port_text}
+use Rattle.c104_describe.specs.PortTexts.{port_text}
 
 -- how many headers there are
 abbrev pub header_values : Plan → ℕ

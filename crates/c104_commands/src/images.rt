@@ -1,7 +1,7 @@
 //! What `label` prints of an image.
 ghost use Rattle.std.specs.Prelude.{◌≡◌, ◌++◌, length, slice_get, IfOk, OnOk};
 ghost use Rattle.std.specs.String.{string_bytes};
-ghost use Rattle.c104_describe.specs.PlanPrint.{switch_name, terminal_name};
+ghost use Rattle.c104_describe.specs.PortTexts.{switch_name, terminal_name};
 ghost use Rattle.c104_commands.specs.ImageTexts.{image_text, range_line, range_lines, switch_lines, value_line, value_lines};
 
 use crate::texts::{switch_name, terminal_name};

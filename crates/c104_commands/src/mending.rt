@@ -4,7 +4,7 @@ ghost use Rattle.std.specs.String.{string_bytes};
 ghost use Rattle.c104_commands.specs.RangeChanges.{header_values};
 ghost use Rattle.c104_commands.specs.RowChanges.{NoneBegins, TellsSelect, row_lines, row_text};
 ghost use Rattle.c104_commands.specs.RowSteps.{EndsAt, change_text, new_rows, rows_if};
-ghost use Rattle.c104_describe.specs.PlanPrint.{select_text};
+ghost use Rattle.c104_describe.specs.PortTexts.{select_text};
 ghost use Rattle.c104_describe.specs.Plans.{label_count};
 
 use crate::row_changes::{Change, NewRows, RowChange, find_row_change};

@@ -2,7 +2,8 @@
 ghost use Rattle.std.specs.Prelude.{ℕ, ◌≡◌, ◌≤◌, List, Ok, Result, length};
 ghost use Rattle.std.specs.Io.KnownBytes.{IsAtEnd, prepend_known};
 ghost use Rattle.c104_describe.specs.PlanImage.{Fits};
-ghost use Rattle.c104_describe.specs.PlanText.{most_bytes, read_description};
+ghost use Rattle.c104_describe.specs.PlanText.{read_description};
+ghost use Rattle.c104_describe.specs.TextCut.{most_bytes};
 ghost use Rattle.c104_describe.specs.Plans.{Plan as ThePlan};
 ghost use Rattle.c104_describe.specs.declared.faults.PlanFault.{PlanFault as ThePlanFault};
 ghost use Rattle.c104_script.specs.Parts.{parts, AreOnlyParts, StopsBeforeScript};

@@ -3,7 +3,8 @@ ghost use Rattle.std.specs.Prelude.{ℕ, ◌≡◌, ◌≢◌, ◌≤◌, true, 
 ghost use Rattle.std.specs.String.{string_bytes};
 ghost use Rattle.c104_check.specs.Routes.{IsAccepted, routes_of};
 ghost use Rattle.c104_describe.specs.PlanImage.{Fits};
-ghost use Rattle.c104_describe.specs.PlanText.{most_bytes, read_description};
+ghost use Rattle.c104_describe.specs.PlanText.{read_description};
+ghost use Rattle.c104_describe.specs.TextCut.{most_bytes};
 ghost use Rattle.c104_label.specs.Images.{IsImageOf, is_labelled_shape};
 ghost use Rattle.c104_commands.specs.Endings.{EndsBefore, IsSetup};
 ghost use Rattle.c104_commands.specs.Setups.{ComesTo, IsOutOfMemory, RefusalEnds, label_fault_text, refused_text};

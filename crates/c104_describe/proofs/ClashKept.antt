@@ -9,7 +9,8 @@ use Rattle.c104_describe.specs.TextWords.{read_number, is_name}
 use Rattle.c104_describe.specs.PlanFaults.{PlanFault, PlanFaultKind}
 use Rattle.c104_describe.specs.PlanWords.{Keyword, keyword_of, number_within, range_words}
 use Rattle.c104_describe.specs.Plans.{Plan, is_buffer_size, most_header_bytes, switch_number}
-use Rattle.c104_describe.specs.PlanDrafts.{Draft, has_settings, has_some, is_begun, is_by_hand, is_mixed}
+use Rattle.c104_describe.specs.PlanDrafts.{Draft, is_begun, is_by_hand, is_mixed}
+use Rattle.c104_describe.specs.PlanParts.{has_settings, has_some}
 use Rattle.c104_describe.specs.PlanLines.{after_from, buffer_line, header_line, in_draft, keyword_line, label_line, read_plan_line, read_plan_words, terminal_line}
 use Rattle.c104_describe.specs.PlanText.{draft_after_line, read_plan_lines}
 use Rattle.c104_describe.specs.EarlierLines.{asks_labels, gives_switches, gives_whole, opening, opening_by, says_begin, sets_labels, words_opening}

@@ -7,9 +7,10 @@ use Rattle.c104_describe.specs.declared.plans.Shape.TheVariants.{Hand}
 use Rattle.c104_describe.specs.declared.ports.Port.TheVariants as port
 use Rattle.c104_describe.specs.Distinctness.{AreDistinct}
 use Rattle.c104_describe.specs.Ports.{Port, Wire, is_port, both_ends, IsSwitchPort}
-use Rattle.c104_describe.specs.PlanDrafts.{without_first}
+use Rattle.c104_describe.specs.PlanParts.{without_first}
 use Rattle.c104_describe.specs.Plans.{Plan, Terminal, AreNames, IsPlan, IsRange, IsTreePlan, host_port, label_count, next_first, total_count}
-use Rattle.c104_describe.specs.PlanPrint.{counted_words, delete_words, port_text, terminal_name, wire_words}
+use Rattle.c104_describe.specs.PlanPrint.{counted_words, delete_words, wire_words}
+use Rattle.c104_describe.specs.PortTexts.{port_text, terminal_name}
 
 -- the first range begins at n
 abbrev pub counted_from : ℕ → List Terminal → List Terminal

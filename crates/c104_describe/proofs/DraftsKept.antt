@@ -12,7 +12,8 @@ use Rattle.c104_describe.specs.TextWords.{is_name, read_number}
 use Rattle.c104_describe.specs.PlanFaults.{PlanFault, PlanFaultKind}
 use Rattle.c104_describe.specs.PlanWords.{Keyword, keyword_of, number_within, range_words}
 use Rattle.c104_describe.specs.Plans.{Plan, Shape, IsPlan, IsUnset, is_buffer_size, most_header_bytes, next_first, rows_of, switch_number, total_count}
-use Rattle.c104_describe.specs.PlanDrafts.{Draft, finished, has_settings, has_some, is_by_hand, is_mixed, rooted, says_from}
+use Rattle.c104_describe.specs.PlanDrafts.{Draft, finished, is_by_hand, is_mixed, rooted, says_from}
+use Rattle.c104_describe.specs.PlanParts.{has_settings, has_some}
 use Rattle.c104_describe.specs.PlanLines.{after_from, header_line, buffer_line, label_line, in_draft, keyword_line, read_plan_words, read_plan_line, terminal_line}
 use Rattle.c104_describe.specs.PlanText.{draft_after_line, empty_draft, read_plan_lines}
 use Rattle.c104_describe.proofs.PlanKept.{with_header, with_buffer}

@@ -9,7 +9,7 @@ use Rattle.std.proofs.lemmas.Simd.{map-map}
 use Rattle.c104_describe.specs.TextWords.{is_digit, is_letter, is_name, is_name_byte}
 use Rattle.c104_describe.specs.Layouts.{Layout, filled_name, filled_switches, filled_terminal, filled_terminals}
 use Rattle.c104_describe.specs.Plans.{Terminal, AreNames, names}
-use Rattle.c104_describe.proofs.PrintedText.{list_all-weaker}
+use Rattle.c104_describe.proofs.TextBytes.{list_all-weaker}
 use Rattle.c104_describe.proofs.PrintedNumbers.{decimal_digits}
 use Rattle.c104_describe.proofs.PrintedPorts.{differ_eq}
 use Rattle.c104_describe.proofs.RangeLists.{all_range, distinct_both, distinct_range, each_range}

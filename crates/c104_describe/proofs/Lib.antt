@@ -10,6 +10,7 @@ pub mod RowCounts
 pub mod PlanKept
 mod DistinctPlaces
 mod PrintedText
+pub mod TextBytes
 mod PrintedNumbers
 mod PrintedPorts
 -- plans of meshes and cubes
@@ -41,7 +42,7 @@ mod SaidKept
 mod SaidLines
 mod SaidRead
 pub mod SaidLaw
-mod NameText
+pub mod NameText
 mod LineWords
 mod PrintedSteps
 mod PrintedParts

@@ -1,12 +1,19 @@
 -- A name is text.
-use Rattle.std.proofs.Common.{◌≡◌, ℕ, zero, suc, ◌<◌, true, List, [], ◌∷◌, arith}
+use Rattle.std.proofs.Common.{◌≡◌, ℕ, zero, suc, ◌<◌, true, List, [], ◌∷◌, arith, ◌&&◌, ◌||◌, ◌==◌, length, nat_lt}
 use Rattle.std.proofs.lemmas.Bool.{and_parts}
 use Rattle.std.proofs.lemmas.Bool.Decides.{nat_tests}
 use Rattle.std.specs.List.{list_all}
 use Rattle.std.specs.Str.{IsAscii, IsUtf8}
 use Rattle.std.proofs.lemmas.Str.{IsUtf8-from_ascii}
-use Rattle.c104_describe.specs.TextWords.{is_name, is_name_byte}
-use Rattle.c104_describe.proofs.PrintedPorts.{name_bytes}
+use Rattle.c104_describe.specs.TextWords.{is_name, is_name_byte, is_digit, is_letter}
+
+-- each byte of a name may stand in one
+pub name_bytes : (name : List ℕ) → is_name name ≡ true → list_all is_name_byte name ≡ true
+name_bytes [] is = cc
+name_bytes (x ∷ rest) is =
+    let outer = and_parts (is_letter x) (nat_lt (length rest) 32 && list_all is_name_byte rest) is in
+    let inner = and_parts (nat_lt (length rest) 32) (list_all is_name_byte rest) outer.1 in
+    λ i. (((outer.0 i) || is_digit x) || (x == 0x5f || x == 0x2d)) && inner.1 i
 
 below_128 : (b : ℕ) → is_name_byte b ≡ true → b < 128
 below_128 b is = grind (arith, nat_tests)

@@ -8,6 +8,9 @@ use Rattle.std.proofs.lemmas.List.{length-map, map-append}
 use Rattle.indexmap.specs.IndexSet.{insert_key}
 use Rattle.c104_describe.proofs.PortLemmas.{list_any-map}
 use Rattle.c104_describe.specs.PlanIndex.{texts}
+use Rattle.c104_describe.specs.PlanParts.{without_first}
+use Rattle.c104_describe.specs.Plans.{Terminal}
+use Rattle.std.proofs.lemmas.Simd.{map-map}
 
 prefix_len-map : {X Y : Type 0} (test : Y → Bool) (f : X → Y) (xs : List X) → prefix_len test (map f xs) ≡ prefix_len (λ x. test (f x)) xs
 prefix_len-map test f [] = refl
@@ -59,3 +62,7 @@ texts_copied (v ∷ keys) (w ∷ copies) all =
     let first : w.items ≡ v.items = copied v.items w.items all.0.0 in
     let rest : texts copies ≡ texts keys = texts_copied keys copies all.1 in
     cc
+
+-- they have the same names
+pub same_names : (terminals : List Terminal) → map (λ (t : Terminal). t.name) (map without_first terminals) ≡ map (λ (t : Terminal). t.name) terminals
+same_names terminals = map-map (λ (t : Terminal). t.name) without_first terminals

@@ -5,18 +5,15 @@ use Rattle.std.proofs.lemmas.List.Elements.{All-map, All-weaker}
 use Rattle.c104_describe.specs.declared.plans.Shape.TheVariants.{Tree}
 use Rattle.c104_describe.specs.Distinctness.{AreDistinct}
 use Rattle.c104_describe.specs.Ports.{is_port, both_ends, IsSwitchPort}
-use Rattle.c104_describe.specs.PlanDrafts.{without_first}
+use Rattle.c104_describe.specs.PlanParts.{without_first}
 use Rattle.c104_describe.specs.Plans.{Plan, Terminal, AreNames, AreTerminals, IsPlan, IsRange, IsUnset, host_port, next_first, total_count}
 use Rattle.c104_describe.proofs.PlanRanges.{next_first-le}
 use Rattle.std.proofs.lemmas.Simd.{map-map}
+use Rattle.c104_describe.proofs.NamesKept.{same_names}
 
 total_same : (terminals : List Terminal) → total_count (map without_first terminals) ≡ total_count terminals
 total_same [] = refl
 total_same (t ∷ terminals) = ap (λ n. t.count + n) (total_same terminals)
-
--- they have the same names
-pub same_names : (terminals : List Terminal) → map (λ (t : Terminal). t.name) (map without_first terminals) ≡ map (λ (t : Terminal). t.name) terminals
-same_names terminals = map-map (λ (t : Terminal). t.name) without_first terminals
 
 module _ (plan : Plan) (kept : IsPlan plan) where
   counts : List Terminal

@@ -7,7 +7,8 @@ use Rattle.c104_describe.specs.Layouts.{Layout, IsCube, IsMesh, cube, mesh}
 use Rattle.c104_describe.specs.Plans.{Plan, Shape, IsFilled, IsPlan}
 use Rattle.c104_describe.specs.PlanWords.{number_within}
 use Rattle.c104_describe.specs.PlanLines.{filled_plan, read_plan_words}
-use Rattle.c104_describe.specs.PlanText.{draft_after_line, empty_plan, plan_of_draft}
+use Rattle.c104_describe.specs.PlanText.{draft_after_line, plan_of_draft}
+use Rattle.c104_describe.specs.PlanParts.{empty_plan}
 use Rattle.c104_describe.specs.PlanPrint.{cube_words, mesh_words}
 use Rattle.c104_describe.proofs.PrintedText.{read_lines_of_words}
 use Rattle.c104_describe.proofs.PrintedParts.{lines_after_network}

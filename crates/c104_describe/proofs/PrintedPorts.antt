@@ -11,22 +11,16 @@ use Rattle.c104_interval.specs.declared.intervals.Select.{Select}
 use Rattle.c104_interval.specs.declared.intervals.Select.TheVariants.{Link, Discard, Sink}
 use Rattle.c104_describe.specs.declared.text.Dots.TheVariants.{At, Several}
 use Rattle.c104_describe.specs.Checks.{◌>>=◌}
-use Rattle.c104_describe.specs.TextWords.{is_digit, is_name, is_name_byte, is_letter, dots, dots_from}
+use Rattle.c104_describe.specs.TextWords.{is_digit, is_name, is_name_byte, dots, dots_from}
 use Rattle.c104_describe.specs.PlanWords.{number_within, port_sides, sides_of_dots, port_word, select_word}
 use Rattle.c104_describe.specs.Plans.{IsPlanSelect, last_link}
-use Rattle.c104_describe.specs.PlanPrint.{select_text}
-use Rattle.c104_describe.proofs.PrintedText.{is_word, is_word_byte, list_all-weaker}
+use Rattle.c104_describe.specs.PortTexts.{select_text}
+use Rattle.c104_describe.proofs.PrintedText.{is_word, is_word_byte}
+use Rattle.c104_describe.proofs.TextBytes.{list_all-weaker}
 use Rattle.c104_describe.proofs.PrintedNumbers.{decimal_digits, decimal_bytes, number_within-decimal, word-decimal}
+use Rattle.c104_describe.proofs.NameText.{name_bytes}
 
 -- Names
-
--- each byte of a name may stand in one
-pub name_bytes : (name : List ℕ) → is_name name ≡ true → list_all is_name_byte name ≡ true
-name_bytes [] is = cc
-name_bytes (x ∷ rest) is =
-    let outer = and_parts (is_letter x) (nat_lt (length rest) 32 && list_all is_name_byte rest) is in
-    let inner = and_parts (nat_lt (length rest) 32) (list_all is_name_byte rest) outer.1 in
-    λ i. (((outer.0 i) || is_digit x) || (x == 0x5f || x == 0x2d)) && inner.1 i
 
 name_byte : (b : ℕ) → is_name_byte b ≡ true → is_word_byte b ≡ true
 name_byte b is = grind (arith, nat_tests)

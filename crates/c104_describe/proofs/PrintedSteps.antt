@@ -17,9 +17,11 @@ use Rattle.c104_describe.specs.TextWords.{is_name}
 use Rattle.c104_describe.specs.Ports.{Port, Wire, is_port, is_any_at, both_ends, IsSwitchPort}
 use Rattle.c104_describe.specs.Plans.{Plan, PlanBase, PlanRandom, PlanRow, Terminal, IsPlan, IsPlanSelect, IsPlanWire, IsLaterPort, IsRange, names, host_port, linked_ports, is_taken, is_linked, is_deleted, is_row_of, rows_of, switch_number, terminal_number, label_count}
 use Rattle.c104_describe.specs.PlanWords.{number_within, port_sides, port_word, select_word}
-use Rattle.c104_describe.specs.PlanDrafts.{Draft, has_some, is_by_hand}
+use Rattle.c104_describe.specs.PlanDrafts.{Draft, is_by_hand}
+use Rattle.c104_describe.specs.PlanParts.{has_some}
 use Rattle.c104_describe.specs.PlanLines.{read_plan_words}
-use Rattle.c104_describe.specs.PlanPrint.{terminal_name, port_text, select_text, switch_words, terminal_words, wire_words, continue_words, delete_words, base_words, row_words, random_words}
+use Rattle.c104_describe.specs.PlanPrint.{switch_words, terminal_words, wire_words, continue_words, delete_words, base_words, row_words, random_words}
+use Rattle.c104_describe.specs.PortTexts.{terminal_name, port_text, select_text}
 use Rattle.c104_describe.proofs.DistinctPlaces.{All-here, fresh, distinct_front, distinct_back, distinct_mapped, position_at}
 use Rattle.c104_describe.proofs.PortLemmas.{is_port-refl}
 use Rattle.c104_describe.proofs.PrintedNumbers.{number_within-decimal}

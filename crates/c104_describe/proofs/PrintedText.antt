@@ -12,6 +12,7 @@ use Rattle.c104_describe.specs.PlanFaults.{PlanFault}
 use Rattle.c104_describe.specs.PlanLines.{Draft, read_plan_line, read_plan_words}
 use Rattle.c104_describe.specs.PlanPrint.{sentence, text_of}
 use Rattle.c104_describe.specs.PlanText.{draft_after_line, read_plan_lines}
+use Rattle.c104_describe.proofs.TextBytes.{list_all-weaker}
 
 -- a byte that a word may have in any line: printable, and neither space nor `#`
 abbrev pub is_word_byte : ℕ → Bool
@@ -24,13 +25,6 @@ is_word word = nat_lt 0 (length word) && list_all is_word_byte word
 -- a byte of such words with spaces between them
 abbrev is_line_byte : ℕ → Bool
 is_line_byte byte = is_word_byte byte || byte == 0x20
-
--- a weaker test holds of all, too
-pub list_all-weaker : {X : Type 0} (q r : X → Bool) → ((x : X) → q x ≡ true → r x ≡ true) → (xs : List X) → list_all q xs ≡ true → list_all r xs ≡ true
-list_all-weaker q r weaker [] all = refl
-list_all-weaker q r weaker (x ∷ xs) all =
-    let parts = and_parts (q x) (list_all q xs) all in
-    λ i. weaker x parts.0 i && list_all-weaker q r weaker xs parts.1 i
 
 each_fails : (q p : ℕ → Bool) → ((b : ℕ) → q b ≡ true → p b ≡ false) → (xs : List ℕ) → list_all q xs ≡ true → All (λ b. p b ≡ false) xs
 each_fails q p apart [] all = All-nil (λ b. p b ≡ false)

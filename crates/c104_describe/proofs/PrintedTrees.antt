@@ -9,7 +9,8 @@ use Rattle.c104_describe.specs.Plans.{Plan, Terminal, IsPlan, IsRange, IsTreePla
 use Rattle.c104_describe.specs.PlanDrafts.{is_by_hand, rooted}
 use Rattle.c104_describe.specs.PlanWords.{number_within}
 use Rattle.c104_describe.specs.PlanLines.{read_plan_words}
-use Rattle.c104_describe.specs.PlanText.{draft_after_line, empty_plan, plan_of_draft}
+use Rattle.c104_describe.specs.PlanText.{draft_after_line, plan_of_draft}
+use Rattle.c104_describe.specs.PlanParts.{empty_plan}
 use Rattle.c104_describe.specs.PlanPrint.{counted_words, delete_words, label_words, network_lines, switch_words, wire_words}
 use Rattle.c104_describe.proofs.CountedPlans.{begins_there, counted, counted_kept, counts_again, same_deletes, same_terminals, same_wires}
 use Rattle.c104_describe.proofs.DistinctPlaces.{All-here, position_at}

@@ -11,7 +11,8 @@ use Rattle.c104_describe.specs.declared.plans.Shape.TheVariants.{Hand, Tree, Mes
 use Rattle.c104_describe.specs.TextWords.{is_name}
 use Rattle.c104_describe.specs.Ports.{Port, Wire, IsSwitchPort}
 use Rattle.c104_describe.specs.Plans.{Plan, PlanBase, PlanRandom, PlanRow, Shape, Terminal, IsOfShape, IsPlan, IsPlanSelect, IsPlanWire, IsLaterPort, IsRange, host_port, label_count, is_buffer_size}
-use Rattle.c104_describe.specs.PlanPrint.{port_text, switch_name, switch_words, terminal_words, counted_words, wire_words, label_words, network_lines, continue_words, delete_words, base_words, row_words, random_words}
+use Rattle.c104_describe.specs.PlanPrint.{switch_words, terminal_words, counted_words, wire_words, label_words, network_lines, continue_words, delete_words, base_words, row_words, random_words}
+use Rattle.c104_describe.specs.PortTexts.{port_text, switch_name}
 use Rattle.c104_describe.proofs.PrintedText.{are_words, is_word}
 use Rattle.c104_describe.proofs.PrintedParts.{lines_by_kinds, lines_after_rows, lines_after_bases, lines_after_continues, lines_after_deletes, lines_after_network}
 use Rattle.c104_describe.proofs.PrintedNumbers.{word-decimal}

@@ -23,3 +23,4 @@ pub mod LabelledImages
 pub mod RowPlans
 pub mod SwitchImages
 pub mod PlanPrint
+pub mod PortTexts

@@ -1,11 +1,13 @@
 -- Drafts: what the lines of a description have said so far, the plan that this gives, and which further
 -- lines go with it.
-use Rattle.std.specs.Prelude.{ℕ, ◌==◌, ◌&&◌, ◌||◌, Bool, true, false, not, List, [], ◌∷◌, length, map, is_some, Option, Some, None, Result, Ok, Err}
+use Rattle.std.specs.Prelude.{ℕ, ◌&&◌, ◌||◌, Bool, true, false, not, List, [], ◌∷◌, map, is_some, Option, Some, None, Result, Ok, Err}
 use Rattle.c104_describe.specs.declared.plans.Shape.TheVariants.{Hand, Tree, Mesh, Cube}
 use Rattle.c104_describe.specs.declared.words.Keyword.TheVariants as keyword
 use Rattle.c104_describe.specs.PlanFaults.{PlanFaultKind}
 use Rattle.c104_describe.specs.PlanWords.{Keyword, range_words}
 use Rattle.c104_describe.specs.Plans.{Plan, Shape, Terminal}
+use Rattle.c104_describe.specs.declared.drafts.Draft as kept
+use Rattle.c104_describe.specs.PlanParts.{plan_of, without_first, has_some, has_settings}
 
 -- a plan, of which the shape is that of a mesh or a cube once a line gave one; whether lines have said its
 -- header length, its buffer size, and where the range of some terminal begins; and the root of a tree, if a
@@ -16,10 +18,6 @@ pub record Draft : Type 0 where
   pub buffer_said : Bool
   pub from_said : Bool
   pub root : Option ℕ
-
--- a terminal of which only the count is said
-abbrev pub without_first : Terminal → Terminal
-without_first t = record t { first = 0 }
 
 -- a plan, to be labelled as a tree if it has a root: then its terminals carry counts alone
 abbrev pub rooted : Option ℕ → Plan → Plan
@@ -37,10 +35,6 @@ is_by_hand (Tree root) = false
 is_by_hand (Mesh w h p) = false
 is_by_hand (Cube d p) = false
 
--- whether a list has elements
-abbrev pub has_some : {X : Type 0} → List X → Bool
-has_some xs = not (length xs == 0)
-
 -- whether the words of a range say where it begins
 abbrev pub is_begun : Result (Option (List ℕ) × Option (List ℕ)) PlanFaultKind → Bool
 is_begun (Ok range) = is_some range.1
@@ -51,10 +45,6 @@ abbrev pub says_from : List (List ℕ) → Bool
 says_from [] = false
 says_from (name ∷ []) = false
 says_from (name ∷ at ∷ rest) = is_begun (range_words rest)
-
--- whether a plan has lines that set something at links
-abbrev pub has_settings : Plan → Bool
-has_settings plan = has_some plan.continues || (has_some plan.bases || (has_some plan.rows || has_some plan.randoms))
 
 -- whether a line, by what its first word says and the words after it, doesn't go with the lines before it:
 -- `label` goes with neither `continue`, `base`, `row`, `random` nor a terminal's `from`, and `mesh` and `cube` give all
@@ -73,3 +63,13 @@ is_mixed draft keyword.Cube rest = has_some draft.plan.switches
 is_mixed draft keyword.Header rest = false
 is_mixed draft keyword.Buffer rest = false
 is_mixed draft keyword.Delete rest = false
+
+-- the draft that it is
+abbrev pub draft_of : kept.Draft → Draft
+draft_of draft = record {
+  plan = plan_of draft.parts;
+  header_said = draft.header_said;
+  buffer_said = draft.buffer_said;
+  from_said = draft.from_said;
+  root = draft.root;
+}

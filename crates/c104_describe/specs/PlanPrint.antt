@@ -1,14 +1,11 @@
 -- What a plan is printed as: lines of words. Words are parted by one space, and each line ends with a
 -- line feed.
-use Rattle.std.specs.Prelude.{ℕ, List, [], ◌∷◌, ◌++◌, map, slice_get, codes}
+use Rattle.std.specs.Prelude.{ℕ, List, [], ◌∷◌, ◌++◌, map, codes}
 use Rattle.std.specs.Fmt.{decimal}
-use Rattle.std.specs.Option.{option_map_or, unwrap_or}
-use Rattle.c104_interval.specs.declared.intervals.Select.{Select}
-use Rattle.c104_interval.specs.declared.intervals.Select.TheVariants.{Link, Discard, Sink}
-use Rattle.c104_describe.specs.declared.ports.Port.TheVariants as port
 use Rattle.c104_describe.specs.Ports.{Port, Wire}
 use Rattle.c104_describe.specs.declared.plans.Shape.TheVariants.{Hand, Tree, Mesh, Cube}
 use Rattle.c104_describe.specs.Plans.{Plan, Shape, PlanBase, PlanRandom, PlanRow, Terminal, host_port}
+use Rattle.c104_describe.specs.PortTexts.{switch_name, terminal_name, port_text, select_text}
 
 -- words with a space (0x20) between neighbours
 abbrev pub sentence : List (List ℕ) → List ℕ
@@ -20,26 +17,6 @@ sentence (word ∷ next ∷ more) = word ++ 0x20 ∷ sentence (next ∷ more)
 abbrev pub text_of : List (List (List ℕ)) → List ℕ
 text_of [] = []
 text_of (words ∷ more) = sentence words ++ 0x0a ∷ text_of more
-
--- the name of the switch of this number; where there is none, nothing
-abbrev pub switch_name : Plan → ℕ → List ℕ
-switch_name plan number = unwrap_or (slice_get plan.switches number) []
-
--- the name of the terminal of this number; where there is none, nothing
-abbrev pub terminal_name : Plan → ℕ → List ℕ
-terminal_name plan number = option_map_or (λ (t : Terminal). t.name) (slice_get plan.terminals number) []
-
--- a port of a switch: its name, a dot (0x2e) and the link. That of a terminal, which has one link, is
--- its name, but no line of a plan has such a port
-abbrev pub port_text : Plan → Port → List ℕ
-port_text plan (port.Switch s l) = switch_name plan s ++ 0x2e ∷ decimal l
-port_text plan (port.Terminal t) = terminal_name plan t
-
--- what a row selects
-abbrev pub select_text : Select → List ℕ
-select_text (Link link) = decimal link
-select_text Discard = codes "discard"
-select_text Sink = codes "sink"
 
 -- the line of the header length
 abbrev pub header_words : ℕ → List (List ℕ)

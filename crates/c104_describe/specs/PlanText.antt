@@ -2,14 +2,13 @@
 use Rattle.std.specs.Prelude.{◌≡◌, ℕ, ◌+◌, ◌<◌, ◌≤◌, ◌⊎◌, false, List, [], ◌∷◌, length, take, nat_le, slice_get, if◌then◌else◌, Some, None, Result, Ok, Err, MatchResult}
 use Rattle.c104_describe.specs.declared.faults.PlanFaultKind.TheVariants.{NoMemory, TooLong}
 use Rattle.c104_describe.specs.declared.drafts.Draft.{Draft as Kept}
-use Rattle.c104_describe.specs.TextCut.{lines}
+use Rattle.c104_describe.specs.TextCut.{lines, most_bytes}
 use Rattle.c104_describe.specs.PlanFaults.{PlanFault, PlanFaultKind, fault_at, no_memory}
-use Rattle.c104_describe.specs.declared.plans.Shape.TheVariants.{Hand}
 use Rattle.c104_describe.specs.Plans.{Plan}
-use Rattle.c104_describe.specs.PlanDrafts.{finished}
+use Rattle.c104_describe.specs.PlanDrafts.{finished, draft_of}
 use Rattle.c104_describe.specs.PlanLines.{Draft, read_plan_line}
 use Rattle.c104_describe.specs.LineFaults.{IsLeastFault, IsFaultless}
-use Rattle.c104_describe.specs.PlanParts.{draft_of}
+use Rattle.c104_describe.specs.PlanParts.{empty_plan}
 
 -- what comes after the line of this number, or its fault
 abbrev pub draft_after_line : ℕ → Result Draft PlanFaultKind → (Draft → Result Draft PlanFault) → Result Draft PlanFault
@@ -22,29 +21,9 @@ read_plan_lines line [] draft = Ok draft
 read_plan_lines line (text ∷ more) draft =
     draft_after_line line (read_plan_line draft text) (λ next. read_plan_lines (line + 1) more next)
 
--- the plan of no line: headers of one byte, and buffers of 16 tokens
-abbrev pub empty_plan : Plan
-empty_plan = record {
-  header = 1;
-  cap = 16;
-  shape = Hand;
-  switches = [];
-  terminals = [];
-  wires = [];
-  continues = [];
-  deletes = [];
-  bases = [];
-  rows = [];
-  randoms = [];
-}
-
 -- the draft of no line
 abbrev pub empty_draft : Draft
 empty_draft = record { plan = empty_plan; header_said = false; buffer_said = false; from_said = false; root = None }
-
--- the most bytes of a description: 1 MiB
-abbrev pub most_bytes : ℕ
-most_bytes = 1048576
 
 -- the plan of a draft
 abbrev pub plan_of_draft : Result Draft PlanFault → Result Plan PlanFault

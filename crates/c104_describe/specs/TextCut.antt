@@ -1,4 +1,4 @@
--- How a text is cut: into lines, and a line into words.
+-- How a text is cut: into lines, and a line into words; and how long that of a description may be.
 use Rattle.std.specs.Prelude.{ℕ, ◌==◌, ◌&&◌, ◌||◌, Bool, not, List, length, filter, nat_le}
 use Rattle.std.specs.List.{before_first, list_all, slice_split}
 
@@ -25,3 +25,7 @@ is_printable byte = nat_le 0x20 byte && nat_le byte 0x7e
 -- whether each byte is a printable one of ASCII or parts words
 abbrev pub is_plain_line : List ℕ → Bool
 is_plain_line line = list_all (λ byte. is_printable byte || parts_words byte) line
+
+-- the most bytes of a description: 1 MiB
+abbrev pub most_bytes : ℕ
+most_bytes = 1048576

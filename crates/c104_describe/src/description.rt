@@ -2,23 +2,21 @@
 ghost use Rattle.std.specs.Prelude.{◌≡◌, ◌<◌, ◌⊎◌, length, map, Err, Ok, MatchResult, IfErr, IfOk};
 ghost use Rattle.c104_describe.specs.declared.faults.PlanFaultKind.TheVariants.{TooLong};
 ghost use Rattle.c104_describe.specs.PlanFaults.{fault_at, no_memory};
-ghost use Rattle.c104_describe.specs.PlanText.{read_description, empty_draft, most_bytes, read_plan_lines};
+ghost use Rattle.c104_describe.specs.PlanText.{read_description, empty_draft, read_plan_lines};
+ghost use Rattle.c104_describe.specs.TextCut.{most_bytes, lines};
 ghost use Rattle.c104_describe.specs.PlanText.{AreFaultless, GivesDraftOrNoMemory, GivesPlanOrNoMemory, IsDue, ReadsLines};
 ghost use Rattle.c104_describe.specs.EarlierLines.{AreMixedByClash};
 ghost use Rattle.c104_describe.specs.RepeatedLines.{AreTwiceByTexts};
-ghost use Rattle.c104_describe.specs.TextCut.{lines};
-ghost use Rattle.c104_describe.specs.PlanParts.{draft_of};
+ghost use Rattle.c104_describe.specs.PlanDrafts.{draft_of};
 ghost use Rattle.c104_describe.specs.Plans.{IsPlan};
 
 use crate::drafts::Draft;
 use crate::faults::{PlanFault, PlanFaultKind};
+use crate::limits::MAX_DESCRIPTION;
 use crate::lines::read_line;
 use crate::plans::Plan;
 use crate::text::cut_lines;
 use std::alloc::Global;
-
-/// The most bytes of a description: 1 MiB.
-pub const MAX_DESCRIPTION: usize = 1_048_576;
 
 /// Reads the description of a network, by this emulator's own grammar.
 ///
@@ -50,9 +48,7 @@ pub fn read_description(alloc: Global, text: &[u8]) -> Result<Plan, PlanFault>
     }
     let lines = cut_lines(alloc, text)?;
     let draft = read_lines(alloc, lines.as_slice())?;
-    Ok(Plan {
-        parts: draft.finish(),
-    })
+    Ok(draft.finish())
 }
 
 /// Reads the lines of a description, the first of which is line 1.

@@ -1,12 +1,12 @@
 //! What the lines of a description have said so far.
-ghost use Rattle.std.specs.Prelude.{◌≡◌, IfOk};
-ghost use Rattle.std.specs.Prelude.{map};
-ghost use Rattle.c104_describe.specs.PlanDrafts.{finished, is_mixed, says_from};
-ghost use Rattle.c104_describe.specs.PlanParts.{draft_of, plan_of};
+ghost use Rattle.std.specs.Prelude.{◌≡◌, IfOk, map};
+ghost use Rattle.c104_describe.specs.PlanDrafts.{finished, is_mixed, says_from, draft_of};
+ghost use Rattle.c104_describe.specs.PlanParts.{plan_of};
 ghost use Rattle.c104_describe.specs.PlanText.{empty_draft};
+ghost use Rattle.c104_describe.specs.Plans.{IsPlan};
 
 use crate::parts::Parts;
-use crate::plans::Shape;
+use crate::plans::{Plan, Shape};
 use crate::words::{Keyword, read_range};
 use std::alloc::{AllocError, Global};
 
@@ -56,8 +56,16 @@ impl Draft {
         }
     }
 
+    /// The plan that the lines give.
+    pub(crate) fn finish(self) -> Plan
+        requires { IsPlan (finished (draft_of self)) }
+        ensures { result ≡ finished (draft_of self) }
+    {
+        Plan::new(self.into_parts())
+    }
+
     /// The parts of the plan that the lines give. With a tree's root terminals carry counts alone.
-    pub(crate) fn finish(self) -> Parts
+    fn into_parts(self) -> Parts
         ensures { plan_of result ≡ finished (draft_of self) }
     {
         let mut parts = self.parts;

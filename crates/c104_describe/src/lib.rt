@@ -46,11 +46,12 @@ mod text;
 mod wiring;
 mod words;
 
-pub use description::{MAX_DESCRIPTION, read_description};
+pub use description::read_description;
 pub use faults::{PlanFault, PlanFaultKind};
 pub use hand::hand_image;
 pub use image::Image;
 pub use image_faults::ImageFault;
+pub use limits::MAX_DESCRIPTION;
 pub use names::Name;
 pub use plans::{Plan, PlanBase, PlanRandom, PlanRow, Shape, Terminal};
 pub use ports::{Port, Wire};

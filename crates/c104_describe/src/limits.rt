@@ -2,21 +2,24 @@
 ghost use Rattle.std.specs.Prelude.{◌≡◌};
 ghost use Rattle.c104_describe.specs.Plans.{is_buffer_size};
 
+/// The most bytes of a description: 1 MiB.
+pub const MAX_DESCRIPTION: usize = 1_048_576;
+
 /// The most switches of a plan.
-pub(crate) const MAX_SWITCHES: usize = 64;
+pub const MAX_SWITCHES: usize = 64;
 
 /// The most terminals of a plan.
-pub(crate) const MAX_TERMINALS: usize = 256;
+pub const MAX_TERMINALS: usize = 256;
 
 /// The most bytes of a header.
-pub(crate) const MAX_HEADER_BYTES: u32 = 2;
+pub const MAX_HEADER_BYTES: u32 = 2;
 
 /// How many labels there are, and the highest limit of a row: how many values a header of two bytes
 /// has.
-pub(crate) const LABELS: u32 = 0x10000;
+pub const LABELS: u32 = 0x10000;
 
 /// Whether a buffer may have room for `size` tokens.
-pub(crate) fn is_buffer_size(size: u32) -> bool
+pub fn is_buffer_size(size: u32) -> bool
     ensures { result ≡ is_buffer_size size }
 {
     size % 8 == 0 && 8 <= size && size <= 64

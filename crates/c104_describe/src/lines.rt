@@ -2,7 +2,8 @@
 ghost use Rattle.std.specs.Prelude.{◌≡◌, [], ◌∷◌, map, option_map};
 ghost use Rattle.c104_describe.specs.PlanLines.{read_plan_line, read_plan_words, keyword_line, header_line, buffer_line};
 ghost use Rattle.c104_describe.specs.PlanLines.{delete_line, label_line, switch_line, terminal_line, wire_line};
-ghost use Rattle.c104_describe.specs.PlanParts.{draft_of, plan_of};
+ghost use Rattle.c104_describe.specs.PlanParts.{plan_of};
+ghost use Rattle.c104_describe.specs.PlanDrafts.{draft_of};
 ghost use Rattle.c104_describe.specs.Plans.{IsPlan};
 ghost use Rattle.c104_describe.specs.PlanText.{ReadsLine};
 ghost use Rattle.c104_describe.specs.declared.words.Keyword.TheVariants as variant;

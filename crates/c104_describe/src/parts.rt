@@ -9,26 +9,40 @@ use std::alloc::{AllocError, Global};
 
 /// The parts of a plan. Each list is in the order of the description.
 #[derive(Debug, Drop)]
-pub(crate) struct Parts {
-    pub(crate) header: usize,
-    pub(crate) cap: usize,
-    pub(crate) shape: Shape,
-    pub(crate) switches: SwitchList,
-    pub(crate) terminals: TerminalList,
-    pub(crate) wires: Vec<Wire>,
-    pub(crate) continues: Vec<Port>,
-    pub(crate) deletes: Vec<usize>,
-    pub(crate) bases: Vec<PlanBase>,
-    pub(crate) rows: RowList,
-    pub(crate) randoms: Vec<PlanRandom>,
+pub struct Parts {
+    /// How many bytes the headers have at wired links.
+    pub header: usize,
+    /// How many tokens each buffer has room for.
+    pub cap: usize,
+    /// How the plan came to be.
+    pub shape: Shape,
+    /// The switches, by number.
+    pub switches: SwitchList,
+    /// The terminals, by number.
+    pub terminals: TerminalList,
+    /// The wires, each between links of two switches.
+    pub wires: Vec<Wire>,
+    /// The ports whose link continues the group of the link before it.
+    pub continues: Vec<Port>,
+    /// The terminals, by number, on whose links headers are deleted.
+    pub deletes: Vec<usize>,
+    /// The bases of the inputs' tables.
+    pub bases: Vec<PlanBase>,
+    /// The rows of the inputs' tables.
+    pub rows: RowList,
+    /// The random headers of inputs.
+    pub randoms: Vec<PlanRandom>,
 }
 
 /// What a plan joins: switches and terminals, and the wires between switches.
 #[derive(Drop)]
-pub(crate) struct Network {
-    pub(crate) switches: SwitchList,
-    pub(crate) terminals: TerminalList,
-    pub(crate) wires: Vec<Wire>,
+pub struct Network {
+    /// The switches, by number.
+    pub switches: SwitchList,
+    /// The terminals, by number.
+    pub terminals: TerminalList,
+    /// The wires, each between links of two switches.
+    pub wires: Vec<Wire>,
 }
 
 /// What a plan sets at links.
@@ -47,18 +61,15 @@ struct Headers {
 }
 
 impl Parts {
-    ghost use Rattle.std.specs.Prelude.{◌≡◌, ℕ, ◌<◌, ◌≤◌, [], length, bytes_eq, IfOk, IfSome};
+    ghost use Rattle.std.specs.Prelude.{◌≡◌, ℕ, ◌<◌, ◌≤◌, [], length, bytes_eq, IfOk, IfSome, ◌||◌};
     ghost use Rattle.std.specs.List.{list_any};
-    ghost use Rattle.std.specs.Prelude.{◌||◌};
     ghost use Rattle.c104_describe.specs.Ports.{Wire as TheWire, is_any_at, is_port, IsSwitchPort};
     ghost use Rattle.c104_describe.specs.Plans.{Terminal as TheTerminal, PlanBase as TheBase, PlanRandom as TheRandom, switch_number, terminal_number};
     ghost use Rattle.c104_describe.specs.Plans.{host_port, is_taken, is_linked, is_continued, is_deleted, next_first, rows_of, AreTerminals, label_count, most_switches};
-    ghost use Rattle.c104_describe.specs.PlanDrafts.{has_settings};
-    ghost use Rattle.c104_describe.specs.PlanParts.{plan_of};
-    ghost use Rattle.c104_describe.specs.PlanText.{empty_plan};
+    ghost use Rattle.c104_describe.specs.PlanParts.{has_settings, plan_of, empty_plan};
 
     /// The parts of a plan without lines.
-    pub(crate) fn new(alloc: Global) -> Result<Self, AllocError>
+    pub fn new(alloc: Global) -> Result<Self, AllocError>
         ensures { IfOk result (λ parts. plan_of parts ≡ empty_plan) }
     {
         let rows = RowList::new(alloc)?;
@@ -142,7 +153,7 @@ impl Parts {
     }
 
     /// The network becomes this one, which is of this shape.
-    pub(crate) fn fill(&mut self, network: Network, shape: Shape)
+    pub fn fill(&mut self, network: Network, shape: Shape)
         ensures { plan_of self.new ≡ record (plan_of self.old) {
           shape = shape;
           switches = network.switches;
@@ -158,7 +169,7 @@ impl Parts {
 
     /// The number of the switch of this name.
     #[tactic(auto, unfolding(crate::specs::Plans::switch_number))]
-    pub(crate) fn switch_number(&self, name: &[u8]) -> Option<usize>
+    pub fn switch_number(&self, name: &[u8]) -> Option<usize>
         ensures number { result ≡ switch_number (plan_of self.now) name.now }
         ensures inside { IfSome result (λ number. number < length (plan_of self.now).switches) }
     {
@@ -167,7 +178,7 @@ impl Parts {
 
     /// The number of the terminal of this name.
     #[tactic(auto, unfolding(crate::specs::Plans::terminal_number))]
-    pub(crate) fn terminal_number(&self, name: &[u8]) -> Option<usize>
+    pub fn terminal_number(&self, name: &[u8]) -> Option<usize>
         ensures number { result ≡ terminal_number (plan_of self.now) name.now }
         ensures inside { IfSome result (λ number. number < length (plan_of self.now).terminals) }
     {
@@ -176,7 +187,7 @@ impl Parts {
 
     /// Whether a switch or a terminal has this name.
     #[tactic(auto, using(crate::proofs::PlanNames::taken_either))]
-    pub(crate) fn is_taken(&self, name: &[u8]) -> bool
+    pub fn is_taken(&self, name: &[u8]) -> bool
         ensures { result ≡ is_taken (plan_of self.now) name.now }
     {
         self.switches.has(name) || self.terminals.has(name)
@@ -184,7 +195,7 @@ impl Parts {
 
     /// Whether a port of a switch has a terminal or a wire.
     #[tactic(auto, using(crate::proofs::PlanLinks::linked_either))]
-    pub(crate) fn is_linked(&self, port: Port) -> bool
+    pub fn is_linked(&self, port: Port) -> bool
         ensures { result ≡ is_linked (plan_of self.now) port }
     {
         self.has_terminal_at(port) || self.has_wire_at(port)
@@ -213,7 +224,7 @@ impl Parts {
 
     /// Whether a link continues the group of the link before it.
     #[tactic(auto, unfolding(crate::specs::Ports::is_any_at))]
-    pub(crate) fn is_continued(&self, port: Port) -> bool
+    pub fn is_continued(&self, port: Port) -> bool
         ensures { result ≡ is_continued (plan_of self.now) port }
     {
         self.continues.iter().any(|other| other.is_same(port))
@@ -221,7 +232,7 @@ impl Parts {
 
     /// Whether headers are deleted on the way to a terminal.
     #[tactic(auto, unfolding(crate::specs::Plans::is_deleted))]
-    pub(crate) fn is_deleted(&self, terminal: usize) -> bool
+    pub fn is_deleted(&self, terminal: usize) -> bool
         ensures { result ≡ is_deleted (plan_of self.now) terminal }
     {
         self.deletes.contains(&terminal)
@@ -229,7 +240,7 @@ impl Parts {
 
     /// Whether an input has a base.
     #[tactic(auto, unfolding(crate::specs::Ports::is_any_at))]
-    pub(crate) fn has_base(&self, port: Port) -> bool
+    pub fn has_base(&self, port: Port) -> bool
         ensures { result ≡ is_any_at (λ (b : TheBase). b.port) (plan_of self.now).bases port }
     {
         self.bases.iter().any(|base| base.port.is_same(port))
@@ -237,14 +248,14 @@ impl Parts {
 
     /// Whether an input has random headers.
     #[tactic(auto, unfolding(crate::specs::Ports::is_any_at))]
-    pub(crate) fn has_random(&self, port: Port) -> bool
+    pub fn has_random(&self, port: Port) -> bool
         ensures { result ≡ is_any_at (λ (r : TheRandom). r.port) (plan_of self.now).randoms port }
     {
         self.randoms.iter().any(|random| random.port.is_same(port))
     }
 
     /// Whether lines set something at links.
-    pub(crate) fn has_settings(&self) -> bool
+    pub fn has_settings(&self) -> bool
         ensures { result ≡ has_settings (plan_of self.now) }
     {
         !self.continues.is_empty()
@@ -254,7 +265,7 @@ impl Parts {
     }
 
     /// How many rows an input has.
-    pub(crate) fn row_count(&self, port: Port) -> usize
+    pub fn row_count(&self, port: Port) -> usize
         requires { IsSwitchPort most_switches port }
         ensures { result ≡ length (rows_of port (plan_of self.now).rows) }
     {
@@ -262,7 +273,7 @@ impl Parts {
     }
 
     /// Where the range of the next terminal begins, if its line doesn't say.
-    pub(crate) fn next_first(&self) -> u32
+    pub fn next_first(&self) -> u32
         requires { (switches : ℕ) × AreTerminals switches (plan_of self.now).terminals }
         ensures first { result ≡ next_first (plan_of self.now).terminals }
         ensures within { result ≤ label_count }

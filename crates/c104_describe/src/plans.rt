@@ -96,7 +96,7 @@ pub struct PlanRandom {
 }
 
 /// The network that a description gives: its switches and terminals, the wires between its switches,
-/// and what is to be set at the links of these. Only `read_description` makes one.
+/// and what is to be set at the links of these.
 ///
 /// What each plan keeps is that names differ, that each port exists and no link is taken twice,
 /// that nothing is said twice, and that every number is in its range.
@@ -129,7 +129,16 @@ impl Clone for Plan {
 
 impl Plan {
     ghost use Rattle.std.specs.Prelude.{◌≡◌, ◌<◌, length, IfSome};
+    ghost use Rattle.c104_describe.specs.PlanParts.{plan_of};
     ghost use Rattle.c104_describe.specs.Plans.{IsPlan, switch_number, terminal_number};
+
+    /// The plan of these parts, which keep what each plan does.
+    pub fn new(parts: Parts) -> Self
+        requires { IsPlan (plan_of parts) }
+        ensures { result ≡ plan_of parts }
+    {
+        Plan { parts }
+    }
 
     /// The names of the switches, by number.
     pub fn switches(&self) -> &[Name]

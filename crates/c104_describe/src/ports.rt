@@ -36,7 +36,7 @@ impl Wire {
     ghost use Rattle.c104_describe.specs.Ports.{are_of_one_switch};
 
     /// Whether both ends are links of one switch.
-    pub(crate) fn is_self_wire(self) -> bool
+    pub fn is_self_wire(self) -> bool
         ensures { result ≡ are_of_one_switch self.here self.there }
     {
         match (self.here, self.there) {

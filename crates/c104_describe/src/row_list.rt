@@ -18,7 +18,7 @@ const INPUTS: usize = MAX_SWITCHES * LINKS;
 
 /// Rows, in order, and how many there are of each input.
 #[derive(Drop)]
-pub(crate) struct RowList {
+pub struct RowList {
     list: Vec<PlanRow>,
     /// That of link l of switch s is at `LINKS` * s + l.
     counts: Vec<u8>,
@@ -55,7 +55,7 @@ impl RowList {
     }
 
     /// One more row, of an input that has room for it.
-    pub(crate) fn push(&mut self, row: PlanRow) -> Result<(), AllocError>
+    pub fn push(&mut self, row: PlanRow) -> Result<(), AllocError>
         requires input { IsSwitchPort most_switches row.port }
         requires room { length (rows_of row.port self.old) < ROWS }
         ensures rows { OnOk result (self.new ≡ self.old ++ row ∷ []) }

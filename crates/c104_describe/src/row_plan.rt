@@ -16,7 +16,6 @@ ghost use Rattle.c104_describe.specs.RowPlans.{row_given, row_plan, rows_given, 
 use crate::hand::hand_image;
 use crate::image::Image;
 use crate::limits::LABELS;
-use crate::link_lines::add;
 use crate::parts::Parts;
 use crate::plans::{Plan, PlanBase, PlanRandom, PlanRow, Shape, Terminal};
 use crate::ports::Port;
@@ -199,7 +198,7 @@ fn give_continue(
 {
     let port = Port::Switch(switch, link);
     if continues && 0 < link && !parts.is_continued(port) {
-        add(&mut parts.continues, port)?;
+        parts.continues.push(port)?;
     }
     Ok(())
 }
@@ -209,7 +208,7 @@ fn give_base(parts: &mut Parts, port: Port, base: u32) -> Result<(), AllocError>
     ensures { OnOk result (plan_of parts.new ≡ base_given port base (plan_of parts.old)) }
 {
     if 0 < base && base < LABELS && !parts.has_base(port) {
-        add(&mut parts.bases, PlanBase { port, base })?;
+        parts.bases.push(PlanBase { port, base })?;
     }
     Ok(())
 }
@@ -246,7 +245,7 @@ fn give_random(parts: &mut Parts, port: Port, base: u32, range: u32) -> Result<(
     ensures { OnOk result (plan_of parts.new ≡ random_given port true base range (plan_of parts.old)) }
 {
     if base < LABELS && range <= LABELS && !parts.has_random(port) {
-        add(&mut parts.randoms, PlanRandom { port, base, range })?;
+        parts.randoms.push(PlanRandom { port, base, range })?;
     }
     Ok(())
 }
@@ -270,7 +269,7 @@ fn give_delete(parts: &mut Parts, switches: &[SwitchImage], number: usize) -> Re
         None => false,
     };
     if deletes && !parts.is_deleted(number) {
-        add(&mut parts.deletes, number)?;
+        parts.deletes.push(number)?;
     }
     Ok(())
 }

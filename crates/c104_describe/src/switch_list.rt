@@ -12,7 +12,7 @@ use std::marker::Model;
 
 /// Switches, which are names, by number, and found by name.
 #[derive(Drop)]
-pub(crate) struct SwitchList {
+pub struct SwitchList {
     list: Vec<Name>,
     index: NameIndex,
 }
@@ -35,7 +35,7 @@ impl Debug for SwitchList {
 
 impl SwitchList {
     /// No switch yet.
-    pub(crate) fn new(alloc: Global) -> Self
+    pub fn new(alloc: Global) -> Self
         ensures { result ≡ [] }
     {
         SwitchList {
@@ -45,7 +45,7 @@ impl SwitchList {
     }
 
     /// One more switch, of a name that none has.
-    pub(crate) fn push(&mut self, alloc: Global, name: &[u8]) -> Result<(), NoMemory>
+    pub fn push(&mut self, alloc: Global, name: &[u8]) -> Result<(), NoMemory>
         requires named { IsTrue (is_name name.now) }
         requires free { list_any (λ other. bytes_eq other name.now) self.old ≡ false }
         ensures switches { OnOk result (self.new ≡ self.old ++ name.now ∷ []) }
@@ -66,7 +66,7 @@ impl SwitchList {
     }
 
     /// How many switches there are.
-    pub(crate) fn len(&self) -> usize
+    pub fn len(&self) -> usize
         ensures { result ≡ length self.now }
     {
         self.list.len()

@@ -1,7 +1,7 @@
 //! The terminals of a plan.
 ghost use Rattle.std.specs.Prelude.{◌≡◌, ◌<◌, ◌≤◌, Some, slice_get, slice_set, [], ◌∷◌, ◌++◌, false, bytes_eq, length, map, position, IfOk, IfSome, OnErr, OnOk};
 ghost use Rattle.std.specs.List.{list_any};
-ghost use Rattle.c104_describe.specs.PlanDrafts.{without_first};
+ghost use Rattle.c104_describe.specs.PlanParts.{without_first};
 ghost use Rattle.c104_describe.specs.Plans.{Terminal as TheTerminal};
 ghost use Rattle.c104_describe.specs.RowPlans.{with_ranges};
 
@@ -13,7 +13,7 @@ use std::marker::Model;
 
 /// Terminals, by number, and found by name.
 #[derive(Drop)]
-pub(crate) struct TerminalList {
+pub struct TerminalList {
     list: Vec<Terminal>,
     names: NameIndex,
 }
@@ -38,7 +38,7 @@ impl Debug for TerminalList {
 
 impl TerminalList {
     /// No terminal yet.
-    pub(crate) fn new(alloc: Global) -> Self
+    pub fn new(alloc: Global) -> Self
         ensures { result ≡ [] }
     {
         TerminalList {
@@ -48,7 +48,7 @@ impl TerminalList {
     }
 
     /// One more terminal, of a name that none has.
-    pub(crate) fn push(&mut self, alloc: Global, terminal: Terminal) -> Result<(), AllocError>
+    pub fn push(&mut self, alloc: Global, terminal: Terminal) -> Result<(), AllocError>
         requires { list_any (λ (t : TheTerminal). bytes_eq t.name terminal.name) self.old ≡ false }
         ensures terminals { OnOk result (self.new ≡ self.old ++ terminal ∷ []) }
         ensures unchanged { OnErr result (self.new ≡ self.old) }
@@ -60,7 +60,7 @@ impl TerminalList {
     }
 
     /// The terminals keep their counts alone.
-    pub(crate) fn forget_ranges(&mut self)
+    pub fn forget_ranges(&mut self)
         ensures { self.new ≡ map without_first self.old }
     {
         forget_firsts(&mut self.list);
@@ -82,7 +82,7 @@ impl TerminalList {
     }
 
     /// How many terminals there are.
-    pub(crate) fn len(&self) -> usize
+    pub fn len(&self) -> usize
         ensures { result ≡ length self.now }
     {
         self.list.len()

@@ -8,7 +8,7 @@ use Rattle.std.specs.List.{list_any, range_with_len}
 use Rattle.c104_describe.specs.declared.ports.Port.TheVariants as port
 use Rattle.c104_describe.specs.Plans.{Plan}
 use Rattle.c104_describe.specs.PlanImage.{Image}
-use Rattle.c104_describe.specs.PlanPrint.{switch_name, terminal_name}
+use Rattle.c104_describe.specs.PortTexts.{switch_name, terminal_name}
 use Rattle.c104_describe.specs.declared.ports.Port.{Port}
 use Rattle.c104_draw.specs.declared.drawings.Node.{Node}
 use Rattle.c104_draw.specs.declared.drawings.Node.TheVariants as node

@@ -5,7 +5,7 @@ use Rattle.c104_switch.specs.declared.unready.Unready.TheVariants as unready
 use Rattle.c104_describe.specs.declared.ports.Port.{Port}
 use Rattle.c104_describe.specs.declared.ports.Port.TheVariants as port
 use Rattle.c104_describe.specs.Plans.{Plan}
-use Rattle.c104_describe.specs.PlanPrint.{port_text}
+use Rattle.c104_describe.specs.PortTexts.{port_text}
 use Rattle.c104_describe.specs.Wiring.{peer}
 use Rattle.c104_net.specs.declared.reason.Reason.{Reason}
 

@@ -1,7 +1,7 @@
 //! What is told of an event that isn't ready.
 ghost use Rattle.std.specs.Prelude.{◌≡◌, ◌++◌, IfOk, IfSome, OnOk};
 ghost use Rattle.std.specs.String.{string_bytes};
-ghost use Rattle.c104_describe.specs.PlanPrint.{port_text};
+ghost use Rattle.c104_describe.specs.PortTexts.{port_text};
 ghost use Rattle.c104_explain.specs.Reasons.{other_port, other_text, owned_text, owner_text, port_beside, reason_text, sentence_text};
 
 use crate::reason_sentences::reason_sentence;

@@ -1,7 +1,7 @@
 //! The summary of a run: what arrived at each terminal, and where it came from.
 ghost use Rattle.std.specs.Prelude.{◌≡◌, ◌++◌, ◌<◌, List, IfOk, OnOk, flat_map, length, map, option_to_list};
 ghost use Rattle.std.specs.Global.{Vec as Kept};
-ghost use Rattle.c104_describe.specs.PlanPrint.{terminal_name};
+ghost use Rattle.c104_describe.specs.PortTexts.{terminal_name};
 ghost use Rattle.c104_net.specs.Deliveries.{arrived_at};
 ghost use Rattle.c104_net.specs.RunOrigins.{AreOrigins};
 ghost use Rattle.c104_net.specs.Origins.{AreSure, origins_in};

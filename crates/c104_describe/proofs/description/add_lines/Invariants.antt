@@ -1,5 +1,5 @@
 use Rattle.std.proofs.Common.{◌≡◌, ◌+◌, map, drop}
-use Rattle.c104_describe.specs.PlanParts.{draft_of}
+use Rattle.c104_describe.specs.PlanDrafts.{draft_of}
 use Rattle.c104_describe.specs.PlanText.{empty_draft, read_plan_lines}
 use Rattle.c104_describe.proofs.DraftsKept.{IsDraft}
 use Rattle.c104_describe.proofs.description.add_lines.Given as goal

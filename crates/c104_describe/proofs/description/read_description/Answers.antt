@@ -1,4 +1,4 @@
-use Rattle.c104_describe.specs.PlanParts.{draft_of}
+use Rattle.c104_describe.specs.PlanDrafts.{draft_of}
 use Rattle.std.proofs.Common.{◌≡◌, Ok, rules, sym, subst}
 use Rattle.c104_describe.specs.Plans.{IsPlan}
 use Rattle.c104_describe.specs.TextCut.{lines}
@@ -10,8 +10,8 @@ use Rattle.c104_describe.proofs.PlanReading.{texts}
 use Rattle.c104_describe.proofs.SaidLaw.{said_law}
 use Rattle.c104_describe.proofs.description.read_description.Goals as goal
 
-pub invariant_of-result : goal.invariant_of-result
-invariant_of-result c = subst IsPlan (sym c.finish.ensures) (read_lines-kept 1 (texts c.as_slice.result.now) empty_draft (draft_of c.in_ok-draft.draft) empty-kept c.in_ok-draft.ensures)
+pub finish-requires : goal.finish-requires
+finish-requires c = read_lines-kept 1 (texts c.as_slice.result.now) empty_draft (draft_of c.in_ok-draft.draft) empty-kept c.in_ok-draft.ensures
 
 pub returns-clause-kept : goal.returns-clause-kept
 returns-clause-kept c = subst IsPlan (sym c.finish.ensures) (read_lines-kept 1 (texts c.as_slice.result.now) empty_draft (draft_of c.in_ok-draft.draft) empty-kept c.in_ok-draft.ensures)

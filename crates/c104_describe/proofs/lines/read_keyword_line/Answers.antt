@@ -1,6 +1,6 @@
 use Rattle.std.proofs.Common.{◌≡◌, inl, rules}
 use Rattle.c104_describe.specs.declared.words.Keyword.TheVariants as variant
-use Rattle.c104_describe.specs.PlanParts.{draft_of}
+use Rattle.c104_describe.specs.PlanDrafts.{draft_of}
 use Rattle.c104_describe.proofs.LineWords.{many_words}
 use Rattle.c104_describe.proofs.lines.read_keyword_line.Goals as goal
 

@@ -1,7 +1,7 @@
 use Rattle.std.proofs.Common.{◌∙◌, slice_set, ap, sym, arith}
 use Rattle.std.proofs.lemmas.List.Edits.{map_over_more}
 use Rattle.c104_describe.specs.Plans.{Terminal}
-use Rattle.c104_describe.specs.PlanDrafts.{without_first}
+use Rattle.c104_describe.specs.PlanParts.{without_first}
 use Rattle.c104_describe.proofs.terminal_list.forget_firsts.Goals as goal
 
 pub loop-terminal-preserved : goal.loop-terminal-preserved

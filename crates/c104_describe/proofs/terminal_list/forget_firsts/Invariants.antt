@@ -1,5 +1,5 @@
 use Rattle.std.proofs.Common.{◌≡◌, ◌++◌, drop, map, take}
-use Rattle.c104_describe.specs.PlanDrafts.{without_first}
+use Rattle.c104_describe.specs.PlanParts.{without_first}
 use Rattle.c104_describe.proofs.terminal_list.forget_firsts.Given as goal
 
 -- the terminals so far keep their counts alone

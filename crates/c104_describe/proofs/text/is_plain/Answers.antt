@@ -1,7 +1,7 @@
 use Rattle.std.proofs.Common.{◌≡◌, ◌||◌, true, ℕ, ap, sym, ◌∙◌}
 use Rattle.std.specs.List.{list_all}
 use Rattle.c104_describe.specs.TextCut.{is_printable, parts_words}
-use Rattle.c104_describe.proofs.PrintedText.{list_all-weaker}
+use Rattle.c104_describe.proofs.TextBytes.{list_all-weaker}
 use Rattle.c104_describe.proofs.text.is_plain.Goals as goal
 
 also_plain : (byte : ℕ) → is_printable byte ≡ true → (is_printable byte || parts_words byte) ≡ true

@@ -1,6 +1,6 @@
 use Rattle.std.proofs.Common.{◌∙◌, ap, map, sym}
 use Rattle.c104_describe.specs.Plans.{Terminal}
-use Rattle.c104_describe.proofs.PlanRooted.{same_names}
+use Rattle.c104_describe.proofs.NamesKept.{same_names}
 use Rattle.c104_describe.proofs.terminal_list.TerminalList.forget_ranges.Goals as goal
 
 -- the terminals have the names that they had
