@@ -18,8 +18,9 @@ pub use c104_commands::{
     Marks, Status, check_command, cycles_command, debug_command, draw_command, label_command,
     label_rows_command, run, run_text,
 };
-use c104_describe::{MAX_DESCRIPTION, read_description};
+use c104_describe::read_description;
 use c104_explain::{About, Messages};
+use c104_plan::MAX_DESCRIPTION;
 use c104_stream::{ReadFault, read_up_to};
 use clap::error::ErrorKind;
 use command_line::{Order, Words};

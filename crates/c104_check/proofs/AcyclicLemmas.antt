@@ -1,6 +1,6 @@
 -- Ranks that fall along every dependency: a cycle leaves none, and a limit for the inputs of a network does for all.
 use Rattle.std.proofs.Common.{List, [], ◌∷◌, arith, inl, inr, Bool, true, false, ℕ, zero, suc, ◌<◌, ◌≤◌, ◌≡◌, Some, length, min, refl, subst, sym}
-use Rattle.c104_describe.specs.declared.ports.Port.TheVariants as port
+use Rattle.c104_plan.specs.declared.ports.Port.TheVariants as port
 use Rattle.c104_check.specs.ChannelDependencies.{AreByLabels, AreChained, AreNeverBoth, ChannelDependency, Depends, DependsByLabels, IsAcyclic, IsBeginningBy, IsCycle, IsNeverRandomized, IsRanking, MayComeBy, input_count}
 use Rattle.c104_check.specs.Parts.{Begins, IsBeginning}
 use Rattle.c104_check.specs.Reach.{IsReached}

@@ -9,8 +9,8 @@ use Rattle.c104_interval.specs.declared.intervals.Select.{Select}
 use Rattle.c104_interval.specs.declared.intervals.Select.TheVariants.{Link, Discard, Sink}
 use Rattle.c104_interval.specs.declared.intervals.Table.{Table}
 use Rattle.c104_regs.specs.declared.settings.Settings.{Settings}
-use Rattle.c104_describe.specs.declared.ports.Port.{Port}
-use Rattle.c104_describe.specs.declared.ports.Port.TheVariants as port
+use Rattle.c104_plan.specs.declared.ports.Port.{Port}
+use Rattle.c104_plan.specs.declared.ports.Port.TheVariants as port
 use Rattle.c104_check.specs.Breaks.{AreBreaks, BoundsRange, ChangesSelect, IsBreak, IsWired, is_marked}
 use Rattle.c104_check.specs.Refusals.{AreInputs, LandSoFar, LandsAt, LandsBefore, Start}
 use Rattle.c104_check.specs.Routes.{Arrives, Homes, IsRandomAt, Lands, Leads, Roams, Routes, SwitchPort, has_label, header_count, link_settings, most_hops, owner, random_count, select}

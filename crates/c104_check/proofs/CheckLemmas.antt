@@ -8,8 +8,8 @@ use Rattle.c104_check.specs.declared.faults.CheckFault.TheVariants as fault
 use Rattle.c104_check.specs.declared.faults.WalkFault.TheVariants as walk
 use Rattle.c104_check.specs.Checks.{DeletesInside, HasLarge, IsCause, IsFirstRefused, IsMixed, IsPlain, IsRandomInside, Meet, NoneLarge, NoneMeet, Shown}
 use Rattle.c104_check.specs.Routes.{IsAccepted, IsRandomIn, IsRandomized, Lands, LandsBehind, Owns, Routes, SwitchPort, TerminalLands, header_count, most_hops, owner, to_port}
-use Rattle.c104_describe.specs.declared.ports.Port.{Port}
-use Rattle.c104_describe.specs.declared.ports.Port.TheVariants as port
+use Rattle.c104_plan.specs.declared.ports.Port.{Port}
+use Rattle.c104_plan.specs.declared.ports.Port.TheVariants as port
 use Rattle.c104_check.specs.Trails.{IsNetwork}
 use Rattle.c104_check.specs.Walks.{WalkFault}
 

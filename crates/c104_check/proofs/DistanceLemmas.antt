@@ -5,8 +5,8 @@ use Rattle.std.proofs.Math.Seq.{get_or-append_seam}
 use Rattle.std.proofs.lemmas.Bool.{cases_lt}
 use Rattle.std.proofs.lemmas.List.{get_or-replicate, get_or_append_left, length-append, length-replicate}
 use Rattle.c104_regs.specs.Groups.{continues_at}
-use Rattle.c104_describe.specs.declared.ports.Port.{Port}
-use Rattle.c104_describe.specs.declared.ports.Port.TheVariants as port
+use Rattle.c104_plan.specs.declared.ports.Port.{Port}
+use Rattle.c104_plan.specs.declared.ports.Port.TheVariants as port
 use Rattle.c104_check.specs.Breaks.{is_marked}
 use Rattle.c104_check.specs.Distances.{AreMarked, HasWay, IsFirstNear, IsGroupWithin, IsMarked, IsNearest, IsWithin, LeadsNear, NoneWithin}
 use Rattle.c104_check.specs.Mends.{GroupLeads}

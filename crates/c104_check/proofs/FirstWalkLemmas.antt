@@ -4,8 +4,8 @@ use Rattle.std.proofs.lemmas.Bool.{cases_Bool, cases_eq, cases_order}
 use Rattle.std.proofs.lemmas.List.{length-append}
 use Rattle.c104_interval.specs.declared.intervals.Select.{Select}
 use Rattle.c104_interval.specs.declared.intervals.Select.TheVariants.{Link, Discard, Sink}
-use Rattle.c104_describe.specs.declared.ports.Port.{Port}
-use Rattle.c104_describe.specs.declared.ports.Port.TheVariants as port
+use Rattle.c104_plan.specs.declared.ports.Port.{Port}
+use Rattle.c104_plan.specs.declared.ports.Port.TheVariants as port
 use Rattle.c104_check.specs.declared.faults.WalkFault.TheVariants.{WrongEnd, DeadEnd, Loop}
 use Rattle.c104_check.specs.declared.walks.Goal.TheVariants.{Owner, Portal}
 use Rattle.c104_check.specs.FirstWalks.{TakesLower, GoesWrong, GoesWrongFrom, GoesWrongOver, IsFirstWalk, IsStuck, IsToldByWalks, MayLeaveBy, NoneGoesWrong}

@@ -3,7 +3,7 @@ use Rattle.std.proofs.Common.{◌≡◌, ℕ, zero, suc, ◌<◌, ◌+◌, ◌-�
 use Rattle.std.proofs.lemmas.Bool.{cases_lt}
 use Rattle.c104_token.specs.declared.faults.NoMemory.{NoMemory}
 use Rattle.std.specs.List.{AllByRecursion}
-use Rattle.c104_describe.specs.declared.ports.Port.TheVariants as port
+use Rattle.c104_plan.specs.declared.ports.Port.TheVariants as port
 use Rattle.c104_check.specs.declared.walks.Goal.TheVariants.{Portal}
 use Rattle.c104_check.specs.Breaks.{AreBreaks, IsBreak, IsWired, is_marked}
 use Rattle.c104_check.specs.Portals.{is_random_at, met_below, met_from, met_here, met_if}

@@ -8,7 +8,7 @@ use Rattle.std.specs.List.{Contains}
 use Rattle.c104_interval.specs.Segments.{AreSegmentsBelow}
 use Rattle.c104_interval.specs.declared.intervals.Table.{Table}
 use Rattle.c104_regs.specs.declared.settings.Settings.{Settings}
-use Rattle.c104_describe.specs.declared.ports.Port.{Port}
+use Rattle.c104_plan.specs.declared.ports.Port.{Port}
 use Rattle.c104_check.specs.Routes.{Routes, SwitchPort, header_count, link_settings, place, port_at, random_count, to_port}
 use Rattle.c104_check.specs.Trails.{IsInput, IsNetwork}
 use Rattle.c104_check.specs.Breaks.{AddsMarks, AreBreaks, BoundsLabels, BoundsRandom, BoundsRandomAt, BoundsRange, BreaksAt, ChangesSelect, ChangesSelectAt, IsBreak, IsWired, is_marked}

@@ -7,8 +7,8 @@ use Rattle.c104_interval.specs.declared.intervals.Select.{Select}
 use Rattle.c104_interval.specs.declared.intervals.Select.TheVariants.{Link, Discard, Sink}
 use Rattle.c104_crossbar.specs.Groups.{group_contains, is_joined_run}
 use Rattle.c104_regs.specs.Groups.{continues_at}
-use Rattle.c104_describe.specs.declared.ports.Port.{Port}
-use Rattle.c104_describe.specs.declared.ports.Port.TheVariants as port
+use Rattle.c104_plan.specs.declared.ports.Port.{Port}
+use Rattle.c104_plan.specs.declared.ports.Port.TheVariants as port
 use Rattle.c104_check.specs.declared.faults.Shown.{Shown}
 use Rattle.c104_check.specs.declared.walk_kinds.WalkKind.TheVariants.{Own, Random, Behind}
 use Rattle.c104_check.specs.declared.faults.WalkFault.TheVariants.{WrongEnd, DeadEnd, Loop, Stray}

@@ -1,8 +1,8 @@
 -- Headers that are refused, and those that come where they should.
 use Rattle.std.proofs.Common.{◌≡◌, ℕ, ◌<◌, ◌+◌, ◌*◌, ◌-◌, inl, inr, true, false, List, [], ◌∷◌, length, slice_get, is_some, Option, Some, None, MatchOption, refl, sym, ap, subst, ◌∙◌, arith}
 use Rattle.std.proofs.lemmas.Bool.{cases_lt}
-use Rattle.c104_describe.specs.declared.ports.Port.{Port}
-use Rattle.c104_describe.specs.declared.ports.Port.TheVariants as port
+use Rattle.c104_plan.specs.declared.ports.Port.{Port}
+use Rattle.c104_plan.specs.declared.ports.Port.TheVariants as port
 use Rattle.c104_check.specs.Checks.{IsRefusedAt, Shown}
 use Rattle.c104_check.specs.Refusals.{AllLand, IsFirstIn, IsFirstOf, IsRefusal, IsSpared, LandSoFar, LandsBefore, LandsFrom, Refusal, Start}
 use Rattle.c104_check.specs.Routes.{IsEntryOf, IsRandomIn, Lands, Routes, SwitchPort, header_count, owner}

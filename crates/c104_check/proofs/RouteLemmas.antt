@@ -14,9 +14,9 @@ use Rattle.c104_regs.specs.Groups.{continues, continues_at}
 use Rattle.c104_regs.specs.Ranges.{IsInRange}
 use Rattle.c104_regs.specs.declared.settings.Settings.{Settings}
 use Rattle.c104_regs.specs.Values.{select_code, select_of}
-use Rattle.c104_describe.specs.declared.ports.Port.{Port}
-use Rattle.c104_describe.specs.declared.ports.Port.TheVariants as port
-use Rattle.c104_describe.specs.PlanImage.{AreSettings}
+use Rattle.c104_plan.specs.declared.ports.Port.{Port}
+use Rattle.c104_plan.specs.declared.ports.Port.TheVariants as port
+use Rattle.c104_plan.specs.PlanImage.{AreSettings}
 use Rattle.c104_check.specs.Routes.{Arrives, IsPortal, Leads, Routes, SwitchPort, is_in_group, or_no_settings, select, settings_at}
 use Rattle.c104_check.specs.Shown.{Follows, MayLeave}
 use Rattle.c104_check.specs.Trails.{IsInput, IsNetwork}

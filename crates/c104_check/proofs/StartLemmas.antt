@@ -12,7 +12,7 @@ use Rattle.c104_check.specs.Routes.{EntryLands, IsEntryOf, IsPortal, IsRandomAt,
 use Rattle.c104_regs.specs.declared.settings.Settings.{Settings}
 use Rattle.c104_check.specs.Starts.{AllHome, AreStarts, CoverPortals, CoverTerminals, IsFirstRandom, IsFirstRandomAt, IsNext, add_all, start_behind}
 use Rattle.c104_check.specs.Trails.{IsInput, IsNetwork, Reaches}
-use Rattle.c104_describe.specs.declared.ports.Port.TheVariants as port
+use Rattle.c104_plan.specs.declared.ports.Port.TheVariants as port
 use Rattle.c104_check.specs.Walks.{is_met}
 use Rattle.c104_check.proofs.HomeLemmas.{wired_entry}
 use Rattle.c104_check.proofs.PortalLemmas.{IsIn, add_in, add_longer, add_split, in_here, in_right, met_is_portal, portal_is_met}

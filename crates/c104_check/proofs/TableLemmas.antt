@@ -10,7 +10,7 @@ use Rattle.c104_regs.specs.Groups.{continue_bits, continues_at}
 use Rattle.c104_regs.specs.Settings.{header_length}
 use Rattle.c104_regs.specs.declared.settings.Settings.{Settings}
 use Rattle.c104_regs.proofs.ContinueLemmas.{bit-continues_at, bit_at-continue_bits}
-use Rattle.c104_describe.specs.declared.ports.Port.{Port}
+use Rattle.c104_plan.specs.declared.ports.Port.{Port}
 use Rattle.c104_check.specs.Checks.{DeletesInside, HasLarge, IsMixed, IsRandomInside, Meet}
 use Rattle.c104_check.specs.Routes.{IsRandomized, Routes, SwitchPort, has_label, is_in_group, header_count, length_at, length_or_one, link_peers, link_settings, or_no_settings, place, port_at, select, settings_at, settings_in, to_port}
 use Rattle.c104_check.specs.Trails.{AreWays, IsInput, IsNetwork}

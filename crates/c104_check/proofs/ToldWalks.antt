@@ -1,7 +1,7 @@
 -- The walk of a header that is refused, as it is told, is the first that goes wrong.
 use Rattle.std.proofs.Common.{◌≡◌, ℕ, ◌+◌, inl, inr, Bool, true, false, Result, Ok, Err, IfErr, IfOk, IfSome, List, slice_get, MatchOption, MatchResult, length, Option, Some, None, refl, sym, ap, subst, ◌∙◌, arith}
 use Rattle.c104_token.specs.declared.faults.NoMemory.{NoMemory}
-use Rattle.c104_describe.specs.declared.ports.Port.TheVariants as port
+use Rattle.c104_plan.specs.declared.ports.Port.TheVariants as port
 use Rattle.c104_check.specs.declared.acceptance.Accepted.{Accepted}
 use Rattle.c104_check.specs.declared.faults.CheckFault.{CheckFault}
 use Rattle.c104_check.specs.declared.faults.CheckFault.TheVariants as fault

@@ -6,8 +6,8 @@ use Rattle.std.specs.List.{AllByRecursion, IsDistinct}
 use Rattle.c104_crossbar.specs.declared.group.Group.{Group}
 use Rattle.c104_interval.specs.declared.intervals.Select.TheVariants.{Link}
 use Rattle.c104_regs.specs.declared.registers.TheConstants.{LINKS}
-use Rattle.c104_describe.specs.declared.ports.Port.{Port}
-use Rattle.c104_describe.specs.declared.ports.Port.TheVariants as port
+use Rattle.c104_plan.specs.declared.ports.Port.{Port}
+use Rattle.c104_plan.specs.declared.ports.Port.TheVariants as port
 use Rattle.c104_check.specs.Routes.{IsEntryOf, Routes, SwitchPort, header_count, is_in_group, select}
 use Rattle.c104_check.specs.Shown.{Follows}
 use Rattle.c104_check.specs.Trails.{Checked, IsInput, Reaches, routes_in}

@@ -1,8 +1,8 @@
 -- Why a header is refused at an entry, as a relation: what one can see of a walk without computing any.
 use Rattle.std.specs.Prelude.{◌≡◌, ◌≢◌, ℕ, ⊤, ◌⊎◌, true, false, List, [], ◌∷◌, ◌++◌, Option, Some, None}
 use Rattle.c104_interval.specs.declared.intervals.Select.TheVariants.{Link, Discard, Sink}
-use Rattle.c104_describe.specs.declared.ports.Port.{Port}
-use Rattle.c104_describe.specs.declared.ports.Port.TheVariants as port
+use Rattle.c104_plan.specs.declared.ports.Port.{Port}
+use Rattle.c104_plan.specs.declared.ports.Port.TheVariants as port
 pub use Rattle.c104_check.specs.Routes.{Follows, MayLeave}
 use Rattle.c104_check.specs.Routes.{Arrives, Homes, Leads, Roams, Routes, SwitchPort, select}
 use Rattle.c104_check.specs.Walks.{Goal, WalkFault, is_met}

@@ -1,7 +1,7 @@
 -- The starts of terminals, in order.
 use Rattle.std.specs.Prelude.{◌≡◌, ℕ, ◌<◌, ◌⊎◌, ◌&&◌, if◌then◌else◌, Bool, true, false, List, [], ◌∷◌, ◌++◌, length, nat_le, slice_get, slice_index_or, take, Option, Some, None, ⊤}
-use Rattle.c104_describe.specs.declared.ports.Port.{Port}
-use Rattle.c104_describe.specs.declared.ports.Port.TheVariants as port
+use Rattle.c104_plan.specs.declared.ports.Port.{Port}
+use Rattle.c104_plan.specs.declared.ports.Port.TheVariants as port
 use Rattle.std.specs.List.{AllByRecursion, list_any}
 use Rattle.c104_interval.specs.declared.intervals.Select.TheVariants.{Discard}
 use Rattle.c104_check.specs.Breaks.{IsWired}

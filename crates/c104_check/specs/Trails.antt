@@ -3,10 +3,10 @@ use Rattle.std.specs.Prelude.{◌≡◌, ℕ, ◌-◌, ◌<◌, ◌≤◌, List,
 use Rattle.std.specs.List.{AllByRecursion, IsDistinct, range_with_len}
 use Rattle.c104_regs.specs.declared.registers.TheConstants.{LINKS}
 use Rattle.c104_regs.specs.declared.settings.Settings.{Settings}
-use Rattle.c104_describe.specs.declared.ports.Port.{Port}
-use Rattle.c104_describe.specs.declared.ports.Port.TheVariants as port
-use Rattle.c104_describe.specs.Plans.{Plan, most_switches}
-use Rattle.c104_describe.specs.PlanImage.{AreSettings, Image}
+use Rattle.c104_plan.specs.declared.ports.Port.{Port}
+use Rattle.c104_plan.specs.declared.ports.Port.TheVariants as port
+use Rattle.c104_plan.specs.Plans.{Plan, most_switches}
+use Rattle.c104_plan.specs.PlanImage.{AreSettings, Image}
 pub use Rattle.c104_check.specs.Routes.{Reaches}
 use Rattle.c104_check.specs.Routes.{IsEntryOf, Routes, SwitchPort, routes_of, to_port}
 use Rattle.c104_check.specs.Walks.{Goal, is_port, ways}

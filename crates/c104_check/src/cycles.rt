@@ -1,6 +1,6 @@
 //! Cycles of channel dependencies: inputs each of which may have to wait for the next, and the last for the first.
 ghost use Rattle.std.specs.Prelude.{◌≡◌, ◌≢◌, ◌<◌, ◌≤◌, ◌+◌, ◌*◌, ℕ, [], true, false, length, position, IfOk, MatchOption};
-ghost use Rattle.c104_describe.specs.PlanImage.{Fits};
+ghost use Rattle.c104_plan.specs.PlanImage.{Fits};
 ghost use Rattle.c104_check.specs.ChannelDependencies.{AreByLabels, AreNeverBoth};
 ghost use Rattle.c104_check.specs.Cycles.{AllLeadToRanked, AreRanksOrCycle, IsDependencyOf, ArePartialRanks, IsRankingPass, LeadsToUnranked, LeadInside, unranked_count};
 ghost use Rattle.c104_check.specs.Dependencies.{Dependency as TheDependency};
@@ -11,7 +11,7 @@ ghost use Rattle.c104_check.specs.Walks.{is_port};
 use crate::dependencies::Dependency;
 use crate::ports::SwitchPort;
 use crate::routes::Routes;
-use c104_describe::{Image, Plan};
+use c104_plan::{Image, Plan};
 use c104_regs::LINKS;
 use c104_token::{Items, NoMemory};
 use std::alloc::Global;

@@ -4,7 +4,7 @@ ghost use Rattle.std.specs.Prelude.{◌≡◌, ◌<◌, ◌≤◌};
 use crate::ports::SwitchPort;
 use crate::routes::Routes;
 use crate::starts::Start;
-use c104_describe::Port;
+use c104_plan::Port;
 use c104_regs::LINKS;
 use c104_token::NoMemory;
 use std::alloc::Global;

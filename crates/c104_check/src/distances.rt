@@ -3,14 +3,14 @@
 use crate::ports::SwitchPort;
 use crate::routes::Routes;
 use c104_crossbar::Group;
-use c104_describe::Port;
+use c104_plan::Port;
 use c104_regs::LINKS;
 use c104_token::NoMemory;
 use std::alloc::Global;
 
 impl<'a> Routes<'a> {
     ghost use Rattle.std.specs.Prelude.{◌≡◌, ◌<◌, ◌≤◌, ◌↔◌, ℕ, length, IfOk, IsTrue, MatchOption};
-    ghost use Rattle.c104_describe.specs.declared.ports.Port.TheVariants as port;
+    ghost use Rattle.c104_plan.specs.declared.ports.Port.TheVariants as port;
     ghost use Rattle.c104_regs.specs.declared.registers.TheConstants.{LINKS as THE_LINKS};
     ghost use Rattle.c104_check.specs.Distances.{AllWays, AreMarked, HasWay, IsFirstNear, IsMarked, IsNearest, LeadsNear};
     ghost use Rattle.c104_check.specs.Mends.{GroupLeads, LeadsBy, NoGroupLeads};

@@ -1,6 +1,6 @@
 //! The edges of the channel dependency graph.
 ghost use Rattle.std.specs.Prelude.{◌≡◌, length, IfOk};
-ghost use Rattle.c104_describe.specs.PlanImage.{Fits};
+ghost use Rattle.c104_plan.specs.PlanImage.{Fits};
 ghost use Rattle.c104_check.specs.ChannelDependencies.{AreByLabels};
 ghost use Rattle.c104_check.specs.Edges.{AreAllEdges, AreEdgesBefore, edge_of};
 ghost use Rattle.c104_check.specs.Routes.{IsAccepted, routes_of};
@@ -8,7 +8,7 @@ ghost use Rattle.c104_check.specs.Routes.{IsAccepted, routes_of};
 use crate::dependencies::Dependency;
 use crate::ports::SwitchPort;
 use crate::routes::Routes;
-use c104_describe::{Image, Plan};
+use c104_plan::{Image, Plan};
 use c104_regs::LINKS;
 use c104_token::{Items, NoMemory};
 use std::alloc::{AllocError, Global};

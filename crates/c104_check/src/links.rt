@@ -1,13 +1,13 @@
 //! The tests of links.
 ghost use Rattle.std.specs.Prelude.{IfOk, MatchOption};
-ghost use Rattle.c104_describe.specs.PlanImage.{Fits};
+ghost use Rattle.c104_plan.specs.PlanImage.{Fits};
 ghost use Rattle.c104_check.specs.ChannelDependencies.{IsNeverRandomized};
 ghost use Rattle.c104_check.specs.Checks.{IsFirstLink};
 ghost use Rattle.c104_check.specs.Routes.{IsRandomized, routes_of};
 
 use crate::ports::SwitchPort;
 use crate::routes::Routes;
-use c104_describe::{Image, Plan, Port};
+use c104_plan::{Image, Plan, Port};
 use c104_regs::LINKS;
 use c104_token::NoMemory;
 use std::alloc::Global;

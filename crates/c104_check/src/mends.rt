@@ -1,6 +1,6 @@
 //! What would mend a refused walk.
 ghost use Rattle.std.specs.Prelude.{◌≡◌, true, false, IfOk, MatchOption};
-ghost use Rattle.c104_describe.specs.PlanImage.{Fits};
+ghost use Rattle.c104_plan.specs.PlanImage.{Fits};
 ghost use Rattle.c104_check.specs.Distances.{IsNearestMend};
 ghost use Rattle.c104_check.specs.Mends.{IsFollowedBy, NoMend};
 ghost use Rattle.c104_check.specs.Routes.{SwitchPort as ThePort, routes_of};
@@ -12,8 +12,8 @@ use crate::routes::Routes;
 use crate::walk_kinds::WalkKind;
 use crate::walks::{Goal, Halt, Mark, Way, way_of};
 use c104_crossbar::Group;
-use c104_describe::{Image, Plan};
 use c104_interval::Select;
+use c104_plan::{Image, Plan};
 use c104_regs::LINKS;
 use c104_token::NoMemory;
 use std::alloc::Global;

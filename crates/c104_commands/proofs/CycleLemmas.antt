@@ -1,6 +1,6 @@
 -- What is told of a network with a cycle of channel dependencies, and of one without.
 use Rattle.std.proofs.Common.{◌≡◌, ℕ, List, subst}
-use Rattle.c104_describe.specs.Plans.{Plan}
+use Rattle.c104_plan.specs.Plans.{Plan}
 use Rattle.c104_check.specs.ChannelDependencies.{IsAcyclic, IsCycle}
 use Rattle.c104_check.specs.Cycles.{AreRanksOrCycle}
 use Rattle.c104_check.specs.Ranks.{rank_in}

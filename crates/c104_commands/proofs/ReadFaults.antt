@@ -1,7 +1,7 @@
 -- Whose reader failed.
 use Rattle.std.proofs.Common.{◌≤◌, ℕ, List, length, Option, inl, inr, arith}
 use Rattle.std.specs.Io.KnownBytes.{IsAtEnd}
-use Rattle.c104_describe.specs.TextCut.{most_bytes}
+use Rattle.c104_plan.specs.TextCut.{most_bytes}
 use Rattle.c104_stream.specs.Reading.{TakesUpTo}
 
 -- a text that is no longer than it may be was read to its end

@@ -1,8 +1,8 @@
 -- How a command ends where a description gives no network with labels, or one whose labels are refused, and where it
 -- gives one.
 use Rattle.std.proofs.Common.{◌≡◌, ℕ, Bool, List, Option, None, Some, Result, Err, Ok, true, refl, inl}
-use Rattle.c104_describe.specs.Plans.{Plan}
-use Rattle.c104_describe.specs.PlanImage.{Image}
+use Rattle.c104_plan.specs.Plans.{Plan}
+use Rattle.c104_plan.specs.PlanImage.{Image}
 use Rattle.c104_describe.specs.PlanText.{read_description}
 use Rattle.c104_describe.specs.declared.faults.PlanFault.{PlanFault}
 use Rattle.c104_commands.specs.declared.setups.SetupFault.{SetupFault}

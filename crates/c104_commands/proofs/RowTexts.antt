@@ -6,12 +6,12 @@ use Rattle.std.proofs.lemmas.List.Elements.{All-more, All-weaker}
 use Rattle.c104_interval.specs.declared.intervals.TheConstants.{ROWS}
 use Rattle.c104_interval.specs.declared.intervals.Row.{Row}
 use Rattle.c104_interval.specs.Selection.{select, select_from}
-use Rattle.c104_describe.specs.declared.ports.Port.{Port}
-use Rattle.c104_describe.specs.declared.plans.Terminal.{Terminal}
-use Rattle.c104_describe.specs.Plans.{Plan, is_row_of, rows_of}
-use Rattle.c104_describe.specs.declared.plans.PlanRow.{PlanRow}
-use Rattle.c104_describe.proofs.PlanTables.{so_far, so_far-next, so_far-same}
-use Rattle.c104_describe.specs.PlanImage.{base_of, table_of, table_row}
+use Rattle.c104_plan.specs.declared.ports.Port.{Port}
+use Rattle.c104_plan.specs.declared.plans.Terminal.{Terminal}
+use Rattle.c104_plan.specs.Plans.{Plan, is_row_of, rows_of}
+use Rattle.c104_plan.specs.declared.plans.PlanRow.{PlanRow}
+use Rattle.c104_plan.proofs.PlanTables.{so_far, so_far-next, so_far-same}
+use Rattle.c104_plan.specs.PlanImage.{base_of, table_of, table_row}
 use Rattle.c104_check.specs.Routes.{to_port}
 use Rattle.c104_check.specs.declared.ports.SwitchPort.{SwitchPort}
 use Rattle.c104_commands.specs.declared.row_changes.Change.{Change}

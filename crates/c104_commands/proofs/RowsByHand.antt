@@ -2,14 +2,14 @@
 use Rattle.std.proofs.Common.{◌≡◌, ◌∙◌, Option, Some, None, length, slice_get, option_map, refl, ap, subst, sym}
 use Rattle.c104_interval.specs.Selection.{select as selected}
 use Rattle.c104_regs.specs.declared.settings.Settings.{Settings}
-use Rattle.c104_describe.specs.Plans.{Plan}
-use Rattle.c104_describe.specs.declared.plans.PlanRandom.{PlanRandom}
-use Rattle.c104_describe.specs.PlanImage.{Image, hand_image, is_random_of, plain_settings_of, settings_of, switch_settings, table_of, with_random}
-use Rattle.c104_describe.specs.declared.ports.Port.{Port}
-use Rattle.c104_describe.specs.declared.ports.Port.TheVariants as port
+use Rattle.c104_plan.specs.Plans.{Plan}
+use Rattle.c104_plan.specs.declared.plans.PlanRandom.{PlanRandom}
+use Rattle.c104_plan.specs.PlanImage.{Image, hand_image, is_random_of, plain_settings_of, settings_of, switch_settings, table_of, with_random}
+use Rattle.c104_plan.specs.declared.ports.Port.{Port}
+use Rattle.c104_plan.specs.declared.ports.Port.TheVariants as port
 use Rattle.c104_check.specs.Routes.{or_no_settings, routes_of, settings_in}
 use Rattle.c104_label.specs.Images.{IsImageOf, IsImageBy}
-use Rattle.c104_describe.specs.declared.plans.Shape.TheVariants.{Hand}
+use Rattle.c104_plan.specs.declared.plans.Shape.TheVariants.{Hand}
 use Rattle.c104_label.proofs.MappedRanges.{map_at}
 use Rattle.std.specs.List.{find}
 use Rattle.c104_commands.specs.RowChanges.{SelectsByRows}

@@ -1,8 +1,8 @@
 -- What a check prints.
 use Rattle.std.specs.Prelude.{ℕ, List, [], ◌∷◌, ◌++◌, flat_map, codes}
 use Rattle.std.specs.Fmt.{decimal}
-use Rattle.c104_describe.specs.Plans.{Plan}
-use Rattle.c104_describe.specs.PortTexts.{port_text, terminal_name}
+use Rattle.c104_plan.specs.Plans.{Plan}
+use Rattle.c104_plan.specs.PortTexts.{port_text, terminal_name}
 use Rattle.c104_check.specs.Routes.{to_port}
 use Rattle.c104_check.specs.declared.ports.SwitchPort.{SwitchPort}
 use Rattle.c104_check.specs.CheckFaults.{check_fault_name, check_fault_number}

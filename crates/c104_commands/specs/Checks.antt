@@ -1,8 +1,8 @@
 -- What `check` prints of a network, and how a command ends that finds its labels refused.
 use Rattle.std.specs.Prelude.{ℕ, ◌≡◌, ◌≢◌, Bool, true, false, List, Option}
 use Rattle.std.specs.Io.KnownBytes.{Appends, Keeps}
-use Rattle.c104_describe.specs.Plans.{Plan}
-use Rattle.c104_describe.specs.PlanImage.{Image}
+use Rattle.c104_plan.specs.Plans.{Plan}
+use Rattle.c104_plan.specs.PlanImage.{Image}
 use Rattle.c104_stream.specs.Writing.{AppendsPrefix}
 use Rattle.c104_check.specs.Checks.{IsCause}
 use Rattle.c104_check.specs.Routes.{IsAccepted, routes_of}

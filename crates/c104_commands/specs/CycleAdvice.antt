@@ -1,7 +1,7 @@
 -- What people are told of labels that are accepted.
 --     TellsOfCycles plan routes text      a text tells that there is no cycle, or begins with one
 use Rattle.std.specs.Prelude.{◌≡◌, ◌⊎◌, ℕ, Bool, true, false, List, ◌++◌, codes}
-use Rattle.c104_describe.specs.Plans.{Plan}
+use Rattle.c104_plan.specs.Plans.{Plan}
 use Rattle.c104_check.specs.ChannelDependencies.{IsAcyclic, IsCycle, IsNeverRandomized}
 use Rattle.c104_check.specs.declared.cycles.ChannelDependency.{ChannelDependency}
 use Rattle.c104_check.specs.declared.ports.SwitchPort.{SwitchPort}

@@ -1,8 +1,8 @@
 -- What `cycles` prints of channel dependencies, by the names of a plan.
 use Rattle.std.specs.Prelude.{ℕ, List, ◌∷◌, ◌++◌, flat_map, codes}
 use Rattle.std.specs.Fmt.{decimal}
-use Rattle.c104_describe.specs.Plans.{Plan}
-use Rattle.c104_describe.specs.PortTexts.{port_text}
+use Rattle.c104_plan.specs.Plans.{Plan}
+use Rattle.c104_plan.specs.PortTexts.{port_text}
 use Rattle.c104_check.specs.Routes.{to_port}
 use Rattle.c104_check.specs.declared.cycles.ChannelDependency.{ChannelDependency}
 use Rattle.c104_check.specs.declared.edges.DependencyEdge.{DependencyEdge}

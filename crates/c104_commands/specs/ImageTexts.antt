@@ -4,9 +4,9 @@ use Rattle.std.specs.List.{range_with_len}
 use Rattle.std.specs.Fmt.{decimal, digits}
 use Rattle.c104_regs.specs.declared.settings.Settings.{Settings}
 use Rattle.c104_regs.specs.KeptValues.{kept_values}
-use Rattle.c104_describe.specs.Plans.{Plan}
-use Rattle.c104_describe.specs.PlanImage.{Image}
-use Rattle.c104_describe.specs.PortTexts.{switch_name, terminal_name}
+use Rattle.c104_plan.specs.Plans.{Plan}
+use Rattle.c104_plan.specs.PlanImage.{Image}
+use Rattle.c104_plan.specs.PortTexts.{switch_name, terminal_name}
 
 -- a number in lower-case hexadecimal, padded in front with zeros (0x30) to at least a given number of digits
 unfoldable pub hex_text : ℕ → ℕ → List ℕ

@@ -1,7 +1,7 @@
 -- What `label` prints of a network: the lines of its image, which aren't refused.
 use Rattle.std.specs.Prelude.{ℕ, ◌≡◌, Bool, false, List}
-use Rattle.c104_describe.specs.Plans.{Plan}
-use Rattle.c104_describe.specs.PlanImage.{Image}
+use Rattle.c104_plan.specs.Plans.{Plan}
+use Rattle.c104_plan.specs.PlanImage.{Image}
 use Rattle.c104_commands.specs.ImageTexts.{image_text}
 
 abbrev pub PrintsLabels : Plan → Image → List ℕ → Bool → Type 0

@@ -3,9 +3,9 @@
 --     TellsRange plan t text      lines by which terminal t has such a range, or none
 use Rattle.std.specs.Prelude.{◌≡◌, ◌≢◌, ◌⊎◌, ℕ, ◌+◌, ◌<◌, ◌≤◌, nat_lt, if◌then◌else◌, List, [], ◌++◌, length, slice_get, slice_index_or, Some, codes}
 use Rattle.std.specs.Fmt.{decimal}
-use Rattle.c104_describe.specs.Plans.{Plan, host_port}
-use Rattle.c104_describe.specs.declared.plans.Terminal.{Terminal}
-use Rattle.c104_describe.specs.PortTexts.{port_text}
+use Rattle.c104_plan.specs.Plans.{Plan, host_port}
+use Rattle.c104_plan.specs.declared.plans.Terminal.{Terminal}
+use Rattle.c104_plan.specs.PortTexts.{port_text}
 
 -- how many headers there are
 abbrev pub header_values : Plan → ℕ

@@ -11,10 +11,10 @@ use Rattle.c104_interval.specs.declared.intervals.Select.{Select}
 use Rattle.c104_interval.specs.declared.intervals.Select.TheVariants.{Link, Discard, Sink}
 use Rattle.c104_interval.specs.Selection.{select}
 use Rattle.c104_regs.specs.declared.registers.TheConstants.{LINKS}
-use Rattle.c104_describe.specs.Plans.{Plan, label_count, rows_of}
-use Rattle.c104_describe.specs.PlanImage.{base_of, padded_rows, table_of, table_row}
-use Rattle.c104_describe.specs.PortTexts.{port_text, select_text}
-use Rattle.c104_describe.specs.declared.plans.Terminal.{Terminal}
+use Rattle.c104_plan.specs.Plans.{Plan, label_count, rows_of}
+use Rattle.c104_plan.specs.PlanImage.{base_of, padded_rows, table_of, table_row}
+use Rattle.c104_plan.specs.PortTexts.{port_text, select_text}
+use Rattle.c104_plan.specs.declared.plans.Terminal.{Terminal}
 use Rattle.c104_check.specs.Distances.{IsNearestMend}
 use Rattle.c104_check.specs.Mends.{IsFollowedBy, NoMend}
 use Rattle.c104_check.specs.Routes.{Routes, select as routed, to_port}

@@ -5,7 +5,7 @@ use Rattle.c104_interval.specs.declared.intervals.Select.TheVariants.{Link, Disc
 use Rattle.c104_interval.specs.declared.intervals.Row.{Row}
 use Rattle.c104_interval.specs.declared.intervals.TheConstants.{ROWS}
 use Rattle.c104_interval.specs.Selection.{select_from}
-use Rattle.c104_describe.specs.Plans.{Plan}
+use Rattle.c104_plan.specs.Plans.{Plan}
 use Rattle.c104_check.specs.declared.ports.SwitchPort.{SwitchPort}
 use Rattle.c104_commands.specs.RowChanges.{IsKeptOr, NoneBegins, row_lines, row_text}
 use Rattle.c104_commands.specs.declared.row_changes.Change.{Change}

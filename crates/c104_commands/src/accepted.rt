@@ -3,7 +3,7 @@ ghost use Rattle.std.specs.Prelude.{◌≡◌, IfOk};
 ghost use Rattle.std.specs.String.{string_bytes};
 ghost use Rattle.c104_check.specs.ChannelDependencies.{IsCycle};
 ghost use Rattle.c104_check.specs.Routes.{IsAccepted, routes_of};
-ghost use Rattle.c104_describe.specs.PlanImage.{Fits};
+ghost use Rattle.c104_plan.specs.PlanImage.{Fits};
 ghost use Rattle.c104_commands.specs.CycleAdvice.{SaysNoCycle, TellsOfCycle, TellsOfCycles, cycle_sentence, no_cycle_sentence};
 
 use crate::cycle_breaks::cycle_change;
@@ -12,7 +12,7 @@ use c104_check::{
     ChannelDependency, DependencyEdge, RanksOrCycle, channel_dependencies, find_cycle,
     first_randomized,
 };
-use c104_describe::{Image, Plan};
+use c104_plan::{Image, Plan};
 use c104_token::NoMemory;
 use std::alloc::{AllocError, Global};
 

@@ -6,9 +6,9 @@ ghost use Rattle.c104_check.specs.Walks.{is_met};
 ghost use Rattle.c104_commands.specs.Advice.{IsAdvice, TellsLarge, TellsOverlap, TellsStep, delete_text, due_text, end_text, first_label, large_text, misstep_text, mixed_text, owner_text, random_text, stop_text, terminal_text, way_text};
 ghost use Rattle.c104_commands.specs.RangeChanges.{header_values};
 ghost use Rattle.c104_commands.specs.RowChanges.{SelectsByRows, TellsFix, TellsMend};
-ghost use Rattle.c104_describe.specs.PlanImage.{Fits};
-ghost use Rattle.c104_describe.specs.Plans.{label_count};
-ghost use Rattle.c104_describe.specs.declared.plans.Shape.TheVariants.{Hand};
+ghost use Rattle.c104_plan.specs.PlanImage.{Fits};
+ghost use Rattle.c104_plan.specs.Plans.{label_count};
+ghost use Rattle.c104_plan.specs.declared.plans.Shape.TheVariants.{Hand};
 ghost use Rattle.c104_label.specs.Images.{IsImageOf};
 
 use crate::discarding::discarding_rows;
@@ -16,8 +16,8 @@ use crate::mending::{header_count, mended, row_change};
 use crate::range_changes::range_change;
 use crate::texts::{port_text, terminal_name};
 use c104_check::{CheckFault, Mend, Misstep, Shown, SwitchPort, WalkKind, find_mend, find_misstep};
-use c104_describe::{Image, Plan, Port};
 use c104_interval::Select;
+use c104_plan::{Image, Plan, Port};
 use c104_token::NoMemory;
 use std::alloc::{AllocError, Global};
 

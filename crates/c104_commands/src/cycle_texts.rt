@@ -5,7 +5,7 @@ ghost use Rattle.c104_commands.specs.CycleTexts.{acyclic_text, cycle_text, depen
 
 use crate::texts::port_text;
 use c104_check::{ChannelDependency, DependencyEdge, SwitchPort};
-use c104_describe::Plan;
+use c104_plan::Plan;
 use std::alloc::{AllocError, Global};
 
 /// The line of a network without a cycle.

@@ -3,15 +3,15 @@
 ghost use Rattle.std.specs.Prelude.{◌≡◌, ◌⊎◌, ◌+◌, ◌-◌, ◌^◌, ◌<◌, min, None, Some, IfOk};
 ghost use Rattle.std.specs.String.{string_bytes};
 ghost use Rattle.c104_commands.specs.RowChanges.{NoneBegins, TellsDiscard};
-ghost use Rattle.c104_describe.specs.Plans.{label_count};
+ghost use Rattle.c104_plan.specs.Plans.{label_count};
 ghost use Rattle.c104_interval.specs.declared.intervals.Select.TheVariants.{Discard};
 
 use crate::mending::{header_count, next_label, row_change};
 use crate::row_changes::Change;
 use crate::trials::{are_accepted, changed_image, most_trials};
 use c104_check::{Shown, SwitchPort};
-use c104_describe::{Plan, PlanRandom};
 use c104_interval::Select;
+use c104_plan::{Plan, PlanRandom};
 use c104_token::NoMemory;
 use std::alloc::Global;
 

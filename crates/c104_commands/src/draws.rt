@@ -1,7 +1,7 @@
 //! The drawing of a description's network.
 ghost use Rattle.std.specs.Prelude.{Ok, Result};
-ghost use Rattle.c104_describe.specs.PlanImage.{Fits};
-ghost use Rattle.c104_describe.specs.Plans.{Plan as ThePlan};
+ghost use Rattle.c104_plan.specs.PlanImage.{Fits};
+ghost use Rattle.c104_plan.specs.Plans.{Plan as ThePlan};
 ghost use Rattle.c104_describe.specs.declared.faults.PlanFault.{PlanFault as ThePlanFault};
 ghost use Rattle.c104_commands.specs.Endings.{CommandEnds, CommandRuns};
 ghost use Rattle.c104_commands.specs.Pictures.{PrintsPicture};

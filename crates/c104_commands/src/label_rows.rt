@@ -1,10 +1,10 @@
 //! The labelling of a description by `row` lines.
 ghost use Rattle.std.specs.Prelude.{◌≡◌, Ok, Result, IfOk};
 ghost use Rattle.std.specs.String.{string_bytes};
-ghost use Rattle.c104_describe.specs.PlanImage.{Fits};
+ghost use Rattle.c104_plan.specs.PlanImage.{Fits};
 ghost use Rattle.c104_describe.specs.PlanPrint.{plan_text};
-ghost use Rattle.c104_describe.specs.Plans.{Plan as ThePlan};
-ghost use Rattle.c104_describe.specs.RowPlans.{row_plan};
+ghost use Rattle.c104_plan.specs.Plans.{Plan as ThePlan};
+ghost use Rattle.c104_plan.specs.RowPlans.{row_plan};
 ghost use Rattle.c104_describe.specs.declared.faults.PlanFault.{PlanFault as ThePlanFault};
 ghost use Rattle.c104_label.specs.Images.{IsImageOf};
 ghost use Rattle.c104_commands.specs.Endings.{CommandEnds, CommandRuns};
@@ -13,9 +13,10 @@ ghost use Rattle.c104_commands.specs.Setups.{ComesTo};
 
 use crate::setups::{Setup, read_setup};
 use crate::status::Status;
-use c104_describe::{Image, Plan, print_plan};
+use c104_describe::print_plan;
 use c104_explain::Messages;
 use c104_label::label_row_plan;
+use c104_plan::{Image, Plan};
 use c104_stream::write_whole;
 use c104_token::NoMemory;
 use std::alloc::Global;

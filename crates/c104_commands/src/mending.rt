@@ -4,14 +4,14 @@ ghost use Rattle.std.specs.String.{string_bytes};
 ghost use Rattle.c104_commands.specs.RangeChanges.{header_values};
 ghost use Rattle.c104_commands.specs.RowChanges.{NoneBegins, TellsSelect, row_lines, row_text};
 ghost use Rattle.c104_commands.specs.RowSteps.{EndsAt, change_text, new_rows, rows_if};
-ghost use Rattle.c104_describe.specs.PortTexts.{select_text};
-ghost use Rattle.c104_describe.specs.Plans.{label_count};
+ghost use Rattle.c104_plan.specs.PortTexts.{select_text};
+ghost use Rattle.c104_plan.specs.Plans.{label_count};
 
 use crate::row_changes::{Change, NewRows, RowChange, find_row_change};
 use crate::texts::port_text;
 use c104_check::{Mend, SwitchPort, WalkKind};
-use c104_describe::Plan;
 use c104_interval::{Row, Select};
+use c104_plan::Plan;
 use std::alloc::{AllocError, Global};
 
 /// The change by which a header selects at an input what mends its walk of this kind. Where it is sunk, those above

@@ -4,14 +4,14 @@ ghost use Rattle.std.specs.String.{string_bytes};
 ghost use Rattle.c104_check.specs.Checks.{IsCause};
 ghost use Rattle.c104_check.specs.Routes.{IsAccepted, routes_of};
 ghost use Rattle.c104_check.specs.declared.faults.CheckFault.TheVariants as check_fault;
-ghost use Rattle.c104_describe.specs.PlanImage.{Fits};
+ghost use Rattle.c104_plan.specs.PlanImage.{Fits};
 ghost use Rattle.c104_commands.specs.Pictures.{IsAcceptedPicture, IsHeaderPicture, IsMarkedPicture, IsPicture, IsPlainPicture, IsRefusedPicture, cycle_inputs, header_line};
 
 use crate::cycle_texts::cycle_text;
 use crate::texts::check_fault_text;
 use c104_check::{ChannelDependency, CheckFault, RanksOrCycle, SwitchPort, check, find_cycle};
-use c104_describe::{Image, Plan};
 use c104_draw::{draw, draw_cycle, draw_header, drawing_text};
+use c104_plan::{Image, Plan};
 use c104_token::NoMemory;
 use std::alloc::{AllocError, Global};
 

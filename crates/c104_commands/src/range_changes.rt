@@ -6,7 +6,7 @@ ghost use Rattle.c104_commands.specs.RangeChanges.{AreApart, IsApart, IsFreeRang
 use crate::mending::header_count;
 use crate::texts::port_text;
 use c104_check::SwitchPort;
-use c104_describe::{Plan, PlanRandom, Terminal};
+use c104_plan::{Plan, PlanRandom, Terminal};
 use std::alloc::{AllocError, Global};
 
 /// The lines by which a terminal has another range, of as many labels, all of which are headers, no other

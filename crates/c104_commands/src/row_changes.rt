@@ -3,12 +3,12 @@ ghost use Rattle.std.specs.Prelude.{◌≡◌, ◌<◌, ◌+◌, length, map, na
 ghost use Rattle.c104_check.specs.Routes.{to_port};
 ghost use Rattle.c104_commands.specs.RowChanges.{input_rows};
 ghost use Rattle.c104_commands.specs.RowSteps.{IsCovering, IsRowChange, added_rows, change_of, covering_with, new_rows, replaced_rows, row_if};
-ghost use Rattle.c104_describe.specs.PlanImage.{base_of, table_row};
-ghost use Rattle.c104_describe.specs.Plans.{rows_of};
+ghost use Rattle.c104_plan.specs.PlanImage.{base_of, table_row};
+ghost use Rattle.c104_plan.specs.Plans.{rows_of};
 
 use c104_check::SwitchPort;
-use c104_describe::{Plan, Port};
 use c104_interval::{ROWS, Row, Select};
+use c104_plan::{Plan, Port};
 
 /// Headers that are to select something else at an input.
 #[derive(Clone, Copy, Debug)]
@@ -189,7 +189,7 @@ fn added_rows(change: Change, low: u32) -> NewRows
 }
 
 /// Where the first interval of an input's table begins.
-#[tactic(auto, unfolding(c104_describe::specs::PlanImage::base_of))]
+#[tactic(auto, unfolding(c104_plan::specs::PlanImage::base_of))]
 pub(crate) fn base_of(plan: &Plan, port: Port) -> u32
     ensures { result ≡ base_of plan.now port }
 {

@@ -1,10 +1,10 @@
 //! Runs: a description, and a script that is answered on its network.
 ghost use Rattle.std.specs.Prelude.{ℕ, ◌≡◌, ◌≤◌, List, Ok, Result, length};
 ghost use Rattle.std.specs.Io.KnownBytes.{IsAtEnd, prepend_known};
-ghost use Rattle.c104_describe.specs.PlanImage.{Fits};
+ghost use Rattle.c104_plan.specs.PlanImage.{Fits};
 ghost use Rattle.c104_describe.specs.PlanText.{read_description};
-ghost use Rattle.c104_describe.specs.TextCut.{most_bytes};
-ghost use Rattle.c104_describe.specs.Plans.{Plan as ThePlan};
+ghost use Rattle.c104_plan.specs.TextCut.{most_bytes};
+ghost use Rattle.c104_plan.specs.Plans.{Plan as ThePlan};
 ghost use Rattle.c104_describe.specs.declared.faults.PlanFault.{PlanFault as ThePlanFault};
 ghost use Rattle.c104_script.specs.Parts.{parts, AreOnlyParts, StopsBeforeScript};
 ghost use Rattle.c104_session.specs.Lines.{script_lines, AreOnlyLines};
@@ -14,8 +14,8 @@ ghost use Rattle.c104_commands.specs.Runs.{RunsParts, RunsDescription, RunsText}
 
 use crate::setups::{Setup, drop_plan, refuse, set_up};
 use crate::status::Status;
-use c104_describe::{Image, MAX_DESCRIPTION, Plan};
 use c104_explain::{Behind, Messages};
+use c104_plan::{Image, MAX_DESCRIPTION, Plan};
 use c104_script::read_first_part;
 use c104_session::run_plan;
 use c104_stream::{Ahead, Halt, read_up_to};

@@ -2,18 +2,19 @@
 ghost use Rattle.std.specs.Prelude.{ℕ, ◌≡◌, ◌≢◌, ◌≤◌, true, false, length, Ok, Err, IfErr, IfOk, Some};
 ghost use Rattle.std.specs.String.{string_bytes};
 ghost use Rattle.c104_check.specs.Routes.{IsAccepted, routes_of};
-ghost use Rattle.c104_describe.specs.PlanImage.{Fits};
+ghost use Rattle.c104_plan.specs.PlanImage.{Fits};
 ghost use Rattle.c104_describe.specs.PlanText.{read_description};
-ghost use Rattle.c104_describe.specs.TextCut.{most_bytes};
+ghost use Rattle.c104_plan.specs.TextCut.{most_bytes};
 ghost use Rattle.c104_label.specs.Images.{IsImageOf, is_labelled_shape};
 ghost use Rattle.c104_commands.specs.Endings.{EndsBefore, IsSetup};
 ghost use Rattle.c104_commands.specs.Setups.{ComesTo, IsOutOfMemory, RefusalEnds, label_fault_text, refused_text};
 ghost use Rattle.c104_commands.specs.declared.status.Status.TheVariants as status;
 
 use crate::status::Status;
-use c104_describe::{Image, MAX_DESCRIPTION, Plan, PlanFault, PlanFaultKind, read_description};
+use c104_describe::{PlanFault, PlanFaultKind, read_description};
 use c104_explain::{About, Messages, description_message};
 use c104_label::{LabelFault, image_of};
+use c104_plan::{Image, MAX_DESCRIPTION, Plan};
 use c104_script::description_text;
 use c104_stream::{Halt, read_up_to, write_whole};
 use c104_token::NoMemory;

@@ -3,10 +3,10 @@ ghost use Rattle.std.specs.Prelude.{◌≡◌, IfOk};
 ghost use Rattle.std.specs.String.{string_bytes};
 ghost use Rattle.c104_check.specs.Routes.{to_port};
 ghost use Rattle.c104_commands.specs.CheckTexts.{check_fault_place, check_fault_text, shown_text};
-ghost use Rattle.c104_describe.specs.PortTexts.{port_text, switch_name, terminal_name};
+ghost use Rattle.c104_plan.specs.PortTexts.{port_text, switch_name, terminal_name};
 
 use c104_check::{CheckFault, Shown, SwitchPort};
-use c104_describe::Plan;
+use c104_plan::Plan;
 use c104_token::NoMemory;
 use std::alloc::{AllocError, Global};
 

@@ -2,12 +2,12 @@
 //! safe and ends.
 ghost use Rattle.std.specs.Prelude.{◌≡◌, true, IfOk};
 ghost use Rattle.c104_check.specs.Routes.{IsAccepted, routes_of};
-ghost use Rattle.c104_describe.specs.PlanImage.{Fits};
+ghost use Rattle.c104_plan.specs.PlanImage.{Fits};
 
 use crate::row_changes::{Change, base_of};
 use c104_check::{CheckFault, SwitchPort, check};
-use c104_describe::{Image, Plan, PlanRow, Port, hand_image};
 use c104_interval::{ROWS, Select};
+use c104_plan::{Image, Plan, PlanRow, Port, hand_image};
 use c104_regs::{Address, LINKS, Register};
 use c104_token::NoMemory;
 use std::alloc::Global;

@@ -3,14 +3,14 @@ use Rattle.std.proofs.Common.{◌≡◌, ℕ, ◌+◌, ◌||◌, Bool, true, fal
 use Rattle.std.specs.List.{list_any}
 use Rattle.c104_describe.specs.declared.words.Keyword.TheVariants as keyword
 use Rattle.c104_describe.specs.declared.faults.PlanFaultKind.TheVariants.{BadName, BadNumber, BadShape, MixedStyle, Twice, UnknownName, UnknownWord}
-use Rattle.c104_describe.specs.Checks.{value_or_fault}
-use Rattle.c104_describe.specs.TextCut.{is_plain_line, uncommented_line, line_words}
-use Rattle.c104_describe.specs.TextWords.{read_number, is_name}
+use Rattle.c104_plan.specs.Checks.{value_or_fault}
+use Rattle.c104_plan.specs.TextCut.{is_plain_line, uncommented_line, line_words}
+use Rattle.c104_plan.specs.TextWords.{read_number, is_name}
 use Rattle.c104_describe.specs.PlanFaults.{PlanFault, PlanFaultKind}
 use Rattle.c104_describe.specs.PlanWords.{Keyword, keyword_of, number_within, range_words}
-use Rattle.c104_describe.specs.Plans.{Plan, is_buffer_size, most_header_bytes, switch_number}
+use Rattle.c104_plan.specs.Plans.{Plan, is_buffer_size, most_header_bytes, switch_number}
 use Rattle.c104_describe.specs.PlanDrafts.{Draft, is_begun, is_by_hand, is_mixed}
-use Rattle.c104_describe.specs.PlanParts.{has_settings, has_some}
+use Rattle.c104_plan.specs.PlanParts.{has_settings, has_some}
 use Rattle.c104_describe.specs.PlanLines.{after_from, buffer_line, header_line, in_draft, keyword_line, label_line, read_plan_line, read_plan_words, terminal_line}
 use Rattle.c104_describe.specs.PlanText.{draft_after_line, read_plan_lines}
 use Rattle.c104_describe.specs.EarlierLines.{asks_labels, gives_switches, gives_whole, opening, opening_by, says_begin, sets_labels, words_opening}

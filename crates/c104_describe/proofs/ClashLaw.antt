@@ -4,10 +4,10 @@ use Rattle.std.proofs.lemmas.Bool.{or_left, or_right}
 use Rattle.std.specs.List.{list_any}
 use Rattle.c104_describe.specs.declared.words.Keyword.TheVariants as keyword
 use Rattle.c104_describe.specs.declared.faults.PlanFaultKind.TheVariants.{MixedStyle}
-use Rattle.c104_describe.specs.TextCut.{is_plain_line, uncommented_line, line_words}
+use Rattle.c104_plan.specs.TextCut.{is_plain_line, uncommented_line, line_words}
 use Rattle.c104_describe.specs.PlanWords.{Keyword, keyword_of}
 use Rattle.c104_describe.specs.PlanDrafts.{Draft, is_by_hand, is_mixed, says_from}
-use Rattle.c104_describe.specs.PlanParts.{has_settings, has_some}
+use Rattle.c104_plan.specs.PlanParts.{has_settings, has_some}
 use Rattle.c104_describe.specs.PlanText.{empty_draft, read_plan_lines}
 use Rattle.c104_describe.specs.LineFaults.{first_word_parts, has_fault, is_fault_of, line_parts}
 use Rattle.c104_describe.specs.EarlierLines.{asks_labels, do_clash, do_openings_clash, gives_switches, gives_whole, is_by_line, opening, opening_by, says_begin, sets_labels, words_opening, AreMixedByClash}

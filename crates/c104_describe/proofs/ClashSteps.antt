@@ -3,10 +3,10 @@
 use Rattle.std.proofs.Common.{◌≡◌, ℕ, ◌<◌, ◌||◌, Bool, true, false, not, List, [], ◌∷◌, ◌++◌, length, Option, Ok, ◌∙◌, ap, subst, refl, arith, length-append}
 use Rattle.std.proofs.lemmas.Bool.{ne_eqb}
 use Rattle.std.proofs.lemmas.List.FromFn.{length-map-range_with_len}
-use Rattle.c104_describe.specs.Layouts.{Layout, filled_name, filled_switches}
-use Rattle.c104_describe.specs.Plans.{Plan}
+use Rattle.c104_plan.specs.Layouts.{Layout, filled_name, filled_switches}
+use Rattle.c104_plan.specs.Plans.{Plan}
 use Rattle.c104_describe.specs.PlanDrafts.{is_by_hand}
-use Rattle.c104_describe.specs.PlanParts.{has_settings, has_some}
+use Rattle.c104_plan.specs.PlanParts.{has_settings, has_some}
 use Rattle.c104_describe.specs.PlanLines.{base_line, continue_line, cube_line, delete_line, mesh_line, random_line, row_line, switch_line, terminal_line, wire_line}
 use Rattle.c104_describe.proofs.LineMakes.{Filled, base_made, continue_made, cube_made, delete_made, mesh_made, random_made, row_made, switch_made, terminal_made, wire_made}
 

@@ -3,14 +3,17 @@
 use Rattle.std.proofs.Common.{◌≡◌, ℕ, zero, suc, ◌+◌, ◌<◌, ◌≤◌, List, [], ◌∷◌, ◌++◌, length, map, slice_get, codes, All, refl, sym, subst, ap, ◌∙◌, arith}
 use Rattle.std.specs.Option.{option_map_or}
 use Rattle.std.proofs.lemmas.List.Elements.{All-cons, All-head, All-nil, All-tail}
-use Rattle.c104_describe.specs.declared.plans.Shape.TheVariants.{Hand}
-use Rattle.c104_describe.specs.declared.ports.Port.TheVariants as port
-use Rattle.c104_describe.specs.Distinctness.{AreDistinct}
-use Rattle.c104_describe.specs.Ports.{Port, Wire, is_port, both_ends, IsSwitchPort}
-use Rattle.c104_describe.specs.PlanParts.{without_first}
-use Rattle.c104_describe.specs.Plans.{Plan, Terminal, AreNames, IsPlan, IsRange, IsTreePlan, host_port, label_count, next_first, total_count}
+use Rattle.c104_plan.specs.declared.plans.Shape.TheVariants.{Hand}
+use Rattle.c104_plan.specs.declared.ports.Port.TheVariants as port
+use Rattle.c104_plan.specs.Distinctness.{AreDistinct}
+use Rattle.c104_plan.specs.Ports.{is_port, both_ends, IsSwitchPort}
+use Rattle.c104_plan.specs.declared.ports.Port.{Port}
+use Rattle.c104_plan.specs.declared.ports.Wire.{Wire}
+use Rattle.c104_plan.specs.PlanParts.{without_first}
+use Rattle.c104_plan.specs.Plans.{Plan, AreNames, IsPlan, IsRange, IsTreePlan, host_port, label_count, next_first, total_count}
+use Rattle.c104_plan.specs.declared.plans.Terminal.{Terminal}
 use Rattle.c104_describe.specs.PlanPrint.{counted_words, delete_words, wire_words}
-use Rattle.c104_describe.specs.PortTexts.{port_text, terminal_name}
+use Rattle.c104_plan.specs.PortTexts.{port_text, terminal_name}
 
 -- the first range begins at n
 abbrev pub counted_from : ℕ → List Terminal → List Terminal

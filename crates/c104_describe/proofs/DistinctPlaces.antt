@@ -4,7 +4,7 @@ use Rattle.std.proofs.lemmas.Bool.Decides.{nat_tests}
 use Rattle.std.specs.List.{AllByRecursion, list_any, position_or_len}
 use Rattle.std.proofs.lemmas.List.Elements.{All-head, All-tail}
 use Rattle.std.proofs.lemmas.List.Sums.{position_or_len_is}
-use Rattle.c104_describe.specs.Distinctness.{AreDistinct}
+use Rattle.c104_plan.specs.Distinctness.{AreDistinct}
 
 -- one of a list, of which all are so
 pub All-here : {X : Type 0} (P : X → Type 0) (xs done : List X) (x : X) (more : List X) → done ++ x ∷ more ≡ xs → All P xs → P x

@@ -3,20 +3,21 @@ use Rattle.std.proofs.Common.{◌≡◌, ℕ, ◌+◌, ◌<◌, ◌&&◌, ◌||�
 use Rattle.std.proofs.lemmas.Bool.{not-true, or_from, or_parts}
 use Rattle.std.proofs.lemmas.Bool.Decides.{nat_tests}
 use Rattle.std.proofs.lemmas.List.Elements.{All-nil}
-use Rattle.c104_describe.specs.declared.plans.Shape.TheVariants.{Hand, Tree, Mesh, Cube}
+use Rattle.c104_plan.specs.declared.plans.Shape.TheVariants.{Hand, Tree, Mesh, Cube}
 use Rattle.c104_describe.specs.declared.words.Keyword.TheVariants as keyword
 use Rattle.c104_describe.specs.declared.faults.PlanFaultKind.TheVariants.{BadName, BadNumber, BadShape, MixedStyle, Twice, UnknownName, UnknownWord}
-use Rattle.c104_describe.specs.Checks.{◌>>=◌, value_or_fault}
-use Rattle.c104_describe.specs.TextCut.{is_plain_line, uncommented_line, line_words}
-use Rattle.c104_describe.specs.TextWords.{is_name, read_number}
+use Rattle.c104_plan.specs.Checks.{◌>>=◌, value_or_fault}
+use Rattle.c104_plan.specs.TextCut.{is_plain_line, uncommented_line, line_words}
+use Rattle.c104_plan.specs.TextWords.{is_name, read_number}
 use Rattle.c104_describe.specs.PlanFaults.{PlanFault, PlanFaultKind}
 use Rattle.c104_describe.specs.PlanWords.{Keyword, keyword_of, number_within, range_words}
-use Rattle.c104_describe.specs.Plans.{Plan, Shape, IsPlan, IsUnset, is_buffer_size, most_header_bytes, next_first, rows_of, switch_number, total_count}
+use Rattle.c104_plan.specs.Plans.{Plan, IsPlan, IsUnset, is_buffer_size, most_header_bytes, next_first, rows_of, switch_number, total_count}
+use Rattle.c104_plan.specs.declared.plans.Shape.{Shape}
 use Rattle.c104_describe.specs.PlanDrafts.{Draft, finished, is_by_hand, is_mixed, rooted, says_from}
-use Rattle.c104_describe.specs.PlanParts.{has_settings, has_some}
+use Rattle.c104_plan.specs.PlanParts.{has_settings, has_some}
 use Rattle.c104_describe.specs.PlanLines.{after_from, header_line, buffer_line, label_line, in_draft, keyword_line, read_plan_words, read_plan_line, terminal_line}
 use Rattle.c104_describe.specs.PlanText.{draft_after_line, empty_draft, read_plan_lines}
-use Rattle.c104_describe.proofs.PlanKept.{with_header, with_buffer}
+use Rattle.c104_plan.proofs.PlanKept.{with_header, with_buffer}
 use Rattle.c104_describe.proofs.PlanLinesKept.{IsBeside, IsHosting, IsNext, given, held, named_switch, number_within-is, switch_line-kept, terminal_line-kept, wire_line-kept, continue_line-kept, delete_line-kept, base_line-kept, row_line-kept, random_line-kept, mesh_line-kept, cube_line-kept}
 use Rattle.c104_describe.proofs.PlanRooted.{rooted_kept}
 

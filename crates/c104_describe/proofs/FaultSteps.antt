@@ -2,13 +2,13 @@
 -- that applies, where each step fails only if its own fault applies.
 use Rattle.std.proofs.Common.{◌≡◌, ℕ, ◌&&◌, ◌||◌, Bool, true, false, not, List, if◌then◌else◌, is_none, Option, Some, None, Result, Ok, Err, ◌∙◌, ap, refl}
 use Rattle.std.specs.Option.{option_map_or}
-use Rattle.c104_describe.specs.declared.text.Dots.{Dots}
-use Rattle.c104_describe.specs.declared.text.Dots.TheVariants.{Without, At, Several}
+use Rattle.c104_plan.specs.declared.text.Dots.{Dots}
+use Rattle.c104_plan.specs.declared.text.Dots.TheVariants.{Without, At, Several}
 use Rattle.c104_describe.specs.declared.faults.PlanFaultKind.TheVariants.{BadNumber, BadShape}
-use Rattle.c104_describe.specs.TextWords.{read_number, dots}
+use Rattle.c104_plan.specs.TextWords.{read_number, dots}
 use Rattle.c104_describe.specs.PlanFaults.{PlanFaultKind}
-use Rattle.c104_describe.specs.Plans.{Plan, last_link}
-use Rattle.c104_describe.specs.Checks.{◌>>=◌, ◌>>◌, require, value_or_fault}
+use Rattle.c104_plan.specs.Plans.{Plan, last_link}
+use Rattle.c104_plan.specs.Checks.{◌>>=◌, ◌>>◌, require, value_or_fault}
 use Rattle.c104_describe.specs.PlanWords.{number_within, number_or, port_sides, port_word, sides_of_dots}
 use Rattle.c104_describe.specs.PlanLines.{Draft, in_draft}
 use Rattle.c104_describe.specs.LineFaults.{port_name, port_link, sides_at, is_one_dot, number_said, is_from_to, is_bad_number}

@@ -5,16 +5,22 @@ use Rattle.std.proofs.lemmas.Bool.{cases_Bool}
 use Rattle.std.proofs.lemmas.Nat.{div_below, mod_below}
 use Rattle.std.proofs.lemmas.List.Elements.{All-head, All-nil, All-weaker}
 use Rattle.std.proofs.lemmas.List.FromFn.{length-map-range_with_len}
-use Rattle.c104_describe.specs.declared.ports.Port.TheVariants as port
-use Rattle.c104_describe.specs.declared.plans.Shape.TheVariants.{Mesh, Cube}
-use Rattle.c104_describe.specs.Ports.{Port, IsSwitchPort}
-use Rattle.c104_describe.specs.Layouts.{Layout, IsCube, IsMesh, cube, mesh, filled_name, filled_switches, filled_terminal, filled_terminals, filled_wires, wire_at, wire_to, wires_from}
+use Rattle.c104_plan.specs.declared.ports.Port.TheVariants as port
+use Rattle.c104_plan.specs.declared.plans.Shape.TheVariants.{Mesh, Cube}
+use Rattle.c104_plan.specs.Ports.{IsSwitchPort}
+use Rattle.c104_plan.specs.declared.ports.Port.{Port}
+use Rattle.c104_plan.specs.Layouts.{Layout, IsCube, IsMesh, cube, mesh, filled_name, filled_switches, filled_terminal, filled_terminals, filled_wires, wire_at, wire_to, wires_from}
 use Rattle.c104_describe.specs.PlanLines.{filled_plan}
-use Rattle.c104_describe.specs.Plans.{Plan, PlanBase, PlanRandom, PlanRow, Shape, Terminal, AreBases, AreContinues, AreDeletes, AreRandoms, AreRows, AreTerminals, IsLaterPort, IsOfShape, IsPlan, IsPlanWire, IsRange, IsUnset, host_port, rows_of}
+use Rattle.c104_plan.specs.Plans.{Plan, AreBases, AreContinues, AreDeletes, AreRandoms, AreRows, AreTerminals, IsLaterPort, IsOfShape, IsPlan, IsPlanWire, IsRange, IsUnset, host_port, rows_of}
+use Rattle.c104_plan.specs.declared.plans.PlanBase.{PlanBase}
+use Rattle.c104_plan.specs.declared.plans.PlanRandom.{PlanRandom}
+use Rattle.c104_plan.specs.declared.plans.PlanRow.{PlanRow}
+use Rattle.c104_plan.specs.declared.plans.Shape.{Shape}
+use Rattle.c104_plan.specs.declared.plans.Terminal.{Terminal}
 use Rattle.c104_describe.proofs.FilledLinks.{filled_links}
 use Rattle.c104_describe.proofs.FilledNames.{filled_names}
-use Rattle.c104_describe.proofs.LayoutJoins.{AreJoined, IsJoined, cube_is, mesh_is}
-use Rattle.c104_describe.proofs.RangeLists.{all_of_each, all_range, each_flat}
+use Rattle.c104_plan.proofs.LayoutJoins.{AreJoined, IsJoined, cube_is, mesh_is}
+use Rattle.c104_plan.proofs.RangeLists.{all_of_each, all_range, each_flat}
 
 -- Without switches there is nothing at a link
 

@@ -2,15 +2,17 @@
 use Rattle.std.proofs.Common.{◌≡◌, ◌≢◌, ℕ, zero, suc, ◌<◌, ◌≤◌, ◌+◌, ◌*◌, ◌/◌, ◌%◌, true, false, not, List, [], ◌∷◌, ◌++◌, map, Option, Some, None, refl, sym, ap, subst, ◌∙◌, ⊎_elim, arith}
 use Rattle.std.specs.List.{AllByRecursion, flat_map, range_with_len}
 use Rattle.std.proofs.lemmas.Bool.{cases_Bool}
-use Rattle.c104_describe.specs.Distinctness.{AreDistinct}
-use Rattle.c104_describe.specs.declared.ports.Port.TheVariants as port
-use Rattle.c104_describe.specs.Ports.{Port, Wire, is_port, both_ends}
-use Rattle.c104_describe.specs.Layouts.{Layout, filled_terminal, filled_terminals, filled_wires, wire_at, wire_to, wires_from}
-use Rattle.c104_describe.specs.Plans.{host_port, linked_ports}
-use Rattle.c104_describe.proofs.LayoutJoins.{AreJoined, IsJoined}
-use Rattle.c104_describe.proofs.LayoutNumbers.{parts}
-use Rattle.c104_describe.proofs.PortLemmas.{is_port-ne}
-use Rattle.c104_describe.proofs.RangeLists.{each_flat}
+use Rattle.c104_plan.specs.Distinctness.{AreDistinct}
+use Rattle.c104_plan.specs.declared.ports.Port.TheVariants as port
+use Rattle.c104_plan.specs.Ports.{is_port, both_ends}
+use Rattle.c104_plan.specs.declared.ports.Port.{Port}
+use Rattle.c104_plan.specs.declared.ports.Wire.{Wire}
+use Rattle.c104_plan.specs.Layouts.{Layout, filled_terminal, filled_terminals, filled_wires, wire_at, wire_to, wires_from}
+use Rattle.c104_plan.specs.Plans.{host_port, linked_ports}
+use Rattle.c104_plan.proofs.LayoutJoins.{AreJoined, IsJoined}
+use Rattle.c104_plan.proofs.LayoutNumbers.{parts}
+use Rattle.c104_plan.proofs.PortLemmas.{is_port-ne}
+use Rattle.c104_plan.proofs.RangeLists.{each_flat}
 
 -- where a link for a switch leads
 leads : Layout → Port → Option Port

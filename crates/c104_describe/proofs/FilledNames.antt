@@ -6,13 +6,14 @@ use Rattle.std.proofs.lemmas.Bool.Decides.{nat_tests}
 use Rattle.std.proofs.lemmas.Fmt.{decimal_injective, length-decimal-le}
 use Rattle.std.proofs.lemmas.List.Elements.{All-append}
 use Rattle.std.proofs.lemmas.Simd.{map-map}
-use Rattle.c104_describe.specs.TextWords.{is_digit, is_letter, is_name, is_name_byte}
-use Rattle.c104_describe.specs.Layouts.{Layout, filled_name, filled_switches, filled_terminal, filled_terminals}
-use Rattle.c104_describe.specs.Plans.{Terminal, AreNames, names}
-use Rattle.c104_describe.proofs.TextBytes.{list_all-weaker}
+use Rattle.c104_plan.specs.TextWords.{is_digit, is_letter, is_name, is_name_byte}
+use Rattle.c104_plan.specs.Layouts.{Layout, filled_name, filled_switches, filled_terminal, filled_terminals}
+use Rattle.c104_plan.specs.Plans.{AreNames, names}
+use Rattle.c104_plan.specs.declared.plans.Terminal.{Terminal}
+use Rattle.c104_plan.proofs.TextBytes.{list_all-weaker}
 use Rattle.c104_describe.proofs.PrintedNumbers.{decimal_digits}
 use Rattle.c104_describe.proofs.PrintedPorts.{differ_eq}
-use Rattle.c104_describe.proofs.RangeLists.{all_range, distinct_both, distinct_range, each_range}
+use Rattle.c104_plan.proofs.RangeLists.{all_range, distinct_both, distinct_range, each_range}
 
 digit_in_name : (c : ℕ) → is_digit c ≡ true → is_name_byte c ≡ true
 digit_in_name c is = grind (arith, nat_tests)

@@ -1,8 +1,9 @@
 -- What one more switch or link adds to the wires of a filled plan.
 use Rattle.std.proofs.Common.{◌≡◌, ℕ, ◌+◌, ◌/◌, ◌%◌, ◌^◌, ◌==◌, true, false, List, ◌++◌, Option, Some, None, refl, sym, ap, ◌∙◌, append_assoc, append-nil}
-use Rattle.c104_describe.specs.declared.ports.Port.TheVariants as port
-use Rattle.c104_describe.specs.Ports.{Port, Wire}
-use Rattle.c104_describe.specs.Layouts.{bit, cube, mesh, mesh_beyond, wire_at, wire_to, wires_from}
+use Rattle.c104_plan.specs.declared.ports.Port.TheVariants as port
+use Rattle.c104_plan.specs.declared.ports.Port.{Port}
+use Rattle.c104_plan.specs.declared.ports.Wire.{Wire}
+use Rattle.c104_plan.specs.Layouts.{bit, cube, mesh, mesh_beyond, wire_at, wire_to, wires_from}
 
 -- a mesh's switch: the wires to the column after it and to the row below it
 pub mesh_next : (w h s : ℕ) (so_far next last : List Wire) (after below : Option Port) → next ≡ so_far ++ wire_to (port.Switch s 2) after → last ≡ next ++ wire_to (port.Switch s 3) below

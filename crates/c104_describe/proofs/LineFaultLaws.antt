@@ -10,15 +10,18 @@ use Rattle.std.proofs.lemmas.List.Quantifiers.{position-Some}
 use Rattle.c104_interval.specs.declared.intervals.TheConstants.{ROWS}
 use Rattle.c104_interval.specs.declared.intervals.Select.{Select}
 use Rattle.c104_interval.specs.declared.intervals.Select.TheVariants.{Link, Discard, Sink}
-use Rattle.c104_describe.specs.declared.ports.Port.TheVariants as port
+use Rattle.c104_plan.specs.declared.ports.Port.TheVariants as port
 use Rattle.c104_describe.specs.declared.words.Keyword.TheVariants as keyword
 use Rattle.c104_describe.specs.declared.faults.PlanFaultKind.TheVariants.{BadName, BadNumber, BadShape, LinkTaken, MixedStyle, NameTaken, SelfWire, TooMany, Twice, UnknownName, UnknownWord}
-use Rattle.c104_describe.specs.TextCut.{uncommented_line, line_words, is_plain_line}
-use Rattle.c104_describe.specs.TextWords.{read_number, is_name}
+use Rattle.c104_plan.specs.TextCut.{uncommented_line, line_words, is_plain_line}
+use Rattle.c104_plan.specs.TextWords.{read_number, is_name}
 use Rattle.c104_describe.specs.PlanFaults.{PlanFaultKind}
-use Rattle.c104_describe.specs.Ports.{Port, is_any_at}
-use Rattle.c104_describe.specs.Plans.{Plan, PlanBase, PlanRandom, switch_number, terminal_number, is_taken, is_linked, is_continued, is_deleted, rows_of, next_first, most_switches, most_terminals, most_header_bytes, label_count, last_link, is_buffer_size}
-use Rattle.c104_describe.specs.Checks.{◌>>=◌, ◌>>◌, require, value_or_fault}
+use Rattle.c104_plan.specs.Ports.{is_any_at}
+use Rattle.c104_plan.specs.declared.ports.Port.{Port}
+use Rattle.c104_plan.specs.Plans.{Plan, switch_number, terminal_number, is_taken, is_linked, is_continued, is_deleted, rows_of, next_first, most_switches, most_terminals, most_header_bytes, label_count, last_link, is_buffer_size}
+use Rattle.c104_plan.specs.declared.plans.PlanBase.{PlanBase}
+use Rattle.c104_plan.specs.declared.plans.PlanRandom.{PlanRandom}
+use Rattle.c104_plan.specs.Checks.{◌>>=◌, ◌>>◌, require, value_or_fault}
 use Rattle.c104_describe.specs.PlanWords.{Keyword, keyword_of, range_words, select_word, number_within}
 use Rattle.c104_describe.specs.PlanDrafts.{Draft, is_mixed}
 use Rattle.c104_describe.specs.PlanLines.{label_line, mesh_line, cube_line, after_from, switch_line, terminal_line, wire_line, continue_line, delete_line, base_line, row_line, random_line, header_line, buffer_line, in_draft, keyword_line, read_plan_words, read_plan_line}

@@ -2,21 +2,27 @@
 use Rattle.std.proofs.Common.{◌≡◌, ℕ, zero, suc, ◌+◌, ◌*◌, ◌^◌, ◌<◌, ◌≤◌, ◌==◌, ◌&&◌, false, not, List, [], ◌∷◌, ◌++◌, length, take, drop, nat_le, nat_lt, Option, Some, Ok, sym, ◌∙◌, ap, subst, refl, arith}
 use Rattle.std.specs.Option.{unwrap_or}
 use Rattle.c104_interval.specs.declared.intervals.TheConstants.{ROWS}
-use Rattle.c104_describe.specs.declared.ports.Port.TheVariants as port
-use Rattle.c104_describe.specs.declared.plans.Shape.TheVariants.{Mesh, Cube}
-use Rattle.c104_describe.specs.declared.text.Dots.{Dots}
-use Rattle.c104_describe.specs.declared.text.Dots.TheVariants.{Without, At, Several}
+use Rattle.c104_plan.specs.declared.ports.Port.TheVariants as port
+use Rattle.c104_plan.specs.declared.plans.Shape.TheVariants.{Mesh, Cube}
+use Rattle.c104_plan.specs.declared.text.Dots.{Dots}
+use Rattle.c104_plan.specs.declared.text.Dots.TheVariants.{Without, At, Several}
 use Rattle.c104_describe.specs.declared.faults.PlanFaultKind.TheVariants.{BadName, BadNumber, LinkTaken, NameTaken, SelfWire, TooMany, Twice, UnknownName}
-use Rattle.c104_describe.specs.TextWords.{read_number, dots, is_name}
-use Rattle.c104_describe.specs.Ports.{Wire, is_any_at}
-use Rattle.c104_describe.specs.Layouts.{Layout, cube, mesh}
-use Rattle.c104_describe.specs.Plans.{Plan, PlanBase, PlanRandom, PlanRow, Shape, Terminal, switch_number, terminal_number, is_taken, is_linked, is_continued, is_deleted, rows_of, next_first, most_switches, most_terminals, label_count, last_link}
-use Rattle.c104_describe.specs.Checks.{value_or_fault}
+use Rattle.c104_plan.specs.TextWords.{read_number, dots, is_name}
+use Rattle.c104_plan.specs.Ports.{is_any_at}
+use Rattle.c104_plan.specs.declared.ports.Wire.{Wire}
+use Rattle.c104_plan.specs.Layouts.{Layout, cube, mesh}
+use Rattle.c104_plan.specs.Plans.{Plan, switch_number, terminal_number, is_taken, is_linked, is_continued, is_deleted, rows_of, next_first, most_switches, most_terminals, label_count, last_link}
+use Rattle.c104_plan.specs.declared.plans.PlanBase.{PlanBase}
+use Rattle.c104_plan.specs.declared.plans.PlanRandom.{PlanRandom}
+use Rattle.c104_plan.specs.declared.plans.PlanRow.{PlanRow}
+use Rattle.c104_plan.specs.declared.plans.Shape.{Shape}
+use Rattle.c104_plan.specs.declared.plans.Terminal.{Terminal}
+use Rattle.c104_plan.specs.Checks.{value_or_fault}
 use Rattle.c104_describe.specs.PlanWords.{number_within, number_or, port_sides, port_word, select_word, sides_of_dots}
 use Rattle.c104_describe.specs.PlanDrafts.{is_by_hand}
 use Rattle.c104_describe.specs.PlanLines.{base_line, continue_line, cube_line, delete_line, filled_plan, mesh_line, random_line, row_line, switch_line, terminal_line, wire_line}
 use Rattle.c104_describe.specs.LineFaults.{port_link, port_name, sides_at, value_said}
-use Rattle.c104_describe.proofs.LayoutNumbers.{times}
+use Rattle.c104_plan.proofs.LayoutNumbers.{times}
 use Rattle.c104_describe.proofs.PlanLinesKept.{found, given, held, number_within-is}
 
 -- a number that was read is what is said

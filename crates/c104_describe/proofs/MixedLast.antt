@@ -3,8 +3,8 @@ use Rattle.std.proofs.Common.{◌≡◌, Bool, true, false, not, List, [], ◌�
 use Rattle.std.specs.List.{find}
 use Rattle.c104_describe.specs.declared.faults.PlanFaultKind.TheVariants as kind
 use Rattle.c104_describe.specs.PlanFaults.{PlanFaultKind}
-use Rattle.c104_describe.specs.Plans.{Plan}
-use Rattle.c104_describe.specs.Checks.{◌>>=◌, ◌>>◌, require}
+use Rattle.c104_plan.specs.Plans.{Plan}
+use Rattle.c104_plan.specs.Checks.{◌>>=◌, ◌>>◌, require}
 use Rattle.c104_describe.specs.PlanDrafts.{Draft}
 use Rattle.c104_describe.specs.LineFaults.{LineParts, is_fault_of}
 use Rattle.c104_describe.proofs.FaultOrder.{all_faults}

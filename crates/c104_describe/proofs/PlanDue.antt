@@ -3,9 +3,9 @@ use Rattle.std.proofs.Common.{◌≡◌, ℕ, zero, suc, ◌+◌, ◌≤◌, inl
 use Rattle.std.proofs.lemmas.Bool.Decides.{nat_tests}
 use Rattle.std.specs.Result.{IfErr}
 use Rattle.c104_describe.specs.declared.faults.PlanFaultKind.TheVariants.{TooLong}
-use Rattle.c104_describe.specs.TextCut.{lines, most_bytes}
+use Rattle.c104_plan.specs.TextCut.{lines, most_bytes}
 use Rattle.c104_describe.specs.PlanFaults.{PlanFault, PlanFaultKind, fault_at, no_memory}
-use Rattle.c104_describe.specs.Plans.{Plan}
+use Rattle.c104_plan.specs.Plans.{Plan}
 use Rattle.c104_describe.specs.PlanLines.{Draft, read_plan_line}
 use Rattle.c104_describe.specs.LineFaults.{IsFaultless}
 use Rattle.c104_describe.specs.PlanText.{draft_after_line, plan_of_draft, read_description, empty_draft, read_plan_lines, GivesPlanOrNoMemory, AreFaultless, IsDue, IsFirstFault}

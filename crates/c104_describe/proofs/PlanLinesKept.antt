@@ -6,21 +6,27 @@ use Rattle.std.proofs.lemmas.List.Quantifiers.{position-Some}
 use Rattle.c104_interval.specs.declared.intervals.TheConstants.{ROWS}
 use Rattle.c104_interval.specs.declared.intervals.Select.{Select}
 use Rattle.c104_interval.specs.declared.intervals.Select.TheVariants.{Link, Discard, Sink}
-use Rattle.c104_describe.specs.declared.ports.Port.TheVariants as port
+use Rattle.c104_plan.specs.declared.ports.Port.TheVariants as port
 use Rattle.c104_describe.specs.declared.faults.PlanFaultKind.TheVariants.{BadName, BadNumber, LinkTaken, NameTaken, SelfWire, TooMany, Twice, UnknownName}
-use Rattle.c104_describe.specs.TextWords.{read_number, is_name}
+use Rattle.c104_plan.specs.TextWords.{read_number, is_name}
 use Rattle.c104_describe.specs.PlanFaults.{PlanFaultKind}
-use Rattle.c104_describe.specs.Ports.{Port, Wire, is_any_at}
-use Rattle.c104_describe.specs.declared.plans.Shape.TheVariants.{Hand, Mesh, Cube}
-use Rattle.c104_describe.specs.Layouts.{cube, mesh}
-use Rattle.c104_describe.specs.Plans.{Plan, PlanBase, PlanRandom, PlanRow, Terminal, IsUnset, IsLaterPort, total_count, IsPlan, IsPlanSelect, IsPlanWire, switch_number, terminal_number, is_taken, is_linked, is_continued, is_deleted, rows_of, next_first, most_switches, most_terminals, label_count, last_link}
-use Rattle.c104_describe.specs.Checks.{◌>>=◌, ◌>>◌, require, value_or_fault}
+use Rattle.c104_plan.specs.Ports.{is_any_at}
+use Rattle.c104_plan.specs.declared.ports.Port.{Port}
+use Rattle.c104_plan.specs.declared.ports.Wire.{Wire}
+use Rattle.c104_plan.specs.declared.plans.Shape.TheVariants.{Hand, Mesh, Cube}
+use Rattle.c104_plan.specs.Layouts.{cube, mesh}
+use Rattle.c104_plan.specs.Plans.{Plan, IsUnset, IsLaterPort, total_count, IsPlan, IsPlanSelect, IsPlanWire, switch_number, terminal_number, is_taken, is_linked, is_continued, is_deleted, rows_of, next_first, most_switches, most_terminals, label_count, last_link}
+use Rattle.c104_plan.specs.declared.plans.PlanBase.{PlanBase}
+use Rattle.c104_plan.specs.declared.plans.PlanRandom.{PlanRandom}
+use Rattle.c104_plan.specs.declared.plans.PlanRow.{PlanRow}
+use Rattle.c104_plan.specs.declared.plans.Terminal.{Terminal}
+use Rattle.c104_plan.specs.Checks.{◌>>=◌, ◌>>◌, require, value_or_fault}
 use Rattle.c104_describe.specs.PlanWords.{number_within, number_or, port_sides, port_word, select_word}
 use Rattle.c104_describe.specs.PlanDrafts.{is_by_hand}
 use Rattle.c104_describe.specs.PlanLines.{switch_line, terminal_line, wire_line, continue_line, delete_line, base_line, row_line, random_line, filled_plan, mesh_line, cube_line}
-use Rattle.c104_describe.proofs.PlanKept.{with_switch, with_terminal, with_wire, with_continue, with_delete, with_base, with_row, with_random}
+use Rattle.c104_plan.proofs.PlanKept.{with_switch, with_terminal, with_wire, with_continue, with_delete, with_base, with_row, with_random}
 use Rattle.c104_describe.proofs.FilledKept.{cube_kept, mesh_kept}
-use Rattle.c104_describe.proofs.LayoutNumbers.{power_small}
+use Rattle.c104_plan.proofs.LayoutNumbers.{power_small}
 
 -- what was read, where all was
 pub given : {X Y : Type 0} (r : Result X PlanFaultKind) (f : X → Result Y PlanFaultKind) (y : Y) (P : Type 0) → (r >>= f) ≡ Ok y → ((x : X) → r ≡ Ok x → f x ≡ Ok y → P) → P

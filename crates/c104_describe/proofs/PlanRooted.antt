@@ -2,14 +2,15 @@
 use Rattle.std.proofs.Common.{◌≡◌, ℕ, ◌<◌, ◌+◌, List, [], ◌∷◌, ◌++◌, map, length, All, sym, subst, ap, refl, arith}
 use Rattle.std.proofs.lemmas.List.{length-map}
 use Rattle.std.proofs.lemmas.List.Elements.{All-map, All-weaker}
-use Rattle.c104_describe.specs.declared.plans.Shape.TheVariants.{Tree}
-use Rattle.c104_describe.specs.Distinctness.{AreDistinct}
-use Rattle.c104_describe.specs.Ports.{is_port, both_ends, IsSwitchPort}
-use Rattle.c104_describe.specs.PlanParts.{without_first}
-use Rattle.c104_describe.specs.Plans.{Plan, Terminal, AreNames, AreTerminals, IsPlan, IsRange, IsUnset, host_port, next_first, total_count}
-use Rattle.c104_describe.proofs.PlanRanges.{next_first-le}
+use Rattle.c104_plan.specs.declared.plans.Shape.TheVariants.{Tree}
+use Rattle.c104_plan.specs.Distinctness.{AreDistinct}
+use Rattle.c104_plan.specs.Ports.{is_port, both_ends, IsSwitchPort}
+use Rattle.c104_plan.specs.PlanParts.{without_first}
+use Rattle.c104_plan.specs.Plans.{Plan, AreNames, AreTerminals, IsPlan, IsRange, IsUnset, host_port, next_first, total_count}
+use Rattle.c104_plan.specs.declared.plans.Terminal.{Terminal}
+use Rattle.c104_plan.proofs.PlanRanges.{next_first-le}
 use Rattle.std.proofs.lemmas.Simd.{map-map}
-use Rattle.c104_describe.proofs.NamesKept.{same_names}
+use Rattle.c104_plan.proofs.NamesKept.{same_names}
 
 total_same : (terminals : List Terminal) → total_count (map without_first terminals) ≡ total_count terminals
 total_same [] = refl

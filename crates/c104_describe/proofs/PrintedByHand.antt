@@ -1,9 +1,9 @@
 -- What is printed of a network that is made line by line is read back.
 use Rattle.std.proofs.Common.{◌≡◌, ℕ, ◌+◌, true, false, [], ◌++◌, length, map, None, Ok, refl, sym, ap, ◌∙◌, append-nil, append_assoc}
-use Rattle.c104_describe.specs.declared.plans.Shape.TheVariants.{Hand}
+use Rattle.c104_plan.specs.declared.plans.Shape.TheVariants.{Hand}
 use Rattle.c104_describe.specs.PlanDrafts.{is_by_hand}
-use Rattle.c104_describe.specs.PlanParts.{has_some, empty_plan}
-use Rattle.c104_describe.specs.Plans.{Plan, IsPlan}
+use Rattle.c104_plan.specs.PlanParts.{has_some, empty_plan}
+use Rattle.c104_plan.specs.Plans.{Plan, IsPlan}
 use Rattle.c104_describe.specs.PlanText.{plan_of_draft}
 use Rattle.c104_describe.specs.PlanPrint.{network_lines, switch_words, terminal_words, wire_words, continue_words, delete_words, base_words, row_words, random_words}
 use Rattle.c104_describe.proofs.PrintedText.{read_kind, read_lines_of_words}

@@ -1,6 +1,6 @@
 -- Behind a network with nothing set at links come deletes alone, and these are read back.
 use Rattle.std.proofs.Common.{◌≡◌, ℕ, Bool, [], ◌++◌, map, Option, Ok, refl, sym, ap, ◌∙◌}
-use Rattle.c104_describe.specs.Plans.{Plan, IsPlan, IsUnset}
+use Rattle.c104_plan.specs.Plans.{Plan, IsPlan, IsUnset}
 use Rattle.c104_describe.specs.PlanPrint.{continue_words, delete_words, base_words, row_words, random_words}
 use Rattle.c104_describe.proofs.PrintedText.{read_kind, read_lines_of_words}
 use Rattle.c104_describe.proofs.PrintedParts.{lines_after_network}

@@ -2,13 +2,14 @@
 use Rattle.std.proofs.Common.{◌≡◌, ℕ, ◌+◌, ◌*◌, ◌^◌, true, false, List, [], ◌∷◌, nat_le, None, Ok, refl, sym, ap, ◌∙◌, arith}
 use Rattle.std.specs.Fmt.{decimal}
 use Rattle.std.proofs.lemmas.Bool.Decides.{nat_tests}
-use Rattle.c104_describe.specs.declared.plans.Shape.TheVariants.{Mesh, Cube}
-use Rattle.c104_describe.specs.Layouts.{Layout, IsCube, IsMesh, cube, mesh}
-use Rattle.c104_describe.specs.Plans.{Plan, Shape, IsFilled, IsPlan}
+use Rattle.c104_plan.specs.declared.plans.Shape.TheVariants.{Mesh, Cube}
+use Rattle.c104_plan.specs.Layouts.{Layout, IsCube, IsMesh, cube, mesh}
+use Rattle.c104_plan.specs.Plans.{Plan, IsFilled, IsPlan}
+use Rattle.c104_plan.specs.declared.plans.Shape.{Shape}
 use Rattle.c104_describe.specs.PlanWords.{number_within}
 use Rattle.c104_describe.specs.PlanLines.{filled_plan, read_plan_words}
 use Rattle.c104_describe.specs.PlanText.{draft_after_line, plan_of_draft}
-use Rattle.c104_describe.specs.PlanParts.{empty_plan}
+use Rattle.c104_plan.specs.PlanParts.{empty_plan}
 use Rattle.c104_describe.specs.PlanPrint.{cube_words, mesh_words}
 use Rattle.c104_describe.proofs.PrintedText.{read_lines_of_words}
 use Rattle.c104_describe.proofs.PrintedParts.{lines_after_network}

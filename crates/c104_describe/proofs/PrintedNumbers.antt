@@ -6,11 +6,11 @@ use Rattle.std.specs.List.{list_all}
 use Rattle.std.proofs.lemmas.Fmt.{digits_decimal, digits_value-decimal, length-decimal-le, decimal_nonempty}
 use Rattle.std.proofs.lemmas.Str.Parse.{IsNumeralModel, numerals_by_fold}
 use Rattle.c104_describe.specs.declared.faults.PlanFaultKind.TheVariants.{BadNumber}
-use Rattle.c104_describe.specs.Checks.{◌>>=◌, ◌>>◌, require, value_or_fault}
-use Rattle.c104_describe.specs.TextWords.{read_number, value_of, is_digit}
+use Rattle.c104_plan.specs.Checks.{◌>>=◌, ◌>>◌, require, value_or_fault}
+use Rattle.c104_plan.specs.TextWords.{read_number, value_of, is_digit}
 use Rattle.c104_describe.specs.PlanWords.{number_within}
 use Rattle.c104_describe.proofs.PrintedText.{is_word, is_word_byte}
-use Rattle.c104_describe.proofs.TextBytes.{list_all-weaker}
+use Rattle.c104_plan.proofs.TextBytes.{list_all-weaker}
 
 abbrev are_digits : List ℕ → Type 0
 are_digits ds = list_all is_digit ds ≡ true

@@ -3,15 +3,16 @@ use Rattle.std.proofs.Common.{◌≡◌, ℕ, ◌≤◌, true, false, List, ◌�
 use Rattle.std.proofs.lemmas.Bool.Decides.{nat_tests}
 use Rattle.std.specs.Fmt.{decimal}
 use Rattle.c104_describe.specs.declared.faults.PlanFaultKind.TheVariants.{TooLong}
-use Rattle.c104_describe.specs.declared.plans.Shape.TheVariants.{Hand, Tree, Mesh, Cube}
-use Rattle.c104_describe.specs.TextCut.{lines, most_bytes}
-use Rattle.c104_describe.specs.TextWords.{read_number}
+use Rattle.c104_plan.specs.declared.plans.Shape.TheVariants.{Hand, Tree, Mesh, Cube}
+use Rattle.c104_plan.specs.TextCut.{lines, most_bytes}
+use Rattle.c104_plan.specs.TextWords.{read_number}
 use Rattle.c104_describe.specs.PlanFaults.{fault_at}
-use Rattle.c104_describe.specs.Plans.{Plan, Shape, IsOfShape, IsPlan, most_header_bytes}
+use Rattle.c104_plan.specs.Plans.{Plan, IsOfShape, IsPlan, most_header_bytes}
+use Rattle.c104_plan.specs.declared.plans.Shape.{Shape}
 use Rattle.c104_describe.specs.PlanWords.{number_within}
 use Rattle.c104_describe.specs.PlanLines.{read_plan_words}
 use Rattle.c104_describe.specs.PlanText.{empty_draft, plan_of_draft, read_description, read_plan_lines, draft_after_line}
-use Rattle.c104_describe.specs.PlanParts.{empty_plan}
+use Rattle.c104_plan.specs.PlanParts.{empty_plan}
 use Rattle.c104_describe.specs.PlanPrint.{header_words, buffer_words, network_lines, plan_text, text_of}
 use Rattle.c104_describe.proofs.PrintedText.{lines_of, read_lines_of_words, read_sentences}
 use Rattle.c104_describe.proofs.PrintedParts.{lines_by_kinds, plan_lines-by_kinds, lines_after_network, lines_after_buffer}

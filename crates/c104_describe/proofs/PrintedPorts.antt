@@ -9,16 +9,16 @@ use Rattle.std.proofs.lemmas.List.Folds.{list_all-append}
 use Rattle.std.proofs.lemmas.Slice.Eq.{bytes_eq-Decides}
 use Rattle.c104_interval.specs.declared.intervals.Select.{Select}
 use Rattle.c104_interval.specs.declared.intervals.Select.TheVariants.{Link, Discard, Sink}
-use Rattle.c104_describe.specs.declared.text.Dots.TheVariants.{At, Several}
-use Rattle.c104_describe.specs.Checks.{◌>>=◌}
-use Rattle.c104_describe.specs.TextWords.{is_digit, is_name, is_name_byte, dots, dots_from}
+use Rattle.c104_plan.specs.declared.text.Dots.TheVariants.{At, Several}
+use Rattle.c104_plan.specs.Checks.{◌>>=◌}
+use Rattle.c104_plan.specs.TextWords.{is_digit, is_name, is_name_byte, dots, dots_from}
 use Rattle.c104_describe.specs.PlanWords.{number_within, port_sides, sides_of_dots, port_word, select_word}
-use Rattle.c104_describe.specs.Plans.{IsPlanSelect, last_link}
-use Rattle.c104_describe.specs.PortTexts.{select_text}
+use Rattle.c104_plan.specs.Plans.{IsPlanSelect, last_link}
+use Rattle.c104_plan.specs.PortTexts.{select_text}
 use Rattle.c104_describe.proofs.PrintedText.{is_word, is_word_byte}
-use Rattle.c104_describe.proofs.TextBytes.{list_all-weaker}
+use Rattle.c104_plan.proofs.TextBytes.{list_all-weaker}
 use Rattle.c104_describe.proofs.PrintedNumbers.{decimal_digits, decimal_bytes, number_within-decimal, word-decimal}
-use Rattle.c104_describe.proofs.NameText.{name_bytes}
+use Rattle.c104_plan.proofs.NameText.{name_bytes}
 
 -- Names
 

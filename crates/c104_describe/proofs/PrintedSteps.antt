@@ -11,19 +11,25 @@ use Rattle.std.specs.Fmt.{decimal}
 use Rattle.std.specs.Option.{option_map_or, unwrap_or}
 use Rattle.std.specs.List.{list_any}
 use Rattle.c104_interval.specs.declared.intervals.Select.{Select}
-use Rattle.c104_describe.specs.Distinctness.{AreDistinct}
-use Rattle.c104_describe.specs.declared.ports.Port.TheVariants as port
-use Rattle.c104_describe.specs.TextWords.{is_name}
-use Rattle.c104_describe.specs.Ports.{Port, Wire, is_port, is_any_at, both_ends, IsSwitchPort}
-use Rattle.c104_describe.specs.Plans.{Plan, PlanBase, PlanRandom, PlanRow, Terminal, IsPlan, IsPlanSelect, IsPlanWire, IsLaterPort, IsRange, names, host_port, linked_ports, is_taken, is_linked, is_deleted, is_row_of, rows_of, switch_number, terminal_number, label_count}
+use Rattle.c104_plan.specs.Distinctness.{AreDistinct}
+use Rattle.c104_plan.specs.declared.ports.Port.TheVariants as port
+use Rattle.c104_plan.specs.TextWords.{is_name}
+use Rattle.c104_plan.specs.Ports.{is_port, is_any_at, both_ends, IsSwitchPort}
+use Rattle.c104_plan.specs.declared.ports.Port.{Port}
+use Rattle.c104_plan.specs.declared.ports.Wire.{Wire}
+use Rattle.c104_plan.specs.Plans.{Plan, IsPlan, IsPlanSelect, IsPlanWire, IsLaterPort, IsRange, names, host_port, linked_ports, is_taken, is_linked, is_deleted, is_row_of, rows_of, switch_number, terminal_number, label_count}
+use Rattle.c104_plan.specs.declared.plans.PlanBase.{PlanBase}
+use Rattle.c104_plan.specs.declared.plans.PlanRandom.{PlanRandom}
+use Rattle.c104_plan.specs.declared.plans.PlanRow.{PlanRow}
+use Rattle.c104_plan.specs.declared.plans.Terminal.{Terminal}
 use Rattle.c104_describe.specs.PlanWords.{number_within, port_sides, port_word, select_word}
 use Rattle.c104_describe.specs.PlanDrafts.{Draft, is_by_hand}
-use Rattle.c104_describe.specs.PlanParts.{has_some}
+use Rattle.c104_plan.specs.PlanParts.{has_some}
 use Rattle.c104_describe.specs.PlanLines.{read_plan_words}
 use Rattle.c104_describe.specs.PlanPrint.{switch_words, terminal_words, wire_words, continue_words, delete_words, base_words, row_words, random_words}
-use Rattle.c104_describe.specs.PortTexts.{terminal_name, port_text, select_text}
+use Rattle.c104_plan.specs.PortTexts.{terminal_name, port_text, select_text}
 use Rattle.c104_describe.proofs.DistinctPlaces.{All-here, fresh, distinct_front, distinct_back, distinct_mapped, position_at}
-use Rattle.c104_describe.proofs.PortLemmas.{is_port-refl}
+use Rattle.c104_plan.proofs.PortLemmas.{is_port-refl}
 use Rattle.c104_describe.proofs.PrintedNumbers.{number_within-decimal}
 use Rattle.c104_describe.proofs.PrintedPorts.{port_sides-port, port_word-port, link-decimal, select_word-select}
 

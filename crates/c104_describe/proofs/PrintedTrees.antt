@@ -2,15 +2,16 @@
 use Rattle.std.proofs.Common.{◌≡◌, ℕ, ◌+◌, true, false, List, [], ◌∷◌, ◌++◌, length, map, position, bytes_eq, nat_le, nat_lt, Some, None, Ok, refl, sym, ap, ◌∙◌, arith, append_assoc, length-append}
 use Rattle.std.specs.Fmt.{decimal}
 use Rattle.std.proofs.lemmas.Bool.Decides.{nat_tests}
-use Rattle.c104_describe.specs.declared.plans.Shape.TheVariants.{Tree}
-use Rattle.c104_describe.specs.TextWords.{is_name}
-use Rattle.c104_describe.specs.Ports.{IsSwitchPort}
-use Rattle.c104_describe.specs.Plans.{Plan, Terminal, IsPlan, IsRange, IsTreePlan, IsUnset, host_port, is_linked, is_taken, label_count, next_first, switch_number}
+use Rattle.c104_plan.specs.declared.plans.Shape.TheVariants.{Tree}
+use Rattle.c104_plan.specs.TextWords.{is_name}
+use Rattle.c104_plan.specs.Ports.{IsSwitchPort}
+use Rattle.c104_plan.specs.Plans.{Plan, IsPlan, IsRange, IsTreePlan, IsUnset, host_port, is_linked, is_taken, label_count, next_first, switch_number}
+use Rattle.c104_plan.specs.declared.plans.Terminal.{Terminal}
 use Rattle.c104_describe.specs.PlanDrafts.{is_by_hand, rooted}
 use Rattle.c104_describe.specs.PlanWords.{number_within}
 use Rattle.c104_describe.specs.PlanLines.{read_plan_words}
 use Rattle.c104_describe.specs.PlanText.{draft_after_line, plan_of_draft}
-use Rattle.c104_describe.specs.PlanParts.{empty_plan}
+use Rattle.c104_plan.specs.PlanParts.{empty_plan}
 use Rattle.c104_describe.specs.PlanPrint.{counted_words, delete_words, label_words, network_lines, switch_words, wire_words}
 use Rattle.c104_describe.proofs.CountedPlans.{begins_there, counted, counted_kept, counts_again, same_deletes, same_terminals, same_wires}
 use Rattle.c104_describe.proofs.DistinctPlaces.{All-here, position_at}

@@ -6,13 +6,20 @@ use Rattle.std.specs.Option.{unwrap_or}
 use Rattle.std.proofs.lemmas.List.Elements.{All-head, All-tail}
 use Rattle.std.proofs.lemmas.List.Folds.{list_all-append}
 use Rattle.std.proofs.lemmas.Option.{slice_get-get_or}
-use Rattle.c104_describe.specs.declared.ports.Port.TheVariants as port
-use Rattle.c104_describe.specs.declared.plans.Shape.TheVariants.{Hand, Tree, Mesh, Cube}
-use Rattle.c104_describe.specs.TextWords.{is_name}
-use Rattle.c104_describe.specs.Ports.{Port, Wire, IsSwitchPort}
-use Rattle.c104_describe.specs.Plans.{Plan, PlanBase, PlanRandom, PlanRow, Shape, Terminal, IsOfShape, IsPlan, IsPlanSelect, IsPlanWire, IsLaterPort, IsRange, host_port, label_count, is_buffer_size}
+use Rattle.c104_plan.specs.declared.ports.Port.TheVariants as port
+use Rattle.c104_plan.specs.declared.plans.Shape.TheVariants.{Hand, Tree, Mesh, Cube}
+use Rattle.c104_plan.specs.TextWords.{is_name}
+use Rattle.c104_plan.specs.Ports.{IsSwitchPort}
+use Rattle.c104_plan.specs.declared.ports.Port.{Port}
+use Rattle.c104_plan.specs.declared.ports.Wire.{Wire}
+use Rattle.c104_plan.specs.Plans.{Plan, IsOfShape, IsPlan, IsPlanSelect, IsPlanWire, IsLaterPort, IsRange, host_port, label_count, is_buffer_size}
+use Rattle.c104_plan.specs.declared.plans.PlanBase.{PlanBase}
+use Rattle.c104_plan.specs.declared.plans.PlanRandom.{PlanRandom}
+use Rattle.c104_plan.specs.declared.plans.PlanRow.{PlanRow}
+use Rattle.c104_plan.specs.declared.plans.Shape.{Shape}
+use Rattle.c104_plan.specs.declared.plans.Terminal.{Terminal}
 use Rattle.c104_describe.specs.PlanPrint.{switch_words, terminal_words, counted_words, wire_words, label_words, network_lines, continue_words, delete_words, base_words, row_words, random_words}
-use Rattle.c104_describe.specs.PortTexts.{port_text, switch_name}
+use Rattle.c104_plan.specs.PortTexts.{port_text, switch_name}
 use Rattle.c104_describe.proofs.PrintedText.{are_words, is_word}
 use Rattle.c104_describe.proofs.PrintedParts.{lines_by_kinds, lines_after_rows, lines_after_bases, lines_after_continues, lines_after_deletes, lines_after_network}
 use Rattle.c104_describe.proofs.PrintedNumbers.{word-decimal}

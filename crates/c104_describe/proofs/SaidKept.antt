@@ -1,9 +1,11 @@
 -- What lines that were read have said that may be said once, and how the draft after them holds it.
 use Rattle.std.proofs.Common.{◌≡◌, ◌⊎◌, inl, inr, ℕ, Bool, true, List, [], is_some, Option, Some, None, sym, ◌∙◌, ap, subst, refl}
 use Rattle.c104_describe.specs.declared.words.Keyword.TheVariants as keyword
-use Rattle.c104_describe.specs.Ports.{Port}
+use Rattle.c104_plan.specs.declared.ports.Port.{Port}
 use Rattle.c104_describe.specs.PlanWords.{Keyword}
-use Rattle.c104_describe.specs.Plans.{Plan, PlanBase, PlanRandom}
+use Rattle.c104_plan.specs.Plans.{Plan}
+use Rattle.c104_plan.specs.declared.plans.PlanBase.{PlanBase}
+use Rattle.c104_plan.specs.declared.plans.PlanRandom.{PlanRandom}
 use Rattle.c104_describe.specs.PlanDrafts.{Draft}
 use Rattle.c104_describe.proofs.SaidPlaces.{AreDeleted, AreSaid, KeepSwitches, KeepTerminals, deleted_kept, said_kept}
 

@@ -1,14 +1,17 @@
 -- A line has said twice exactly what a line before it has said.
 use Rattle.std.proofs.Common.{◌≡◌, inl, inr, ℕ, zero, suc, Bool, true, false, List, [], ◌∷◌, is_some, slice_get, option_map, Option, Some, None, Result, Ok, Err, sym, ◌∙◌, ap, subst, refl}
 use Rattle.std.specs.Option.{option_map_or}
-use Rattle.c104_describe.specs.declared.ports.Port.TheVariants as port
+use Rattle.c104_plan.specs.declared.ports.Port.TheVariants as port
 use Rattle.c104_describe.specs.declared.words.Keyword.TheVariants as keyword
 use Rattle.c104_describe.specs.declared.faults.PlanFaultKind.TheVariants.{Twice}
-use Rattle.c104_describe.specs.TextCut.{is_plain_line, uncommented_line, line_words}
+use Rattle.c104_plan.specs.TextCut.{is_plain_line, uncommented_line, line_words}
 use Rattle.c104_describe.specs.PlanFaults.{PlanFaultKind}
-use Rattle.c104_describe.specs.Ports.{Port, is_any_at}
+use Rattle.c104_plan.specs.Ports.{is_any_at}
+use Rattle.c104_plan.specs.declared.ports.Port.{Port}
 use Rattle.c104_describe.specs.PlanWords.{Keyword, keyword_of, range_words}
-use Rattle.c104_describe.specs.Plans.{Plan, PlanBase, PlanRandom, is_deleted, switch_number, terminal_number}
+use Rattle.c104_plan.specs.Plans.{Plan, is_deleted, switch_number, terminal_number}
+use Rattle.c104_plan.specs.declared.plans.PlanBase.{PlanBase}
+use Rattle.c104_plan.specs.declared.plans.PlanRandom.{PlanRandom}
 use Rattle.c104_describe.specs.PlanDrafts.{Draft}
 use Rattle.c104_describe.specs.LineFaults.{first_word_parts, is_fault_of, keyword_parts, line_parts, names_port, port_link, port_name, terminal_parts, value_said}
 use Rattle.c104_describe.specs.RepeatedLines.{AreTwiceByTexts, keyword_saying, saying, saying_by, words_saying}

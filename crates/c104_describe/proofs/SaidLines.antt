@@ -1,14 +1,16 @@
 -- What each line says that may be said once, the draft after it holds.
 use Rattle.std.proofs.Common.{◌≡◌, inl, inr, ℕ, true, not, List, [], ◌∷◌, ◌++◌, is_some, bytes_eq, codes, Some, None, Result, Ok, subst, refl}
-use Rattle.c104_describe.specs.declared.ports.Port.TheVariants as port
+use Rattle.c104_plan.specs.declared.ports.Port.TheVariants as port
 use Rattle.c104_describe.specs.declared.words.Keyword.TheVariants as keyword
 use Rattle.c104_describe.specs.declared.faults.PlanFaultKind.TheVariants.{BadName, BadNumber, BadShape, Twice, UnknownName}
-use Rattle.c104_describe.specs.Checks.{value_or_fault}
-use Rattle.c104_describe.specs.TextWords.{read_number, is_name}
+use Rattle.c104_plan.specs.Checks.{value_or_fault}
+use Rattle.c104_plan.specs.TextWords.{read_number, is_name}
 use Rattle.c104_describe.specs.PlanFaults.{PlanFaultKind}
-use Rattle.c104_describe.specs.Ports.{Port}
+use Rattle.c104_plan.specs.declared.ports.Port.{Port}
 use Rattle.c104_describe.specs.PlanWords.{Keyword, number_within}
-use Rattle.c104_describe.specs.Plans.{Plan, PlanBase, PlanRandom, is_buffer_size, most_header_bytes, switch_number}
+use Rattle.c104_plan.specs.Plans.{Plan, is_buffer_size, most_header_bytes, switch_number}
+use Rattle.c104_plan.specs.declared.plans.PlanBase.{PlanBase}
+use Rattle.c104_plan.specs.declared.plans.PlanRandom.{PlanRandom}
 use Rattle.c104_describe.specs.PlanDrafts.{Draft}
 use Rattle.c104_describe.specs.PlanLines.{base_line, buffer_line, continue_line, delete_line, header_line, in_draft, label_line, random_line}
 use Rattle.c104_describe.specs.LineFaults.{port_link, port_name, value_said}

@@ -5,10 +5,12 @@ use Rattle.std.proofs.lemmas.Bool.{eqb-true, eq-eqb, lt-ltb, ltb-true, ne_eqb, o
 use Rattle.std.proofs.lemmas.List.Folds.{list_any-append, position_or_len_push}
 use Rattle.std.proofs.lemmas.List.Quantifiers.{position-Some}
 use Rattle.std.proofs.lemmas.Slice.Eq.{bytes_eq-Decides}
-use Rattle.c104_describe.specs.declared.ports.Port.TheVariants as port
-use Rattle.c104_describe.specs.Ports.{Port, is_any_at, is_port}
-use Rattle.c104_describe.specs.Plans.{Plan, Terminal, is_deleted, switch_number, terminal_number}
-use Rattle.c104_describe.proofs.PortLemmas.{is_port-refl, is_port-true}
+use Rattle.c104_plan.specs.declared.ports.Port.TheVariants as port
+use Rattle.c104_plan.specs.Ports.{is_any_at, is_port}
+use Rattle.c104_plan.specs.declared.ports.Port.{Port}
+use Rattle.c104_plan.specs.Plans.{Plan, is_deleted, switch_number, terminal_number}
+use Rattle.c104_plan.specs.declared.plans.Terminal.{Terminal}
+use Rattle.c104_plan.proofs.PortLemmas.{is_port-refl, is_port-true}
 
 -- Places
 

@@ -4,12 +4,15 @@ use Rattle.std.specs.List.{list_any}
 use Rattle.std.proofs.lemmas.Bool.{not-true}
 use Rattle.c104_describe.specs.declared.words.Keyword.TheVariants as keyword
 use Rattle.c104_describe.specs.declared.faults.PlanFaultKind.TheVariants.{BadShape, MixedStyle, UnknownWord}
-use Rattle.c104_describe.specs.Checks.{value_or_fault}
-use Rattle.c104_describe.specs.TextCut.{is_plain_line, uncommented_line, line_words}
+use Rattle.c104_plan.specs.Checks.{value_or_fault}
+use Rattle.c104_plan.specs.TextCut.{is_plain_line, uncommented_line, line_words}
 use Rattle.c104_describe.specs.PlanFaults.{PlanFault, PlanFaultKind}
-use Rattle.c104_describe.specs.Ports.{Port, is_any_at}
+use Rattle.c104_plan.specs.Ports.{is_any_at}
+use Rattle.c104_plan.specs.declared.ports.Port.{Port}
 use Rattle.c104_describe.specs.PlanWords.{Keyword, keyword_of, range_words}
-use Rattle.c104_describe.specs.Plans.{Plan, PlanBase, PlanRandom, is_deleted}
+use Rattle.c104_plan.specs.Plans.{Plan, is_deleted}
+use Rattle.c104_plan.specs.declared.plans.PlanBase.{PlanBase}
+use Rattle.c104_plan.specs.declared.plans.PlanRandom.{PlanRandom}
 use Rattle.c104_describe.specs.PlanDrafts.{Draft, is_mixed}
 use Rattle.c104_describe.specs.PlanLines.{after_from, filled_plan, keyword_line, read_plan_line, read_plan_words, terminal_line}
 use Rattle.c104_describe.specs.PlanText.{draft_after_line, empty_draft, read_plan_lines}

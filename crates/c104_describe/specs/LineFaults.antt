@@ -5,18 +5,21 @@ use Rattle.std.specs.Prelude.{◌≡◌, ℕ, ◌+◌, ◌*◌, ◌^◌, ◌<◌
 use Rattle.std.specs.List.{list_any}
 use Rattle.std.specs.Option.{option_map_or, unwrap_or}
 use Rattle.c104_interval.specs.declared.intervals.TheConstants.{ROWS}
-use Rattle.c104_describe.specs.declared.ports.Port.TheVariants as port
+use Rattle.c104_plan.specs.declared.ports.Port.TheVariants as port
 use Rattle.c104_describe.specs.declared.words.Keyword.TheVariants as keyword
 use Rattle.c104_describe.specs.declared.faults.PlanFaultKind.TheVariants as kind
-use Rattle.c104_describe.specs.declared.text.Dots.{Dots}
-use Rattle.c104_describe.specs.declared.text.Dots.TheVariants.{Without, At, Several}
-use Rattle.c104_describe.specs.TextCut.{uncommented_line, line_words, is_plain_line}
-use Rattle.c104_describe.specs.TextWords.{read_number, is_name, dots}
+use Rattle.c104_plan.specs.declared.text.Dots.{Dots}
+use Rattle.c104_plan.specs.declared.text.Dots.TheVariants.{Without, At, Several}
+use Rattle.c104_plan.specs.TextCut.{uncommented_line, line_words, is_plain_line}
+use Rattle.c104_plan.specs.TextWords.{read_number, is_name, dots}
 use Rattle.c104_describe.specs.PlanFaults.{PlanFaultKind, plan_fault_number}
-use Rattle.c104_describe.specs.Ports.{Port, is_any_at}
+use Rattle.c104_plan.specs.Ports.{is_any_at}
+use Rattle.c104_plan.specs.declared.ports.Port.{Port}
 use Rattle.c104_describe.specs.PlanWords.{Keyword, keyword_of, range_words}
 use Rattle.c104_describe.specs.PlanDrafts.{Draft, is_mixed}
-use Rattle.c104_describe.specs.Plans.{Plan, PlanBase, PlanRandom, switch_number, terminal_number, is_taken, is_linked, is_continued, is_deleted, rows_of, next_first, most_switches, most_terminals, most_header_bytes, label_count, last_link, is_buffer_size}
+use Rattle.c104_plan.specs.Plans.{Plan, switch_number, terminal_number, is_taken, is_linked, is_continued, is_deleted, rows_of, next_first, most_switches, most_terminals, most_header_bytes, label_count, last_link, is_buffer_size}
+use Rattle.c104_plan.specs.declared.plans.PlanBase.{PlanBase}
+use Rattle.c104_plan.specs.declared.plans.PlanRandom.{PlanRandom}
 
 -- what stands before and behind a word's one dot; all stands before it where it hasn't one
 abbrev pub sides_at : List ℕ → Dots → List ℕ × List ℕ

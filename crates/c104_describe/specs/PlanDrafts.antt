@@ -1,13 +1,15 @@
 -- Drafts: what the lines of a description have said so far, the plan that this gives, and which further
 -- lines go with it.
 use Rattle.std.specs.Prelude.{ℕ, ◌&&◌, ◌||◌, Bool, true, false, not, List, [], ◌∷◌, map, is_some, Option, Some, None, Result, Ok, Err}
-use Rattle.c104_describe.specs.declared.plans.Shape.TheVariants.{Hand, Tree, Mesh, Cube}
+use Rattle.c104_plan.specs.declared.plans.Shape.TheVariants.{Hand, Tree, Mesh, Cube}
 use Rattle.c104_describe.specs.declared.words.Keyword.TheVariants as keyword
 use Rattle.c104_describe.specs.PlanFaults.{PlanFaultKind}
 use Rattle.c104_describe.specs.PlanWords.{Keyword, range_words}
-use Rattle.c104_describe.specs.Plans.{Plan, Shape, Terminal}
+use Rattle.c104_plan.specs.Plans.{Plan}
+use Rattle.c104_plan.specs.declared.plans.Shape.{Shape}
+use Rattle.c104_plan.specs.declared.plans.Terminal.{Terminal}
 use Rattle.c104_describe.specs.declared.drafts.Draft as kept
-use Rattle.c104_describe.specs.PlanParts.{plan_of, without_first, has_some, has_settings}
+use Rattle.c104_plan.specs.PlanParts.{plan_of, without_first, has_some, has_settings}
 
 -- a plan, of which the shape is that of a mesh or a cube once a line gave one; whether lines have said its
 -- header length, its buffer size, and where the range of some terminal begins; and the root of a tree, if a

@@ -3,20 +3,23 @@
 -- order of the faults' numbers.
 use Rattle.std.specs.Prelude.{ℕ, ◌+◌, ◌*◌, ◌^◌, ◌==◌, ◌&&◌, ◌||◌, Bool, true, not, List, [], ◌∷◌, ◌++◌, length, nat_le, nat_lt, bytes_eq, codes, is_some, Option, Some, Result, Ok, Err}
 use Rattle.c104_interval.specs.declared.intervals.TheConstants.{ROWS}
-use Rattle.c104_describe.specs.declared.ports.Port.TheVariants as port
+use Rattle.c104_plan.specs.declared.ports.Port.TheVariants as port
 use Rattle.c104_describe.specs.declared.words.Keyword.TheVariants as keyword
 use Rattle.c104_describe.specs.declared.faults.PlanFaultKind.TheVariants.{BadName, BadNumber, BadShape, LinkTaken, MixedStyle, NameTaken, SelfWire, TooMany, Twice, UnknownName, UnknownWord}
-use Rattle.c104_describe.specs.Checks.{◌>>=◌, ◌>>◌, require, value_or_fault}
-use Rattle.c104_describe.specs.TextCut.{uncommented_line, line_words, is_plain_line}
-use Rattle.c104_describe.specs.TextWords.{read_number, is_name}
+use Rattle.c104_plan.specs.Checks.{◌>>=◌, ◌>>◌, require, value_or_fault}
+use Rattle.c104_plan.specs.TextCut.{uncommented_line, line_words, is_plain_line}
+use Rattle.c104_plan.specs.TextWords.{read_number, is_name}
 use Rattle.c104_describe.specs.PlanFaults.{PlanFaultKind}
-use Rattle.c104_describe.specs.Ports.{is_any_at}
+use Rattle.c104_plan.specs.Ports.{is_any_at}
 use Rattle.c104_describe.specs.PlanWords.{Keyword, keyword_of, number_within, number_or, select_word, port_sides, port_word, range_words}
-use Rattle.c104_describe.specs.declared.plans.Shape.TheVariants.{Mesh, Cube}
-use Rattle.c104_describe.specs.Layouts.{Layout, mesh, cube, filled_switches, filled_terminals, filled_wires}
+use Rattle.c104_plan.specs.declared.plans.Shape.TheVariants.{Mesh, Cube}
+use Rattle.c104_plan.specs.Layouts.{Layout, mesh, cube, filled_switches, filled_terminals, filled_wires}
 pub use Rattle.c104_describe.specs.PlanDrafts.{Draft}
 use Rattle.c104_describe.specs.PlanDrafts.{is_mixed}
-use Rattle.c104_describe.specs.Plans.{Plan, Shape, PlanBase, PlanRandom, switch_number, terminal_number, is_taken, is_linked, is_continued, is_deleted, rows_of, next_first, most_switches, most_terminals, most_header_bytes, label_count, last_link, is_buffer_size}
+use Rattle.c104_plan.specs.Plans.{Plan, switch_number, terminal_number, is_taken, is_linked, is_continued, is_deleted, rows_of, next_first, most_switches, most_terminals, most_header_bytes, label_count, last_link, is_buffer_size}
+use Rattle.c104_plan.specs.declared.plans.Shape.{Shape}
+use Rattle.c104_plan.specs.declared.plans.PlanBase.{PlanBase}
+use Rattle.c104_plan.specs.declared.plans.PlanRandom.{PlanRandom}
 
 -- `switch N`
 abbrev pub switch_line : Plan → List ℕ → Result Plan PlanFaultKind

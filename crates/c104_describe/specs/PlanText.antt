@@ -2,13 +2,13 @@
 use Rattle.std.specs.Prelude.{◌≡◌, ℕ, ◌+◌, ◌<◌, ◌≤◌, ◌⊎◌, false, List, [], ◌∷◌, length, take, nat_le, slice_get, if◌then◌else◌, Some, None, Result, Ok, Err, MatchResult}
 use Rattle.c104_describe.specs.declared.faults.PlanFaultKind.TheVariants.{NoMemory, TooLong}
 use Rattle.c104_describe.specs.declared.drafts.Draft.{Draft as Kept}
-use Rattle.c104_describe.specs.TextCut.{lines, most_bytes}
+use Rattle.c104_plan.specs.TextCut.{lines, most_bytes}
 use Rattle.c104_describe.specs.PlanFaults.{PlanFault, PlanFaultKind, fault_at, no_memory}
-use Rattle.c104_describe.specs.Plans.{Plan}
+use Rattle.c104_plan.specs.Plans.{Plan}
 use Rattle.c104_describe.specs.PlanDrafts.{finished, draft_of}
 use Rattle.c104_describe.specs.PlanLines.{Draft, read_plan_line}
 use Rattle.c104_describe.specs.LineFaults.{IsLeastFault, IsFaultless}
-use Rattle.c104_describe.specs.PlanParts.{empty_plan}
+use Rattle.c104_plan.specs.PlanParts.{empty_plan}
 
 -- what comes after the line of this number, or its fault
 abbrev pub draft_after_line : ℕ → Result Draft PlanFaultKind → (Draft → Result Draft PlanFault) → Result Draft PlanFault

@@ -3,15 +3,15 @@ use Rattle.std.specs.Prelude.{ℕ, ◌+◌, ◌&&◌, List, [], ◌∷◌, take,
 use Rattle.std.specs.Map.{lookup}
 use Rattle.c104_interval.specs.declared.intervals.Select.{Select}
 use Rattle.c104_interval.specs.declared.intervals.Select.TheVariants.{Link, Discard, Sink}
-use Rattle.c104_describe.specs.declared.text.Dots.{Dots}
-use Rattle.c104_describe.specs.declared.text.Dots.TheVariants.{Without, At, Several}
+use Rattle.c104_plan.specs.declared.text.Dots.{Dots}
+use Rattle.c104_plan.specs.declared.text.Dots.TheVariants.{Without, At, Several}
 pub use Rattle.c104_describe.specs.declared.words.Keyword.{Keyword}
 use Rattle.c104_describe.specs.declared.words.Keyword.TheVariants as keyword
 use Rattle.c104_describe.specs.declared.faults.PlanFaultKind.TheVariants.{BadNumber, BadShape}
-use Rattle.c104_describe.specs.Checks.{◌>>=◌, ◌>>◌, require, value_or_fault}
-use Rattle.c104_describe.specs.TextWords.{read_number, dots}
+use Rattle.c104_plan.specs.Checks.{◌>>=◌, ◌>>◌, require, value_or_fault}
+use Rattle.c104_plan.specs.TextWords.{read_number, dots}
 use Rattle.c104_describe.specs.PlanFaults.{PlanFaultKind}
-use Rattle.c104_describe.specs.Plans.{last_link}
+use Rattle.c104_plan.specs.Plans.{last_link}
 
 -- the words with which lines begin
 abbrev pub keywords : List (List ℕ × Keyword)

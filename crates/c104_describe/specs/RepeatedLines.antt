@@ -2,7 +2,7 @@
 use Rattle.std.specs.Prelude.{◌≡◌, ◌↔◌, ℕ, List, [], ◌∷◌, Option, Some, None, Ok, slice_get, IsTrue}
 use Rattle.c104_describe.specs.declared.words.Keyword.TheVariants as keyword
 use Rattle.c104_describe.specs.declared.faults.PlanFaultKind.TheVariants.{Twice}
-use Rattle.c104_describe.specs.TextCut.{uncommented_line, line_words}
+use Rattle.c104_plan.specs.TextCut.{uncommented_line, line_words}
 use Rattle.c104_describe.specs.PlanWords.{Keyword, keyword_of}
 use Rattle.c104_describe.specs.PlanDrafts.{Draft}
 use Rattle.c104_describe.specs.PlanText.{empty_draft, read_plan_lines}

@@ -3,19 +3,17 @@ ghost use Rattle.std.specs.Prelude.{◌≡◌, ◌<◌, ◌⊎◌, length, map, 
 ghost use Rattle.c104_describe.specs.declared.faults.PlanFaultKind.TheVariants.{TooLong};
 ghost use Rattle.c104_describe.specs.PlanFaults.{fault_at, no_memory};
 ghost use Rattle.c104_describe.specs.PlanText.{read_description, empty_draft, read_plan_lines};
-ghost use Rattle.c104_describe.specs.TextCut.{most_bytes, lines};
+ghost use Rattle.c104_plan.specs.TextCut.{most_bytes, lines};
 ghost use Rattle.c104_describe.specs.PlanText.{AreFaultless, GivesDraftOrNoMemory, GivesPlanOrNoMemory, IsDue, ReadsLines};
 ghost use Rattle.c104_describe.specs.EarlierLines.{AreMixedByClash};
 ghost use Rattle.c104_describe.specs.RepeatedLines.{AreTwiceByTexts};
 ghost use Rattle.c104_describe.specs.PlanDrafts.{draft_of};
-ghost use Rattle.c104_describe.specs.Plans.{IsPlan};
+ghost use Rattle.c104_plan.specs.Plans.{IsPlan};
 
 use crate::drafts::Draft;
 use crate::faults::{PlanFault, PlanFaultKind};
-use crate::limits::MAX_DESCRIPTION;
 use crate::lines::read_line;
-use crate::plans::Plan;
-use crate::text::cut_lines;
+use c104_plan::{MAX_DESCRIPTION, Plan, cut_lines};
 use std::alloc::Global;
 
 /// Reads the description of a network, by this emulator's own grammar.

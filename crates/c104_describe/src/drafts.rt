@@ -1,13 +1,12 @@
 //! What the lines of a description have said so far.
 ghost use Rattle.std.specs.Prelude.{◌≡◌, IfOk, map};
 ghost use Rattle.c104_describe.specs.PlanDrafts.{finished, is_mixed, says_from, draft_of};
-ghost use Rattle.c104_describe.specs.PlanParts.{plan_of};
+ghost use Rattle.c104_plan.specs.PlanParts.{plan_of};
 ghost use Rattle.c104_describe.specs.PlanText.{empty_draft};
-ghost use Rattle.c104_describe.specs.Plans.{IsPlan};
+ghost use Rattle.c104_plan.specs.Plans.{IsPlan};
 
-use crate::parts::Parts;
-use crate::plans::{Plan, Shape};
 use crate::words::{Keyword, read_range};
+use c104_plan::{Parts, Plan, Shape};
 use std::alloc::{AllocError, Global};
 
 /// The parts of a plan, and what was said that may be said once and that they don't show.

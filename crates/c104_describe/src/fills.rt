@@ -1,22 +1,19 @@
 //! Descriptions: whole networks, meshes and cubes.
 ghost use Rattle.std.specs.Prelude.{◌≡◌, ℕ, ◌*◌, ◌^◌, ◌<◌, ◌≤◌, ◌++◌, map, IfOk, OnOk};
 ghost use Rattle.std.specs.List.{range_with_len};
-ghost use Rattle.c104_describe.specs.Layouts.{cube, filled_name, filled_terminal, filled_wires, mesh, mesh_beyond, wire_at, wire_to, wires_from};
-ghost use Rattle.c104_describe.specs.declared.ports.Port.TheVariants as port;
+ghost use Rattle.c104_plan.specs.Layouts.{cube, filled_name, filled_terminal, filled_wires, mesh, mesh_beyond, wire_at, wire_to, wires_from};
+ghost use Rattle.c104_plan.specs.declared.ports.Port.TheVariants as port;
 ghost use Rattle.c104_describe.specs.PlanLines.{cube_line, mesh_line};
-ghost use Rattle.c104_describe.specs.PlanParts.{plan_of};
+ghost use Rattle.c104_plan.specs.PlanParts.{plan_of};
 ghost use Rattle.c104_describe.specs.PlanText.{ReadsLine};
-ghost use Rattle.c104_describe.specs.Plans.{most_switches, most_terminals};
+ghost use Rattle.c104_plan.specs.Plans.{most_switches, most_terminals};
 
 use crate::faults::PlanFaultKind;
-use crate::limits::{MAX_SWITCHES, MAX_TERMINALS};
-use crate::names::Name;
-use crate::parts::{Network, Parts};
-use crate::plans::{Shape, Terminal};
-use crate::ports::{Port, Wire};
-use crate::switch_list::SwitchList;
-use crate::terminal_list::TerminalList;
 use crate::words::read_number_within;
+use c104_plan::{
+    MAX_SWITCHES, MAX_TERMINALS, Name, Network, Parts, Port, Shape, SwitchList, Terminal,
+    TerminalList, Wire,
+};
 use c104_token::NoMemory;
 use std::alloc::{AllocError, Global};
 
@@ -252,7 +249,7 @@ fn add_wire(wires: &mut Vec<Wire>, here: Port, there: Option<Port>) -> Result<()
 }
 
 /// Two to a power.
-#[tactic(auto, using(crate::proofs::LayoutNumbers::power_is, crate::proofs::LayoutNumbers::power_small))]
+#[tactic(auto, using(c104_plan::proofs::LayoutNumbers::power_is, c104_plan::proofs::LayoutNumbers::power_small))]
 fn power_of_two(exponent: usize) -> usize
     requires { exponent ≤ 6 }
     ensures power { result ≡ 2 ^ exponent }

@@ -1,71 +1,25 @@
-//! Descriptions of networks: the plan that one gives, and the image that the plan's own lines give.
+//! Descriptions of networks: the plan that one gives, and the description that a plan is printed as.
 //!
-//! `read_description` alone makes a `Plan`: names differ, each port is a link of one of the plan's
-//! switches, no link has two terminals or wires, no wire joins a switch to itself, nothing is said
-//! twice, and each number is in its range. `Plan::peer` tells which `Port` is wired to which.
-//! A `Name` is a letter and then letters, digits, `_` and `-`, at most 32 bytes. A `PlanFault` is
-//! the first faulty line and the least of its faults, of kind `PlanFaultKind`.
+//! `read_description` makes a `Plan` of a text, or tells a `PlanFault`: the first faulty line and the least of its
+//! faults, of kind `PlanFaultKind`. `print_plan` prints a plan as a description, which gives that plan.
 //!
-//! An `Image` holds the labels of each terminal, and for each switch what is set at its 32 links,
-//! within the ranges of the registers. `Image::new` gives one with the plan's labels and nothing
-//! set, and `hand_image` that of the plan's own `base`, `row`, `random`, `continue` and `delete`
-//! lines; both fit the plan. `Image::set` sets a register by its address, and `Image::values` are
-//! the values that aren't those after a reset. Each switch is a `SwitchImage`, and an `ImageFault`
-//! is why a value or a range isn't set.
-//!
-//! `print_plan` prints a plan as a description, which gives that plan.
-//!
-//! How a text is cut into lines and words, and what a number, a name and a port's dot are, stands
-//! here too (`cut_lines`, `read_number`, `find_dots`, ..): scripts are cut by the same functions.
+//! Plans and images stand in `c104_plan`, and what is public of them is handed on.
 #![tactic(auto)]
 
 mod description;
 mod drafts;
 mod faults;
 mod fills;
-mod hand;
-mod image;
-mod image_faults;
-mod labelled;
-mod limits;
 mod lines;
 mod link_lines;
-mod name_index;
-mod names;
-mod parts;
-mod plans;
-mod ports;
 mod print;
-mod row_list;
-mod row_plan;
-mod same_image;
-mod switch_image;
-mod switch_list;
-mod terminal_list;
-mod text;
-mod wiring;
 mod words;
 
+pub use c104_plan::{
+    Dots, Image, ImageFault, MAX_DESCRIPTION, Name, Plan, PlanBase, PlanRandom, PlanRow, Port,
+    Shape, SwitchImage, Terminal, Wire, cut_lines, cut_words, find_dots, first_word, hand_image,
+    is_name, is_plain, read_number, uncommented,
+};
 pub use description::read_description;
 pub use faults::{PlanFault, PlanFaultKind};
-pub use hand::hand_image;
-pub use image::Image;
-pub use image_faults::ImageFault;
-pub use limits::MAX_DESCRIPTION;
-pub use names::Name;
-pub use plans::{Plan, PlanBase, PlanRandom, PlanRow, Shape, Terminal};
-pub use ports::{Port, Wire};
 pub use print::print_plan;
-pub use switch_image::SwitchImage;
-pub use text::{
-    Dots, cut_lines, cut_words, find_dots, first_word, is_name, is_plain, read_number, uncommented,
-};
-
-// Contracts name these: their values are a part of what they say, so a change of one alone is refused.
-const _: () = prove!(limits::MAX_SWITCHES == 64);
-
-const _: () = prove!(limits::MAX_TERMINALS == 256);
-
-const _: () = prove!(limits::MAX_HEADER_BYTES == 2);
-
-const _: () = prove!(limits::LABELS == 0x10000);

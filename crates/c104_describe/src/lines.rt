@@ -2,25 +2,23 @@
 ghost use Rattle.std.specs.Prelude.{◌≡◌, [], ◌∷◌, map, option_map};
 ghost use Rattle.c104_describe.specs.PlanLines.{read_plan_line, read_plan_words, keyword_line, header_line, buffer_line};
 ghost use Rattle.c104_describe.specs.PlanLines.{delete_line, label_line, switch_line, terminal_line, wire_line};
-ghost use Rattle.c104_describe.specs.PlanParts.{plan_of};
+ghost use Rattle.c104_plan.specs.PlanParts.{plan_of};
 ghost use Rattle.c104_describe.specs.PlanDrafts.{draft_of};
-ghost use Rattle.c104_describe.specs.Plans.{IsPlan};
+ghost use Rattle.c104_plan.specs.Plans.{IsPlan};
 ghost use Rattle.c104_describe.specs.PlanText.{ReadsLine};
 ghost use Rattle.c104_describe.specs.declared.words.Keyword.TheVariants as variant;
 
 use crate::drafts::Draft;
 use crate::faults::PlanFaultKind;
 use crate::fills::{set_cube, set_mesh};
-use crate::limits::{LABELS, MAX_HEADER_BYTES, MAX_SWITCHES, MAX_TERMINALS, is_buffer_size};
 use crate::link_lines::{add, add_base, add_continue, add_random, add_row};
-use crate::names::Name;
-use crate::parts::Parts;
-use crate::plans::Terminal;
-use crate::ports::{Port, Wire};
-use crate::text::{cut_words, is_name, is_plain, read_number, uncommented};
 use crate::words::{
     Keyword, RangeWords, cut_port, read_keyword, read_link, read_number_or, read_number_within,
     read_port, read_range,
+};
+use c104_plan::{
+    LABELS, MAX_HEADER_BYTES, MAX_SWITCHES, MAX_TERMINALS, Name, Parts, Port, Terminal, Wire,
+    cut_words, is_buffer_size, is_name, is_plain, read_number, uncommented,
 };
 use std::alloc::Global;
 

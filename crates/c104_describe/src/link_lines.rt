@@ -1,18 +1,14 @@
 //! The lines of a description that set something at a link.
 ghost use Rattle.std.specs.Prelude.{◌≡◌, [], ◌∷◌, ◌++◌, OnOk};
 ghost use Rattle.c104_describe.specs.PlanLines.{base_line, continue_line, random_line, row_line};
-ghost use Rattle.c104_describe.specs.PlanParts.{plan_of};
-ghost use Rattle.c104_describe.specs.Plans.{IsPlan};
+ghost use Rattle.c104_plan.specs.PlanParts.{plan_of};
+ghost use Rattle.c104_plan.specs.Plans.{IsPlan};
 ghost use Rattle.c104_describe.specs.PlanText.{ReadsLine};
 
 use crate::faults::PlanFaultKind;
-use crate::limits::LABELS;
-use crate::parts::Parts;
-use crate::plans::{PlanBase, PlanRandom, PlanRow};
-use crate::ports::Port;
-use crate::text::is_name;
 use crate::words::{read_limit, read_number_within, read_port, read_select};
 use c104_interval::ROWS;
+use c104_plan::{LABELS, Parts, PlanBase, PlanRandom, PlanRow, Port, is_name};
 use std::alloc::AllocError;
 
 /// Reads `continue S.l`. Link 0 has no link before it.

@@ -1,13 +1,12 @@
 //! The words of a description's line.
 ghost use Rattle.std.specs.Prelude.{◌≡◌, ◌+◌, ◌≤◌, ◌&&◌, Err, IfOk, MatchResult, Ok, bytes_eq, codes, map, option_map};
 ghost use Rattle.std.specs.Map.{lookup};
-ghost use Rattle.c104_describe.specs.Plans.{label_count, last_link};
+ghost use Rattle.c104_plan.specs.Plans.{label_count, last_link};
 ghost use Rattle.c104_describe.specs.PlanWords.{keyword_of, number_within, number_or, port_sides, port_word, range_words, select_word};
 
 use crate::faults::PlanFaultKind;
-use crate::limits::LABELS;
-use crate::text::{Dots, find_dots, read_number};
 use c104_interval::Select;
+use c104_plan::{Dots, LABELS, find_dots, read_number};
 use c104_regs::LINKS;
 
 /// The last link of a switch.

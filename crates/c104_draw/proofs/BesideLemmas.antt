@@ -10,9 +10,9 @@ use Rattle.c104_crossbar.specs.Groups.{group_contains, is_joined_run}
 use Rattle.c104_regs.specs.Groups.{continues_at}
 use Rattle.c104_regs.specs.declared.registers.TheConstants.{LINKS}
 use Rattle.c104_regs.specs.declared.settings.Settings.{Settings}
-use Rattle.c104_describe.specs.declared.ports.Port.{Port}
-use Rattle.c104_describe.specs.declared.ports.Port.TheVariants as port
-use Rattle.c104_describe.specs.PlanImage.{Image}
+use Rattle.c104_plan.specs.declared.ports.Port.{Port}
+use Rattle.c104_plan.specs.declared.ports.Port.TheVariants as port
+use Rattle.c104_plan.specs.PlanImage.{Image}
 use Rattle.c104_draw.specs.Drawings.{DrawnWire, Stroke}
 use Rattle.c104_draw.specs.Edges.{AreFirsts, are_alike, are_grouped, are_mates, first_beside, is_beside, is_same}
 use Rattle.c104_draw.proofs.EdgeLemmas.{beside_self, both_true}

@@ -1,11 +1,11 @@
 -- A network as it is drawn where a cycle of channel dependencies is marked.
 --     IsCycleDrawing plan image inputs drawing      a picture marks the ways to these inputs
 use Rattle.std.specs.Prelude.{◌≡◌, Bool, false, List, map, Some, None}
-use Rattle.c104_describe.specs.declared.ports.Port.TheVariants as port
-use Rattle.c104_describe.specs.Plans.{Plan}
-use Rattle.c104_describe.specs.PlanImage.{Image}
-use Rattle.c104_describe.specs.declared.ports.Port.{Port}
-use Rattle.c104_describe.specs.declared.ports.Wire.{Wire}
+use Rattle.c104_plan.specs.declared.ports.Port.TheVariants as port
+use Rattle.c104_plan.specs.Plans.{Plan}
+use Rattle.c104_plan.specs.PlanImage.{Image}
+use Rattle.c104_plan.specs.declared.ports.Port.{Port}
+use Rattle.c104_plan.specs.declared.ports.Wire.{Wire}
 use Rattle.c104_check.specs.declared.ports.SwitchPort.{SwitchPort}
 use Rattle.c104_check.specs.Walks.{is_met, port_of}
 use Rattle.c104_draw.specs.Drawings.{DrawnWire, Stroke, drawn_nodes, drawn_wires}

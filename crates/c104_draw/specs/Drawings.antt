@@ -4,11 +4,11 @@
 --     IsDrawn marking drawn      how a wire is drawn, by what is marked
 use Rattle.std.specs.Prelude.{◌≡◌, ◌↔◌, ℕ, ◌==◌, Bool, false, IsTrue, List, ◌++◌, length, map, nat_lt, Option, Some, None, if◌then◌else◌}
 use Rattle.std.specs.List.{range_with_len}
-use Rattle.c104_describe.specs.declared.ports.Port.TheVariants as port
-use Rattle.c104_describe.specs.Plans.{Plan}
-use Rattle.c104_describe.specs.declared.ports.Port.{Port}
-use Rattle.c104_describe.specs.declared.ports.Wire.{Wire}
-use Rattle.c104_describe.specs.Wiring.{wires}
+use Rattle.c104_plan.specs.declared.ports.Port.TheVariants as port
+use Rattle.c104_plan.specs.Plans.{Plan}
+use Rattle.c104_plan.specs.declared.ports.Port.{Port}
+use Rattle.c104_plan.specs.declared.ports.Wire.{Wire}
+use Rattle.c104_plan.specs.Wiring.{wires}
 use Rattle.c104_check.specs.Parts.{IsDiscardedAt, IsTakenAsOwn, IsTakenAsRandom}
 use Rattle.c104_check.specs.Routes.{Routes, header_owner}
 use Rattle.c104_check.specs.declared.ports.SwitchPort.{SwitchPort}

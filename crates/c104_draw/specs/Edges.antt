@@ -7,10 +7,10 @@ use Rattle.c104_crossbar.specs.Groups.{group_contains}
 use Rattle.c104_regs.specs.declared.registers.TheConstants.{LINKS}
 use Rattle.c104_regs.specs.declared.settings.Settings.{Settings}
 use Rattle.c104_regs.specs.Groups.{continues_at}
-use Rattle.c104_describe.specs.declared.ports.Port.TheVariants as port
-use Rattle.c104_describe.specs.Plans.{Plan}
-use Rattle.c104_describe.specs.PlanImage.{Image}
-use Rattle.c104_describe.specs.declared.ports.Port.{Port}
+use Rattle.c104_plan.specs.declared.ports.Port.TheVariants as port
+use Rattle.c104_plan.specs.Plans.{Plan}
+use Rattle.c104_plan.specs.PlanImage.{Image}
+use Rattle.c104_plan.specs.declared.ports.Port.{Port}
 use Rattle.c104_check.specs.declared.faults.CheckFault.{CheckFault}
 use Rattle.c104_check.specs.declared.faults.CheckFault.TheVariants as fault
 use Rattle.c104_check.specs.Routes.{routes_of}

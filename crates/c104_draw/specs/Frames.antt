@@ -3,10 +3,10 @@
 --     is_lower frame p q      a port hangs lower than another
 use Rattle.std.specs.Prelude.{◌≡◌, ℕ, ◌==◌, ◌&&◌, Bool, true, false, not, List, [], slice_get, nat_le, nat_lt, codes, IsTrue, if◌then◌else◌}
 use Rattle.std.specs.Option.{unwrap_or}
-use Rattle.c104_describe.specs.declared.ports.Port.{Port}
-use Rattle.c104_describe.specs.declared.ports.Port.TheVariants as port
-use Rattle.c104_describe.specs.declared.plans.Shape.{Shape}
-use Rattle.c104_describe.specs.declared.plans.Shape.TheVariants as shape
+use Rattle.c104_plan.specs.declared.ports.Port.{Port}
+use Rattle.c104_plan.specs.declared.ports.Port.TheVariants as port
+use Rattle.c104_plan.specs.declared.plans.Shape.{Shape}
+use Rattle.c104_plan.specs.declared.plans.Shape.TheVariants as shape
 pub use Rattle.c104_draw.specs.declared.frames.Frame.{Frame}
 use Rattle.c104_draw.specs.declared.frames.Frame.TheVariants as frame
 

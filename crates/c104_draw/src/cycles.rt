@@ -7,7 +7,7 @@ use crate::marks::is_among;
 use crate::pictures::{Drawing, drawing_of};
 use crate::wires::drawn_wires;
 use c104_check::SwitchPort;
-use c104_describe::{Image, Plan, Port, Wire};
+use c104_plan::{Image, Plan, Port, Wire};
 use c104_token::NoMemory;
 use std::alloc::Global;
 

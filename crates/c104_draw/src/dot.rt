@@ -11,7 +11,7 @@ use crate::edge_lines::add_edges;
 use crate::frames::Frame;
 use crate::node_lines::add_nodes;
 use crate::pictures::Drawing;
-use c104_describe::{Image, Plan};
+use c104_plan::{Image, Plan};
 use c104_token::NoMemory;
 use std::alloc::{AllocError, Global};
 

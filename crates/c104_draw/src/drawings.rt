@@ -1,6 +1,6 @@
 //! What a picture shows of a network.
 
-use c104_describe::Wire;
+use c104_plan::Wire;
 
 /// A node of a picture, by its number in the plan.
 #[derive(Clone, Copy, Debug, PartialEq, Eq)]

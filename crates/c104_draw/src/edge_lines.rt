@@ -9,7 +9,7 @@ use crate::node_lines::port_name;
 use crate::pictures::Drawing;
 use crate::strokes::{dashes_text, head_text, style_text, tail_text};
 use crate::weights::unmarked_text;
-use c104_describe::{Image, Plan, Port};
+use c104_plan::{Image, Plan, Port};
 use std::alloc::{AllocError, Global};
 
 /// The lines of the edges join the text.

@@ -2,12 +2,12 @@
 ghost use Rattle.std.specs.Prelude.{◌≡◌, ◌<◌, map, slice_get, Some, IfOk};
 ghost use Rattle.c104_crossbar.specs.Groups.{group_contains};
 ghost use Rattle.c104_regs.specs.Groups.{continues_at};
-ghost use Rattle.c104_describe.specs.PlanImage.{AreSettings};
+ghost use Rattle.c104_plan.specs.PlanImage.{AreSettings};
 ghost use Rattle.c104_draw.specs.Edges.{AreFirsts, are_alike, are_grouped, are_mates, first_beside, is_beside};
 
 use crate::drawings::{DrawnWire, Stroke};
 use c104_crossbar::Group;
-use c104_describe::{Image, Port, SwitchImage};
+use c104_plan::{Image, Port, SwitchImage};
 use c104_regs::{LINKS, continues_of};
 use c104_token::NoMemory;
 use std::alloc::Global;

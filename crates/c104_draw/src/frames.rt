@@ -2,7 +2,7 @@
 ghost use Rattle.std.specs.Prelude.{◌≡◌, ◌≤◌, IfOk, is_some, not};
 ghost use Rattle.c104_draw.specs.Frames.{IsFrameOf, cube_edge_text, cube_text, depth, edge_layout_text, grid_text, hangs, is_level, is_lower, layout_text};
 
-use c104_describe::{Plan, Port, Shape};
+use c104_plan::{Plan, Port, Shape};
 use std::alloc::{AllocError, Global};
 
 /// What stands before nodes on a grid.

@@ -7,7 +7,7 @@ ghost use Rattle.c104_draw.specs.Marks.{marking_by};
 
 use crate::drawings::{DrawnWire, Stroke};
 use c104_check::{Reach, SwitchPort};
-use c104_describe::{Port, Wire};
+use c104_plan::{Port, Wire};
 use c104_token::NoMemory;
 use std::alloc::Global;
 

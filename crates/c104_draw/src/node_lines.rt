@@ -1,12 +1,12 @@
 //! The lines of nodes.
 ghost use Rattle.std.specs.Prelude.{◌≡◌, slice_get, IfOk, OnOk};
 ghost use Rattle.std.specs.String.{string_bytes};
-ghost use Rattle.c104_describe.specs.PortTexts.{switch_name, terminal_name};
+ghost use Rattle.c104_plan.specs.PortTexts.{switch_name, terminal_name};
 ghost use Rattle.c104_draw.specs.DotTexts.{AddsLines, IsNodeLine, fill_text, labels_text, place_text, port_name, switch_line, terminal_line};
 
 use crate::drawings::{DrawnNode, Node};
 use crate::frames::{Frame, Place};
-use c104_describe::{Image, Plan, Port};
+use c104_plan::{Image, Plan, Port};
 use std::alloc::{AllocError, Global};
 
 /// The lines of nodes join the text.

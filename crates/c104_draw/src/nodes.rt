@@ -4,7 +4,7 @@ ghost use Rattle.std.specs.List.{range_with_len};
 ghost use Rattle.c104_draw.specs.Drawings.{drawn_nodes, is_owner, switch_node, terminal_node};
 
 use crate::drawings::{DrawnNode, Node};
-use c104_describe::Plan;
+use c104_plan::Plan;
 use c104_token::NoMemory;
 use std::alloc::Global;
 

@@ -3,7 +3,7 @@ ghost use Rattle.std.specs.Prelude.{◌≡◌, map, Some, None, IfOk, MatchOptio
 ghost use Rattle.c104_check.specs.Parts.{IsNeverRefused, TellsFirst};
 ghost use Rattle.c104_check.specs.Reach.{routes_for};
 ghost use Rattle.c104_check.specs.Routes.{routes_of};
-ghost use Rattle.c104_describe.specs.PlanImage.{Fits};
+ghost use Rattle.c104_plan.specs.PlanImage.{Fits};
 ghost use Rattle.c104_draw.specs.Drawings.{drawn_nodes};
 ghost use Rattle.c104_draw.specs.Edges.{AreFirsts, IsDrawing, fault_walk, first_beside, marking_of};
 ghost use Rattle.c104_draw.specs.Marks.{marking_by};
@@ -14,7 +14,7 @@ use crate::marks::{marked_wires, plain_wires};
 use crate::nodes::drawn_nodes;
 use crate::wires::drawn_wires;
 use c104_check::{CheckFault, Reach, SwitchPort};
-use c104_describe::{Image, Plan};
+use c104_plan::{Image, Plan};
 use c104_token::NoMemory;
 use std::alloc::Global;
 use std::marker::Model;

@@ -3,7 +3,7 @@ ghost use Rattle.std.specs.Prelude.{◌≡◌};
 ghost use Rattle.c104_draw.specs.Strokes.{back_text, both_text, dashes_text, has_random, head_text, is_marked, is_own, is_random, onward_text, style_text, tail_text, turned_if};
 
 use crate::drawings::{DrawnWire, Stroke};
-use c104_describe::Wire;
+use c104_plan::Wire;
 
 /// How an edge is drawn, by its two ways: marked ones wide and with an arrow, and red those of a refused walk. Where
 /// one of two is red, its half of the edge is.

@@ -3,8 +3,8 @@ ghost use Rattle.std.specs.Prelude.{◌≡◌};
 ghost use Rattle.c104_draw.specs.Weights.{is_selected, is_tree, is_used, leads_back, selects, unmarked_text};
 
 use crate::edges::are_mates;
-use c104_describe::{Image, Plan, Port, Shape, Wire};
 use c104_interval::{Row, Select};
+use c104_plan::{Image, Plan, Port, Shape, Wire};
 use c104_regs::PackedSettings;
 
 /// How an edge is drawn of which no way is marked, in a picture in which others are or not: of a labelled tree its own

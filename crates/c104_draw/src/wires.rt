@@ -1,9 +1,9 @@
 //! The wires of a picture.
 ghost use Rattle.std.specs.Prelude.{◌≡◌, ◌++◌, [], map, IfOk, OnOk};
-ghost use Rattle.c104_describe.specs.Wiring.{terminal_wires};
+ghost use Rattle.c104_plan.specs.Wiring.{terminal_wires};
 ghost use Rattle.c104_draw.specs.Drawings.{drawn_wires, is_backward, ordered};
 
-use c104_describe::{Plan, Port, Wire};
+use c104_plan::{Plan, Port, Wire};
 use c104_token::NoMemory;
 use std::alloc::Global;
 

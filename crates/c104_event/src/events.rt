@@ -1,7 +1,7 @@
 //! What can happen in a network, and where.
 
 use c104_control::ControlBytes;
-use c104_describe::Port;
+use c104_plan::Port;
 use c104_token::Packet;
 
 /// What can happen in a network.

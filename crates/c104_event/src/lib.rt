@@ -11,6 +11,6 @@
 mod events;
 mod faults;
 
-pub use c104_describe::Port;
+pub use c104_plan::Port;
 pub use events::Event;
 pub use faults::EventFault;

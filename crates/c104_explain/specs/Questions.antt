@@ -1,6 +1,6 @@
 -- What people ask where they type a script, beside its lines.
 use Rattle.std.specs.Prelude.{◌||◌, ℕ, Bool, false, List, Option, Some, None, bytes_eq, codes, slice_get}
-use Rattle.c104_describe.specs.TextCut.{uncommented_line, line_words}
+use Rattle.c104_plan.specs.TextCut.{uncommented_line, line_words}
 
 -- whether it is with this word that a person wants to end the script
 abbrev pub wants_end : List ℕ → Bool

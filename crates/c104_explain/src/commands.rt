@@ -5,7 +5,7 @@ ghost use Rattle.c104_explain.specs.Refusals.{is_refusal};
 use crate::register_ranges::range_of;
 use crate::script_mistakes::ScriptMistake;
 use crate::words::{Mistake, word_at};
-use c104_describe::{cut_words, uncommented};
+use c104_plan::{cut_words, uncommented};
 use c104_token::read_byte;
 use std::alloc::Global;
 

@@ -8,10 +8,8 @@ use crate::words::{
     Mistake, begins_with_mark, has_dot, has_link, is_within, link_of, name_of, names_switch,
     names_terminal, unplain_word, word_at,
 };
-use c104_describe::{
-    Plan, PlanFault, PlanFaultKind, Port, cut_lines, cut_words, is_name, read_description,
-    uncommented,
-};
+use c104_describe::{PlanFault, PlanFaultKind, read_description};
+use c104_plan::{Plan, Port, cut_lines, cut_words, is_name, uncommented};
 use std::alloc::Global;
 
 /// The most terminals.

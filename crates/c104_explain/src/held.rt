@@ -2,9 +2,9 @@
 
 use crate::reason_sentences::reason_sentence;
 use crate::reasons::{port_text, reason_text};
-use c104_describe::Port;
 use c104_event::Event;
 use c104_net::{Reason, TracedNet};
+use c104_plan::Port;
 use c104_switch::{LINKS, Unready};
 use std::alloc::{AllocError, Global};
 

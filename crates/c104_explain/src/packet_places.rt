@@ -7,8 +7,8 @@ use crate::reasons::{add_port, port_text};
 use crate::script_mistakes::ScriptMistake;
 use crate::waiting::add_line;
 use crate::words::{Mistake, counted, has_dot, name_of, names_switch, names_terminal};
-use c104_describe::{Plan, Port, read_number};
 use c104_net::{Origin, TracedNet};
+use c104_plan::{Plan, Port, read_number};
 use c104_switch::Phase;
 use std::alloc::{AllocError, Global};
 

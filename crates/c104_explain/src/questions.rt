@@ -11,8 +11,8 @@ use crate::shown_nodes::{switch_text, terminal_text};
 use crate::shown_ports::port_answer;
 use crate::waiting::waiting_text;
 use crate::words::{Mistake, has_dot};
-use c104_describe::{cut_words, first_word, uncommented};
 use c104_net::TracedNet;
+use c104_plan::{cut_words, first_word, uncommented};
 use std::alloc::{AllocError, Global};
 
 /// The lines of a script, each with what it asks, and the questions.

@@ -1,12 +1,12 @@
 //! What is told of an event that isn't ready.
 ghost use Rattle.std.specs.Prelude.{◌≡◌, ◌++◌, IfOk, IfSome, OnOk};
 ghost use Rattle.std.specs.String.{string_bytes};
-ghost use Rattle.c104_describe.specs.PortTexts.{port_text};
+ghost use Rattle.c104_plan.specs.PortTexts.{port_text};
 ghost use Rattle.c104_explain.specs.Reasons.{other_port, other_text, owned_text, owner_text, port_beside, reason_text, sentence_text};
 
 use crate::reason_sentences::reason_sentence;
-use c104_describe::{Plan, Port};
 use c104_net::Reason;
+use c104_plan::{Plan, Port};
 use c104_switch::Unready;
 use std::alloc::{AllocError, Global};
 

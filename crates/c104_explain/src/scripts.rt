@@ -10,8 +10,8 @@ use crate::words::{
     LAST_LINK, Mistake, begins_with_mark, has_dot, is_within, link_of, name_of, names_switch,
     names_terminal, shown_text, unplain_word, word_at,
 };
-use c104_describe::{Plan, cut_words, read_number, uncommented};
 use c104_event::EventFault;
+use c104_plan::{Plan, cut_words, read_number, uncommented};
 use c104_regs::RegFault;
 use c104_script::LineFault;
 use c104_token::read_byte;

@@ -2,9 +2,9 @@
 
 use crate::reasons::port_text;
 use crate::words::counted;
-use c104_describe::{Plan, Port};
 use c104_event::Event;
 use c104_net::{Reason, TracedNet};
+use c104_plan::{Plan, Port};
 use c104_switch::{LINKS, LinkView, Phase, Unready};
 use std::alloc::{AllocError, Global};
 

@@ -1,6 +1,6 @@
 //! A mistake, as it is told: a sentence, the word that it is about, and what may have been meant.
 
-use c104_describe::{Dots, Plan, find_dots, is_plain, read_number};
+use c104_plan::{Dots, Plan, find_dots, is_plain, read_number};
 use std::alloc::{AllocError, Global};
 
 /// The most bytes of a word that are shown.

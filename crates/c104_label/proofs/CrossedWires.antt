@@ -2,10 +2,10 @@
 use Rattle.std.proofs.Common.{◌≡◌, ℕ, zero, suc, ◌<◌, ◌+◌, ◌/◌, ◌%◌, ◌==◌, true, is_some, Option, Some, None, refl, sym, ap, subst, ◌∙◌}
 use Rattle.std.proofs.lemmas.Bool.{eqb-true}
 use Rattle.c104_interval.specs.declared.intervals.Select.TheVariants.{Link}
-use Rattle.c104_describe.specs.declared.ports.Port.{Port}
-use Rattle.c104_describe.specs.declared.ports.Port.TheVariants as port
-use Rattle.c104_describe.specs.Layouts.{Layout}
-use Rattle.c104_describe.proofs.LayoutJoins.{AreJoined, IsJoin, IsJoined}
+use Rattle.c104_plan.specs.declared.ports.Port.{Port}
+use Rattle.c104_plan.specs.declared.ports.Port.TheVariants as port
+use Rattle.c104_plan.specs.Layouts.{Layout}
+use Rattle.c104_plan.proofs.LayoutJoins.{AreJoined, IsJoin, IsJoined}
 use Rattle.c104_check.specs.Routes.{Arrives, Leads, Routes, is_in_group, select}
 use Rattle.c104_label.specs.Crossings.{Crosses, IsOver}
 

@@ -5,11 +5,11 @@ use Rattle.std.proofs.lemmas.Bool.{cases_Bool, cases_lt, eqb-true, eq-eqb}
 use Rattle.std.proofs.lemmas.Bool.Decides.{nat_tests}
 use Rattle.std.proofs.lemmas.Nat.{div_below, mod_below}
 use native.Mathlib.Nat.{div-eq_of_lt}
-use Rattle.c104_describe.specs.declared.ports.Port.TheVariants as port
-use Rattle.c104_describe.specs.Layouts.{IsCube, cube}
-use Rattle.c104_describe.specs.PlanImage.{Image, range_of}
-use Rattle.c104_describe.specs.Plans.{IsPlan, Plan}
-use Rattle.c104_describe.specs.declared.plans.Shape.TheVariants.{Cube}
+use Rattle.c104_plan.specs.declared.ports.Port.TheVariants as port
+use Rattle.c104_plan.specs.Layouts.{IsCube, cube}
+use Rattle.c104_plan.specs.PlanImage.{Image, range_of}
+use Rattle.c104_plan.specs.Plans.{IsPlan, Plan}
+use Rattle.c104_plan.specs.declared.plans.Shape.TheVariants.{Cube}
 use Rattle.c104_check.specs.declared.ports.SwitchPort.{SwitchPort}
 use Rattle.c104_check.specs.Routes.{IsEntryOf, Routes, routes_of, to_port}
 use Rattle.c104_check.specs.ChannelDependencies.{IsAcyclic, input_count}

@@ -2,17 +2,17 @@
 use Rattle.std.proofs.Common.{◌≡◌, ℕ, zero, suc, ◌<◌, ◌≤◌, ◌+◌, ◌*◌, ◌/◌, ◌%◌, ◌⊎◌, inl, inr, not, true, false, List, [], ◌∷◌, ◌++◌, map, slice_get, Some, refl, sym, ap, subst, ◌∙◌, arith}
 use Rattle.std.specs.List.{AllByRecursion, flat_map, range_with_len}
 use Rattle.std.proofs.lemmas.Bool.{cases_Bool, cases_eq}
-use Rattle.c104_describe.specs.Distinctness.{AreDistinct}
-use Rattle.c104_describe.specs.declared.plans.Terminal.{Terminal}
-use Rattle.c104_describe.specs.declared.ports.Port.TheVariants as port
-use Rattle.c104_describe.specs.Layouts.{Layout, filled_terminal, filled_wires, wire_at, wires_from}
-use Rattle.c104_describe.specs.Plans.{IsFilled, IsPlan, Plan, host_port, linked_ports}
-use Rattle.c104_describe.specs.declared.ports.Wire.{Wire}
-use Rattle.c104_describe.specs.Ports.{both_ends, is_port, other_end}
-use Rattle.c104_describe.specs.Wiring.{peer, terminal_wires}
-use Rattle.c104_describe.proofs.LayoutJoins.{AreJoined, IsJoin, IsJoined}
-use Rattle.c104_describe.proofs.PortLemmas.{is_port-refl}
-use Rattle.c104_describe.proofs.Wires.{wiring}
+use Rattle.c104_plan.specs.Distinctness.{AreDistinct}
+use Rattle.c104_plan.specs.declared.plans.Terminal.{Terminal}
+use Rattle.c104_plan.specs.declared.ports.Port.TheVariants as port
+use Rattle.c104_plan.specs.Layouts.{Layout, filled_terminal, filled_wires, wire_at, wires_from}
+use Rattle.c104_plan.specs.Plans.{IsFilled, IsPlan, Plan, host_port, linked_ports}
+use Rattle.c104_plan.specs.declared.ports.Wire.{Wire}
+use Rattle.c104_plan.specs.Ports.{both_ends, is_port, other_end}
+use Rattle.c104_plan.specs.Wiring.{peer, terminal_wires}
+use Rattle.c104_plan.proofs.LayoutJoins.{AreJoined, IsJoin, IsJoined}
+use Rattle.c104_plan.proofs.PortLemmas.{is_port-refl}
+use Rattle.c104_plan.proofs.Wires.{wiring}
 use Rattle.c104_label.proofs.MappedRanges.{map_at}
 
 -- x is one of these

@@ -10,16 +10,16 @@ use Rattle.std.proofs.lemmas.Option.{get_or_from_slice_get, slice_get_within}
 use Rattle.c104_interval.specs.declared.intervals.Table.{Table}
 use Rattle.c104_regs.specs.Settings.{header_length}
 use Rattle.c104_regs.specs.declared.settings.Settings.{Settings}
-use Rattle.c104_describe.specs.declared.plans.PlanRandom.{PlanRandom}
-use Rattle.c104_describe.specs.declared.plans.Terminal.{Terminal}
-use Rattle.c104_describe.specs.declared.ports.Port.{Port}
-use Rattle.c104_describe.specs.declared.ports.Port.TheVariants as port
-use Rattle.c104_describe.specs.LabelledImages.{labelled_settings, labelled_switch, table_in}
-use Rattle.c104_describe.specs.PlanImage.{is_random_of, plain_settings_of, settings_of, with_random}
-use Rattle.c104_describe.specs.Plans.{IsPlan, Plan, host_port}
-use Rattle.c104_describe.specs.Wiring.{peer}
-use Rattle.c104_describe.proofs.LabelledSettings.{labelled_at}
-use Rattle.c104_describe.proofs.Wires.{wiring}
+use Rattle.c104_plan.specs.declared.plans.PlanRandom.{PlanRandom}
+use Rattle.c104_plan.specs.declared.plans.Terminal.{Terminal}
+use Rattle.c104_plan.specs.declared.ports.Port.{Port}
+use Rattle.c104_plan.specs.declared.ports.Port.TheVariants as port
+use Rattle.c104_plan.specs.LabelledImages.{labelled_settings, labelled_switch, table_in}
+use Rattle.c104_plan.specs.PlanImage.{is_random_of, plain_settings_of, settings_of, with_random}
+use Rattle.c104_plan.specs.Plans.{IsPlan, Plan, host_port}
+use Rattle.c104_plan.specs.Wiring.{peer}
+use Rattle.c104_plan.proofs.LabelledSettings.{labelled_at}
+use Rattle.c104_plan.proofs.Wires.{wiring}
 use Rattle.c104_check.specs.declared.ports.SwitchPort.{SwitchPort}
 use Rattle.c104_check.specs.Routes.{Routes, header_count, length_at, length_or_one, link_peers, link_settings, place, port_at, to_port}
 use Rattle.c104_check.specs.Trails.{IsInput}

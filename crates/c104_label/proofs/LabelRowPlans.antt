@@ -2,11 +2,11 @@
 use Rattle.std.proofs.Common.{◌≡◌, ℕ, ◌*◌, ◌^◌, List, length, map}
 use Rattle.std.specs.List.{range_with_len}
 use Rattle.c104_interval.specs.declared.intervals.Table.{Table}
-use Rattle.c104_describe.specs.LabelledImages.{labelled_image}
-use Rattle.c104_describe.specs.PlanImage.{Image, hand_image, range_of}
-use Rattle.c104_describe.specs.Plans.{Plan}
-use Rattle.c104_describe.specs.declared.plans.Shape.{Shape}
-use Rattle.c104_describe.specs.declared.plans.Shape.TheVariants.{Hand, Tree, Mesh, Cube}
+use Rattle.c104_plan.specs.LabelledImages.{labelled_image}
+use Rattle.c104_plan.specs.PlanImage.{Image, hand_image, range_of}
+use Rattle.c104_plan.specs.Plans.{Plan}
+use Rattle.c104_plan.specs.declared.plans.Shape.{Shape}
+use Rattle.c104_plan.specs.declared.plans.Shape.TheVariants.{Hand, Tree, Mesh, Cube}
 use Rattle.c104_label.specs.CubeLabels.{cube_table}
 use Rattle.c104_label.specs.Images.{IsImageBy, IsImageOf}
 use Rattle.c104_label.specs.MeshLabels.{mesh_table}

@@ -1,9 +1,9 @@
 -- Where the labels of a plan are made by its shape, no inputs depend on one another in a cycle.
 use Rattle.std.proofs.Common.{◌≡◌, ◌≤◌, ℕ, true, refl, sym, Result, Ok, Err, IfOk}
-use Rattle.c104_describe.specs.PlanImage.{Image}
-use Rattle.c104_describe.specs.Plans.{IsPlan, Plan}
-use Rattle.c104_describe.specs.declared.plans.Shape.{Shape}
-use Rattle.c104_describe.specs.declared.plans.Shape.TheVariants.{Hand, Tree, Mesh, Cube}
+use Rattle.c104_plan.specs.PlanImage.{Image}
+use Rattle.c104_plan.specs.Plans.{IsPlan, Plan}
+use Rattle.c104_plan.specs.declared.plans.Shape.{Shape}
+use Rattle.c104_plan.specs.declared.plans.Shape.TheVariants.{Hand, Tree, Mesh, Cube}
 use Rattle.c104_check.specs.Routes.{routes_of}
 use Rattle.c104_check.specs.ChannelDependencies.{IsAcyclic}
 use Rattle.c104_label.specs.Images.{IsImageBy, IsImageOf, is_labelled_shape}

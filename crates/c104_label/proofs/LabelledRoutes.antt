@@ -12,19 +12,19 @@ use Rattle.c104_crossbar.specs.Groups.{group_contains, is_joined_run}
 use Rattle.c104_regs.specs.Groups.{continues, continues_at}
 use Rattle.c104_regs.specs.Ranges.{IsTableInRange}
 use Rattle.c104_regs.specs.declared.settings.Settings.{Settings}
-use Rattle.c104_describe.specs.declared.plans.PlanRandom.{PlanRandom}
-use Rattle.c104_describe.specs.declared.plans.Terminal.{Terminal}
-use Rattle.c104_describe.specs.declared.ports.Port.{Port}
-use Rattle.c104_describe.specs.declared.ports.Port.TheVariants as port
-use Rattle.c104_describe.specs.LabelledImages.{labelled_image, labelled_settings, labelled_switch, table_in}
-use Rattle.c104_describe.specs.PlanImage.{AreSettings, is_random_of, plain_settings_of, settings_of, with_random}
-use Rattle.c104_describe.specs.Plans.{IsPlan, Plan, deletes_at, host_port, is_continued, is_on}
-use Rattle.c104_describe.specs.Ports.{is_any_at}
-use Rattle.c104_describe.specs.Wiring.{peer}
-use Rattle.c104_describe.proofs.LabelledSettings.{are_labelled, labelled_at, labelled_fits}
-use Rattle.c104_describe.proofs.PortLemmas.{is_port-true}
-use Rattle.c104_describe.proofs.RangeLists.{all_range}
-use Rattle.c104_describe.proofs.Wires.{wiring}
+use Rattle.c104_plan.specs.declared.plans.PlanRandom.{PlanRandom}
+use Rattle.c104_plan.specs.declared.plans.Terminal.{Terminal}
+use Rattle.c104_plan.specs.declared.ports.Port.{Port}
+use Rattle.c104_plan.specs.declared.ports.Port.TheVariants as port
+use Rattle.c104_plan.specs.LabelledImages.{labelled_image, labelled_settings, labelled_switch, table_in}
+use Rattle.c104_plan.specs.PlanImage.{AreSettings, is_random_of, plain_settings_of, settings_of, with_random}
+use Rattle.c104_plan.specs.Plans.{IsPlan, Plan, deletes_at, host_port, is_continued, is_on}
+use Rattle.c104_plan.specs.Ports.{is_any_at}
+use Rattle.c104_plan.specs.Wiring.{peer}
+use Rattle.c104_plan.proofs.LabelledSettings.{are_labelled, labelled_at, labelled_fits}
+use Rattle.c104_plan.proofs.PortLemmas.{is_port-true}
+use Rattle.c104_plan.proofs.RangeLists.{all_range}
+use Rattle.c104_plan.proofs.Wires.{wiring}
 use Rattle.c104_check.specs.declared.ports.SwitchPort.{SwitchPort}
 use Rattle.c104_check.specs.Routes.{IsRandomized, Routes, header_count, is_in_group, link_settings, or_no_settings, routes_of, select, settings_at, to_port}
 use Rattle.c104_check.specs.Trails.{IsNetwork}

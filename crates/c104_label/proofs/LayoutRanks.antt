@@ -4,11 +4,11 @@ use Rattle.std.proofs.lemmas.Bool.{cases_lt, eqb-true}
 use Rattle.std.proofs.lemmas.List.FromFn.{length-map-range_with_len}
 use Rattle.c104_interval.specs.declared.intervals.Select.TheVariants.{Link}
 use Rattle.c104_interval.specs.declared.intervals.Table.{Table}
-use Rattle.c104_describe.specs.declared.ports.Port.{Port}
-use Rattle.c104_describe.specs.declared.ports.Port.TheVariants as port
-use Rattle.c104_describe.specs.Layouts.{Layout}
-use Rattle.c104_describe.specs.Plans.{IsFilled, IsPlan, Plan}
-use Rattle.c104_describe.proofs.Wires.{wiring}
+use Rattle.c104_plan.specs.declared.ports.Port.{Port}
+use Rattle.c104_plan.specs.declared.ports.Port.TheVariants as port
+use Rattle.c104_plan.specs.Layouts.{Layout}
+use Rattle.c104_plan.specs.Plans.{IsFilled, IsPlan, Plan}
+use Rattle.c104_plan.proofs.Wires.{wiring}
 use Rattle.c104_check.specs.declared.ports.SwitchPort.{SwitchPort}
 use Rattle.c104_check.specs.Reach.{IsReached}
 use Rattle.c104_check.specs.Routes.{IsEntryOf, Routes, owner, to_port}

@@ -3,8 +3,8 @@ use Rattle.std.proofs.Common.{◌≡◌, ℕ, zero, suc, ◌-◌, true, Option, 
 use Rattle.std.proofs.lemmas.Bool.{le-leb}
 use Rattle.c104_crossbar.specs.Groups.{is_joined_run}
 use Rattle.c104_regs.specs.Groups.{continues_at}
-use Rattle.c104_describe.specs.declared.ports.Port.{Port}
-use Rattle.c104_describe.specs.declared.ports.Port.TheVariants as port
+use Rattle.c104_plan.specs.declared.ports.Port.{Port}
+use Rattle.c104_plan.specs.declared.ports.Port.TheVariants as port
 use Rattle.c104_check.specs.Routes.{Arrives, Leads, Routes, is_in_group, settings_at}
 use Rattle.c104_check.proofs.RouteLemmas.{Some-Link-same}
 

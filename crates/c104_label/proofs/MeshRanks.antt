@@ -4,11 +4,11 @@ use Rattle.std.specs.List.{range_with_len}
 use Rattle.std.proofs.lemmas.Bool.{cases_order}
 use Rattle.std.proofs.lemmas.Bool.Decides.{nat_tests}
 use Rattle.std.proofs.lemmas.Nat.{div_below, mod_below}
-use Rattle.c104_describe.specs.declared.ports.Port.TheVariants as port
-use Rattle.c104_describe.specs.Layouts.{IsMesh, mesh}
-use Rattle.c104_describe.specs.PlanImage.{Image, range_of}
-use Rattle.c104_describe.specs.Plans.{IsPlan, Plan}
-use Rattle.c104_describe.specs.declared.plans.Shape.TheVariants.{Mesh}
+use Rattle.c104_plan.specs.declared.ports.Port.TheVariants as port
+use Rattle.c104_plan.specs.Layouts.{IsMesh, mesh}
+use Rattle.c104_plan.specs.PlanImage.{Image, range_of}
+use Rattle.c104_plan.specs.Plans.{IsPlan, Plan}
+use Rattle.c104_plan.specs.declared.plans.Shape.TheVariants.{Mesh}
 use Rattle.c104_check.specs.declared.ports.SwitchPort.{SwitchPort}
 use Rattle.c104_check.specs.Routes.{IsEntryOf, Routes, routes_of, to_port}
 use Rattle.c104_check.specs.ChannelDependencies.{IsAcyclic, input_count}

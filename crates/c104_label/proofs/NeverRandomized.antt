@@ -7,11 +7,11 @@ use Rattle.std.proofs.lemmas.Option.{slice_get_past}
 use Rattle.std.specs.List.{range_with_len}
 use Rattle.c104_check.specs.ChannelDependencies.{IsNeverRandomized}
 use Rattle.c104_check.specs.Routes.{or_no_settings, routes_of, settings_in}
-use Rattle.c104_describe.specs.PlanImage.{Image, hand_image, range_of, settings_of, switch_settings}
-use Rattle.c104_describe.specs.Plans.{IsOfShape, IsPlan, IsUnset, Plan}
-use Rattle.c104_describe.specs.declared.ports.Port.TheVariants as port
-use Rattle.c104_describe.specs.declared.plans.Shape.{Shape}
-use Rattle.c104_describe.specs.declared.plans.Shape.TheVariants.{Hand, Tree, Mesh, Cube}
+use Rattle.c104_plan.specs.PlanImage.{Image, hand_image, range_of, settings_of, switch_settings}
+use Rattle.c104_plan.specs.Plans.{IsOfShape, IsPlan, IsUnset, Plan}
+use Rattle.c104_plan.specs.declared.ports.Port.TheVariants as port
+use Rattle.c104_plan.specs.declared.plans.Shape.{Shape}
+use Rattle.c104_plan.specs.declared.plans.Shape.TheVariants.{Hand, Tree, Mesh, Cube}
 use Rattle.c104_label.proofs.LabelledRoutes.{not_randomized, settings_plain}
 use Rattle.c104_label.proofs.MappedRanges.{map_at, map_was}
 use Rattle.c104_label.specs.CubeLabels.{cube_table}

@@ -4,8 +4,8 @@ use Rattle.std.specs.List.{position_or_len, range_with_len}
 use Rattle.std.proofs.lemmas.Bool.Decides.{nat_tests}
 use Rattle.std.proofs.lemmas.List.FromFn.{get_or-map-range_with_len, length-map-range_with_len}
 use Rattle.std.proofs.lemmas.List.Sums.{position_or_len_is}
-use Rattle.c104_describe.specs.Layouts.{filled_terminal}
-use Rattle.c104_describe.specs.PlanImage.{range_of}
+use Rattle.c104_plan.specs.Layouts.{filled_terminal}
+use Rattle.c104_plan.specs.PlanImage.{range_of}
 use Rattle.c104_check.specs.Routes.{Owns, Routes, has_label, owner}
 use Rattle.c104_check.proofs.RangeLemmas.{has_is, is_has}
 use Rattle.c104_label.proofs.MappedRanges.{map_was}

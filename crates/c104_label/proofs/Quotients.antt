@@ -2,7 +2,7 @@
 use Rattle.std.proofs.Common.{◌≡◌, ℕ, suc, ◌<◌, ◌≤◌, ◌+◌, ◌*◌, ◌-◌, ◌/◌, ◌%◌, ◌^◌, sym, ap, ◌∙◌, arith}
 use native.Mathlib.Nat.{pow-suc, div-div-eq-div-mul, div-one, div-eq_of_lt}
 use Rattle.std.proofs.lemmas.Nat.{div-mul-add, mod-mul-add}
-pub use Rattle.c104_describe.proofs.LayoutNumbers.{next_above, parts, rows_fit, times, whole_below}
+pub use Rattle.c104_plan.proofs.LayoutNumbers.{next_above, parts, rows_fit, times, whole_below}
 
 -- where a number stands among the multiples
 pub place_at : (h s p : ℕ) → s * p ≤ h → h < s * p + p → (h / p ≡ s) × (h % p ≡ h - s * p)

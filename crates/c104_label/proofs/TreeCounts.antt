@@ -5,10 +5,10 @@ use Rattle.std.proofs.lemmas.Bool.{cases_lt}
 use Rattle.std.proofs.lemmas.List.{get_or_past}
 use Rattle.std.proofs.lemmas.List.FromFn.{get_or-map-range_with_len, length-map-range_with_len}
 use Rattle.std.specs.List.{range_with_len}
-use Rattle.c104_describe.specs.declared.ports.Port.{Port}
-use Rattle.c104_describe.specs.declared.ports.Port.TheVariants as port
-use Rattle.c104_describe.specs.Plans.{Plan}
-use Rattle.c104_describe.specs.Wiring.{IsWiring}
+use Rattle.c104_plan.specs.declared.ports.Port.{Port}
+use Rattle.c104_plan.specs.declared.ports.Port.TheVariants as port
+use Rattle.c104_plan.specs.Plans.{Plan}
+use Rattle.c104_plan.specs.Wiring.{IsWiring}
 use Rattle.c104_label.specs.Forests.{ends_of, links}
 use Rattle.c104_label.specs.TreeLabels.{Net, count_at, labels_behind, labels_on, net_of, own_labels}
 

@@ -7,13 +7,13 @@ use Rattle.std.proofs.lemmas.List.Quantifiers.{position-Some}
 use Rattle.std.proofs.lemmas.Option.{slice_get-get_or}
 use Rattle.c104_interval.specs.Selection as table
 use Rattle.c104_interval.specs.declared.intervals.Select.TheVariants.{Link}
-use Rattle.c104_describe.specs.declared.plans.Shape.TheVariants.{Tree}
-use Rattle.c104_describe.specs.declared.ports.Port.{Port}
-use Rattle.c104_describe.specs.declared.ports.Port.TheVariants as port
-use Rattle.c104_describe.specs.PlanImage.{Image}
-use Rattle.c104_describe.specs.Plans.{IsPlan, IsTreePlan, Plan}
-use Rattle.c104_describe.specs.Wiring.{IsWiring, peer}
-use Rattle.c104_describe.proofs.Wires.{wiring}
+use Rattle.c104_plan.specs.declared.plans.Shape.TheVariants.{Tree}
+use Rattle.c104_plan.specs.declared.ports.Port.{Port}
+use Rattle.c104_plan.specs.declared.ports.Port.TheVariants as port
+use Rattle.c104_plan.specs.PlanImage.{Image}
+use Rattle.c104_plan.specs.Plans.{IsPlan, IsTreePlan, Plan}
+use Rattle.c104_plan.specs.Wiring.{IsWiring, peer}
+use Rattle.c104_plan.proofs.Wires.{wiring}
 use Rattle.c104_check.specs.declared.ports.SwitchPort.{SwitchPort}
 use Rattle.c104_check.specs.Reach.{IsReached}
 use Rattle.c104_check.specs.Routes.{IsEntryOf, Routes, has_label, owner, routes_of, to_port}

@@ -4,10 +4,10 @@ use Rattle.std.specs.List.{range_with_len}
 use Rattle.c104_interval.specs.declared.intervals.Select.{Select}
 use Rattle.c104_interval.specs.declared.intervals.Select.TheVariants.{Link, Sink}
 use Rattle.c104_interval.specs.Selection.{select}
-use Rattle.c104_describe.specs.declared.ports.Port.TheVariants as port
-use Rattle.c104_describe.specs.declared.plans.Terminal.{Terminal}
-use Rattle.c104_describe.specs.Plans.{Plan, host_port}
-use Rattle.c104_describe.specs.Wiring.{IsWiring, peer}
+use Rattle.c104_plan.specs.declared.ports.Port.TheVariants as port
+use Rattle.c104_plan.specs.declared.plans.Terminal.{Terminal}
+use Rattle.c104_plan.specs.Plans.{Plan, host_port}
+use Rattle.c104_plan.specs.Wiring.{IsWiring, peer}
 use Rattle.c104_label.specs.Forests.{Ends, Forest, Grown, child, empty, ends_of, is_met, links, switches}
 use Rattle.c104_label.specs.TreeLabels.{Net, Pieces, Place, all_pieces, child_pieces, count_or_zero, first_at, forest_labels, labels_behind, labels_on, net_of, own_labels, own_pieces, piece, place, place_end, place_in, place_of, switch_table, table_at, tree_labels, tree_range, tree_rows, tree_table}
 use Rattle.c104_label.specs.TreeImages.{HasLabel, IsBehind, SelectsInTree}

@@ -4,11 +4,11 @@ use Rattle.std.proofs.lemmas.List.{map_more}
 use Rattle.std.specs.List.{range_with_len}
 use Rattle.c104_interval.specs.declared.intervals.Row.{Row}
 use Rattle.c104_interval.specs.declared.intervals.Table.{Table}
-use Rattle.c104_describe.specs.declared.plans.Terminal.{Terminal}
-use Rattle.c104_describe.specs.Plans.{IsPlan, Plan}
-use Rattle.c104_describe.specs.PlanImage.{Image}
-use Rattle.c104_describe.specs.LabelledImages.{labelled_image}
-use Rattle.c104_describe.proofs.Wires.{wiring}
+use Rattle.c104_plan.specs.declared.plans.Terminal.{Terminal}
+use Rattle.c104_plan.specs.Plans.{IsPlan, Plan}
+use Rattle.c104_plan.specs.PlanImage.{Image}
+use Rattle.c104_plan.specs.LabelledImages.{labelled_image}
+use Rattle.c104_plan.proofs.Wires.{wiring}
 use Rattle.c104_label.specs.Forests.{Forest, IsSpanning}
 use Rattle.c104_label.specs.LabelRows.{label_row, label_table, with_row, with_rows}
 use Rattle.c104_label.specs.TreeLabels.{AreLinks, Net, Place, child_pieces, count_at, first_at, forest_labels, labels_on, net_of, own_labels, place, place_end, place_of, rows_from, switch_table, table_at, tree_labels, tree_range, tree_rows}

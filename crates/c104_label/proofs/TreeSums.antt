@@ -5,11 +5,11 @@ use Rattle.std.proofs.lemmas.Bool.{cases_Bool, eqb-true, eq-eqb}
 use Rattle.std.proofs.lemmas.Bool.Decides.{nat_tests}
 use Rattle.std.proofs.lemmas.List.Folds.{list_any-append}
 use Rattle.std.specs.List.{range_with_len}
-use Rattle.c104_describe.specs.declared.ports.Port.{Port}
-use Rattle.c104_describe.specs.declared.ports.Port.TheVariants as port
-use Rattle.c104_describe.specs.declared.plans.Terminal.{Terminal}
-use Rattle.c104_describe.specs.Plans.{Plan, host_port}
-use Rattle.c104_describe.specs.Wiring.{IsWiring, peer}
+use Rattle.c104_plan.specs.declared.ports.Port.{Port}
+use Rattle.c104_plan.specs.declared.ports.Port.TheVariants as port
+use Rattle.c104_plan.specs.declared.plans.Terminal.{Terminal}
+use Rattle.c104_plan.specs.Plans.{Plan, host_port}
+use Rattle.c104_plan.specs.Wiring.{IsWiring, peer}
 use Rattle.c104_label.specs.Forests.{Forest, Grown, IsSpanning, child, empty, ends_of, is_met, links, switches}
 use Rattle.c104_label.specs.TreeLabels.{count_or_zero, forest_labels, labels_behind, labels_on, net_of, own_labels}
 use Rattle.c104_label.specs.TreeImages.{plan_labels, total_count}

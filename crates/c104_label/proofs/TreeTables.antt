@@ -7,11 +7,11 @@ use Rattle.std.proofs.lemmas.Option.{slice_get-get_or}
 use Rattle.std.specs.List.{range_with_len}
 use Rattle.c104_interval.specs.declared.intervals.Table.{Table}
 use Rattle.c104_regs.specs.Ranges.{IsTableInRange}
-use Rattle.c104_describe.specs.declared.ports.Port.{Port}
-use Rattle.c104_describe.specs.declared.ports.Port.TheVariants as port
-use Rattle.c104_describe.specs.declared.plans.Terminal.{Terminal}
-use Rattle.c104_describe.specs.Plans.{IsPlan, IsRange, Plan, host_port}
-use Rattle.c104_describe.specs.Wiring.{IsWiring}
+use Rattle.c104_plan.specs.declared.ports.Port.{Port}
+use Rattle.c104_plan.specs.declared.ports.Port.TheVariants as port
+use Rattle.c104_plan.specs.declared.plans.Terminal.{Terminal}
+use Rattle.c104_plan.specs.Plans.{IsPlan, IsRange, Plan, host_port}
+use Rattle.c104_plan.specs.Wiring.{IsWiring}
 use Rattle.c104_label.specs.Forests.{Ends, Forest, Grown, IsSpanning, child, empty, ends_of, links, switches}
 use Rattle.c104_label.specs.LabelRows.{AreLabelRows}
 use Rattle.c104_label.specs.TreeLabels.{AreLinks, Net, Pieces, Place, all_pieces, child_pieces, first_at, forest_labels, labels_behind, labels_on, net_of, own_labels, own_pieces, piece, place_end, place_of, switch_table, tree_range, tree_rows}

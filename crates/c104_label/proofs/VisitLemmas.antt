@@ -2,10 +2,10 @@
 use Rattle.std.proofs.Common.{◌≡◌, ℕ, ◌<◌, ◌≤◌, ◌+◌, ◌-◌, true, false, List, [], ◌∷◌, ◌++◌, length, Bool, is_some, IfOk, MatchOption, Ok, Err, Result, Option, Some, None, if◌then◌else◌, refl, sym, ap, subst, ◌∙◌, arith}
 use Rattle.std.specs.List.{range_with_len}
 use Rattle.std.proofs.lemmas.List.{length-append}
-use Rattle.c104_describe.specs.declared.ports.Port.{Port}
-use Rattle.c104_describe.specs.declared.ports.Port.TheVariants as port
-use Rattle.c104_describe.specs.Plans.{Plan}
-use Rattle.c104_describe.specs.Wiring.{IsWiring}
+use Rattle.c104_plan.specs.declared.ports.Port.{Port}
+use Rattle.c104_plan.specs.declared.ports.Port.TheVariants as port
+use Rattle.c104_plan.specs.Plans.{Plan}
+use Rattle.c104_plan.specs.Wiring.{IsWiring}
 use Rattle.c104_label.specs.declared.forests.Forest as kept
 use Rattle.c104_label.specs.declared.forests.FarEnd.{FarEnd}
 use Rattle.c104_label.specs.Forests.{AreInside, AreSwitches, Ends, Forest, Grown, IsConnected, IsCutOff, IsDepthFirst, IsPassed, IsSpanning, child, ends_of, is_met, links, switches}

@@ -7,7 +7,7 @@ use Rattle.c104_interval.specs.declared.intervals.Table.{Table}
 use Rattle.c104_interval.specs.declared.intervals.Select.TheVariants.{Link, Sink}
 use Rattle.c104_interval.specs.Selection.{select}
 use Rattle.c104_label.specs.LabelRows.{AreLabelRows, around, kept_rows, label_row, label_table, own_rows, owner}
-pub use Rattle.c104_describe.specs.Layouts.{IsCube, bit}
+pub use Rattle.c104_plan.specs.Layouts.{IsCube, bit}
 
 -- k is the highest of d bits at which two numbers differ
 pub record IsHighestDifference (d x u k : ℕ) : Type 0 where

@@ -1,11 +1,11 @@
 -- The image of a plan: that of its own lines, or that of the labels of its shape.
 use Rattle.std.specs.Prelude.{ℕ, ◌≡◌, ◌*◌, ◌^◌, Bool, false, true, map}
 use Rattle.std.specs.List.{range_with_len}
-use Rattle.c104_describe.specs.Plans.{Plan}
-use Rattle.c104_describe.specs.declared.plans.Shape.{Shape}
-use Rattle.c104_describe.specs.declared.plans.Shape.TheVariants.{Hand, Tree, Mesh, Cube}
-use Rattle.c104_describe.specs.LabelledImages.{labelled_image}
-use Rattle.c104_describe.specs.PlanImage.{Image, hand_image, range_of}
+use Rattle.c104_plan.specs.Plans.{Plan}
+use Rattle.c104_plan.specs.declared.plans.Shape.{Shape}
+use Rattle.c104_plan.specs.declared.plans.Shape.TheVariants.{Hand, Tree, Mesh, Cube}
+use Rattle.c104_plan.specs.LabelledImages.{labelled_image}
+use Rattle.c104_plan.specs.PlanImage.{Image, hand_image, range_of}
 use Rattle.c104_label.specs.declared.faults.LabelFault.{LabelFault}
 use Rattle.c104_label.specs.declared.faults.LabelFault.TheVariants as fault
 use Rattle.c104_label.specs.Forests.{Forest}

@@ -8,7 +8,7 @@ use Rattle.c104_interval.specs.declared.intervals.Table.{Table}
 use Rattle.c104_interval.specs.declared.intervals.Select.TheVariants.{Link, Sink}
 use Rattle.c104_interval.specs.Selection.{select}
 use Rattle.c104_label.specs.LabelRows.{AreLabelRows, around, kept_rows, label_row, label_table, own_rows, owner}
-pub use Rattle.c104_describe.specs.Layouts.{IsMesh}
+pub use Rattle.c104_plan.specs.Layouts.{IsMesh}
 
 -- the row and the column of a switch
 abbrev pub mesh_row : ℕ → ℕ → ℕ

@@ -4,12 +4,12 @@ use Rattle.std.specs.List.{range_with_len}
 use Rattle.c104_interval.specs.declared.intervals.Table.{Table}
 use Rattle.c104_interval.specs.declared.intervals.Select.TheVariants.{Link, Sink}
 use Rattle.c104_interval.specs.Selection.{select}
-use Rattle.c104_describe.specs.declared.ports.Port.TheVariants as port
-use Rattle.c104_describe.specs.declared.plans.Terminal.{Terminal}
-use Rattle.c104_describe.specs.Plans.{Plan}
-pub use Rattle.c104_describe.specs.Plans.{total_count}
-use Rattle.c104_describe.specs.PlanImage.{Image}
-use Rattle.c104_describe.specs.LabelledImages.{labelled_image}
+use Rattle.c104_plan.specs.declared.ports.Port.TheVariants as port
+use Rattle.c104_plan.specs.declared.plans.Terminal.{Terminal}
+use Rattle.c104_plan.specs.Plans.{Plan}
+pub use Rattle.c104_plan.specs.Plans.{total_count}
+use Rattle.c104_plan.specs.PlanImage.{Image}
+use Rattle.c104_plan.specs.LabelledImages.{labelled_image}
 use Rattle.c104_label.specs.declared.faults.LabelFault.{LabelFault}
 use Rattle.c104_label.specs.declared.faults.LabelFault.TheVariants as fault
 use Rattle.c104_label.specs.Forests.{Forest, IsConnected, IsCutOff, IsSpanning, child, empty, ends_of}

@@ -1,8 +1,8 @@
 -- The tree that the code holds, as a forest, and why there is none.
 use Rattle.std.specs.Prelude.{ℕ, ◌<◌, List, length, Option, Some, None, if◌then◌else◌}
-use Rattle.c104_describe.specs.declared.ports.Port.{Port}
-use Rattle.c104_describe.specs.declared.ports.Port.TheVariants as port
-use Rattle.c104_describe.specs.Plans.{Plan}
+use Rattle.c104_plan.specs.declared.ports.Port.{Port}
+use Rattle.c104_plan.specs.declared.ports.Port.TheVariants as port
+use Rattle.c104_plan.specs.Plans.{Plan}
 use Rattle.c104_label.specs.declared.forests.Forest as kept
 use Rattle.c104_label.specs.declared.forests.Forest.TheVariants.{Empty, Child'}
 use Rattle.c104_label.specs.declared.forests.FarEnd.{FarEnd}

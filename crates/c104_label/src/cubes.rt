@@ -1,14 +1,14 @@
 //! The labels of a cube.
 ghost use Rattle.std.specs.Prelude.{◌≡◌, ◌↔◌, ◌<◌, ◌≤◌, ◌+◌, ◌*◌, ◌^◌, length, map, IfOk, IsTrue};
 ghost use Rattle.std.specs.List.{range_with_len};
-ghost use Rattle.c104_describe.specs.LabelledImages.{labelled_image};
-ghost use Rattle.c104_describe.specs.PlanImage.{Fits, range_of};
+ghost use Rattle.c104_plan.specs.LabelledImages.{labelled_image};
+ghost use Rattle.c104_plan.specs.PlanImage.{Fits, range_of};
 ghost use Rattle.c104_label.specs.CubeLabels.{AreCubeTables, IsCube, cube_rows, cube_table};
 
 use crate::images::image_with;
 use crate::rows::{add_row, table_of};
-use c104_describe::{Image, Plan};
 use c104_interval::{Row, Table};
+use c104_plan::{Image, Plan};
 use c104_token::NoMemory;
 use std::alloc::{AllocError, Global};
 
@@ -24,7 +24,7 @@ pub fn is_cube(dimensions: usize, terminals: usize) -> bool
 }
 
 /// How many switches a cube has.
-#[tactic(auto, using(c104_describe::proofs::LayoutNumbers::power_is, c104_describe::proofs::LayoutNumbers::power_small))]
+#[tactic(auto, using(c104_plan::proofs::LayoutNumbers::power_is, c104_plan::proofs::LayoutNumbers::power_small))]
 fn switch_count(dimensions: usize) -> usize
     requires { dimensions ≤ 6 }
     ensures count { result ≡ 2 ^ dimensions }

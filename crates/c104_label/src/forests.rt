@@ -2,12 +2,12 @@
 ghost use Rattle.std.specs.Prelude.{◌≡◌, ◌<◌, ◌≤◌, ◌-◌, ◌++◌, ◌∷◌, ℕ, [], false, length, true, IfErr, IfOk, MatchOption, OnOk};
 ghost use Rattle.std.specs.List.{range_with_len};
 ghost use Rattle.c104_regs.specs.declared.registers.TheConstants.{LINKS as LINK_COUNT};
-ghost use Rattle.c104_describe.specs.Plans.{IsPlan};
+ghost use Rattle.c104_plan.specs.Plans.{IsPlan};
 ghost use Rattle.c104_label.specs.Forests.{AreSwitches, Grown, IsConnected, IsDepthFirst, IsSpanning, ends_of, is_met, switches};
 ghost use Rattle.c104_label.specs.Trees.{IsTreeCause, forest_of, unvisited};
 
 use crate::faults::LabelFault;
-use c104_describe::{Plan, Port};
+use c104_plan::{Plan, Port};
 use c104_regs::LINKS;
 use std::alloc::{AllocError, Global};
 

@@ -1,9 +1,9 @@
 //! The image of a plan: of its own lines, or with tables of labels.
 ghost use Rattle.std.specs.Prelude.{◌≡◌, ◌↔◌, [], All, false, length, map, true, IfErr, IfOk, IsErrOf};
 ghost use Rattle.c104_regs.specs.Ranges.{IsTableInRange};
-ghost use Rattle.c104_describe.specs.LabelledImages.{labelled_image};
-ghost use Rattle.c104_describe.specs.PlanImage.{Fits, range_of};
-ghost use Rattle.c104_describe.specs.Plans.{IsPlan};
+ghost use Rattle.c104_plan.specs.LabelledImages.{labelled_image};
+ghost use Rattle.c104_plan.specs.PlanImage.{Fits, range_of};
+ghost use Rattle.c104_plan.specs.Plans.{IsPlan};
 ghost use Rattle.c104_check.specs.Routes.{IsAccepted, routes_of};
 ghost use Rattle.c104_check.specs.ChannelDependencies.{IsAcyclic, IsNeverRandomized};
 ghost use Rattle.c104_label.specs.Crossings.{AreCrossings};
@@ -14,8 +14,8 @@ use crate::cubes::cube_image;
 use crate::faults::LabelFault;
 use crate::meshes::mesh_image;
 use crate::trees::tree_image;
-use c104_describe::{Image, Plan, Shape, hand_image};
 use c104_interval::Table;
+use c104_plan::{Image, Plan, Shape, hand_image};
 use c104_token::NoMemory;
 use std::alloc::Global;
 

@@ -1,14 +1,14 @@
 //! The labels of a mesh.
 ghost use Rattle.std.specs.Prelude.{◌≡◌, ◌↔◌, ◌<◌, ◌≤◌, ◌+◌, ◌*◌, ◌/◌, ◌&&◌, length, map, nat_le, nat_lt, IfOk, IsTrue};
 ghost use Rattle.std.specs.List.{range_with_len};
-ghost use Rattle.c104_describe.specs.LabelledImages.{labelled_image};
-ghost use Rattle.c104_describe.specs.PlanImage.{Fits, range_of};
+ghost use Rattle.c104_plan.specs.LabelledImages.{labelled_image};
+ghost use Rattle.c104_plan.specs.PlanImage.{Fits, range_of};
 ghost use Rattle.c104_label.specs.MeshLabels.{AreMeshTables, IsMesh, mesh_rows, mesh_table};
 
 use crate::images::image_with;
 use crate::rows::{add_row, table_of};
-use c104_describe::{Image, Plan};
 use c104_interval::{Row, Table};
+use c104_plan::{Image, Plan};
 use c104_token::NoMemory;
 use std::alloc::{AllocError, Global};
 

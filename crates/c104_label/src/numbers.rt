@@ -2,14 +2,14 @@
 ghost use Rattle.std.specs.Prelude.{◌≡◌, ◌≤◌, ◌*◌, length, map, slice_get, IfOk};
 ghost use Rattle.std.specs.List.{range_with_len};
 ghost use Rattle.c104_regs.specs.declared.registers.TheConstants.{LINKS as LINK_COUNT};
-ghost use Rattle.c104_describe.specs.Plans.{IsPlan};
+ghost use Rattle.c104_plan.specs.Plans.{IsPlan};
 ghost use Rattle.c104_label.specs.Forests.{ends_of};
 ghost use Rattle.c104_label.specs.Trees.{forest_of};
 ghost use Rattle.c104_label.specs.TreeImages.{total_count};
 ghost use Rattle.c104_label.specs.TreeLabels.{count_at, count_or_zero, forest_labels, labels_behind, labels_on, net_of, own_labels};
 
 use crate::forests::Forest;
-use c104_describe::{Plan, Port};
+use c104_plan::{Plan, Port};
 use c104_regs::LINKS;
 use std::alloc::{AllocError, Global};
 

@@ -1,11 +1,11 @@
 //! The plan by hand that has the image of a plan's labels.
 ghost use Rattle.std.specs.Prelude.{◌≡◌, IfOk};
-ghost use Rattle.c104_describe.specs.PlanImage.{Fits, hand_image};
-ghost use Rattle.c104_describe.specs.RowPlans.{IsOfNetwork, row_plan};
-ghost use Rattle.c104_describe.specs.declared.plans.Shape.TheVariants.{Hand as by_hand};
+ghost use Rattle.c104_plan.specs.PlanImage.{Fits, hand_image};
+ghost use Rattle.c104_plan.specs.RowPlans.{IsOfNetwork, row_plan};
+ghost use Rattle.c104_plan.specs.declared.plans.Shape.TheVariants.{Hand as by_hand};
 ghost use Rattle.c104_label.specs.Images.{IsImageOf};
 
-use c104_describe::{Image, Plan};
+use c104_plan::{Image, Plan};
 use c104_token::NoMemory;
 use std::alloc::Global;
 

@@ -1,8 +1,8 @@
 //! The labels of a plan's tree.
 ghost use Rattle.std.specs.Prelude.{◌≡◌, ◌≤◌, ◌<◌, ◌+◌, ℕ, length, map, IfErr, IfOk};
 ghost use Rattle.std.specs.List.{range_with_len};
-ghost use Rattle.c104_describe.specs.PlanImage.{Fits};
-ghost use Rattle.c104_describe.specs.Plans.{IsPlan};
+ghost use Rattle.c104_plan.specs.PlanImage.{Fits};
+ghost use Rattle.c104_plan.specs.Plans.{IsPlan};
 ghost use Rattle.c104_label.specs.Forests.{Forest as TheForest, IsConnected, IsSpanning};
 ghost use Rattle.c104_label.specs.LabelRows.{with_rows};
 ghost use Rattle.c104_label.specs.Trees.{forest_of};
@@ -16,8 +16,8 @@ use crate::numbers::{
 };
 use crate::places::{Place, place_of};
 use crate::rows::{add_row, table_of};
-use c104_describe::{Image, Plan};
 use c104_interval::{Row, Table};
+use c104_plan::{Image, Plan};
 use c104_regs::LINKS;
 use c104_token::NoMemory;
 use std::alloc::{AllocError, Global};

@@ -1,7 +1,7 @@
 -- The acts of an event over any kind of token, as they are kept and answered: with plain tokens.
-use Rattle.c104_describe.specs.Plans.{Plan}
-use Rattle.c104_describe.specs.Wiring.{peer}
-use Rattle.c104_describe.specs.declared.ports.Port.{Port}
+use Rattle.c104_plan.specs.Plans.{Plan}
+use Rattle.c104_plan.specs.Wiring.{peer}
+use Rattle.c104_plan.specs.declared.ports.Port.{Port}
 use Rattle.c104_event.specs.declared.events.Event.{Event}
 use Rattle.c104_event.specs.declared.faults.EventFault.{EventFault}
 use Rattle.c104_net.specs.Acts.{plain_reply, reply_outcome}
@@ -22,7 +22,7 @@ use Rattle.c104_token.specs.Kinds.{Kind}
 use Rattle.c104_token.specs.declared.tokens.Token.{Token as PlainToken}
 use Rattle.std.proofs.Common.{Bool, Err, IfOk, List, None, Ok, Option, Result, Some, [], ap, false, inl, inr, is_some, option_map}
 use Rattle.std.proofs.Common.{refl, sym, true, unwrap_or, ◌∙◌, ◌≡◌}
-use Rattle.c104_describe.specs.declared.ports.Port.TheVariants as port
+use Rattle.c104_plan.specs.declared.ports.Port.TheVariants as port
 use Rattle.c104_event.specs.declared.events.Event.TheVariants as event
 use Rattle.c104_switch.specs.declared.actions.ReplyOf.TheVariants as reply
 

@@ -1,8 +1,8 @@
 -- The step of some acts: what it answers is a reply, and of what crosses a wire it is what crossed.
-use Rattle.c104_describe.specs.Plans.{Plan}
-use Rattle.c104_describe.specs.declared.ports.Port.{Port}
+use Rattle.c104_plan.specs.Plans.{Plan}
+use Rattle.c104_plan.specs.declared.ports.Port.{Port}
 use Rattle.c104_link.proofs.MadeSteps.{from_place_made, given}
-use Rattle.c104_describe.specs.Wiring.{peer}
+use Rattle.c104_plan.specs.Wiring.{peer}
 use Rattle.c104_event.specs.declared.events.Event.{Event}
 use Rattle.c104_event.specs.declared.events.Event.TheVariants as event
 use Rattle.c104_link.specs.Steps.{◌>>=◌}

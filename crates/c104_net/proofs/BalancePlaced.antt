@@ -7,17 +7,17 @@ use Rattle.c104_link.specs.Steps.{◌>>=◌}
 use Rattle.c104_regs.specs.declared.settings.Settings.{Settings}
 use Rattle.c104_regs.specs.Settings.{reset_settings}
 use Rattle.c104_switch.specs.Switch.{new_switch_with, new_input}
-use Rattle.c104_describe.specs.declared.ports.Port.{Port}
-use Rattle.c104_describe.specs.Ports.{IsSwitchPort}
-use Rattle.c104_describe.specs.declared.ports.Port.TheVariants as port
+use Rattle.c104_plan.specs.declared.ports.Port.{Port}
+use Rattle.c104_plan.specs.Ports.{IsSwitchPort}
+use Rattle.c104_plan.specs.declared.ports.Port.TheVariants as port
 use Rattle.c104_net.specs.declared.ends.End.{End}
 use Rattle.c104_net.specs.declared.node.NodeOf.TheVariants.{Switch, Terminal}
-use Rattle.c104_describe.specs.Plans.{Plan, IsPlan}
-use Rattle.c104_describe.specs.declared.plans.Terminal as plans
-use Rattle.c104_describe.specs.PlanImage.{Image, Fits}
+use Rattle.c104_plan.specs.Plans.{Plan, IsPlan}
+use Rattle.c104_plan.specs.declared.plans.Terminal as plans
+use Rattle.c104_plan.specs.PlanImage.{Image, Fits}
 use Rattle.c104_net.specs.Terminals.{new_terminal}
 use Rattle.c104_net.specs.Nodes.{Node}
-use Rattle.c104_describe.specs.Wiring.{peer}
+use Rattle.c104_plan.specs.Wiring.{peer}
 use Rattle.c104_net.specs.Ends.{end_of}
 use Rattle.c104_net.specs.Network.{network_of, new_switch_nodes, switch_nodes, terminal_nodes}
 use Rattle.c104_net.specs.Balance.{credit_of, granted_of, credit_at, granted_at, is_switch, IsSteady}

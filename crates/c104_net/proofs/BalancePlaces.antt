@@ -5,7 +5,7 @@ use Rattle.std.proofs.lemmas.Bool.{cases_eq}
 use Rattle.c104_link.specs.Steps.{◌>>=◌}
 use Rattle.c104_net.specs.declared.ends.End.{End}
 use Rattle.c104_net.specs.Nodes.{Node}
-use Rattle.c104_describe.specs.Plans.{Plan}
+use Rattle.c104_plan.specs.Plans.{Plan}
 use Rattle.c104_net.specs.Balance.{credit_of, granted_of, is_switch, AreInPlace}
 use Rattle.c104_net.proofs.Crossing.{get_set_same, get_set_other}
 use Rattle.c104_net.proofs.BalanceWires.{AreApart}

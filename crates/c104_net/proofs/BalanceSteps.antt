@@ -2,12 +2,12 @@
 use Rattle.std.proofs.Common.{◌≡◌, ◌≢◌, ℕ, inl, inr, List, Option, Some, length, slice_get, slice_set, sym, ◌∙◌, ap, subst}
 use Rattle.c104_link.specs.Steps.{step_at, yield_step_at}
 use Rattle.c104_link.proofs.MadeSteps.{given, at_place_made, from_place_made}
-use Rattle.c104_describe.specs.declared.ports.Port.{Port}
+use Rattle.c104_plan.specs.declared.ports.Port.{Port}
 use Rattle.c104_net.specs.declared.ends.End.{End}
-use Rattle.c104_describe.specs.Plans.{Plan, IsPlan}
+use Rattle.c104_plan.specs.Plans.{Plan, IsPlan}
 use Rattle.c104_net.specs.Nodes.{Node, node_enter, node_leave, node_credit_out, node_credit_in}
 use Rattle.c104_net.proofs.NamedWires.{nodes_cross, nodes_credit}
-use Rattle.c104_describe.specs.Wiring.{peer}
+use Rattle.c104_plan.specs.Wiring.{peer}
 use Rattle.c104_net.specs.Ends.{end_of}
 use Rattle.c104_net.specs.Network.{network_of}
 use Rattle.c104_net.specs.Balance.{credit_of, granted_of, AreLevel, IsSteady}

@@ -1,15 +1,15 @@
 -- The wires of a plan: each has two ends, and no two ports that have a wire stand at one end.
 use Rattle.std.proofs.Common.{◌≡◌, ◌≢◌, ◌<◌, ◌+◌, ℕ, ◌⊎◌, inl, inr, false, Option, Some, None, length, refl, sym, ◌∙◌, ap, subst, arith}
 use Rattle.std.proofs.lemmas.Bool.{cases_eq}
-use Rattle.c104_describe.specs.declared.ports.Port.TheVariants as port
-use Rattle.c104_describe.specs.declared.ports.Port.{Port}
+use Rattle.c104_plan.specs.declared.ports.Port.TheVariants as port
+use Rattle.c104_plan.specs.declared.ports.Port.{Port}
 use Rattle.std.specs.Option.{option_map}
-use Rattle.c104_describe.specs.Ports as ports
-use Rattle.c104_describe.specs.Ports.{IsSwitchPort, is_port}
-use Rattle.c104_describe.specs.Plans.{Plan, IsPlan}
-use Rattle.c104_describe.specs.Wiring.{IsPlanPort, peer}
-use Rattle.c104_describe.proofs.PortLemmas.{cases_port, is_port-refl}
-use Rattle.c104_describe.proofs.Wires.{wiring}
+use Rattle.c104_plan.specs.Ports as ports
+use Rattle.c104_plan.specs.Ports.{IsSwitchPort, is_port}
+use Rattle.c104_plan.specs.Plans.{Plan, IsPlan}
+use Rattle.c104_plan.specs.Wiring.{IsPlanPort, peer}
+use Rattle.c104_plan.proofs.PortLemmas.{cases_port, is_port-refl}
+use Rattle.c104_plan.proofs.Wires.{wiring}
 use Rattle.c104_net.specs.declared.ends.End.{End}
 use Rattle.c104_net.specs.Ends.{end_of}
 use Rattle.c104_net.specs.FarEnds.{far_end}

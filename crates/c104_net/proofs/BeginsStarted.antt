@@ -2,8 +2,8 @@
 -- quiet.
 use Rattle.c104_check.specs.Routes.{IsAccepted, routes_of}
 use Rattle.c104_check.specs.ChannelDependencies.{IsAcyclic}
-use Rattle.c104_describe.specs.PlanImage.{Image}
-use Rattle.c104_describe.specs.Plans.{IsPlan, Plan}
+use Rattle.c104_plan.specs.PlanImage.{Image}
+use Rattle.c104_plan.specs.Plans.{IsPlan, Plan}
 use Rattle.c104_link.proofs.MadeSteps.{All-place}
 use Rattle.c104_net.proofs.RunOrigins.{IsKeptRun}
 use Rattle.c104_net.proofs.StandingRuns.{stands_quiet}

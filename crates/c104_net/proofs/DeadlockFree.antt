@@ -3,8 +3,8 @@
 use Rattle.c104_check.specs.ChannelDependencies.{IsRanking}
 use Rattle.c104_check.specs.Routes.{Routes, routes_of}
 use Rattle.c104_check.specs.declared.ports.SwitchPort.{SwitchPort}
-use Rattle.c104_describe.specs.PlanImage.{Image}
-use Rattle.c104_describe.specs.Plans.{IsPlan, Plan}
+use Rattle.c104_plan.specs.PlanImage.{Image}
+use Rattle.c104_plan.specs.Plans.{IsPlan, Plan}
 use Rattle.c104_event.specs.declared.events.Event.{Event}
 use Rattle.c104_net.proofs.BeginsStarted.{starts_are_started}
 use Rattle.c104_net.proofs.RecordedRounds.{done_after, done_of, plain_run, starts_stay}

@@ -6,9 +6,9 @@ use Rattle.c104_switch.specs.declared.unready.Unready.{Unready}
 use Rattle.c104_switch.specs.Reasons.{why_at, enter_why}
 use Rattle.c104_switch.specs.ReasonMeanings.{IsReason, IsAcceptReason, IsTakeReason, IsGrantReason, IsEmitReason, IsCreditedReason}
 use Rattle.c104_switch.proofs.ReasonsHold.{reason_holds, accept_says, take_says, grant_says, emit_says, credited_says}
-use Rattle.c104_describe.specs.declared.ports.Port.{Port}
-use Rattle.c104_describe.specs.declared.ports.Port.TheVariants as port
-use Rattle.c104_describe.specs.Wiring.{peer}
+use Rattle.c104_plan.specs.declared.ports.Port.{Port}
+use Rattle.c104_plan.specs.declared.ports.Port.TheVariants as port
+use Rattle.c104_plan.specs.Wiring.{peer}
 use Rattle.c104_event.specs.declared.events.Event.{Event}
 use Rattle.c104_event.specs.declared.events.Event.TheVariants as event
 use Rattle.c104_event.specs.declared.faults.EventFault.{EventFault}

@@ -1,8 +1,8 @@
 -- An event by its name: in a network of a plan whose nodes stand in their places, the step of the acts of an event is the
 -- step that its name says.
-use Rattle.c104_describe.specs.Plans.{IsPlan, Plan}
-use Rattle.c104_describe.specs.Wiring.{peer}
-use Rattle.c104_describe.specs.declared.ports.Port.{Port}
+use Rattle.c104_plan.specs.Plans.{IsPlan, Plan}
+use Rattle.c104_plan.specs.Wiring.{peer}
+use Rattle.c104_plan.specs.declared.ports.Port.{Port}
 use Rattle.c104_event.specs.declared.events.Event.{Event}
 use Rattle.c104_link.specs.Steps.{◌>>=◌, step_at, yield_step_at}
 use Rattle.c104_net.proofs.BalanceWires.{nodes_apart, peer_back, switch_inside}
@@ -30,7 +30,7 @@ use Rattle.c104_token.specs.declared.packets.Packet.{Packet}
 use Rattle.std.proofs.Common.{Bool, List, None, Ok, Option, Some, ap, arith, false, length, nat_lt, refl, slice_get, slice_set, sym, true}
 use Rattle.std.proofs.Common.{ℕ, ◌+◌, ◌-◌, ◌<◌, ◌∙◌, ◌≡◌}
 use Rattle.std.proofs.lemmas.Bool.Decides.{nat_tests}
-use Rattle.c104_describe.specs.declared.ports.Port.TheVariants as port
+use Rattle.c104_plan.specs.declared.ports.Port.TheVariants as port
 use Rattle.c104_event.specs.declared.events.Event.TheVariants as event
 use Rattle.c104_net.specs.declared.acts.ActOf.TheVariants as act
 use Rattle.c104_net.specs.declared.node.NodeOf.TheVariants as node

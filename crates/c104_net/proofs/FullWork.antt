@@ -4,9 +4,9 @@ use Rattle.c104_check.specs.ChannelDependencies.{IsNeverRandomized}
 use Rattle.c104_check.specs.Routes.{Routes, link_settings}
 use Rattle.c104_check.specs.Walks.{port_of}
 use Rattle.c104_check.specs.declared.ports.SwitchPort.{SwitchPort}
-use Rattle.c104_describe.specs.Plans.{Plan}
-use Rattle.c104_describe.specs.Wiring.{peer}
-use Rattle.c104_describe.specs.declared.ports.Port.{Port}
+use Rattle.c104_plan.specs.Plans.{Plan}
+use Rattle.c104_plan.specs.Wiring.{peer}
+use Rattle.c104_plan.specs.declared.ports.Port.{Port}
 use Rattle.c104_link.specs.Buffers.{Outgoing}
 use Rattle.c104_net.proofs.WorkBounds.{level_more, sum_more, weigh_more}
 use Rattle.c104_net.specs.HeaderWork.{ahead_at, ahead_by, first_ahead, full_input, full_link, full_node, full_output, full_work}
@@ -21,7 +21,7 @@ use Rattle.std.proofs.Common.{List, None, Option, Some, [], ap, arith, false, le
 use Rattle.std.proofs.Common.{◌≡◌, ◌≤◌}
 use Rattle.std.proofs.Math.Nat.{suc-mul, zero-mul}
 use Rattle.std.proofs.lemmas.Bool.{cases_Bool}
-use Rattle.c104_describe.specs.declared.ports.Port.TheVariants as port
+use Rattle.c104_plan.specs.declared.ports.Port.TheVariants as port
 use Rattle.c104_net.specs.declared.node.NodeOf.TheVariants as node
 
 -- By higher ranks

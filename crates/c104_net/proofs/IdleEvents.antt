@@ -7,10 +7,10 @@ use Rattle.c104_link.specs.Steps.{step_at}
 use Rattle.c104_switch.specs.declared.actions.ActionOf.TheVariants as action
 use Rattle.c104_switch.specs.declared.actions.ReplyOf.TheVariants as reply
 use Rattle.c104_net.specs.declared.acts.ActOf.TheVariants as act
-use Rattle.c104_describe.specs.declared.ports.Port.{Port}
-use Rattle.c104_describe.specs.declared.ports.Port.TheVariants as port
-use Rattle.c104_describe.specs.Plans.{Plan}
-use Rattle.c104_describe.specs.Wiring.{peer, IsPlanPort}
+use Rattle.c104_plan.specs.declared.ports.Port.{Port}
+use Rattle.c104_plan.specs.declared.ports.Port.TheVariants as port
+use Rattle.c104_plan.specs.Plans.{Plan}
+use Rattle.c104_plan.specs.Wiring.{peer, IsPlanPort}
 use Rattle.c104_event.specs.declared.events.Event.{Event}
 use Rattle.c104_event.specs.declared.events.Event.TheVariants as event
 use Rattle.c104_event.specs.declared.faults.EventFault.{EventFault}

@@ -2,10 +2,10 @@
 use Rattle.c104_switch.specs.Group.{is_in_group}
 use Rattle.c104_check.specs.Routes.{IsRandomized, routes_of, settings_at}
 use Rattle.c104_check.specs.Walks.{port_of}
-use Rattle.c104_describe.specs.PlanImage.{Image}
-use Rattle.c104_describe.specs.Plans.{Plan}
-use Rattle.c104_describe.specs.Wiring.{peer}
-use Rattle.c104_describe.specs.declared.ports.Port.{Port}
+use Rattle.c104_plan.specs.PlanImage.{Image}
+use Rattle.c104_plan.specs.Plans.{Plan}
+use Rattle.c104_plan.specs.Wiring.{peer}
+use Rattle.c104_plan.specs.declared.ports.Port.{Port}
 use Rattle.c104_link.proofs.MadeSteps.{at_place_made, given, required, with_place_made}
 use Rattle.c104_link.specs.Buffers.{Outgoing, outgoing_put, outgoing_put_all}
 use Rattle.c104_link.specs.Steps.{joint_step_at, step_at}
@@ -44,7 +44,7 @@ use Rattle.std.proofs.lemmas.Bool.{and_cases, and_parts, cases_Bool, eq-eqb, le-
 use Rattle.std.proofs.lemmas.Option.{some_pair_parts}
 use Rattle.c104_event.specs.declared.events.Event.TheVariants as event
 use Rattle.c104_net.specs.declared.node.NodeOf.TheVariants as node
-use Rattle.c104_describe.specs.declared.ports.Port.TheVariants as port
+use Rattle.c104_plan.specs.declared.ports.Port.TheVariants as port
 use Rattle.c104_switch.specs.declared.actions.ReplyOf.TheVariants as reply
 use Rattle.c104_interval.specs.Selection as table
 

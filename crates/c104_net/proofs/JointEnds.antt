@@ -1,5 +1,5 @@
 -- What crosses a wire, among all nodes: where both ends are ready both act, and else nothing changes.
-use Rattle.c104_describe.specs.declared.ports.Port.{Port}
+use Rattle.c104_plan.specs.declared.ports.Port.{Port}
 use Rattle.c104_link.specs.Steps.{◌>>=◌}
 use Rattle.c104_link.proofs.MadeSteps.{from_place_made}
 use Rattle.c104_net.proofs.Crossing.{get_set_other}
@@ -23,7 +23,7 @@ use Rattle.std.proofs.Common.{Bool, Err, Ok, ◌||◌, [], if◌then◌else◌, 
 use Rattle.std.proofs.Common.{nat_lt, refl, slice_get, slice_set, subst, sym, true, ℕ, ◌<◌, ◌≤◌, ◌∙◌, ◌≡◌, ◌≢◌}
 use Rattle.std.proofs.lemmas.Bool.Decides.{nat_tests}
 use Rattle.std.proofs.lemmas.Option.{slice_get_past}
-use Rattle.c104_describe.specs.declared.ports.Port.TheVariants as port
+use Rattle.c104_plan.specs.declared.ports.Port.TheVariants as port
 use Rattle.c104_net.specs.declared.node.NodeOf.TheVariants as node
 use Rattle.c104_switch.specs.declared.actions.ReplyOf.TheVariants as reply
 

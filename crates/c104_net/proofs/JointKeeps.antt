@@ -1,7 +1,7 @@
 -- What each act at an end of a wire keeps is kept by what crosses it.
-use Rattle.c104_describe.specs.Plans.{Plan}
-use Rattle.c104_describe.specs.declared.ports.Port.{Port}
-use Rattle.c104_describe.specs.declared.ports.Port.TheVariants as port
+use Rattle.c104_plan.specs.Plans.{Plan}
+use Rattle.c104_plan.specs.declared.ports.Port.{Port}
+use Rattle.c104_plan.specs.declared.ports.Port.TheVariants as port
 use Rattle.c104_link.proofs.MadeSteps.{from_place_made, given}
 use Rattle.c104_link.specs.Steps.{◌>>=◌}
 use Rattle.c104_net.specs.Acts.{done_by, node_act, nodes_act, plain_reply, token_by}

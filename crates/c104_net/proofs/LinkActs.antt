@@ -1,6 +1,6 @@
 -- What the four acts of links change of a node, seen from its port.
-use Rattle.c104_describe.specs.Plans.{Plan}
-use Rattle.c104_describe.specs.declared.ports.Port.{Port}
+use Rattle.c104_plan.specs.Plans.{Plan}
+use Rattle.c104_plan.specs.declared.ports.Port.{Port}
 use Rattle.c104_link.proofs.MadeSteps.{at_place_made, from_place_made, given, required}
 use Rattle.c104_link.specs.Buffers.{Incoming, Outgoing, incoming_accept, incoming_grant, outgoing_credited, outgoing_emit}
 use Rattle.c104_link.specs.Steps.{step_at, yield_step_at}
@@ -23,7 +23,7 @@ use Rattle.c104_switch.specs.declared.phase.Phase.TheVariants.{Fresh}
 use Rattle.std.proofs.Common.{List, Some, [], ap, drop, length, map, nat_le, nat_lt, refl, slice_get, slice_set, subst, sym, ℕ, ◌++◌, ◌+◌}
 use Rattle.std.proofs.Common.{◌-◌, ◌∙◌, ◌∷◌, ◌≡◌}
 use Rattle.c104_net.specs.declared.node.NodeOf.TheVariants as node
-use Rattle.c104_describe.specs.declared.ports.Port.TheVariants as port
+use Rattle.c104_plan.specs.declared.ports.Port.TheVariants as port
 
 pub first_some : {A : Type 0} (l : List A) (x : A) → slice_get l 0 ≡ Some x → l ≡ x ∷ drop 1 l
 first_some [] x e = absurd (cc)

@@ -1,5 +1,5 @@
 -- The events of a run, found again by their tickets: what each place tells, joined by ticket, is all that the run did.
-use Rattle.c104_describe.specs.Plans.{Plan}
+use Rattle.c104_plan.specs.Plans.{Plan}
 use Rattle.c104_event.specs.declared.events.Event.{Event}
 use Rattle.c104_net.specs.EventPlaces.{event_place}
 use Rattle.c104_net.specs.Leading.{events_at, led_events}

@@ -1,6 +1,6 @@
 -- The origins of what arrived are those of its whole pieces in turn, and a received packet's piece has that packet's.
 use Rattle.c104_check.specs.Routes.{Routes}
-use Rattle.c104_describe.specs.declared.ports.Port.{Port}
+use Rattle.c104_plan.specs.declared.ports.Port.{Port}
 use Rattle.c104_net.proofs.HeaderReads.{bytes_push}
 use Rattle.c104_net.proofs.PacketInvariant.{bytes_only}
 use Rattle.c104_net.specs.Deliveries.{IsDelivered, cut_at, deletes}
@@ -21,7 +21,7 @@ use Rattle.std.proofs.Common.{length, map, refl, suc, sym, true, zero, ℕ, ⊎_
 use Rattle.std.proofs.lemmas.Bool.{cases_Bool, leb-true}
 use Rattle.std.specs.Prelude.{option_to_list}
 use Rattle.c104_token.specs.declared.tokens.Mark.TheVariants as mark
-use Rattle.c104_describe.specs.declared.ports.Port.TheVariants as port
+use Rattle.c104_plan.specs.declared.ports.Port.TheVariants as port
 
 abbrev plain : Traced → Token
 plain x = x.token

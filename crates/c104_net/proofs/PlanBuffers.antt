@@ -2,7 +2,7 @@
 use Rattle.std.proofs.Common.{◌%◌, ◌==◌, ◌&&◌, nat_le}
 use Rattle.std.proofs.lemmas.Bool.{and_parts, eqb-true, leb-true}
 use Rattle.c104_link.specs.Buffers.{IsValidCap}
-use Rattle.c104_describe.specs.Plans.{Plan, IsPlan}
+use Rattle.c104_plan.specs.Plans.{Plan, IsPlan}
 
 pub valid_cap : (plan : Plan) → IsPlan plan → IsValidCap plan.cap
 valid_cap plan is_plan =

@@ -1,10 +1,10 @@
 -- A plan's wires as the invariant reads them, and the nodes at their ends.
-use Rattle.c104_describe.proofs.PortLemmas.{is_port-ne}
-use Rattle.c104_describe.proofs.Wires.{wiring}
-use Rattle.c104_describe.specs.Plans.{IsPlan, Plan}
-use Rattle.c104_describe.specs.Ports.{AreApart, is_port}
-use Rattle.c104_describe.specs.Wiring.{peer}
-use Rattle.c104_describe.specs.declared.ports.Port.{Port}
+use Rattle.c104_plan.proofs.PortLemmas.{is_port-ne}
+use Rattle.c104_plan.proofs.Wires.{wiring}
+use Rattle.c104_plan.specs.Plans.{IsPlan, Plan}
+use Rattle.c104_plan.specs.Ports.{AreApart, is_port}
+use Rattle.c104_plan.specs.Wiring.{peer}
+use Rattle.c104_plan.specs.declared.ports.Port.{Port}
 use Rattle.c104_net.proofs.BalancePlaces.{switches_first}
 use Rattle.c104_net.proofs.BalanceWires.{peer_back, switch_inside}
 use Rattle.c104_net.proofs.LinkActs.{Matches}
@@ -17,8 +17,8 @@ use Rattle.std.proofs.Common.{List, None, Option, Some, [], ap, arith, false, le
 use Rattle.std.proofs.Common.{true, zero, ℕ, ◌++◌, ◌+◌, ◌<◌, ◌∙◌, ◌∷◌, ◌≡◌}
 use Rattle.std.proofs.lemmas.Bool.{true≢false}
 use Rattle.c104_net.specs.declared.node.NodeOf.TheVariants as node
-use Rattle.c104_describe.specs.declared.plans.Terminal as plans
-use Rattle.c104_describe.specs.declared.ports.Port.TheVariants as port
+use Rattle.c104_plan.specs.declared.plans.Terminal as plans
+use Rattle.c104_plan.specs.declared.ports.Port.TheVariants as port
 
 module _ (plan : Plan) (is_plan : IsPlan plan) where
   pub wired : IsWired (peer plan)

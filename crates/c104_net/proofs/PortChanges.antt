@@ -1,7 +1,7 @@
 -- Ports, and functions of ports that are changed at one.
-use Rattle.c104_describe.proofs.PortLemmas.{cases_port, is_port-ne, is_port-refl, is_port-true}
-use Rattle.c104_describe.specs.Ports.{is_port}
-use Rattle.c104_describe.specs.declared.ports.Port.{Port}
+use Rattle.c104_plan.proofs.PortLemmas.{cases_port, is_port-ne, is_port-refl, is_port-true}
+use Rattle.c104_plan.specs.Ports.{is_port}
+use Rattle.c104_plan.specs.declared.ports.Port.{Port}
 use Rattle.c104_net.proofs.PacketInvariant.{is_at}
 use Rattle.std.proofs.Common.{None, Option, Some, ap, false, if◌then◌else◌, refl, subst, sym, true, ⊎_elim, ◌∙◌, ◌≡◌}
 use Rattle.std.proofs.lemmas.Bool.{true≢false}

@@ -9,7 +9,7 @@ use Rattle.c104_link.specs.Buffers.{Outgoing}
 use Rattle.c104_switch.specs.Starts.{link_starts}
 use Rattle.c104_switch.specs.Switch.{Input}
 use Rattle.c104_token.specs.declared.tokens.Token.{Token}
-use Rattle.c104_describe.specs.Plans.{Plan}
+use Rattle.c104_plan.specs.Plans.{Plan}
 use Rattle.c104_net.specs.declared.acts.Entry.{Entry}
 use Rattle.c104_net.specs.declared.node.NodeOf.TheVariants as node
 use Rattle.c104_net.specs.declared.starts.NodeStart.{NodeStart}

@@ -4,7 +4,7 @@ use Rattle.c104_token.specs.declared.tokens.Token.{Token}
 use Rattle.c104_token.specs.declared.tokens.Token.TheVariants.{Byte}
 use Rattle.c104_token.specs.Kinds.{Kind, plain_kind}
 use Rattle.c104_switch.specs.Actions.{Reply}
-use Rattle.c104_describe.specs.Plans.{Plan, IsPlan}
+use Rattle.c104_plan.specs.Plans.{Plan, IsPlan}
 use Rattle.c104_event.specs.declared.events.Event.{Event}
 use Rattle.c104_event.specs.declared.faults.EventFault.{EventFault}
 use Rattle.c104_net.specs.declared.acts.Entry.{Entry}

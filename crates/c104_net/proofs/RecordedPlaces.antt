@@ -3,7 +3,7 @@
 use Rattle.std.proofs.Common.{◌≡◌, ◌∙◌, ℕ, Bool, true, false, List, Result, IfOk, map, refl, sym, ap, subst}
 use Rattle.c104_switch.specs.Actions.{Reply, is_ready}
 use Rattle.c104_token.specs.Kinds.{plain_kind}
-use Rattle.c104_describe.specs.Plans.{Plan, IsPlan}
+use Rattle.c104_plan.specs.Plans.{Plan, IsPlan}
 use Rattle.c104_event.specs.declared.events.Event.{Event}
 use Rattle.c104_event.specs.declared.faults.EventFault.{EventFault}
 use Rattle.c104_net.specs.EventRuns.{Answers, EventsEnd}

@@ -3,7 +3,7 @@ use Rattle.std.proofs.Common.{ℕ, zero, suc, ◌≡◌, ◌+◌, ◌<◌, ◌-�
 use Rattle.std.proofs.Common.{append-nil, arith, inl, inr}
 use Rattle.c104_event.specs.declared.events.Event.{Event}
 use Rattle.c104_event.specs.declared.faults.EventFault.{EventFault}
-use Rattle.c104_describe.specs.Plans.{Plan}
+use Rattle.c104_plan.specs.Plans.{Plan}
 use Rattle.c104_net.specs.EventRuns.{run_events, unless_fault, EventsEnd, Outcome}
 use Rattle.c104_net.specs.Rounds.{round, rounds}
 use Rattle.c104_net.proofs.RoundRuns.{run_append, run_from, Applied}

@@ -1,7 +1,7 @@
 -- What a run that is done once more tells of where its packets came from.
 use Rattle.c104_check.specs.Routes.{IsAccepted, routes_of}
-use Rattle.c104_describe.specs.PlanImage.{Image}
-use Rattle.c104_describe.specs.Plans.{IsPlan, Plan}
+use Rattle.c104_plan.specs.PlanImage.{Image}
+use Rattle.c104_plan.specs.Plans.{IsPlan, Plan}
 use Rattle.c104_event.specs.declared.events.Event.{Event}
 use Rattle.c104_link.specs.Steps.{◌>>=◌}
 use Rattle.c104_net.proofs.Finishing.{arrived_same, terminals_counted}

@@ -3,7 +3,7 @@ use Rattle.std.proofs.Common.{◌≡◌, ◌∙◌, ◌++◌, ℕ, List, [], ◌
 use Rattle.std.proofs.lemmas.List.{map-append, reverse-append}
 use Rattle.std.specs.Option.{option_to_list}
 use Rattle.c104_token.specs.declared.tokens.Token.{Token}
-use Rattle.c104_describe.specs.Plans.{Plan}
+use Rattle.c104_plan.specs.Plans.{Plan}
 use Rattle.c104_net.specs.declared.acts.Entry.{Entry}
 use Rattle.c104_net.specs.declared.starts.NodeStart.{NodeStart}
 use Rattle.c104_net.specs.Finished.{terminals_of}

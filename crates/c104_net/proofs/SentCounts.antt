@@ -19,9 +19,9 @@ use Rattle.c104_switch.specs.Switch as switch
 use Rattle.c104_switch.specs.Turns as turns
 use Rattle.c104_switch.specs.Claims as claims
 use Rattle.c104_switch.specs.Control as controls
-use Rattle.c104_describe.specs.Plans.{Plan}
-use Rattle.c104_describe.specs.Wiring.{peer}
-use Rattle.c104_describe.specs.declared.ports.Port.{Port}
+use Rattle.c104_plan.specs.Plans.{Plan}
+use Rattle.c104_plan.specs.Wiring.{peer}
+use Rattle.c104_plan.specs.declared.ports.Port.{Port}
 use Rattle.c104_link.specs.Steps.{◌>>=◌}
 use Rattle.c104_event.specs.declared.events.Event.{Event}
 use Rattle.c104_event.specs.declared.events.Event.TheVariants as event

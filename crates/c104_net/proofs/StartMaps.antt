@@ -1,7 +1,7 @@
 -- The starts of runs are the same over any kind of token.
 use Rattle.c104_check.specs.Routes.{routes_of, settings_at}
-use Rattle.c104_describe.specs.PlanImage.{Image}
-use Rattle.c104_describe.specs.Plans.{Plan}
+use Rattle.c104_plan.specs.PlanImage.{Image}
+use Rattle.c104_plan.specs.Plans.{Plan}
 use Rattle.c104_net.proofs.Promises.{IsStart}
 use Rattle.c104_net.specs.Balance.{AreInPlace, is_switch}
 use Rattle.c104_net.specs.Network.{network_of}

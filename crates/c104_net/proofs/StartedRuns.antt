@@ -1,7 +1,7 @@
 -- In a run in which nobody changes a network each node stays started.
 use Rattle.c104_check.specs.Routes.{Routes}
 use Rattle.c104_control.specs.Reading.{read_command}
-use Rattle.c104_describe.specs.Plans.{Plan}
+use Rattle.c104_plan.specs.Plans.{Plan}
 use Rattle.c104_event.specs.declared.events.Event.{Event}
 use Rattle.c104_link.proofs.MadeSteps.{from_place_made, given}
 use Rattle.c104_link.specs.Steps.{step_at, yield_step_at}

@@ -1,7 +1,7 @@
 -- A round is walked part by part: each of its events has a reason why it isn't ready exactly where the network stands
 -- still.
-use Rattle.c104_describe.proofs.RangeLists.{all_of_each}
-use Rattle.c104_describe.specs.Plans.{IsPlan, Plan}
+use Rattle.c104_plan.proofs.RangeLists.{all_of_each}
+use Rattle.c104_plan.specs.Plans.{IsPlan, Plan}
 use Rattle.c104_event.specs.declared.events.Event.{Event}
 use Rattle.c104_event.specs.declared.faults.EventFault.{EventFault}
 use Rattle.c104_link.proofs.MadeSteps.{All-place}
@@ -24,7 +24,7 @@ use Rattle.std.specs.List.{AllByRecursion, flat_map, list_all, range_with_len}
 use Rattle.std.proofs.Common.{Bool, Err, List, Ok, Result, Some, [], ap, arith, false, length, map, refl, slice_get, suc, sym, true, ℕ}
 use Rattle.std.proofs.Common.{◌&&◌, ◌++◌, ◌+◌, ◌-◌, ◌<◌, ◌∙◌, ◌∷◌, ◌≡◌, ◌≤◌}
 use Rattle.std.proofs.lemmas.List.Folds.{list_all-append}
-use Rattle.c104_describe.specs.declared.ports.Port.TheVariants as port
+use Rattle.c104_plan.specs.declared.ports.Port.TheVariants as port
 use Rattle.c104_event.specs.declared.events.Event.TheVariants as event
 use Rattle.c104_switch.specs.declared.actions.ReplyOf.TheVariants as reply
 

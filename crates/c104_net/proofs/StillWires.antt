@@ -1,8 +1,8 @@
 -- What each event of a round says that isn't ready, in a network whose switches are started.
 use Rattle.c104_crossbar.specs.Groups.{group_contains}
-use Rattle.c104_describe.specs.Plans.{IsPlan, Plan}
-use Rattle.c104_describe.specs.Wiring.{peer}
-use Rattle.c104_describe.specs.declared.ports.Port.{Port}
+use Rattle.c104_plan.specs.Plans.{IsPlan, Plan}
+use Rattle.c104_plan.specs.Wiring.{peer}
+use Rattle.c104_plan.specs.declared.ports.Port.{Port}
 use Rattle.c104_event.specs.declared.events.Event.{Event}
 use Rattle.c104_link.specs.Buffers.{Incoming, Outgoing}
 use Rattle.c104_net.proofs.BalanceWires.{peer_back, switch_inside, terminal_inside}
@@ -34,7 +34,7 @@ use Rattle.std.proofs.Common.{refl, slice_get, subst, suc, sym, true, zero, ℕ,
 use Rattle.std.proofs.lemmas.Bool.{true≢false}
 use Rattle.std.proofs.lemmas.Bool.Decides.{nat_tests}
 use Rattle.std.proofs.lemmas.Option.{slice_get_within}
-use Rattle.c104_describe.specs.declared.ports.Port.TheVariants as port
+use Rattle.c104_plan.specs.declared.ports.Port.TheVariants as port
 use Rattle.c104_event.specs.declared.events.Event.TheVariants as event
 use Rattle.c104_net.specs.declared.node.NodeOf.TheVariants as node
 use Rattle.c104_switch.specs.declared.actions.ActionOf.TheVariants as action

@@ -1,5 +1,5 @@
 -- The events that the traces of a run tell are those that were done, in order.
-use Rattle.c104_describe.specs.Plans.{IsPlan, Plan}
+use Rattle.c104_plan.specs.Plans.{IsPlan, Plan}
 use Rattle.c104_event.specs.declared.events.Event.{Event}
 use Rattle.c104_net.proofs.LedEvents.{run_inside, trace_led}
 use Rattle.c104_net.proofs.MergedEvents.{TellEvents, all_from, event_alone, told_from}

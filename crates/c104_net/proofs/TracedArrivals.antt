@@ -4,7 +4,7 @@ use Rattle.std.proofs.Common.{slice_get, refl, ap}
 use Rattle.std.proofs.lemmas.Option.{slice_get-map}
 use Rattle.c104_token.specs.declared.tokens.Token.{Token}
 use Rattle.c104_link.specs.Steps.{◌>>=◌}
-use Rattle.c104_describe.specs.Plans.{Plan}
+use Rattle.c104_plan.specs.Plans.{Plan}
 use Rattle.c104_net.specs.declared.node.NodeOf.TheVariants as node
 use Rattle.c104_net.specs.NetRecords.{NetRecord}
 use Rattle.c104_net.specs.Network.{network_arrived, network_of, terminal_place, Network}

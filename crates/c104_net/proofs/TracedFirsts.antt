@@ -3,8 +3,8 @@ use Rattle.std.proofs.Common.{◌≡◌, ◌∙◌, ◌++◌, ℕ, List, [], ◌
 use Rattle.std.proofs.lemmas.List.{map-append}
 use Rattle.c104_token.specs.declared.tokens.Token.{Token}
 use Rattle.c104_switch.specs.Switch.{new_switch}
-use Rattle.c104_describe.specs.declared.plans.Terminal.{Terminal}
-use Rattle.c104_describe.specs.Plans.{Plan, IsPlan}
+use Rattle.c104_plan.specs.declared.plans.Terminal.{Terminal}
+use Rattle.c104_plan.specs.Plans.{Plan, IsPlan}
 use Rattle.c104_net.specs.declared.acts.Entry.{Entry}
 use Rattle.c104_net.specs.declared.node.NodeOf.TheVariants as node
 use Rattle.c104_net.specs.Network.{network_of, new_network}

@@ -1,5 +1,5 @@
 -- Runs over tokens that tell where they came from, and what is promised of them.
-use Rattle.c104_describe.specs.Plans.{Plan}
+use Rattle.c104_plan.specs.Plans.{Plan}
 use Rattle.c104_event.specs.declared.events.Event.{Event}
 use Rattle.c104_event.specs.declared.faults.EventFault.{EventFault}
 use Rattle.c104_net.proofs.StartMaps.{starts_same}

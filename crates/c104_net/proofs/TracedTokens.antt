@@ -1,9 +1,9 @@
 -- The tokens that wait in a network of tagged tokens are what is kept of those at the end of its run.
 use Rattle.std.proofs.Common.{◌≡◌, ◌∙◌, ℕ, List, Option, None, length, map, nat_lt, option_map, slice_get, refl, sym, ap}
 use Rattle.std.proofs.lemmas.Option.{slice_get-map}
-use Rattle.c104_describe.specs.Plans.{Plan, IsPlan}
-use Rattle.c104_describe.specs.declared.ports.Port.{Port}
-use Rattle.c104_describe.specs.declared.ports.Port.TheVariants as port
+use Rattle.c104_plan.specs.Plans.{Plan, IsPlan}
+use Rattle.c104_plan.specs.declared.ports.Port.{Port}
+use Rattle.c104_plan.specs.declared.ports.Port.TheVariants as port
 use Rattle.c104_net.specs.declared.node.NodeOf.TheVariants as node
 use Rattle.c104_net.specs.FinishedRecords.{record_finish}
 use Rattle.c104_net.specs.NetRecords.{NetRecord}

@@ -5,11 +5,11 @@ use Rattle.std.specs.Option.{option_map}
 use Rattle.std.proofs.lemmas.Bool.{cases_eq}
 use Rattle.std.proofs.lemmas.List.{get_or_append_left, get_or-append_right, length-append}
 use Rattle.c104_crossbar.specs.Groups.{has_bit}
-use Rattle.c104_describe.specs.declared.ports.Port.{Port}
-use Rattle.c104_describe.specs.declared.ports.Port.TheVariants as port
-use Rattle.c104_describe.specs.Plans.{Plan, IsPlan}
-use Rattle.c104_describe.specs.Wiring.{peer}
-use Rattle.c104_describe.proofs.Wires.{wiring}
+use Rattle.c104_plan.specs.declared.ports.Port.{Port}
+use Rattle.c104_plan.specs.declared.ports.Port.TheVariants as port
+use Rattle.c104_plan.specs.Plans.{Plan, IsPlan}
+use Rattle.c104_plan.specs.Wiring.{peer}
+use Rattle.c104_plan.proofs.Wires.{wiring}
 use Rattle.c104_net.specs.LinkedSets.{AreLinked}
 use Rattle.c104_net.specs.Network.{wired_fault}
 use Rattle.c104_net.specs.Rounds.{is_wired}

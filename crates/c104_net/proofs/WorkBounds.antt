@@ -1,9 +1,9 @@
 -- Work by ranks that are higher is more, so all work has a bound; and work as it is summed up.
 use Rattle.c104_check.specs.Walks.{port_of}
 use Rattle.c104_check.specs.declared.ports.SwitchPort.{SwitchPort}
-use Rattle.c104_describe.specs.Plans.{Plan}
-use Rattle.c104_describe.specs.Wiring.{peer}
-use Rattle.c104_describe.specs.declared.ports.Port.{Port}
+use Rattle.c104_plan.specs.Plans.{Plan}
+use Rattle.c104_plan.specs.Wiring.{peer}
+use Rattle.c104_plan.specs.declared.ports.Port.{Port}
 use Rattle.c104_link.specs.Buffers.{Outgoing}
 use Rattle.c104_net.specs.Nodes.{Node}
 use Rattle.c104_net.specs.Traces.{part}
@@ -23,7 +23,7 @@ use Rattle.std.proofs.Common.{zero, ℕ, ⊎_elim, ◌*◌, ◌+◌, ◌-◌, �
 use Rattle.std.proofs.Math.Nat.{add-mul, min-eq_left, min-eq_right, suc-mul, zero-mul}
 use Rattle.std.proofs.lemmas.Bool.{cases_lt}
 use Rattle.std.proofs.lemmas.List.{length-map}
-use Rattle.c104_describe.specs.declared.ports.Port.TheVariants as port
+use Rattle.c104_plan.specs.declared.ports.Port.TheVariants as port
 use Rattle.c104_net.specs.declared.node.NodeOf.TheVariants as node
 
 module _ {X : Type 0} where

@@ -1,7 +1,7 @@
 -- Each event of a round that is done leaves less work.
-use Rattle.c104_describe.specs.Plans.{Plan}
-use Rattle.c104_describe.specs.Wiring.{peer}
-use Rattle.c104_describe.specs.declared.ports.Port.{Port}
+use Rattle.c104_plan.specs.Plans.{Plan}
+use Rattle.c104_plan.specs.Wiring.{peer}
+use Rattle.c104_plan.specs.declared.ports.Port.{Port}
 use Rattle.c104_check.specs.declared.ports.SwitchPort.{SwitchPort}
 use Rattle.c104_interval.specs.Selection.{select}
 use Rattle.c104_interval.specs.declared.intervals.Select.{Select}
@@ -38,7 +38,7 @@ use Rattle.c104_net.proofs.WorkBounds.{weigh_is}
 use Rattle.std.proofs.lemmas.Bool.{and_parts, cases_Bool, le-leb, leb-true}
 use Rattle.std.proofs.lemmas.Bool.Decides.{nat_tests}
 use Rattle.c104_net.specs.declared.node.NodeOf.TheVariants as node
-use Rattle.c104_describe.specs.declared.ports.Port.TheVariants as port
+use Rattle.c104_plan.specs.declared.ports.Port.TheVariants as port
 
 module _ {X : Type 0} where
   pub weigh-append : (a : ℕ) (xs ys : List X) → weigh a (xs ++ ys) ≡ weigh a xs + weigh a ys

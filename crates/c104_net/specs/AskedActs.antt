@@ -1,6 +1,6 @@
 -- What an event asks, as it is held: a packet that is to be sent is only lent.
 use Rattle.std.specs.Prelude.{◌≡◌, ◌≢◌}
-use Rattle.c104_describe.specs.Plans.{Plan}
+use Rattle.c104_plan.specs.Plans.{Plan}
 use Rattle.c104_net.specs.Acts.{IsWithinLimits}
 use Rattle.c104_net.specs.EventActs.{Acts, port_place}
 use Rattle.c104_net.specs.declared.acts.ActOf.TheVariants as act

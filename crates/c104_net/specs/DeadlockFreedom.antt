@@ -8,7 +8,7 @@ use Rattle.std.specs.Prelude.{ℕ, ◌+◌, ◌*◌, ◌≡◌, ◌<◌, ◌≤�
 use Rattle.c104_check.specs.ChannelDependencies.{IsAcyclic, IsNeverRandomized, IsRanking}
 use Rattle.c104_check.specs.Routes.{IsAccepted, Routes, routes_of}
 use Rattle.c104_check.specs.declared.ports.SwitchPort.{SwitchPort}
-use Rattle.c104_describe.specs.PlanImage.{Fits, Image}
+use Rattle.c104_plan.specs.PlanImage.{Fits, Image}
 use Rattle.c104_event.specs.declared.events.Event.{Event}
 use Rattle.c104_event.specs.declared.events.Event.TheVariants as event
 use Rattle.c104_event.specs.declared.faults.EventFault.TheVariants as fault

@@ -6,8 +6,8 @@ use Rattle.c104_token.specs.Cut.{whole_pieces}
 use Rattle.c104_token.specs.declared.packets.Packet.{Packet}
 use Rattle.c104_regs.specs.declared.settings.Settings.{Settings}
 use Rattle.c104_switch.specs.Headers.{header_number}
-use Rattle.c104_describe.specs.declared.ports.Port.{Port}
-use Rattle.c104_describe.specs.declared.ports.Port.TheVariants as port
+use Rattle.c104_plan.specs.declared.ports.Port.{Port}
+use Rattle.c104_plan.specs.declared.ports.Port.TheVariants as port
 use Rattle.c104_check.specs.Routes.{Routes, owner, settings_at}
 use Rattle.c104_net.specs.declared.node.NodeOf.TheVariants as node
 use Rattle.c104_net.specs.Nodes.{Node, arrived_tokens}

@@ -1,8 +1,8 @@
 -- The ends of wires: where a port is among the nodes of a network.
 use Rattle.std.specs.Prelude.{◌+◌, length}
-use Rattle.c104_describe.specs.declared.ports.Port.TheVariants as port
-use Rattle.c104_describe.specs.declared.ports.Port.{Port}
-use Rattle.c104_describe.specs.Plans.{Plan}
+use Rattle.c104_plan.specs.declared.ports.Port.TheVariants as port
+use Rattle.c104_plan.specs.declared.ports.Port.{Port}
+use Rattle.c104_plan.specs.Plans.{Plan}
 use Rattle.c104_net.specs.declared.ends.End.{End}
 
 -- where a port is among the nodes: the switches stand first, then the terminals

@@ -2,10 +2,10 @@
 use Rattle.std.specs.Prelude.{◌*◌, ◌/◌, ◌%◌, List, Option, length, map, option_map}
 use Rattle.std.specs.List.{range_with_len}
 use Rattle.c104_regs.specs.declared.registers.TheConstants.{LINKS}
-use Rattle.c104_describe.specs.declared.ports.Port.TheVariants as port
-use Rattle.c104_describe.specs.declared.ports.Port.{Port}
-use Rattle.c104_describe.specs.Plans.{Plan}
-use Rattle.c104_describe.specs.Wiring.{peer}
+use Rattle.c104_plan.specs.declared.ports.Port.TheVariants as port
+use Rattle.c104_plan.specs.declared.ports.Port.{Port}
+use Rattle.c104_plan.specs.Plans.{Plan}
+use Rattle.c104_plan.specs.Wiring.{peer}
 use Rattle.c104_net.specs.declared.ends.End.{End}
 use Rattle.c104_net.specs.Ends.{end_of}
 

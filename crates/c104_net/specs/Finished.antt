@@ -1,7 +1,7 @@
 -- What a run leaves: the plan of its network, and the state of its terminals at its end.
 use Rattle.std.specs.Prelude.{ℕ, List, [], ◌∷◌, Option, Some, slice_get}
 use Rattle.c104_link.specs.Steps.{◌>>=◌}
-use Rattle.c104_describe.specs.Plans.{Plan}
+use Rattle.c104_plan.specs.Plans.{Plan}
 use Rattle.c104_net.specs.Terminals.{Terminal}
 use Rattle.c104_net.specs.Nodes.{Node}
 use Rattle.c104_net.specs.declared.node.NodeOf.TheVariants as node

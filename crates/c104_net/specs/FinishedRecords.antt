@@ -2,7 +2,7 @@
 -- its nodes started, what they did since, and how many events were done.
 use Rattle.std.specs.Prelude.{ℕ, All, ◌+◌, ◌≡◌, ◌≤◌, List, [], length, map}
 use Rattle.c104_token.specs.declared.tokens.Token.{Token}
-use Rattle.c104_describe.specs.Plans.{Plan}
+use Rattle.c104_plan.specs.Plans.{Plan}
 use Rattle.c104_net.specs.declared.acts.Entry.{Entry}
 use Rattle.c104_net.specs.declared.starts.NodeStart.{NodeStart}
 use Rattle.c104_net.specs.Finished.{FinishedRun, network_finish}

@@ -1,6 +1,6 @@
 -- The events of a run, as the entries of its nodes tell them. Each event that was done is told by one entry, which
 -- leads: its only one, or, of the two at the ends of a wire, that where the token or the credits went out.
-use Rattle.c104_describe.specs.Plans.{Plan}
+use Rattle.c104_plan.specs.Plans.{Plan}
 use Rattle.c104_event.specs.declared.events.Event.{Event}
 use Rattle.c104_net.specs.EventPlaces.{event_place}
 use Rattle.c104_net.specs.declared.acts.ActOf.{ActOf}
@@ -12,7 +12,7 @@ use Rattle.std.specs.Prelude.{Bool, List, None, Option, Some, [], if◌then◌el
 use Rattle.c104_net.specs.declared.acts.ActOf.TheVariants as act
 use Rattle.c104_switch.specs.declared.actions.ActionOf.TheVariants as action
 use Rattle.c104_event.specs.declared.events.Event.TheVariants as event
-use Rattle.c104_describe.specs.declared.ports.Port.TheVariants as port
+use Rattle.c104_plan.specs.declared.ports.Port.TheVariants as port
 
 -- the event that an action of the switch at a place leads in
 abbrev pub action_event : ℕ → Action → Option Event

@@ -1,8 +1,8 @@
 -- The wired links of each switch, as sets.
 use Rattle.std.specs.Prelude.{ℕ, ◌≡◌, ◌<◌, List, length, slice_index_or}
 use Rattle.c104_crossbar.specs.Groups.{has_bit}
-use Rattle.c104_describe.specs.Plans.{Plan}
-use Rattle.c104_describe.specs.declared.ports.Port.TheVariants as port
+use Rattle.c104_plan.specs.Plans.{Plan}
+use Rattle.c104_plan.specs.declared.ports.Port.TheVariants as port
 use Rattle.c104_regs.specs.declared.registers.TheConstants.{LINKS}
 use Rattle.c104_net.specs.Rounds.{is_wired}
 

@@ -9,13 +9,13 @@ use Rattle.c104_switch.specs.declared.actions.ReplyOf.TheVariants as reply
 use Rattle.c104_regs.specs.declared.registers.TheConstants.{LINKS}
 use Rattle.c104_regs.specs.declared.settings.Settings.{Settings}
 use Rattle.c104_switch.specs.Switch.{new_switch, new_switch_with}
-use Rattle.c104_describe.specs.declared.plans.Terminal.{Terminal}
-use Rattle.c104_describe.specs.Plans.{Plan}
-use Rattle.c104_describe.specs.PlanImage.{Image}
+use Rattle.c104_plan.specs.declared.plans.Terminal.{Terminal}
+use Rattle.c104_plan.specs.Plans.{Plan}
+use Rattle.c104_plan.specs.PlanImage.{Image}
 use Rattle.c104_net.specs.Terminals.{new_terminal}
 use Rattle.c104_net.specs.declared.node.NodeOf.TheVariants as node
-use Rattle.c104_describe.specs.declared.ports.Port.{Port}
-use Rattle.c104_describe.specs.declared.ports.Port.TheVariants as port
+use Rattle.c104_plan.specs.declared.ports.Port.{Port}
+use Rattle.c104_plan.specs.declared.ports.Port.TheVariants as port
 use Rattle.c104_event.specs.declared.events.Event.{Event}
 use Rattle.c104_event.specs.declared.events.Event.TheVariants as event
 use Rattle.c104_event.specs.declared.faults.EventFault.{EventFault}
@@ -25,7 +25,7 @@ use Rattle.c104_net.specs.Acts.{plain_reply}
 use Rattle.c104_net.specs.EventActs.{acts_limit, acts_step, event_acts}
 use Rattle.c104_net.specs.Nodes.{Node, nodes_arrived, nodes_peek}
 use Rattle.c104_net.specs.Places.{room_fault}
-use Rattle.c104_describe.specs.Wiring.{peer}
+use Rattle.c104_plan.specs.Wiring.{peer}
 
 -- a network: its plan, and the state of its nodes
 pub record Network (A : Type 0) : Type 0 where

@@ -4,9 +4,9 @@ use Rattle.c104_switch.specs.ReasonMeanings.{IsReason, IsAcceptReason, IsTakeRea
 use Rattle.c104_switch.specs.declared.actions.ActionOf.TheVariants as action
 use Rattle.c104_switch.specs.declared.unready.Unready.{Unready}
 use Rattle.c104_switch.specs.declared.unready.Unready.TheVariants.{NoLink}
-use Rattle.c104_describe.specs.declared.ports.Port.{Port}
-use Rattle.c104_describe.specs.declared.ports.Port.TheVariants as port
-use Rattle.c104_describe.specs.Wiring.{peer}
+use Rattle.c104_plan.specs.declared.ports.Port.{Port}
+use Rattle.c104_plan.specs.declared.ports.Port.TheVariants as port
+use Rattle.c104_plan.specs.Wiring.{peer}
 use Rattle.c104_event.specs.declared.events.Event.{Event}
 use Rattle.c104_event.specs.declared.events.Event.TheVariants as event
 use Rattle.c104_net.specs.declared.node.NodeOf.TheVariants.{Switch, Terminal}

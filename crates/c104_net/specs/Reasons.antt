@@ -8,9 +8,9 @@ use Rattle.c104_switch.specs.declared.unready.Unready.{Unready}
 use Rattle.c104_switch.specs.declared.unready.Unready.TheVariants.{NoLink, Owned, NoRoomForHeader}
 use Rattle.c104_switch.specs.Reasons as switch
 use Rattle.c104_switch.specs.Reasons.{why_at, accept_why, take_why, grant_why, emit_why, credited_why}
-use Rattle.c104_describe.specs.declared.ports.Port.{Port}
-use Rattle.c104_describe.specs.declared.ports.Port.TheVariants as port
-use Rattle.c104_describe.specs.Wiring.{peer}
+use Rattle.c104_plan.specs.declared.ports.Port.{Port}
+use Rattle.c104_plan.specs.declared.ports.Port.TheVariants as port
+use Rattle.c104_plan.specs.Wiring.{peer}
 use Rattle.c104_event.specs.declared.events.Event.{Event}
 use Rattle.c104_event.specs.declared.events.Event.TheVariants as event
 use Rattle.c104_event.specs.declared.faults.EventFault.{EventFault}

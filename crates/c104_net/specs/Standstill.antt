@@ -12,14 +12,14 @@ use Rattle.c104_regs.specs.declared.registers.TheConstants.{LINKS}
 use Rattle.c104_switch.specs.Actions.{Reply}
 use Rattle.c104_switch.specs.Starts.{IsSwitchStart}
 use Rattle.c104_switch.specs.Switch.{Input, Switch}
-use Rattle.c104_describe.specs.Plans.{Plan}
-use Rattle.c104_describe.specs.PlanImage.{Image}
+use Rattle.c104_plan.specs.Plans.{Plan}
+use Rattle.c104_plan.specs.PlanImage.{Image}
 use Rattle.c104_check.specs.Routes.{IsAccepted, routes_of}
 use Rattle.c104_check.specs.ChannelDependencies.{IsAcyclic}
 use Rattle.c104_switch.specs.declared.actions.ReplyOf.TheVariants as reply
-use Rattle.c104_describe.specs.Wiring.{peer}
-use Rattle.c104_describe.specs.declared.ports.Port.{Port}
-use Rattle.c104_describe.specs.declared.ports.Port.TheVariants as port
+use Rattle.c104_plan.specs.Wiring.{peer}
+use Rattle.c104_plan.specs.declared.ports.Port.{Port}
+use Rattle.c104_plan.specs.declared.ports.Port.TheVariants as port
 use Rattle.c104_event.specs.declared.events.Event.{Event}
 use Rattle.c104_event.specs.declared.events.Event.TheVariants as event
 use Rattle.c104_net.specs.declared.node.NodeOf.TheVariants as node

@@ -1,6 +1,6 @@
 -- The events of a run, as the traces of its nodes tell them: by ticket, and those of one ticket by the places of the
 -- nodes that lead in them.
-use Rattle.c104_describe.specs.Plans.{Plan}
+use Rattle.c104_plan.specs.Plans.{Plan}
 use Rattle.c104_event.specs.declared.events.Event.{Event}
 use Rattle.c104_net.specs.Leading.{led_events}
 use Rattle.c104_net.specs.Merges.{by_ticket}

@@ -6,8 +6,8 @@ use Rattle.c104_token.specs.declared.packets.Packet.{Packet}
 use Rattle.c104_link.specs.Steps.{◌>>=◌}
 use Rattle.c104_switch.specs.Views.{input_token, link_view, output_token}
 use Rattle.c104_switch.specs.declared.actions.LinkView.{LinkView}
-use Rattle.c104_describe.specs.declared.ports.Port.{Port}
-use Rattle.c104_describe.specs.declared.ports.Port.TheVariants as port
+use Rattle.c104_plan.specs.declared.ports.Port.{Port}
+use Rattle.c104_plan.specs.declared.ports.Port.TheVariants as port
 use Rattle.c104_net.specs.Terminals as terminal
 use Rattle.c104_net.specs.declared.node.NodeOf.TheVariants.{Switch, Terminal}
 use Rattle.c104_net.specs.declared.terminal.views.TerminalView.{TerminalView}

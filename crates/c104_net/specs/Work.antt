@@ -9,10 +9,10 @@ use Rattle.c104_switch.specs.Rooms.{room_left}
 use Rattle.c104_switch.specs.Switch.{Input}
 use Rattle.c104_switch.specs.declared.phase.Phase.{Phase}
 use Rattle.c104_switch.specs.declared.phase.Phase.TheVariants.{Fresh, Head, Want, Stream, Sinking}
-use Rattle.c104_describe.specs.Plans.{Plan}
-use Rattle.c104_describe.specs.Wiring.{peer}
-use Rattle.c104_describe.specs.declared.ports.Port.{Port}
-use Rattle.c104_describe.specs.declared.ports.Port.TheVariants as port
+use Rattle.c104_plan.specs.Plans.{Plan}
+use Rattle.c104_plan.specs.Wiring.{peer}
+use Rattle.c104_plan.specs.declared.ports.Port.{Port}
+use Rattle.c104_plan.specs.declared.ports.Port.TheVariants as port
 use Rattle.c104_check.specs.Walks.{port_of}
 use Rattle.c104_check.specs.declared.ports.SwitchPort.{SwitchPort}
 use Rattle.c104_net.specs.declared.node.NodeOf.TheVariants as node

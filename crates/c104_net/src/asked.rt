@@ -1,6 +1,6 @@
 //! What an event asks of the nodes of a network, by the plan's ports alone.
 ghost use Rattle.std.specs.Prelude.{◌≡◌, None, Some, IfOk, MatchResult};
-ghost use Rattle.c104_describe.specs.Wiring.{peer};
+ghost use Rattle.c104_plan.specs.Wiring.{peer};
 ghost use Rattle.c104_event.specs.declared.events.Event.TheVariants as event;
 ghost use Rattle.c104_net.specs.AskedActs.{AreEnds, acts_asked};
 ghost use Rattle.c104_net.specs.EventActs.{crossing_acts, event_acts};

@@ -5,7 +5,7 @@ ghost use Rattle.c104_net.specs.Finished.{terminals_of};
 
 use crate::node::NodeOf;
 use crate::terminal::TerminalOf;
-use c104_describe::Plan;
+use c104_plan::Plan;
 use c104_token::TokenKind;
 use std::marker::Model;
 

@@ -17,8 +17,8 @@ use crate::place::Place;
 use crate::places::{act_ready, is_full_at, node_at, ready_at};
 use crate::sent_packet::SentPacket;
 use crate::stamps::Stamp;
-use c104_describe::Plan;
 use c104_event::EventFault;
+use c104_plan::Plan;
 use c104_switch::ReplyOf;
 use c104_token::{Packet, TokenKind};
 

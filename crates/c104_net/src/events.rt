@@ -1,6 +1,6 @@
 //! The events of a network, over any places of its nodes: one act, or one at each end of a wire.
 ghost use Rattle.std.specs.Prelude.{◌≡◌, map};
-ghost use Rattle.c104_describe.specs.Plans.{IsPlan};
+ghost use Rattle.c104_plan.specs.Plans.{IsPlan};
 ghost use Rattle.c104_net.specs.EventsAtPlaces.{EventDone, told_answer};
 
 use crate::asked::acts_of;

@@ -1,7 +1,7 @@
 //! A place of a network that in contracts keeps a record: where its node started, and what it did since.
 ghost use Rattle.std.specs.Prelude.{◌≡◌};
 ghost use Rattle.c104_token.specs.declared.tokens.Token.{Token as TheToken};
-ghost use Rattle.c104_describe.specs.Plans.{Plan as ThePlan};
+ghost use Rattle.c104_plan.specs.Plans.{Plan as ThePlan};
 ghost use Rattle.c104_net.specs.Nodes.{Node};
 ghost use Rattle.c104_net.specs.Quiet.{IsQuietNode};
 ghost use Rattle.c104_net.specs.RecordedNets.{begun_told, place_told, reading, KeepsRecord};

@@ -10,7 +10,7 @@ use crate::node::NodeOf;
 use crate::recorded::Node;
 use crate::starts::NodeStart;
 use crate::terminal::{TerminalOf, TerminalStart};
-use c104_describe::{Image, Plan};
+use c104_plan::{Image, Plan};
 use c104_switch::{SwitchOf, SwitchStart};
 use c104_token::NoMemory;
 use std::alloc::Global;

@@ -7,8 +7,8 @@ use crate::acts::Entry;
 use crate::bare_net::NetOf;
 use crate::leading::{Lead, event_of, sorted_leads};
 use crate::traced::Traced;
-use c104_describe::Plan;
 use c104_event::Event;
+use c104_plan::Plan;
 use c104_token::{Items, NoMemory};
 use std::alloc::Global;
 

@@ -3,7 +3,7 @@
 //! No list of a round's events is made. Each part walks what its events are about, and leaves out an
 //! event of which the near end says that it isn't ready: it would change nothing.
 ghost use Rattle.std.specs.Prelude.{map, ◌≡◌};
-ghost use Rattle.c104_describe.specs.Plans.{IsPlan};
+ghost use Rattle.c104_plan.specs.Plans.{IsPlan};
 ghost use Rattle.c104_net.specs.EventRuns.{EventsEnd};
 ghost use Rattle.c104_net.specs.Rounds.{round, rounds};
 ghost use Rattle.c104_net.specs.RoundParts.{PartEnds};

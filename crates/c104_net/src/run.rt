@@ -10,7 +10,7 @@ mod origins;
 use crate::acts::Entry;
 use crate::run_parts::RunParts;
 use crate::starts::NodeStart;
-use c104_describe::Plan;
+use c104_plan::Plan;
 use c104_token::Token;
 use std::marker::Model;
 

@@ -20,7 +20,7 @@ use crate::recorded_net::RecordedNet;
 use crate::recorded_place::retire_places;
 use crate::tagged::{TaggedToken, tagged_origins};
 use crate::wires::Wires;
-use c104_describe::Plan;
+use c104_plan::Plan;
 use c104_token::NoMemory;
 use nodes::add_new_nodes;
 use std::alloc::Global;

@@ -1,9 +1,9 @@
 //! The wires of a plan, by port.
 ghost use Rattle.std.specs.Prelude.{◌≡◌, ◌≢◌, ◌<◌, ℕ, Some, None, true, length, IfOk, MatchResult};
 ghost use Rattle.c104_crossbar.specs.Groups.{has_bit};
-ghost use Rattle.c104_describe.specs.declared.ports.Port.TheVariants as port;
-ghost use Rattle.c104_describe.specs.Plans.{IsPlan};
-ghost use Rattle.c104_describe.specs.Wiring.{IsPlanPort};
+ghost use Rattle.c104_plan.specs.declared.ports.Port.TheVariants as port;
+ghost use Rattle.c104_plan.specs.Plans.{IsPlan};
+ghost use Rattle.c104_plan.specs.Wiring.{IsPlanPort};
 ghost use Rattle.c104_net.specs.Ends.{end_of};
 ghost use Rattle.c104_net.specs.FarEnds.{far_end, link_ends, terminal_ends};
 ghost use Rattle.c104_net.specs.Network.{terminal_place, wired_fault};
@@ -12,8 +12,8 @@ ghost use Rattle.c104_net.specs.LinkedSets.{AreLinked};
 ghost use Rattle.c104_regs.specs.declared.registers.TheConstants.{LINKS};
 
 use crate::ends::End;
-use c104_describe::Plan;
 use c104_event::{EventFault, Port};
+use c104_plan::Plan;
 use c104_switch::{LINKS, LinkSet};
 use c104_token::NoMemory;
 use std::alloc::Global;
@@ -32,7 +32,7 @@ pub struct Wires {
 
 impl Model for Wires {
     ghost use Rattle.std.specs.Prelude.{◌≡◌};
-    ghost use Rattle.c104_describe.specs.Plans.{Plan};
+    ghost use Rattle.c104_plan.specs.Plans.{Plan};
     ghost use Rattle.c104_net.specs.FarEnds.{link_ends, terminal_ends};
     ghost use Rattle.std.specs.Prelude.{length};
     ghost use Rattle.c104_net.specs.LinkedSets.{AreLinked};

@@ -5,7 +5,7 @@ use Rattle.std.proofs.lemmas.List.{at_drop_all, get_or-map, length-map}
 use Rattle.c104_token.specs.Text.{spelled_byte}
 use Rattle.c104_script.specs.declared.faults.LineFault.{LineFault}
 use Rattle.c104_script.specs.declared.faults.LineFault.TheVariants as fault
-use Rattle.c104_describe.specs.Checks.{value_or_fault, ◌>>=◌}
+use Rattle.c104_plan.specs.Checks.{value_or_fault, ◌>>=◌}
 use Rattle.c104_script.specs.Script.{bytes_after}
 
 -- the words of lent slices

@@ -4,7 +4,7 @@ use Rattle.std.proofs.lemmas.List.{append-nil}
 use Rattle.std.proofs.KnownBytes.{Consumes-nil, Consumes-trans}
 use mathlib.Core.List.{append_assoc}
 use Rattle.std.specs.Io.KnownBytes.{Consumes, Keeps, IsAtEnd}
-use Rattle.c104_describe.specs.TextCut.{most_bytes}
+use Rattle.c104_plan.specs.TextCut.{most_bytes}
 use Rattle.c104_script.specs.TextLines.{is_line}
 use Rattle.c104_script.specs.Parts.{parts, parts_within, is_script_line, AreOtherLines, TakesByte, TakesFirstPart}
 use Rattle.c104_script.proofs.PartsLaw.{is_feed, line_on, lines_on, no_lines}

@@ -6,7 +6,7 @@ use Rattle.std.proofs.lemmas.List.{append-nil, length-append}
 use Rattle.std.proofs.lemmas.List.Folds.{list_all-append, list_any-append}
 use Rattle.std.proofs.lemmas.Grind.{flat_map-append}
 use mathlib.Core.List.{append_assoc}
-use Rattle.c104_describe.specs.TextCut.{most_bytes}
+use Rattle.c104_plan.specs.TextCut.{most_bytes}
 use Rattle.c104_script.specs.TextLines.{is_line, ended}
 use Rattle.c104_script.specs.Parts.{Parts, parts, parts_within, is_script_line, AreOtherLines, IsParted, HasNoScript, AreParts, AreOnlyParts}
 

@@ -1,7 +1,7 @@
 -- The two parts of a text that comes byte by byte: a description, and a script.
 use Rattle.std.specs.Prelude.{ℕ, zero, suc, ◌+◌, ◌==◌, ◌≡◌, ◌<◌, ◌≤◌, ◌⊎◌, ⊤, Bool, true, false, List, [], ◌∷◌, ◌++◌, length, bytes_eq, codes, if◌then◌else◌, Option, Some, None}
 use Rattle.std.specs.List.{list_all, list_any}
-use Rattle.c104_describe.specs.TextCut.{uncommented_line, line_words, most_bytes}
+use Rattle.c104_plan.specs.TextCut.{uncommented_line, line_words, most_bytes}
 use Rattle.c104_script.specs.TextLines.{is_line, ended}
 
 -- whether the only one of a line's words is `script`

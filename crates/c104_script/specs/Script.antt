@@ -8,18 +8,18 @@ use Rattle.c104_token.specs.declared.faults.TokenFault.TheVariants as token_faul
 use Rattle.c104_token.specs.Text.{spelled_byte, parse_words}
 use Rattle.c104_token.specs.declared.packets.Packet.{Packet}
 use Rattle.c104_control.specs.declared.bytes.TheConstants.{MAX_CONTROL_BYTES}
-use Rattle.c104_describe.specs.declared.text.Dots.{Dots}
-use Rattle.c104_describe.specs.declared.text.Dots.TheVariants.{Without, At, Several}
-use Rattle.c104_describe.specs.declared.ports.Port.{Port}
-use Rattle.c104_describe.specs.declared.ports.Port.TheVariants as port
+use Rattle.c104_plan.specs.declared.text.Dots.{Dots}
+use Rattle.c104_plan.specs.declared.text.Dots.TheVariants.{Without, At, Several}
+use Rattle.c104_plan.specs.declared.ports.Port.{Port}
+use Rattle.c104_plan.specs.declared.ports.Port.TheVariants as port
 use Rattle.c104_event.specs.declared.events.Event.{Event}
 use Rattle.c104_event.specs.declared.events.Event.TheVariants as event
 use Rattle.c104_event.specs.declared.faults.EventFault.{EventFault}
 use Rattle.c104_event.specs.declared.faults.EventFault.TheVariants.{NoNode, NoLink}
-use Rattle.c104_describe.specs.Checks.{◌>>=◌, ◌>>◌, require, value_or_fault}
-use Rattle.c104_describe.specs.TextCut.{uncommented_line, line_words, is_plain_line}
-use Rattle.c104_describe.specs.TextWords.{read_number, dots}
-use Rattle.c104_describe.specs.Plans.{Plan, switch_number, terminal_number}
+use Rattle.c104_plan.specs.Checks.{◌>>=◌, ◌>>◌, require, value_or_fault}
+use Rattle.c104_plan.specs.TextCut.{uncommented_line, line_words, is_plain_line}
+use Rattle.c104_plan.specs.TextWords.{read_number, dots}
+use Rattle.c104_plan.specs.Plans.{Plan, switch_number, terminal_number}
 pub use Rattle.c104_script.specs.declared.faults.LineFault.{LineFault}
 use Rattle.c104_script.specs.declared.faults.LineFault.TheVariants as fault
 pub use Rattle.c104_script.specs.declared.words.Verb.{Verb}

@@ -1,11 +1,11 @@
 //! The two parts of a text: a description, and the script that follows the line `script`.
 ghost use Rattle.std.specs.Prelude.{ℕ, suc, ◌≡◌, ◌+◌, false, List, [], ◌∷◌, ◌++◌, length, map, IfOk, if◌then◌else◌};
 ghost use Rattle.std.specs.Io.KnownBytes.{prepend_known};
-ghost use Rattle.c104_describe.specs.TextCut.{line_words};
+ghost use Rattle.c104_plan.specs.TextCut.{line_words};
 ghost use Rattle.c104_stream.specs.declared.reading.ReadFault.TheVariants as fault;
 ghost use Rattle.c104_script.specs.Parts.{is_script_word, is_script_line, parts, parts_within, AreOnlyParts, StopsBeforeScript, TakesByte, TakesFirstPart};
 
-use c104_describe::{MAX_DESCRIPTION, cut_words, first_word, uncommented};
+use c104_plan::{MAX_DESCRIPTION, cut_words, first_word, uncommented};
 use c104_stream::{Ahead, ReadFault};
 use c104_token::NoMemory;
 use std::alloc::{AllocError, Global};

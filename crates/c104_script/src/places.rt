@@ -4,8 +4,8 @@ ghost use Rattle.c104_script.specs.Script.{input_at, node_with, port_at, switch_
 
 use crate::probes::Probe;
 use crate::words::PlaceWord;
-use c104_describe::Plan;
 use c104_event::{Event, EventFault, Port};
+use c104_plan::Plan;
 
 /// What a line asks of a network.
 #[derive(Debug, Drop)]

@@ -7,7 +7,7 @@ use crate::hex_words::{read_address, read_register};
 use crate::places::{Request, find_input, find_switch};
 use crate::probes::Probe;
 use crate::words::{ProbeVerb, read_place};
-use c104_describe::Plan;
+use c104_plan::Plan;
 
 /// Reads the words after the first.
 pub(crate) fn read_probe(

@@ -6,7 +6,7 @@ ghost use Rattle.c104_script.specs.Script.{bytes_after, number_word, other_verb_
 use crate::faults::LineFault;
 use arrayvec::ArrayVec;
 use c104_control::{ControlBytes, MAX_CONTROL_BYTES};
-use c104_describe::{Dots, find_dots, read_number};
+use c104_plan::{Dots, find_dots, read_number};
 use c104_token::read_byte;
 
 /// What the first word of a line asks for.

@@ -1,5 +1,5 @@
 -- The lines of what a terminal received, packet by packet, with the origins of what arrived at their side.
-use Rattle.c104_describe.specs.Plans.{Plan}
+use Rattle.c104_plan.specs.Plans.{Plan}
 use Rattle.c104_net.proofs.LeadingSteps.{drop_here}
 use Rattle.c104_net.proofs.OriginPieces.{one_origin, piece_origins}
 use Rattle.c104_net.specs.Origins.{AreSure, origins_in}

@@ -1,7 +1,7 @@
 -- A new network into which an image was loaded begins a run as the network that is placed with the image.
 use Rattle.std.proofs.Common.{◌≡◌, ◌↔◌, Bool, IsTrue, Option, Some, Result, Ok, Err, MatchResult, length, sym, subst}
-use Rattle.c104_describe.specs.PlanImage.{Fits, Image}
-use Rattle.c104_describe.specs.Plans.{IsPlan, Plan}
+use Rattle.c104_plan.specs.PlanImage.{Fits, Image}
+use Rattle.c104_plan.specs.Plans.{IsPlan, Plan}
 use Rattle.c104_event.specs.declared.faults.EventFault.TheVariants as event_fault
 use Rattle.c104_net.specs.NetRecords.{IsNetRecord, NetRecord, fresh_record, record_begun_if}
 use Rattle.c104_net.specs.Network.{new_network, placed_network}

@@ -1,7 +1,7 @@
 -- What the debugger answers, as a function of the network.
 use Rattle.std.specs.Prelude.{ℕ, ◌==◌, List, nat_lt, if◌then◌else◌, slice_get, Option, Some, None, Result, Ok, Err}
-use Rattle.c104_describe.specs.Plans.{Plan}
-use Rattle.c104_describe.specs.PlanImage.{Image}
+use Rattle.c104_plan.specs.Plans.{Plan}
+use Rattle.c104_plan.specs.PlanImage.{Image}
 use Rattle.c104_event.specs.declared.faults.EventFault.TheVariants as event_fault
 use Rattle.c104_interval.specs.declared.intervals.Table.{Table}
 use Rattle.c104_net.specs.NetRecords.{NetRecord}

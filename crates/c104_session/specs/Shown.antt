@@ -5,10 +5,10 @@ use Rattle.c104_token.specs.Cut.{whole_pieces}
 use Rattle.c104_switch.specs.Actions.{Reply}
 use Rattle.c104_switch.specs.declared.actions.ReplyOf.TheVariants.{Done}
 use Rattle.c104_event.specs.declared.faults.EventFault.{EventFault}
-use Rattle.c104_describe.specs.Plans.{Plan}
-use Rattle.c104_describe.specs.declared.plans.Terminal.{Terminal}
-use Rattle.c104_describe.specs.PlanImage.{Image}
-use Rattle.c104_describe.specs.PortTexts.{terminal_name}
+use Rattle.c104_plan.specs.Plans.{Plan}
+use Rattle.c104_plan.specs.declared.plans.Terminal.{Terminal}
+use Rattle.c104_plan.specs.PlanImage.{Image}
+use Rattle.c104_plan.specs.PortTexts.{terminal_name}
 use Rattle.c104_net.specs.EventRuns.{run_events}
 use Rattle.c104_net.specs.Deliveries.{arrived_at}
 use Rattle.c104_net.specs.FinishedRecords.{FinishedRecord, record_finish}

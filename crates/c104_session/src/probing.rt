@@ -6,9 +6,9 @@ ghost use Rattle.c104_session.specs.Probing.{difference_answer, link_answer, lin
 ghost use Rattle.c104_tools.specs.NetOutcomes.{net_link, net_poke, net_table, net_verify};
 
 use crate::tools::{link_of_net, poke_net, table_of_net, verify_net};
-use c104_describe::{Image, Plan};
 use c104_event::EventFault;
 use c104_net::TracedNet;
+use c104_plan::{Image, Plan};
 use c104_regs::{LINKS, RegFault};
 use c104_script::{Answer, Finding, FoundTable, Probe};
 use c104_switch::Reply;

@@ -1,8 +1,8 @@
 //! A script, run on the network of a plan.
 ghost use Rattle.std.specs.Prelude.{◌≡◌};
 ghost use Rattle.std.specs.Io.KnownBytes.{prepend_known};
-ghost use Rattle.c104_describe.specs.PlanImage.{Fits, Image as TheImage};
-ghost use Rattle.c104_describe.specs.Plans.{Plan as ThePlan};
+ghost use Rattle.c104_plan.specs.PlanImage.{Fits, Image as TheImage};
+ghost use Rattle.c104_plan.specs.Plans.{Plan as ThePlan};
 ghost use Rattle.c104_session.specs.Runs.{EndsRun, RunsPlan, WritesText, end_text};
 ghost use Rattle.c104_session.specs.Shown.{new_session};
 
@@ -10,8 +10,8 @@ use crate::answering::answer_script;
 use crate::ended::EndedNet;
 use crate::session::{Ended, Session};
 use crate::summary::summary_text;
-use c104_describe::{Image, Plan};
 use c104_explain::{About, Messages, leftover_messages};
+use c104_plan::{Image, Plan};
 use c104_stream::{Ahead, Halt, write_whole};
 use std::alloc::Global;
 use std::io::{Read, Write};

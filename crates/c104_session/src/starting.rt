@@ -1,14 +1,14 @@
 //! A network at the start of a script.
 ghost use Rattle.std.specs.Prelude.{◌≡◌, IfOk};
-ghost use Rattle.c104_describe.specs.PlanImage.{Fits};
+ghost use Rattle.c104_plan.specs.PlanImage.{Fits};
 ghost use Rattle.c104_event.specs.declared.faults.EventFault.TheVariants as event_fault;
 ghost use Rattle.c104_net.specs.NetRecords.{fresh_record};
 ghost use Rattle.c104_net.specs.Network.{new_network, placed_network};
 ghost use Rattle.c104_tools.specs.declared.faults.LoadFault.TheVariants as fault;
 
 use crate::tools::load_net;
-use c104_describe::{Image, Plan};
 use c104_net::TracedNet;
+use c104_plan::{Image, Plan};
 use c104_token::NoMemory;
 use c104_tools::LoadFault;
 use std::alloc::Global;

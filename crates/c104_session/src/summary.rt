@@ -1,7 +1,7 @@
 //! The summary of a run: what arrived at each terminal, and where it came from.
 ghost use Rattle.std.specs.Prelude.{◌≡◌, ◌++◌, ◌<◌, List, IfOk, OnOk, flat_map, length, map, option_to_list};
 ghost use Rattle.std.specs.Global.{Vec as Kept};
-ghost use Rattle.c104_describe.specs.PortTexts.{terminal_name};
+ghost use Rattle.c104_plan.specs.PortTexts.{terminal_name};
 ghost use Rattle.c104_net.specs.Deliveries.{arrived_at};
 ghost use Rattle.c104_net.specs.RunOrigins.{AreOrigins};
 ghost use Rattle.c104_net.specs.Origins.{AreSure, origins_in};
@@ -12,8 +12,8 @@ ghost use Rattle.c104_session.specs.Shown.{origin_text, packet_line, packets_tex
 ghost use Rattle.c104_token.specs.Packets.{packet_tokens};
 
 use crate::ended::EndedNet;
-use c104_describe::Plan;
 use c104_net::Origin;
+use c104_plan::Plan;
 use c104_token::{NoMemory, Packet, Token, cut_packets, print_packet};
 use itoa::Buffer;
 use std::alloc::Global;

@@ -6,9 +6,9 @@ ghost use Rattle.c104_tools.specs.NetCommands.{net_switch_count, net_switches, s
 ghost use Rattle.c104_tools.specs.NetOutcomes.{net_link, net_load, net_poke, net_table, net_verify, EndsSo};
 ghost use Rattle.c104_tools.specs.Outcomes.{Outcome, any_value, table_made, table_peeks};
 
-use c104_describe::Image;
 use c104_interval::Table;
 use c104_net::TracedNet;
+use c104_plan::Image;
 use c104_regs::LINKS;
 use c104_tools::{
     ControlPort, LinkNumbers, LoadFault, load, read_link, read_table, verify, write_register,

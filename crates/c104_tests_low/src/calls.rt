@@ -1,7 +1,8 @@
 //! The calls that tests make of plans and images, with nothing promised. What their contracts say would be facts of
 //! every later goal of a test, and the prover would compute with literal texts. A test fails where a call does.
-use c104_describe::{Image, Plan, Port, hand_image, print_plan, read_description};
+use c104_describe::{print_plan, read_description};
 use c104_label::{LabelFault, image_of, label_cube, label_mesh, label_tree};
+use c104_plan::{Image, Plan, Port, hand_image};
 use c104_regs::PackedSettings;
 use std::alloc::Global;
 

@@ -1,6 +1,6 @@
 use crate::calls::{Maker, drop_plan, image, plan_of};
 use c104_check::{CheckFault, check};
-use c104_describe::{Image, Plan};
+use c104_plan::{Image, Plan};
 use std::alloc::Global;
 
 /// One switch with two terminals, and rows from each to both.

@@ -3,8 +3,8 @@ use c104_check::{
     ChannelDependency, DependencyEdge, RanksOrCycle, SwitchPort, channel_dependencies, check,
     find_cycle,
 };
-use c104_describe::Plan;
 use c104_label::image_of;
+use c104_plan::Plan;
 use c104_token::Items;
 use std::alloc::Global;
 

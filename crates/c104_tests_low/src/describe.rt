@@ -1,5 +1,5 @@
 use crate::calls::{drop_plan, peer, plan_of, printed};
-use c104_describe::{Plan, Port};
+use c104_plan::{Plan, Port};
 use std::alloc::Global;
 
 // These functions promise nothing, since the prover would compute with the literal texts of a description.

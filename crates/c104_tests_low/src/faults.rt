@@ -1,6 +1,7 @@
 use c104_control::CommandFault;
-use c104_describe::{ImageFault, PlanFault, PlanFaultKind};
+use c104_describe::{PlanFault, PlanFaultKind};
 use c104_label::LabelFault;
+use c104_plan::ImageFault;
 use c104_regs::RegFault;
 use c104_token::{NoMemory, TokenFault};
 use std::alloc::{AllocError, Global};

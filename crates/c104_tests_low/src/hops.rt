@@ -1,8 +1,8 @@
 use crate::calls::{Maker, drop_plan, image, peer, plan_of, settings};
 use c104_check::{CheckFault, check};
-use c104_describe::{Image, Plan, Port};
 use c104_interval::Select;
 use c104_label::{label_cube, label_mesh};
+use c104_plan::{Image, Plan, Port};
 use std::alloc::Global;
 
 const MESH: &[u8] = b"mesh 3 2 1\n";

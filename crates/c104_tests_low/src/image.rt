@@ -1,5 +1,5 @@
 use crate::calls::{Maker, described};
-use c104_describe::{Image, ImageFault};
+use c104_plan::{Image, ImageFault};
 use c104_regs::RegFault;
 use std::alloc::Global;
 

@@ -1,7 +1,7 @@
 use crate::calls::{Maker, drop_plan, image, plan_of};
-use c104_describe::Plan;
 use c104_interval::{Row, Select, Table};
 use c104_label::{LabelFault, cube_tables, is_cube, is_mesh, mesh_tables};
+use c104_plan::Plan;
 use std::alloc::Global;
 
 /// A root with two children. Terminals stand out of the order of their links.

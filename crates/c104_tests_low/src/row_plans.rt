@@ -1,5 +1,5 @@
 use crate::calls::{Maker, drop_plan, has_row_plan, image, plan_of};
-use c104_describe::Plan;
+use c104_plan::Plan;
 use std::alloc::Global;
 
 /// Two switches with a terminal each, and a wire between them.

@@ -1,7 +1,7 @@
 -- In a run whose traces tell of no change nobody changed the network, so its switches end as they started.
 use Rattle.c104_check.specs.Routes.{IsAccepted, Routes, routes_of, settings_at, settings_in}
-use Rattle.c104_describe.specs.PlanImage.{Image}
-use Rattle.c104_describe.specs.Plans.{IsPlan, Plan}
+use Rattle.c104_plan.specs.PlanImage.{Image}
+use Rattle.c104_plan.specs.Plans.{IsPlan, Plan}
 use Rattle.c104_event.specs.declared.events.Event.{Event}
 use Rattle.c104_link.proofs.MadeSteps.{All-place}
 use Rattle.c104_net.proofs.EventEntries.{all_events, lone_is}

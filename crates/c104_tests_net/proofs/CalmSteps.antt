@@ -1,9 +1,9 @@
 -- A network that nobody changed stays so by each event that leaves registers as they were, and by rounds.
-use Rattle.c104_describe.proofs.RangeLists.{each_append}
-use Rattle.c104_describe.specs.PlanImage.{Image}
-use Rattle.c104_describe.specs.Plans.{Plan}
-use Rattle.c104_describe.specs.declared.plans.Terminal.{Terminal}
-use Rattle.c104_describe.specs.declared.ports.Port.{Port}
+use Rattle.c104_plan.proofs.RangeLists.{each_append}
+use Rattle.c104_plan.specs.PlanImage.{Image}
+use Rattle.c104_plan.specs.Plans.{Plan}
+use Rattle.c104_plan.specs.declared.plans.Terminal.{Terminal}
+use Rattle.c104_plan.specs.declared.ports.Port.{Port}
 use Rattle.c104_event.specs.declared.events.Event.{Event}
 use Rattle.c104_event.specs.declared.faults.EventFault.{EventFault}
 use Rattle.c104_link.proofs.MadeSteps.{All-place}
@@ -24,7 +24,7 @@ use Rattle.c104_net.specs.declared.crossings.Crossing.{Crossing}
 use Rattle.c104_net.specs.declared.crossings.Crossing.TheVariants as crossing
 use Rattle.c104_net.specs.declared.stamps.Stamp.{Stamp}
 use Rattle.c104_check.specs.Routes.{Routes, routes_of, settings_in}
-use Rattle.c104_describe.specs.Wiring.{peer}
+use Rattle.c104_plan.specs.Wiring.{peer}
 use Rattle.c104_regs.specs.declared.settings.Settings.{Settings}
 use Rattle.c104_switch.specs.Actions.{Reply, is_ready}
 use Rattle.c104_switch.specs.Starts.{SwitchStart}
@@ -40,7 +40,7 @@ use Rattle.c104_net.specs.declared.acts.ActOf.TheVariants as act
 use Rattle.c104_net.specs.declared.starts.NodeStart.TheVariants as start
 use Rattle.c104_switch.specs.declared.actions.ActionOf.TheVariants as action
 use Rattle.c104_switch.specs.declared.actions.ReplyOf.TheVariants as reply
-use Rattle.c104_describe.specs.declared.ports.Port.TheVariants as port
+use Rattle.c104_plan.specs.declared.ports.Port.TheVariants as port
 
 -- an entry that joins the traces
 module _ (routes : Routes) where

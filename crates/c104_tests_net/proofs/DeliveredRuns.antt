@@ -2,8 +2,8 @@
 use Rattle.c104_check.specs.ChannelDependencies.{AreRanksWithin, IsAcyclic, IsNeverRandomized, IsRanking, input_count}
 use Rattle.c104_check.specs.Routes.{IsAccepted, routes_of}
 use Rattle.c104_check.specs.declared.ports.SwitchPort.{SwitchPort}
-use Rattle.c104_describe.specs.PlanImage.{Fits, Image}
-use Rattle.c104_describe.specs.Plans.{Plan}
+use Rattle.c104_plan.specs.PlanImage.{Fits, Image}
+use Rattle.c104_plan.specs.Plans.{Plan}
 use Rattle.c104_event.specs.declared.faults.EventFault.{EventFault}
 use Rattle.c104_net.proofs.WorkBounds.{told_below}
 use Rattle.c104_net.specs.DeadlockFreedom.{IsAcyclicNet, IsAllDelivered, IsFreeOfDeadlock}

@@ -1,7 +1,7 @@
 -- Of a network that was quiet when it was finished, no packet is missing, and none is there twice.
 use Rattle.c104_check.specs.Routes.{IsAccepted, owner, routes_of}
-use Rattle.c104_describe.specs.PlanImage.{Image}
-use Rattle.c104_describe.specs.Plans.{Plan}
+use Rattle.c104_plan.specs.PlanImage.{Image}
+use Rattle.c104_plan.specs.Plans.{Plan}
 use Rattle.c104_net.proofs.OriginPieces.{delivered_origin, received_origins}
 use Rattle.c104_net.specs.Deliveries.{IsDelivered, Promise, arrived_at, has_header, header_of, received, sent_at}
 use Rattle.c104_net.specs.FinishedRecords.{FinishedRecord, record_finish}

@@ -1,7 +1,7 @@
 -- What the theorem about packets says of one received packet, in plain tokens.
 use Rattle.c104_check.specs.Routes.{IsAccepted, Routes, routes_of}
-use Rattle.c104_describe.specs.PlanImage.{Image}
-use Rattle.c104_describe.specs.Plans.{Plan}
+use Rattle.c104_plan.specs.PlanImage.{Image}
+use Rattle.c104_plan.specs.Plans.{Plan}
 use Rattle.c104_label.specs.Images.{IsImageOf}
 use Rattle.c104_net.proofs.NamedOrigins.{sent_plain}
 use Rattle.c104_net.proofs.OriginPieces.{delivered_origin, received_origins}
@@ -33,7 +33,7 @@ use Rattle.std.specs.Prelude.{IfOk}
 use Rattle.std.specs.Global.{Vec as Kept}
 use Rattle.std.proofs.lemmas.Option.{slice_get-map, slice_get_within}
 use Rattle.c104_net.specs.declared.node.NodeOf.TheVariants as node
-use Rattle.c104_describe.specs.declared.ports.Port.TheVariants as port
+use Rattle.c104_plan.specs.declared.ports.Port.TheVariants as port
 
 abbrev token_of : Traced → Token
 token_of x = x.token

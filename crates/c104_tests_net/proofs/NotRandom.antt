@@ -3,10 +3,10 @@
 use Rattle.std.proofs.Common.{List, Some, ap, slice_get, sym, take, true, ℕ, ◌∙◌, ◌≡◌}
 use Rattle.c104_check.specs.ChannelDependencies.{IsNeverRandomized}
 use Rattle.c104_check.specs.Routes.{IsAccepted, Routes, has_label, or_no_settings, routes_of}
-use Rattle.c104_describe.specs.PlanImage.{Image}
-use Rattle.c104_describe.specs.Plans.{Plan}
-use Rattle.c104_describe.specs.declared.ports.Port.{Port}
-use Rattle.c104_describe.specs.declared.ports.Port.TheVariants as port
+use Rattle.c104_plan.specs.PlanImage.{Image}
+use Rattle.c104_plan.specs.Plans.{Plan}
+use Rattle.c104_plan.specs.declared.ports.Port.{Port}
+use Rattle.c104_plan.specs.declared.ports.Port.TheVariants as port
 use Rattle.c104_label.proofs.HeaderLengths.{none_passes}
 use Rattle.c104_net.proofs.RandomOwners.{random_unowned}
 use Rattle.c104_net.specs.Deliveries.{header_of}

@@ -6,9 +6,9 @@
 use Rattle.std.specs.Global.{Vec as Kept}
 use Rattle.std.specs.Prelude.{ℕ, ◌<◌, ◌≡◌, All, List, Some, [], drop, slice_get, true}
 use Rattle.c104_check.specs.Routes.{IsAccepted, IsRandomIn, Routes, has_label, owner, routes_of}
-use Rattle.c104_describe.specs.PlanImage.{Image}
-use Rattle.c104_describe.specs.Plans.{Plan}
-use Rattle.c104_describe.specs.declared.ports.Port.TheVariants as port
+use Rattle.c104_plan.specs.PlanImage.{Image}
+use Rattle.c104_plan.specs.Plans.{Plan}
+use Rattle.c104_plan.specs.declared.ports.Port.TheVariants as port
 use Rattle.c104_event.specs.declared.events.Event.{Event}
 use Rattle.c104_event.specs.declared.events.Event.TheVariants as event
 use Rattle.c104_label.specs.Images.{IsImageOf}

@@ -3,7 +3,7 @@ use Rattle.std.specs.Prelude.{ℕ, ◌<◌, IfOk, Result}
 use Rattle.c104_check.specs.ChannelDependencies.{IsNeverRandomized, IsRanking}
 use Rattle.c104_check.specs.Routes.{routes_of}
 use Rattle.c104_check.specs.declared.ports.SwitchPort.{SwitchPort}
-use Rattle.c104_describe.specs.PlanImage.{Image}
+use Rattle.c104_plan.specs.PlanImage.{Image}
 use Rattle.c104_event.specs.declared.faults.EventFault.{EventFault}
 use Rattle.c104_net.specs.DeadlockFreedom.{IsAcyclicNet, IsAllDelivered}
 use Rattle.c104_net.specs.NetRecords.{NetRecord}

@@ -1,10 +1,11 @@
 //! The calls that tests make of plans, networks and runs, with nothing promised. What their contracts say would be
 //! facts of every later goal of a test, and the prover would compute with literal texts and counts.
 use c104_control::ControlBytes;
-use c104_describe::{Image, Plan, hand_image, read_description};
+use c104_describe::read_description;
 use c104_event::{Event, EventFault};
 use c104_label::image_of;
 use c104_net::{Entry, Net, Reason, Run};
+use c104_plan::{Image, Plan, hand_image};
 use c104_switch::Reply;
 use c104_token::{Packet, Token, parse_packet};
 use c104_tools::{ControlPort, LoadFault, load, verify, write_register};

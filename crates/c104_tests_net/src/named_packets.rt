@@ -7,17 +7,17 @@ ghost use Rattle.std.specs.Prelude.{◌≡◌, ℕ, [], Some, slice_get, true, I
 ghost use Rattle.std.specs.Global.{Vec as Kept};
 ghost use Rattle.c104_check.specs.ChannelDependencies.{IsNeverRandomized};
 ghost use Rattle.c104_check.specs.Routes.{IsAccepted, routes_of};
-ghost use Rattle.c104_describe.specs.PlanImage.{Fits, Image as TheImage};
-ghost use Rattle.c104_describe.specs.Plans.{Plan as ThePlan};
+ghost use Rattle.c104_plan.specs.PlanImage.{Fits, Image as TheImage};
+ghost use Rattle.c104_plan.specs.Plans.{Plan as ThePlan};
 ghost use Rattle.c104_net.specs.FinishedRecords.{record_finish};
 ghost use Rattle.c104_net.specs.declared.origins.Origin.{Origin as TheOrigin};
 ghost use Rattle.c104_tests_net.specs.CalmNets.{IsCalm, IsListed, IsNamed, IsNamedByCheck, IsNamedByLabels, IsNotRandom};
 
 use crate::calls::{drop_plan, drop_run, plan_of};
 use c104_check::check;
-use c104_describe::{Image, Plan};
 use c104_label::{image_of, label_tree};
 use c104_net::{Event, EventFault, Net, Origin, PlaceFault};
+use c104_plan::{Image, Plan};
 use c104_token::{NoMemory, Packet, parse_packet};
 use std::alloc::Global;
 use std::process::Abort;

@@ -4,16 +4,16 @@
 //! packet and at the labels shows that it may be sent, and the theorem names what is received behind the portals.
 ghost use Rattle.std.specs.Prelude.{◌≡◌, take, true, IfOk, IfSome};
 ghost use Rattle.c104_check.specs.Routes.{IsAccepted, routes_of};
-ghost use Rattle.c104_describe.specs.PlanImage.{Fits};
+ghost use Rattle.c104_plan.specs.PlanImage.{Fits};
 ghost use Rattle.c104_switch.specs.Headers.{header_number};
 ghost use Rattle.c104_tests_net.specs.CalmNets.{HasLabel, IsCalm, IsNamedByCheck, IsNotRandom};
 
 use crate::calls::{drop_plan, plan_of};
 use crate::named_packets::{named, placed, rounds, send};
 use c104_check::check;
-use c104_describe::{Image, Plan, Port};
 use c104_label::image_of;
 use c104_net::{Net, Origin};
+use c104_plan::{Image, Plan, Port};
 use c104_token::{Packet, parse_packet};
 use std::alloc::Global;
 use std::test::Fail;

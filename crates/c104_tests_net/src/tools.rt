@@ -4,10 +4,10 @@ use crate::calls::{
     placed_network, retire, rounds, send, verify_image, write,
 };
 use c104_control::ControlBytes;
-use c104_describe::Image;
 use c104_event::EventFault;
 use c104_interval::Table;
 use c104_net::Net;
+use c104_plan::Image;
 use c104_switch::Switch;
 use c104_token::Token;
 use c104_tools::{Asked, ControlPort, LinkNumbers, LoadFault, read_link, read_table};

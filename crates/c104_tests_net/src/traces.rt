@@ -3,8 +3,8 @@ use crate::calls::{
     placed_network, retire, send, trace,
 };
 use c104_control::ControlBytes;
-use c104_describe::Image;
 use c104_net::{Act, Entry, Event, EventFault, Net, Port, Run};
+use c104_plan::Image;
 use c104_switch::{ActionOf, Reply};
 use c104_token::Token;
 use c104_tools::LoadFault;

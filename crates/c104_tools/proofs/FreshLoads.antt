@@ -9,8 +9,8 @@ use Rattle.c104_control.specs.declared.replies.Answer.{Answer}
 use Rattle.c104_control.specs.declared.replies.Answer.TheVariants.{Started, WasReset, Identity, Value, Poked, Refused}
 use Rattle.c104_control.specs.Reading.{read_reply}
 use Rattle.c104_control.specs.Table.{command_bytes}
-use Rattle.c104_describe.specs.PlanImage.{Fits, Image}
-use Rattle.c104_describe.specs.Plans.{IsPlan, Plan}
+use Rattle.c104_plan.specs.PlanImage.{Fits, Image}
+use Rattle.c104_plan.specs.Plans.{IsPlan, Plan}
 use Rattle.c104_event.specs.declared.events.Event.TheVariants as event
 use Rattle.c104_event.specs.declared.faults.EventFault.{EventFault}
 use Rattle.c104_event.specs.declared.faults.EventFault.TheVariants as event_fault

@@ -4,9 +4,9 @@ use Rattle.std.proofs.lemmas.Bool.Decides.{nat_tests}
 use Rattle.c104_token.specs.declared.tokens.Token.{Token}
 use Rattle.c104_token.specs.Kinds.{plain_kind}
 use Rattle.c104_control.specs.Table.{command_bytes}
-use Rattle.c104_describe.specs.declared.plans.Terminal.{Terminal as PlanTerminal}
-use Rattle.c104_describe.specs.PlanImage.{Fits, Image}
-use Rattle.c104_describe.specs.Plans.{Plan}
+use Rattle.c104_plan.specs.declared.plans.Terminal.{Terminal as PlanTerminal}
+use Rattle.c104_plan.specs.PlanImage.{Fits, Image}
+use Rattle.c104_plan.specs.Plans.{Plan}
 use Rattle.c104_event.specs.declared.events.Event.TheVariants as event
 use Rattle.c104_event.specs.declared.faults.EventFault.{EventFault}
 use Rattle.c104_event.specs.declared.faults.EventFault.TheVariants as event_fault

@@ -7,7 +7,7 @@ use Rattle.c104_control.specs.declared.commands.Command.{Command}
 use Rattle.c104_control.specs.declared.commands.Command.TheVariants.{Start, Reset, Identify, CPeek, CPoke}
 use Rattle.c104_control.specs.declared.replies.Answer.TheVariants.{Refused}
 use Rattle.c104_control.specs.Table.{command_bytes, command_format, reply_bytes}
-use Rattle.c104_describe.specs.PlanImage.{AreSettings}
+use Rattle.c104_plan.specs.PlanImage.{AreSettings}
 use Rattle.c104_event.specs.declared.faults.EventFault.{EventFault}
 use Rattle.c104_regs.proofs.KeptPokes.{AreKept}
 use Rattle.c104_regs.proofs.RegisterLemmas.{IsInRange-reset}

@@ -1,7 +1,7 @@
 -- What the loader and the debugger come to on a network whose nodes keep what they do: each as a function of
 -- its record.
 use Rattle.std.specs.Prelude.{◌≡◌, ◌⊎◌, ℕ, List, [], ◌∷◌, Result, Ok, Err, true, if◌then◌else◌, length, nat_eq, nat_lt}
-use Rattle.c104_describe.specs.PlanImage.{Image}
+use Rattle.c104_plan.specs.PlanImage.{Image}
 use Rattle.c104_event.specs.declared.events.Event.TheVariants as event
 use Rattle.c104_event.specs.declared.faults.EventFault.{EventFault}
 use Rattle.c104_event.specs.declared.faults.EventFault.TheVariants as event_fault

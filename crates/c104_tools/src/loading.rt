@@ -11,7 +11,7 @@ use crate::commands::ask;
 use crate::faults::LoadFault;
 use crate::ports::ControlPort;
 use c104_control::Command;
-use c104_describe::{Image, SwitchImage};
+use c104_plan::{Image, SwitchImage};
 
 /// Asks a command that reads nothing of each of `count` switches, in order.
 fn ask_each<P: ControlPort>(port: &mut P, count: usize, command: Command) -> Result<(), LoadFault>

@@ -10,7 +10,7 @@ use crate::commands::ask;
 use crate::faults::LoadFault;
 use crate::ports::ControlPort;
 use c104_control::Command;
-use c104_describe::{Image, SwitchImage};
+use c104_plan::{Image, SwitchImage};
 use c104_regs::{ADDRESS_END, Address};
 
 /// What an address is to read, where it can be written, at a switch with this image.

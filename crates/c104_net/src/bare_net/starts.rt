@@ -11,7 +11,7 @@ use crate::node::starts::add_starts;
 use crate::starts::NodeStart;
 use crate::terminal::TerminalOf;
 use crate::wires::Wires;
-use c104_describe::Plan;
+use c104_plan::Plan;
 use c104_token::{NoMemory, TokenKind};
 use std::alloc::Global;
 

@@ -6,7 +6,7 @@ ghost use Rattle.std.specs.Prelude.{◌≡◌, ◌+◌, ◌*◌, ◌<◌, ◌≤
 ghost use Rattle.c104_check.specs.Ranks.{rank_in};
 ghost use Rattle.c104_check.specs.Walks.{port_of};
 ghost use Rattle.c104_check.specs.declared.ports.SwitchPort.{SwitchPort as TheInput};
-ghost use Rattle.c104_describe.specs.Wiring.{peer};
+ghost use Rattle.c104_plan.specs.Wiring.{peer};
 ghost use Rattle.c104_net.specs.NetRecords.{node_state};
 ghost use Rattle.c104_net.specs.Traces.{part};
 ghost use Rattle.c104_net.specs.Work.{header_held, input_work, inputs_work, level, link_work, node_work, outputs_work};
@@ -19,8 +19,8 @@ use crate::place::Place;
 use crate::recorded::Node;
 use crate::terminal::TerminalOf;
 use c104_check::{Ranks, SwitchPort};
-use c104_describe::Plan;
 use c104_event::Port;
+use c104_plan::Plan;
 use c104_switch::{HeaderBytes, LINKS, Phase, SwitchOf};
 use c104_token::Token;
 

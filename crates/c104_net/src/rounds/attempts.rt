@@ -2,8 +2,8 @@
 //!
 //! A round knows of each of its events that it can happen, and what acts it asks: so an event is tried by its acts.
 ghost use Rattle.std.specs.Prelude.{◌≡◌, ◌<◌, ◌∷◌, [], None, Some, is_some, length, map, true};
-ghost use Rattle.c104_describe.specs.Wiring.{peer};
-ghost use Rattle.c104_describe.specs.declared.ports.Port.TheVariants as port;
+ghost use Rattle.c104_plan.specs.Wiring.{peer};
+ghost use Rattle.c104_plan.specs.declared.ports.Port.TheVariants as port;
 ghost use Rattle.c104_event.specs.declared.events.Event.{Event as TheEvent};
 ghost use Rattle.c104_event.specs.declared.events.Event.TheVariants as event;
 ghost use Rattle.c104_regs.specs.declared.registers.TheConstants.{LINKS};

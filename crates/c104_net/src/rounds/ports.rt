@@ -3,7 +3,7 @@
 //!
 //! The walks are inlined, since each part is a code of its own.
 ghost use Rattle.std.specs.Prelude.{◌≡◌, ◌<◌, ◌≤◌, ℕ, None, false, true, flat_map, length, map, unwrap_or, IfSome, Ok};
-ghost use Rattle.c104_describe.specs.declared.ports.Port.TheVariants as port;
+ghost use Rattle.c104_plan.specs.declared.ports.Port.TheVariants as port;
 ghost use Rattle.c104_regs.specs.declared.registers.TheConstants.{LINKS};
 ghost use Rattle.c104_net.specs.Network.{wired_fault};
 ghost use Rattle.c104_net.specs.EventActs.{port_place};

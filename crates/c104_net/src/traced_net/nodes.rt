@@ -8,7 +8,7 @@ ghost use Rattle.c104_net.specs.TracedRecords.{first_traced};
 use crate::counted::CountedNode;
 use crate::node::NodeOf;
 use crate::terminal::TerminalOf;
-use c104_describe::Plan;
+use c104_plan::Plan;
 use c104_switch::SwitchOf;
 use c104_token::NoMemory;
 use std::alloc::Global;

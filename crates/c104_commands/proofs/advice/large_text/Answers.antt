@@ -1,7 +1,7 @@
 use Rattle.std.proofs.Common.{◌≡◌, ◌-◌, ◌++◌, ℕ, List, IfOk, codes, subst}
 use Rattle.std.specs.Fmt.{decimal}
 use Rattle.std.specs.String.{string_bytes}
-use Rattle.c104_describe.specs.PortTexts.{terminal_name}
+use Rattle.c104_plan.specs.PortTexts.{terminal_name}
 use Rattle.c104_commands.specs.RangeChanges.{header_values}
 use Rattle.c104_commands.proofs.advice.large_text.Goals as goal
 

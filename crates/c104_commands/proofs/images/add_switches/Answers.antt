@@ -1,5 +1,5 @@
 use Rattle.std.proofs.Common.{slice_get}
-use Rattle.c104_describe.specs.PortTexts.{switch_name}
+use Rattle.c104_plan.specs.PortTexts.{switch_name}
 use Rattle.c104_commands.specs.ImageTexts.{value_lines}
 use Rattle.c104_commands.proofs.ImageLines.{lines_next}
 use Rattle.c104_commands.proofs.images.add_switches.Goals as goal

@@ -1,6 +1,6 @@
 use Rattle.std.proofs.Common.{◌≡◌, ◌++◌, take, flat_map}
 use Rattle.std.specs.String.{string_bytes}
-use Rattle.c104_describe.specs.PortTexts.{switch_name}
+use Rattle.c104_plan.specs.PortTexts.{switch_name}
 use Rattle.c104_commands.specs.ImageTexts.{value_line}
 use Rattle.c104_commands.proofs.images.add_values.Given as goal
 

@@ -1,11 +1,11 @@
 use Rattle.std.proofs.Common.{◌≡◌, ◌≤◌, length, Result, Ok, Err, IfOk, subst}
-use Rattle.c104_describe.specs.Plans.{Plan}
-use Rattle.c104_describe.specs.PlanImage.{hand_image}
+use Rattle.c104_plan.specs.Plans.{Plan}
+use Rattle.c104_plan.specs.PlanImage.{hand_image}
 use Rattle.c104_describe.specs.PlanPrint.{plan_text}
 use Rattle.c104_describe.specs.PlanText.{read_description}
-use Rattle.c104_describe.specs.TextCut.{most_bytes}
-use Rattle.c104_describe.specs.RowPlans.{IsOfNetwork}
-use Rattle.c104_describe.specs.declared.plans.Shape.TheVariants.{Hand}
+use Rattle.c104_plan.specs.TextCut.{most_bytes}
+use Rattle.c104_plan.specs.RowPlans.{IsOfNetwork}
+use Rattle.c104_plan.specs.declared.plans.Shape.TheVariants.{Hand}
 use Rattle.c104_commands.proofs.label_rows.rows_text.Goals as goal
 
 -- what holds whatever comes

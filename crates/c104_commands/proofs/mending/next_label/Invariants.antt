@@ -1,6 +1,6 @@
 use Rattle.std.proofs.Common.{◌≤◌, ◌<◌, ◌⊎◌, take, All}
-use Rattle.c104_describe.specs.Plans.{label_count}
-use Rattle.c104_describe.specs.declared.plans.Terminal.{Terminal}
+use Rattle.c104_plan.specs.Plans.{label_count}
+use Rattle.c104_plan.specs.declared.plans.Terminal.{Terminal}
 use Rattle.c104_commands.proofs.mending.next_label.Given as goal
 
 -- none of the ranges so far begins above the header and below the next

@@ -1,5 +1,5 @@
 use Rattle.std.proofs.Common.{◌<◌}
-use Rattle.c104_describe.specs.Plans.{label_count}
+use Rattle.c104_plan.specs.Plans.{label_count}
 use Rattle.c104_commands.proofs.mending.next_random.Given as goal
 
 -- the next is above the header

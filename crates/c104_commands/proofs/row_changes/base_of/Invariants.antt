@@ -1,6 +1,6 @@
 use Rattle.std.proofs.Common.{◌≡◌, drop}
 use Rattle.std.specs.List.{find}
-use Rattle.c104_describe.specs.Plans.{is_base_of}
+use Rattle.c104_plan.specs.Plans.{is_base_of}
 use Rattle.c104_commands.proofs.row_changes.base_of.Given as goal
 
 -- none of the bases so far is of the input

@@ -1,5 +1,5 @@
 use Rattle.std.proofs.Common.{◌∙◌, sym, arith}
-use Rattle.c104_describe.specs.PlanImage.{base_of}
+use Rattle.c104_plan.specs.PlanImage.{base_of}
 use Rattle.c104_commands.proofs.RowTexts.{covering_all, covering_next, covering_same}
 use Rattle.c104_commands.proofs.row_changes.find_covering.Goals as goal
 use Rattle.c104_commands.proofs.row_changes.find_covering.Goals.{then-is_same, else-is_same}

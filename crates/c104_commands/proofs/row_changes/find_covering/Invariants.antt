@@ -1,5 +1,5 @@
-use Rattle.c104_describe.specs.PlanImage.{base_of}
-use Rattle.c104_describe.proofs.PlanTables.{so_far}
+use Rattle.c104_plan.specs.PlanImage.{base_of}
+use Rattle.c104_plan.proofs.PlanTables.{so_far}
 use Rattle.c104_commands.specs.RowSteps.{IsCovering}
 use Rattle.c104_commands.proofs.row_changes.find_covering.Given as goal
 

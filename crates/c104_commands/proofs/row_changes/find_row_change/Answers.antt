@@ -1,6 +1,6 @@
 use Rattle.std.proofs.Common.{subst, sym}
 use Rattle.c104_check.specs.Routes.{to_port}
-use Rattle.c104_describe.specs.PlanImage.{base_of}
+use Rattle.c104_plan.specs.PlanImage.{base_of}
 use Rattle.c104_commands.specs.RowChanges.{input_rows}
 use Rattle.c104_commands.specs.RowSteps.{IsRowChange}
 use Rattle.c104_commands.proofs.RowTables.{row_change_is}

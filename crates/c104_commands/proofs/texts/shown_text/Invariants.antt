@@ -1,7 +1,7 @@
 use Rattle.std.proofs.Common.{◌≡◌, ◌++◌, take, flat_map, codes}
 use Rattle.std.specs.Fmt.{decimal}
 use Rattle.std.specs.String.{string_bytes}
-use Rattle.c104_describe.specs.PortTexts.{terminal_name}
+use Rattle.c104_plan.specs.PortTexts.{terminal_name}
 use Rattle.c104_commands.specs.CheckTexts.{spaced_port}
 use Rattle.c104_commands.proofs.texts.shown_text.Given as goal
 

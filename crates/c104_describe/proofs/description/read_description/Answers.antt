@@ -1,7 +1,7 @@
 use Rattle.c104_describe.specs.PlanDrafts.{draft_of}
 use Rattle.std.proofs.Common.{◌≡◌, Ok, rules, sym, subst}
-use Rattle.c104_describe.specs.Plans.{IsPlan}
-use Rattle.c104_describe.specs.TextCut.{lines}
+use Rattle.c104_plan.specs.Plans.{IsPlan}
+use Rattle.c104_plan.specs.TextCut.{lines}
 use Rattle.c104_describe.specs.PlanText.{read_description, empty_draft, read_plan_lines, GivesPlanOrNoMemory}
 use Rattle.c104_describe.proofs.ClashLaw.{clash_law}
 use Rattle.c104_describe.proofs.PlanDue.{due, faultless_lines}

@@ -1,6 +1,6 @@
 use Rattle.std.proofs.Common.{◌++◌, ◌∙◌, ap}
-use Rattle.c104_describe.specs.Layouts.{cube, wire_at}
-use Rattle.c104_describe.proofs.RangeLists.{flat_next}
+use Rattle.c104_plan.specs.Layouts.{cube, wire_at}
+use Rattle.c104_plan.proofs.RangeLists.{flat_next}
 use Rattle.c104_describe.proofs.fills.add_cube_wires.Goals as goal
 
 pub loop-link-preserved : goal.loop-link-preserved

@@ -1,6 +1,6 @@
 use Rattle.std.proofs.Common.{◌≡◌, ◌++◌}
 use Rattle.std.specs.List.{flat_map, range_with_len}
-use Rattle.c104_describe.specs.Layouts.{cube, wire_at}
+use Rattle.c104_plan.specs.Layouts.{cube, wire_at}
 use Rattle.c104_describe.proofs.fills.add_cube_wires.Given as goal
 
 -- the wires at the links so far have joined the list

@@ -1,6 +1,6 @@
 use Rattle.std.proofs.Common.{[]}
-use Rattle.c104_describe.specs.Layouts.{cube, wires_from}
-use Rattle.c104_describe.proofs.RangeLists.{flat_next}
+use Rattle.c104_plan.specs.Layouts.{cube, wires_from}
+use Rattle.c104_plan.proofs.RangeLists.{flat_next}
 use Rattle.c104_describe.proofs.fills.cube_wires.Goals as goal
 
 pub loop-switch-preserved : goal.loop-switch-preserved

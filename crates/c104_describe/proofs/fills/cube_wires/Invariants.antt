@@ -1,6 +1,6 @@
 use Rattle.std.proofs.Common.{◌≡◌}
 use Rattle.std.specs.List.{flat_map, range_with_len}
-use Rattle.c104_describe.specs.Layouts.{cube, wires_from}
+use Rattle.c104_plan.specs.Layouts.{cube, wires_from}
 use Rattle.c104_describe.proofs.fills.cube_wires.Given as goal
 
 -- the wires of the switches so far are made

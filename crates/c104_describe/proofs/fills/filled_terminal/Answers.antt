@@ -1,6 +1,6 @@
 use Rattle.std.proofs.Common.{◌≡◌, ◌∷◌, true, sym, subst, rules, arith}
 use Rattle.std.specs.Fmt.{decimal}
-use Rattle.c104_describe.specs.TextWords.{is_name}
+use Rattle.c104_plan.specs.TextWords.{is_name}
 use Rattle.c104_describe.proofs.FilledNames.{terminal_named}
 use Rattle.c104_describe.proofs.fills.filled_terminal.Goals as goal
 

@@ -1,10 +1,10 @@
 use Rattle.std.proofs.Common.{◌∷◌, ◌<◌, ◌^◌, ◌∙◌, ap, bytes_eq, arith}
 use Rattle.std.specs.Fmt.{decimal}
 use Rattle.std.specs.List.{list_any}
-use Rattle.c104_describe.specs.Layouts.{filled_terminal}
-use Rattle.c104_describe.specs.Plans.{Terminal}
+use Rattle.c104_plan.specs.Layouts.{filled_terminal}
+use Rattle.c104_plan.specs.declared.plans.Terminal.{Terminal}
 use Rattle.c104_describe.proofs.FilledNames.{numbers_differ}
-use Rattle.c104_describe.proofs.RangeLists.{map_next, none_in_range}
+use Rattle.c104_plan.proofs.RangeLists.{map_next, none_in_range}
 use Rattle.c104_describe.proofs.fills.filled_terminals.Goals as goal
 
 -- the names so far have other numbers

@@ -1,6 +1,6 @@
 use Rattle.std.proofs.Common.{◌≡◌, map}
 use Rattle.std.specs.List.{range_with_len}
-use Rattle.c104_describe.specs.Layouts.{filled_terminal}
+use Rattle.c104_plan.specs.Layouts.{filled_terminal}
 use Rattle.c104_describe.proofs.fills.filled_terminals.Given as goal
 
 -- the terminals so far are made

@@ -1,7 +1,7 @@
 use Rattle.std.proofs.Common.{[]}
-use Rattle.c104_describe.specs.Layouts.{mesh, wires_from}
+use Rattle.c104_plan.specs.Layouts.{mesh, wires_from}
 use Rattle.c104_describe.proofs.FilledSteps.{mesh_next}
-use Rattle.c104_describe.proofs.RangeLists.{flat_next}
+use Rattle.c104_plan.proofs.RangeLists.{flat_next}
 use Rattle.c104_describe.proofs.fills.mesh_wires.Goals as goal
 
 pub loop-switch-preserved : goal.loop-switch-preserved

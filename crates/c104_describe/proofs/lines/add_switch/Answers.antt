@@ -1,6 +1,6 @@
 use Rattle.std.proofs.Common.{◌∙◌, sym}
-use Rattle.c104_describe.specs.PlanParts.{plan_of}
-use Rattle.c104_describe.proofs.PlanNames.{free_switch}
+use Rattle.c104_plan.specs.PlanParts.{plan_of}
+use Rattle.c104_plan.proofs.PlanNames.{free_switch}
 use Rattle.c104_describe.proofs.lines.add_switch.Goals as goal
 
 pub push-requires-clause-free : goal.push-requires-clause-free

@@ -1,8 +1,8 @@
 use Rattle.std.proofs.Common.{◌∙◌, ap, sym, bytes_eq, List, ℕ}
 use Rattle.std.specs.List.{list_any}
-use Rattle.c104_describe.specs.Plans.{Terminal}
-use Rattle.c104_describe.specs.PlanParts.{plan_of}
-use Rattle.c104_describe.proofs.PlanNames.{free_terminal}
+use Rattle.c104_plan.specs.declared.plans.Terminal.{Terminal}
+use Rattle.c104_plan.specs.PlanParts.{plan_of}
+use Rattle.c104_plan.proofs.PlanNames.{free_terminal}
 use Rattle.c104_describe.proofs.lines.add_terminal.Goals as goal
 
 pub push-requires : goal.push-requires

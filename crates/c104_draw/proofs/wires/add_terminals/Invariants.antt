@@ -1,5 +1,5 @@
 use Rattle.std.proofs.Common.{◌≡◌, map, take}
-use Rattle.c104_describe.specs.Wiring.{terminal_wires}
+use Rattle.c104_plan.specs.Wiring.{terminal_wires}
 use Rattle.c104_draw.specs.Drawings.{ordered}
 use Rattle.c104_draw.proofs.wires.add_terminals.Given as goal
 

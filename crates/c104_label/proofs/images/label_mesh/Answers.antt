@@ -3,7 +3,7 @@ use Rattle.c104_check.specs.Routes.{routes_of}
 use Rattle.c104_label.specs.Crossings.{AreCrossings}
 use Rattle.c104_label.proofs.AcceptedMeshes.{mesh_accepted, mesh_crossed}
 use Rattle.c104_label.proofs.MeshRanks.{mesh_acyclic}
-use Rattle.c104_describe.specs.declared.plans.Shape.TheVariants.{Mesh}
+use Rattle.c104_plan.specs.declared.plans.Shape.TheVariants.{Mesh}
 use Rattle.c104_label.proofs.NeverRandomized.{by_shape}
 use Rattle.c104_label.proofs.images.label_mesh.Goals as goal
 

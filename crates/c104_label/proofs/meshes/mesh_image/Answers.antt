@@ -1,8 +1,8 @@
 use Rattle.std.proofs.Common.{◌≡◌, ◌∙◌, ◌*◌, List, map, length, ap, subst, sym, IfOk}
 use Rattle.std.proofs.lemmas.List.FromFn.{length-map-range_with_len}
 use Rattle.c104_interval.specs.declared.intervals.Table.{Table}
-use Rattle.c104_describe.specs.LabelledImages.{labelled_image}
-use Rattle.c104_describe.specs.PlanImage.{Image, range_of}
+use Rattle.c104_plan.specs.LabelledImages.{labelled_image}
+use Rattle.c104_plan.specs.PlanImage.{Image, range_of}
 use Rattle.c104_label.specs.MeshLabels.{mesh_table}
 use Rattle.c104_label.proofs.ShapeTables.{mesh_in_range}
 use Rattle.c104_label.proofs.meshes.mesh_image.Goals as goal

@@ -1,5 +1,5 @@
 use Rattle.std.proofs.Common.{◌∙◌, ap, arith, length, refl}
-use Rattle.c104_describe.proofs.Wires.{wiring}
+use Rattle.c104_plan.proofs.Wires.{wiring}
 use Rattle.c104_label.specs.TreeLabels.{net_of, own_labels}
 use Rattle.c104_label.proofs.FilledTables.{made_next}
 use Rattle.c104_label.proofs.TreeAdded.{own_all}

@@ -1,6 +1,6 @@
 use Rattle.std.proofs.Common.{◌∙◌, ap, length}
 use Rattle.std.proofs.lemmas.List.FromFn.{length-map-range_with_len}
-use Rattle.c104_describe.proofs.Wires.{wiring}
+use Rattle.c104_plan.proofs.Wires.{wiring}
 use Rattle.c104_label.specs.Trees.{forest_of}
 use Rattle.c104_label.specs.TreeLabels.{count_at, switch_table}
 use Rattle.c104_label.proofs.TreeSteps.{image_done, labels_few, plan_few}

@@ -1,6 +1,6 @@
 use Rattle.std.proofs.Common.{◌∙◌, Some, ap, arith, length, ◌-◌, ◌≡◌}
-use Rattle.c104_describe.specs.declared.ports.Port.TheVariants as port
-use Rattle.c104_describe.specs.Plans.{Plan}
+use Rattle.c104_plan.specs.declared.ports.Port.TheVariants as port
+use Rattle.c104_plan.specs.Plans.{Plan}
 use Rattle.c104_net.proofs.FarPorts.{far_terminal}
 use Rattle.c104_net.proofs.asked.far_port.Goals as goal
 

@@ -1,5 +1,5 @@
 use Rattle.std.proofs.Common.{List, Result, map, subst, sym}
-use Rattle.c104_describe.specs.Plans.{Plan}
+use Rattle.c104_plan.specs.Plans.{Plan}
 use Rattle.c104_event.specs.declared.faults.EventFault.{EventFault}
 use Rattle.c104_switch.specs.Actions.{Reply}
 use Rattle.c104_net.specs.AskedActs.{acts_asked}

@@ -1,7 +1,7 @@
 use Rattle.std.proofs.Common.{◌≡◌, ◌∙◌, ◌++◌, ◌∷◌, [], ap, arith, map, refl, rules, take}
 use Rattle.std.proofs.lemmas.List.{append_assoc, map-append}
 use Rattle.c104_token.specs.declared.tokens.Token.{Token}
-use Rattle.c104_describe.specs.declared.plans.Terminal.{Terminal}
+use Rattle.c104_plan.specs.declared.plans.Terminal.{Terminal}
 use Rattle.c104_net.specs.Terminals.{new_terminal}
 use Rattle.c104_net.specs.declared.node.NodeOf.TheVariants as node
 use Rattle.c104_net.specs.declared.starts.NodeStart.TheVariants as start

@@ -3,7 +3,7 @@ use Rattle.c104_net.specs.Network.{network_of}
 use Rattle.c104_net.specs.Standstill.{has_reason}
 use Rattle.c104_net.proofs.StillParts.{left, tested}
 use Rattle.c104_net.proofs.PortWalks.{wired_by}
-use Rattle.c104_describe.specs.declared.ports.Port.TheVariants as port
+use Rattle.c104_plan.specs.declared.ports.Port.TheVariants as port
 use Rattle.c104_net.specs.Places.{states}
 use Rattle.c104_net.proofs.standstill.links_stand.Given as goal
 

@@ -1,6 +1,6 @@
 use Rattle.std.proofs.Common.{◌≡◌, ◌<◌, ℕ}
 use Rattle.c104_crossbar.specs.Groups.{has_bit}
-use Rattle.c104_describe.specs.declared.ports.Port.TheVariants as port
+use Rattle.c104_plan.specs.declared.ports.Port.TheVariants as port
 use Rattle.c104_net.specs.Rounds.{is_wired}
 use Rattle.c104_net.proofs.wires.linked_set.Given as goal
 

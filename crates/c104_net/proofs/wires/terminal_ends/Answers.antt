@@ -1,5 +1,5 @@
 use Rattle.std.proofs.Common.{◌∙◌, ◌++◌, ◌∷◌, [], ap}
-use Rattle.c104_describe.specs.declared.ports.Port.TheVariants as port
+use Rattle.c104_plan.specs.declared.ports.Port.TheVariants as port
 use Rattle.c104_net.specs.FarEnds.{far_end}
 use Rattle.c104_net.proofs.RoundLists.{map_next}
 use Rattle.c104_net.proofs.wires.terminal_ends.Goals as goal

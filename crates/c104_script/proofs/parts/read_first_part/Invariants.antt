@@ -2,7 +2,7 @@
 -- line `script` has not ended
 use Rattle.std.proofs.Common.{◌≡◌, ◌+◌, length}
 use Rattle.std.specs.Io.KnownBytes.{prepend_known}
-use Rattle.c104_describe.specs.TextCut.{most_bytes}
+use Rattle.c104_plan.specs.TextCut.{most_bytes}
 use Rattle.c104_script.proofs.FirstPart.{GivesParts, HasRead}
 use Rattle.c104_script.proofs.parts.read_first_part.Given as goal
 

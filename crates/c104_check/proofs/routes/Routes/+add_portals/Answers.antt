@@ -1,5 +1,5 @@
 use Rattle.std.proofs.Common.{◌-◌, ◌+◌, false, slice_index_or, sym, ap, ◌∙◌, arith}
-use Rattle.c104_describe.specs.declared.ports.Port.TheVariants as port
+use Rattle.c104_plan.specs.declared.ports.Port.TheVariants as port
 use Rattle.c104_check.specs.Portals.{met_from}
 use Rattle.c104_check.specs.Starts.{add_all}
 use Rattle.c104_check.specs.Trails.{routes_in}

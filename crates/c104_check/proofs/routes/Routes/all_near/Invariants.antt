@@ -1,5 +1,5 @@
 use Rattle.std.proofs.Common.{ℕ, ◌≤◌, ◌<◌}
-use Rattle.c104_describe.specs.declared.ports.Port.TheVariants as port
+use Rattle.c104_plan.specs.declared.ports.Port.TheVariants as port
 use Rattle.c104_check.specs.Distances.{IsMarked}
 use Rattle.c104_check.specs.Routes.{Arrives}
 use Rattle.c104_check.specs.Trails.{routes_in}

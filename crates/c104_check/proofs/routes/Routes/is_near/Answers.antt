@@ -1,5 +1,5 @@
 use Rattle.std.proofs.Common.{◌≡◌, ◌<◌, Some, sym, ap, subst, ◌∙◌}
-use Rattle.c104_describe.specs.declared.ports.Port.TheVariants as port
+use Rattle.c104_plan.specs.declared.ports.Port.TheVariants as port
 use Rattle.c104_check.specs.Trails.{routes_in}
 use Rattle.c104_check.specs.Walks.{port_of}
 use Rattle.c104_check.proofs.routes.Routes.is_near.Goals as goal

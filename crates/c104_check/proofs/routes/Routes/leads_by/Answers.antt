@@ -1,5 +1,5 @@
 use Rattle.std.proofs.Common.{◌≡◌, ◌↔◌, ℕ, Some, IfOk, IsTrue, sym, subst, ◌∙◌}
-use Rattle.c104_describe.specs.declared.ports.Port.TheVariants as port
+use Rattle.c104_plan.specs.declared.ports.Port.TheVariants as port
 use Rattle.c104_check.specs.Routes.{Arrives, Leads, to_port}
 use Rattle.c104_check.specs.Trails.{routes_in}
 use Rattle.c104_check.specs.declared.walks.Goal.TheVariants.{Owner}

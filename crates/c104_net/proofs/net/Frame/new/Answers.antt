@@ -1,6 +1,6 @@
 use Rattle.std.proofs.Common.{◌≡◌, ◌∙◌, ℕ, List, ap, length, subst, sym, arith}
 use Rattle.std.specs.Vec.{vec_capacity}
-use Rattle.c104_describe.specs.declared.plans.Terminal.{Terminal}
+use Rattle.c104_plan.specs.declared.plans.Terminal.{Terminal}
 use Rattle.c104_net.specs.FinishedRecords.{HaveRunRoom}
 use Rattle.c104_net.proofs.net.Frame.new.Goals as goal
 

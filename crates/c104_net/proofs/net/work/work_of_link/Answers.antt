@@ -1,8 +1,8 @@
 use Rattle.std.proofs.Common.{Some, ap, length, option_map, slice_get, sym, ℕ, ◌*◌, ◌+◌, ◌∙◌, ◌≡◌}
 use Rattle.c104_check.specs.Walks.{port_of}
 use Rattle.c104_check.specs.declared.ports.SwitchPort.{SwitchPort}
-use Rattle.c104_describe.specs.Plans.{Plan}
-use Rattle.c104_describe.specs.Wiring.{peer}
+use Rattle.c104_plan.specs.Plans.{Plan}
+use Rattle.c104_plan.specs.Wiring.{peer}
 use Rattle.c104_link.specs.Buffers.{Outgoing}
 use Rattle.c104_net.specs.Traces.{part}
 use Rattle.c104_net.specs.Work.{header_held, input_work, level, link_work, told_work, weigh}
@@ -14,7 +14,7 @@ use Rattle.c104_switch.specs.declared.actions.LinkView.{LinkView}
 use Rattle.c104_token.specs.Kinds.{plain_kind}
 use Rattle.c104_token.specs.Tokens.{byte_of}
 use Rattle.c104_token.specs.declared.tokens.Token.{Token}
-use Rattle.c104_describe.specs.declared.ports.Port.TheVariants as port
+use Rattle.c104_plan.specs.declared.ports.Port.TheVariants as port
 use Rattle.c104_net.proofs.net.work.work_of_link.Goals as goal
 
 pub returns : goal.returns

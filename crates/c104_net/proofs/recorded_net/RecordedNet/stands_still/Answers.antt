@@ -1,7 +1,7 @@
 use Rattle.std.proofs.Common.{◌≡◌, ◌∙◌, subst, sym}
 use Rattle.c104_token.specs.declared.tokens.Token.{Token}
 use Rattle.c104_token.specs.Kinds.{plain_kind}
-use Rattle.c104_describe.specs.Plans.{IsPlan}
+use Rattle.c104_plan.specs.Plans.{IsPlan}
 use Rattle.c104_net.specs.NetRecords.{IsNetRecord, NetRecord}
 use Rattle.c104_net.specs.Network.{Network}
 use Rattle.c104_net.specs.Rounds.{round}

@@ -1,5 +1,5 @@
 use Rattle.std.proofs.Common.{◌∙◌, Ok, false, sym, map}
-use Rattle.c104_describe.specs.declared.ports.Port.TheVariants as port
+use Rattle.c104_plan.specs.declared.ports.Port.TheVariants as port
 use Rattle.c104_net.specs.Stages.{stage_apply, stage_of, Stage}
 use Rattle.c104_net.proofs.PortWalks.{at_unwired, at_wired}
 use Rattle.c104_net.proofs.rounds.ports.try_terminal.Goals as goal

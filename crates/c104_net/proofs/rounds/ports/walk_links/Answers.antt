@@ -1,5 +1,5 @@
 use Rattle.std.proofs.Common.{Err, Ok, arith, map}
-use Rattle.c104_describe.specs.declared.ports.Port.TheVariants as port
+use Rattle.c104_plan.specs.declared.ports.Port.TheVariants as port
 use Rattle.c104_net.specs.Stages.{stage_apply, stage_of}
 use Rattle.c104_net.proofs.PartRuns.{number_next, number_stops, numbers_done, numbers_passed}
 use Rattle.c104_net.proofs.PortWalks.{at_wired, of_links, wired_by}

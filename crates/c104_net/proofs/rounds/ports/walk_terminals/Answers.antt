@@ -1,7 +1,7 @@
 use Rattle.std.proofs.Common.{Err, Ok, arith, length, map}
 use Rattle.c104_net.specs.Stages.{stage_apply, stage_of}
 use Rattle.c104_net.proofs.PartRuns.{number_next, number_stops, numbers_done}
-use Rattle.c104_describe.specs.declared.ports.Port.TheVariants as port
+use Rattle.c104_plan.specs.declared.ports.Port.TheVariants as port
 use Rattle.c104_net.proofs.PortWalks.{of_terminals, wired_by}
 use Rattle.c104_net.proofs.RoundRuns.{err_is}
 use Rattle.c104_net.proofs.rounds.ports.walk_terminals.Goals as goal

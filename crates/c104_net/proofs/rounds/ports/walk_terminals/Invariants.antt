@@ -2,7 +2,7 @@ use Rattle.std.proofs.Common.{length, take, Ok, map}
 use Rattle.std.specs.List.{flat_map, range_with_len}
 use Rattle.c104_net.specs.Stages.{stage_apply, stage_of}
 use Rattle.c104_net.specs.RoundParts.{PartEnds}
-use Rattle.c104_describe.specs.declared.ports.Port.TheVariants as port
+use Rattle.c104_plan.specs.declared.ports.Port.TheVariants as port
 use Rattle.c104_net.proofs.PortWalks.{wired_by}
 use Rattle.c104_net.proofs.rounds.ports.walk_terminals.Given as goal
 

@@ -1,5 +1,5 @@
 use Rattle.std.proofs.Common.{subst}
-use Rattle.c104_describe.specs.Plans.{IsPlan}
+use Rattle.c104_plan.specs.Plans.{IsPlan}
 use Rattle.c104_net.specs.DeadlockFreedom.{EndsWithoutDeadlock}
 use Rattle.c104_net.specs.FinishedRecords.{FinishedRecord}
 use Rattle.c104_net.proofs.BeginsStarted.{run_stands}

@@ -1,7 +1,7 @@
 use Rattle.std.proofs.Common.{List, Ok, OnOk, Result, map, subst, sym, ℕ, ◌≡◌}
 use Rattle.c104_token.specs.declared.faults.NoMemory.{NoMemory}
 use Rattle.std.specs.Global.{Vec as Kept}
-use Rattle.c104_describe.specs.Plans.{IsPlan, Plan}
+use Rattle.c104_plan.specs.Plans.{IsPlan, Plan}
 use Rattle.c104_net.specs.Terminals.{Terminal}
 use Rattle.c104_token.specs.declared.tokens.Token.{Token}
 use Rattle.c104_net.specs.FinishedRecords.{FinishedRecord}

@@ -1,6 +1,6 @@
 use Rattle.std.proofs.Common.{◌<◌, ◌∙◌, None, length, ap, arith}
 use Rattle.std.proofs.lemmas.List.{get_or_read}
-use Rattle.c104_describe.specs.declared.ports.Port.TheVariants as port
+use Rattle.c104_plan.specs.declared.ports.Port.TheVariants as port
 use Rattle.c104_net.specs.FarEnds.{far_end}
 use Rattle.c104_net.proofs.FarEndLists.{links_counted, link_at}
 use Rattle.c104_net.proofs.wires.Wires.end_of_link.Goals as goal

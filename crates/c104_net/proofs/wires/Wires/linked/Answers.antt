@@ -1,8 +1,8 @@
 use Rattle.std.proofs.Common.{◌<◌, ◌∙◌, ap, arith, length, subst, sym}
 use Rattle.std.proofs.lemmas.List.{get_or_read}
 use Rattle.c104_crossbar.specs.Groups.{has_bit}
-use Rattle.c104_describe.specs.declared.ports.Port.TheVariants as port
-use Rattle.c104_describe.specs.Plans.{IsPlan}
+use Rattle.c104_plan.specs.declared.ports.Port.TheVariants as port
+use Rattle.c104_plan.specs.Plans.{IsPlan}
 use Rattle.c104_net.specs.Rounds.{is_wired}
 use Rattle.c104_net.proofs.WiredPorts.{has_wire}
 use Rattle.c104_net.proofs.wires.Wires.linked.Goals as goal

@@ -1,5 +1,5 @@
 use Rattle.std.proofs.Common.{ap, length, map, ◌*◌, ◌∙◌, ◌≡◌}
-use Rattle.c104_describe.specs.Plans.{Plan}
+use Rattle.c104_plan.specs.Plans.{Plan}
 use Rattle.c104_net.specs.NetRecords.{NetRecord, node_state}
 use Rattle.c104_net.specs.Work.{told_work, work, work_bound}
 use Rattle.c104_net.proofs.net.work.Net.work_bound.Goals as goal

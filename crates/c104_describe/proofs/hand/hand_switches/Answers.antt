@@ -1,6 +1,0 @@
-use Rattle.c104_describe.specs.PlanImage.{switch_settings}
-use Rattle.c104_describe.proofs.PlanSettings.{made_next}
-use Rattle.c104_describe.proofs.hand.hand_switches.Goals as goal
-
-pub loop-switch-preserved : goal.loop-switch-preserved
-loop-switch-preserved c = made_next (switch_settings c.args.plan.now) c.loop-switch.switch _ _ _ c.loop-switch.invariant c.in_ok-push.ensures.items c.in_ok-hand_switch.ensures

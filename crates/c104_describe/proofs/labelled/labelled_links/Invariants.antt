@@ -1,8 +1,0 @@
-use Rattle.std.proofs.Common.{◌≡◌, map}
-use Rattle.std.specs.List.{range_with_len}
-use Rattle.c104_describe.proofs.LabelledSettings.{labelled_at}
-use Rattle.c104_describe.proofs.labelled.labelled_links.Given as goal
-
--- the settings of the links so far are made
-abbrev pub invariant-loop-link : goal.invariant-loop-link
-invariant-loop-link l = l.settings.items ≡ map (labelled_at l.plan l.table l.switch) (range_with_len 0 l.link)

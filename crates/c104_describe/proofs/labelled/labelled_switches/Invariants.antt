@@ -1,8 +1,0 @@
-use Rattle.std.proofs.Common.{◌≡◌, map}
-use Rattle.std.specs.List.{range_with_len}
-use Rattle.c104_describe.proofs.LabelledSettings.{switch_by}
-use Rattle.c104_describe.proofs.labelled.labelled_switches.Given as goal
-
--- the switches so far are made
-abbrev pub invariant-loop-switch : goal.invariant-loop-switch
-invariant-loop-switch l = l.switches.items ≡ map (switch_by l.plan l.tables) (range_with_len 0 l.switch)

@@ -1,8 +1,0 @@
-use Rattle.std.proofs.Common.{◌≡◌}
-use Rattle.c104_describe.specs.PlanParts.{plan_of}
-use Rattle.c104_describe.specs.RowPlans.{links_given}
-use Rattle.c104_describe.proofs.row_plan.give_links.Given as goal
-
--- the lines of the links so far are there
-abbrev pub invariant-loop-link : goal.invariant-loop-link
-invariant-loop-link l = plan_of l.parts ≡ links_given l.switch l.settings l.link (plan_of l.fn.parts)

@@ -1,6 +1,0 @@
-use Rattle.std.proofs.Common.{◌≡◌, take}
-use Rattle.c104_describe.proofs.same_image.are_same_links.Given as goal
-
--- the links so far are the same
-abbrev pub invariant-loop-number : goal.invariant-loop-number
-invariant-loop-number l = take l.number l.settings ≡ take l.number l.others

@@ -1,5 +1,0 @@
-use Rattle.c104_describe.proofs.SwitchImageSteps.{kept_map}
-use Rattle.c104_describe.proofs.switch_image.SwitchImage.values.Goals as goal
-
-pub returns-clause-map : goal.returns-clause-map
-returns-clause-map c = rw (c.as_slice.ensures.value, ← c.self.view_is) (kept_map c.self.inside.registers c.self.inside.values.items c.self.invariant)

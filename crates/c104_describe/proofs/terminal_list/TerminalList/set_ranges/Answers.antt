@@ -1,8 +1,0 @@
-use Rattle.std.proofs.Common.{◌∙◌, ap, map, sym}
-use Rattle.c104_describe.specs.Plans.{Terminal}
-use Rattle.c104_describe.proofs.RowPlanSteps.{names-with_ranges}
-use Rattle.c104_describe.proofs.terminal_list.TerminalList.set_ranges.Goals as goal
-
--- the terminals have the names that they had
-pub invariant_of-self : goal.invariant_of-self
-invariant_of-self c = c.self.invariant ∙ sym (names-with_ranges c.args.ranges.now c.self.inside.list.items) ∙ ap (map (λ (t : Terminal). t.name)) (sym c.set_ranges.ensures)

@@ -1,8 +1,0 @@
-use Rattle.std.proofs.Common.{◌≡◌, drop}
-use Rattle.c104_describe.specs.Ports.{other_end}
-use Rattle.c104_describe.specs.Wiring.{terminal_wires}
-use Rattle.c104_describe.proofs.wiring.end_of_terminal_wire.Given as goal
-
--- none of the terminals so far has a wire to the port
-abbrev pub invariant-loop-number : goal.invariant-loop-number
-invariant-loop-number l = other_end (terminal_wires l.number (drop l.number l.terminals)) l.port ≡ other_end (terminal_wires 0 l.terminals) l.port

@@ -1,7 +1,0 @@
-use Rattle.std.proofs.Common.{◌≡◌, drop}
-use Rattle.c104_describe.specs.Ports.{other_end}
-use Rattle.c104_describe.proofs.wiring.end_of_wire.Given as goal
-
--- none of the wires so far has the port
-abbrev pub invariant-loop-wire : goal.invariant-loop-wire
-invariant-loop-wire l = other_end (drop l.wire-index l.wires) l.port ≡ other_end l.wires l.port

@@ -1,0 +1,116 @@
+-- A value set in one switch of an image, as the whole image has it.
+use Rattle.std.proofs.Common.{◌≡◌, ◌≢◌, ◌⊎◌, inl, inr, ℕ, ◌<◌, Some, Result, Ok, Err, OnErr, OnOk, List, get_or, length, option_map, set, slice_get, refl, sym, ap, ◌∙◌, subst}
+use Rattle.std.proofs.lemmas.Bool.{cases_eq, cases_lt}
+use Rattle.std.proofs.lemmas.List.{get_or-set_other, get_or-set_same, length-set, set-get_or}
+use Rattle.std.proofs.lemmas.List.Elements.{All-set}
+use Rattle.std.proofs.lemmas.Option.{get_or_from_slice_get, slice_get-get_or, slice_get_past, slice_get_within}
+use Rattle.c104_regs.specs.declared.faults.RegFault.{RegFault}
+use Rattle.c104_regs.specs.declared.settings.Settings.{Settings}
+use Rattle.c104_regs.specs.Registers.{RegisterBank, bank_peek, placed_bank, settable}
+use Rattle.c104_regs.proofs.PlacedPokes.{poke_refused, poke_taken}
+use Rattle.c104_plan.specs.declared.image_faults.ImageFault.{ImageFault}
+use Rattle.c104_plan.specs.declared.image_faults.ImageFault.TheVariants as fault
+use Rattle.c104_plan.specs.ImageEdits.{AnswersDue, image_peek, image_set, poke_answer, settings_set}
+use Rattle.c104_plan.specs.PlanImage.{AreSettings, Image, IsImage}
+
+abbrev image_of : List (ℕ × ℕ) → List (List Settings) → Image
+image_of ranges settings = record { ranges = ranges; settings = settings }
+
+-- what stands at another place
+other_at : {X : Type 0} (xs : List X) (i j : ℕ) (y d : X) → j ≢ i → slice_get (set xs i y) j ≡ slice_get xs j
+other_at xs i j y d differs = elim (cases_lt j (length xs)) [
+  | inl inside ↦ slice_get-get_or (set xs i y) j d (rw length-set inside) ∙ ap Some (get_or-set_other xs i j y d differs) ∙ sym (slice_get-get_or xs j d inside)
+  | inr past ↦ slice_get_past (set xs i y) j (rw length-set past) ∙ sym (slice_get_past xs j past)
+]
+
+module _ (ranges : List (ℕ × ℕ)) (xs : List (List Settings)) (i a v : ℕ) (x y : List Settings) (r : Result (Unit {0}) ImageFault) (at : slice_get xs i ≡ Some x) where
+  -- the switch's settings put back
+  put_back : set xs i x ≡ xs
+  put_back = ap (set xs i) (sym (get_or_from_slice_get xs i x x at)) ∙ set-get_or xs i x
+
+  here_after : slice_get (set xs i y) i ≡ Some y
+  here_after =
+      let inside : i < length xs = slice_get_within xs i x at in
+      slice_get-get_or (set xs i y) i y (rw length-set inside) ∙ ap Some (get_or-set_same xs i y y inside)
+
+  abbrev image : Image
+  image = image_of ranges xs
+
+  abbrev after : Image
+  after = image_of ranges (set xs i y)
+
+  abbrev with : Result (Unit {0}) ImageFault × List Settings → Result (Unit {0}) ImageFault × Image
+  with p = (p.0, image_of ranges (set xs i p.1))
+
+  pub answered : AnswersDue x (settings_set x a v) r y → AnswersDue image (image_set image i a v) r after
+  answered (inl same) = inl (rw at (ap with same))
+  answered (inr (refused, due, same)) = inr (refused, rw at due, ap (λ z. image_of ranges (set xs i z)) same ∙ ap (image_of ranges) put_back)
+
+  -- the fault of a register is that of its address and value
+  fault_by : (e : RegFault) (s : Result (Unit {0}) RegFault) → settable a v ≡ s → r ≡ (settings_set x a v).0 → r ≡ Err (fault.Register e) → settable a v ≡ Err e
+  fault_by e (Ok u) is same refused =
+      let done : (settings_set x a v).0 ≡ Ok tt = ap poke_answer (poke_taken a v x is) in
+      let both : ◌≡◌ {A = Result (Unit {0}) ImageFault} (Ok tt) (Err (fault.Register e)) = sym done ∙ sym same ∙ refused in
+      cc
+  fault_by e (Err f) is same refused =
+      let told : (settings_set x a v).0 ≡ Err (fault.Register f) = ap (λ (p : Result (Unit {0}) RegFault × RegisterBank). poke_answer p.0) (poke_refused a v (placed_bank x) f is) in
+      let both : ◌≡◌ {A = Result (Unit {0}) ImageFault} (Err (fault.Register f)) (Err (fault.Register e)) = sym told ∙ sym same ∙ refused in
+      let one : f ≡ e = cc in
+      is ∙ ap Err one
+
+  pub fault_is : AnswersDue x (settings_set x a v) r y → (e : RegFault) → r ≡ Err (fault.Register e) → settable a v ≡ Err e
+  fault_is (inl same) e refused = fault_by e (settable a v) refl (ap (λ (p : Result (Unit {0}) ImageFault × List Settings). p.0) same) refused
+  fault_is (inr (none, due, same)) e refused =
+      let both : ◌≡◌ {A = Result (Unit {0}) ImageFault} (Err fault.NoMemory) (Err (fault.Register e)) = sym none ∙ refused in
+      cc
+
+  -- what the address reads afterwards, and what every other does
+  pub written_at : OnOk r (bank_peek (placed_bank y) a ≡ Ok v) → OnOk r (image_peek after i a ≡ Some (Ok v))
+  written_at reads = on r reads
+    where
+      on : (r : Result (Unit {0}) ImageFault) → OnOk r (bank_peek (placed_bank y) a ≡ Ok v) → OnOk r (image_peek after i a ≡ Some (Ok v))
+      on (Ok u) reads = rw here_after (ap Some reads)
+      on (Err e) reads = tt
+
+  abbrev Others : Type 0
+  Others = (c : ℕ) → c ≢ a → bank_peek (placed_bank y) c ≡ bank_peek (placed_bank x) c
+
+  abbrev AllOthers : Type 0
+  AllOthers = (s c : ℕ) → (s ≢ i) ⊎ (c ≢ a) → image_peek after s c ≡ image_peek image s c
+
+  here_as_before : (c : ℕ) → c ≢ a → Others → image_peek after i c ≡ image_peek image i c
+  here_as_before c differs others = rw (here_after, at) (ap Some (others c differs))
+
+  all_others : Others → AllOthers
+  all_others others s c (inl elsewhere) = ap (λ o. option_map (λ settings. bank_peek (placed_bank settings) c) o) (other_at xs i s y y elsewhere)
+  all_others others s c (inr differs) = elim (cases_eq s i) [
+    | inl same ↦ subst (λ n. image_peek after n c ≡ image_peek image n c) (sym same) (here_as_before c differs others)
+    | inr elsewhere ↦ all_others_at others s c elsewhere
+  ]
+    where
+      all_others_at : Others → (s c : ℕ) → s ≢ i → image_peek after s c ≡ image_peek image s c
+      all_others_at others s c elsewhere = ap (λ o. option_map (λ settings. bank_peek (placed_bank settings) c) o) (other_at xs i s y y elsewhere)
+
+  pub others_at : OnOk r Others → OnOk r AllOthers
+  others_at others = on r others
+    where
+      on : (r : Result (Unit {0}) ImageFault) → OnOk r Others → OnOk r AllOthers
+      on (Ok u) others = all_others others
+      on (Err e) others = tt
+
+  -- what the image keeps
+  pub kept_image : OnOk r (AreSettings y) → OnErr r (y ≡ x) → IsImage image → IsImage after
+  kept_image made unchanged kept = record {
+    switches = All-set AreSettings xs i y (on r made unchanged) kept.switches;
+    ranges = kept.ranges;
+  }
+    where
+      on : (r : Result (Unit {0}) ImageFault) → OnOk r (AreSettings y) → OnErr r (y ≡ x) → AreSettings y
+      on (Ok u) made unchanged = made
+      on (Err e) made unchanged =
+          let inside : i < length xs = slice_get_within xs i x at in
+          subst AreSettings (get_or_from_slice_get xs i x x at ∙ sym unchanged) (kept.switches i x inside)
+
+-- an element that was found at a place is there
+pub found_at : {X : Type 0} (xs : List X) (i : ℕ) (x : X) → i < length xs → x ≡ get_or xs i x → slice_get xs i ≡ Some x
+found_at xs i x inside is = slice_get-get_or xs i x inside ∙ ap Some (sym is)

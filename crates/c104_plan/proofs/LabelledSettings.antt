@@ -1,0 +1,76 @@
+-- What is set at the links of switches whose tables are given.
+use Rattle.std.proofs.Common.{◌≡◌, ℕ, ◌<◌, Bool, true, false, if◌then◌else◌, List, length, map, get_or, All, ap, ◌∙◌, arith, is_some}
+use Rattle.std.proofs.lemmas.List.{get_or_default}
+use Rattle.std.proofs.lemmas.List.Elements.{All-map, All-same}
+use Rattle.std.proofs.lemmas.List.FromFn.{get_or-range_with_len, length-range_with_len, length-map-range_with_len}
+use Rattle.std.specs.List.{range_with_len}
+use Rattle.c104_interval.specs.declared.intervals.Table.{Table}
+use Rattle.c104_interval.specs.Selection.{reset_table}
+use Rattle.c104_regs.specs.Ranges.{IsInRange, IsTableInRange}
+use Rattle.c104_regs.proofs.RangeNumbers.{IsInRange-from}
+use Rattle.c104_regs.specs.declared.settings.Settings.{Settings}
+use Rattle.c104_plan.specs.declared.ports.Port.TheVariants as port
+use Rattle.c104_plan.specs.Ports.{Port}
+use Rattle.c104_plan.specs.Plans.{IsPlan, IsRange, Plan}
+use Rattle.c104_plan.specs.PlanImage.{AreSettings, Fits, Image, IsImage, settings_of}
+use Rattle.c104_plan.specs.Wiring.{peer}
+use Rattle.c104_plan.specs.LabelledImages.{labelled_settings, labelled_switch, table_in}
+use Rattle.c104_plan.proofs.PlanSettings.{random_in_range, settings_in_range}
+
+-- what is set at a link of a switch with a table
+abbrev pub labelled_at : Plan → Table → ℕ → ℕ → Settings
+labelled_at plan table switch link = labelled_settings plan table (port.Switch switch link)
+
+-- the settings of all links, after the last
+pub labelled_last : (plan : Plan) (table : Table) (switch links : ℕ) → links ≡ 32 → map (labelled_at plan table switch) (range_with_len 0 links) ≡ labelled_switch plan table switch
+unfolding labelled_switch
+labelled_last plan table switch links all = ap (λ n. map (labelled_at plan table switch) (range_with_len 0 n)) all
+
+with_table_in_range : (plan : Plan) (p : Port) (table : Table) → IsPlan plan → IsTableInRange table → IsInRange (record (settings_of plan p) { table = table })
+with_table_in_range plan p table kept within =
+    let numbers = random_in_range plan p kept in
+    IsInRange-from (record (settings_of plan p) { table = table }) numbers.0 numbers.1 within
+
+if_in_range : (used : Bool) (a b : Settings) → IsInRange a → IsInRange b → IsInRange (if used then a else b)
+if_in_range true a b here there = here
+if_in_range false a b here there = there
+
+labelled_in_range : (plan : Plan) (p : Port) (table : Table) → IsPlan plan → IsTableInRange table → IsInRange (labelled_settings plan table p)
+unfolding labelled_settings
+labelled_in_range plan p table kept within =
+    if_in_range (is_some (peer plan p)) _ _ (with_table_in_range plan p table kept within) (settings_in_range plan p kept)
+
+-- a switch has settings for each of its links
+pub are_labelled : (plan : Plan) (table : Table) (switch : ℕ) → IsPlan plan → IsTableInRange table → AreSettings (labelled_switch plan table switch)
+unfolding labelled_switch
+are_labelled plan table switch kept within = (
+  length-map-range_with_len (labelled_at plan table switch) 0 32,
+  All-map IsInRange (labelled_at plan table switch) (range_with_len 0 32) (λ k d inside. labelled_in_range plan (port.Switch switch (get_or (range_with_len 0 32) k d)) table kept within),
+)
+
+-- and so has each switch
+abbrev pub switch_by : Plan → List Table → ℕ → List Settings
+switch_by plan tables switch = labelled_switch plan (table_in tables switch) switch
+
+pub switch_here : (plan : Plan) (tables : List Table) (k : ℕ) (d : Table) (settings : List Settings) → k < length tables → settings ≡ labelled_switch plan (get_or tables k d) k → settings ≡ switch_by plan tables k
+switch_here plan tables k d settings inside is = is ∙ ap (λ (t : Table). labelled_switch plan t k) (get_or_default tables k d reset_table inside)
+
+switch_at : (plan : Plan) (tables : List Table) (n k d : ℕ) → IsPlan plan → length tables ≡ n → All IsTableInRange tables → k < length (range_with_len 0 n) → AreSettings (switch_by plan tables (get_or (range_with_len 0 n) k d))
+switch_at plan tables n k d kept many all inside =
+    let below : k < n = omega (arith, inside, length-range_with_len 0 n) in
+    let at : get_or (range_with_len 0 n) k d ≡ k = get_or-range_with_len 0 n k d below ∙ omega arith in
+    rw at (are_labelled plan (table_in tables k) k kept (all k reset_table (omega (arith, below, many))))
+
+pub labelled_kept : (plan : Plan) (ranges : List (ℕ × ℕ)) (tables : List Table) (settings : List (List Settings)) → IsPlan plan → All (λ (range : ℕ × ℕ). IsRange range.0 range.1) ranges → length tables ≡ length plan.switches → All IsTableInRange tables
+    → settings ≡ map (switch_by plan tables) (range_with_len 0 (length plan.switches)) → IsImage (record { ranges = ranges; settings = settings })
+labelled_kept plan ranges tables settings kept are many all same = record {
+  switches = All-same AreSettings settings (map (switch_by plan tables) (range_with_len 0 (length plan.switches))) same
+      (All-map AreSettings (switch_by plan tables) (range_with_len 0 (length plan.switches)) (λ k d inside. switch_at plan tables (length plan.switches) k d kept many all inside));
+  ranges = are;
+}
+
+pub labelled_fits : (plan : Plan) (tables : List Table) (image : Image) → length image.ranges ≡ length plan.terminals → image.settings ≡ map (switch_by plan tables) (range_with_len 0 (length plan.switches)) → Fits image plan
+labelled_fits plan tables image ranges settings = record {
+  ranges = ranges;
+  settings = ap length settings ∙ length-map-range_with_len (switch_by plan tables) 0 (length plan.switches);
+}

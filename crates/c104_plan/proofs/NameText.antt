@@ -1,0 +1,27 @@
+-- A name is text.
+use Rattle.std.proofs.Common.{◌≡◌, ℕ, zero, suc, ◌<◌, true, List, [], ◌∷◌, arith, ◌&&◌, ◌||◌, ◌==◌, length, nat_lt}
+use Rattle.std.proofs.lemmas.Bool.{and_parts}
+use Rattle.std.proofs.lemmas.Bool.Decides.{nat_tests}
+use Rattle.std.specs.List.{list_all}
+use Rattle.std.specs.Str.{IsAscii, IsUtf8}
+use Rattle.std.proofs.lemmas.Str.{IsUtf8-from_ascii}
+use Rattle.c104_plan.specs.TextWords.{is_name, is_name_byte, is_digit, is_letter}
+
+-- each byte of a name may stand in one
+pub name_bytes : (name : List ℕ) → is_name name ≡ true → list_all is_name_byte name ≡ true
+name_bytes [] is = cc
+name_bytes (x ∷ rest) is =
+    let outer = and_parts (is_letter x) (nat_lt (length rest) 32 && list_all is_name_byte rest) is in
+    let inner = and_parts (nat_lt (length rest) 32) (list_all is_name_byte rest) outer.1 in
+    λ i. (((outer.0 i) || is_digit x) || (x == 0x5f || x == 0x2d)) && inner.1 i
+
+below_128 : (b : ℕ) → is_name_byte b ≡ true → b < 128
+below_128 b is = grind (arith, nat_tests)
+
+ascii : (xs : List ℕ) → list_all is_name_byte xs ≡ true → IsAscii xs
+ascii [] all i = omega arith
+ascii (x ∷ xs) all zero = below_128 x (and_parts (is_name_byte x) (list_all is_name_byte xs) all).0
+ascii (x ∷ xs) all (suc i) = ascii xs (and_parts (is_name_byte x) (list_all is_name_byte xs) all).1 i
+
+pub utf8_name : (name : List ℕ) → is_name name ≡ true → IsUtf8 name
+utf8_name name is = IsUtf8-from_ascii name (ascii name (name_bytes name is))

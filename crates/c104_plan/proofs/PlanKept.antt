@@ -1,0 +1,247 @@
+-- What the type of a plan keeps, each addition keeps.
+use Rattle.std.proofs.Common.{◌≡◌, ℕ, ◌+◌, ◌<◌, ◌≤◌, ◌==◌, Bool, true, false, cond, List, [], ◌∷◌, ◌++◌, length, map, bytes_eq, All, sym, subst, ◌∙◌, ap, refl, arith, append_assoc, append-nil, length-append}
+use Rattle.std.proofs.lemmas.Bool.{or_from}
+use Rattle.std.proofs.lemmas.Cmp.{nat_list_eq_equiv}
+use Rattle.std.proofs.lemmas.List.{map-append}
+use Rattle.std.proofs.lemmas.List.Elements.{All-cons, All-head, All-tail, All-push, All-weaker, filter-append}
+use Rattle.std.proofs.lemmas.List.Folds.{list_any-append}
+use Rattle.std.specs.List.{list_any}
+use Rattle.c104_plan.specs.Distinctness.{AreDistinct}
+use Rattle.c104_plan.specs.TextWords.{is_name}
+use Rattle.c104_plan.specs.declared.ports.Port.TheVariants as port
+use Rattle.c104_plan.specs.Ports.{Port, Wire, is_port, both_ends, is_any_at, IsSwitchPort}
+use Rattle.c104_plan.specs.declared.plans.Shape.TheVariants.{Hand, Tree, Mesh, Cube}
+use Rattle.c104_plan.specs.Plans.{Plan, PlanBase, PlanRandom, PlanRow, Shape, Terminal, IsOfShape, IsPlan, AreNames, AreTerminals, AreContinues, AreDeletes, AreBases, AreRandoms, AreRows, IsPlanWire, IsLaterPort, IsRange, IsPlanSelect, names, host_port, linked_ports, is_taken, is_linked, is_continued, is_deleted, is_row_of, rows_of, is_buffer_size, label_count, most_switches, most_terminals, most_header_bytes}
+use Rattle.c104_plan.proofs.Distinct.{distinct_inserted, distinct_pushed}
+use Rattle.c104_plan.proofs.PortLemmas.{is_port-flips, is_port-true, once-pushed}
+
+All-inserted : {X : Type 0} (P : X → Type 0) (xs ys : List X) (x : X) → All P (xs ++ ys) → P x → All P ((xs ++ x ∷ []) ++ ys)
+All-inserted P [] ys x all here = All-cons P x ys here all
+All-inserted P (a ∷ xs) ys x all here = All-cons P a ((xs ++ x ∷ []) ++ ys) (All-head P a (xs ++ ys) all) (All-inserted P xs ys x (All-tail P a (xs ++ ys) all) here)
+
+names_flip : (a b : List ℕ) → bytes_eq a b ≡ bytes_eq b a
+names_flip a b = nat_list_eq_equiv.symm a b
+
+-- Of more switches
+
+module _ (m n : ℕ) (more : m ≤ n) where
+  port_of_more : (p : Port) → IsSwitchPort m p → IsSwitchPort n p
+  port_of_more (port.Switch s l) is = (omega (arith, is.0), is.1)
+  port_of_more (port.Terminal t) is = is
+
+  later_of_more : (p : Port) → IsLaterPort m p → IsLaterPort n p
+  later_of_more (port.Switch s l) is = (omega (arith, is.0), is.1, is.2)
+  later_of_more (port.Terminal t) is = is
+
+  terminals_of_more : (terminals : List Terminal) → AreTerminals m terminals → AreTerminals n terminals
+  terminals_of_more terminals are = record {
+    few = are.few;
+    on_switches = All-weaker (λ (t : Terminal). IsSwitchPort m (host_port t)) (λ (t : Terminal). IsSwitchPort n (host_port t)) (λ (t : Terminal) is. port_of_more (host_port t) is) terminals are.on_switches;
+    ranges = are.ranges;
+  }
+
+  wires_of_more : (wires : List Wire) → All (IsPlanWire m) wires → All (IsPlanWire n) wires
+  wires_of_more wires are = All-weaker (IsPlanWire m) (IsPlanWire n) (λ (w : Wire) is. (port_of_more w.here is.0, port_of_more w.there is.1, is.2)) wires are
+
+  continues_of_more : (continues : List Port) → AreContinues m continues → AreContinues n continues
+  continues_of_more continues are = record { later = All-weaker (IsLaterPort m) (IsLaterPort n) later_of_more continues are.later; once = are.once }
+
+  bases_of_more : (bases : List PlanBase) → AreBases m bases → AreBases n bases
+  bases_of_more bases are = record {
+    of_inputs = All-weaker (λ (b : PlanBase). IsSwitchPort m b.port) (λ (b : PlanBase). IsSwitchPort n b.port) (λ (b : PlanBase) is. port_of_more b.port is) bases are.of_inputs;
+    ranges = are.ranges;
+    once = are.once;
+  }
+
+  rows_of_more : (rows : List PlanRow) → AreRows m rows → AreRows n rows
+  rows_of_more rows are = record {
+    of_inputs = All-weaker (λ (r : PlanRow). IsSwitchPort m r.port) (λ (r : PlanRow). IsSwitchPort n r.port) (λ (r : PlanRow) is. port_of_more r.port is) rows are.of_inputs;
+    ranges = are.ranges;
+    few = are.few;
+  }
+
+  randoms_of_more : (randoms : List PlanRandom) → AreRandoms m randoms → AreRandoms n randoms
+  randoms_of_more randoms are = record {
+    of_inputs = All-weaker (λ (r : PlanRandom). IsSwitchPort m r.port) (λ (r : PlanRandom). IsSwitchPort n r.port) (λ (r : PlanRandom) is. port_of_more r.port is) randoms are.of_inputs;
+    ranges = are.ranges;
+    once = are.once;
+  }
+
+-- the shape of a plan that is made line by line says nothing of it
+by_hand : (shape : Shape) (plan : Plan) → shape ≡ Hand → IsOfShape shape plan
+by_hand shape plan hand = subst (λ s. IsOfShape s plan) (sym hand) tt
+
+both_ends-append : (ws : List Wire) (w : Wire) → both_ends (ws ++ w ∷ []) ≡ both_ends ws ++ (w.here ∷ w.there ∷ [])
+both_ends-append [] w = refl
+both_ends-append (v ∷ ws) w = ap (λ ports. v.here ∷ v.there ∷ ports) (both_ends-append ws w)
+
+module _ (plan : Plan) (kept : IsPlan plan) where
+  pub with_switch : (name : List ℕ) → plan.shape ≡ Hand → is_name name ≡ true → is_taken plan name ≡ false → length plan.switches < most_switches → IsPlan (record plan { switches = plan.switches ++ name ∷ [] })
+  unfolding is_taken
+  with_switch name hand named free room =
+      let longer : length (plan.switches ++ name ∷ []) ≡ length plan.switches + 1 = length-append plan.switches (name ∷ []) in
+      let more : length plan.switches ≤ length (plan.switches ++ name ∷ []) = omega arith in
+      let of_terminals : List (List ℕ) = map (λ (t : Terminal). t.name) plan.terminals in
+      record {
+        header = kept.header;
+        cap = kept.cap;
+        shape = by_hand plan.shape _ hand;
+        few_switches = omega arith;
+        names = record {
+          named = All-inserted (λ other. is_name other ≡ true) plan.switches of_terminals name kept.names.named named;
+          differ = distinct_inserted bytes_eq names_flip plan.switches of_terminals name free kept.names.differ;
+        };
+        terminals = terminals_of_more _ _ more plan.terminals kept.terminals;
+        wires = wires_of_more _ _ more plan.wires kept.wires;
+        links = kept.links;
+        continues = continues_of_more _ _ more plan.continues kept.continues;
+        deletes = kept.deletes;
+        bases = bases_of_more _ _ more plan.bases kept.bases;
+        rows = rows_of_more _ _ more plan.rows kept.rows;
+        randoms = randoms_of_more _ _ more plan.randoms kept.randoms;
+      }
+
+  names-terminal : (t : Terminal) → names plan.switches (plan.terminals ++ t ∷ []) ≡ names plan.switches plan.terminals ++ t.name ∷ []
+  names-terminal t = rw (map-append (λ (u : Terminal). u.name) plan.terminals (t ∷ [])) (sym (append_assoc plan.switches (map (λ (u : Terminal). u.name) plan.terminals) (t.name ∷ [])))
+
+  names_with : (t : Terminal) → is_name t.name ≡ true → is_taken plan t.name ≡ false → AreNames (names plan.switches (plan.terminals ++ t ∷ []))
+  unfolding is_taken
+  names_with t named free = subst AreNames (sym (names-terminal t)) (record {
+    named = All-push (λ name. is_name name ≡ true) (names plan.switches plan.terminals) t.name kept.names.named named;
+    differ = distinct_pushed bytes_eq (names plan.switches plan.terminals) t.name free kept.names.differ;
+  })
+
+  links_with : (t : Terminal) → is_linked plan (host_port t) ≡ false → AreDistinct is_port (linked_ports (plan.terminals ++ t ∷ []) plan.wires)
+  unfolding is_linked
+  links_with t free = rw (map-append host_port plan.terminals (t ∷ [])) (distinct_inserted is_port is_port-flips (map host_port plan.terminals) (both_ends plan.wires) (host_port t) free kept.links)
+
+  pub with_terminal : (t : Terminal) → plan.shape ≡ Hand → is_name t.name ≡ true → is_taken plan t.name ≡ false → IsSwitchPort (length plan.switches) (host_port t) → is_linked plan (host_port t) ≡ false → length plan.terminals < most_terminals → IsRange t.first t.count → IsPlan (record plan { terminals = plan.terminals ++ t ∷ [] })
+  with_terminal t hand named free on_switch unlinked room range =
+      let longer : length (plan.terminals ++ t ∷ []) ≡ length plan.terminals + 1 = length-append plan.terminals (t ∷ []) in
+      record {
+        header = kept.header;
+        cap = kept.cap;
+        shape = by_hand plan.shape _ hand;
+        few_switches = kept.few_switches;
+        names = names_with t named free;
+        terminals = record {
+          few = omega arith;
+          on_switches = All-push (λ (u : Terminal). IsSwitchPort (length plan.switches) (host_port u)) plan.terminals t kept.terminals.on_switches on_switch;
+          ranges = All-push (λ (u : Terminal). IsRange u.first u.count) plan.terminals t kept.terminals.ranges range;
+        };
+        wires = kept.wires;
+        links = links_with t unlinked;
+        continues = kept.continues;
+        deletes = record {
+          known = All-weaker (λ u. u < length plan.terminals) (λ u. u < length (plan.terminals ++ t ∷ [])) (λ u inside. omega (arith, longer)) plan.deletes kept.deletes.known;
+          once = kept.deletes.once;
+        };
+        bases = kept.bases;
+        rows = kept.rows;
+        randoms = kept.randoms;
+      }
+
+  links_wired : (w : Wire) → is_linked plan w.here ≡ false → is_linked plan w.there ≡ false → is_port w.here w.there ≡ false → AreDistinct is_port (linked_ports plan.terminals (plan.wires ++ w ∷ []))
+  unfolding is_linked
+  links_wired w here_free there_free differ =
+      let ports : List Port = linked_ports plan.terminals plan.wires in
+      let at_here : AreDistinct is_port (ports ++ w.here ∷ []) = distinct_pushed is_port ports w.here here_free kept.links in
+      let none : list_any (λ q. is_port q w.there) (ports ++ w.here ∷ []) ≡ false = list_any-append (λ q. is_port q w.there) ports (w.here ∷ []) ∙ or_from _ _ there_free (or_from _ _ differ refl) in
+      let both : AreDistinct is_port ((ports ++ w.here ∷ []) ++ w.there ∷ []) = distinct_pushed is_port (ports ++ w.here ∷ []) w.there none at_here in
+      let same : (ports ++ w.here ∷ []) ++ w.there ∷ [] ≡ linked_ports plan.terminals (plan.wires ++ w ∷ []) =
+      append_assoc ports (w.here ∷ []) (w.there ∷ [])
+      ∙ append_assoc (map host_port plan.terminals) (both_ends plan.wires) (w.here ∷ w.there ∷ [])
+      ∙ ap (λ ends. map host_port plan.terminals ++ ends) (sym (both_ends-append plan.wires w)) in
+      subst (AreDistinct is_port) same both
+
+  pub with_wire : (w : Wire) → plan.shape ≡ Hand → IsPlanWire (length plan.switches) w → is_port w.here w.there ≡ false → is_linked plan w.here ≡ false → is_linked plan w.there ≡ false → IsPlan (record plan { wires = plan.wires ++ w ∷ [] })
+  with_wire w hand is_wire differ here_free there_free = record {
+    header = kept.header;
+    cap = kept.cap;
+    shape = by_hand plan.shape _ hand;
+    few_switches = kept.few_switches;
+    names = kept.names;
+    terminals = kept.terminals;
+    wires = All-push (IsPlanWire (length plan.switches)) plan.wires w kept.wires is_wire;
+    links = links_wired w here_free there_free differ;
+    continues = kept.continues;
+    deletes = kept.deletes;
+    bases = kept.bases;
+    rows = kept.rows;
+    randoms = kept.randoms;
+  }
+
+  -- what its shape says doesn't hang on its header length, its buffer size and its deletes
+  of_shape : (header cap : ℕ) (deletes : List ℕ) (shape : Shape) → IsOfShape shape plan → IsOfShape shape (record plan { header = header; cap = cap; deletes = deletes })
+  of_shape header cap deletes Hand is = tt
+  of_shape header cap deletes (Tree root) is = record { inside = is.inside; firsts = is.firsts; counts = is.counts; unset = record { continues = is.unset.continues; bases = is.unset.bases; rows = is.unset.rows; randoms = is.unset.randoms } }
+  of_shape header cap deletes (Mesh w h p) is = (is.0, record { switches = is.1.switches; terminals = is.1.terminals; wires = is.1.wires; unset = record { continues = is.1.unset.continues; bases = is.1.unset.bases; rows = is.1.unset.rows; randoms = is.1.unset.randoms } })
+  of_shape header cap deletes (Cube d p) is = (is.0, record { switches = is.1.switches; terminals = is.1.terminals; wires = is.1.wires; unset = record { continues = is.1.unset.continues; bases = is.1.unset.bases; rows = is.1.unset.rows; randoms = is.1.unset.randoms } })
+
+  -- the same switches, terminals and wires, and what else is said of them
+  with_settings : {header cap : ℕ} {continues : List Port} {deletes : List ℕ} {bases : List PlanBase} {rows : List PlanRow} {randoms : List PlanRandom} → IsOfShape plan.shape (record plan { header = header; cap = cap; continues = continues; deletes = deletes; bases = bases; rows = rows; randoms = randoms }) → (0 < header) × (header ≤ most_header_bytes) → is_buffer_size cap ≡ true → AreContinues (length plan.switches) continues → AreDeletes (length plan.terminals) deletes → AreBases (length plan.switches) bases → AreRows (length plan.switches) rows → AreRandoms (length plan.switches) randoms → IsPlan (record plan { header = header; cap = cap; continues = continues; deletes = deletes; bases = bases; rows = rows; randoms = randoms })
+  with_settings shape header cap continues deletes bases rows randoms = record {
+    header = header;
+    cap = cap;
+    shape = shape;
+    few_switches = kept.few_switches;
+    names = kept.names;
+    terminals = kept.terminals;
+    wires = kept.wires;
+    links = kept.links;
+    continues = continues;
+    deletes = deletes;
+    bases = bases;
+    rows = rows;
+    randoms = randoms;
+  }
+
+  pub with_continue : (p : Port) → plan.shape ≡ Hand → IsLaterPort (length plan.switches) p → is_continued plan p ≡ false → IsPlan (record plan { continues = plan.continues ++ p ∷ [] })
+  with_continue p hand later once = with_settings (by_hand plan.shape _ hand) kept.header kept.cap (record {
+    later = All-push (IsLaterPort (length plan.switches)) plan.continues p kept.continues.later later;
+    once = once-pushed (λ q. q) plan.continues p once kept.continues.once;
+  }) kept.deletes kept.bases kept.rows kept.randoms
+
+  pub with_delete : (terminal : ℕ) → terminal < length plan.terminals → is_deleted plan terminal ≡ false → IsPlan (record plan { deletes = plan.deletes ++ terminal ∷ [] })
+  unfolding is_deleted
+  with_delete terminal known once = with_settings (of_shape plan.header plan.cap (plan.deletes ++ terminal ∷ []) plan.shape kept.shape) kept.header kept.cap kept.continues (record {
+    known = All-push (λ t. t < length plan.terminals) plan.deletes terminal kept.deletes.known known;
+    once = distinct_pushed (λ t u. t == u) plan.deletes terminal once kept.deletes.once;
+  }) kept.bases kept.rows kept.randoms
+
+  pub with_base : (b : PlanBase) → plan.shape ≡ Hand → IsSwitchPort (length plan.switches) b.port → b.base < label_count → is_any_at (λ (c : PlanBase). c.port) plan.bases b.port ≡ false → IsPlan (record plan { bases = plan.bases ++ b ∷ [] })
+  with_base b hand of_input range once = with_settings (by_hand plan.shape _ hand) kept.header kept.cap kept.continues kept.deletes (record {
+    of_inputs = All-push (λ (c : PlanBase). IsSwitchPort (length plan.switches) c.port) plan.bases b kept.bases.of_inputs of_input;
+    ranges = All-push (λ (c : PlanBase). c.base < label_count) plan.bases b kept.bases.ranges range;
+    once = once-pushed (λ (c : PlanBase). c.port) plan.bases b once kept.bases.once;
+  }) kept.rows kept.randoms
+
+  few-row_by : (r : PlanRow) (p : Port) (same : Bool) → is_port r.port p ≡ same → length (rows_of r.port plan.rows) < 36 → length (rows_of p plan.rows ++ cond same (r ∷ []) []) ≤ 36
+  few-row_by r p true is room =
+      let fits : length (rows_of p plan.rows) < 36 = subst (λ q. length (rows_of q plan.rows) < 36) (is_port-true r.port p is) room in
+      omega (arith, length-append (rows_of p plan.rows) (r ∷ []))
+  few-row_by r p false is room = rw append-nil (kept.rows.few p)
+
+  few-row : (r : PlanRow) (p : Port) → length (rows_of r.port plan.rows) < 36 → length (rows_of p (plan.rows ++ r ∷ [])) ≤ 36
+  unfolding rows_of
+  few-row r p room = rw (filter-append (is_row_of p) plan.rows (r ∷ [])) (few-row_by r p (is_port r.port p) refl room)
+
+  pub with_row : (r : PlanRow) → plan.shape ≡ Hand → IsSwitchPort (length plan.switches) r.port → r.limit ≤ label_count → IsPlanSelect r.select → length (rows_of r.port plan.rows) < 36 → IsPlan (record plan { rows = plan.rows ++ r ∷ [] })
+  with_row r hand of_input limit selectable room = with_settings (by_hand plan.shape _ hand) kept.header kept.cap kept.continues kept.deletes kept.bases (record {
+    of_inputs = All-push (λ (q : PlanRow). IsSwitchPort (length plan.switches) q.port) plan.rows r kept.rows.of_inputs of_input;
+    ranges = All-push (λ (q : PlanRow). (q.limit ≤ label_count) × IsPlanSelect q.select) plan.rows r kept.rows.ranges (limit, selectable);
+    few = λ p. few-row r p room;
+  }) kept.randoms
+
+  pub with_random : (r : PlanRandom) → plan.shape ≡ Hand → IsSwitchPort (length plan.switches) r.port → r.base < label_count → r.range ≤ label_count → is_any_at (λ (q : PlanRandom). q.port) plan.randoms r.port ≡ false → IsPlan (record plan { randoms = plan.randoms ++ r ∷ [] })
+  with_random r hand of_input base range once = with_settings (by_hand plan.shape _ hand) kept.header kept.cap kept.continues kept.deletes kept.bases kept.rows (record {
+    of_inputs = All-push (λ (q : PlanRandom). IsSwitchPort (length plan.switches) q.port) plan.randoms r kept.randoms.of_inputs of_input;
+    ranges = All-push (λ (q : PlanRandom). (q.base < label_count) × (q.range ≤ label_count)) plan.randoms r kept.randoms.ranges (base, range);
+    once = once-pushed (λ (q : PlanRandom). q.port) plan.randoms r once kept.randoms.once;
+  })
+
+  pub with_header : (bytes : ℕ) → 0 < bytes → bytes ≤ most_header_bytes → IsPlan (record plan { header = bytes })
+  with_header bytes some few = with_settings (of_shape bytes plan.cap plan.deletes plan.shape kept.shape) (some, few) kept.cap kept.continues kept.deletes kept.bases kept.rows kept.randoms
+
+  pub with_buffer : (size : ℕ) → is_buffer_size size ≡ true → IsPlan (record plan { cap = size })
+  with_buffer size is_size = with_settings (of_shape plan.header size plan.deletes plan.shape kept.shape) kept.header is_size kept.continues kept.deletes kept.bases kept.rows kept.randoms

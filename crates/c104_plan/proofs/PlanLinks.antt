@@ -1,0 +1,22 @@
+-- A port of a switch is linked where a terminal or a wire has it.
+use Rattle.std.proofs.Common.{◌≡◌, ◌||◌, Bool, true, false, List, [], ◌∷◌, map, ◌∙◌, ap, refl}
+use Rattle.std.specs.List.{list_any}
+use Rattle.std.proofs.lemmas.List.Folds.{list_any-append}
+use Rattle.c104_plan.specs.Ports.{Port, Wire, is_port, both_ends, is_any_at}
+use Rattle.c104_plan.specs.Plans.{Plan, Terminal, host_port, is_linked}
+use Rattle.c104_plan.proofs.PortLemmas.{list_any-map}
+
+or_assoc : (a b c : Bool) → (a || (b || c)) ≡ ((a || b) || c)
+or_assoc true b c = refl
+or_assoc false b c = refl
+
+wires_have : (ws : List Wire) (p : Port) → list_any (λ q. is_port q p) (both_ends ws) ≡ list_any (λ (w : Wire). is_port w.here p || is_port w.there p) ws
+wires_have [] p = refl
+wires_have (w ∷ ws) p = ap (λ rest. is_port w.here p || (is_port w.there p || rest)) (wires_have ws p) ∙ or_assoc (is_port w.here p) (is_port w.there p) _
+
+pub linked_either : (plan : Plan) (p : Port) → is_linked plan p ≡ (is_any_at host_port plan.terminals p || list_any (λ (w : Wire). is_port w.here p || is_port w.there p) plan.wires)
+unfolding is_linked is_any_at
+linked_either plan p =
+    list_any-append (λ q. is_port q p) (map host_port plan.terminals) (both_ends plan.wires)
+    ∙ ap (λ any. any || list_any (λ q. is_port q p) (both_ends plan.wires)) (list_any-map (λ q. is_port q p) host_port plan.terminals)
+    ∙ ap (λ any. list_any (λ (t : Terminal). is_port (host_port t) p) plan.terminals || any) (wires_have plan.wires p)

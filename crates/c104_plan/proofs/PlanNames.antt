@@ -1,0 +1,20 @@
+-- A name is taken where a switch or a terminal has it.
+use Rattle.std.proofs.Common.{◌≡◌, ℕ, ◌||◌, false, List, map, bytes_eq, sym, ◌∙◌, ap}
+use Rattle.std.specs.List.{list_any}
+use Rattle.std.proofs.lemmas.Bool.{or_parts}
+use Rattle.std.proofs.lemmas.List.Folds.{list_any-append}
+use Rattle.c104_plan.specs.Plans.{Plan, Terminal, is_taken}
+use Rattle.c104_plan.proofs.PortLemmas.{list_any-map}
+
+pub taken_either : (plan : Plan) (name : List ℕ) → is_taken plan name ≡ (list_any (λ other. bytes_eq other name) plan.switches || list_any (λ (t : Terminal). bytes_eq t.name name) plan.terminals)
+unfolding is_taken
+taken_either plan name =
+    list_any-append (λ other. bytes_eq other name) plan.switches (map (λ (t : Terminal). t.name) plan.terminals)
+    ∙ ap (λ rest. list_any (λ other. bytes_eq other name) plan.switches || rest) (list_any-map (λ other. bytes_eq other name) (λ (t : Terminal). t.name) plan.terminals)
+
+-- a name that isn't taken is no switch's, and no terminal's
+pub free_switch : (plan : Plan) (name : List ℕ) → is_taken plan name ≡ false → list_any (λ other. bytes_eq other name) plan.switches ≡ false
+free_switch plan name free = (or_parts _ _ (sym (taken_either plan name) ∙ free)).0
+
+pub free_terminal : (plan : Plan) (name : List ℕ) → is_taken plan name ≡ false → list_any (λ (t : Terminal). bytes_eq t.name name) plan.terminals ≡ false
+free_terminal plan name free = (or_parts _ _ (sym (taken_either plan name) ∙ free)).1

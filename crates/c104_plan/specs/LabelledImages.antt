@@ -1,0 +1,35 @@
+-- The image of a plan whose switches have tables that are given, as those of labels: the tables, the ranges of
+-- the terminals, and all else as the plan's own lines say.
+use Rattle.std.specs.Prelude.{ℕ, List, length, map, if◌then◌else◌, is_some, slice_index_or}
+use Rattle.std.specs.List.{range_with_len}
+use Rattle.c104_interval.specs.declared.intervals.Table.{Table}
+use Rattle.c104_interval.specs.Selection.{reset_table}
+use Rattle.c104_regs.specs.declared.registers.TheConstants.{LINKS}
+use Rattle.c104_regs.specs.declared.settings.Settings.{Settings}
+use Rattle.c104_plan.specs.declared.ports.Port.TheVariants as port
+use Rattle.c104_plan.specs.Ports.{Port}
+use Rattle.c104_plan.specs.Plans.{Plan}
+use Rattle.c104_plan.specs.PlanImage.{Image, settings_of}
+use Rattle.c104_plan.specs.Wiring.{peer}
+
+-- what is set at a port of a switch that has this table: what the plan's own lines say, and the table where the
+-- port has a wire
+unfoldable pub labelled_settings : Plan → Table → Port → Settings
+labelled_settings plan table p =
+    if is_some (peer plan p) then record (settings_of plan p) { table = table } else settings_of plan p
+
+-- what is set at the links of a switch that has this table
+unfoldable pub labelled_switch : Plan → Table → ℕ → List Settings
+labelled_switch plan table switch =
+    map (λ link. labelled_settings plan table (port.Switch switch link)) (range_with_len 0 LINKS)
+
+-- the table of a switch among those of all switches
+abbrev pub table_in : List Table → ℕ → Table
+table_in tables switch = slice_index_or tables switch reset_table
+
+-- the image with these ranges, and these tables at the ports that have a wire
+abbrev pub labelled_image : Plan → List (ℕ × ℕ) → List Table → Image
+labelled_image plan ranges tables = record {
+  ranges = ranges;
+  settings = map (λ switch. labelled_switch plan (table_in tables switch) switch) (range_with_len 0 (length plan.switches));
+}

@@ -1,0 +1,17 @@
+pub mod Checks
+pub mod Distinctness
+pub mod TextCut
+pub mod TextWords
+pub mod Ports
+pub mod Layouts
+pub mod Plans
+pub mod Wiring
+pub mod PlanIndex
+pub mod PlanParts
+pub mod PlanImage
+pub mod ImageFaults
+pub mod ImageEdits
+pub mod LabelledImages
+pub mod RowPlans
+pub mod SwitchImages
+pub mod PortTexts

@@ -1,0 +1,49 @@
+-- The parts in which a plan is kept, and what may be asked of a plan while it is made.
+use Rattle.c104_plan.specs.declared.parts.Parts.{Parts}
+use Rattle.c104_plan.specs.Plans.{Plan, Terminal}
+use Rattle.std.specs.Prelude.{◌==◌, ◌||◌, Bool, not, List, length, []}
+use Rattle.c104_plan.specs.declared.plans.Shape.TheVariants.{Hand}
+
+-- the plan that they are
+abbrev pub plan_of : Parts → Plan
+plan_of parts = record {
+  header = parts.header;
+  cap = parts.cap;
+  shape = parts.shape;
+  switches = parts.switches;
+  terminals = parts.terminals;
+  wires = parts.wires.items;
+  continues = parts.continues.items;
+  deletes = parts.deletes.items;
+  bases = parts.bases.items;
+  rows = parts.rows;
+  randoms = parts.randoms.items;
+}
+
+-- a terminal of which only the count is said
+abbrev pub without_first : Terminal → Terminal
+without_first t = record t { first = 0 }
+
+-- whether a list has elements
+abbrev pub has_some : {X : Type 0} → List X → Bool
+has_some xs = not (length xs == 0)
+
+-- whether a plan has lines that set something at links
+abbrev pub has_settings : Plan → Bool
+has_settings plan = has_some plan.continues || (has_some plan.bases || (has_some plan.rows || has_some plan.randoms))
+
+-- the plan of no line: headers of one byte, and buffers of 16 tokens
+abbrev pub empty_plan : Plan
+empty_plan = record {
+  header = 1;
+  cap = 16;
+  shape = Hand;
+  switches = [];
+  terminals = [];
+  wires = [];
+  continues = [];
+  deletes = [];
+  bases = [];
+  rows = [];
+  randoms = [];
+}

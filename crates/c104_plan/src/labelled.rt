@@ -1,0 +1,132 @@
+//! The image of a plan whose switches have tables that are given.
+ghost use Rattle.std.specs.Prelude.{◌≡◌, ◌<◌, ℕ, All, length, map, IfOk};
+ghost use Rattle.std.specs.List.{range_with_len};
+ghost use Rattle.c104_regs.specs.Ranges.{IsTableInRange};
+ghost use Rattle.c104_plan.specs.Plans.{IsPlan, IsRange, is_continued, rows_of};
+ghost use Rattle.c104_plan.specs.Ports.{is_any_at};
+ghost use Rattle.c104_plan.specs.PlanImage.{AreSettings, Fits};
+ghost use Rattle.c104_plan.specs.LabelledImages.{labelled_image, labelled_settings, labelled_switch, table_in};
+
+use crate::hand::{continues_of_switch, rows_of_switch, settings_of};
+use crate::image::{Image, ranges};
+use crate::plans::{Plan, PlanRow};
+use crate::ports::Port;
+use crate::switch_image::SwitchImage;
+use c104_interval::Table;
+use c104_regs::{LINKS, Settings};
+use c104_token::NoMemory;
+use std::alloc::{AllocError, Global};
+
+impl Plan {
+    ghost use Rattle.std.specs.Prelude.{◌≡◌, map, IfOk};
+    ghost use Rattle.c104_plan.specs.Plans.{IsPlan};
+    ghost use Rattle.c104_plan.specs.PlanImage.{range_of};
+
+    /// The range of each terminal, by its first label and how many they are. The only error is out of memory.
+    pub fn ranges(&self, alloc: Global) -> Result<Vec<(u32, u32)>, NoMemory>
+        ensures ranges { IfOk result (λ ranges. ranges.items ≡ map range_of self.now.terminals) }
+        ensures kept { IsPlan self.now }
+    {
+        let ranges = ranges(alloc, self)?;
+        Ok(ranges)
+    }
+}
+
+impl Image {
+    /// The image of a plan with a range for each terminal and a table for each switch: a port that has a wire
+    /// has its switch's table, and all else is as the plan's own lines say, as in `hand_image`. The only error
+    /// is out of memory.
+    pub fn with_tables(
+        alloc: Global,
+        plan: &Plan,
+        ranges: Vec<(u32, u32)>,
+        tables: &[Table],
+    ) -> Result<Self, NoMemory>
+        requires terminals { length ranges.items ≡ length plan.now.terminals }
+        requires ranges { All (λ range. IsRange range.0 range.1) ranges.items }
+        requires switches { length tables.now ≡ length plan.now.switches }
+        requires tables { All IsTableInRange tables.now }
+        ensures image { IfOk result (λ image. image ≡ labelled_image plan.now ranges.items tables.now) }
+        ensures fits { IfOk result (λ image. Fits image plan.now) }
+    {
+        let switches = labelled_switches(alloc, plan, tables)?;
+        Ok(Image { ranges, switches })
+    }
+}
+
+/// What each switch is to hold.
+fn labelled_switches(
+    alloc: Global,
+    plan: &Plan,
+    tables: &[Table],
+) -> Result<Vec<SwitchImage>, AllocError>
+    requires switches { length tables.now ≡ length plan.now.switches }
+    requires tables { All IsTableInRange tables.now }
+    ensures settings { IfOk result (λ switches. switches.items
+        ≡ map (λ s. labelled_switch plan.now (table_in tables.now s) s) (range_with_len 0 (length plan.now.switches))) }
+    ensures kept { IsPlan plan.now }
+{
+    let mut switches = Vec::new(alloc);
+    for switch in 0..plan.switches().len() {
+        switches.push(labelled_switch(alloc, plan, tables[switch], switch)?)?;
+    }
+    Ok(switches)
+}
+
+/// What a switch of this table is to hold.
+fn labelled_switch(
+    alloc: Global,
+    plan: &Plan,
+    table: Table,
+    switch: usize,
+) -> Result<SwitchImage, AllocError>
+    requires { IsTableInRange table }
+    ensures { IfOk result (λ image. image ≡ labelled_switch plan.now table switch) }
+{
+    let settings = labelled_links(alloc, plan, table, switch)?;
+    SwitchImage::with_settings(alloc, settings.as_slice())
+}
+
+/// What is set at the links of a switch of this table.
+fn labelled_links(
+    alloc: Global,
+    plan: &Plan,
+    table: Table,
+    switch: usize,
+) -> Result<Vec<Settings>, AllocError>
+    requires { IsTableInRange table }
+    ensures settings { IfOk result (λ settings. settings.items ≡ labelled_switch plan.now table switch) }
+    ensures all { IfOk result (λ settings. AreSettings settings.items) }
+{
+    let rows = rows_of_switch(alloc, plan, switch)?;
+    let continues = continues_of_switch(alloc, plan, switch)?;
+    let mut settings = Vec::new(alloc);
+    for link in 0..LINKS {
+        let port = Port::Switch(switch, link);
+        let rows = rows.as_slice();
+        let continues = continues.as_slice();
+        settings.push(labelled_settings(plan, rows, continues, table, port))?;
+    }
+    Ok(settings)
+}
+
+/// What is set at a port of a switch of this table, by rows among which are those of the port, and by links that
+/// continue groups, among which the port is if it does.
+#[tactic(auto, unfolding(crate::specs::LabelledImages::labelled_settings))]
+fn labelled_settings(
+    plan: &Plan,
+    rows: &[PlanRow],
+    continues: &[Port],
+    table: Table,
+    port: Port,
+) -> Settings
+    requires rows { rows_of port rows.now ≡ rows_of port plan.now.rows }
+    requires continues { is_any_at (λ q. q) continues.now port ≡ is_continued plan.now port }
+    ensures { result ≡ labelled_settings plan.now table port }
+{
+    let mut settings = settings_of(plan, rows, continues, port);
+    if plan.peer(port).is_some() {
+        settings.table = table;
+    }
+    settings
+}
