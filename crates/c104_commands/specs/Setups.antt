@@ -7,7 +7,7 @@ use Rattle.c104_plan.specs.PlanImage.{Image}
 use Rattle.c104_describe.specs.declared.faults.PlanFault.{PlanFault}
 use Rattle.c104_describe.specs.declared.faults.PlanFaultKind.TheVariants as plan_fault
 use Rattle.c104_stream.specs.Writing.{AppendsPrefix}
-use Rattle.c104_script.specs.Texts.{description_text}
+use Rattle.c104_describe.specs.PlanFaults.{description_text}
 use Rattle.c104_label.specs.Images.{IsImageOf, IsImageCause}
 use Rattle.c104_label.specs.LabelFaults.{label_fault_name, label_fault_number}
 use Rattle.c104_label.specs.declared.faults.LabelFault.{LabelFault}

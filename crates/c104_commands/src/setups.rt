@@ -11,11 +11,10 @@ ghost use Rattle.c104_commands.specs.Setups.{ComesTo, IsOutOfMemory, RefusalEnds
 ghost use Rattle.c104_commands.specs.declared.status.Status.TheVariants as status;
 
 use crate::status::Status;
-use c104_describe::{PlanFault, PlanFaultKind, read_description};
+use c104_describe::{PlanFault, PlanFaultKind, description_text, read_description};
 use c104_explain::{About, Messages, description_message};
 use c104_label::{LabelFault, image_of};
 use c104_plan::{Image, MAX_DESCRIPTION, Plan};
-use c104_script::description_text;
 use c104_stream::{Halt, read_up_to, write_whole};
 use c104_token::NoMemory;
 use std::alloc::Global;

@@ -1,8 +1,9 @@
 -- The faults of a description.
-use Rattle.std.specs.Prelude.{ℕ, List, codes}
+use Rattle.std.specs.Prelude.{ℕ, List, codes, ◌++◌}
 pub use Rattle.c104_describe.specs.declared.faults.PlanFault.{PlanFault}
 pub use Rattle.c104_describe.specs.declared.faults.PlanFaultKind.{PlanFaultKind}
 use Rattle.c104_describe.specs.declared.faults.PlanFaultKind.TheVariants as kind
+use Rattle.std.specs.Fmt.{decimal}
 
 -- the number that is printed
 abbrev pub plan_fault_number : PlanFaultKind → ℕ
@@ -44,3 +45,7 @@ no_memory = record { line = 0; kind = kind.NoMemory }
 abbrev pub fault_at : ℕ → PlanFaultKind → PlanFault
 fault_at line kind.NoMemory = no_memory
 fault_at line kind = record { line = line; kind = kind }
+
+-- the line of a refused description
+abbrev pub description_text : PlanFault → List ℕ
+description_text fault = codes "description " ++ (decimal fault.line ++ (codes ": " ++ (decimal (plan_fault_number fault.kind) ++ (codes " " ++ (plan_fault_name fault.kind ++ codes "\n")))))

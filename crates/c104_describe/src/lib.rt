@@ -8,6 +8,7 @@
 
 mod description;
 mod drafts;
+mod fault_texts;
 mod faults;
 mod fills;
 mod lines;
@@ -21,5 +22,6 @@ pub use c104_plan::{
     is_name, is_plain, read_number, uncommented,
 };
 pub use description::read_description;
+pub use fault_texts::description_text;
 pub use faults::{PlanFault, PlanFaultKind};
 pub use print::print_plan;

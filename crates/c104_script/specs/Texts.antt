@@ -8,8 +8,6 @@ use Rattle.c104_token.specs.Text.{mark_word}
 use Rattle.c104_switch.specs.Actions.{Reply}
 use Rattle.c104_switch.specs.declared.actions.ReplyOf.TheVariants as reply
 use Rattle.c104_event.specs.EventFaults.{event_fault_number, event_fault_name}
-use Rattle.c104_describe.specs.declared.faults.PlanFault.{PlanFault}
-use Rattle.c104_describe.specs.PlanFaults.{plan_fault_number, plan_fault_name}
 use Rattle.c104_script.specs.declared.faults.LineFault.{LineFault}
 use Rattle.c104_script.specs.declared.faults.LineFault.TheVariants as fault
 use Rattle.c104_script.specs.Findings.{byte_text, fault_words, finding_text}
@@ -67,10 +65,6 @@ answer_text (Faulty kind) = codes "fault " ++ fault_words (line_fault_number kin
 -- the line of an answer, by the number of the line that it answers
 abbrev pub answer_line : ℕ → Answer → List ℕ
 answer_line number answer = decimal number ++ (codes ": " ++ (answer_text answer ++ codes "\n"))
-
--- the line of a refused description
-abbrev pub description_text : PlanFault → List ℕ
-description_text fault = codes "description " ++ (decimal fault.line ++ (codes ": " ++ (decimal (plan_fault_number fault.kind) ++ (codes " " ++ (plan_fault_name fault.kind ++ codes "\n")))))
 
 -- what stands in the summary's place where a script is too long
 abbrev pub script_too_long : List ℕ

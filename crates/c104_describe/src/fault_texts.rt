@@ -1,9 +1,9 @@
 //! The line of a refused description.
 ghost use Rattle.std.specs.Prelude.{◌≡◌, IfOk};
 ghost use Rattle.std.specs.String.{string_bytes};
-ghost use Rattle.c104_script.specs.Texts.{description_text};
+ghost use Rattle.c104_describe.specs.PlanFaults.{description_text};
 
-use c104_describe::PlanFault;
+use crate::faults::PlanFault;
 use c104_token::NoMemory;
 use std::alloc::Global;
 
