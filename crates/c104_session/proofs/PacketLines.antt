@@ -1,6 +1,5 @@
 -- The lines of what a terminal received, packet by packet, with the origins of what arrived at their side.
 use Rattle.c104_plan.specs.Plans.{Plan}
-use Rattle.c104_net.proofs.LeadingSteps.{drop_here}
 use Rattle.c104_net.proofs.OriginPieces.{one_origin, piece_origins}
 use Rattle.c104_net.specs.Origins.{AreSure, origins_in}
 use Rattle.c104_net.specs.declared.origins.Origin.{Origin}
@@ -13,6 +12,7 @@ use Rattle.c104_token.specs.declared.packets.Packet.{Packet}
 use Rattle.c104_token.specs.declared.tokens.Token.{Token}
 use Rattle.std.proofs.Common.{Bool, Bor, IfSome, List, MatchOption, None, Option, Some, [], ap, append-nil, append_assoc, arith, drop, false, flat_map, get_or, if◌then◌else◌, length, map, refl, slice_get, subst, suc, sym, true, zero, ℕ, ◌++◌, ◌+◌, ◌<◌, ◌∙◌, ◌∷◌, ◌≡◌, ◌≤◌}
 use Rattle.std.proofs.lemmas.List.{map-append}
+use Rattle.std.proofs.Math.Seq.{drop-cons}
 use Rattle.std.proofs.lemmas.Option.{slice_get_past, slice_get_read}
 use Rattle.std.specs.List.{HoldsAt}
 use Rattle.std.specs.Option.{option_copied}
@@ -78,7 +78,7 @@ got (Some x) xs i is within = sym (slice_get_read xs (length xs) i x.now refl wi
 -- the line of the next packet joins those so far
 pub lines_next : (plan : Plan) (name : List ℕ) (packets : List Packet) (at : ℕ) (packet : Packet) (origins : List Origin) (told : Option Origin) (text before whole : List ℕ) → at < length packets → packet ≡ get_or packets at packet → told ≡ slice_get origins at → text ≡ before ++ packet_line plan name (packet_tokens packet) (option_to_list told) → before ++ lines_with plan name at (map packet_tokens (drop at packets)) origins ≡ whole → text ++ lines_with plan name (at + 1) (map packet_tokens (drop (at + 1) packets)) origins ≡ whole
 lines_next plan name packets at packet origins told text before whole inside is told_is text_is so_far =
-    let here : drop at packets ≡ packet ∷ drop (suc at) packets = drop_here packets at packet (slice_get_read packets (length packets) at packet refl inside is) in
+    let here : drop at packets ≡ packet ∷ drop (suc at) packets = drop-cons packets at packet inside ∙ ap (λ p. p ∷ drop (suc at) packets) (sym is) in
     let rest : List ℕ = lines_with plan name (suc at) (map packet_tokens (drop (suc at) packets)) origins in
     let next : suc at ≡ at + 1 = omega arith in
     subst (λ k. text ++ lines_with plan name k (map packet_tokens (drop k packets)) origins ≡ whole) next
