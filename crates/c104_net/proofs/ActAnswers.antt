@@ -157,6 +157,6 @@ module _ {A : Type 0} (kind : Kind A) where
     event_done keeps stamp possible olds told news done = record {
       answers = acts_answer possible (states olds) (states news) (fulls olds) told done.ends;
       free = acts_free possible (states olds) (states news) (fulls olds) told done.ends;
-      start = done.start;
+      base = done.base;
       trace = done.trace ∙ ap (noted_all keeps (traces olds)) (answer_kept stamp told);
     }

@@ -11,8 +11,7 @@ use Rattle.c104_net.specs.declared.crossings.Crossing.TheVariants.{Grant, Token}
 use Rattle.c104_net.proofs.JointEnds.{near_answers, ready_answer}
 use Rattle.c104_net.specs.Acts.{control_by, done_by, node_act, nodes_act, token_by}
 use Rattle.c104_net.specs.EventActs.{Acts, IsAnswerOf, acts_step, crossing_acts, event_acts, far_act, joint_step, near_act, port_place}
-use Rattle.c104_net.specs.Nodes.{Node, node_claim, node_control, node_credit_in, node_credit_out, node_drain, node_enter, node_input}
-use Rattle.c104_net.specs.Nodes.{node_leave, node_send}
+use Rattle.c104_net.specs.Nodes.{Node, node_claim, node_control, node_credit_in, node_credit_out, node_drain, node_enter, node_input, node_leave, node_send}
 use Rattle.c104_net.specs.declared.acts.ActOf.{ActOf}
 use Rattle.c104_net.specs.declared.crossings.Crossing.{Crossing}
 use Rattle.c104_switch.specs.Actions.{is_ready}
@@ -39,7 +38,7 @@ module _ {A S : Type 0} where
 
 module _ {A : Type 0} (kind : Kind A) where
   -- an act that is done answers something else than that it isn't ready
-  act_ready : (number : ℕ) (a : ActOf A) (n : Node A) (r : ReplyOf A × Node A) → node_act kind number a n ≡ Some r → is_ready r.0 ≡ true
+  pub act_ready : (number : ℕ) (a : ActOf A) (n : Node A) (r : ReplyOf A × Node A) → node_act kind number a n ≡ Some r → is_ready r.0 ≡ true
   act_ready number (act.Step (action.Enter l x)) (node.Switch s) r is = done_ready (node_enter x l (node.Switch s)) r is
   act_ready number (act.Step (action.Leave l)) (node.Switch s) r is = token_ready (node_leave l (node.Switch s)) r is
   act_ready number (act.Step (action.CreditOut l)) (node.Switch s) r is = done_ready (node_credit_out l (node.Switch s)) r is

@@ -8,7 +8,7 @@ use Rattle.c104_net.specs.Acts.{done_by, node_act, nodes_act, reply_outcome, tok
 use Rattle.c104_net.specs.EventActs.{IsAnswerOf, far_act, joint_step, near_act}
 use Rattle.c104_net.specs.Nodes.{Node, node_credit_in, node_credit_out, node_enter, node_leave}
 use Rattle.c104_net.specs.PlaceActs.{JointDone}
-use Rattle.c104_net.specs.Places.{Shown, fulls, room_fault, starts, states, traces}
+use Rattle.c104_net.specs.Places.{Shown, bases, fulls, room_fault, states, traces}
 use Rattle.c104_net.specs.Traces.{full_at, joint_deeds, kept_entry, noted_all, noted_at}
 use Rattle.c104_net.specs.declared.acts.ActOf.{ActOf}
 use Rattle.c104_net.specs.declared.acts.Entry.{Entry}
@@ -60,7 +60,7 @@ module _ {A : Type 0} (kind : Kind A) where
   near_answers Grant (port.Terminal t) (node.Terminal x) r is = subst (IsAnswerOf Grant) (sym (done_answer (node_credit_out 0 (node.Terminal x)) r is)) tt
 
   -- and the other end that it came in
-  far_done : (crossing : Crossing) (a : ReplyOf A) (q : Port) (m : Node A) (r : ReplyOf A × Node A) → IsAnswerOf crossing a → node_act kind 0 (far_act q a) m ≡ Some r → r.0 ≡ reply.Done
+  pub far_done : (crossing : Crossing) (a : ReplyOf A) (q : Port) (m : Node A) (r : ReplyOf A × Node A) → IsAnswerOf crossing a → node_act kind 0 (far_act q a) m ≡ Some r → r.0 ≡ reply.Done
   far_done Token reply.Done q m r answer is = absurd answer
   far_done Token reply.NotReady q m r answer is = absurd answer
   far_done Token (reply.Token x) (port.Switch s l) (node.Switch y) r answer is = done_answer (node_enter x l (node.Switch y)) r is
@@ -183,10 +183,10 @@ module _ {A : Type 0} (kind : Kind A) (keeps : Bool) (near far : ℕ) (joint : J
   pub none_crosses : made ≡ None → JointDone kind keeps near far joint stamp olds (Ok reply.NotReady) olds
   none_crosses none = record {
     ends = (ap (λ (m : Option (ReplyOf A × List (Node A))). reply_outcome m (states olds)) (sym none), λ ready. absurd (let no : ⊥ = cc in no));
-    start = refl;
+    base = refl;
     trace = refl;
   }
 
   -- where both are, and it is refused
   pub crossing_refused : (f : EventFault) (news : List (Shown A)) → f ≡ room_fault (full_at (fulls olds) near || full_at (fulls olds) far) → is_some made ≡ true → news ≡ olds → JointDone kind keeps near far joint stamp olds (Err f) news
-  crossing_refused f news is ready same = record { ends = (is, ready, ap states same); start = ap starts same; trace = ap traces same }
+  crossing_refused f news is ready same = record { ends = (is, ready, ap states same); base = ap bases same; trace = ap traces same }

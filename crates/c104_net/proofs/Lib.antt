@@ -119,3 +119,8 @@ pub mod TracedTokens
 pub mod TracedArrivals
 pub mod RandomOwners
 pub mod RandomHeaders
+pub mod LentNodes
+pub mod LentPairs
+pub mod WrittenValues
+pub mod NextTokens
+pub mod KnownWires

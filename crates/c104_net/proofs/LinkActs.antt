@@ -88,7 +88,7 @@ module _ {A : Type 0} (plan : Plan) where
     output_same_t : (q : Outgoing A) → SameBut nodes (slice_set nodes (terminal_place plan t) (node.Terminal (with_output T q))) (ins plan nodes) (at (outs plan nodes) (port.Terminal t) q.items)
     output_same_t q = terminal_same (with_output T q) (at (outs plan nodes) (port.Terminal t) q.items) (ins plan nodes) refl refl (at_id (ins plan nodes) (port.Terminal t) T.input.items (sym (ap (part [] (node_in (port.Terminal t))) e))) refl
 
-leave_some : {A : Type 0} (q : Outgoing A) (l : A × Outgoing A) → outgoing_emit q ≡ Some l → q.items ≡ l.0 ∷ l.1.items
+pub leave_some : {A : Type 0} (q : Outgoing A) (l : A × Outgoing A) → outgoing_emit q ≡ Some l → q.items ≡ l.0 ∷ l.1.items
 leave_some q l e = given (slice_get q.items 0) _ l e (λ x ex e1. required (nat_lt 0 q.credit) _ l e1 (λ b e2.
     (let d : (x, record { items = drop 1 q.items; credit = q.credit - 1 }) ≡ l = cc in first_some q.items x ex ∙ ap (λ (z : _ × Outgoing _). z.0 ∷ z.1.items) d)))
 

@@ -1,5 +1,6 @@
 -- Parts of a round: one goes on from the one before, and an event that isn't ready may be left out.
-use Rattle.std.proofs.Common.{true, false, ℕ, zero, suc, ◌≡◌, ◌+◌, ◌<◌, ◌≤◌, ◌-◌, ◌||◌, Bool, List, [], ◌∷◌, ◌++◌, Ok, Err, get_or, length}
+use Rattle.std.proofs.Common.{true, false, ℕ, zero, suc, ◌≡◌, ◌+◌, ◌<◌, ◌≤◌, ◌-◌, ◌||◌, Bool, List, [], ◌∷◌, ◌++◌, Result, Ok, Err, get_or}
+use Rattle.std.proofs.Common.{length, IsErr, IsErrAnd}
 use Rattle.std.proofs.Common.{take, drop, map, refl, sym, subst, ap, ◌∙◌, append_assoc, append-nil, arith, inl, inr}
 use Rattle.std.specs.List.{flat_map, range_with_len}
 use Rattle.std.proofs.lemmas.List.{drop_more, take-append-drop, take_all, take_more}
@@ -10,7 +11,7 @@ use Rattle.c104_event.specs.declared.events.Event.{Event}
 use Rattle.c104_event.specs.declared.faults.EventFault.{EventFault}
 use Rattle.c104_net.specs.EventRuns.{run_events, unless_fault, Answers, Outcome}
 use Rattle.c104_net.specs.RoundParts.{PartEnds}
-use Rattle.c104_net.proofs.RoundRuns.{run_append, run_from, run_reply, Applied}
+use Rattle.c104_net.proofs.RoundRuns.{err_is, run_append, run_from, run_reply, Applied}
 
 -- where one of two is so, and it isn't, neither is
 pub neither : (a b : Bool) → (a || b) ≡ false → (a ≡ false) × (b ≡ false)
@@ -28,54 +29,53 @@ singles f (x ∷ xs) = ap (λ es. f x ∷ es) (singles f xs)
 module _ {S : Type 0} (apply : S → Event → Applied S) where
   -- no event
   pub part_empty : (net : S) → PartEnds apply net [] (Ok false) net
-  part_empty net = (refl, λ none. refl)
+  part_empty net = record { ends = (refl, λ none. refl) }
 
   -- one part after another
   pub part_after : (net mid after : S) (front part : List Event) (a b : Bool) → PartEnds apply net front (Ok a) mid → PartEnds apply mid part (Ok b) after → PartEnds apply net (front ++ part) (Ok (a || b)) after
   part_after net mid after front part a b first next =
-      (run_from apply net mid front part first.0 ∙ next.0, λ none. next.1 (neither a b none).1 ∙ first.1 (neither a b none).0)
+      record { ends = (run_from apply net mid front part first.ends.0 ∙ next.ends.0, λ none. next.ends.1 (neither a b none).1 ∙ first.ends.1 (neither a b none).0) }
 
   -- a part that a fault stops, and what would have followed
   pub stops_before : (net after : S) (part more : List Event) (f : EventFault) → PartEnds apply net part (Err f) after → PartEnds apply net (part ++ more) (Err f) after
-  stops_before net after part more f ends =
-      elim ends [
-        | inl due ↦ inl (sym (run_append apply part more net ∙ ap (λ (r : Outcome S). unless_fault r.0 r.1 (λ next. run_events apply next more)) (sym due)))
-        | inr short ↦ inr (record {
-          refused = short.refused;
-          front = short.front;
-          event = short.event;
-          rest = short.rest ++ more;
-          parts = ap (λ es. es ++ more) short.parts ∙ append_assoc short.front (short.event ∷ short.rest) more;
-          stands = short.stands;
-          wanted = short.wanted;
-        })
-      ]
+  stops_before net after part more f part_ends =
+      record {
+        ends = elim part_ends.ends [
+          | inl due ↦ inl (sym (run_append apply part more net ∙ ap (λ (r : Outcome S). unless_fault r.0 r.1 (λ next. run_events apply next more)) (sym due)))
+          | inr short ↦ inr (record {
+            refused = short.refused;
+            front = short.front;
+            event = short.event;
+            rest = short.rest ++ more;
+            parts = ap (λ es. es ++ more) short.parts ∙ append_assoc short.front (short.event ∷ short.rest) more;
+            stands = short.stands;
+            wanted = short.wanted;
+          })
+        ];
+      }
 
   -- a part that a fault stops, after another
   pub stops_after : (net mid after : S) (front part : List Event) (a : Bool) (f : EventFault) → PartEnds apply net front (Ok a) mid → PartEnds apply mid part (Err f) after → PartEnds apply net (front ++ part) (Err f) after
-  stops_after net mid after front part a f first ends =
-      elim ends [
-        | inl due ↦ inl (due ∙ sym (run_from apply net mid front part first.0))
-        | inr short ↦ inr (record {
-          refused = short.refused;
-          front = front ++ short.front;
-          event = short.event;
-          rest = short.rest;
-          parts = ap (λ es. front ++ es) short.parts ∙ sym (append_assoc front short.front (short.event ∷ short.rest));
-          stands = run_from apply net mid front short.front first.0 ∙ short.stands;
-          wanted = short.wanted;
-        })
-      ]
+  stops_after net mid after front part a f first part_ends =
+      record {
+        ends = elim part_ends.ends [
+          | inl due ↦ inl (due ∙ sym (run_from apply net mid front part first.ends.0))
+          | inr short ↦ inr (record {
+            refused = short.refused;
+            front = front ++ short.front;
+            event = short.event;
+            rest = short.rest;
+            parts = ap (λ es. front ++ es) short.parts ∙ sym (append_assoc front short.front (short.event ∷ short.rest));
+            stands = run_from apply net mid front short.front first.ends.0 ∙ short.stands;
+            wanted = short.wanted;
+          })
+        ];
+      }
 
   -- one event that was answered, which changes nothing where it isn't done
   pub part_of_reply : (net after : S) (e : Event) (r : Reply) → (is_ready r ≡ false → after ≡ net) → Answers apply net e (Ok r) after → PartEnds apply net (e ∷ []) (Ok (is_ready r)) after
-  part_of_reply net after e r undone answer = (
-    elim answer [
-      | inl due ↦ run_reply apply net after e r due
-      | inr refused ↦ absurd (cc refused.0)
-    ],
-    undone,
-  )
+  part_of_reply net after e r undone answer =
+      record { ends = (elim answer [ inl due ↦ run_reply apply net after e r due | inr refused ↦ absurd (cc refused.0) ], undone) }
 
   module _ {X : Type 0} (part : X → List Event) (xs : List X) where
     -- the parts of the first elements of a list, and that of the next one
@@ -133,9 +133,10 @@ module _ {S : Type 0} (apply : S → Event → Applied S) where
         PartEnds apply net (flat_map part (take (i + 1) (range_with_len 0 n))) (Ok (a || b)) after
     number_next i net mid after a b inside first next = part_next part (range_with_len 0 n) i i net mid after a b (omega (arith, counted)) (placed i inside) first next
 
-    pub number_stops : (i : ℕ) (net mid after : S) (a : Bool) (f : EventFault) → i < n → PartEnds apply net (flat_map part (take i (range_with_len 0 n))) (Ok a) mid → PartEnds apply mid (part i) (Err f) after →
-        PartEnds apply net (flat_map part (range_with_len 0 n)) (Err f) after
-    number_stops i net mid after a f inside first ends = part_stops part (range_with_len 0 n) i i net mid after a f (omega (arith, counted)) (placed i inside) first ends
+    pub number_stops : (i : ℕ) (net mid after : S) (a : Bool) (f : EventFault) (result : Result Bool EventFault) → i < n → PartEnds apply net (flat_map part (take i (range_with_len 0 n))) (Ok a) mid → PartEnds apply mid (part i) (Err f) after →
+        IsErr result × IsErrAnd result (λ d. d ≡ f) → PartEnds apply net (flat_map part (range_with_len 0 n)) result after
+    number_stops i net mid after a f result inside first ends told =
+        rw (err_is result f told) (part_stops part (range_with_len 0 n) i i net mid after a f (omega (arith, counted)) (placed i inside) first ends)
 
     pub numbers_passed : (i j : ℕ) (net mid : S) (a : Bool) → i ≤ j → j ≤ n → ((k : ℕ) → i ≤ k → k < j → PartEnds apply mid (part k) (Ok false) mid) → PartEnds apply net (flat_map part (take i (range_with_len 0 n))) (Ok a) mid →
         PartEnds apply net (flat_map part (take j (range_with_len 0 n))) (Ok a) mid

@@ -75,7 +75,7 @@ module _ {A : Type 0} (olds : List (Shown A)) (k : ℕ) (old new : Shown A) (the
     acted_there : is_some (nodes_act kind (states olds) k number a) ≡ true → HasActed kind keeps number stamp a old reply new → HasActedAt kind keeps k number stamp a olds reply (slice_set olds k new)
     acted_there ready is = record {
       acted = act_made (node_act kind number a old.state) refl ready is.acted;
-      start = kept_same (λ (s : Shown A). s.start) is.start;
+      base = kept_same (λ (s : Shown A). s.base) is.base;
       trace =
           map-set (λ (s : Shown A). s.trace) olds k new ∙ ap (slice_set (traces olds) k) is.trace
           ∙ sym (ap (noted_in keeps (traces olds) k (kept_entry kind stamp a reply)) (seen_there (λ (s : Shown A). s.trace)));

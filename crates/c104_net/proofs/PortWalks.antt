@@ -1,7 +1,6 @@
 -- The parts of a round that are about ports: walked link by link, with those that have no wire or aren't
 -- ready left out.
-use Rattle.std.proofs.Common.{◌≡◌, ◌∙◌, ◌<◌, ℕ, Bool, true, false, List, [], ◌∷◌, ◌++◌, Option, Some, None, Result, Ok, IfSome, filter}
-use Rattle.std.proofs.Common.{length, map, unwrap_or, refl, sym, ap, subst, append-nil, arith}
+use Rattle.std.proofs.Common.{◌≡◌, ◌∙◌, ◌<◌, ℕ, Bool, true, false, List, [], ◌∷◌, ◌++◌, Option, Some, None, Result, Ok, IfSome, filter, length, map, unwrap_or, refl, sym, ap, subst, append-nil, arith}
 use Rattle.std.specs.List.{flat_map, range_with_len}
 use Rattle.std.proofs.lemmas.List.Elements.{filter-append}
 use Rattle.std.proofs.lemmas.Grind.{flat_map-append}
@@ -18,7 +17,7 @@ use Rattle.c104_net.specs.EventActs.{port_place}
 use Rattle.c104_net.specs.Network.{wired_fault}
 use Rattle.c104_net.specs.Nodes.{Node}
 use Rattle.c104_net.specs.PortParts.{IsFoundReady, IsNearReady, is_ready_at, port_events, wired_events}
-use Rattle.c104_net.specs.Rounds.{is_wired, link_numbers, wired_links, wired_terminals}
+use Rattle.c104_net.specs.Rounds.{is_wired, link_numbers, wired_links, wired_ports, wired_terminals}
 use Rattle.c104_net.specs.RoundParts.{PartEnds}
 use Rattle.c104_net.proofs.IdleEvents.{idle_credit, idle_cross, idle_turn}
 use Rattle.c104_net.proofs.PartRuns.{part_empty}
@@ -67,6 +66,10 @@ module _ (plan : Plan) (part : PortPart) where
 
     pub of_terminals : PartEnds apply net (flat_map (wired_by port.Terminal) (range_with_len 0 (length plan.terminals))) result after → PartEnds apply net (flat_map (port_events part) (wired_terminals plan)) result after
     of_terminals ends = subst (λ es. PartEnds apply net es result after) (wired_each port.Terminal (range_with_len 0 (length plan.terminals))) ends
+
+    -- those of all switches, and then those of the terminals
+    pub of_ports : PartEnds apply net (flat_map (port_events part) (flat_map (wired_links plan) (range_with_len 0 (length plan.switches))) ++ flat_map (port_events part) (wired_terminals plan)) result after → PartEnds apply net (flat_map (port_events part) (wired_ports plan)) result after
+    of_ports ends = subst (λ es. PartEnds apply net es result after) (sym (flat_map-append (port_events part) (flat_map (wired_links plan) (range_with_len 0 (length plan.switches))) (wired_terminals plan))) ends
 
     pub at_wired : (p : Port) → is_wired plan p ≡ true → PartEnds apply net (port_events part p) result after → PartEnds apply net (wired_events plan part p) result after
     at_wired p is ends = subst (λ es. PartEnds apply net es result after) (sym (wired_one p is)) ends

@@ -17,9 +17,9 @@ use Rattle.c104_net.specs.Balance.{IsSteady}
 use Rattle.c104_net.specs.Network.{network_of, Network}
 use Rattle.c104_net.specs.NetRecords.{fresh_record, IsNetRecord}
 use Rattle.c104_net.specs.Nodes.{Node}
-use Rattle.c104_net.specs.Places.{Shown, states}
+use Rattle.c104_net.specs.Places.{Shown, base_wired, bases, states}
 use Rattle.c104_net.specs.Quiet.{network_begin, node_begin, IsQuietNode}
-use Rattle.c104_net.specs.RecordedNets.{begun_told, place_told, places_record, read_state, read_trace, IsReading, IsRecordedNet, Reading}
+use Rattle.c104_net.specs.RecordedNets.{Told, begun_told, place_told, places_record, read_state, read_trace, IsReading, IsRecordedNet, Reading}
 use Rattle.c104_net.specs.Runs.{IsRunRecord}
 use Rattle.c104_net.specs.Traces.{seatless}
 use Rattle.c104_net.specs.Starts.{start_node, start_of}
@@ -72,24 +72,28 @@ module _ {A P : Type 0} (v : Reading A P) where
     ordered = tt;
   }
 
-  abbrev Told : Type 0
-  Told = Node A × NodeStart × List Entry
+  wires_shown : (places : List P) → map (λ p. (v.shown p).base.wired) places ≡ map base_wired (bases (map v.shown places))
+  wires_shown places = sym (ap (map base_wired) (map_twice (λ (s : Shown A). s.base) v.shown places) ∙ map_twice base_wired (λ p. (v.shown p).base) places)
 
   -- nodes that have begun
   module _ (new old : List P) (begun : map (place_told v.shown v.start) new ≡ map begun_told (map (place_told v.shown v.start) old)) where
-    part_begun : {X : Type 0} (part : Told → X) → map (λ p. part (place_told v.shown v.start p)) new ≡ map (λ p. part (begun_told (place_told v.shown v.start p))) old
+    part_begun : {X : Type 0} (part : Told A → X) → map (λ p. part (place_told v.shown v.start p)) new ≡ map (λ p. part (begun_told (place_told v.shown v.start p))) old
     part_begun part =
         sym (map_twice part (place_told v.shown v.start) new) ∙ ap (map part) begun ∙ map_twice part begun_told (map (place_told v.shown v.start) old)
         ∙ map_twice (λ t. part (begun_told t)) (place_told v.shown v.start) old
 
     states_begun : map (read_state v) new ≡ map node_begin (map (read_state v) old)
-    states_begun = part_begun (λ (t : Told). t.0) ∙ sym (map_twice node_begin (read_state v) old)
+    states_begun = part_begun (λ (t : Told A). t.0) ∙ sym (map_twice node_begin (read_state v) old)
 
     starts_begun : map v.start new ≡ map start_of (map (read_state v) old)
-    starts_begun = part_begun (λ (t : Told). t.1) ∙ sym (map_twice start_of (read_state v) old)
+    starts_begun = part_begun (λ (t : Told A). t.1) ∙ sym (map_twice start_of (read_state v) old)
 
     traces_begun : map (read_trace v) new ≡ map no_entries (map (read_state v) old)
-    traces_begun = part_begun (λ (t : Told). t.2) ∙ sym (map_twice (no_entries {A = A}) (read_state v) old)
+    traces_begun = part_begun (λ (t : Told A). t.2) ∙ sym (map_twice (no_entries {A = A}) (read_state v) old)
+
+    -- what is known of wires stays
+    pub wires_begun : map base_wired (bases (map v.shown new)) ≡ map base_wired (bases (map v.shown old))
+    wires_begun = sym (wires_shown new) ∙ part_begun (λ (t : Told A). t.3) ∙ wires_shown old
 
     none_kept : map (read_trace v) new ≡ map no_entries (map (read_state v) new)
     none_kept = traces_begun ∙ sym (map_twice (no_entries {A = A}) node_begin (map (read_state v) old)) ∙ ap (map (no_entries {A = A})) (sym states_begun)

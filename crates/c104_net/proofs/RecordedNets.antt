@@ -1,5 +1,5 @@
 -- A network whose nodes are seen with their records goes on by events.
-use Rattle.std.proofs.Common.{◌≡◌, ◌∙◌, ℕ, Bool, true, List, [], ◌∷◌, Option, Some, Result, is_some, map, inl, inr, refl, sym, ap, subst}
+use Rattle.std.proofs.Common.{◌≡◌, ◌∙◌, ℕ, Bool, true, List, [], ◌∷◌, Some, Result, is_some, map, inl, inr, refl, sym, ap, subst}
 use Rattle.c104_token.specs.declared.tokens.Token.{Token}
 use Rattle.c104_token.specs.declared.tokens.Token.TheVariants.{Byte}
 use Rattle.c104_token.specs.Kinds.{Kind, plain_kind}
@@ -14,7 +14,7 @@ use Rattle.c104_net.specs.Network.{Network, network_of, network_step, AnswersWit
 use Rattle.c104_net.specs.NetRecords.{is_done, IsNetRecord, NetRecord}
 use Rattle.c104_net.specs.RecordedNets.{places_record, read_state, read_trace, IsReading, IsRecordedNet, KeepsTokens, Reading}
 use Rattle.c104_net.specs.RecordedRuns.{record_apply, record_at, AnswersRecord}
-use Rattle.c104_net.specs.Places.{Shown, states}
+use Rattle.c104_net.specs.Places.{Shown, base_start, bases, states}
 use Rattle.c104_net.specs.Stages.{stage_apply, Stage}
 use Rattle.c104_net.specs.TracedRuns.{map_node}
 use Rattle.c104_net.proofs.FirstRecords.{map_twice}
@@ -28,7 +28,7 @@ pub map_same : {X Y : Type 0} (f g : X → Y) → ((x : X) → f x ≡ g x) → 
 map_same f g same [] = refl
 map_same f g same (x ∷ xs) = ap (λ y. y ∷ map f xs) (same x) ∙ ap (λ ys. g x ∷ ys) (map_same f g same xs)
 
-pub somes_same : (xs ys : List NodeStart) → map Some xs ≡ map Some ys → xs ≡ ys
+somes_same : (xs ys : List NodeStart) → map Some xs ≡ map Some ys → xs ≡ ys
 somes_same [] [] is = refl
 somes_same [] (y ∷ ys) is = cc
 somes_same (x ∷ xs) [] is = cc
@@ -41,25 +41,29 @@ abbrev record_of : Network Token → List NodeStart → List (List Entry) → �
 record_of network starts traces count = record { network = network; starts = starts; traces = traces; count = count }
 
 module _ {A P : Type 0} (v : Reading A P) where
-  abbrev pub some_start : P → Option NodeStart
-  some_start p = Some (v.start p)
-
   -- the stage that such places show
   abbrev pub places_stage : Plan → List P → ℕ → Stage A
   places_stage plan places count = record {
     network = network_of plan (map (read_state v) places);
-    starts = map some_start places;
+    bases = bases (map v.shown places);
     traces = map (read_trace v) places;
     count = count;
   }
 
-  pub somes_shown : (places : List P) → map some_start places ≡ map Some (map v.start places)
-  somes_shown places = sym (map_twice Some v.start places)
-
-  same_starts : (plan : Plan) (places : List P) (count : ℕ) (starts : List NodeStart) → IsRecordedStage v.kind starts (places_stage plan places count) → starts ≡ map v.start places
-  same_starts plan places count starts is = sym (somes_same (map v.start places) starts (sym (somes_shown places) ∙ is.begun))
-
 module _ {A P : Type 0} (v : Reading A P) (reads : IsReading v) where
+  -- where the nodes started, by what the places show
+  starts_shown : (places : List P) → map base_start (bases (map v.shown places)) ≡ map Some (map v.start places)
+  starts_shown places =
+      ap (map base_start) (map_twice (λ (s : Shown A). s.base) v.shown places) ∙ map_twice base_start (λ p. (v.shown p).base) places
+      ∙ map_same (λ p. (v.shown p).base.start) (λ p. Some (v.start p)) reads.started places ∙ sym (map_twice Some v.start places)
+
+  same_starts : (plan : Plan) (places : List P) (count : ℕ) (starts : List NodeStart) → IsRecordedStage v.kind starts (places_stage v plan places count) → starts ≡ map v.start places
+  same_starts plan places count starts is = sym (somes_same (map v.start places) starts (sym (starts_shown places) ∙ is.begun))
+
+  -- where what no act changes stays, they started there too
+  pub starts_same : (new old : List P) → bases (map v.shown new) ≡ bases (map v.shown old) → map v.start new ≡ map v.start old
+  starts_same new old same = somes_same (map v.start new) (map v.start old) (sym (starts_shown new) ∙ ap (map base_start) same ∙ starts_shown old)
+
   -- what places show over plain tokens
   pub states_shown : (places : List P) → map (map_node v.kind.plain) (map (read_state v) places) ≡ map v.plain places
   states_shown places = map_twice (map_node v.kind.plain) (read_state v) places ∙ map_same (λ p. map_node v.kind.plain (read_state v p)) v.plain (λ p. sym (reads.plain p)) places
@@ -81,7 +85,7 @@ module _ {A P : Type 0} (v : Reading A P) (reads : IsReading v) where
 
   stage_kept : (plan : Plan) (places : List P) (count : ℕ) → IsRecordedNet v plan places count → IsRecordedStage v.kind (map v.start places) (places_stage v plan places count)
   stage_kept plan places count is = record {
-    begun = somes_shown v places;
+    begun = starts_shown places;
     kept = subst IsNetRecord (sym (places_plain plan places count)) is.kept;
     events = is.events;
     told = is.told;
@@ -106,10 +110,10 @@ module _ {A P : Type 0} (v : Reading A P) (reads : IsReading v) where
 
     -- what is left of a stage is what is left of the network
     end_kept : IsRecordedStage v.kind starts to → IsRecordedNet v plan new counted
-    end_kept is = net_kept plan new counted (subst (λ ss. IsRecordedStage v.kind ss to) (same_starts v plan new counted starts is) is)
+    end_kept is = net_kept plan new counted (subst (λ ss. IsRecordedStage v.kind ss to) (same_starts plan new counted starts is) is)
 
     end_plain : IsRecordedStage v.kind starts to → record_at starts (plain_stage v.kind to) ≡ places_record v plan new counted
-    end_plain is = ap (λ ss. record_at ss (plain_stage v.kind to)) (same_starts v plan new counted starts is) ∙ places_plain plan new counted
+    end_plain is = ap (λ ss. record_at ss (plain_stage v.kind to)) (same_starts plan new counted starts is) ∙ places_plain plan new counted
 
     -- one event
     answers_kept : (e : Event) (answer : Result Reply EventFault) → Answers (stage_apply v.kind true) from e answer to → IsRecordedStage v.kind starts to

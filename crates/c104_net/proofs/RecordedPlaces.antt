@@ -10,15 +10,15 @@ use Rattle.c104_net.specs.EventRuns.{Answers, EventsEnd}
 use Rattle.c104_net.specs.EventsAtPlaces.{EventDone}
 use Rattle.c104_net.specs.Network.{network_of, AnswersWith}
 use Rattle.c104_net.specs.NetRecords.{is_done, ticket_after, RecordsEvent}
-use Rattle.c104_net.specs.Places.{IsFullByTrace, Shown, fulls, is_kept_full, starts, states, traces}
+use Rattle.c104_net.specs.Places.{IsFullByTrace, Shown, fulls, is_kept_full, states, traces}
 use Rattle.c104_net.specs.RecordedNets.{places_record, read_trace, IsRecordedNet, KeepsRecord, Reading}
 use Rattle.c104_net.specs.RecordedRuns.{record_apply, AnswersRecord}
 use Rattle.c104_net.specs.Stages.{stage_apply, stage_of, Stage}
 use Rattle.c104_net.specs.TracedRuns.{map_node}
 use Rattle.c104_net.specs.Traces.{event_deeds, event_full, is_trace_full, kept_of, noted_all, seatless}
 use Rattle.c104_net.proofs.FirstRecords.{map_twice}
-use Rattle.c104_net.proofs.RecordedNets.{answers_plain, event_answers, event_on, events_end, events_on, map_same, places_stage, some_start}
-use Rattle.c104_net.proofs.RecordedNets.{somes_same, somes_shown, states_plain}
+use Rattle.c104_net.proofs.RecordedNets.{answers_plain, event_answers, event_on, events_end, events_on, places_stage}
+use Rattle.c104_net.proofs.RecordedNets.{starts_same, states_plain}
 use Rattle.c104_net.proofs.StageSteps.{fulls_kept, same_stage, stage_done}
 
 -- how a network goes on by an event
@@ -33,9 +33,6 @@ pub record RunsOn {A P : Type 0} (v : Reading A P) (plan : Plan) (old new : List
   pub ends : EventsEnd record_apply (places_record v plan old count) events result (places_record v plan new counted)
 
 module _ {A P : Type 0} (v : Reading A P) (keeps : Bool) (is : KeepsRecord v keeps) (limited : (p : P) → IsFullByTrace keeps (v.shown p)) where
-  starts_are : (places : List P) → starts (map v.shown places) ≡ map (some_start v) places
-  starts_are places = map_twice (λ (s : Shown A). s.start) v.shown places ∙ map_same (λ p. (v.shown p).start) (some_start v) is.started places
-
   traces_are : (places : List P) → traces (map v.shown places) ≡ map (read_trace v) places
   traces_are places = map_twice (λ (s : Shown A). s.trace) v.shown places
 
@@ -47,7 +44,7 @@ module _ {A P : Type 0} (v : Reading A P) (keeps : Bool) (is : KeepsRecord v kee
   stage_is : (plan : Plan) (places : List P) (count : ℕ) → stage_of plan (map v.shown places) count ≡ places_stage v plan places count
   stage_is plan places count =
       same_stage (stage_of plan (map v.shown places) count) (places_stage v plan places count)
-      (ap (network_of plan) (map_twice (λ (s : Shown A). s.state) v.shown places)) (starts_are places) (traces_are places) refl
+      (ap (network_of plan) (map_twice (λ (s : Shown A). s.state) v.shown places)) refl (traces_are places) refl
 
   -- what is so of the stages that places show is so of those of the network
   stages_are : (plan : Plan) (old new : List P) (count counted : ℕ) (Ends : Bool → Stage A → Stage A → Type 0) → Ends keeps (stage_of plan (map v.shown old) count) (stage_of plan (map v.shown new) counted) →
@@ -76,7 +73,7 @@ module _ {A P : Type 0} (v : Reading A P) (keeps : Bool) (is : KeepsRecord v kee
           ∙ ap (λ ts. noted_all true ts (kept_of (event_deeds plan (seatless count) e) answer)) (traces_are lent)
 
       begun : map v.start new ≡ map v.start lent
-      begun = somes_same (map v.start new) (map v.start lent) (sym (somes_shown v new) ∙ sym (starts_are new) ∙ done.start ∙ starts_are lent ∙ somes_shown v lent)
+      begun = starts_same v is.reads new lent done.base
 
       goes_there : GoesOn v plan lent new count counted e answer
       goes_there =

@@ -15,6 +15,7 @@ use Rattle.c104_net.specs.Network.{Network, network_apply, network_of, network_s
 use Rattle.c104_net.specs.Network.{outcome_if_ready, outcome_within_limit}
 use Rattle.c104_net.specs.NetRecords.{is_done, ticket_after, IsNetRecord, NetRecord}
 use Rattle.c104_net.specs.Nodes.{Node}
+use Rattle.c104_net.specs.Places.{base_start}
 use Rattle.c104_net.specs.RecordedNets.{KeepsTokens}
 use Rattle.c104_net.specs.RecordedRuns.{record_apply, record_at}
 use Rattle.c104_net.specs.Runs.{IsRunRecord}
@@ -55,11 +56,11 @@ module _ {A : Type 0} (kind : Kind A) where
 
   -- the stage over plain tokens
   abbrev pub plain_stage : Stage A → Stage Token
-  plain_stage s = record { network = plain_network s.network; starts = s.starts; traces = s.traces; count = s.count }
+  plain_stage s = record { network = plain_network s.network; bases = s.bases; traces = s.traces; count = s.count }
 
 -- what is kept of a stage of a run over this kind of token
 pub record IsRecordedStage {A : Type 0} (kind : Kind A) (starts : List NodeStart) (s : Stage A) : Type 0 where
-  pub begun : s.starts ≡ map Some starts
+  pub begun : map base_start s.bases ≡ map Some starts
   pub kept : IsNetRecord (record_at starts (plain_stage kind s))
   pub events : List (Event × Reply)
   pub told : IsRunRecord kind s.network.plan seatless (map start_node starts) s.network.nodes s.traces s.count events
@@ -126,9 +127,9 @@ module _ {A : Type 0} (kind : Kind A) (tokens : KeepsTokens kind) where
         let net : d.1 ≡ s.network = ap (λ (x : Applied (Network A)). x.1) is_due ∙ undone_left kind s.network e (ap (λ (x : Applied (Network A)). is_done x.0) (sym is_due) ∙ undone) in
         let none = undone_deeds s.network.plan (seatless s.count) e d.0 undone in
         let same : left d ≡ s =
-        ap (λ (n : Network A). record { network = n; starts = s.starts; traces = noted_all true s.traces (kept_of (event_deeds s.network.plan (seatless s.count) e) d.0); count = ticket_after s.count (is_done d.0) }) net
-        ∙ ap (λ ds. record { network = s.network; starts = s.starts; traces = noted_all true s.traces ds; count = ticket_after s.count (is_done d.0) }) none
-        ∙ ap (λ b. record { network = s.network; starts = s.starts; traces = s.traces; count = ticket_after s.count b }) undone in
+        ap (λ (n : Network A). record { network = n; bases = s.bases; traces = noted_all true s.traces (kept_of (event_deeds s.network.plan (seatless s.count) e) d.0); count = ticket_after s.count (is_done d.0) }) net
+        ∙ ap (λ ds. record { network = s.network; bases = s.bases; traces = noted_all true s.traces ds; count = ticket_after s.count (is_done d.0) }) none
+        ∙ ap (λ b. record { network = s.network; bases = s.bases; traces = s.traces; count = ticket_after s.count b }) undone in
         subst Told (sym same) (is.events, is.told)
     told_on d is_due true done = by_answer d.0 d.1 is_due done
       where

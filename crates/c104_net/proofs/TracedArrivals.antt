@@ -1,6 +1,5 @@
 -- What arrived in a network of tagged tokens is what arrived over plain tokens.
-use Rattle.std.proofs.Common.{◌≡◌, ◌∙◌, ℕ, Bool, true, false, List, Option, Some, None, if◌then◌else◌, length, map, nat_lt, option_map}
-use Rattle.std.proofs.Common.{slice_get, refl, ap}
+use Rattle.std.proofs.Common.{◌≡◌, ◌∙◌, ℕ, Bool, true, false, List, Option, Some, None, if◌then◌else◌, length, map, nat_lt, option_map, slice_get, refl, ap}
 use Rattle.std.proofs.lemmas.Option.{slice_get-map}
 use Rattle.c104_token.specs.declared.tokens.Token.{Token}
 use Rattle.c104_link.specs.Steps.{◌>>=◌}

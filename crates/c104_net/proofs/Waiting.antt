@@ -1,7 +1,6 @@
 -- What waits, by a place in what was sent: its first token, and what a packet adds.
-use Rattle.std.proofs.Common.{◌≡◌, ◌∙◌, ◌≤◌, ◌<◌, ◌+◌, ◌-◌, ◌++◌, ℕ, zero, suc, List, [], ◌∷◌, Option, Some, None, drop, length}
-use Rattle.std.proofs.Common.{length-append, append-nil, append_assoc, map, slice_get, refl, subst, sym, ap, arith}
-use Rattle.std.proofs.lemmas.Option.{slice_get_within}
+use Rattle.std.proofs.Common.{◌≡◌, ◌∙◌, ◌≤◌, ◌<◌, ◌+◌, ◌-◌, ◌++◌, ℕ, zero, suc, List, [], ◌∷◌, Option, Some, None, drop, get_or, length, length-append, append-nil, append_assoc, map, slice_get, refl, subst, sym, ap, arith, ⊎_elim, ◌⊎◌}
+use Rattle.std.proofs.lemmas.Option.{slice_get-get_or, slice_get_within}
 use Rattle.c104_link.specs.Buffers.{Incoming}
 use Rattle.std.proofs.lemmas.List.{length-map, map-append}
 use Rattle.c104_token.specs.Kinds.{Kind}
@@ -19,16 +18,13 @@ drop_there [] k x is = cc
 drop_there (y ∷ xs) zero x is = let same : y ≡ x = cc in ap (λ z. z ∷ xs) same
 drop_there (y ∷ xs) (suc k) x is = drop_there xs k x is
 
-drop_none : {X : Type 0} (xs : List X) (k : ℕ) → slice_get xs k ≡ None → drop k xs ≡ []
-drop_none [] zero is = refl
-drop_none [] (suc k) is = refl
-drop_none (y ∷ xs) zero is = cc
-drop_none (y ∷ xs) (suc k) is = drop_none xs k is
-
 drop_past : {X : Type 0} (xs ys : List X) (k : ℕ) → k ≡ length xs → drop k (xs ++ ys) ≡ ys
 drop_past [] ys k is = ap (λ j. drop j ys) is
 drop_past (x ∷ xs) ys zero is = absurd (let no : ⊥ = omega (arith, is) in no)
 drop_past (x ∷ xs) ys (suc k) is = drop_past xs ys k (omega (arith, is))
+
+pub posted_at : (posted lent : List TerminalPacket) (next : ℕ) (p : TerminalPacket) → lent ≡ posted → next < length lent → p ≡ get_or lent next p → slice_get posted next ≡ Some p
+posted_at posted lent next p same inside is = subst (λ (ps : List TerminalPacket). slice_get ps next ≡ Some p) same (slice_get-get_or lent next p inside ∙ ap Some (sym is))
 
 pub get_before : {X : Type 0} (xs ys : List X) (k : ℕ) (x : X) → slice_get xs k ≡ Some x → slice_get (xs ++ ys) k ≡ Some x
 get_before [] ys k x is = cc
@@ -67,62 +63,58 @@ module _ {A : Type 0} (kind : Kind A) where
   get_end (c ∷ bytes) last zero is = absurd (let no : ⊥ = omega (arith, is) in no)
   get_end (c ∷ bytes) last (suc k) is = get_end bytes last k (omega (arith, is))
 
+  -- a packet's tokens
+  pub byte_at : (t n place b : ℕ) (p : Packet) → slice_get p.bytes place ≡ Some b → slice_get (sent_tokens kind t n p) place ≡ Some (kind.sent t n place (Byte b))
+  byte_at t n place b p is = from_get t n 0 place (packet_tokens p) (Byte b) (get_byte p.bytes (end_token p.mark) place b is) ∙ (let same : 0 + place ≡ place = omega arith in ap (λ (j : ℕ). Some (kind.sent t n j (Byte b))) same)
+
+  pub end_at : (t n place : ℕ) (p : Packet) → place ≡ length p.bytes → slice_get (sent_tokens kind t n p) place ≡ Some (kind.sent t n place (end_token p.mark))
+  end_at t n place p is = from_get t n 0 place (packet_tokens p) (end_token p.mark) (get_end p.bytes (end_token p.mark) place is) ∙ (let same : 0 + place ≡ place = omega arith in ap (λ (j : ℕ). Some (kind.sent t n j (end_token p.mark))) same)
+
   -- the first token that waits, and the rest
   module _ (posted : List TerminalPacket) (next place : ℕ) (p : TerminalPacket) (here : slice_get posted next ≡ Some p) where
     opened : posted_tokens kind next (drop next posted) ≡ sent_tokens kind p.terminal next p.packet ++ posted_tokens kind (suc next) (drop (suc next) posted)
     opened = ap (posted_tokens kind next) (drop_there posted next p here)
 
-    first_is : (x : Token) → slice_get (packet_tokens p.packet) place ≡ Some x → waiting_from kind next place posted ≡ kind.sent p.terminal next place x ∷ waiting_from kind next (suc place) posted
-    first_is x is =
-        drop_there (posted_tokens kind next (drop next posted)) place (kind.sent p.terminal next place x)
-        (ap (λ xs. slice_get xs place) opened ∙ get_before (sent_tokens kind p.terminal next p.packet) _ place (kind.sent p.terminal next place x) (from_get p.terminal next 0 place (packet_tokens p.packet) x is ∙ (let same : 0 + place ≡ place = omega arith in ap (λ (j : ℕ). Some (kind.sent p.terminal next j x)) same)))
+    pub first_waits : (x : A) → slice_get (sent_tokens kind p.terminal next p.packet) place ≡ Some x → waiting_from kind next place posted ≡ x ∷ waiting_from kind next (suc place) posted
+    first_waits x is = drop_there (posted_tokens kind next (drop next posted)) place x (ap (λ xs. slice_get xs place) opened ∙ get_before (sent_tokens kind p.terminal next p.packet) _ place x is)
 
-    pub takes_byte : (t : Terminal A) (b : ℕ) → slice_get p.packet.bytes place ≡ Some b → t.output.items ≡ waiting_from kind next place posted → waiting_taken t ≡ (Some (kind.sent p.terminal next place (Byte b)), record t { output = record { items = waiting_from kind next (suc place) posted; credit = t.output.credit } })
-    takes_byte t b is items = ap (taken_of t) (items ∙ first_is (Byte b) (get_byte p.packet.bytes (end_token p.packet.mark) place b is))
+    -- where the token after this one stands: in the same packet, or at the first place of the next one
+    abbrev pub IsNext : ℕ → ℕ → Type 0
+    IsNext after at =
+        ((place < length p.packet.bytes) × (after ≡ next) × (at ≡ place + 1))
+        ⊎ ((length p.packet.bytes ≤ place) × (after ≡ next + 1) × (at ≡ 0))
 
-    ends_rest : place ≡ length p.packet.bytes → waiting_from kind next (suc place) posted ≡ waiting_from kind (suc next) 0 posted
-    ends_rest is =
-        let past : suc place ≡ length (sent_tokens kind p.terminal next p.packet) = (let l = sent_length p.terminal next p.packet in omega (arith, l, is)) in
-        ap (drop (suc place)) opened ∙ drop_past (sent_tokens kind p.terminal next p.packet) (posted_tokens kind (suc next) (drop (suc next) posted)) (suc place) past
+    module _ (waiting : ℕ) (kept : IsOutbox kind next place waiting posted) (x : A) (is : slice_get (sent_tokens kind p.terminal next p.packet) place ≡ Some x) where
+      pub some_waits : 1 ≤ waiting
+      some_waits = let all : length (waiting_from kind next place posted) ≡ suc (length (waiting_from kind next (suc place) posted)) = ap (length {A = A}) (first_waits x is) in omega (arith, all, kept.counted)
 
-    end_first : place ≡ length p.packet.bytes → waiting_from kind next place posted ≡ kind.sent p.terminal next place (end_token p.packet.mark) ∷ waiting_from kind (suc next) 0 posted
-    end_first is = first_is (end_token p.packet.mark) (get_end p.packet.bytes (end_token p.packet.mark) place is) ∙ ap (λ xs. kind.sent p.terminal next place (end_token p.packet.mark) ∷ xs) (ends_rest is)
+      module _ (after at : ℕ) (passed : IsNext after at) where
+        rest_waits : waiting_from kind next place posted ≡ x ∷ waiting_from kind after at posted
+        rest_waits = first_waits x is ∙ ap (λ xs. x ∷ xs) (⊎_elim
+            (λ inside. ap (λ (j : ℕ). waiting_from kind next j posted) (let one : suc place ≡ at = omega (arith, inside) in one) ∙ ap (λ (k : ℕ). waiting_from kind k at posted) (sym inside.1))
+            (λ past.
+            let last : place ≡ length p.packet.bytes = (let placed = subst (IsPlace place) here kept.placed in omega (arith, placed, past)) in
+            let end : suc place ≡ length (sent_tokens kind p.terminal next p.packet) = (let l = sent_length p.terminal next p.packet in omega (arith, l, last)) in
+            ap (drop (suc place)) opened ∙ drop_past (sent_tokens kind p.terminal next p.packet) (posted_tokens kind (suc next) (drop (suc next) posted)) (suc place) end
+            ∙ ap (λ (k : ℕ). waiting_from kind k 0 posted) (let one : suc next ≡ after = omega (arith, past) in one) ∙ ap (λ (j : ℕ). waiting_from kind after j posted) (sym past.2))
+            passed)
 
-    pub takes_end : (t : Terminal A) → place ≡ length p.packet.bytes → t.output.items ≡ waiting_from kind next place posted → waiting_taken t ≡ (Some (kind.sent p.terminal next place (end_token p.packet.mark)), record t { output = record { items = waiting_from kind (suc next) 0 posted; credit = t.output.credit } })
-    takes_end t is items = ap (taken_of t) (items ∙ end_first is)
+        pub rest_keeps : IsOutbox kind after at (waiting - 1) posted
+        rest_keeps =
+            let all : length (waiting_from kind next place posted) ≡ suc (length (waiting_from kind after at posted)) = ap (length {A = A}) rest_waits in
+            let below : next < length posted = slice_get_within posted next p here in
+            let counted = kept.counted in
+            record {
+              inside = ⊎_elim (λ inside. omega (arith, inside, below)) (λ past. omega (arith, past, below)) passed;
+              placed = ⊎_elim
+                  (λ inside. subst (λ (k : ℕ). IsPlace at (slice_get posted k)) (sym inside.1) (subst (IsPlace at) (sym here) (omega (arith, inside))))
+                  (λ past. subst (λ (j : ℕ). IsPlace j (slice_get posted after)) (sym past.2) (first_place (slice_get posted after)))
+                  passed;
+              counted = omega (arith, all, counted);
+            }
 
-    pub byte_keeps : (waiting b : ℕ) → IsOutbox kind next place waiting posted → slice_get p.packet.bytes place ≡ Some b → (1 ≤ waiting) × IsOutbox kind next (place + 1) (waiting - 1) posted
-    byte_keeps waiting b is at =
-        let one : suc place ≡ place + 1 = omega arith in
-        let all : length (waiting_from kind next place posted) ≡ suc (length (waiting_from kind next (suc place) posted)) = ap (length {A = A}) (first_is (Byte b) (get_byte p.packet.bytes (end_token p.packet.mark) place b at)) in
-        let below : place < length p.packet.bytes = slice_get_within p.packet.bytes place b at in
-        let counted = is.counted in (
-          omega (arith, all, counted),
-          subst (λ (j : ℕ). IsOutbox kind next j (waiting - 1) posted) one (record {
-            inside = is.inside;
-            placed = subst (IsPlace (suc place)) (sym here) (let low : suc place ≤ length p.packet.bytes = omega (arith, below) in low);
-            counted = omega (arith, all, counted);
-          }),
-        )
-
-    pub end_keeps : (waiting : ℕ) → IsOutbox kind next place waiting posted → place ≡ length p.packet.bytes → (1 ≤ waiting) × IsOutbox kind (next + 1) 0 (waiting - 1) posted
-    end_keeps waiting is at =
-        let one : suc next ≡ next + 1 = omega arith in
-        let all : length (waiting_from kind next place posted) ≡ suc (length (waiting_from kind (suc next) 0 posted)) = ap (length {A = A}) (end_first at) in
-        let below : next < length posted = slice_get_within posted next p here in
-        let counted = is.counted in (
-          omega (arith, all, counted),
-          subst (λ (j : ℕ). IsOutbox kind j 0 (waiting - 1) posted) one (record {
-            inside = omega (arith, below);
-            placed = first_place (slice_get posted (suc next));
-            counted = omega (arith, all, counted);
-          }),
-        )
-
-  pub takes_none : (t : Terminal A) (posted : List TerminalPacket) (next place : ℕ) → slice_get posted next ≡ None → IsPlace place (slice_get posted next) → t.output.items ≡ waiting_from kind next place posted → waiting_taken t ≡ (None, t)
-  takes_none t posted next place none is items =
-      let nothing : waiting_from kind next place posted ≡ [] = ap (λ ps. drop place (posted_tokens kind next ps)) (drop_none posted next none) ∙ drop_none [] place refl in
-      ap (taken_of t) (items ∙ nothing)
+        pub rest_taken : (t : Terminal A) → t.output.items ≡ waiting_from kind next place posted → waiting_taken t ≡ (Some x, record t { output = record { items = waiting_from kind after at posted; credit = t.output.credit } })
+        rest_taken t items = ap (taken_of t) (items ∙ rest_waits)
 
   -- a packet's tokens join those that wait
   posted_more : (n : ℕ) (ps : List TerminalPacket) (p : TerminalPacket) → posted_tokens kind n (ps ++ p ∷ []) ≡ posted_tokens kind n ps ++ sent_tokens kind p.terminal (n + length ps) p.packet

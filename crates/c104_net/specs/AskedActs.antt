@@ -1,6 +1,8 @@
 -- What an event asks, as it is held: a packet that is to be sent is only lent.
-use Rattle.std.specs.Prelude.{◌≡◌, ◌≢◌}
+use Rattle.std.specs.Prelude.{◌≡◌, ◌≢◌, None, Some}
 use Rattle.c104_plan.specs.Plans.{Plan}
+use Rattle.c104_plan.specs.Wiring.{peer}
+use Rattle.c104_net.specs.ActLinks.{act_link}
 use Rattle.c104_net.specs.Acts.{IsWithinLimits}
 use Rattle.c104_net.specs.EventActs.{Acts, port_place}
 use Rattle.c104_net.specs.declared.acts.ActOf.TheVariants as act
@@ -13,10 +15,11 @@ acts_asked (asked.Alone k a) = Acts.Alone k a
 acts_asked (asked.Send k packet) = Acts.Alone k (act.Send packet.now)
 acts_asked (asked.Joint near far joint) = Acts.Joint joint.near joint.far joint.crossing
 
--- what is asked of one node is within the limits of a packet, and what crosses a wire is asked of the nodes at its two
--- ports, which are two
+-- what is asked of one node is within the limits of a packet and goes over no link, and what crosses a wire is asked of
+-- the nodes at its two ports, which are two
 abbrev pub AreEnds : {A : Type 0} → Plan → Asked A → Type 0
-AreEnds plan (asked.Alone k a) = IsWithinLimits a
+AreEnds plan (asked.Alone k a) = IsWithinLimits a × (act_link a ≡ None)
 AreEnds {A} plan (asked.Send k packet) = IsWithinLimits {A = A} (act.Send packet.now)
 AreEnds plan (asked.Joint near far joint) =
     (near ≡ port_place plan joint.near) × (far ≡ port_place plan joint.far) × (near ≢ far)
+    × (peer plan joint.near ≡ Some joint.far)

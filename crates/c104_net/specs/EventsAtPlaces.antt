@@ -11,7 +11,7 @@ use Rattle.c104_net.specs.Acts.{plain_reply}
 use Rattle.c104_net.specs.EventActs.{Acts, acts_limit, acts_step, port_place}
 use Rattle.c104_net.specs.Network.{AnswersWith, network_of}
 use Rattle.c104_net.specs.PlaceActs.{AreDone}
-use Rattle.c104_net.specs.Places.{Shown, fulls, starts, states, traces}
+use Rattle.c104_net.specs.Places.{Shown, bases, fulls, states, traces}
 use Rattle.c104_net.specs.Traces.{Deed, acts_full, event_deeds, event_full, joint_deeds, kept_of, lone_deed, noted_all, plain_act}
 
 -- the entries of some acts that were answered so
@@ -39,5 +39,5 @@ module _ {A : Type 0} (kind : Kind A) (keeps : Bool) (plan : Plan) (stamp : Stam
     pub answers : AnswersWith kind (event_full plan (fulls olds) e) (network_of plan (states olds)) e
         answer (network_of plan (states news))
     pub free : IfOk answer (λ r. is_ready r ≡ true → event_full plan (fulls olds) e ≡ false)
-    pub start : starts news ≡ starts olds
+    pub base : bases news ≡ bases olds
     pub trace : traces news ≡ noted_all keeps (traces olds) (kept_of (event_deeds plan stamp e) answer)

@@ -21,6 +21,8 @@ pub mod EventPlaces
 pub mod AskedActs
 pub mod Runs
 pub mod NetRecords
+pub mod ActLinks
+pub mod WiredPlaces
 pub mod WiredActs
 pub mod Finished
 pub mod EventRuns
@@ -52,3 +54,6 @@ pub mod Tagged
 pub mod TracedRecords
 pub mod RecordedNets
 pub mod RecordedPlaces
+pub mod SpareRooms
+pub mod LentNodes
+pub mod StartNumbers

@@ -11,7 +11,7 @@ use Rattle.c104_net.specs.declared.stamps.Stamp.{Stamp}
 use Rattle.c104_net.specs.Acts.{node_act, nodes_act, plain_reply, reply_outcome, wants_memory}
 use Rattle.c104_net.specs.EventActs.{act_limit, joint_step}
 use Rattle.c104_net.specs.Nodes.{Node}
-use Rattle.c104_net.specs.Places.{Shown, fulls, room_fault, starts, states, traces}
+use Rattle.c104_net.specs.Places.{Shown, fulls, bases, room_fault, states, traces}
 use Rattle.c104_net.specs.Traces.{Deed, full_at, joint_deeds, kept_entry, kept_of, lone_deed, noted, noted_all, noted_at, plain_act}
 
 -- how acts end: they are answered as is due, and no limit and no full trace was in the way where they are ready; or they
@@ -30,7 +30,7 @@ pub record AreDone {A : Type 0} (keeps : Bool) (limit : Option EventFault) (made
     (full : Bool) (deeds : ReplyOf A → List Deed) (olds : List (Shown A)) (answer : Result (ReplyOf A) EventFault)
     (news : List (Shown A)) : Type 0 where
   pub ends : ActsEnd limit made full (states olds) answer (states news)
-  pub start : starts news ≡ starts olds
+  pub base : bases news ≡ bases olds
   pub trace : traces news ≡ noted_all keeps (traces olds) (kept_of deeds answer)
 
 module _ {A : Type 0} (kind : Kind A) (keeps : Bool) where
@@ -38,7 +38,7 @@ module _ {A : Type 0} (kind : Kind A) (keeps : Bool) where
   pub record HasActed (number : ℕ) (stamp : Stamp) (a : ActOf A) (old : Shown A) (reply : ReplyOf A) (new : Shown A)
       : Type 0 where
     pub acted : ◌≡◌ {A = ReplyOf A × Node A} (reply, new.state) (reply_outcome (node_act kind number a old.state) old.state)
-    pub start : new.start ≡ old.start
+    pub base : new.base ≡ old.base
     pub trace : new.trace ≡ noted keeps old.trace (kept_entry kind stamp a reply)
 
   -- how an act of a place ends that is ready: it is done; or memory has run out, which few acts want, and nothing changed
@@ -50,7 +50,7 @@ module _ {A : Type 0} (kind : Kind A) (keeps : Bool) where
   pub record HasActedAt (place number : ℕ) (stamp : Stamp) (a : ActOf A) (olds : List (Shown A)) (reply : ReplyOf A)
       (news : List (Shown A)) : Type 0 where
     pub acted : nodes_act kind (states olds) place number a ≡ Some (reply, states news)
-    pub start : starts news ≡ starts olds
+    pub base : bases news ≡ bases olds
     pub trace : traces news ≡ noted_at keeps (traces olds) place (kept_entry kind stamp a reply)
 
   abbrev pub ActEndsAt : {E : Type 0} → ℕ → ℕ → Stamp → ActOf A → List (Shown A) → Result (ReplyOf A) E

@@ -7,25 +7,40 @@ use Rattle.c104_net.specs.declared.starts.NodeStart.{NodeStart}
 use Rattle.c104_net.specs.Nodes.{Node}
 use Rattle.c104_net.specs.Traces.{is_trace_full}
 
--- what a place shows: its node, where the node started, if that is kept, the entries that are kept of it, and whether
--- no further one may be kept
+-- what no act changes of a place: where its node started, if that is kept, and which of its links have wires, if that is
+pub record PlaceBase : Type 0 where
+  pub start : Option NodeStart
+  pub wired : Option (ℕ → Bool)
+
+-- a place of which it is kept where its node started
+abbrev pub started_base : NodeStart → PlaceBase
+started_base s = record { start = Some s; wired = None }
+
+-- what a place shows: its node, what no act changes, the entries that are kept of the node, and whether no further one
+-- may be kept
 pub record Shown (A : Type 0) : Type 0 where
   pub state : Node A
-  pub start : Option NodeStart
+  pub base : PlaceBase
   pub trace : List Entry
   pub full : Bool
 
 -- a node alone, of which nothing is kept
 abbrev pub bare_shown : {A : Type 0} → Node A → Shown A
-bare_shown n = record { state = n; start = None; trace = []; full = false }
+bare_shown n = record { state = n; base = record { start = None; wired = None }; trace = []; full = false }
+
+abbrev pub base_start : PlaceBase → Option NodeStart
+base_start b = b.start
+
+abbrev pub base_wired : PlaceBase → Option (ℕ → Bool)
+base_wired b = b.wired
 
 module _ {A : Type 0} where
   -- one thing of what each of some places shows
   abbrev pub states : List (Shown A) → List (Node A)
   states shown = map (λ (s : Shown A). s.state) shown
 
-  abbrev pub starts : List (Shown A) → List (Option NodeStart)
-  starts shown = map (λ (s : Shown A). s.start) shown
+  abbrev pub bases : List (Shown A) → List PlaceBase
+  bases shown = map (λ (s : Shown A). s.base) shown
 
   abbrev pub traces : List (Shown A) → List (List Entry)
   traces shown = map (λ (s : Shown A). s.trace) shown

@@ -1,6 +1,6 @@
 -- Networks whose nodes are seen with their records over plain tokens, whatever kind of token they carry, and whatever
 -- is kept beside a node when they run.
-use Rattle.std.specs.Prelude.{ℕ, ◌≡◌, true, Bool, List, [], Some, map}
+use Rattle.std.specs.Prelude.{ℕ, ◌≡◌, true, Bool, List, [], Option, Some, map}
 use Rattle.c104_token.specs.declared.tokens.Token.{Token}
 use Rattle.c104_token.specs.Kinds.{Kind}
 use Rattle.c104_switch.specs.Actions.{Reply}
@@ -36,12 +36,15 @@ read_state v p = (v.shown p).state
 abbrev pub read_trace : {A P : Type 0} → Reading A P → P → List Entry
 read_trace v p = (v.shown p).trace
 
--- what a place tells of its node, and what it tells where a run begins there
-abbrev pub place_told : {A P : Type 0} → (P → Shown A) → (P → NodeStart) → P → Node A × NodeStart × List Entry
-place_told shown start p = ((shown p).state, start p, (shown p).trace)
+-- what a place tells of its node, and what it tells where a run begins there: what is known of its wires stays
+abbrev pub Told : Type 0 → Type 0
+Told A = Node A × NodeStart × List Entry × Option (ℕ → Bool)
 
-abbrev pub begun_told : {A : Type 0} → Node A × NodeStart × List Entry → Node A × NodeStart × List Entry
-begun_told told = (node_begin told.0, start_of told.0, [])
+abbrev pub place_told : {A P : Type 0} → (P → Shown A) → (P → NodeStart) → P → Told A
+place_told shown start p = ((shown p).state, start p, (shown p).trace, (shown p).base.wired)
+
+abbrev pub begun_told : {A : Type 0} → Told A → Told A
+begun_told told = (node_begin told.0, start_of told.0, [], told.3)
 
 -- the network with its record that places and such a count show
 abbrev pub places_record : {A P : Type 0} → Reading A P → Plan → List P → ℕ → NetRecord
@@ -70,10 +73,10 @@ pub record KeepsTokens {A : Type 0} (kind : Kind A) : Type 0 where
 pub record IsReading {A P : Type 0} (v : Reading A P) : Type 0 where
   pub tokens : KeepsTokens v.kind
   pub plain : (p : P) → v.plain p ≡ map_node v.kind.plain (read_state v p)
+  pub started : (p : P) → (v.shown p).base.start ≡ Some (v.start p)
 
 -- whatever is kept beside a node when it runs, it is told of its entries: they are kept, and it is known where the node
 -- started
 pub record KeepsRecord {A P : Type 0} (v : Reading A P) (keeps : Bool) : Type 0 where
   pub reads : IsReading v
   pub keeping : keeps ≡ true
-  pub started : (p : P) → (v.shown p).start ≡ Some (v.start p)

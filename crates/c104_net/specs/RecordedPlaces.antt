@@ -1,6 +1,6 @@
 -- The two places of nodes with their records: a node of plain tokens that keeps its entries, and one of tagged tokens
 -- that counts them.
-use Rattle.std.specs.Prelude.{ℕ, ◌≡◌, true, false, Bool, List, [], ◌∷◌, Some, map, refl}
+use Rattle.std.specs.Prelude.{ℕ, ◌≡◌, true, false, Bool, List, [], ◌∷◌, map, refl}
 use Rattle.std.proofs.Common.{ap, sym, ◌∙◌}
 use Rattle.c104_token.specs.declared.tokens.Token.{Token}
 use Rattle.c104_token.specs.Kinds.{plain_kind}
@@ -12,7 +12,7 @@ use Rattle.c104_switch.specs.declared.phase.Phase.{Phase}
 use Rattle.c104_switch.specs.declared.phase.Phase.TheVariants.{Fresh, Head, Want, Stream, Sinking}
 use Rattle.c104_net.specs.declared.node.NodeOf.TheVariants as node
 use Rattle.c104_net.specs.NetRecords.{node_start, node_state}
-use Rattle.c104_net.specs.Places.{Shown}
+use Rattle.c104_net.specs.Places.{Shown, started_base}
 use Rattle.c104_net.specs.Traces.{is_trace_full}
 use Rattle.c104_net.specs.Nodes.{Node}
 use Rattle.c104_net.specs.RecordedNets.{reading, KeepsRecord, Reading}
@@ -72,7 +72,7 @@ node_self (node.Terminal t) = sym (ap node.Terminal (terminal_self t))
 abbrev pub node_shown : NodeRecord × ℕ → Shown Token
 node_shown n = record {
   state = n.0.state;
-  start = Some n.0.start;
+  base = started_base n.0.start;
   trace = n.0.trace;
   full = is_trace_full n.0.trace;
 }
@@ -83,16 +83,15 @@ node_reading = reading plain_kind node_shown node_state node_start
 
 pub node_keeps : KeepsRecord node_reading true
 node_keeps = record {
-  reads = record { tokens = record { random = λ j x. refl; sent = λ t n j x. refl }; plain = λ n. node_self n.0.state };
+  reads = record { tokens = record { random = λ j x. refl; sent = λ t n j x. refl }; plain = λ n. node_self n.0.state; started = λ n. refl };
   keeping = refl;
-  started = λ n. refl;
 }
 
 -- what is shown of a node of tagged tokens that counts them
 abbrev pub counted_shown : TracedRecord → Shown TaggedToken
 counted_shown n = record {
   state = n.state;
-  start = Some n.start;
+  base = started_base n.start;
   trace = n.trace;
   full = is_trace_full n.trace;
 }
@@ -108,7 +107,6 @@ plain_by false x t n = refl
 
 pub counted_keeps : KeepsRecord counted_reading true
 counted_keeps = record {
-  reads = record { tokens = record { random = λ j x. refl; sent = λ t n j x. plain_by (is_end x) x t n }; plain = λ n. refl };
+  reads = record { tokens = record { random = λ j x. refl; sent = λ t n j x. plain_by (is_end x) x t n }; plain = λ n. refl; started = λ n. refl };
   keeping = refl;
-  started = λ n. refl;
 }

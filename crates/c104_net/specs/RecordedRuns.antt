@@ -1,5 +1,5 @@
 -- What events come to in a network with its record, one alone or in turn.
-use Rattle.std.specs.Prelude.{ℕ, ◌≡◌, ◌↔◌, true, false, List, Result, Some, map}
+use Rattle.std.specs.Prelude.{ℕ, ◌≡◌, ◌↔◌, true, false, List, Result, map}
 use Rattle.c104_token.specs.declared.tokens.Token.{Token}
 use Rattle.c104_token.specs.Kinds.{plain_kind}
 use Rattle.c104_switch.specs.Actions.{Reply}
@@ -9,6 +9,7 @@ use Rattle.c104_net.specs.declared.starts.NodeStart.{NodeStart}
 use Rattle.c104_net.specs.EventRuns.{Answers, EventsEnd}
 use Rattle.c104_net.specs.Network.{WouldBeDone}
 use Rattle.c104_net.specs.NetRecords.{is_done, NetRecord}
+use Rattle.c104_net.specs.Places.{started_base}
 use Rattle.c104_net.specs.Rounds.{rounds}
 use Rattle.c104_net.specs.Stages.{stage_apply, Stage}
 use Rattle.c104_net.specs.Traces.{event_full, is_trace_full}
@@ -17,7 +18,7 @@ use Rattle.c104_net.specs.Traces.{event_full, is_trace_full}
 abbrev pub record_stage : NetRecord → Stage Token
 record_stage r = record {
   network = r.network;
-  starts = map Some r.starts;
+  bases = map started_base r.starts;
   traces = r.traces;
   count = r.count;
 }

@@ -11,9 +11,12 @@ done_answer (Ok r) = Ok (is_ready r)
 done_answer (Err f) = Err f
 
 module _ {S : Type 0} (apply : S → Event → Result Reply EventFault × S) where
-  -- a part ends as the run of its events, and where it tells that none was done nothing has changed; or
-  -- it ends as a run that a fault stops
-  abbrev pub PartEnds : S → List Event → Result Bool EventFault → S → Type 0
-  PartEnds s events (Ok changed) after =
+  -- how a part ends: as the run of its events, and where it tells that none was done nothing has changed; or as a run
+  -- that a fault stops
+  abbrev pub Ending : S → List Event → Result Bool EventFault → S → Type 0
+  Ending s events (Ok changed) after =
       (run_events apply s events ≡ (Ok tt, after)) × (changed ≡ false → after ≡ s)
-  PartEnds s events (Err f) after = EventsEnd apply s events (Err f) after
+  Ending s events (Err f) after = EventsEnd apply s events (Err f) after
+
+  pub record PartEnds (s : S) (events : List Event) (result : Result Bool EventFault) (after : S) : Type 0 where
+    pub ends : Ending s events result after

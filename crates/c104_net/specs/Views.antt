@@ -11,7 +11,7 @@ use Rattle.c104_plan.specs.declared.ports.Port.TheVariants as port
 use Rattle.c104_net.specs.Terminals as terminal
 use Rattle.c104_net.specs.declared.node.NodeOf.TheVariants.{Switch, Terminal}
 use Rattle.c104_net.specs.declared.terminal.views.TerminalView.{TerminalView}
-use Rattle.c104_net.specs.Nodes.{Node}
+use Rattle.c104_net.specs.Nodes.{Node, node_leave}
 use Rattle.c104_net.specs.Network.{Network, terminal_place}
 
 -- what is seen of a terminal
@@ -38,6 +38,10 @@ network_terminal_view net t =
     if nat_lt t (length net.plan.terminals)
     then nodes_terminal_view net.nodes (terminal_place net.plan t)
     else None
+
+-- the token that would go out next over link l of a node, if one can
+abbrev pub node_next_token : {A : Type 0} → ℕ → Node A → Option A
+node_next_token l n = node_leave l n >>= (λ r. Some r.0)
 
 -- the token at place k of what came in over link l of a node; a terminal has one link
 abbrev pub node_input_token : {A : Type 0} → ℕ → ℕ → Node A → Option A

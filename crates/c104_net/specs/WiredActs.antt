@@ -1,40 +1,17 @@
 -- The acts of a node that go over a link: tokens and credits come in and go out there, and such a link has a wire.
-use Rattle.std.specs.Prelude.{ℕ, ◌≡◌, All, List, Option, Some, None, slice_get}
+use Rattle.std.specs.Prelude.{ℕ, ◌≡◌, All, List, Some, slice_get}
 use Rattle.c104_token.specs.declared.tokens.Token.{Token}
-use Rattle.c104_switch.specs.declared.actions.ActionOf.{ActionOf}
-use Rattle.c104_switch.specs.declared.actions.ActionOf.TheVariants as action
 use Rattle.c104_plan.specs.declared.ports.Port.{Port}
 use Rattle.c104_plan.specs.Plans.{Plan}
 use Rattle.c104_plan.specs.Wiring.{peer}
-use Rattle.c104_net.specs.declared.acts.ActOf.{ActOf}
-use Rattle.c104_net.specs.declared.acts.ActOf.TheVariants as act
 use Rattle.c104_net.specs.declared.acts.Entry.{Entry}
 use Rattle.c104_net.specs.declared.ends.End.{End}
 use Rattle.c104_net.specs.declared.starts.NodeStart.{NodeStart}
+use Rattle.c104_net.specs.ActLinks.{act_link}
 use Rattle.c104_net.specs.Ends.{end_of}
 use Rattle.c104_net.specs.NetRecords.{NetRecord}
 use Rattle.c104_net.specs.Nodes.{Node}
 use Rattle.c104_net.specs.Records.{IsRecorded, NodeRecord}
-
--- the link of a switch that an action goes over, if it goes over one
-abbrev pub action_link : {A : Type 0} → ActionOf A → Option ℕ
-action_link (action.Enter l x) = Some l
-action_link (action.Leave l) = Some l
-action_link (action.CreditOut l) = Some l
-action_link (action.CreditIn l) = Some l
-action_link (action.Input l word) = None
-action_link (action.Claim i o) = None
-action_link (action.Control bytes) = None
-
--- the same of an act of a node; the one link of a terminal is 0
-abbrev pub act_link : {A : Type 0} → ActOf A → Option ℕ
-act_link (act.Step a) = action_link a
-act_link (act.Send packet) = None
-act_link act.Drain = None
-act_link act.Leave = Some 0
-act_link (act.Enter x) = Some 0
-act_link act.CreditOut = Some 0
-act_link act.CreditIn = Some 0
 
 -- there is a port at this end of a wire, and another at the wire's other end
 abbrev pub IsWiredEnd : Plan → End → Type 0

@@ -1,6 +1,8 @@
 //! The events of a network, over any places of its nodes: one act, or one at each end of a wire.
 ghost use Rattle.std.specs.Prelude.{◌≡◌, map};
 ghost use Rattle.c104_plan.specs.Plans.{IsPlan};
+ghost use Rattle.c104_net.specs.Places.{bases};
+ghost use Rattle.c104_net.specs.WiredPlaces.{KnowWires};
 ghost use Rattle.c104_net.specs.EventsAtPlaces.{EventDone, told_answer};
 
 use crate::asked::acts_of;
@@ -20,6 +22,7 @@ pub fn happen<T: TokenKind, P: Place<T>>(
     stamp: Stamp,
     event: &Event,
 ) -> Result<Reply, EventFault>
+    requires knows { KnowWires wires.now (bases (map P.shown places.old)) }
     ensures done { EventDone T.kind P.keeps wires.now stamp event.now (map P.shown places.old) result (map P.shown places.new) }
     ensures kept { IsPlan wires.now }
 {
@@ -44,6 +47,7 @@ fn do_asked<T: TokenKind, P: Place<T>>(
     stamp: Stamp,
     event: &Event,
 ) -> Result<Reply, EventFault>
+    requires knows { KnowWires wires.now (bases (map P.shown places.old)) }
     ensures done { EventDone T.kind P.keeps wires.now stamp event.now (map P.shown places.old) result (map P.shown places.new) }
     ensures kept { IsPlan wires.now }
 {

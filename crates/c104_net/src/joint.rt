@@ -1,11 +1,13 @@
 //! What crosses a wire, done at the nodes of both its ends, or at neither.
-ghost use Rattle.std.specs.Prelude.{◌≡◌, ◌≢◌, ◌<◌, ◌||◌, ℕ, Some, map, length, true, false, is_some, OnOk};
+ghost use Rattle.std.specs.Prelude.{◌≡◌, ◌≢◌, ◌<◌, ◌||◌, Some, map, length, true, false, is_some, OnOk};
 ghost use Rattle.c104_switch.specs.Actions.{is_ready};
 ghost use Rattle.c104_switch.specs.declared.actions.ReplyOf.{ReplyOf as TheReply};
 ghost use Rattle.c104_net.specs.Acts.{nodes_act};
 ghost use Rattle.c104_net.specs.EventActs.{IsAnswerOf, far_act, joint_step, near_act};
 ghost use Rattle.c104_net.specs.PlaceActs.{JointDone};
-ghost use Rattle.c104_net.specs.Places.{HasRoomAt, fulls, starts, states, traces};
+ghost use Rattle.c104_net.specs.ActLinks.{port_link};
+ghost use Rattle.c104_net.specs.WiredPlaces.{links_at};
+ghost use Rattle.c104_net.specs.Places.{HasRoomAt, bases, fulls, states, traces};
 ghost use Rattle.c104_net.specs.Traces.{full_at, joint_deeds, noted_all};
 
 use crate::acts::ActOf;
@@ -26,7 +28,9 @@ pub fn joint_at<T: TokenKind, P: Place<T>>(
     joint: Joint,
     stamp: Stamp,
 ) -> Result<ReplyOf<T>, EventFault>
-    requires { near ≢ far }
+    requires apart { near ≢ far }
+    requires near_linked { links_at (bases (map P.shown places.old)) near (port_link joint.near) ≡ true }
+    requires far_linked { links_at (bases (map P.shown places.old)) far (port_link joint.far) ≡ true }
     ensures { JointDone T.kind P.keeps near far joint stamp (map P.shown places.old) result (map P.shown places.new) }
 {
     if !can_near_at(places, near, joint.crossing, joint.near) {
@@ -45,6 +49,8 @@ pub fn joint_from<T: TokenKind, P: Place<T>>(
     stamp: Stamp,
 ) -> Result<ReplyOf<T>, EventFault>
     requires apart { near ≢ far }
+    requires near_linked { links_at (bases (map P.shown places.old)) near (port_link joint.near) ≡ true }
+    requires far_linked { links_at (bases (map P.shown places.old)) far (port_link joint.far) ≡ true }
     requires goes { is_some
         (nodes_act T.kind (states (map P.shown places.old)) near 0 (near_act joint.crossing joint.near)) ≡ true }
     ensures { JointDone T.kind P.keeps near far joint stamp (map P.shown places.old) result (map P.shown places.new) }
@@ -160,6 +166,8 @@ fn cross_open<T: TokenKind, P: Place<T>>(
     requires far { far < length places.old }
     requires near_room { HasRoomAt P.has_room places.old near }
     requires far_room { HasRoomAt P.has_room places.old far }
+    requires near_linked { links_at (bases (map P.shown places.old)) near (port_link joint.near) ≡ true }
+    requires far_linked { links_at (bases (map P.shown places.old)) far (port_link joint.far) ≡ true }
     requires goes { is_some
         (nodes_act T.kind (states (map P.shown places.old)) near 0 (near_act joint.crossing joint.near)) ≡ true }
     requires comes { (reply : TheReply T) → IsAnswerOf joint.crossing reply → is_some
@@ -167,7 +175,7 @@ fn cross_open<T: TokenKind, P: Place<T>>(
     ensures crossed { joint_step T.kind near far joint.near joint.far joint.crossing (states (map P.shown places.old))
         ≡ Some (result, states (map P.shown places.new)) }
     ensures done { is_ready result ≡ true }
-    ensures start { starts (map P.shown places.new) ≡ starts (map P.shown places.old) }
+    ensures base { bases (map P.shown places.new) ≡ bases (map P.shown places.old) }
     ensures trace { traces (map P.shown places.new) ≡ noted_all P.keeps (traces (map P.shown places.old))
         (joint_deeds T.kind stamp near far joint.near joint.far joint.crossing result) }
 {

@@ -30,6 +30,7 @@ mod faults;
 mod history;
 mod joint;
 mod leading;
+mod lent;
 mod net;
 mod node;
 mod origins;

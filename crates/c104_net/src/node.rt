@@ -5,6 +5,7 @@ ghost use Rattle.c104_net.specs.Nodes.{node_waiting, node_arrived, node_peek};
 ghost use Rattle.c104_net.specs.Finished.{terminals_of};
 
 mod acting;
+mod limits;
 pub mod quiet;
 mod reasons;
 pub mod starts;

@@ -9,7 +9,9 @@ ghost use Rattle.c104_net.specs.Traces.{full_at};
 ghost use Rattle.c104_switch.specs.Claims.{IsNextLink};
 ghost use Rattle.c104_net.specs.Nodes.{node_claim};
 ghost use Rattle.c104_net.specs.PlaceActs.{ActEndsAt, AloneDone, HasActedAt};
-ghost use Rattle.c104_net.specs.Places.{HasRoomAt, fulls, states};
+ghost use Rattle.c104_net.specs.ActLinks.{act_link};
+ghost use Rattle.c104_net.specs.WiredPlaces.{is_linked_at};
+ghost use Rattle.c104_net.specs.Places.{bases, HasRoomAt, fulls, states};
 ghost use Rattle.c104_net.specs.PortParts.{is_ready_at, PassesUnready};
 
 use crate::acts::ActOf;
@@ -85,6 +87,8 @@ fn act_at<T: TokenKind, P: Place<T>>(
 ) -> Result<ReplyOf<T>, NoMemory>
     requires inside { place < length places.old }
     requires short { IsWithinLimits act }
+    requires linked { is_linked_at (bases (map P.shown places.old)) place act ≡ true }
+    requires below { act_limit (slice_get (states (map P.shown places.old)) place) act ≡ None }
     requires room { HasRoomAt P.has_room places.old place }
     requires ready { is_some (nodes_act T.kind (states (map P.shown places.old)) place number act) ≡ true }
     ensures ends { ActEndsAt T.kind P.keeps place number stamp act
@@ -106,6 +110,7 @@ pub fn act_sure<T: TokenKind, P: Place<T>>(
 ) -> ReplyOf<T>
     requires inside { place < length places.old }
     requires short { IsWithinLimits act }
+    requires linked { is_linked_at (bases (map P.shown places.old)) place act ≡ true }
     requires light { wants_memory act ≡ false }
     requires room { HasRoomAt P.has_room places.old place }
     requires ready { is_some (nodes_act T.kind (states (map P.shown places.old)) place 0 act) ≡ true }
@@ -132,6 +137,7 @@ pub fn act_ready<T: TokenKind, P: Place<T>>(
     requires inside { place < length places.old }
     requires short { IsWithinLimits act }
     requires ready { is_some (nodes_act T.kind (states (map P.shown places.old)) place number act) ≡ true }
+    requires lone { act_link act ≡ None }
     requires within { act_limit (slice_get (states (map P.shown places.old)) place) act ≡ None }
     ensures { AloneDone T.kind P.keeps place number stamp act (map P.shown places.old) result (map P.shown places.new) }
 {

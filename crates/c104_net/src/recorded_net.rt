@@ -33,7 +33,10 @@ pub struct RecordedNet<T: TokenKind, P: RecordedPlace<T>> {
 }
 
 impl<T: TokenKind, P: RecordedPlace<T>> Model for RecordedNet<T, P> {
+    ghost use Rattle.std.specs.Prelude.{map};
     ghost use Rattle.c104_net.specs.NetRecords.{NetRecord};
+    ghost use Rattle.c104_net.specs.Places.{bases};
+    ghost use Rattle.c104_net.specs.WiredPlaces.{KnowWires};
     ghost use Rattle.c104_net.specs.RecordedNets.{places_record, reading, IsRecordedNet};
 
     ghost Value = { NetRecord };
@@ -43,7 +46,8 @@ impl<T: TokenKind, P: RecordedPlace<T>> Model for RecordedNet<T, P> {
 
     ghost invariant = { λ net.
         IsRecordedNet (reading T.kind P.shown P.plain P.begun_at) net.wires net.places.items net.count
-        × P.fits net.wires net.room };
+        × P.fits net.wires net.room
+        × KnowWires net.wires (bases (map P.shown net.places.items)) };
 }
 
 impl<T: TokenKind, P: RecordedPlace<T>> RecordedNet<T, P> {

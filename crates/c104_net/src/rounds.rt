@@ -2,8 +2,10 @@
 //!
 //! No list of a round's events is made. Each part walks what its events are about, and leaves out an
 //! event of which the near end says that it isn't ready: it would change nothing.
-ghost use Rattle.std.specs.Prelude.{map, ◌≡◌};
+ghost use Rattle.std.specs.Prelude.{map};
 ghost use Rattle.c104_plan.specs.Plans.{IsPlan};
+ghost use Rattle.c104_net.specs.Places.{bases};
+ghost use Rattle.c104_net.specs.WiredPlaces.{KnowWires};
 ghost use Rattle.c104_net.specs.EventRuns.{EventsEnd};
 ghost use Rattle.c104_net.specs.Rounds.{round, rounds};
 ghost use Rattle.c104_net.specs.RoundParts.{PartEnds};
@@ -29,6 +31,7 @@ pub fn rounds_at<T: TokenKind, P: Place<T>, W: Watch>(
     times: u32,
     watch: &mut W,
 ) -> Result<(), EventFault>
+    requires knows { KnowWires wires.now (bases (map P.shown places.old)) }
     ensures ends { EventsEnd (stage_apply T.kind P.keeps)
         (stage_of wires.now (map P.shown places.old) count.old) (rounds wires.now times)
         result (stage_of wires.now (map P.shown places.new) count.new) }
@@ -52,6 +55,7 @@ fn round_at<T: TokenKind, P: Place<T>>(
     places: &mut [P],
     count: &mut u64,
 ) -> Result<bool, EventFault>
+    requires knows { KnowWires wires.now (bases (map P.shown places.old)) }
     ensures { PartEnds (stage_apply T.kind P.keeps)
         (stage_of wires.now (map P.shown places.old) count.old) (round wires.now)
         result (stage_of wires.now (map P.shown places.new) count.new) }

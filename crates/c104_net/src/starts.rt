@@ -2,6 +2,8 @@
 ghost use Rattle.std.specs.Prelude.{◌↔◌, All, IsTrue};
 ghost use Rattle.c104_net.specs.Standstill.{IsStartedStart};
 
+mod numbers;
+
 use crate::terminal::TerminalStart;
 use c104_switch::SwitchStart;
 

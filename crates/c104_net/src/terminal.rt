@@ -1,20 +1,22 @@
 //! A terminal: where packets are sent and received.
-ghost use Rattle.std.specs.Prelude.{◌≡◌, ◌↔◌, ◌<◌, ◌≤◌, ◌+◌, [], length, map, is_some, IfOk, IfSome, IsTrue, OnOk, OnErr};
+ghost use Rattle.std.specs.Prelude.{◌≡◌, ◌↔◌, ◌<◌, ◌≤◌, ◌+◌, [], Some, length, map, is_some, slice_get, IfOk, IfSome, IsTrue, OnOk, OnErr};
 ghost use Rattle.c104_token.specs.declared.text.TheConstants.{MAX_PACKET_BYTES};
 ghost use Rattle.c104_link.specs.Buffers.{IsValidCap};
 ghost use Rattle.c104_link.specs.Steps.{bool_outcome, option_outcome};
 ghost use Rattle.c104_net.specs.Terminals.{new_terminal, terminal_enter, terminal_leave, terminal_credit_out};
 ghost use Rattle.c104_net.specs.Terminals.{terminal_credit_in, terminal_drain};
 ghost use Rattle.c104_net.specs.Outboxes.{waiting_taken};
-ghost use Rattle.c104_net.specs.Terminals.{terminal_begin, terminal_send};
+ghost use Rattle.c104_net.specs.Terminals.{sent_tokens, terminal_begin, terminal_send};
 
 mod reasons;
+mod spare;
 mod starts;
 mod tokens;
 mod views;
 
 use c104_link::{CREDIT_LIMIT, InBufferOf, TOKENS_OF_A_GRANT};
 use c104_token::{NoMemory, Packet, Token, TokenKind};
+pub use spare::SpareOf;
 pub use starts::TerminalStart;
 use std::alloc::Global;
 use std::marker::Model;
@@ -139,36 +141,30 @@ impl<T: TokenKind> TerminalOf<T> {
         Some(token)
     }
 
+    /// The first token that waits. None where none does.
+    pub fn first_waiting(&self) -> Option<T>
+        ensures { result ≡ slice_get self.now.output.items 0 }
+    {
+        let posted = self.sent.get(self.next)?;
+        Some(token_at(posted, self.next, self.place))
+    }
+
     /// The first token that waits is taken. None where none waits.
     #[inline(always)]
-    #[tactic(auto, using(crate::proofs::Waiting::takes_none))]
     fn take_waiting(&mut self) -> Option<T>
         ensures { (result, self.new) ≡ waiting_taken self.old }
     {
         let posted = self.sent.get(self.next)?;
-        let bytes = posted.packet.bytes.as_slice();
-        if self.place < bytes.len() {
-            let token = T::sent(
-                posted.terminal,
-                self.next,
-                self.place,
-                Token::Byte(bytes[self.place]),
-            );
+        let token = token_at(posted, self.next, self.place);
+        let last = posted.packet.bytes.as_slice().len();
+        self.waiting -= 1;
+        if self.place < last {
             self.place += 1;
-            self.waiting -= 1;
-            Some(token)
-        } else {
-            let token = T::sent(
-                posted.terminal,
-                self.next,
-                self.place,
-                posted.packet.mark.token(),
-            );
-            self.next += 1;
-            self.place = 0;
-            self.waiting -= 1;
-            Some(token)
+            return Some(token);
         }
+        self.next += 1;
+        self.place = 0;
+        Some(token)
     }
 
     /// Whether `leave` would let a token out.
@@ -258,6 +254,19 @@ impl<T: TokenKind> TerminalOf<T> {
         self.waiting = waiting;
         Ok(())
     }
+}
+
+/// The token at a place of a packet that was sent: one of its bytes, or its terminator.
+#[inline(always)]
+fn token_at<T: TokenKind>(posted: &TerminalPacket, number: usize, place: usize) -> T
+    requires { place ≤ length posted.now.packet.bytes }
+    ensures { slice_get (sent_tokens T.kind posted.now.terminal number posted.now.packet) place ≡ Some result }
+{
+    let bytes = posted.packet.bytes.as_slice();
+    if place < bytes.len() {
+        return T::sent(posted.terminal, number, place, Token::Byte(bytes[place]));
+    }
+    T::sent(posted.terminal, number, place, posted.packet.mark.token())
 }
 
 /// How many tokens wait after a packet has joined `waiting` of them. None where that is more than can be counted.

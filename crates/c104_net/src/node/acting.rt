@@ -1,7 +1,9 @@
 //! The acts of a node.
-ghost use Rattle.std.specs.Prelude.{◌≡◌, ◌<◌, ◌≤◌, ℕ, None, true, is_some, unwrap_or, IfSome, MatchResult};
+ghost use Rattle.std.specs.Prelude.{◌≡◌, ◌<◌, ◌≤◌, ℕ, Some, None, true, false, is_some, unwrap_or, IfSome, MatchResult};
 ghost use Rattle.c104_net.specs.Acts.{IsWithinLimits, node_act, reply_outcome, wants_memory};
 ghost use Rattle.c104_regs.specs.declared.registers.TheConstants.{LINKS};
+ghost use Rattle.c104_net.specs.EventActs.{act_limit};
+ghost use Rattle.c104_net.specs.SpareRooms.{IsEnough};
 ghost use Rattle.c104_net.specs.Nodes.{node_claim};
 ghost use Rattle.c104_switch.specs.Actions.{done_reply, token_reply};
 ghost use Rattle.c104_switch.specs.Claims.{IsNextLink};
@@ -10,6 +12,7 @@ ghost use Rattle.c104_net.specs.PortParts.{is_node_ready, PassesUnready};
 use crate::acts::ActOf;
 use crate::node::NodeOf;
 use crate::port_part::PortPart;
+use crate::terminal::SpareOf;
 use c104_switch::{ActionOf, LinkSet, ReplyOf};
 use c104_token::{NoMemory, TokenKind};
 
@@ -17,7 +20,6 @@ impl<T: TokenKind> NodeOf<T> {
     /// Does an act, or answers NotReady and changes nothing. The number is the terminal's, if the
     /// node is one. Only Send and Drain may want memory, and then nothing has changed.
     #[inline(always)]
-    #[tactic(auto, using(crate::proofs::ActionSteps::step_as_node))]
     pub fn act(&mut self, number: usize, act: &ActOf<T>) -> Result<ReplyOf<T>, NoMemory>
         requires { IsWithinLimits act.now }
         ensures acted { MatchResult result
@@ -28,25 +30,73 @@ impl<T: TokenKind> NodeOf<T> {
             (λ _. Unit {0})
             (λ _. wants_memory act.now ≡ true) }
     {
-        match self {
-            NodeOf::Switch(switch) => match act {
-                ActOf::Step(action) => Ok(switch.act(action)),
-                _ => Ok(ReplyOf::NotReady),
-            },
-            NodeOf::Terminal(terminal) => match act {
-                ActOf::Step(_) => Ok(ReplyOf::NotReady),
-                ActOf::Send(packet) => {
+        match act {
+            ActOf::Send(packet) => match self {
+                NodeOf::Switch(_) => Ok(ReplyOf::NotReady),
+                NodeOf::Terminal(terminal) => {
                     terminal.send(number, packet.packet())?;
                     Ok(ReplyOf::Done)
                 }
-                ActOf::Drain => {
+            },
+            ActOf::Drain => match self {
+                NodeOf::Switch(_) => Ok(ReplyOf::NotReady),
+                NodeOf::Terminal(terminal) => {
                     let token = terminal.drain()?;
                     Ok(gave(token))
                 }
-                ActOf::Leave => Ok(gave(terminal.leave())),
-                ActOf::Enter(token) => Ok(done(terminal.enter(*token))),
-                ActOf::CreditOut => Ok(done(terminal.credit_out())),
-                ActOf::CreditIn => Ok(done(terminal.credit_in())),
+            },
+            _ => Ok(self.act_light(act)),
+        }
+    }
+
+    /// Does an act, as `act`, but without memory: it was set aside before.
+    #[inline(always)]
+    pub fn act_reserved(
+        &mut self,
+        number: usize,
+        act: &ActOf<T>,
+        spare: &mut SpareOf<T>,
+    ) -> ReplyOf<T>
+        requires below { act_limit (Some self.old) act.now ≡ None }
+        requires enough { IsEnough spare.old self.old act.now }
+        ensures { (result, self.new) ≡ reply_outcome (node_act T.kind number act.now self.old) self.old }
+    {
+        match act {
+            ActOf::Send(_) => match self {
+                NodeOf::Switch(_) => ReplyOf::NotReady,
+                NodeOf::Terminal(terminal) => {
+                    terminal.send_reserved(number, spare);
+                    ReplyOf::Done
+                }
+            },
+            ActOf::Drain => match self {
+                NodeOf::Switch(_) => ReplyOf::NotReady,
+                NodeOf::Terminal(terminal) => gave(terminal.drain_reserved(spare)),
+            },
+            _ => self.act_light(act),
+        }
+    }
+
+    /// Does an act that wants no memory, or answers NotReady and changes nothing.
+    #[inline(always)]
+    #[tactic(auto, using(crate::proofs::ActionSteps::step_as_node))]
+    fn act_light(&mut self, act: &ActOf<T>) -> ReplyOf<T>
+        requires { wants_memory act.now ≡ false }
+        ensures { (number : ℕ) → (result, self.new) ≡
+            reply_outcome (node_act T.kind number act.now self.old) self.old }
+    {
+        match self {
+            NodeOf::Switch(switch) => match act {
+                ActOf::Step(action) => switch.act(action),
+                _ => ReplyOf::NotReady,
+            },
+            NodeOf::Terminal(terminal) => match act {
+                ActOf::Step(_) => ReplyOf::NotReady,
+                ActOf::Leave => gave(terminal.leave()),
+                ActOf::Enter(token) => done(terminal.enter(*token)),
+                ActOf::CreditOut => done(terminal.credit_out()),
+                ActOf::CreditIn => done(terminal.credit_in()),
+                ActOf::Send(_) | ActOf::Drain => unreachable!(),
             },
         }
     }

@@ -7,6 +7,9 @@ ghost use Rattle.c104_plan.specs.declared.ports.Port.TheVariants as port;
 ghost use Rattle.c104_event.specs.declared.events.Event.{Event as TheEvent};
 ghost use Rattle.c104_event.specs.declared.events.Event.TheVariants as event;
 ghost use Rattle.c104_regs.specs.declared.registers.TheConstants.{LINKS};
+ghost use Rattle.c104_net.specs.ActLinks.{act_link};
+ghost use Rattle.c104_net.specs.Places.{bases};
+ghost use Rattle.c104_net.specs.WiredPlaces.{KnowWires};
 ghost use Rattle.c104_net.specs.Acts.{IsWithinLimits, nodes_act};
 ghost use Rattle.c104_net.specs.EventsAtPlaces.{told_answer};
 ghost use Rattle.c104_net.specs.EventActs.{Acts};
@@ -39,6 +42,7 @@ pub fn attempt_joint<T: TokenKind, P: Place<T>>(
     port: Port,
     crossing: Crossing,
 ) -> Result<bool, EventFault>
+    requires knows { KnowWires wires.now (bases (map P.shown places.old)) }
     requires wired { wired_fault wires.now port ≡ None }
     requires goes { is_some
         (nodes_act T.kind (states (map P.shown places.old)) (port_place wires.now port) 0 (near_act crossing port)) ≡ true }
@@ -127,6 +131,7 @@ fn attempt_alone<T: TokenKind, P: Place<T>>(
     act: ActOf<T>,
 ) -> Result<bool, EventFault>
     requires short { IsWithinLimits act }
+    requires lone { act_link act ≡ None }
     ensures { (e : TheEvent) → event_fault wires.now e ≡ None →
         event_acts wires.now e ≡ Some (Acts.Alone place act) →
         PartEnds (stage_apply T.kind P.keeps)

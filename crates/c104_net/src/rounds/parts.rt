@@ -1,7 +1,9 @@
 //! The parts of a round: all its events of one kind. Each tells whether any of them was done.
-ghost use Rattle.std.specs.Prelude.{◌≡◌, ◌<◌, flat_map, length, map};
+ghost use Rattle.std.specs.Prelude.{◌<◌, flat_map, length, map};
 ghost use Rattle.c104_event.specs.declared.events.Event.TheVariants as event;
 ghost use Rattle.c104_regs.specs.declared.registers.TheConstants.{LINKS};
+ghost use Rattle.c104_net.specs.Places.{bases};
+ghost use Rattle.c104_net.specs.WiredPlaces.{KnowWires};
 ghost use Rattle.c104_net.specs.Rounds.{all_claims, all_drains, claims_of, switch_claims};
 ghost use Rattle.c104_net.specs.Rounds.{turn_at, wired_ports};
 ghost use Rattle.c104_net.specs.RoundParts.{PartEnds};
@@ -22,6 +24,7 @@ pub fn credit_ports<T: TokenKind, P: Place<T>>(
     places: &mut [P],
     count: &mut u64,
 ) -> Result<bool, EventFault>
+    requires knows { KnowWires wires.now (bases (map P.shown places.old)) }
     ensures { PartEnds (stage_apply T.kind P.keeps)
         (stage_of wires.now (map P.shown places.old) count.old) (map event.Credit (wired_ports wires.now))
         result (stage_of wires.now (map P.shown places.new) count.new) }
@@ -35,6 +38,7 @@ pub fn cross_ports<T: TokenKind, P: Place<T>>(
     places: &mut [P],
     count: &mut u64,
 ) -> Result<bool, EventFault>
+    requires knows { KnowWires wires.now (bases (map P.shown places.old)) }
     ensures { PartEnds (stage_apply T.kind P.keeps)
         (stage_of wires.now (map P.shown places.old) count.old) (map event.Cross (wired_ports wires.now))
         result (stage_of wires.now (map P.shown places.new) count.new) }
@@ -48,6 +52,7 @@ pub fn turn_inputs<T: TokenKind, P: Place<T>>(
     places: &mut [P],
     count: &mut u64,
 ) -> Result<bool, EventFault>
+    requires knows { KnowWires wires.now (bases (map P.shown places.old)) }
     ensures { PartEnds (stage_apply T.kind P.keeps)
         (stage_of wires.now (map P.shown places.old) count.old) (flat_map turn_at (wired_ports wires.now))
         result (stage_of wires.now (map P.shown places.new) count.new) }

@@ -5,6 +5,8 @@
 ghost use Rattle.std.specs.Prelude.{◌≡◌, ◌<◌, ◌≤◌, ℕ, None, false, true, flat_map, length, map, unwrap_or, IfSome, Ok};
 ghost use Rattle.c104_plan.specs.declared.ports.Port.TheVariants as port;
 ghost use Rattle.c104_regs.specs.declared.registers.TheConstants.{LINKS};
+ghost use Rattle.c104_net.specs.Places.{bases};
+ghost use Rattle.c104_net.specs.WiredPlaces.{KnowWires};
 ghost use Rattle.c104_net.specs.Network.{wired_fault};
 ghost use Rattle.c104_net.specs.EventActs.{port_place};
 ghost use Rattle.c104_net.specs.PortParts.{IsNearReady, port_events, wired_events};
@@ -32,6 +34,7 @@ pub fn walk_ports<T: TokenKind, P: Place<T>>(
     count: &mut u64,
     part: PortPart,
 ) -> Result<bool, EventFault>
+    requires knows { KnowWires wires.now (bases (map P.shown places.old)) }
     ensures { PartEnds (stage_apply T.kind P.keeps)
         (stage_of wires.now (map P.shown places.old) count.old)
         (flat_map (port_events part) (wired_ports wires.now))
@@ -50,6 +53,7 @@ fn walk_switches<T: TokenKind, P: Place<T>>(
     count: &mut u64,
     part: PortPart,
 ) -> Result<bool, EventFault>
+    requires knows { KnowWires wires.now (bases (map P.shown places.old)) }
     ensures { PartEnds (stage_apply T.kind P.keeps)
         (stage_of wires.now (map P.shown places.old) count.old)
         (flat_map (port_events part)
@@ -74,6 +78,7 @@ fn walk_links<T: TokenKind, P: Place<T>>(
     part: PortPart,
     switch: usize,
 ) -> Result<bool, EventFault>
+    requires knows { KnowWires wires.now (bases (map P.shown places.old)) }
     requires switch { switch < length wires.now.switches }
     ensures { PartEnds (stage_apply T.kind P.keeps)
         (stage_of wires.now (map P.shown places.old) count.old)
@@ -122,6 +127,7 @@ fn walk_terminals<T: TokenKind, P: Place<T>>(
     count: &mut u64,
     part: PortPart,
 ) -> Result<bool, EventFault>
+    requires knows { KnowWires wires.now (bases (map P.shown places.old)) }
     ensures { PartEnds (stage_apply T.kind P.keeps)
         (stage_of wires.now (map P.shown places.old) count.old)
         (flat_map (port_events part) (wired_terminals wires.now))
@@ -145,6 +151,7 @@ fn try_terminal<T: TokenKind, P: Place<T>>(
     part: PortPart,
     terminal: usize,
 ) -> Result<bool, EventFault>
+    requires knows { KnowWires wires.now (bases (map P.shown places.old)) }
     requires terminal { terminal < length wires.now.terminals }
     ensures { PartEnds (stage_apply T.kind P.keeps)
         (stage_of wires.now (map P.shown places.old) count.old)
@@ -193,6 +200,7 @@ fn try_at<T: TokenKind, P: Place<T>>(
     part: PortPart,
     port: Port,
 ) -> Result<bool, EventFault>
+    requires knows { KnowWires wires.now (bases (map P.shown places.old)) }
     requires wired { wired_fault wires.now port ≡ None }
     requires ready { IsNearReady T.kind part (states (map P.shown places.old)) (port_place wires.now port) port }
     ensures { PartEnds (stage_apply T.kind P.keeps)

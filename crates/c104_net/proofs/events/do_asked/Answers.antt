@@ -1,3 +1,5 @@
+use Rattle.c104_net.specs.Places.{bases}
+use Rattle.c104_net.specs.WiredPlaces.{KnowWires}
 use Rattle.std.proofs.Common.{List, Result, map, subst, sym}
 use Rattle.c104_plan.specs.Plans.{Plan}
 use Rattle.c104_event.specs.declared.faults.EventFault.{EventFault}
@@ -16,3 +18,6 @@ returns-clause-done g c =
     subst (λ (told : Result Reply EventFault). EventDone g.T.TokenKind.kind g.P.Place.keeps c.args.wires.now c.args.stamp c.args.event.now olds told news) (sym c.answered.ensures)
     (event_done g.T.TokenKind.kind c.args.wires.now c.args.event.now asked c.in_ok-asked.ensures.acts g.P.Place.keeps c.args.stamp c.in_ok-asked.ensures.fault olds c.do_acts.result news
     (subst (λ (plan : Plan). ActsDone g.T.TokenKind.kind g.P.Place.keeps plan c.args.stamp asked olds c.do_acts.result news) c.plan-plan.ensures.plan c.do_acts.ensures))
+
+pub do_acts-requires-clause-knows : goal.do_acts-requires-clause-knows
+do_acts-requires-clause-knows g c = subst (λ (plan : Plan). KnowWires plan (bases (map g.P.Place.shown c.args.places.now))) (sym c.plan-plan.ensures.plan) c.requires.knows

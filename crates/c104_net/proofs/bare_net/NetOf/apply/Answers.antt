@@ -1,3 +1,6 @@
+use Rattle.std.proofs.Common.{refl}
+use Rattle.c104_net.specs.Places.{bare_shown}
+use Rattle.c104_net.proofs.KnownWires.{unknown}
 use Rattle.std.proofs.Common.{◌≡◌, ◌∙◌, List, sym, subst}
 use Rattle.std.specs.Vec.{with_items}
 use Rattle.std.proofs.lemmas.List.{with_items_is}
@@ -25,3 +28,6 @@ returns g c =
     let answers : AnswersEvent g.T.TokenKind.kind (network_of c.self.inside.wires old) c.args.event.now c.happen.result (network_of c.self.inside.wires new) = as_they_are g.T.TokenKind.kind c.self.inside.wires _ old c.as_mut_slice.result.now new c.args.event.now c.happen.result c.as_mut_slice.ensures.value c.happen.ensures.done in
     let placed : (with_items c.self.inside.places new).items ≡ new = with_items_is c.self.inside.places new (c.happen.auto.places ∙ c.as_mut_slice.ensures.len) in
     rw (sym c.self.view_is) (subst (λ ns. AnswersEvent g.T.TokenKind.kind (network_of c.self.inside.wires old) c.args.event.now c.happen.result (network_of c.self.inside.wires ns)) (sym placed) answers)
+
+pub happen-requires : goal.happen-requires
+happen-requires g c = record { knows = unknown bare_shown (λ n. refl) c.self.inside.wires c.as_mut_slice.result.now }

@@ -3,10 +3,12 @@ use Rattle.std.specs.Vec.{with_items}
 use Rattle.std.proofs.lemmas.List.{with_items_is}
 use Rattle.c104_net.specs.NetRecords.{fresh_record, NetRecord}
 use Rattle.c104_net.specs.Nodes.{Node}
-use Rattle.c104_net.specs.Places.{states}
+use Rattle.c104_net.specs.Places.{bases, states}
+use Rattle.c104_net.specs.WiredPlaces.{KnowWires}
+use Rattle.c104_net.proofs.KnownWires.{known_by}
 use Rattle.c104_net.specs.Quiet.{network_begin, IsQuiet, IsQuietNode}
 use Rattle.c104_net.specs.RecordedNets.{begun_told, place_told, places_record, reading, IsRecordedNet, Reading}
-use Rattle.c104_net.proofs.RecordedBegins.{net_begun, net_begun_kept, quiet_back}
+use Rattle.c104_net.proofs.RecordedBegins.{net_begun, net_begun_kept, quiet_back, wires_begun}
 use Rattle.c104_net.proofs.recorded_net.RecordedNet.begin.Goals as goal
 
 pub begin_all-requires : goal.begin_all-requires
@@ -22,8 +24,11 @@ invariant_of-self g c =
     let old : List g.row.P.Denot = c.self.inside.places.items in
     let new : List g.row.P.Denot = c.begin_all.new.places in
     let placed : (with_items c.self.inside.places new).items ≡ new = with_items_is c.self.inside.places new (c.begin_all.auto.places ∙ c.as_mut_slice.ensures.len) in
-    let begun : map (place_told v.shown v.start) new ≡ map begun_told (map (place_told v.shown v.start) old) = c.begin_all.ensures.begun ∙ ap (λ (ps : List g.row.P.Denot). map begun_told (map (place_told v.shown v.start) ps)) c.as_mut_slice.ensures.value in
-    (subst (λ ps. IsRecordedNet v c.self.inside.wires ps 0) (sym placed) (net_begun_kept v reads c.self.inside.wires new old begun c.begin_all.ensures.stand c.self.invariant.0.kept.steady), c.self.invariant.1)
+    let begun : map (place_told v.shown v.start) new ≡ map begun_told (map (place_told v.shown v.start) old) = c.begin_all.ensures.begun ∙ ap (λ (ps : List g.row.P.Denot). map begun_told (map (place_told v.shown v.start) ps)) c.as_mut_slice.ensures.value in (
+      subst (λ ps. IsRecordedNet v c.self.inside.wires ps 0) (sym placed) (net_begun_kept v reads c.self.inside.wires new old begun c.begin_all.ensures.stand c.self.invariant.0.kept.steady),
+      c.self.invariant.1,
+      subst (λ (ps : List g.row.P.Denot). KnowWires c.self.inside.wires (bases (map v.shown ps))) (sym placed) (known_by (bases (map v.shown new)) (bases (map v.shown old)) (wires_begun v new old begun) c.self.inside.wires c.self.invariant.2),
+    )
 
 pub returns-clause-begun : goal.returns-clause-begun
 returns-clause-begun g c =

@@ -2,10 +2,7 @@ use Rattle.std.proofs.Common.{◌≡◌, ◌∙◌, ◌≤◌, ◌++◌, List, g
 use Rattle.std.proofs.lemmas.List.{append-nil, drop_all, get_or-map, length-map, map-set, take_all}
 use Rattle.std.proofs.lemmas.List.Edits.{map_over_more}
 use Rattle.std.proofs.lemmas.Option.{slice_get-get_or, slice_get_within}
-use Rattle.c104_net.specs.declared.acts.Entry.{Entry}
-use Rattle.c104_net.specs.declared.starts.NodeStart.{NodeStart}
-use Rattle.c104_net.specs.Nodes.{Node}
-use Rattle.c104_net.specs.RecordedNets.{begun_told, place_told}
+use Rattle.c104_net.specs.RecordedNets.{Told, begun_told, place_told}
 use Rattle.c104_net.proofs.RecordedBegins.{all_stand, stand_on, waits_first, waits_on}
 use Rattle.c104_net.proofs.recorded_net.beginning.begin_all.Goals as goal
 
@@ -21,8 +18,8 @@ begin-requires g c = c.loop-place.invariant.waits c.loop-place.place-index (get_
 
 pub loop-place-preserved : goal.loop-place-preserved
 loop-place-preserved g c =
-    let told : g.row.P.Denot → Node g.row.T.Denot × NodeStart × List Entry = place_told g.P.Place.shown g.P.RecordedPlace.begun_at in
-    let old : List (Node g.row.T.Denot × NodeStart × List Entry) = map told c.args.places.now in
+    let told : g.row.P.Denot → Told g.row.T.Denot = place_told g.P.Place.shown g.P.RecordedPlace.begun_at in
+    let old : List (Told g.row.T.Denot) = map told c.args.places.now in
     let same = length-map c.args.places.now told in
     let item : told c.place-item.result ≡ get_or (map told c.loop-place.places) c.loop-place.place-index (told c.place-item.result) = ap told c.place-item.is ∙ sym (get_or-map told c.loop-place.places c.loop-place.place-index c.place-item.result (told c.place-item.result) (omega arith)) in
     let began : told c.begin.new.self ≡ begun_told (told c.place-item.result) =
@@ -36,8 +33,8 @@ loop-place-preserved g c =
 
 pub returns-clause-begun : goal.returns-clause-begun
 returns-clause-begun g c =
-    let told : g.row.P.Denot → Node g.row.T.Denot × NodeStart × List Entry = place_told g.P.Place.shown g.P.RecordedPlace.begun_at in
-    let old : List (Node g.row.T.Denot × NodeStart × List Entry) = map told c.args.places.now in
+    let told : g.row.P.Denot → Told g.row.T.Denot = place_told g.P.Place.shown g.P.RecordedPlace.begun_at in
+    let old : List (Told g.row.T.Denot) = map told c.args.places.now in
     let same = length-map c.args.places.now told in
     let past : length old ≤ c.loop-place.place-index = omega (arith, same) in
     c.loop-place.invariant.begun ∙ ap (λ ys. map begun_told (take c.loop-place.place-index old) ++ ys) (drop_all c.loop-place.place-index old past) ∙ append-nil _

@@ -1,12 +1,8 @@
-use Rattle.std.proofs.Common.{Bool, Result, map, subst, sym, ◌∷◌, []}
-use Rattle.c104_event.specs.declared.faults.EventFault.{EventFault}
-use Rattle.c104_net.specs.RoundParts.{PartEnds}
-use Rattle.c104_net.specs.Stages.{stage_apply, stage_of}
 use Rattle.c104_net.proofs.ActAttempts.{joint_tried}
 use Rattle.c104_net.proofs.rounds.attempts.attempt_joint.Goals as goal
 
 pub returns : goal.returns
 returns g c = λ e possible known.
-    subst (λ (r : Result Bool EventFault). PartEnds (stage_apply g.T.TokenKind.kind g.P.Place.keeps) (stage_of c.args.wires.now (map g.P.Place.shown c.args.places.now) c.args.count.now) (e ∷ []) r (stage_of c.args.wires.now (map g.P.Place.shown c.joint_from-answer.new.places) c.counted.new.count)) (sym c.counted.ensures.told)
+    rw c.counted.ensures.told
     (joint_tried g.T.TokenKind.kind g.P.Place.keeps g.P.Place.shown g.met.P.Place.limited c.args.wires.now c.args.places.now c.joint_from-answer.new.places c.args.count.now c.counted.new.count e possible c.joint_from-answer.result c.counted.ensures.count
     c.args.port c.far_port.result c.args.crossing c.wired_ends-ends.result.near c.wired_ends-ends.result.far c.wired_ends-ends.ensures.near c.wired_ends-ends.ensures.far c.far_port.ensures known c.joint_from-answer.ensures)

@@ -1,19 +1,17 @@
-use Rattle.std.proofs.Common.{Err, Ok, arith, length, map}
-use Rattle.c104_net.specs.Stages.{stage_apply, stage_of}
+use Rattle.std.proofs.Common.{arith}
+use Rattle.c104_net.proofs.KnownWires.{still_known}
 use Rattle.c104_net.proofs.PartRuns.{number_next, number_stops, numbers_done}
 use Rattle.c104_net.proofs.PortWalks.{of_switch, of_switches}
-use Rattle.c104_net.proofs.RoundRuns.{err_is}
 use Rattle.c104_net.proofs.rounds.ports.walk_switches.Goals as goal
 
 pub loop-switch-preserved : goal.loop-switch-preserved
-loop-switch-preserved g c =
-    number_next (stage_apply g.T.TokenKind.kind g.P.Place.keeps) (of_switch c.args.wires.now c.args.part) (length c.args.wires.now.switches) c.loop-switch.switch (stage_of c.args.wires.now (map g.P.Place.shown c.args.places.now) c.args.count.now) (stage_of c.args.wires.now (map g.P.Place.shown c.loop-switch.places) c.loop-switch.count) (stage_of c.args.wires.now (map g.P.Place.shown c.walk_links.new.places) c.walk_links.new.count) c.loop-switch.changed c.in_ok-done.done (omega (arith, c.switch_count-switches.ensures, c.loop-switch-test.true)) c.loop-switch.invariant c.in_ok-done.ensures
+loop-switch-preserved g c = number_next _ (of_switch c.args.wires.now c.args.part) _ _ _ _ _ _ _ (omega (arith, c.switch_count-switches.ensures, c.loop-switch-test.true)) c.loop-switch.invariant c.in_ok-done.ensures
 
 pub returns : goal.returns
-returns g c =
-    of_switches c.args.wires.now c.args.part (stage_apply g.T.TokenKind.kind g.P.Place.keeps) (stage_of c.args.wires.now (map g.P.Place.shown c.args.places.now) c.args.count.now) (stage_of c.args.wires.now (map g.P.Place.shown c.loop-switch.places) c.loop-switch.count) (Ok c.loop-switch.changed) (length c.args.wires.now.switches) (numbers_done (stage_apply g.T.TokenKind.kind g.P.Place.keeps) (of_switch c.args.wires.now c.args.part) (length c.args.wires.now.switches) c.loop-switch.switch (stage_of c.args.wires.now (map g.P.Place.shown c.args.places.now) c.args.count.now) (stage_of c.args.wires.now (map g.P.Place.shown c.loop-switch.places) c.loop-switch.count) c.loop-switch.changed (omega (arith, c.switch_count-switches.ensures)) c.loop-switch.invariant)
+returns g c = of_switches c.args.wires.now c.args.part _ _ _ _ _ (numbers_done _ (of_switch c.args.wires.now c.args.part) _ _ _ _ _ (omega (arith, c.switch_count-switches.ensures)) c.loop-switch.invariant)
 
 pub returns-in_err-done : goal.returns-in_err-done
-returns-in_err-done g c =
-    rw (err_is _ _ c.from_residual.ensures)
-    (of_switches c.args.wires.now c.args.part (stage_apply g.T.TokenKind.kind g.P.Place.keeps) (stage_of c.args.wires.now (map g.P.Place.shown c.args.places.now) c.args.count.now) (stage_of c.args.wires.now (map g.P.Place.shown c.walk_links.new.places) c.walk_links.new.count) (Err c.in_err-done.field-0.0) (length c.args.wires.now.switches) (number_stops (stage_apply g.T.TokenKind.kind g.P.Place.keeps) (of_switch c.args.wires.now c.args.part) (length c.args.wires.now.switches) c.loop-switch.switch (stage_of c.args.wires.now (map g.P.Place.shown c.args.places.now) c.args.count.now) (stage_of c.args.wires.now (map g.P.Place.shown c.loop-switch.places) c.loop-switch.count) (stage_of c.args.wires.now (map g.P.Place.shown c.walk_links.new.places) c.walk_links.new.count) c.loop-switch.changed c.in_err-done.field-0.0 (omega (arith, c.switch_count-switches.ensures, c.loop-switch-test.true)) c.loop-switch.invariant c.in_err-done.ensures))
+returns-in_err-done g c = of_switches c.args.wires.now c.args.part _ _ _ _ _ (number_stops _ (of_switch c.args.wires.now c.args.part) _ _ _ _ _ _ _ _ (omega (arith, c.switch_count-switches.ensures, c.loop-switch-test.true)) c.loop-switch.invariant c.in_err-done.ensures c.from_residual.ensures)
+
+pub walk_links-requires-clause-knows : goal.walk_links-requires-clause-knows
+walk_links-requires-clause-knows g c = still_known g.T.TokenKind.kind _ _ _ _ _ _ _ _ c.loop-switch.invariant c.requires.knows

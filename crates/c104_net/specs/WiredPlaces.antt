@@ -1,0 +1,31 @@
+-- Which links of a place have wires, where that is kept.
+use Rattle.std.specs.Prelude.{ℕ, ◌≡◌, Bool, true, List, Some, slice_get}
+use Rattle.c104_plan.specs.Plans.{Plan}
+use Rattle.c104_plan.specs.Wiring.{peer}
+use Rattle.c104_plan.specs.declared.ports.Port.{Port}
+use Rattle.c104_net.specs.ActLinks.{act_link, port_link}
+use Rattle.c104_net.specs.EventActs.{port_place}
+use Rattle.c104_net.specs.Places.{PlaceBase}
+use Rattle.c104_net.specs.Traces.{part}
+use Rattle.c104_net.specs.declared.acts.ActOf.{ActOf}
+
+-- whether a link may have a wire
+abbrev pub links_of : PlaceBase → ℕ → Bool
+links_of b l = part true (λ (wired : ℕ → Bool). wired l) b.wired
+
+-- whether an act goes over no link, or over one that may
+abbrev pub is_linked : {A : Type 0} → PlaceBase → ActOf A → Bool
+is_linked b a = part true (links_of b) (act_link a)
+
+-- the same of the place at this number
+abbrev pub links_at : List PlaceBase → ℕ → ℕ → Bool
+links_at bases k l = part true (λ (b : PlaceBase). links_of b l) (slice_get bases k)
+
+abbrev pub is_linked_at : {A : Type 0} → List PlaceBase → ℕ → ActOf A → Bool
+is_linked_at bases k a = part true (links_at bases k) (act_link a)
+
+-- what is kept of the places of a plan's nodes knows each wire, at both its ends
+abbrev pub KnowWires : Plan → List PlaceBase → Type 0
+KnowWires plan bases =
+    (p q : Port) → peer plan p ≡ Some q →
+    (links_at bases (port_place plan p) (port_link p) ≡ true) × (links_at bases (port_place plan q) (port_link q) ≡ true)
