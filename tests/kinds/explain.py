@@ -16,7 +16,7 @@ import threading
 from case_runner import CASES, EXAMPLES, PLAN, TESTS, TOP, CopiedCase
 from kinds.descriptions import REFUSED_DESCRIPTIONS
 
-TABLES = os.path.join(TOP, 'crates', 'c104_explain', 'src')
+TABLES = [os.path.join(TOP, 'crates', name, 'src') for name in ('c104_mistakes', 'c104_explain')]
 SECONDS = 300
 EXPLAIN = '--explain'
 CLOCK = os.path.join(TESTS, 'later_clock.c')
@@ -520,10 +520,11 @@ def special(runner, seen):
 def sentences(runner, seen):
     """Each sentence of the tables was told."""
     text = ''.join(seen)
-    for name in sorted(os.listdir(TABLES)):
-        if not name.endswith('_mistakes.rt') and not name.endswith('_sentences.rt'):
+    files = [os.path.join(folder, name) for folder in TABLES for name in sorted(os.listdir(folder))]
+    for path in files:
+        if not path.endswith('_mistakes.rt') and not path.endswith('_sentences.rt'):
             continue
-        with open(os.path.join(TABLES, name), encoding='utf-8') as file:
+        with open(path, encoding='utf-8') as file:
             code = file.read()
         for found in re.findall(r'=>\s*\{?\s*"((?:[^"\\]|\\.|\\\n)*)"', code):
             sentence = re.sub(r'\\\n\s*', '', found)

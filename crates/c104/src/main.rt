@@ -19,7 +19,7 @@ pub use c104_commands::{
     label_rows_command, run, run_text,
 };
 use c104_describe::read_description;
-use c104_explain::{About, Messages};
+use c104_mistakes::{About, Messages};
 use c104_plan::MAX_DESCRIPTION;
 use c104_stream::{ReadFault, read_up_to};
 use clap::error::ErrorKind;

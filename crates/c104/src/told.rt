@@ -3,7 +3,7 @@
 use crate::command_line::{EXPLAIN_WORD, Order};
 use crate::subcommands::Subcommand;
 use c104_commands::Status;
-use c104_explain::{About, Messages};
+use c104_mistakes::{About, Messages};
 use clap::Error;
 use clap::error::ErrorKind;
 use std::alloc::AllocError;

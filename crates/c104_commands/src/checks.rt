@@ -17,7 +17,7 @@ use crate::setups::{Setup, read_setup};
 use crate::status::Status;
 use crate::texts::check_fault_text;
 use c104_check::{CheckFault, check};
-use c104_explain::{About, Messages};
+use c104_mistakes::{About, Messages};
 use c104_stream::write_whole;
 use std::alloc::Global;
 use std::io::{Read, Write};

@@ -15,7 +15,7 @@ use crate::cycle_texts::{acyclic_text, cycle_text, edges_text};
 use crate::setups::{Setup, read_setup};
 use crate::status::Status;
 use c104_check::{CheckFault, RanksOrCycle, channel_dependencies, check, find_cycle};
-use c104_explain::Messages;
+use c104_mistakes::Messages;
 use c104_plan::{Image, Plan};
 use c104_stream::write_whole;
 use c104_token::NoMemory;

@@ -9,7 +9,7 @@ ghost use Rattle.c104_commands.specs.Setups.{ComesTo};
 use crate::images::image_text;
 use crate::setups::{Setup, read_setup};
 use crate::status::Status;
-use c104_explain::Messages;
+use c104_mistakes::Messages;
 use c104_stream::write_whole;
 use std::alloc::Global;
 use std::io::{Read, Write};

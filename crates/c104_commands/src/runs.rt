@@ -14,7 +14,7 @@ ghost use Rattle.c104_commands.specs.Runs.{RunsParts, RunsDescription, RunsText}
 
 use crate::setups::{Setup, drop_plan, refuse, set_up};
 use crate::status::Status;
-use c104_explain::{Behind, Messages};
+use c104_mistakes::{Behind, Messages};
 use c104_plan::{Image, MAX_DESCRIPTION, Plan};
 use c104_script::read_first_part;
 use c104_session::run_plan;

@@ -12,8 +12,8 @@ ghost use Rattle.c104_commands.specs.declared.status.Status.TheVariants as statu
 
 use crate::status::Status;
 use c104_describe::{PlanFault, PlanFaultKind, description_text, read_description};
-use c104_explain::{About, Messages, description_message};
 use c104_label::{LabelFault, image_of};
+use c104_mistakes::{About, Messages, description_message};
 use c104_plan::{Image, MAX_DESCRIPTION, Plan};
 use c104_stream::{Halt, read_up_to, write_whole};
 use c104_token::NoMemory;

@@ -2,11 +2,12 @@
 
 use crate::buffers::{BUFFER_LIMIT, Buffer, Run, buffer_after, find_end, last_run};
 use crate::leftovers::{unfinished_tokens, waiting};
-use crate::nearest::nearest_terminal;
 use crate::reasons::{add_port, port_text};
-use crate::script_mistakes::ScriptMistake;
 use crate::waiting::add_line;
-use crate::words::{Mistake, counted, has_dot, name_of, names_switch, names_terminal};
+use c104_mistakes::{
+    Mistake, ScriptMistake, counted, has_dot, name_of, names_switch, names_terminal,
+    nearest_terminal,
+};
 use c104_net::{Origin, TracedNet};
 use c104_plan::{Plan, Port, read_number};
 use c104_switch::Phase;

@@ -3,14 +3,11 @@ ghost use Rattle.std.specs.Prelude.{◌≡◌};
 ghost use Rattle.std.specs.Option.{option_map};
 ghost use Rattle.c104_explain.specs.Questions.{asks, is_question, wants_end};
 
-use crate::messages::About;
-use crate::nearest::nearest_node;
 use crate::packet_places::packet_answer;
-use crate::script_mistakes::ScriptMistake;
 use crate::shown_nodes::{switch_text, terminal_text};
 use crate::shown_ports::port_answer;
 use crate::waiting::waiting_text;
-use crate::words::{Mistake, has_dot};
+use c104_mistakes::{About, Mistake, ScriptMistake, has_dot, nearest_node};
 use c104_net::TracedNet;
 use c104_plan::{cut_words, first_word, uncommented};
 use std::alloc::{AllocError, Global};

@@ -6,7 +6,7 @@ use crate::random_inputs::puts_random;
 use crate::reasons::{add_port, port_text};
 use crate::standstill::dropped_at;
 use crate::waiting::stopped_line;
-use crate::words::counted;
+use c104_mistakes::counted;
 use c104_net::TracedNet;
 use c104_plan::{Plan, Port};
 use c104_switch::{LINKS, LinkView, Phase};

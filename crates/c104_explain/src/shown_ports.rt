@@ -1,10 +1,8 @@
 //! What stands at a port, in words.
 ghost use Rattle.std.specs.Prelude.{◌<◌};
 
-use crate::nearest::nearest_switch;
-use crate::script_mistakes::ScriptMistake;
 use crate::shown_nodes::link_text;
-use crate::words::{LAST_LINK, Mistake, link_of, name_of};
+use c104_mistakes::{LAST_LINK, Mistake, ScriptMistake, link_of, name_of, nearest_switch};
 use c104_net::TracedNet;
 use std::alloc::{AllocError, Global};
 

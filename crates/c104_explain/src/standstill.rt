@@ -2,7 +2,7 @@
 
 use crate::leftovers::waiting;
 use crate::waiting::waiting_text;
-use crate::words::counted;
+use c104_mistakes::counted;
 use c104_net::TracedNet;
 use c104_switch::{LINKS, LinkView, Phase};
 use c104_token::{NoMemory, Token};

@@ -1,8 +1,8 @@
 //! Which inputs of a network have a packet on its way, and what each of these waits for, in words.
 
 use crate::reasons::port_text;
-use crate::words::counted;
 use c104_event::Event;
+use c104_mistakes::counted;
 use c104_net::{Reason, TracedNet};
 use c104_plan::{Plan, Port};
 use c104_switch::{LINKS, LinkView, Phase, Unready};

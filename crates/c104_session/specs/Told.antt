@@ -2,7 +2,7 @@
 use Rattle.std.specs.Prelude.{ℕ, ◌≡◌, ◌<◌, ⊤, true, List, Some, Ok}
 use Rattle.c104_event.specs.declared.events.Event.{Event}
 use Rattle.c104_explain.specs.Reasons.{reason_text}
-use Rattle.c104_explain.specs.Refusals.{is_refusal}
+use Rattle.c104_mistakes.specs.Refusals.{is_refusal}
 use Rattle.c104_net.specs.declared.reason.Reason.{Reason}
 use Rattle.c104_net.specs.Reasons.{network_why}
 use Rattle.c104_switch.specs.declared.actions.ReplyOf.TheVariants as reply

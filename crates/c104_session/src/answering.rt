@@ -11,7 +11,7 @@ use crate::explaining::{ScriptLine, explain_line};
 use crate::progress::Progress;
 use crate::session::Session;
 use crate::tally::Tally;
-use c104_explain::{About, Messages};
+use c104_mistakes::{About, Messages};
 use c104_script::{Answer, add_answer};
 use c104_stream::{Ahead, Halt, Kept};
 use c104_token::NoMemory;

@@ -2,7 +2,7 @@
 ghost use Rattle.std.specs.Prelude.{◌≡◌, [], true, IfSome, OnOk, OnErr};
 ghost use Rattle.std.specs.String.{string_bytes};
 ghost use Rattle.c104_stream.specs.Writing.{AppendsAndKeeps, AppendsPrefix};
-ghost use Rattle.c104_explain.specs.Refusals.{is_refusal};
+ghost use Rattle.c104_mistakes.specs.Refusals.{is_refusal};
 ghost use Rattle.c104_session.specs.Told.{MayTell, TellsReason};
 
 use crate::answering::Answered;
@@ -10,9 +10,9 @@ use crate::questions::explain_fault;
 use crate::session::Session;
 use crate::standing::{explain_done, message_of_done};
 use crate::tally::Tally;
-use c104_explain::{
-    About, Messages, command_message, is_refusal, owner_message, reason_message, refusal_message,
-    register_message,
+use c104_explain::reason_message;
+use c104_mistakes::{
+    About, Messages, command_message, is_refusal, owner_message, refusal_message, register_message,
 };
 use c104_script::{Answer, Finding, Request, read_line};
 use c104_stream::{CannotWrite, Kept};

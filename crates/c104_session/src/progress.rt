@@ -1,6 +1,6 @@
 //! How far the rounds of a line are.
 
-use c104_explain::Messages;
+use c104_mistakes::Messages;
 use c104_net::Watch;
 
 /// Rounds between two that are told of, since a round may be short.

@@ -4,7 +4,8 @@ ghost use Rattle.c104_stream.specs.Writing.{AppendsAndKeeps, AppendsPrefix};
 
 use crate::explaining::ScriptLine;
 use crate::session::Session;
-use c104_explain::{About, Messages, about_question, fault_message, is_question, question_message};
+use c104_explain::{about_question, is_question, question_message};
+use c104_mistakes::{About, Messages, fault_message};
 use c104_script::LineFault;
 use c104_stream::{CannotWrite, Kept};
 use std::alloc::Global;

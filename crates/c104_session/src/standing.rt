@@ -4,7 +4,8 @@ ghost use Rattle.c104_stream.specs.Writing.{AppendsAndKeeps, AppendsPrefix};
 
 use crate::session::Session;
 use crate::tally::Tally;
-use c104_explain::{About, Messages, standstill_message};
+use c104_explain::standstill_message;
+use c104_mistakes::{About, Messages};
 use c104_script::{Request, read_line};
 use c104_stream::{CannotWrite, Kept};
 use std::alloc::Global;

@@ -1,7 +1,7 @@
 //! The calls that tests make of the commands, with nothing promised: the prover would compute what is written of
 //! literal texts.
 use c104_commands::{Status, run};
-use c104_explain::Silent;
+use c104_mistakes::Silent;
 use std::alloc::Global;
 use std::io::{Read, Write};
 

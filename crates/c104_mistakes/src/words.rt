@@ -7,11 +7,11 @@ use std::alloc::{AllocError, Global};
 const SHOWN: usize = 40;
 
 /// The last link of a switch.
-pub(crate) const LAST_LINK: u32 = 31;
+pub const LAST_LINK: u32 = 31;
 
 /// A mistake in a line.
 #[derive(Clone, Copy)]
-pub(crate) struct Mistake<'a> {
+pub struct Mistake<'a> {
     /// What is wrong, or what was wanted.
     pub(crate) sentence: &'static str,
     /// The word that it is about.
@@ -22,7 +22,7 @@ pub(crate) struct Mistake<'a> {
 
 impl<'a> Mistake<'a> {
     /// A mistake about a word.
-    pub(crate) fn new(sentence: &'static str, word: Option<&'a [u8]>) -> Self {
+    pub fn new(sentence: &'static str, word: Option<&'a [u8]>) -> Self {
         Mistake {
             sentence,
             word,
@@ -31,7 +31,7 @@ impl<'a> Mistake<'a> {
     }
 
     /// The same, with what may have been meant.
-    pub(crate) fn near(self, near: Option<&'a [u8]>) -> Self {
+    pub fn near(self, near: Option<&'a [u8]>) -> Self {
         let Mistake { sentence, word, .. } = self;
         Mistake {
             sentence,
@@ -41,7 +41,7 @@ impl<'a> Mistake<'a> {
     }
 
     /// The message. The only error is out of memory.
-    pub(crate) fn text(&self, alloc: Global) -> Result<String, AllocError> {
+    pub fn text(&self, alloc: Global) -> Result<String, AllocError> {
         let mut text = String::new(alloc);
         text.push_str(self.sentence)?;
         if let Some(word) = self.word {
@@ -108,7 +108,7 @@ pub(crate) fn begins_with_mark(word: &[u8]) -> bool {
 }
 
 /// What stands before the dot of a word, which is all of it where it has no dot.
-pub(crate) fn name_of(word: &[u8]) -> &[u8] {
+pub fn name_of(word: &[u8]) -> &[u8] {
     match find_dots(word) {
         Dots::At(dot) => &word[..dot],
         _ => word,
@@ -116,12 +116,12 @@ pub(crate) fn name_of(word: &[u8]) -> &[u8] {
 }
 
 /// Whether a word has one dot.
-pub(crate) fn has_dot(word: &[u8]) -> bool {
+pub fn has_dot(word: &[u8]) -> bool {
     matches!(find_dots(word), Dots::At(_))
 }
 
 /// The number behind the dot of a word.
-pub(crate) fn link_of(word: &[u8]) -> Option<u32> {
+pub fn link_of(word: &[u8]) -> Option<u32> {
     match find_dots(word) {
         Dots::At(dot) => read_number(&word[dot + 1..]),
         _ => None,
@@ -145,17 +145,17 @@ pub(crate) fn has_link(word: &[u8]) -> bool {
 }
 
 /// Whether a switch has the name before the dot of a word.
-pub(crate) fn names_switch(plan: &Plan, word: &[u8]) -> bool {
+pub fn names_switch(plan: &Plan, word: &[u8]) -> bool {
     plan.switch_number(name_of(word)).is_some()
 }
 
 /// Whether a terminal has the name before the dot of a word.
-pub(crate) fn names_terminal(plan: &Plan, word: &[u8]) -> bool {
+pub fn names_terminal(plan: &Plan, word: &[u8]) -> bool {
     plan.terminal_number(name_of(word)).is_some()
 }
 
 /// A number of things of a kind, in words.
-pub(crate) fn counted(alloc: Global, count: usize, kind: &str) -> Result<String, AllocError> {
+pub fn counted(alloc: Global, count: usize, kind: &str) -> Result<String, AllocError> {
     let ending = if count == 1 { "" } else { "s" };
     format!(in alloc; "{count} {kind}{ending}")
 }

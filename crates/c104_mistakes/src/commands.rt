@@ -1,6 +1,6 @@
 //! What is told of a command that a switch refused.
 ghost use Rattle.std.specs.Prelude.{◌≡◌};
-ghost use Rattle.c104_explain.specs.Refusals.{is_refusal};
+ghost use Rattle.c104_mistakes.specs.Refusals.{is_refusal};
 
 use crate::register_ranges::range_of;
 use crate::script_mistakes::ScriptMistake;
