@@ -1,4 +1,4 @@
--- Plans: the network that a description gives. What the type of a plan keeps is said list by list.
+-- Plans: a network as it is planned. What the type of a plan keeps is said list by list.
 use Rattle.std.specs.Prelude.{◌≡◌, ℕ, ◌+◌, ◌-◌, ◌%◌, ◌<◌, ◌≤◌, ◌==◌, ◌&&◌, Bool, false, List, [], ◌∷◌, ◌++◌, length, map, filter, position, slice_get, bytes_eq, nat_le, All, IsTrue, Option, Some, None}
 use Rattle.std.specs.List.{list_any}
 use Rattle.c104_plan.specs.Distinctness.{AreDistinct}
@@ -19,7 +19,7 @@ pub use Rattle.c104_plan.specs.declared.plans.PlanRow.{PlanRow}
 pub use Rattle.c104_plan.specs.declared.plans.PlanRandom.{PlanRandom}
 
 -- how many bytes the headers have at wired links, the buffer size of all switches and terminals, the
--- shape, and lists, each in the order of the description. A switch is its name. The wires join
+-- shape, and lists, each in the order in which its items were given. A switch is its name. The wires join
 -- switches. The continues are ports whose link continues the group of the link before it, and the
 -- deletes are terminals, by number, on the way to which headers are deleted.
 pub record Plan : Type 0 where

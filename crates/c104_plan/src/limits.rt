@@ -1,4 +1,4 @@
-//! How much a description may say.
+//! How much a plan may hold, and how long its description may be.
 ghost use Rattle.std.specs.Prelude.{◌≡◌};
 ghost use Rattle.c104_plan.specs.Plans.{is_buffer_size};
 

@@ -7,7 +7,7 @@ use crate::switch_list::SwitchList;
 use crate::terminal_list::TerminalList;
 use std::alloc::{AllocError, Global};
 
-/// The parts of a plan. Each list is in the order of the description.
+/// The parts of a plan. Each list is in the order in which its items were given.
 #[derive(Debug, Drop)]
 pub struct Parts {
     /// How many bytes the headers have at wired links.

@@ -1,4 +1,4 @@
-//! Plans: the network that a description gives.
+//! Plans: switches, terminals and wires, and what is to be set at links.
 
 use crate::names::Name;
 use crate::parts::Parts;
@@ -12,7 +12,7 @@ use std::marker::Model;
 pub struct Terminal {
     /// Its name, which no switch and no other terminal has.
     pub name: Name,
-    /// The number of the switch that it is on, in the order of the description, from 0.
+    /// The number of the switch that it is on, in the order of the plan, from 0.
     pub switch: usize,
     /// The link of that switch, 0 to 31.
     pub link: usize,
@@ -95,7 +95,7 @@ pub struct PlanRandom {
     pub range: u32,
 }
 
-/// The network that a description gives: its switches and terminals, the wires between its switches,
+/// A network as it is planned: its switches and terminals, the wires between its switches,
 /// and what is to be set at the links of these.
 ///
 /// What each plan keeps is that names differ, that each port exists and no link is taken twice,
