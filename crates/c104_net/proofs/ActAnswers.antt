@@ -5,14 +5,15 @@ use Rattle.c104_plan.specs.declared.ports.Port.{Port}
 use Rattle.c104_event.specs.declared.events.Event.{Event}
 use Rattle.c104_event.specs.declared.faults.EventFault.{EventFault}
 use Rattle.c104_net.specs.Acts.{plain_reply, reply_outcome}
-use Rattle.c104_net.specs.EventActs.{Acts, acts_limit, acts_step, crossing_acts, event_acts, far_act, near_act}
+use Rattle.c104_net.specs.EventActs.{acts_step, crossing_acts, event_acts}
+use Rattle.c104_net.specs.PortActs.{Acts, acts_limit, far_act, near_act}
 use Rattle.c104_net.specs.EventsAtPlaces.{ActsDone, EventDone, acts_kept, told_answer}
-use Rattle.c104_net.specs.Network.{AnswersWith, Network, event_fault, event_limit, network_apply, network_of, network_step}
-use Rattle.c104_net.specs.Network.{outcome_if_possible, outcome_if_ready, told_step}
+use Rattle.c104_net.specs.Network.{AnswersWith, Network, event_fault, event_limit, network_apply, network_of, network_step, outcome_if_possible, outcome_if_ready, told_step}
 use Rattle.c104_net.specs.Nodes.{Node}
 use Rattle.c104_net.specs.PlaceActs.{ActsEnd}
 use Rattle.c104_net.specs.Places.{Shown, fulls, room_fault, states, traces}
-use Rattle.c104_net.specs.Traces.{acts_deeds, acts_full, event_deeds, event_full, kept_of, noted_all, part, plain_act}
+use Rattle.c104_net.specs.Traces.{kept_of, noted_all, part, plain_act}
+use Rattle.c104_net.specs.EventDeeds.{acts_deeds, acts_full, event_deeds, event_full}
 use Rattle.c104_net.specs.declared.crossings.Crossing.{Crossing}
 use Rattle.c104_net.specs.declared.crossings.Crossing.TheVariants.{Grant, Token}
 use Rattle.c104_net.specs.declared.stamps.Stamp.{Stamp}
@@ -20,8 +21,7 @@ use Rattle.c104_switch.specs.Actions.{Reply, is_ready}
 use Rattle.c104_switch.specs.declared.actions.ReplyOf.{ReplyOf}
 use Rattle.c104_token.specs.Kinds.{Kind}
 use Rattle.c104_token.specs.declared.tokens.Token.{Token as PlainToken}
-use Rattle.std.proofs.Common.{Bool, Err, IfOk, List, None, Ok, Option, Result, Some, [], ap, false, inl, inr, is_some, option_map}
-use Rattle.std.proofs.Common.{refl, sym, true, unwrap_or, ◌∙◌, ◌≡◌}
+use Rattle.std.proofs.Common.{Bool, Err, IfOk, List, None, Ok, Option, Result, Some, [], ap, false, inl, inr, is_some, option_map, refl, sym, true, unwrap_or, ◌∙◌, ◌≡◌}
 use Rattle.c104_plan.specs.declared.ports.Port.TheVariants as port
 use Rattle.c104_event.specs.declared.events.Event.TheVariants as event
 use Rattle.c104_switch.specs.declared.actions.ReplyOf.TheVariants as reply

@@ -1,6 +1,5 @@
 -- An event that is tried by its acts, as a part of a round.
-use Rattle.std.proofs.Common.{◌≡◌, ◌∙◌, ◌-◌, ◌<◌, ℕ, Bool, true, false, List, [], ◌∷◌, Option, Some, None, Result, arith, if◌then◌else◌}
-use Rattle.std.proofs.Common.{length, map, nat_lt, option_map, refl, sym, ap, subst}
+use Rattle.std.proofs.Common.{◌≡◌, ◌∙◌, ◌-◌, ◌<◌, ℕ, Bool, true, false, List, [], ◌∷◌, Option, Some, None, Result, arith, if◌then◌else◌, length, map, nat_lt, option_map, refl, sym, ap, subst}
 use Rattle.std.proofs.lemmas.Bool.Decides.{nat_tests}
 use Rattle.c104_token.specs.Kinds.{Kind}
 use Rattle.c104_switch.specs.declared.actions.ReplyOf.{ReplyOf}
@@ -15,7 +14,8 @@ use Rattle.c104_event.specs.declared.faults.EventFault.TheVariants as fault
 use Rattle.c104_net.specs.declared.acts.ActOf.{ActOf}
 use Rattle.c104_net.specs.declared.crossings.Crossing.{Crossing}
 use Rattle.c104_net.specs.declared.ends.End.{End}
-use Rattle.c104_net.specs.EventActs.{Acts, crossing_acts, event_acts, port_place}
+use Rattle.c104_net.specs.EventActs.{crossing_acts, event_acts, port_place}
+use Rattle.c104_net.specs.PortActs.{Acts}
 use Rattle.c104_net.specs.EventsAtPlaces.{ActsDone, told_answer}
 use Rattle.c104_net.specs.Ends.{end_of}
 use Rattle.c104_net.specs.FarEnds.{far_end}

@@ -1,6 +1,5 @@
 -- A network is in balance at first: no link has any credit, and none has granted any.
-use Rattle.std.proofs.Common.{◌≡◌, ◌<◌, ◌+◌, ℕ, zero, suc, Bool, true, false, List, [], ◌∷◌, ◌++◌, Some, length, map, replicate, slice_get}
-use Rattle.std.proofs.Common.{refl, sym, ◌∙◌, ap, subst, arith}
+use Rattle.std.proofs.Common.{◌≡◌, ◌<◌, ◌+◌, ℕ, zero, suc, Bool, true, false, List, [], ◌∷◌, ◌++◌, Some, length, map, replicate, slice_get, refl, sym, ◌∙◌, ap, subst, arith}
 use Rattle.std.proofs.lemmas.List.{length-map}
 use Rattle.c104_link.specs.Buffers.{empty_outgoing}
 use Rattle.c104_link.specs.Steps.{◌>>=◌}
@@ -16,11 +15,11 @@ use Rattle.c104_plan.specs.Plans.{Plan, IsPlan}
 use Rattle.c104_plan.specs.declared.plans.Terminal as plans
 use Rattle.c104_plan.specs.PlanImage.{Image, Fits}
 use Rattle.c104_net.specs.Terminals.{new_terminal}
-use Rattle.c104_net.specs.Nodes.{Node}
+use Rattle.c104_net.specs.Nodes.{Node, is_switch}
 use Rattle.c104_plan.specs.Wiring.{peer}
 use Rattle.c104_net.specs.Ends.{end_of}
 use Rattle.c104_net.specs.Network.{network_of, new_switch_nodes, switch_nodes, terminal_nodes}
-use Rattle.c104_net.specs.Balance.{credit_of, granted_of, credit_at, granted_at, is_switch, IsSteady}
+use Rattle.c104_net.specs.Balance.{credit_of, granted_of, credit_at, granted_at, IsSteady}
 use Rattle.c104_net.proofs.BalanceWires.{peer_back, switch_inside, terminal_inside}
 
 -- the elements of two lists, one after the other

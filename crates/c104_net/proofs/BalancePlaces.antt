@@ -1,13 +1,12 @@
 -- What a change at one place of a list says of a number that is read at the places.
-use Rattle.std.proofs.Common.{◌≡◌, ◌≢◌, ◌<◌, ◌+◌, ◌-◌, ◌++◌, ℕ, zero, suc, true, false, inl, inr, List, [], ◌∷◌, Option, Some, length, map}
-use Rattle.std.proofs.Common.{replicate, slice_get, slice_set, refl, sym, ◌∙◌, ap, subst, arith}
+use Rattle.std.proofs.Common.{◌≡◌, ◌≢◌, ◌<◌, ◌+◌, ◌-◌, ◌++◌, ℕ, zero, suc, true, false, inl, inr, List, [], ◌∷◌, Option, Some, length, map, replicate, slice_get, slice_set, refl, sym, ◌∙◌, ap, subst, arith}
 use Rattle.std.proofs.lemmas.Bool.{cases_eq}
 use Rattle.c104_link.specs.Steps.{◌>>=◌}
 use Rattle.c104_net.specs.declared.ends.End.{End}
-use Rattle.c104_net.specs.Nodes.{Node}
+use Rattle.c104_net.specs.Nodes.{Node, is_switch}
 use Rattle.c104_plan.specs.Plans.{Plan}
-use Rattle.c104_net.specs.Balance.{credit_of, granted_of, is_switch, AreInPlace}
-use Rattle.c104_net.proofs.Crossing.{get_set_same, get_set_other}
+use Rattle.c104_net.specs.Balance.{credit_of, granted_of, AreInPlace}
+use Rattle.c104_net.proofs.WireEnds.{get_set_same, get_set_other}
 use Rattle.c104_net.proofs.BalanceWires.{AreApart}
 
 -- a number that changes, where there is one

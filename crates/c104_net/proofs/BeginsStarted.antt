@@ -9,9 +9,10 @@ use Rattle.c104_net.proofs.RunOrigins.{IsKeptRun}
 use Rattle.c104_net.proofs.StandingRuns.{stands_quiet}
 use Rattle.c104_net.specs.FinishedRecords.{FinishedRecord}
 use Rattle.c104_net.specs.Network.{network_of}
-use Rattle.c104_net.specs.Quiet.{IsQuiet}
-use Rattle.c104_net.specs.Standstill.{IsStarted, IsStartedNode, IsStartedStart, StandsStill, IsAcyclicRun}
-use Rattle.c104_net.specs.Starts.{start_node}
+use Rattle.c104_net.specs.QuietNets.{IsQuiet}
+use Rattle.c104_net.specs.Standstill.{IsStarted, IsStartedNode, StandsStill}
+use Rattle.c104_net.specs.DeadlockFreedom.{IsAcyclicRun}
+use Rattle.c104_net.specs.Starts.{IsStartedStart, start_node}
 use Rattle.c104_net.specs.Unchanged.{AreStartsOf, IsUnchanged}
 use Rattle.c104_net.specs.declared.starts.NodeStart.{NodeStart}
 use Rattle.c104_switch.specs.Starts.{IsLinkStart, start_input, start_output}

@@ -1,8 +1,5 @@
 -- Nodes with their records begin a run where they are quiet.
-use Rattle.std.proofs.Common.{◌≡◌, ◌∙◌, ℕ, All, true, false, List, [], ◌∷◌, Option, Some, None, length, map, slice_get, refl, sym, ap}
-use Rattle.std.proofs.Common.{subst, arith}
-use Rattle.std.proofs.lemmas.Option.{slice_get-map}
-use Rattle.std.specs.Option.{option_map}
+use Rattle.std.proofs.Common.{◌≡◌, ◌∙◌, ℕ, All, true, false, List, [], ◌∷◌, Option, Some, None, length, map, refl, sym, ap, arith}
 use Rattle.c104_link.specs.Buffers.{Outgoing}
 use Rattle.c104_link.specs.Steps.{◌>>=◌}
 use Rattle.c104_switch.specs.Actions.{Reply}
@@ -21,15 +18,12 @@ use Rattle.c104_net.specs.declared.acts.ActOf.TheVariants as act
 use Rattle.c104_net.specs.declared.acts.Entry.{Entry}
 use Rattle.c104_net.specs.declared.node.NodeOf.TheVariants as node
 use Rattle.c104_net.specs.Acts.{done_by, token_by, node_act}
-use Rattle.c104_net.specs.Balance.{is_switch, IsSteady}
-use Rattle.c104_net.specs.Network.{network_of, Network}
-use Rattle.c104_net.specs.NetRecords.{fresh_record, IsNetRecord, IsWithinLimit}
-use Rattle.c104_net.specs.Nodes.{as_switch, as_terminal, Node}
+use Rattle.c104_net.specs.Nodes.{is_switch, as_switch, as_terminal, Node}
 use Rattle.c104_net.specs.Quiet.{node_begin, IsQuietInput, IsQuietNode, IsQuietOutput}
 use Rattle.c104_net.specs.Records.{IsNodeRun}
 use Rattle.c104_net.specs.Starts.{start_node, start_of}
 use Rattle.c104_net.specs.Terminals as terminal
-use Rattle.std.proofs.lemmas.List.Elements.{All-head, All-map, All-tail}
+use Rattle.std.proofs.lemmas.List.Elements.{All-head, All-tail}
 
 module _ {A : Type 0} where
   inputs_back : (ps : List (Input A)) (qs : List (Outgoing A)) → length ps ≡ length qs → All IsQuietInput ps → map start_input (link_starts ps qs) ≡ ps
@@ -108,24 +102,3 @@ module _ (r : Reply) (m : Node Token) where
 pub run_kind : (from to : Node Token) (entries : List Entry) → IsNodeRun from entries to → is_switch to ≡ is_switch from
 run_kind from to [] run = ap is_switch run
 run_kind from to (e ∷ entries) run = run_kind run.1 to entries run.4 ∙ act_kind e.reply run.1 run.0 e.act from run.3
-
-abbrev no_entries : Node Token → List Entry
-no_entries n = []
-
--- a network whose nodes stand at their starts keeps what such a network keeps, where a run starts
-pub fresh_kept : (net : Network Token) → IsSteady net → map start_node (map start_of net.nodes) ≡ net.nodes → IsNetRecord (fresh_record net)
-fresh_kept net steady stand = record {
-  steady = steady;
-  started = subst (λ ns. IsSteady {A = Token} (network_of net.plan ns)) (sym stand) steady;
-  told = (
-    [],
-    record {
-      run = ap (network_of net.plan) (sym stand);
-      told = λ k. slice_get-map no_entries net.nodes k ∙ ap (λ ns. option_map no_entries (slice_get ns k)) (sym stand);
-      counted = refl;
-      ordered = tt;
-    },
-  );
-  within = All-map IsWithinLimit no_entries net.nodes (λ i d inside. omega arith);
-  counted = omega arith;
-}

@@ -18,21 +18,22 @@ use Rattle.c104_net.proofs.TracedRuns.{token_of, traced_from}
 use Rattle.c104_net.proofs.UndoneRounds.{undone_stands}
 use Rattle.c104_net.proofs.FullWork.{plain_work, random_within}
 use Rattle.c104_net.proofs.WorkBounds.{bound_by_tokens}
-use Rattle.c104_net.specs.DeadlockFreedom.{HasFullInbox, HasFullTrace, HasNoDeadlock, IsAcyclicNet, IsAllDelivered, NothingDone}
-use Rattle.c104_net.specs.DeadlockFreedom.{RoundsDeliver}
+use Rattle.c104_net.specs.DeadlockFreedom.{HasFullInbox, HasFullTrace, HasNoDeadlock, IsAcyclicNet, IsAllDelivered, NothingDone, RoundsDeliver, IsAcyclicRun}
 use Rattle.c104_net.specs.Deliveries.{Promise}
 use Rattle.c104_net.specs.EventRuns.{Outcome, StopsShort, run_events}
 use Rattle.c104_net.specs.NetRecords.{IsNetRecord, NetRecord}
 use Rattle.c104_net.specs.Network.{Network, network_apply, network_of}
-use Rattle.c104_net.specs.Quiet.{IsQuiet, IsQuietNode}
+use Rattle.c104_net.specs.Quiet.{IsQuietNode}
+use Rattle.c104_net.specs.QuietNets.{IsQuiet}
 use Rattle.c104_net.specs.RecordedRuns.{record_apply}
 use Rattle.c104_net.specs.Rounds.{rounds}
 use Rattle.c104_net.specs.Runs.{IsDoneRun}
-use Rattle.c104_net.specs.Standstill.{IsAcyclicRun, StandsStill}
+use Rattle.c104_net.specs.Standstill.{StandsStill}
 use Rattle.c104_net.specs.Starts.{start_node}
 use Rattle.c104_net.specs.Traced.{traced_kind}
 use Rattle.c104_net.specs.Traces.{seatless}
-use Rattle.c104_net.specs.TracedRuns.{map_network, map_node}
+use Rattle.c104_net.specs.TracedRuns.{map_network}
+use Rattle.c104_net.specs.MappedNodes.{map_node}
 use Rattle.c104_net.specs.WiredActs.{IsRecordedAt}
 use Rattle.c104_net.specs.HeaderWork.{random_work}
 use Rattle.c104_net.specs.Work.{highest_rank}

@@ -16,10 +16,9 @@ use Rattle.c104_net.specs.declared.node.NodeOf.TheVariants.{Switch, Terminal}
 use Rattle.c104_net.specs.Nodes.{Node}
 use Rattle.c104_net.specs.Ends.{end_of}
 use Rattle.c104_net.specs.Network.{Network, event_fault, terminal_place}
-use Rattle.c104_net.specs.Reasons.{node_enter_why, node_leave_why, node_credit_out_why, node_credit_in_why, node_input_why, node_claim_why}
-use Rattle.c104_net.specs.Reasons.{node_drain_why, end_why, wire_why, claim_reason, event_why, unless_refused, network_why}
-use Rattle.c104_net.specs.ReasonMeanings.{IsLeaveReason, IsEnterReason, IsCreditOutReason, IsCreditInReason, IsInputReason}
-use Rattle.c104_net.specs.ReasonMeanings.{IsNodeClaimReason, IsDrainReason, IsSaid, IsSaidAt, IsWireReason, IsEventReason}
+use Rattle.c104_net.specs.NodeReasons.{node_enter_why, node_leave_why, node_credit_out_why, node_credit_in_why, node_input_why, node_claim_why, node_drain_why}
+use Rattle.c104_net.specs.Reasons.{end_why, wire_why, claim_reason, event_why, unless_refused, network_why}
+use Rattle.c104_net.specs.ReasonMeanings.{IsLeaveReason, IsEnterReason, IsCreditOutReason, IsCreditInReason, IsInputReason, IsNodeClaimReason, IsDrainReason, IsSaid, IsSaidAt, IsWireReason, IsEventReason}
 
 -- what is said of a reason is said of it at its port
 carried : {X : Type 0} (f : Unready → X) (P : Unready → Type 0) (Q : X → Type 0) → ((u : Unready) → P u → Q (f u)) → (why : Option Unready) → IfSome why P → IfSome (option_map f why) Q

@@ -6,17 +6,15 @@ use Rattle.c104_plan.specs.declared.ports.Port.{Port}
 use Rattle.c104_event.specs.declared.events.Event.{Event}
 use Rattle.c104_link.specs.Steps.{◌>>=◌, step_at, yield_step_at}
 use Rattle.c104_net.proofs.BalanceWires.{nodes_apart, peer_back, switch_inside}
-use Rattle.c104_net.proofs.Crossing.{get_set_other}
+use Rattle.c104_net.proofs.WireEnds.{get_set_other}
 use Rattle.c104_net.proofs.RunRecords.{in_place, is_switch_place}
 use Rattle.c104_net.specs.Acts.{control_by, done_by, node_act, nodes_act, token_by}
-use Rattle.c104_net.specs.Balance.{AreInPlace, is_switch}
+use Rattle.c104_net.specs.Balance.{AreInPlace}
+use Rattle.c104_net.specs.Nodes.{is_switch, Node, node_claim, node_control, node_credit_in, node_credit_out, node_drain, node_enter, node_input, node_leave, node_send}
 use Rattle.c104_net.specs.Ends.{end_of}
-use Rattle.c104_net.specs.EventActs.{Acts, act_limit, acts_step, crossing_acts, far_act, port_credit_in, port_credit_out, port_enter}
-use Rattle.c104_net.specs.EventActs.{port_leave, port_place}
-use Rattle.c104_net.specs.Network.{Network, event_fault, event_limit, network_apply, network_step, outcome_if_possible, outcome_if_ready}
-use Rattle.c104_net.specs.Network.{outcome_within_limit, terminal_place, told_step, with_nodes}
-use Rattle.c104_net.specs.Nodes.{Node, node_claim, node_control, node_credit_in, node_credit_out, node_drain, node_enter, node_input}
-use Rattle.c104_net.specs.Nodes.{node_leave, node_send}
+use Rattle.c104_net.specs.EventActs.{acts_step, crossing_acts, port_place}
+use Rattle.c104_net.specs.PortActs.{Acts, act_limit, far_act, port_credit_in, port_credit_out, port_enter, port_leave}
+use Rattle.c104_net.specs.Network.{Network, event_fault, event_limit, network_apply, network_step, outcome_if_possible, outcome_if_ready, outcome_within_limit, terminal_place, told_step, with_nodes}
 use Rattle.c104_net.specs.Traces.{part}
 use Rattle.c104_net.proofs.NamedWires.{nodes_credit, nodes_cross}
 use Rattle.c104_net.specs.declared.acts.ActOf.{ActOf}
@@ -27,8 +25,7 @@ use Rattle.c104_switch.specs.Switch.{Switch}
 use Rattle.c104_switch.specs.declared.actions.ReplyOf.{ReplyOf}
 use Rattle.c104_token.specs.Kinds.{Kind}
 use Rattle.c104_token.specs.declared.packets.Packet.{Packet}
-use Rattle.std.proofs.Common.{Bool, List, None, Ok, Option, Some, ap, arith, false, length, nat_lt, refl, slice_get, slice_set, sym, true}
-use Rattle.std.proofs.Common.{ℕ, ◌+◌, ◌-◌, ◌<◌, ◌∙◌, ◌≡◌}
+use Rattle.std.proofs.Common.{Bool, List, None, Ok, Option, Some, ap, arith, false, length, nat_lt, refl, slice_get, slice_set, sym, true, ℕ, ◌+◌, ◌-◌, ◌<◌, ◌∙◌, ◌≡◌}
 use Rattle.std.proofs.lemmas.Bool.Decides.{nat_tests}
 use Rattle.c104_plan.specs.declared.ports.Port.TheVariants as port
 use Rattle.c104_event.specs.declared.events.Event.TheVariants as event

@@ -1,6 +1,5 @@
 -- What a run leaves: the terminals stand after the switches, each at its place.
-use Rattle.std.proofs.Common.{append_assoc, reverse, ◌≡◌, ◌+◌, ◌++◌, ℕ, zero, suc, Bool, true, false, List, [], ◌∷◌, Option, Some, None}
-use Rattle.std.proofs.Common.{nat_lt, if◌then◌else◌, length, map, replicate, slice_get, refl, sym, ap, ◌∙◌, arith}
+use Rattle.std.proofs.Common.{append_assoc, reverse, ◌≡◌, ◌+◌, ◌++◌, ℕ, zero, suc, Bool, true, false, List, [], ◌∷◌, Option, Some, None, nat_lt, if◌then◌else◌, length, map, replicate, slice_get, refl, sym, ap, ◌∙◌, arith}
 use Rattle.std.proofs.lemmas.Bool.Decides.{nat_tests}
 use Rattle.std.proofs.lemmas.List.{reverse-append}
 use Rattle.std.proofs.lemmas.Option.{slice_get_past}
@@ -8,10 +7,10 @@ use Rattle.c104_link.specs.Steps.{◌>>=◌}
 use Rattle.c104_net.specs.declared.node.NodeOf.TheVariants.{Switch, Terminal}
 use Rattle.c104_net.specs.Terminals as terminal
 use Rattle.c104_plan.specs.Plans.{Plan}
-use Rattle.c104_net.specs.Nodes.{Node, node_arrived}
+use Rattle.c104_net.specs.Nodes.{Node, node_arrived, is_switch, terminals_of}
 use Rattle.c104_net.specs.Network.{Network, network_arrived}
-use Rattle.c104_net.specs.Balance.{is_switch, AreInPlace}
-use Rattle.c104_net.specs.Finished.{terminals_of, network_finish, run_arrived}
+use Rattle.c104_net.specs.Balance.{AreInPlace}
+use Rattle.c104_net.specs.Finished.{network_finish, run_arrived}
 
 module _ {A : Type 0} where
   -- the terminals among nodes one after the other

@@ -1,6 +1,5 @@
 -- A network with its record, where nothing was done yet.
-use Rattle.std.proofs.Common.{◌≡◌, ◌∙◌, ◌++◌, ℕ, true, All, Result, Ok, Err, OnOk, List, [], ◌∷◌, map, refl, slice_get, sym, ap, subst}
-use Rattle.std.proofs.Common.{arith}
+use Rattle.std.proofs.Common.{◌≡◌, ◌∙◌, ◌++◌, ℕ, true, All, Result, Ok, Err, OnOk, List, [], ◌∷◌, map, refl, slice_get, sym, ap, subst, arith}
 use Rattle.std.proofs.lemmas.List.{map-append}
 use Rattle.std.proofs.lemmas.List.Elements.{All-map}
 use Rattle.std.proofs.lemmas.Option.{slice_get-map}
@@ -18,11 +17,10 @@ use Rattle.c104_net.specs.Nodes.{Node}
 use Rattle.c104_net.specs.Network.{network_of, new_network, placed_network}
 use Rattle.c104_net.specs.RecordedNets.{IsRecordedNet}
 use Rattle.c104_net.specs.RecordedPlaces.{node_reading}
-use Rattle.c104_net.specs.Records.{NodeRecord}
+use Rattle.c104_net.specs.Records.{NodeRecord, node_start, node_state, node_trace}
 use Rattle.c104_net.specs.Balance.{IsSteady}
 use Rattle.c104_net.specs.Starts.{start_node, start_of}
-use Rattle.c104_net.specs.NetRecords.{first_record, fresh_record, net_record, node_start, node_state, node_trace, shown_record, IsNetRecord}
-use Rattle.c104_net.specs.NetRecords.{IsWithinLimit}
+use Rattle.c104_net.specs.NetRecords.{first_record, fresh_record, net_record, shown_record, IsNetRecord, IsWithinLimit}
 use Rattle.c104_net.proofs.BalancePlaced.{steady_copy}
 use Rattle.c104_net.proofs.RecordSteps.{same_record}
 use Rattle.c104_net.proofs.StartsBack.{starts_back}

@@ -1,6 +1,5 @@
 -- Events of a round whose near end isn't ready: they do nothing.
-use Rattle.std.proofs.Common.{◌≡◌, ◌<◌, ◌-◌, ◌∙◌, ℕ, nat_lt, Bool, true, false, [], ◌∷◌, Option, Some, None, Ok, is_some, length, refl, sym}
-use Rattle.std.proofs.Common.{ap, arith}
+use Rattle.std.proofs.Common.{◌≡◌, ◌<◌, ◌-◌, ◌∙◌, ℕ, nat_lt, Bool, true, false, [], ◌∷◌, Option, Some, None, Ok, is_some, length, refl, sym, ap, arith}
 use Rattle.std.proofs.lemmas.Bool.Decides.{nat_tests}
 use Rattle.c104_token.specs.Kinds.{Kind}
 use Rattle.c104_link.specs.Steps.{step_at}
@@ -15,13 +14,13 @@ use Rattle.c104_event.specs.declared.events.Event.{Event}
 use Rattle.c104_event.specs.declared.events.Event.TheVariants as event
 use Rattle.c104_event.specs.declared.faults.EventFault.{EventFault}
 use Rattle.c104_net.specs.Acts.{nodes_act}
-use Rattle.c104_net.specs.EventActs.{near_act, port_place}
+use Rattle.c104_net.specs.EventActs.{port_place}
+use Rattle.c104_net.specs.PortActs.{near_act}
 use Rattle.c104_net.specs.Nodes.{node_claim}
 use Rattle.c104_net.proofs.ActSteps.{joint_unready}
 use Rattle.c104_net.proofs.EventSteps.{claim_named, done_step}
 use Rattle.c104_net.specs.declared.crossings.Crossing.TheVariants.{Grant, Token}
-use Rattle.c104_net.specs.Network.{network_apply, network_step, event_fault, outcome_if_possible, outcome_if_ready, link_fault, wire_fault}
-use Rattle.c104_net.specs.Network.{wired_fault}
+use Rattle.c104_net.specs.Network.{network_apply, network_step, event_fault, outcome_if_possible, outcome_if_ready, link_fault, wire_fault, wired_fault}
 use Rattle.c104_net.specs.RoundParts.{PartEnds}
 use Rattle.c104_net.specs.Stages.{stage_apply, Stage}
 use Rattle.c104_net.proofs.StageSteps.{unready_part}

@@ -9,12 +9,10 @@ use Rattle.c104_plan.specs.declared.ports.Port.{Port}
 use Rattle.c104_link.proofs.MadeSteps.{at_place_made, given, required, with_place_made}
 use Rattle.c104_link.specs.Buffers.{Outgoing, outgoing_put, outgoing_put_all}
 use Rattle.c104_link.specs.Steps.{joint_step_at, step_at}
-use Rattle.c104_net.proofs.InputMoves.{HasRead, claim_step, decide_step, has_few, has_wire, head_step, random_step, short_step, sink_step}
-use Rattle.c104_net.proofs.InputMoves.{stream_step}
-use Rattle.c104_net.proofs.LinkActs.{first_some}
+use Rattle.c104_net.proofs.InputMoves.{HasRead, claim_step, decide_step, has_few, has_wire, head_step, random_step, short_step, sink_step, stream_step}
+use Rattle.c104_net.proofs.NextTokens.{first_some}
 use Rattle.c104_net.proofs.LinkEvents.{Leaves, StillHolds, kept_same, world_of, worlds}
-use Rattle.c104_net.proofs.NodeViews.{arrivals, arrivals_same, at_id, content_put, content_take, ins, ins_put, items_in, kinds_same, out_at}
-use Rattle.c104_net.proofs.NodeViews.{outs, outs_put, outs_same, part_set, phases, phases_put, sents_same, settings_same, terminal_fresh}
+use Rattle.c104_net.proofs.NodeViews.{arrivals, arrivals_same, at_id, content_put, content_take, ins, ins_put, items_in, kinds_same, out_at, outs, outs_put, outs_same, part_set, phases, phases_put, sents_same, settings_same, terminal_fresh}
 use Rattle.c104_net.proofs.PacketInvariant.{Holds, IsLabelled, IsWired, kept_by}
 use Rattle.c104_net.proofs.PortChanges.{at, at_other}
 use Rattle.c104_net.proofs.TokenMoves.{claim_world, pass_world, read_world, still_world}
@@ -37,9 +35,7 @@ use Rattle.c104_switch.specs.Turns.{header_turn, input_after_token, input_turn, 
 use Rattle.c104_switch.specs.declared.phase.Phase.{Phase}
 use Rattle.c104_switch.specs.declared.phase.Phase.TheVariants.{Fresh, Head, Sinking, Stream, Want}
 use Rattle.c104_token.specs.Tokens.{is_end}
-use Rattle.std.proofs.Common.{Bool, List, Option, Some, [], ap, append-nil, arith, drop, false, if◌then◌else◌, inl, inr, length}
-use Rattle.std.proofs.Common.{length-append, nat_le, nat_lt, not, refl, slice_get, slice_set, subst, suc, sym, true, zero, ℕ, ⊎_elim, ◌&&◌}
-use Rattle.std.proofs.Common.{◌++◌, ◌+◌, ◌<◌, ◌==◌, ◌||◌, ◌∙◌, ◌∷◌, ◌≡◌, ◌≢◌, ◌⊎◌}
+use Rattle.std.proofs.Common.{Bool, List, Option, Some, [], ap, append-nil, arith, drop, false, if◌then◌else◌, inl, inr, length, length-append, nat_le, nat_lt, not, refl, slice_get, slice_set, subst, suc, sym, true, zero, ℕ, ⊎_elim, ◌&&◌, ◌++◌, ◌+◌, ◌<◌, ◌==◌, ◌||◌, ◌∙◌, ◌∷◌, ◌≡◌, ◌≢◌, ◌⊎◌}
 use Rattle.std.proofs.lemmas.Bool.{and_cases, and_parts, cases_Bool, eq-eqb, le-leb, leb-false, leb-true, not-false, not-true, true≢false}
 use Rattle.std.proofs.lemmas.Option.{some_pair_parts}
 use Rattle.c104_event.specs.declared.events.Event.TheVariants as event

@@ -2,10 +2,10 @@
 use Rattle.c104_plan.specs.declared.ports.Port.{Port}
 use Rattle.c104_link.specs.Steps.{◌>>=◌}
 use Rattle.c104_link.proofs.MadeSteps.{from_place_made}
-use Rattle.c104_net.proofs.Crossing.{get_set_other}
+use Rattle.c104_net.proofs.WireEnds.{get_set_other}
 use Rattle.c104_event.specs.declared.faults.EventFault.{EventFault}
 use Rattle.c104_net.specs.Acts.{done_by, node_act, nodes_act, reply_outcome, token_by}
-use Rattle.c104_net.specs.EventActs.{IsAnswerOf, far_act, joint_step, near_act}
+use Rattle.c104_net.specs.PortActs.{IsAnswerOf, far_act, joint_step, near_act}
 use Rattle.c104_net.specs.Nodes.{Node, node_credit_in, node_credit_out, node_enter, node_leave}
 use Rattle.c104_net.specs.PlaceActs.{JointDone}
 use Rattle.c104_net.specs.Places.{Shown, bases, fulls, room_fault, states, traces}
@@ -19,8 +19,7 @@ use Rattle.c104_net.specs.declared.crossings.Crossing.TheVariants.{Grant, Token}
 use Rattle.c104_switch.specs.Actions.{is_ready}
 use Rattle.c104_switch.specs.declared.actions.ReplyOf.{ReplyOf}
 use Rattle.c104_token.specs.Kinds.{Kind}
-use Rattle.std.proofs.Common.{Bool, Err, Ok, ◌||◌, [], if◌then◌else◌, ◌∷◌, List, None, Option, Some, ap, arith, false, is_some, length}
-use Rattle.std.proofs.Common.{nat_lt, refl, slice_get, slice_set, subst, sym, true, ℕ, ◌<◌, ◌≤◌, ◌∙◌, ◌≡◌, ◌≢◌}
+use Rattle.std.proofs.Common.{Bool, Err, Ok, ◌||◌, [], if◌then◌else◌, ◌∷◌, List, None, Option, Some, ap, arith, false, is_some, length, nat_lt, refl, slice_get, slice_set, subst, sym, true, ℕ, ◌<◌, ◌≤◌, ◌∙◌, ◌≡◌, ◌≢◌}
 use Rattle.std.proofs.lemmas.Bool.Decides.{nat_tests}
 use Rattle.std.proofs.lemmas.Option.{slice_get_past}
 use Rattle.c104_plan.specs.declared.ports.Port.TheVariants as port

@@ -1,7 +1,6 @@
 -- In a run from a start whose traces are within their limit, each terminator that arrives tells its packet, and in numbers
 -- that its eight bytes have room for. So what is kept of it tells the same packet.
-use Rattle.std.proofs.Common.{◌≡◌, ◌∙◌, ◌≤◌, ◌<◌, ◌%◌, ◌++◌, ℕ, suc, zero, true, List, [], ◌∷◌, Some, None, Result, Ok, length, map}
-use Rattle.std.proofs.Common.{slice_get, refl, sym, ap, subst, arith}
+use Rattle.std.proofs.Common.{◌≡◌, ◌∙◌, ◌≤◌, ◌<◌, ◌%◌, ◌++◌, ℕ, suc, zero, true, List, [], ◌∷◌, Some, None, Result, Ok, length, map, slice_get, refl, sym, ap, subst, arith}
 use Rattle.std.proofs.lemmas.Bool.{true≢false}
 use Rattle.std.proofs.lemmas.Option.{slice_get-map}
 use Rattle.std.specs.Option.{option_map}
@@ -17,17 +16,18 @@ use Rattle.c104_event.specs.declared.faults.EventFault.{EventFault}
 use Rattle.c104_net.specs.declared.node.NodeOf.TheVariants as node
 use Rattle.c104_net.specs.declared.stamps.Stamp.{Stamp}
 use Rattle.c104_net.specs.declared.starts.NodeStart.{NodeStart}
-use Rattle.c104_net.specs.Finished.{terminals_of}
+use Rattle.c104_net.specs.Nodes.{terminals_of, Node}
 use Rattle.c104_net.specs.Tagged.{tag, tagged_origins, TaggedToken}
 use Rattle.c104_net.specs.Network.{network_apply, network_of, network_step, event_fault, terminal_place, Network}
-use Rattle.c104_net.specs.Nodes.{Node}
 use Rattle.c104_net.specs.Origins.{origins_in, AreSure, IsSure, Origin}
 use Rattle.c104_net.specs.Runs.{run_deeds, IsDoneRun}
 use Rattle.c104_net.specs.Starts.{start_node}
 use Rattle.c104_net.specs.Terminals.{Terminal}
 use Rattle.c104_net.specs.Traced.{sent_token, traced_kind, Source, Traced}
-use Rattle.c104_net.specs.TracedRuns.{map_network, map_node}
-use Rattle.c104_net.specs.Traces.{event_deeds, Deed}
+use Rattle.c104_net.specs.TracedRuns.{map_network}
+use Rattle.c104_net.specs.MappedNodes.{map_node}
+use Rattle.c104_net.specs.Traces.{Deed}
+use Rattle.c104_net.specs.EventDeeds.{event_deeds}
 use Rattle.c104_net.proofs.TaggedRuns.{origins_same, IsSmall}
 use Rattle.c104_net.proofs.RoundJoins.{apply_plan}
 use Rattle.c104_net.proofs.RunOrigins.{terminal_origins}

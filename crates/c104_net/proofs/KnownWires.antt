@@ -2,21 +2,20 @@
 use Rattle.c104_plan.specs.Plans.{Plan}
 use Rattle.c104_event.specs.declared.events.Event.{Event}
 use Rattle.c104_event.specs.declared.faults.EventFault.{EventFault}
-use Rattle.c104_net.specs.ActLinks.{act_link, port_link}
+use Rattle.c104_net.specs.ActLinks.{port_link}
 use Rattle.c104_net.specs.EventRuns.{EventsEnd}
-use Rattle.c104_net.specs.EventActs.{act_limit, port_place}
-use Rattle.c104_net.specs.Nodes.{Node}
-use Rattle.c104_net.specs.Places.{PlaceBase, Shown, base_wired, bases, states}
+use Rattle.c104_net.specs.EventActs.{port_place}
+use Rattle.c104_net.specs.Places.{PlaceBase, Shown, base_wired, bases}
 use Rattle.c104_net.specs.RoundParts.{PartEnds}
 use Rattle.c104_net.specs.Stages.{stage_apply, stage_of, Stage}
 use Rattle.c104_net.specs.Traces.{part}
-use Rattle.c104_net.specs.WiredPlaces.{is_linked, is_linked_at, KnowWires, links_at, links_of}
-use Rattle.c104_net.specs.declared.acts.ActOf.{ActOf}
+use Rattle.c104_net.specs.WiredPlaces.{links_at, links_of}
+use Rattle.c104_net.specs.KnownWires.{KnowWires}
 use Rattle.c104_net.proofs.PlaceSteps.{shown_at}
 use Rattle.c104_net.proofs.RoundRuns.{ends_keep}
 use Rattle.c104_token.specs.Kinds.{Kind}
-use Rattle.std.proofs.Common.{Bool, Err, List, None, Ok, Option, Result, Some, ap, get_or, length, map, option_map, refl, slice_get, subst, sym, true, inl, ℕ, ◌<◌, ◌∙◌, ◌≡◌}
-use Rattle.std.proofs.lemmas.Option.{slice_get-get_or, slice_get-map}
+use Rattle.std.proofs.Common.{Bool, Err, List, None, Ok, Option, Result, Some, ap, map, option_map, refl, slice_get, subst, sym, true, inl, ℕ, ◌∙◌, ◌≡◌}
+use Rattle.std.proofs.lemmas.Option.{slice_get-map}
 
 -- what is known of wires hangs on nothing else
 module _ (bs cs : List PlaceBase) (same : map base_wired bs ≡ map base_wired cs) where
@@ -34,20 +33,6 @@ module _ (bs cs : List PlaceBase) (same : map base_wired bs ≡ map base_wired c
   known_by plan known = λ p q wired. (links_same _ _ ∙ (known p q wired).0, links_same _ _ ∙ (known p q wired).1)
 
 module _ {A : Type 0} where
-  -- what is so at a place of a list is so of the place
-  pub linked_there : {P : Type 0} (shown : P → Shown A) (xs : List P) (k : ℕ) (d : P) → k < length xs → (a : ActOf A) → is_linked_at (bases (map shown xs)) k a ≡ true → is_linked (shown (get_or xs k d)).base a ≡ true
-  linked_there shown xs k d inside a linked = by_link (act_link a) linked
-    where
-      here : slice_get (bases (map shown xs)) k ≡ Some (shown (get_or xs k d)).base
-      here = shown_at (λ (s : Shown A). s.base) shown xs k (Some (get_or xs k d)) (slice_get-get_or xs k d inside)
-
-      by_link : (o : Option ℕ) → part true (links_at (bases (map shown xs)) k) o ≡ true → part true (links_of (shown (get_or xs k d)).base) o ≡ true
-      by_link None is = refl
-      by_link (Some l) is = sym (ap (part true (λ (b : PlaceBase). links_of b l)) here) ∙ is
-
-  pub below_there : {P : Type 0} (shown : P → Shown A) (xs : List P) (k : ℕ) (d : P) → k < length xs → (a : ActOf A) → act_limit (slice_get (states (map shown xs)) k) a ≡ None → act_limit (Some (shown (get_or xs k d)).state) a ≡ None
-  below_there shown xs k d inside a below = sym (ap (λ (o : Option (Node A)). act_limit o a) (shown_at (λ (s : Shown A). s.state) shown xs k (Some (get_or xs k d)) (slice_get-get_or xs k d inside))) ∙ below
-
   -- nothing is asked where nothing is known
   pub unknown : {P : Type 0} (shown : P → Shown A) → ((p : P) → (shown p).base.wired ≡ None) → (plan : Plan) (xs : List P) → KnowWires plan (bases (map shown xs))
   unknown {P} shown none plan xs = λ p q wired. (by_place (port_place plan p) (port_link p) (slice_get xs (port_place plan p)) refl, by_place (port_place plan q) (port_link q) (slice_get xs (port_place plan q)) refl)

@@ -9,13 +9,13 @@ use Rattle.c104_net.specs.declared.acts.Entry.{Entry}
 use Rattle.c104_net.specs.declared.node.NodeOf.TheVariants as node
 use Rattle.c104_net.specs.declared.stamps.Stamp.{Stamp}
 use Rattle.c104_net.specs.Acts.{IsWithinLimits, done_by, node_act, reply_outcome}
-use Rattle.c104_net.specs.EventActs.{act_limit}
+use Rattle.c104_net.specs.PortActs.{act_limit}
 use Rattle.c104_net.specs.LentNodes.{IsLentNode, IsLentRun, LentNode, MayAct, after_act, fault_first, has_link, is_full, lent_limit, lent_step, on_links}
 use Rattle.c104_net.specs.Nodes.{Node}
 use Rattle.c104_net.specs.Starts.{start_node}
 use Rattle.c104_net.specs.Terminals.{sent_from}
 use Rattle.c104_net.specs.Traces.{entry_of, trace_limit}
-use Rattle.c104_net.proofs.ActSteps.{act_ready}
+use Rattle.c104_net.proofs.ReadyActs.{act_ready}
 use Rattle.c104_net.proofs.NodeRuns.{made_ready}
 use Rattle.std.proofs.Common.{Bool, List, None, Option, Some, [], ap, arith, false, is_some, length, length-append, nat_le, refl, subst, suc, sym, true, ℕ, ◌+◌, ◌++◌, ◌∙◌, ◌∷◌, ◌≡◌}
 use Rattle.std.proofs.lemmas.Bool.{both_ways}

@@ -2,7 +2,7 @@
 use Rattle.c104_link.specs.Steps.{◌>>=◌}
 use Rattle.c104_net.proofs.JointEnds.{far_done, near_answers}
 use Rattle.c104_net.proofs.LentNodes.{linked_ready}
-use Rattle.c104_net.specs.EventActs.{IsAnswerOf, far_act, near_act}
+use Rattle.c104_net.specs.PortActs.{IsAnswerOf, far_act, near_act}
 use Rattle.c104_net.specs.LentNodes.{Crossed, LentNode, crossed, lent_pair, lent_step}
 use Rattle.c104_net.specs.Nodes.{Node}
 use Rattle.c104_net.specs.declared.crossings.Joint.{Joint}

@@ -2,6 +2,7 @@ pub mod ActionSteps
 pub mod PlaceSteps
 pub mod BarePlaces
 pub mod ActSteps
+pub mod ReadyActs
 pub mod ActAnswers
 pub mod ActAttempts
 pub mod NamedWires
@@ -9,7 +10,7 @@ pub mod EventSteps
 pub mod FarPorts
 pub mod JointEnds
 pub mod JointKeeps
-pub mod Crossing
+pub mod WireEnds
 pub mod CrossingActs
 pub mod FarEndLists
 pub mod Running
@@ -22,6 +23,7 @@ pub mod WiredTraces
 pub mod StartsBack
 pub mod FirstRecords
 pub mod RoundLists
+pub mod Ranges
 pub mod RoundRuns
 pub mod RoundsTaken
 pub mod PartRuns
@@ -45,7 +47,9 @@ pub mod BalancePlaced
 pub mod Finishing
 pub mod RunPartLists
 pub mod QuietNodes
+pub mod QuietBegins
 pub mod BegunRecords
+pub mod FreshRecords
 mod UnreadyNodes
 pub mod UnreadyEvents
 pub mod EventReasons

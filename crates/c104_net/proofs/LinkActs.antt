@@ -4,30 +4,20 @@ use Rattle.c104_plan.specs.declared.ports.Port.{Port}
 use Rattle.c104_link.proofs.MadeSteps.{at_place_made, from_place_made, given, required}
 use Rattle.c104_link.specs.Buffers.{Incoming, Outgoing, incoming_accept, incoming_grant, outgoing_credited, outgoing_emit}
 use Rattle.c104_link.specs.Steps.{step_at, yield_step_at}
-use Rattle.c104_net.proofs.NodeViews.{arrivals, arrivals_same, arrivals_terminal, at_id, ins, ins_put, ins_same, ins_terminal, kinds_same}
-use Rattle.c104_net.proofs.NodeViews.{kinds_terminal, node_in, node_out, number_id, outs, outs_put, outs_same, outs_terminal, part_same}
-use Rattle.c104_net.proofs.NodeViews.{part_set, phases, phases_same, phases_terminal, sents, sents_same, sents_terminal, settings_same}
-use Rattle.c104_net.proofs.NodeViews.{settings_seen, settings_terminal}
+use Rattle.c104_net.proofs.NodeViews.{arrivals, arrivals_same, arrivals_terminal, at_id, ins, ins_put, ins_same, ins_terminal, kinds_same, kinds_terminal, node_in, node_out, number_id, outs, outs_put, outs_same, outs_terminal, part_same, part_set, phases, phases_same, phases_terminal, sents, sents_same, sents_terminal, settings_same, settings_seen, settings_terminal}
 use Rattle.c104_net.proofs.PortChanges.{at}
-use Rattle.c104_net.specs.Balance.{is_switch}
+use Rattle.c104_net.specs.Nodes.{is_switch, Node, arrived_tokens, node_credit_in, node_credit_out, node_enter, node_leave}
 use Rattle.c104_net.specs.Deliveries.{sent_packets}
 use Rattle.c104_net.specs.Ends.{end_of}
 use Rattle.c104_net.specs.Network.{terminal_place}
-use Rattle.c104_net.specs.Nodes.{Node, arrived_tokens, node_credit_in, node_credit_out, node_enter, node_leave}
-use Rattle.c104_net.specs.Terminals.{Terminal, terminal_credit_in, terminal_credit_out, terminal_enter, terminal_leave, with_input}
-use Rattle.c104_net.specs.Terminals.{with_output}
+use Rattle.c104_net.specs.Terminals.{Terminal, terminal_credit_in, terminal_credit_out, terminal_enter, terminal_leave, with_input, with_output}
 use Rattle.c104_net.specs.Traces.{part}
-use Rattle.c104_switch.specs.Switch.{Input, Switch, input_accept, input_grant, switch_credit_in, switch_credit_out, switch_enter}
-use Rattle.c104_switch.specs.Switch.{switch_leave, with_buffer, with_inputs, with_outputs}
+use Rattle.c104_switch.specs.Switch.{Input, Switch, input_accept, input_grant, switch_credit_in, switch_credit_out, switch_enter, switch_leave, with_buffer, with_inputs, with_outputs}
 use Rattle.c104_switch.specs.declared.phase.Phase.TheVariants.{Fresh}
-use Rattle.std.proofs.Common.{List, Some, [], ap, drop, length, map, nat_le, nat_lt, refl, slice_get, slice_set, subst, sym, ℕ, ◌++◌, ◌+◌}
-use Rattle.std.proofs.Common.{◌-◌, ◌∙◌, ◌∷◌, ◌≡◌}
+use Rattle.std.proofs.Common.{List, Some, [], ap, length, map, nat_le, nat_lt, refl, slice_get, slice_set, subst, sym, ℕ, ◌++◌, ◌+◌, ◌-◌, ◌∙◌, ◌∷◌, ◌≡◌}
 use Rattle.c104_net.specs.declared.node.NodeOf.TheVariants as node
 use Rattle.c104_plan.specs.declared.ports.Port.TheVariants as port
-
-pub first_some : {A : Type 0} (l : List A) (x : A) → slice_get l 0 ≡ Some x → l ≡ x ∷ drop 1 l
-first_some [] x e = absurd (cc)
-first_some (y ∷ l) x e = let d : y ≡ x = cc in ap (λ z. z ∷ l) d
+use Rattle.c104_net.proofs.NextTokens.{leave_some}
 
 -- a node is of the kind of a port
 abbrev pub Matches : {A : Type 0} → Port → Node A → Type 0
@@ -87,10 +77,6 @@ module _ {A : Type 0} (plan : Plan) where
 
     output_same_t : (q : Outgoing A) → SameBut nodes (slice_set nodes (terminal_place plan t) (node.Terminal (with_output T q))) (ins plan nodes) (at (outs plan nodes) (port.Terminal t) q.items)
     output_same_t q = terminal_same (with_output T q) (at (outs plan nodes) (port.Terminal t) q.items) (ins plan nodes) refl refl (at_id (ins plan nodes) (port.Terminal t) T.input.items (sym (ap (part [] (node_in (port.Terminal t))) e))) refl
-
-pub leave_some : {A : Type 0} (q : Outgoing A) (l : A × Outgoing A) → outgoing_emit q ≡ Some l → q.items ≡ l.0 ∷ l.1.items
-leave_some q l e = given (slice_get q.items 0) _ l e (λ x ex e1. required (nat_lt 0 q.credit) _ l e1 (λ b e2.
-    (let d : (x, record { items = drop 1 q.items; credit = q.credit - 1 }) ≡ l = cc in first_some q.items x ex ∙ ap (λ (z : _ × Outgoing _). z.0 ∷ z.1.items) d)))
 
 enter_some : {A : Type 0} (x : A) (b b' : Incoming A) → incoming_accept x b ≡ Some b' → b'.items ≡ b.items ++ x ∷ []
 enter_some x b b' e = required (nat_lt 0 b.granted) _ b' e (λ h e1. (let d : record { cap = b.cap; items = b.items ++ x ∷ []; granted = b.granted - 1 } ≡ b' = cc in sym (ap (λ (z : Incoming _). z.items) d)))

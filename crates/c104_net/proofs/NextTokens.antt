@@ -1,16 +1,23 @@
 -- What would go out next over a link is the first token that waits there, where one can go out.
-use Rattle.c104_link.proofs.MadeSteps.{from_place_made, given}
+use Rattle.c104_link.proofs.MadeSteps.{from_place_made, given, required}
 use Rattle.c104_link.specs.Buffers.{Outgoing, outgoing_emit}
 use Rattle.c104_link.specs.Steps.{◌>>=◌, yield_step_at}
-use Rattle.c104_net.proofs.LinkActs.{leave_some}
 use Rattle.c104_net.specs.Nodes.{Node}
 use Rattle.c104_net.specs.Terminals.{Terminal, terminal_leave}
 use Rattle.c104_net.specs.Views.{node_next_token}
 use Rattle.c104_net.specs.declared.node.NodeOf.TheVariants as node
 use Rattle.c104_switch.specs.Switch.{Switch, switch_leave}
 use Rattle.c104_switch.specs.Views.{output_token}
-use Rattle.std.proofs.Common.{List, None, Option, Some, ap, false, is_some, refl, slice_get, true, ℕ, ◌∙◌, ◌≡◌}
+use Rattle.std.proofs.Common.{List, None, Option, Some, ap, false, is_some, refl, slice_get, true, ℕ, ◌∙◌, ◌≡◌, [], drop, nat_lt, ◌-◌, ◌∷◌}
 use Rattle.std.proofs.lemmas.Bool.{both_ways}
+
+pub first_some : {A : Type 0} (l : List A) (x : A) → slice_get l 0 ≡ Some x → l ≡ x ∷ drop 1 l
+first_some [] x e = absurd (cc)
+first_some (y ∷ l) x e = let d : y ≡ x = cc in ap (λ z. z ∷ l) d
+
+pub leave_some : {A : Type 0} (q : Outgoing A) (l : A × Outgoing A) → outgoing_emit q ≡ Some l → q.items ≡ l.0 ∷ l.1.items
+leave_some q l e = given (slice_get q.items 0) _ l e (λ x ex e1. required (nat_lt 0 q.credit) _ l e1 (λ b e2.
+    (let d : (x, record { items = drop 1 q.items; credit = q.credit - 1 }) ≡ l = cc in first_some q.items x ex ∙ ap (λ (z : _ × Outgoing _). z.0 ∷ z.1.items) d)))
 
 module _ {A : Type 0} where
   -- a token that goes out of a part of a node, as it goes out of the node

@@ -1,7 +1,5 @@
 -- Parts of a round: one goes on from the one before, and an event that isn't ready may be left out.
-use Rattle.std.proofs.Common.{true, false, ℕ, zero, suc, ◌≡◌, ◌+◌, ◌<◌, ◌≤◌, ◌-◌, ◌||◌, Bool, List, [], ◌∷◌, ◌++◌, Result, Ok, Err, get_or}
-use Rattle.std.proofs.Common.{length, IsErr, IsErrAnd}
-use Rattle.std.proofs.Common.{take, drop, map, refl, sym, subst, ap, ◌∙◌, append_assoc, append-nil, arith, inl, inr}
+use Rattle.std.proofs.Common.{true, false, ℕ, zero, suc, ◌≡◌, ◌+◌, ◌<◌, ◌≤◌, ◌-◌, ◌||◌, Bool, List, [], ◌∷◌, ◌++◌, Result, Ok, Err, get_or, length, IsErr, IsErrAnd, take, drop, map, refl, sym, subst, ap, ◌∙◌, append_assoc, append-nil, arith, inl, inr}
 use Rattle.std.specs.List.{flat_map, range_with_len}
 use Rattle.std.proofs.lemmas.List.{drop_more, take-append-drop, take_all, take_more}
 use Rattle.std.proofs.lemmas.List.FromFn.{get_or-range_with_len, length-range_with_len}
@@ -11,7 +9,8 @@ use Rattle.c104_event.specs.declared.events.Event.{Event}
 use Rattle.c104_event.specs.declared.faults.EventFault.{EventFault}
 use Rattle.c104_net.specs.EventRuns.{run_events, unless_fault, Answers, Outcome}
 use Rattle.c104_net.specs.RoundParts.{PartEnds}
-use Rattle.c104_net.proofs.RoundRuns.{err_is, run_append, run_from, run_reply, Applied}
+use Rattle.c104_net.proofs.RoundRuns.{run_append, run_from, run_reply, Applied}
+use Rattle.c104_net.proofs.PlaceSteps.{err_is}
 
 -- where one of two is so, and it isn't, neither is
 pub neither : (a b : Bool) → (a || b) ≡ false → (a ≡ false) × (b ≡ false)

@@ -1,7 +1,5 @@
 -- From one place to all places: what is read there, and what an act changes.
-use Rattle.std.proofs.Common.{◌≡◌, ◌≢◌, ◌<◌, ◌∙◌, ℕ, Bool, true, false, List, Option, Some, None, Result, Ok, Err, OnOk}
-use Rattle.std.proofs.Common.{get_or, map, nat_lt, length, slice_get, slice_set, is_some, option_map, unwrap_or, refl, sym, ap, subst}
-use Rattle.std.proofs.Common.{arith}
+use Rattle.std.proofs.Common.{◌≡◌, ◌≢◌, ◌<◌, ◌∙◌, ℕ, Bool, true, false, List, Option, Some, None, Result, Ok, Err, OnOk, get_or, map, nat_lt, length, slice_get, slice_set, is_some, option_map, unwrap_or, refl, sym, ap, subst, arith, IsErr, IsErrAnd}
 use Rattle.std.proofs.lemmas.Bool.Decides.{nat_tests}
 use Rattle.std.proofs.lemmas.Option.{get_or_from_slice_get, slice_get-get_or, slice_get-map, slice_get_past}
 use Rattle.std.proofs.lemmas.List.{length-map, map-set}
@@ -14,9 +12,12 @@ use Rattle.c104_net.specs.declared.stamps.Stamp.{Stamp}
 use Rattle.c104_net.specs.Acts.{node_act, nodes_act, reply_outcome}
 use Rattle.c104_net.specs.Nodes.{Node}
 use Rattle.c104_net.specs.PlaceActs.{ActEnds, ActEndsAt, HasActed, HasActedAt}
-use Rattle.c104_net.specs.Places.{HasRoomAt, Shown, fulls, states, traces}
-use Rattle.c104_net.specs.Traces.{full_at, kept_entry, noted_in}
-use Rattle.c104_net.proofs.Crossing.{get_set_same, get_set_other}
+use Rattle.c104_net.specs.Places.{HasRoomAt, Shown, fulls, states, traces, PlaceBase, bases}
+use Rattle.c104_net.specs.Traces.{full_at, kept_entry, noted_in, part}
+use Rattle.c104_net.proofs.WireEnds.{get_set_same, get_set_other}
+use Rattle.c104_net.specs.ActLinks.{act_link}
+use Rattle.c104_net.specs.PortActs.{act_limit}
+use Rattle.c104_net.specs.WiredPlaces.{is_linked, is_linked_at, links_at, links_of}
 
 -- what a place shows, read from the list of all
 module _ {A P S : Type 0} (f : Shown A → S) (shown : P → Shown A) (xs : List P) (k : ℕ) where
@@ -100,3 +101,22 @@ room_made has_room xs k d new inside (Ok u) room = λ p at.
     let one : Some new ≡ Some p = sym (get_set_same xs k (get_or xs k d) new (slice_get-get_or xs k d inside)) ∙ at in
     let same : new ≡ p = cc in subst has_room same room
 room_made has_room xs k d new inside (Err e) room = tt
+
+pub err_is : {X E : Type 0} (result : Result X E) (e : E) → IsErr result × IsErrAnd result (λ d. d ≡ e) → result ≡ Err e
+err_is (Ok x) e is = absurd (cc is.0)
+err_is (Err d) e is = ap Err is.1
+
+module _ {A : Type 0} where
+  -- what is so at a place of a list is so of the place
+  pub linked_there : {P : Type 0} (shown : P → Shown A) (xs : List P) (k : ℕ) (d : P) → k < length xs → (a : ActOf A) → is_linked_at (bases (map shown xs)) k a ≡ true → is_linked (shown (get_or xs k d)).base a ≡ true
+  linked_there shown xs k d inside a linked = by_link (act_link a) linked
+    where
+      here : slice_get (bases (map shown xs)) k ≡ Some (shown (get_or xs k d)).base
+      here = shown_at (λ (s : Shown A). s.base) shown xs k (Some (get_or xs k d)) (slice_get-get_or xs k d inside)
+
+      by_link : (o : Option ℕ) → part true (links_at (bases (map shown xs)) k) o ≡ true → part true (links_of (shown (get_or xs k d)).base) o ≡ true
+      by_link None is = refl
+      by_link (Some l) is = sym (ap (part true (λ (b : PlaceBase). links_of b l)) here) ∙ is
+
+  pub below_there : {P : Type 0} (shown : P → Shown A) (xs : List P) (k : ℕ) (d : P) → k < length xs → (a : ActOf A) → act_limit (slice_get (states (map shown xs)) k) a ≡ None → act_limit (Some (shown (get_or xs k d)).state) a ≡ None
+  below_there shown xs k d inside a below = sym (ap (λ (o : Option (Node A)). act_limit o a) (shown_at (λ (s : Shown A). s.state) shown xs k (Some (get_or xs k d)) (slice_get-get_or xs k d inside))) ∙ below

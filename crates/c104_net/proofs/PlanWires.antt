@@ -9,12 +9,11 @@ use Rattle.c104_net.proofs.BalancePlaces.{switches_first}
 use Rattle.c104_net.proofs.BalanceWires.{peer_back, switch_inside}
 use Rattle.c104_net.proofs.LinkActs.{Matches}
 use Rattle.c104_net.proofs.PacketInvariant.{IsWired, beside}
-use Rattle.c104_net.specs.Balance.{AreInPlace, is_switch}
+use Rattle.c104_net.specs.Balance.{AreInPlace}
+use Rattle.c104_net.specs.Nodes.{is_switch, Node}
 use Rattle.c104_net.specs.Ends.{end_of}
 use Rattle.c104_net.specs.Network.{terminal_place}
-use Rattle.c104_net.specs.Nodes.{Node}
-use Rattle.std.proofs.Common.{List, None, Option, Some, [], ap, arith, false, length, map, refl, replicate, slice_get, subst, suc, sym}
-use Rattle.std.proofs.Common.{true, zero, ℕ, ◌++◌, ◌+◌, ◌<◌, ◌∙◌, ◌∷◌, ◌≡◌}
+use Rattle.std.proofs.Common.{List, None, Option, Some, [], ap, arith, false, length, map, refl, replicate, slice_get, subst, suc, sym, true, zero, ℕ, ◌++◌, ◌+◌, ◌<◌, ◌∙◌, ◌∷◌, ◌≡◌}
 use Rattle.std.proofs.lemmas.Bool.{true≢false}
 use Rattle.c104_net.specs.declared.node.NodeOf.TheVariants as node
 use Rattle.c104_plan.specs.declared.plans.Terminal as plans

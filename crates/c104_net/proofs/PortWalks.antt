@@ -16,9 +16,9 @@ use Rattle.c104_net.specs.declared.port_part.PortPart.TheVariants.{Credit, Cross
 use Rattle.c104_net.specs.EventActs.{port_place}
 use Rattle.c104_net.specs.Network.{wired_fault}
 use Rattle.c104_net.specs.Nodes.{Node}
-use Rattle.c104_net.specs.PortParts.{IsFoundReady, IsNearReady, is_ready_at, port_events, wired_events}
+use Rattle.c104_net.specs.PortParts.{IsFoundReady, IsNearReady, is_ready_at}
+use Rattle.c104_net.specs.RoundParts.{port_events, wired_events, PartEnds}
 use Rattle.c104_net.specs.Rounds.{is_wired, link_numbers, wired_links, wired_ports, wired_terminals}
-use Rattle.c104_net.specs.RoundParts.{PartEnds}
 use Rattle.c104_net.proofs.IdleEvents.{idle_credit, idle_cross, idle_turn}
 use Rattle.c104_net.proofs.PartRuns.{part_empty}
 use Rattle.c104_net.specs.Stages.{stage_apply, Stage}

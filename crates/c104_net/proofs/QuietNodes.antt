@@ -1,10 +1,9 @@
 -- A switch is quiet where all its links are seen to be, and only there; and a run that begins keeps the
 -- balance.
-use Rattle.std.proofs.Common.{◌≡◌, ◌∙◌, ◌+◌, ◌<◌, ◌&&◌, ℕ, Bool, true, false, List, [], ◌∷◌, Option, Some, None, get_or, length, map}
-use Rattle.std.proofs.Common.{nat_eq, slice_get, option_map, inl, inr, refl, sym, ap, subst, arith}
+use Rattle.std.proofs.Common.{◌≡◌, ◌∙◌, ◌+◌, ◌<◌, ◌&&◌, ℕ, Bool, true, false, List, [], ◌∷◌, Some, get_or, length, nat_eq, slice_get, inl, inr, refl, sym, subst, arith}
 use Rattle.std.proofs.lemmas.Bool.{cases_eq}
 use Rattle.std.proofs.lemmas.Bool.Decides.{nat_tests}
-use Rattle.std.proofs.lemmas.Option.{slice_get-get_or, slice_get-map}
+use Rattle.std.proofs.lemmas.Option.{slice_get-get_or}
 use Rattle.c104_token.specs.Kinds.{Kind}
 use Rattle.c104_link.specs.Buffers.{Outgoing}
 use Rattle.c104_regs.specs.declared.registers.TheConstants.{LINKS}
@@ -14,14 +13,7 @@ use Rattle.c104_switch.specs.Views.{link_view, phase_view}
 use Rattle.c104_switch.specs.declared.phase.Phase.{Phase}
 use Rattle.c104_switch.specs.declared.phase.Phase.TheVariants.{Fresh, Head, Want, Stream, Sinking}
 use Rattle.c104_net.specs.Nodes.{Node}
-use Rattle.c104_link.specs.Steps.{◌>>=◌}
-use Rattle.c104_net.specs.declared.ends.End.{End}
-use Rattle.c104_net.specs.declared.node.NodeOf.TheVariants.{Switch, Terminal}
-use Rattle.c104_net.specs.Ends.{end_of}
-use Rattle.c104_net.specs.Balance.{credit_of, granted_of, is_switch, IsSteady}
-use Rattle.c104_net.specs.Network.{Network}
-use Rattle.c104_net.specs.Quiet.{network_begin, node_begin, is_fresh, is_quiet_view, IsQuietInput, IsQuietNode, IsQuietOutput}
-use Rattle.c104_net.specs.Quiet.{IsQuietSwitch}
+use Rattle.c104_net.specs.Quiet.{is_fresh, is_quiet_view, IsQuietInput, IsQuietNode, IsQuietOutput, IsQuietSwitch}
 
 -- where one of two is not, not both are
 both : (a b : Bool) → (a && b) ≡ true → (a ≡ true) × (b ≡ true)
@@ -76,34 +68,3 @@ quiet_next nodes i n inside is quiet before k d below =
           )
       | inr differs ↦ before k d (omega (arith, below, differs))
     ]
-
--- what a node forgets is nothing of its links
-module _ {A : Type 0} where
-  credit_kept : (l : ℕ) (o : Option (Node A)) → (option_map node_begin o >>= credit_of l) ≡ (o >>= credit_of l)
-  credit_kept l None = refl
-  credit_kept l (Some (Switch s)) = refl
-  credit_kept l (Some (Terminal t)) = refl
-
-  granted_kept : (l : ℕ) (o : Option (Node A)) → (option_map node_begin o >>= granted_of l) ≡ (o >>= granted_of l)
-  granted_kept l None = refl
-  granted_kept l (Some (Switch s)) = refl
-  granted_kept l (Some (Terminal t)) = refl
-
-  kinds_kept : (nodes : List (Node A)) → map is_switch (map node_begin nodes) ≡ map is_switch nodes
-  kinds_kept [] = refl
-  kinds_kept (Switch s ∷ nodes) = ap (λ bs. true ∷ bs) (kinds_kept nodes)
-  kinds_kept (Terminal t ∷ nodes) = ap (λ bs. false ∷ bs) (kinds_kept nodes)
-
-  -- so a network that begins a run stays in balance
-  pub begun_steady : (net : Network A) → IsSteady net → IsSteady (network_begin net)
-  begun_steady net steady = record {
-    in_place = kinds_kept net.nodes ∙ steady.in_place;
-    balanced = λ p q at.
-        let level = steady.balanced p q at in
-        let from : End = end_of net.plan p in
-        let to : End = end_of net.plan q in (
-          level.0,
-          ap (λ o. o >>= credit_of from.link) (slice_get-map node_begin net.nodes from.node) ∙ credit_kept from.link (slice_get net.nodes from.node) ∙ level.1,
-          ap (λ o. o >>= granted_of to.link) (slice_get-map node_begin net.nodes to.node) ∙ granted_kept to.link (slice_get net.nodes to.node) ∙ level.2,
-        );
-  }

@@ -1,6 +1,5 @@
 -- A network whose nodes are seen with their records, where it is quiet, and where it begins a run.
-use Rattle.std.proofs.Common.{◌≡◌, ◌∙◌, ◌+◌, ◌≤◌, ◌<◌, ℕ, inl, inr, slice_set, zero, suc, All, List, [], ◌∷◌, Some, map, option_map}
-use Rattle.std.proofs.Common.{slice_get, refl, sym, ap, subst, arith}
+use Rattle.std.proofs.Common.{◌≡◌, ◌∙◌, ◌+◌, ◌≤◌, ◌<◌, ℕ, inl, inr, slice_set, zero, suc, All, List, [], ◌∷◌, Some, map, option_map, slice_get, refl, sym, ap, subst, arith}
 use Rattle.std.proofs.lemmas.Option.{slice_get-map}
 use Rattle.std.proofs.lemmas.Bool.{cases_eq}
 use Rattle.std.proofs.lemmas.List.Elements.{All-cons, All-head, All-nil, All-tail}
@@ -18,17 +17,18 @@ use Rattle.c104_net.specs.Network.{network_of, Network}
 use Rattle.c104_net.specs.NetRecords.{fresh_record, IsNetRecord}
 use Rattle.c104_net.specs.Nodes.{Node}
 use Rattle.c104_net.specs.Places.{Shown, base_wired, bases, states}
-use Rattle.c104_net.specs.Quiet.{network_begin, node_begin, IsQuietNode}
+use Rattle.c104_net.specs.Quiet.{node_begin, IsQuietNode}
+use Rattle.c104_net.specs.QuietNets.{network_begin}
 use Rattle.c104_net.specs.RecordedNets.{Told, begun_told, place_told, places_record, read_state, read_trace, IsReading, IsRecordedNet, Reading}
 use Rattle.c104_net.specs.Runs.{IsRunRecord}
 use Rattle.c104_net.specs.Traces.{seatless}
 use Rattle.c104_net.specs.Starts.{start_node, start_of}
-use Rattle.c104_net.specs.TracedRuns.{map_input, map_node, map_outgoing}
-use Rattle.c104_net.proofs.BegunRecords.{fresh_kept}
-use Rattle.c104_net.proofs.Crossing.{get_set_other}
+use Rattle.c104_net.specs.MappedNodes.{map_input, map_node, map_outgoing}
+use Rattle.c104_net.proofs.FreshRecords.{fresh_kept}
+use Rattle.c104_net.proofs.WireEnds.{get_set_other}
 use Rattle.c104_net.proofs.FirstRecords.{map_twice}
 use Rattle.c104_net.proofs.NamedOrigins.{all_back, node_back}
-use Rattle.c104_net.proofs.QuietNodes.{begun_steady}
+use Rattle.c104_net.proofs.QuietBegins.{begun_steady}
 use Rattle.c104_net.proofs.PlaceSteps.{shown_at}
 use Rattle.c104_net.proofs.RecordedNets.{map_same, states_plain, states_shown}
 use Rattle.c104_net.proofs.RecordSteps.{same_record}

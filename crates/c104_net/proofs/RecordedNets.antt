@@ -16,7 +16,7 @@ use Rattle.c104_net.specs.RecordedNets.{places_record, read_state, read_trace, I
 use Rattle.c104_net.specs.RecordedRuns.{record_apply, record_at, AnswersRecord}
 use Rattle.c104_net.specs.Places.{Shown, base_start, bases, states}
 use Rattle.c104_net.specs.Stages.{stage_apply, Stage}
-use Rattle.c104_net.specs.TracedRuns.{map_node}
+use Rattle.c104_net.specs.MappedNodes.{map_node}
 use Rattle.c104_net.proofs.FirstRecords.{map_twice}
 use Rattle.c104_net.proofs.RecordedStages.{after_plan, apply_plain, plain_network, plain_stage, record_plain, stage_on, IsRecordedStage}
 use Rattle.c104_net.proofs.RoundRuns.{ends_keep, ends_seen, Applied}

@@ -1,6 +1,5 @@
 -- Events over any kind of token, as they are seen over plain tokens; and what they keep of a run.
-use Rattle.std.proofs.Common.{◌≡◌, ◌∙◌, ◌+◌, ◌&&◌, ◌++◌, Bool, true, false, List, [], ◌∷◌, Option, Some, None, Result, Ok, Err}
-use Rattle.std.proofs.Common.{if◌then◌else◌, map, inl, refl, sym, ap, subst}
+use Rattle.std.proofs.Common.{◌≡◌, ◌∙◌, ◌+◌, ◌&&◌, ◌++◌, Bool, true, false, List, [], ◌∷◌, Option, Some, None, Result, Ok, Err, if◌then◌else◌, map, inl, refl, sym, ap, subst}
 use Rattle.c104_token.specs.declared.tokens.Token.{Token}
 use Rattle.c104_token.specs.declared.tokens.Token.TheVariants.{Byte}
 use Rattle.c104_token.specs.Kinds.{Kind, plain_kind}
@@ -11,8 +10,7 @@ use Rattle.c104_event.specs.declared.faults.EventFault.{EventFault}
 use Rattle.c104_event.specs.declared.faults.EventFault.TheVariants as fault
 use Rattle.c104_net.specs.declared.starts.NodeStart.{NodeStart}
 use Rattle.c104_net.specs.Balance.{AreInPlace}
-use Rattle.c104_net.specs.Network.{Network, network_apply, network_of, network_step, event_fault, event_limit, outcome_if_possible}
-use Rattle.c104_net.specs.Network.{outcome_if_ready, outcome_within_limit}
+use Rattle.c104_net.specs.Network.{Network, network_apply, network_of, network_step, event_fault, event_limit, outcome_if_possible, outcome_if_ready, outcome_within_limit}
 use Rattle.c104_net.specs.NetRecords.{is_done, ticket_after, IsNetRecord, NetRecord}
 use Rattle.c104_net.specs.Nodes.{Node}
 use Rattle.c104_net.specs.Places.{base_start}
@@ -22,7 +20,8 @@ use Rattle.c104_net.specs.Runs.{IsRunRecord}
 use Rattle.c104_net.specs.Stages.{stage_after, stage_apply, stage_full, unless_full, Stage}
 use Rattle.c104_net.specs.Starts.{start_node}
 use Rattle.c104_net.specs.TracedRuns.{map_network}
-use Rattle.c104_net.specs.Traces.{event_deeds, kept_of, noted_all, seatless}
+use Rattle.c104_net.specs.Traces.{kept_of, noted_all, seatless}
+use Rattle.c104_net.specs.EventDeeds.{event_deeds}
 use Rattle.c104_net.proofs.RecordedRuns.{record_kept, record_plan}
 use Rattle.c104_net.proofs.RecordSteps.{ticket_left}
 use Rattle.c104_net.proofs.RoundJoins.{apply_plan}

@@ -1,6 +1,5 @@
 -- What is seen of a network over any kind of token is what is seen over plain tokens.
-use Rattle.std.proofs.Common.{◌≡◌, ◌∙◌, ◌&&◌, is_some, ℕ, Bool, false, List, [], ◌∷◌, Option, Some, None, if◌then◌else◌, length, map}
-use Rattle.std.proofs.Common.{nat_lt, option_map, slice_get, refl, ap}
+use Rattle.std.proofs.Common.{◌≡◌, ◌∙◌, ◌&&◌, is_some, ℕ, Bool, false, List, [], ◌∷◌, Option, Some, None, if◌then◌else◌, length, map, nat_lt, option_map, slice_get, refl, ap}
 use Rattle.std.proofs.lemmas.List.{length-map}
 use Rattle.std.proofs.lemmas.Option.{slice_get-map}
 use Rattle.std.specs.Option.{option_map_or, option_or}
@@ -28,12 +27,12 @@ use Rattle.c104_net.specs.declared.reason.Reason.{Reason}
 use Rattle.c104_net.specs.Ends.{end_of}
 use Rattle.c104_net.specs.Network.{event_fault, network_peek, terminal_place, Network}
 use Rattle.c104_net.specs.Nodes.{node_peek, Node}
-use Rattle.c104_net.specs.Reasons.{claim_reason, end_why, event_why, network_why, node_claim_why, node_credit_in_why, node_credit_out_why}
-use Rattle.c104_net.specs.Reasons.{node_drain_why, node_enter_why, node_input_why, node_leave_why, port_reason, unless_refused, wire_why}
-use Rattle.c104_net.specs.TracedRuns.{map_input, map_node, map_outgoing}
+use Rattle.c104_net.specs.Reasons.{claim_reason, end_why, event_why, network_why, port_reason, unless_refused, wire_why}
+use Rattle.c104_net.specs.NodeReasons.{node_claim_why, node_credit_in_why, node_credit_out_why, node_drain_why, node_enter_why, node_input_why, node_leave_why}
+use Rattle.c104_net.specs.MappedNodes.{map_input, map_node, map_outgoing}
 use Rattle.c104_net.specs.Standstill.{has_reason, have_reasons}
-use Rattle.c104_net.specs.Views.{network_link_view, network_sent_packet, network_terminal_view, node_link_view, node_sent_packet}
-use Rattle.c104_net.specs.Views.{node_terminal_view}
+use Rattle.c104_net.specs.Views.{node_link_view, node_sent_packet, node_terminal_view}
+use Rattle.c104_net.specs.NetViews.{network_link_view, network_sent_packet, network_terminal_view}
 use Rattle.c104_net.proofs.FirstRecords.{map_twice}
 use Rattle.c104_net.proofs.SwitchMaps.{owner_map, registers_map}
 use Rattle.c104_net.proofs.TokenMaps.{map_phase}

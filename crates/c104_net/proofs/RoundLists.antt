@@ -1,20 +1,9 @@
 -- Lists that a loop over numbers makes: what each further number adds.
-use Rattle.std.proofs.Common.{ℕ, zero, suc, ◌≡◌, ◌+◌, ◌<◌, List, [], ◌∷◌, ◌++◌, get_or, length, map, take, sym, ap, ◌∙◌, append_assoc}
-use Rattle.std.proofs.Common.{arith}
+use Rattle.std.proofs.Common.{ℕ, ◌≡◌, ◌+◌, ◌<◌, List, [], ◌∷◌, ◌++◌, get_or, length, map, take, sym, ap, ◌∙◌, append_assoc}
 use Rattle.std.specs.List.{range_with_len}
 use Rattle.std.proofs.lemmas.List.{map-append, take_more}
 use Rattle.c104_net.specs.Rounds.{link_numbers}
-
--- the numbers up to one more
-range_last : (a n : ℕ) → range_with_len a (suc n) ≡ range_with_len a n ++ (a + n) ∷ []
-range_last a zero = let same : a ≡ a + 0 = omega arith in ap (λ m. m ∷ []) same
-range_last a (suc n) = let same : a + 1 + n ≡ a + suc n = omega arith in ap (λ ms. a ∷ ms) (range_last (a + 1) n ∙ ap (λ m. range_with_len (a + 1) n ++ m ∷ []) same)
-
-pub range_more : (n : ℕ) → range_with_len 0 (n + 1) ≡ range_with_len 0 n ++ n ∷ []
-range_more n =
-    let next : n + 1 ≡ suc n = omega arith in
-    let same : 0 + n ≡ n = omega arith in
-    ap (range_with_len 0) next ∙ range_last 0 n ∙ ap (λ m. range_with_len 0 n ++ m ∷ []) same
+use Rattle.c104_net.proofs.Ranges.{range_more}
 
 -- what is made of each of them
 pub map_next : {X : Type 0} (f : ℕ → X) (n : ℕ) (before so_far next : List X) → so_far ≡ before ++ map f (range_with_len 0 n) → next ≡ so_far ++ f n ∷ [] → next ≡ before ++ map f (range_with_len 0 (n + 1))

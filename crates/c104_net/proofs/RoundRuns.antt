@@ -1,6 +1,6 @@
 -- A run that stops at the first fault, by a prefix of its events, and what it keeps; and what leaves a
 -- network as it was.
-use Rattle.std.proofs.Common.{true, false, ◌≡◌, List, [], ◌∷◌, ◌++◌, Result, Ok, Err, IsErr, IsErrAnd, Option, Some, None, refl, sym, ap}
+use Rattle.std.proofs.Common.{true, false, ◌≡◌, List, [], ◌∷◌, ◌++◌, Result, Ok, Err, Option, Some, None, refl, sym, ap}
 use Rattle.std.proofs.Common.{◌∙◌, subst, inl, inr}
 use Rattle.c104_token.specs.Kinds.{Kind}
 use Rattle.c104_switch.specs.Actions.{Reply}
@@ -18,10 +18,6 @@ use Rattle.c104_net.specs.Network.{outcome_if_ready, outcome_within_limit, with_
 use Rattle.c104_net.specs.NetRecords.{is_done}
 use Rattle.c104_net.specs.EventRuns.{run_events, unless_fault, Answers, EventsEnd, Outcome}
 use Rattle.c104_switch.specs.Actions.{is_ready}
-
-pub err_is : {X E : Type 0} (result : Result X E) (e : E) → IsErr result × IsErrAnd result (λ d. d ≡ e) → result ≡ Err e
-err_is (Ok x) e is = absurd (cc is.0)
-err_is (Err d) e is = ap Err is.1
 
 -- what isn't NotReady is done
 pub is_told : (r : Reply) → (r ≡ reply.NotReady → ⊥) → is_ready r ≡ true

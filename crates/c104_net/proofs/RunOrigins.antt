@@ -13,17 +13,17 @@ use Rattle.c104_net.proofs.StartMaps.{starts_are, still_placed}
 use Rattle.c104_net.proofs.SureOrigins.{arrived_sure}
 use Rattle.c104_net.proofs.ToldEvents.{events_told}
 use Rattle.c104_net.proofs.TracedRuns.{run_after, token_of, traced_from}
-use Rattle.c104_net.specs.Balance.{AreInPlace, IsSteady, is_switch, credit_at, credit_of, granted_at, granted_of}
+use Rattle.c104_net.specs.Balance.{AreInPlace, IsSteady, credit_at, credit_of, granted_at, granted_of}
+use Rattle.c104_net.specs.Nodes.{is_switch, Node, arrived_tokens, node_arrived, terminals_of}
 use Rattle.c104_net.specs.Deliveries.{Promise, arrived_at, sent_at}
 use Rattle.c104_net.specs.Ends.{end_of}
 use Rattle.c104_net.specs.EventRuns.{run_events, unless_fault}
-use Rattle.c104_net.specs.Finished.{FinishedRun, network_finish, run_arrived, terminals_of}
+use Rattle.c104_net.specs.Finished.{FinishedRun, network_finish, run_arrived}
 use Rattle.c104_net.specs.FinishedRecords.{ended_record, FinishedRecord, IsFinishedRecord}
 use Rattle.c104_net.specs.NetRecords.{NetRecord}
 use Rattle.c104_net.specs.Network.{Network, network_apply, network_arrived, network_of, terminal_place}
-use Rattle.c104_net.specs.Nodes.{Node, arrived_tokens, node_arrived}
 use Rattle.c104_net.specs.Origins.{AreSure, Origin, origins_in}
-use Rattle.c104_net.specs.Quiet.{IsQuiet}
+use Rattle.c104_net.specs.QuietNets.{IsQuiet}
 use Rattle.c104_net.specs.Replays.{LeadTo}
 use Rattle.c104_net.specs.ToldEvents.{told_events}
 use Rattle.c104_net.specs.declared.stamps.Stamp.{Stamp}
@@ -34,7 +34,8 @@ use Rattle.c104_net.specs.Starts.{start_node}
 use Rattle.c104_net.specs.Terminals.{Terminal}
 use Rattle.c104_net.specs.Traced.{traced_kind}
 use Rattle.c104_net.specs.TracedEnds.{traced_end}
-use Rattle.c104_net.specs.TracedRuns.{IsTracedRun, map_node}
+use Rattle.c104_net.specs.TracedRuns.{IsTracedRun}
+use Rattle.c104_net.specs.MappedNodes.{map_node}
 use Rattle.c104_net.specs.Traces.{part}
 use Rattle.c104_net.specs.Unchanged.{AreStartsOf, IsUnchanged}
 use Rattle.c104_net.specs.WiredActs.{IsRecordedAt}
@@ -47,8 +48,7 @@ use Rattle.c104_switch.specs.Starts.{start_input, start_output}
 use Rattle.c104_switch.specs.declared.link_start.LinkStart.{LinkStart}
 use Rattle.c104_token.specs.Kinds.{plain_kind}
 use Rattle.c104_token.specs.declared.tokens.Token.{Token}
-use Rattle.std.proofs.Common.{All, Err, IfOk, List, None, Ok, Option, Result, Some, [], ap, arith, false, get_or, if◌then◌else◌, length}
-use Rattle.std.proofs.Common.{map, nat_lt, option_map, refl, slice_get, subst, sym, true, ℕ, ⊎_elim, ◌<◌, ◌∙◌, ◌∷◌, ◌≡◌, ◌≤◌}
+use Rattle.std.proofs.Common.{All, Err, IfOk, List, None, Ok, Option, Result, Some, [], ap, arith, false, get_or, if◌then◌else◌, length, map, nat_lt, option_map, refl, slice_get, subst, sym, true, ℕ, ⊎_elim, ◌<◌, ◌∙◌, ◌∷◌, ◌≡◌, ◌≤◌}
 use Rattle.std.proofs.lemmas.List.{length-map}
 use Rattle.std.proofs.lemmas.Bool.Decides.{nat_tests}
 use Rattle.std.proofs.lemmas.Option.{slice_get-map, slice_get_cases}

@@ -6,10 +6,10 @@ use Rattle.c104_token.specs.declared.tokens.Token.{Token}
 use Rattle.c104_plan.specs.Plans.{Plan}
 use Rattle.c104_net.specs.declared.acts.Entry.{Entry}
 use Rattle.c104_net.specs.declared.starts.NodeStart.{NodeStart}
-use Rattle.c104_net.specs.Finished.{terminals_of}
+use Rattle.c104_net.specs.Nodes.{terminals_of}
 use Rattle.c104_net.specs.FinishedRecords.{record_finish, FinishedRecord}
-use Rattle.c104_net.specs.NetRecords.{net_record, node_start, node_state, node_trace}
-use Rattle.c104_net.specs.Records.{NodeRecord}
+use Rattle.c104_net.specs.NetRecords.{net_record}
+use Rattle.c104_net.specs.Records.{node_start, node_state, node_trace, NodeRecord}
 use Rattle.c104_net.specs.Terminals.{Terminal}
 
 -- the last of a list leaves what comes before what was left of those behind it

@@ -1,8 +1,6 @@
 -- How many packets each node has sent: a Send that is done adds one at its terminal, and nothing else changes it. So the
 -- number of a packet is lower than the most entries of a trace.
-use Rattle.std.proofs.Common.{◌≡◌, ◌∙◌, ◌≤◌, ◌+◌, ◌++◌, ℕ, suc, zero, Bool, true, false, All, List, [], ◌∷◌, Option, Some, None}
-use Rattle.std.proofs.Common.{if◌then◌else◌, inl, inr, length, length-append, map, nat_eq, option_map, slice_get, slice_set, refl, sym, ap}
-use Rattle.std.proofs.Common.{subst, arith}
+use Rattle.std.proofs.Common.{◌≡◌, ◌∙◌, ◌≤◌, ◌+◌, ◌++◌, ℕ, suc, zero, Bool, true, false, All, List, [], ◌∷◌, Option, Some, None, if◌then◌else◌, inl, inr, length, length-append, map, nat_eq, option_map, slice_get, slice_set, refl, sym, ap, subst, arith}
 use Rattle.std.proofs.lemmas.Bool.{cases_eq}
 use Rattle.std.proofs.lemmas.Bool.Decides.{nat_tests}
 use Rattle.std.proofs.lemmas.List.{map-set}
@@ -11,7 +9,7 @@ use Rattle.c104_token.specs.declared.tokens.Token.{Token}
 use Rattle.c104_token.specs.declared.packets.Packet.{Packet}
 use Rattle.c104_token.specs.Kinds.{Kind}
 use Rattle.c104_link.specs.Buffers as buffer
-use Rattle.c104_link.specs.Steps.{step_at, yield_step_at}
+use Rattle.c104_link.specs.Steps.{step_at, yield_step_at, ◌>>=◌}
 use Rattle.c104_link.proofs.MadeSteps.{given, at_place_made, from_place_made, All-place}
 use Rattle.c104_switch.specs.Actions.{Reply, is_ready}
 use Rattle.c104_switch.specs.declared.actions.ReplyOf.TheVariants as reply
@@ -22,7 +20,6 @@ use Rattle.c104_switch.specs.Control as controls
 use Rattle.c104_plan.specs.Plans.{Plan}
 use Rattle.c104_plan.specs.Wiring.{peer}
 use Rattle.c104_plan.specs.declared.ports.Port.{Port}
-use Rattle.c104_link.specs.Steps.{◌>>=◌}
 use Rattle.c104_event.specs.declared.events.Event.{Event}
 use Rattle.c104_event.specs.declared.events.Event.TheVariants as event
 use Rattle.c104_net.specs.declared.acts.ActOf.{ActOf}
@@ -34,13 +31,13 @@ use Rattle.c104_net.specs.declared.starts.NodeStart.{NodeStart}
 use Rattle.c104_net.specs.declared.starts.NodeStart.TheVariants as start
 use Rattle.c104_net.specs.Network.{Network, network_of, network_step, terminal_place, told_step}
 use Rattle.c104_net.specs.NetRecords.{IsWithinLimit}
-use Rattle.c104_net.specs.Nodes.{Node, node_claim, node_control, node_credit_in, node_credit_out, node_drain, node_enter, node_input}
-use Rattle.c104_net.specs.Nodes.{node_leave, node_send}
+use Rattle.c104_net.specs.Nodes.{Node, node_claim, node_control, node_credit_in, node_credit_out, node_drain, node_enter, node_input, node_leave, node_send}
 use Rattle.c104_net.specs.Runs.{at_node}
 use Rattle.c104_net.specs.Starts.{start_node}
 use Rattle.c104_net.specs.Terminals as terminal
-use Rattle.c104_net.specs.Traces.{entry_of, event_deeds, lone_deed, trace_limit, Deed}
-use Rattle.c104_net.proofs.Crossing.{get_set_other, get_set_same}
+use Rattle.c104_net.specs.Traces.{entry_of, lone_deed, trace_limit, Deed}
+use Rattle.c104_net.specs.EventDeeds.{event_deeds}
+use Rattle.c104_net.proofs.WireEnds.{get_set_other, get_set_same}
 use Rattle.c104_net.proofs.EventSteps.{claim_named, control_named, drain_named, input_named, send_named}
 use Rattle.c104_net.proofs.JointKeeps.{crossing_keeps}
 use Rattle.c104_net.specs.EventActs.{acts_step, crossing_acts}

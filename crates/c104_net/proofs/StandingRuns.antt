@@ -17,12 +17,15 @@ use Rattle.c104_net.proofs.TracedRuns.{token_of, traced_from}
 use Rattle.c104_net.specs.Balance.{IsSteady}
 use Rattle.c104_net.specs.Network.{Network, network_apply, network_of}
 use Rattle.c104_net.specs.Nodes.{Node}
-use Rattle.c104_net.specs.Quiet.{IsQuiet, IsQuietInput, IsQuietNode, IsQuietOutput}
+use Rattle.c104_net.specs.Quiet.{IsQuietInput, IsQuietNode, IsQuietOutput}
+use Rattle.c104_net.specs.QuietNets.{IsQuiet}
 use Rattle.c104_net.specs.Runs.{IsDoneRun}
-use Rattle.c104_net.specs.Standstill.{IsStarted, IsStartedNode, StandsStill, IsStill, IsAcyclicRun, IsUnready}
+use Rattle.c104_net.specs.Standstill.{IsStarted, IsStartedNode, StandsStill, IsStill, IsUnready}
+use Rattle.c104_net.specs.DeadlockFreedom.{IsAcyclicRun}
 use Rattle.c104_net.specs.Starts.{start_node}
 use Rattle.c104_net.specs.Traced.{traced_kind}
-use Rattle.c104_net.specs.TracedRuns.{map_input, map_network, map_node, map_outgoing}
+use Rattle.c104_net.specs.TracedRuns.{map_network}
+use Rattle.c104_net.specs.MappedNodes.{map_input, map_node, map_outgoing}
 use Rattle.c104_net.specs.declared.starts.NodeStart.{NodeStart}
 use Rattle.c104_net.specs.declared.traced.Traced.{Traced}
 use Rattle.c104_switch.specs.Actions.{Reply}

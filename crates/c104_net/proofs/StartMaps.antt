@@ -3,14 +3,14 @@ use Rattle.c104_check.specs.Routes.{routes_of, settings_at}
 use Rattle.c104_plan.specs.PlanImage.{Image}
 use Rattle.c104_plan.specs.Plans.{Plan}
 use Rattle.c104_net.proofs.Promises.{IsStart}
-use Rattle.c104_net.specs.Balance.{AreInPlace, is_switch}
+use Rattle.c104_net.specs.Balance.{AreInPlace}
+use Rattle.c104_net.specs.Nodes.{is_switch, Node}
 use Rattle.c104_net.specs.Network.{network_of}
-use Rattle.c104_net.specs.Nodes.{Node}
 use Rattle.c104_net.specs.Quiet.{IsQuietInput, IsQuietNode, IsQuietOutput}
 use Rattle.c104_net.specs.Starts.{start_node}
 use Rattle.c104_net.specs.TerminalStarts.{start_terminal}
 use Rattle.c104_net.specs.Terminals.{Terminal}
-use Rattle.c104_net.specs.TracedRuns.{map_input, map_node, map_outgoing}
+use Rattle.c104_net.specs.MappedNodes.{map_input, map_node, map_outgoing}
 use Rattle.c104_net.specs.Unchanged.{AreStartsOf}
 use Rattle.c104_net.specs.declared.starts.NodeStart.{NodeStart}
 use Rattle.c104_switch.specs.Starts.{start_input, start_output, start_switch}

@@ -11,7 +11,7 @@ use Rattle.c104_net.proofs.RoundLists.{links_passed}
 use Rattle.c104_net.proofs.UnreadyEvents.{unready_answered}
 use Rattle.c104_net.specs.Balance.{IsSteady}
 use Rattle.c104_net.specs.Network.{Network, network_apply}
-use Rattle.c104_net.specs.PortParts.{port_events}
+use Rattle.c104_net.specs.RoundParts.{port_events}
 use Rattle.c104_net.specs.Reasons.{is_unready}
 use Rattle.c104_net.specs.Rounds.{all_claims, all_drains, claims_of, link_numbers, round, switch_claims, turn_at, wired_links, wired_ports, wired_terminals}
 use Rattle.c104_net.specs.Standstill.{IsUnready, StandsStill, has_reason, have_reasons}

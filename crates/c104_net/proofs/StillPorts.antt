@@ -19,10 +19,11 @@ use Rattle.c104_net.proofs.Promises.{IsSettled, IsStart, each, starts}
 use Rattle.c104_net.proofs.RunSteps.{header_cases, header_positive}
 use Rattle.c104_net.proofs.SentBytes.{AreBytesSent}
 use Rattle.c104_net.proofs.StillWires.{arrived, claimed, drained, own_group, stuck}
-use Rattle.c104_net.specs.Balance.{IsSteady, is_switch}
+use Rattle.c104_net.specs.Balance.{IsSteady}
+use Rattle.c104_net.specs.Nodes.{is_switch, Node}
 use Rattle.c104_net.specs.Network.{Network, network_of, terminal_place}
-use Rattle.c104_net.specs.Nodes.{Node}
-use Rattle.c104_net.specs.Quiet.{IsQuiet, IsQuietNode}
+use Rattle.c104_net.specs.Quiet.{IsQuietNode}
+use Rattle.c104_net.specs.QuietNets.{IsQuiet}
 use Rattle.c104_net.specs.Runs.{IsDoneRun}
 use Rattle.c104_net.specs.Standstill.{IsStarted, IsStill}
 use Rattle.c104_check.specs.ChannelDependencies.{Depends, IsAcyclic, IsBeginningBy, IsRanking, MayComeBy}
@@ -35,8 +36,7 @@ use Rattle.c104_switch.specs.Actions.{Reply}
 use Rattle.c104_switch.specs.Switch.{Input}
 use Rattle.c104_switch.specs.declared.phase.Phase.{Phase}
 use Rattle.c104_switch.specs.declared.phase.Phase.TheVariants.{Fresh, Head, Sinking, Stream, Want}
-use Rattle.std.proofs.Common.{Bool, List, None, Option, Some, [], ap, arith, false, get_or, inl, inr, length, nat_lt, refl, slice_get}
-use Rattle.std.proofs.Common.{subst, suc, sym, true, zero, ℕ, ⊎_elim, ◌++◌, ◌+◌, ◌-◌, ◌<◌, ◌∙◌, ◌∷◌, ◌≡◌, ◌≢◌, ◌≤◌, ◌⊎◌}
+use Rattle.std.proofs.Common.{Bool, List, None, Option, Some, [], ap, arith, false, get_or, inl, inr, length, nat_lt, refl, slice_get, subst, suc, sym, true, zero, ℕ, ⊎_elim, ◌++◌, ◌+◌, ◌-◌, ◌<◌, ◌∙◌, ◌∷◌, ◌≡◌, ◌≢◌, ◌≤◌, ◌⊎◌}
 use Rattle.std.proofs.lemmas.Bool.{cases_eq}
 use Rattle.std.proofs.lemmas.Bool.Decides.{nat_tests}
 use Rattle.std.proofs.lemmas.Option.{slice_get-get_or}

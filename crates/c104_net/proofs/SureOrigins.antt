@@ -10,7 +10,8 @@ use Rattle.c104_net.specs.Origins.{IsSure}
 use Rattle.c104_net.specs.Runs.{IsDoneRun}
 use Rattle.c104_net.specs.Starts.{start_node}
 use Rattle.c104_net.specs.Traced.{sent_token, traced_kind}
-use Rattle.c104_net.specs.TracedRuns.{map_network, map_node}
+use Rattle.c104_net.specs.TracedRuns.{map_network}
+use Rattle.c104_net.specs.MappedNodes.{map_node}
 use Rattle.c104_net.specs.Traces.{part}
 use Rattle.c104_net.specs.declared.starts.NodeStart.{NodeStart}
 use Rattle.c104_net.specs.declared.traced.Traced.{Traced}

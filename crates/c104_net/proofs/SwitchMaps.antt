@@ -9,7 +9,7 @@ use Rattle.c104_interval.specs.declared.intervals.Select.TheVariants.{Discard, L
 use Rattle.c104_link.specs.Buffers.{Outgoing, outgoing_clear}
 use Rattle.c104_net.proofs.TokenMaps.{if_map, map_phase}
 use Rattle.c104_net.specs.Nodes.{Node, node_control}
-use Rattle.c104_net.specs.TracedRuns.{map_input, map_node, map_outgoing, map_switch}
+use Rattle.c104_net.specs.MappedNodes.{map_input, map_node, map_outgoing, map_switch}
 use Rattle.c104_regs.specs.declared.status.Status.{Status}
 use Rattle.c104_switch.specs.Commands.{input_reset}
 use Rattle.c104_switch.specs.Control.{switch_control, switch_obey, switch_obey_if_read}

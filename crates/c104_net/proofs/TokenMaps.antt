@@ -1,17 +1,15 @@
 -- Networks over one kind of token and over another: the tokens are mapped, and all else is the same.
-use Rattle.c104_link.specs.Buffers.{Incoming, Outgoing, incoming_accept, incoming_grant, outgoing_credited, outgoing_emit, outgoing_put}
-use Rattle.c104_link.specs.Buffers.{outgoing_put_all}
+use Rattle.c104_link.specs.Buffers.{Incoming, Outgoing, incoming_accept, incoming_grant, outgoing_credited, outgoing_emit, outgoing_put, outgoing_put_all}
 use Rattle.c104_link.specs.Steps.{joint_step_at, require, step_at, yield_step_at, ◌>>=◌, ◌>>◌}
 use Rattle.c104_link.specs.declared.TheConstants.{TOKENS_OF_A_GRANT}
 use Rattle.c104_link.specs.declared.outgoing.TheConstants.{CREDIT_LIMIT, OUTPUT_CAP}
 use Rattle.c104_net.specs.Nodes.{Node, node_credit_in, node_credit_out, node_drain, node_enter, node_leave}
 use Rattle.c104_net.specs.Terminals.{Terminal, terminal_credit_in, terminal_credit_out, terminal_drain, terminal_enter, terminal_leave}
-use Rattle.c104_net.specs.TracedRuns.{map_incoming, map_input, map_node, map_outgoing, map_switch, map_terminal}
+use Rattle.c104_net.specs.MappedNodes.{map_incoming, map_input, map_node, map_outgoing, map_switch, map_terminal}
 use Rattle.c104_switch.specs.Phases.{with_header}
 use Rattle.c104_switch.specs.Switch.{Switch, input_accept, input_grant, switch_credit_in, switch_credit_out, switch_enter, switch_leave}
 use Rattle.c104_switch.specs.declared.phase.Phase.{Phase}
-use Rattle.std.proofs.Common.{Bool, List, None, Option, Some, [], ap, drop, false, if◌then◌else◌, length, map, nat_le, nat_lt, option_map}
-use Rattle.std.proofs.Common.{refl, slice_get, true, ℕ, ◌+◌, ◌∙◌, ◌∷◌, ◌≡◌}
+use Rattle.std.proofs.Common.{Bool, List, None, Option, Some, [], ap, drop, false, if◌then◌else◌, length, map, nat_le, nat_lt, option_map, refl, slice_get, true, ℕ, ◌+◌, ◌∙◌, ◌∷◌, ◌≡◌}
 use Rattle.std.proofs.lemmas.List.{length-map, map-append, map-set}
 use Rattle.std.proofs.lemmas.Option.{slice_get-map}
 use Rattle.c104_net.specs.declared.node.NodeOf.TheVariants as node

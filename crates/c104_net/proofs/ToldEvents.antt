@@ -3,11 +3,11 @@ use Rattle.c104_plan.specs.Plans.{IsPlan, Plan}
 use Rattle.c104_event.specs.declared.events.Event.{Event}
 use Rattle.c104_net.proofs.LedEvents.{run_inside, trace_led}
 use Rattle.c104_net.proofs.MergedEvents.{TellEvents, all_from, event_alone, told_from}
-use Rattle.c104_net.specs.Balance.{AreInPlace, is_switch}
+use Rattle.c104_net.specs.Balance.{AreInPlace}
+use Rattle.c104_net.specs.Nodes.{is_switch, Node}
 use Rattle.c104_net.specs.EventPlaces.{event_place}
 use Rattle.c104_net.specs.Leading.{events_at, led_events}
 use Rattle.c104_net.specs.Network.{network_of}
-use Rattle.c104_net.specs.Nodes.{Node}
 use Rattle.c104_net.specs.Runs.{IsRunRecord, at_node, run_deeds}
 use Rattle.c104_net.specs.ToldEvents.{told_event, told_events}
 use Rattle.c104_net.specs.declared.acts.Entry.{Entry}
@@ -15,8 +15,7 @@ use Rattle.c104_net.specs.declared.stamps.Stamp.{Stamp}
 use Rattle.c104_switch.specs.Actions.{Reply}
 use Rattle.c104_token.specs.Kinds.{plain_kind}
 use Rattle.c104_token.specs.declared.tokens.Token.{Token}
-use Rattle.std.proofs.Common.{List, None, Some, ap, arith, false, get_or, inl, inr, length, length-append, map, option_map, refl, replicate}
-use Rattle.std.proofs.Common.{slice_get, subst, sym, true, ℕ, ◌+◌, ◌<◌, ◌∙◌, ◌≡◌, ◌≤◌, ◌⊎◌}
+use Rattle.std.proofs.Common.{List, None, Some, ap, arith, false, get_or, inl, inr, length, length-append, map, option_map, refl, replicate, slice_get, subst, sym, true, ℕ, ◌+◌, ◌<◌, ◌∙◌, ◌≡◌, ◌≤◌, ◌⊎◌}
 use Rattle.std.proofs.lemmas.List.{length-map, length-replicate}
 use Rattle.std.proofs.lemmas.Option.{slice_get_cases, slice_get_within}
 

@@ -10,10 +10,11 @@ use Rattle.c104_net.specs.Network.{network_arrived, network_of, terminal_place, 
 use Rattle.c104_net.specs.Nodes.{node_arrived, Node}
 use Rattle.c104_net.specs.Places.{states}
 use Rattle.c104_net.specs.RecordedNets.{places_record}
-use Rattle.c104_net.specs.RecordedPlaces.{counted_keeps, counted_reading, counted_shown}
+use Rattle.c104_net.specs.RecordedPlaces.{counted_keeps, counted_reading}
+use Rattle.c104_net.specs.ShownNodes.{counted_shown}
 use Rattle.c104_net.specs.Tagged.{TaggedToken}
 use Rattle.c104_net.specs.TracedRecords.{TracedRecord}
-use Rattle.c104_net.specs.TracedRuns.{map_node}
+use Rattle.c104_net.specs.MappedNodes.{map_node}
 use Rattle.c104_net.proofs.RecordedNets.{seen_plain}
 use Rattle.c104_net.proofs.TaggedRuns.{plain_network, token_of}
 

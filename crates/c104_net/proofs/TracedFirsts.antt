@@ -8,11 +8,11 @@ use Rattle.c104_plan.specs.Plans.{Plan, IsPlan}
 use Rattle.c104_net.specs.declared.acts.Entry.{Entry}
 use Rattle.c104_net.specs.declared.node.NodeOf.TheVariants as node
 use Rattle.c104_net.specs.Network.{network_of, new_network}
-use Rattle.c104_net.specs.NetRecords.{first_record, fresh_record, net_record, node_start, node_state, node_trace, shown_record, IsNetRecord}
+use Rattle.c104_net.specs.NetRecords.{first_record, fresh_record, net_record, shown_record, IsNetRecord}
+use Rattle.c104_net.specs.Records.{node_start, node_state, node_trace, NodeRecord}
 use Rattle.c104_net.specs.Nodes.{Node}
 use Rattle.c104_net.specs.RecordedNets.{places_record, read_trace, IsRecordedNet, Reading}
 use Rattle.c104_net.specs.RecordedPlaces.{counted_reading}
-use Rattle.c104_net.specs.Records.{NodeRecord}
 use Rattle.c104_net.specs.Starts.{start_node, start_of}
 use Rattle.c104_net.specs.Terminals.{new_terminal}
 use Rattle.c104_net.specs.Tagged.{TaggedToken}

@@ -1,6 +1,5 @@
 -- The origins that the tagged tokens of a network tell are those of its run.
-use Rattle.std.proofs.Common.{◌≡◌, ◌∙◌, ◌≤◌, ◌++◌, ◌<◌, ◌+◌, ℕ, zero, suc, All, List, [], ◌∷◌, Option, Some, None, Result, get_or, length}
-use Rattle.std.proofs.Common.{map, slice_get, take, refl, sym, ap, subst, arith, append-nil, inl, inr}
+use Rattle.std.proofs.Common.{◌≡◌, ◌∙◌, ◌≤◌, ◌++◌, ◌<◌, ◌+◌, ℕ, zero, suc, All, List, [], ◌∷◌, Option, Some, None, Result, get_or, length, map, slice_get, take, refl, sym, ap, subst, arith, append-nil, inl, inr}
 use Rattle.std.proofs.lemmas.Bool.{cases_eq}
 use Rattle.std.proofs.lemmas.List.{map-append, map_more}
 use Rattle.std.proofs.lemmas.Option.{slice_get-map}
@@ -15,18 +14,19 @@ use Rattle.c104_net.specs.declared.acts.Entry.{Entry}
 use Rattle.c104_net.specs.declared.node.NodeOf.TheVariants as node
 use Rattle.c104_net.specs.declared.starts.NodeStart.{NodeStart}
 use Rattle.c104_net.specs.EventRuns.{run_events}
-use Rattle.c104_net.specs.Finished.{network_finish, terminals_of}
+use Rattle.c104_net.specs.Finished.{network_finish}
+use Rattle.c104_net.specs.Nodes.{terminals_of, node_arrived, Node}
 use Rattle.c104_net.specs.FinishedRecords.{record_finish, FinishedRecord}
 use Rattle.c104_net.specs.Network.{network_apply, network_of, Network}
 use Rattle.c104_net.specs.NetRecords.{IsWithinLimit, NetRecord}
-use Rattle.c104_net.specs.Nodes.{node_arrived, Node}
 use Rattle.c104_net.specs.Origins.{Origin}
 use Rattle.c104_net.specs.RunOrigins.{AreOrigins}
 use Rattle.c104_net.specs.Runs.{at_node, run_deeds, IsDoneRun, IsRunRecord}
 use Rattle.c104_net.specs.Starts.{start_node}
 use Rattle.c104_net.specs.Tagged.{tag, tagged_kind, tagged_origins, TaggedToken}
 use Rattle.c104_net.specs.Traced.{traced_kind, Traced}
-use Rattle.c104_net.specs.TracedRuns.{map_network, map_node, IsTracedRun}
+use Rattle.c104_net.specs.TracedRuns.{map_network, IsTracedRun}
+use Rattle.c104_net.specs.MappedNodes.{map_node}
 use Rattle.c104_net.specs.TracedEnds.{traced_end}
 use Rattle.c104_net.specs.Traces.{seatless}
 use Rattle.c104_net.specs.RecordedNets.{places_record, IsRecordedNet}

@@ -2,11 +2,10 @@
 use Rattle.c104_switch.specs.Group.{is_in_group}
 use Rattle.c104_link.specs.Buffers.{Outgoing, outgoing_put}
 use Rattle.c104_net.proofs.SwitchMaps.{decided_map, owned_map}
-use Rattle.c104_net.proofs.TokenMaps.{bind_both, bind_same, drop_map, first_map, if_map, map_phase, place_map, put_all_map, put_map}
-use Rattle.c104_net.proofs.TokenMaps.{require_map, with_map}
+use Rattle.c104_net.proofs.TokenMaps.{bind_both, bind_same, drop_map, first_map, if_map, map_phase, place_map, put_all_map, put_map, require_map, with_map}
 use Rattle.c104_link.specs.Steps.{joint_step_at, step_at}
 use Rattle.c104_net.specs.Nodes.{Node, node_claim, node_input}
-use Rattle.c104_net.specs.TracedRuns.{map_input, map_node, map_outgoing, map_switch}
+use Rattle.c104_net.specs.MappedNodes.{map_input, map_node, map_outgoing, map_switch}
 use Rattle.c104_regs.specs.Settings.{header_length}
 use Rattle.c104_regs.specs.declared.settings.Settings.{Settings}
 use Rattle.c104_switch.specs.Claims.{input_claim, inputs_claim, put_header, switch_claim}
@@ -18,8 +17,7 @@ use Rattle.c104_switch.specs.declared.phase.Phase.TheVariants.{Fresh, Head, Sink
 use Rattle.c104_token.specs.Kinds.{Kind}
 use Rattle.c104_token.specs.Tokens.{byte_of, is_end}
 use Rattle.c104_token.specs.declared.tokens.Token.TheVariants.{Byte}
-use Rattle.std.proofs.Common.{Bool, List, Some, [], ap, false, length, map, nat_le, not, option_map, refl, slice_get, suc, true, ℕ, ⊎_elim}
-use Rattle.std.proofs.Common.{◌&&◌, ◌++◌, ◌∷◌, ◌≡◌}
+use Rattle.std.proofs.Common.{Bool, List, Some, [], ap, false, length, map, nat_le, not, option_map, refl, slice_get, suc, true, ℕ, ⊎_elim, ◌&&◌, ◌++◌, ◌∷◌, ◌≡◌}
 use Rattle.std.proofs.lemmas.Bool.{cases_Bool}
 use Rattle.std.proofs.lemmas.List.{length-map, map-append}
 use Rattle.c104_net.specs.declared.node.NodeOf.TheVariants as node

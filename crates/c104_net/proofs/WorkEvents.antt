@@ -5,8 +5,7 @@ use Rattle.c104_plan.specs.Wiring.{peer}
 use Rattle.c104_plan.specs.declared.ports.Port.{Port}
 use Rattle.c104_event.specs.declared.events.Event.{Event}
 use Rattle.c104_link.proofs.MadeSteps.{at_place_made, from_place_made, given, length-at_place, place_after_set, required, with_place_made}
-use Rattle.c104_link.specs.Buffers.{Incoming, Outgoing, incoming_accept, incoming_grant, outgoing_credited, outgoing_emit, outgoing_put}
-use Rattle.c104_link.specs.Buffers.{without_first}
+use Rattle.c104_link.specs.Buffers.{Incoming, Outgoing, incoming_accept, incoming_grant, outgoing_credited, outgoing_emit, outgoing_put, without_first}
 use Rattle.c104_link.specs.Steps.{◌>>=◌, joint_step_at, step_at, yield_step_at}
 use Rattle.c104_net.proofs.EventSteps.{by_name, claim_named, drain_named, input_named, named_step}
 use Rattle.c104_net.proofs.JointKeeps.{crossing_keeps}
@@ -14,14 +13,14 @@ use Rattle.c104_net.specs.EventActs.{acts_step, crossing_acts}
 use Rattle.c104_net.specs.declared.crossings.Crossing.{Crossing}
 use Rattle.c104_net.specs.declared.crossings.Crossing.TheVariants as crossing
 use Rattle.c104_net.proofs.BalanceWires.{peer_back}
-use Rattle.c104_net.proofs.LinkActs.{Matches, first_some, leave_same, credit_out_same}
+use Rattle.c104_net.proofs.LinkActs.{Matches, leave_same, credit_out_same}
+use Rattle.c104_net.proofs.NextTokens.{first_some}
 use Rattle.c104_net.proofs.PlanWires.{matches}
-use Rattle.c104_net.proofs.WorkSteps.{at_far, at_own, claim_work, credit_in_work, credit_out_work, drain_work, enter_work, far_of}
-use Rattle.c104_net.proofs.WorkSteps.{input_set, leave_work, own, sum_set, turn_work}
-use Rattle.c104_net.specs.Balance.{AreInPlace, is_switch}
+use Rattle.c104_net.proofs.WorkSteps.{at_far, at_own, claim_work, credit_in_work, credit_out_work, drain_work, enter_work, far_of, input_set, leave_work, own, sum_set, turn_work}
+use Rattle.c104_net.specs.Balance.{AreInPlace}
+use Rattle.c104_net.specs.Nodes.{is_switch, Node, node_claim, node_credit_in, node_credit_out, node_drain, node_enter, node_input, node_leave}
 use Rattle.c104_net.specs.Ends.{end_of}
 use Rattle.c104_net.specs.Network.{Network, network_of, network_step, terminal_place, told_step}
-use Rattle.c104_net.specs.Nodes.{Node, node_claim, node_credit_in, node_credit_out, node_drain, node_enter, node_input, node_leave}
 use Rattle.c104_net.specs.Standstill.{IsStarted, IsStartedNode, IsStartedSwitch}
 use Rattle.c104_net.specs.Terminals.{Terminal, terminal_credit_in, terminal_credit_out, terminal_drain, terminal_enter, terminal_leave}
 use Rattle.c104_net.proofs.NamedWires.{nodes_credit, nodes_cross}
@@ -33,15 +32,13 @@ use Rattle.c104_regs.specs.declared.settings.Settings.{Settings}
 use Rattle.c104_switch.specs.Actions.{Reply}
 use Rattle.c104_switch.specs.Claims.{input_claim, inputs_claim, put_header, streaming_input, switch_claim}
 use Rattle.c104_switch.specs.Group.{is_in_group}
-use Rattle.c104_switch.specs.Switch.{Input, Switch, input_accept, input_grant, is_owned, switch_credit_in, switch_credit_out, switch_enter}
-use Rattle.c104_switch.specs.Switch.{switch_leave, with_sides}
+use Rattle.c104_switch.specs.Switch.{Input, Switch, input_accept, input_grant, is_owned, switch_credit_in, switch_credit_out, switch_enter, switch_leave, with_sides}
 use Rattle.c104_switch.specs.Turns.{header_turn, input_after_token, input_turn, phase_after_token, random_turn, switch_input, turn_by_phase}
 use Rattle.c104_switch.specs.declared.phase.Phase.{Phase}
 use Rattle.c104_switch.specs.declared.phase.Phase.TheVariants.{Fresh, Head, Sinking, Stream, Want}
 use Rattle.c104_token.specs.Kinds.{Kind}
 use Rattle.c104_token.specs.Tokens.{is_end}
-use Rattle.std.proofs.Common.{◌*◌, List, Option, Some, [], ap, arith, false, length, map, nat_le, nat_lt, not, refl, slice_get, slice_set}
-use Rattle.std.proofs.Common.{subst, sym, true, ℕ, ⊎_elim, ◌&&◌, ◌++◌, ◌+◌, ◌-◌, ◌<◌, ◌∙◌, ◌∷◌, ◌≡◌, ◌≤◌}
+use Rattle.std.proofs.Common.{◌*◌, List, Option, Some, [], ap, arith, false, length, map, nat_le, nat_lt, not, refl, slice_get, slice_set, subst, sym, true, ℕ, ⊎_elim, ◌&&◌, ◌++◌, ◌+◌, ◌-◌, ◌<◌, ◌∙◌, ◌∷◌, ◌≡◌, ◌≤◌}
 use Rattle.std.proofs.lemmas.Bool.{cases_Bool}
 use Rattle.std.proofs.lemmas.List.{length-set}
 use Rattle.std.proofs.lemmas.Option.{some_pair_parts}

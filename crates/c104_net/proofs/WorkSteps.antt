@@ -7,17 +7,15 @@ use Rattle.c104_interval.specs.Selection.{select}
 use Rattle.c104_interval.specs.declared.intervals.Select.{Select}
 use Rattle.c104_interval.specs.declared.intervals.Select.TheVariants.{Discard, Link, Sink}
 use Rattle.c104_link.proofs.MadeSteps.{at_place_made, from_place_made, given, required}
-use Rattle.c104_link.specs.Buffers.{Incoming, Outgoing, incoming_accept, incoming_grant, outgoing_credited, outgoing_emit, outgoing_put}
-use Rattle.c104_link.specs.Buffers.{outgoing_put_all, without_first}
+use Rattle.c104_link.specs.Buffers.{Incoming, Outgoing, incoming_accept, incoming_grant, outgoing_credited, outgoing_emit, outgoing_put, outgoing_put_all, without_first}
 use Rattle.c104_link.specs.Steps.{step_at, yield_step_at}
-use Rattle.c104_net.proofs.LinkActs.{Matches, first_some}
+use Rattle.c104_net.proofs.LinkActs.{Matches}
+use Rattle.c104_net.proofs.NextTokens.{first_some}
 use Rattle.c104_net.specs.Ends.{end_of}
 use Rattle.c104_net.specs.Network.{terminal_place}
 use Rattle.c104_net.specs.Nodes.{Node, node_credit_in, node_credit_out, node_drain, node_enter, node_leave}
-use Rattle.c104_net.specs.Terminals.{Terminal, terminal_credit_in, terminal_credit_out, terminal_drain, terminal_enter, terminal_leave}
-use Rattle.c104_net.specs.Terminals.{with_input, with_output}
-use Rattle.c104_net.specs.HeaderWork.{ahead_at, first_ahead, full_incoming, full_input, full_inputs, full_link, full_node, full_output}
-use Rattle.c104_net.specs.HeaderWork.{full_outputs}
+use Rattle.c104_net.specs.Terminals.{Terminal, terminal_credit_in, terminal_credit_out, terminal_drain, terminal_enter, terminal_leave, with_input, with_output}
+use Rattle.c104_net.specs.HeaderWork.{ahead_at, first_ahead, full_incoming, full_input, full_inputs, full_link, full_node, full_output, full_outputs}
 use Rattle.c104_net.specs.Work.{header_held, level, sum_at, weigh}
 use Rattle.c104_check.specs.Walks.{port_of}
 use Rattle.c104_regs.specs.Settings.{header_length}
@@ -25,15 +23,13 @@ use Rattle.c104_regs.specs.declared.settings.Settings.{Settings}
 use Rattle.c104_switch.specs.Claims.{input_claim, put_header, streaming_input}
 use Rattle.c104_switch.specs.Group.{is_in_group}
 use Rattle.c104_switch.specs.Headers.{decided_phase, header_value, is_sink, phase_after_header, random_header}
-use Rattle.c104_switch.specs.Switch.{Input, Switch, input_accept, input_grant, switch_credit_in, switch_credit_out, switch_enter}
-use Rattle.c104_switch.specs.Switch.{switch_leave, with_buffer, with_inputs, with_outputs}
+use Rattle.c104_switch.specs.Switch.{Input, Switch, input_accept, input_grant, switch_credit_in, switch_credit_out, switch_enter, switch_leave, with_buffer, with_inputs, with_outputs}
 use Rattle.c104_switch.specs.Turns.{header_turn, input_after_token, phase_after_token, random_turn, turn_by_phase}
 use Rattle.c104_switch.specs.declared.phase.Phase.{Phase}
 use Rattle.c104_switch.specs.declared.phase.Phase.TheVariants.{Fresh, Head, Sinking, Stream, Want}
 use Rattle.c104_token.specs.Kinds.{Kind}
 use Rattle.c104_token.specs.Tokens.{is_end}
-use Rattle.std.proofs.Common.{Bool, List, Some, [], ap, arith, drop, false, length, length-append, nat_le, nat_lt, not, refl, slice_get}
-use Rattle.std.proofs.Common.{slice_set, subst, suc, sym, true, zero, ℕ, ⊎_elim, ◌&&◌, ◌*◌, ◌++◌, ◌+◌, ◌-◌, ◌<◌, ◌∙◌, ◌∷◌, ◌≡◌, ◌≤◌}
+use Rattle.std.proofs.Common.{Bool, List, Some, [], ap, arith, drop, false, length, length-append, nat_le, nat_lt, not, refl, slice_get, slice_set, subst, suc, sym, true, zero, ℕ, ⊎_elim, ◌&&◌, ◌*◌, ◌++◌, ◌+◌, ◌-◌, ◌<◌, ◌∙◌, ◌∷◌, ◌≡◌, ◌≤◌}
 use Rattle.c104_net.proofs.WorkBounds.{weigh_is}
 use Rattle.std.proofs.lemmas.Bool.{and_parts, cases_Bool, le-leb, leb-true}
 use Rattle.std.proofs.lemmas.Bool.Decides.{nat_tests}

@@ -3,7 +3,7 @@ use Rattle.std.proofs.Common.{◌≡◌, ◌∙◌, ◌++◌, ◌+◌, ℕ, List
 use Rattle.std.proofs.lemmas.List.Elements.{filter_map-append}
 use Rattle.std.specs.List.{cons_option, filter_map, range_with_len}
 use Rattle.c104_net.specs.StartNumbers.{written_value, written_values}
-use Rattle.c104_net.proofs.RoundLists.{range_more}
+use Rattle.c104_net.proofs.Ranges.{range_more}
 use Rattle.c104_regs.specs.declared.settings.Settings.{Settings}
 
 module _ (settings : List Settings) where

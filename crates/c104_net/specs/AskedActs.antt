@@ -4,7 +4,8 @@ use Rattle.c104_plan.specs.Plans.{Plan}
 use Rattle.c104_plan.specs.Wiring.{peer}
 use Rattle.c104_net.specs.ActLinks.{act_link}
 use Rattle.c104_net.specs.Acts.{IsWithinLimits}
-use Rattle.c104_net.specs.EventActs.{Acts, port_place}
+use Rattle.c104_net.specs.EventActs.{port_place}
+use Rattle.c104_net.specs.PortActs.{Acts}
 use Rattle.c104_net.specs.declared.acts.ActOf.TheVariants as act
 use Rattle.c104_net.specs.declared.asked.Asked.{Asked}
 use Rattle.c104_net.specs.declared.asked.Asked.TheVariants as asked

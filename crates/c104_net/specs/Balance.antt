@@ -1,11 +1,11 @@
 -- What every network keeps: at the two ends of each wire the credit of the one is what the other has
 -- granted.
-use Rattle.std.specs.Prelude.{ℕ, ◌≡◌, ◌++◌, Bool, true, false, List, Option, Some, length, map, replicate, slice_get}
+use Rattle.std.specs.Prelude.{ℕ, ◌≡◌, ◌++◌, true, false, List, Option, Some, length, map, replicate, slice_get}
 use Rattle.c104_link.specs.Steps.{◌>>=◌}
 use Rattle.c104_net.specs.declared.node.NodeOf.TheVariants.{Switch, Terminal}
 use Rattle.c104_plan.specs.declared.ports.Port.{Port}
 use Rattle.c104_net.specs.declared.ends.End.{End}
-use Rattle.c104_net.specs.Nodes.{Node}
+use Rattle.c104_net.specs.Nodes.{Node, is_switch}
 use Rattle.c104_plan.specs.Plans.{Plan}
 use Rattle.c104_plan.specs.Wiring.{peer}
 use Rattle.c104_net.specs.Ends.{end_of}
@@ -38,11 +38,6 @@ AreLevel nodes from to =
 abbrev pub IsBalanced : {A : Type 0} → Network A → Type 0
 IsBalanced net =
     (p q : Port) → peer net.plan p ≡ Some q → AreLevel net.nodes (end_of net.plan p) (end_of net.plan q)
-
--- whether a node is a switch
-abbrev pub is_switch : {A : Type 0} → Node A → Bool
-is_switch (Switch s) = true
-is_switch (Terminal t) = false
 
 -- the nodes are the plan's switches, and then its terminals
 abbrev pub AreInPlace : {A : Type 0} → Plan → List (Node A) → Type 0

@@ -19,22 +19,25 @@ use Rattle.c104_net.specs.FinishedRecords.{FinishedRecord}
 use Rattle.c104_net.specs.NetRecords.{NetRecord, is_done}
 use Rattle.c104_net.specs.Network.{network_of}
 use Rattle.c104_net.specs.Nodes.{Node}
-use Rattle.c104_net.specs.Quiet.{IsQuiet}
+use Rattle.c104_net.specs.QuietNets.{IsQuiet}
 use Rattle.c104_net.specs.RecordedRuns.{RecordsRounds, record_apply}
 use Rattle.c104_net.specs.Rounds.{round}
 use Rattle.c104_net.specs.Runs.{IsDoneRun, IsRunRecord}
-use Rattle.c104_net.specs.Standstill.{IsDeadlocked, IsStartedStart, StandsStill}
-use Rattle.c104_net.specs.Starts.{start_node}
+use Rattle.c104_net.specs.Standstill.{IsDeadlocked, StandsStill, IsStarted}
+use Rattle.c104_net.specs.Starts.{IsStartedStart, start_node}
 use Rattle.c104_net.specs.Traced.{Traced, traced_kind}
 use Rattle.c104_net.specs.Traces.{seatless, is_trace_full}
 use Rattle.c104_net.specs.declared.stamps.Stamp.{Stamp}
-use Rattle.c104_net.specs.TracedRuns.{map_node}
+use Rattle.c104_net.specs.MappedNodes.{map_node}
 use Rattle.c104_net.specs.Unchanged.{AreStartsOf, IsUnchanged}
 use Rattle.c104_net.specs.HeaderWork.{random_bound, random_work}
 use Rattle.c104_net.specs.Work.{most_weight, room_held, tokens_held, work, work_bound}
 use Rattle.c104_switch.specs.Actions.{Reply}
 use Rattle.c104_token.specs.Kinds.{plain_kind}
 use Rattle.c104_token.specs.declared.tokens.Token.{Token}
+use Rattle.c104_plan.specs.Plans.{Plan}
+use Rattle.c104_net.specs.Balance.{IsSteady}
+use Rattle.c104_net.specs.declared.starts.NodeStart.{NodeStart}
 
 -- A network with its record whose labels the check accepts, and whose channels don't depend on one another in a cycle:
 -- its run began with the image's settings and with every switch started, nobody changed the network since, and what
@@ -120,3 +123,16 @@ pub record EndsWithoutDeadlock (run : FinishedRecord) : Type 0 where
       IsAcyclic (routes_of run.finished.plan image) → AreStartsOf run.finished.plan image run.starts →
       All IsStartedStart run.starts → IsUnchanged (routes_of run.finished.plan image) events →
       StandsStill plain_kind (network_of run.finished.plan nodes) → IsQuiet (network_of run.finished.plan nodes)
+
+-- a run from a start, in a network whose labels the check accepts, and whose channels don't depend on one another in a
+-- cycle: at the start each switch is started and nothing stands anywhere, nobody changed the network since, and what
+-- terminals sent where random headers are put before packets doesn't begin with a random header itself
+pub record IsAcyclicRun (plan : Plan) (image : Image) (starts : List NodeStart) (events : List (Event × Reply))
+    (nodes : List (Node Token)) : Type 0 where
+  pub accepted : IsAccepted (routes_of plan image)
+  pub acyclic : IsAcyclic (routes_of plan image)
+  pub set : AreStartsOf plan image starts
+  pub started : IsStarted {A = Token} (network_of plan (map start_node starts))
+  pub steady : IsSteady {A = Token} (network_of plan (map start_node starts))
+  pub run : IsDoneRun plain_kind (network_of plan (map start_node starts)) events (network_of plan nodes)
+  pub unchanged : IsUnchanged (routes_of plan image) events

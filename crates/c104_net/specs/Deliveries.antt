@@ -13,7 +13,7 @@ use Rattle.c104_net.specs.declared.node.NodeOf.TheVariants as node
 use Rattle.c104_net.specs.Nodes.{Node, arrived_tokens}
 use Rattle.c104_net.specs.Terminals.{sent_tokens}
 use Rattle.c104_net.specs.Network.{Network, terminal_place}
-use Rattle.c104_net.specs.Quiet.{IsQuiet}
+use Rattle.c104_net.specs.QuietNets.{IsQuiet}
 use Rattle.c104_net.specs.Traced.{Traced, traced_kind}
 use Rattle.c104_net.specs.Traces.{part}
 

@@ -1,22 +1,15 @@
 -- What a run leaves: the plan of its network, and the state of its terminals at its end.
-use Rattle.std.specs.Prelude.{ℕ, List, [], ◌∷◌, Option, Some, slice_get}
+use Rattle.std.specs.Prelude.{ℕ, List, Option, Some, slice_get}
 use Rattle.c104_link.specs.Steps.{◌>>=◌}
 use Rattle.c104_plan.specs.Plans.{Plan}
 use Rattle.c104_net.specs.Terminals.{Terminal}
-use Rattle.c104_net.specs.Nodes.{Node}
-use Rattle.c104_net.specs.declared.node.NodeOf.TheVariants as node
+use Rattle.c104_net.specs.Nodes.{terminals_of}
 use Rattle.c104_net.specs.Network.{Network}
 
 -- a run that is finished: the plan of its network, and the terminals at its end, in order
 pub record FinishedRun (A : Type 0) : Type 0 where
   pub plan : Plan
   pub terminals : List (Terminal A)
-
--- the terminals among nodes, in order
-abbrev pub terminals_of : {A : Type 0} → List (Node A) → List (Terminal A)
-terminals_of [] = []
-terminals_of (node.Switch s ∷ nodes) = terminals_of nodes
-terminals_of (node.Terminal t ∷ nodes) = t ∷ terminals_of nodes
 
 -- a network that is finished as it stands
 abbrev pub network_finish : {A : Type 0} → Network A → FinishedRun A

@@ -19,7 +19,7 @@ use Rattle.c104_net.specs.declared.starts.NodeStart.{NodeStart}
 use Rattle.c104_net.specs.declared.starts.NodeStart.TheVariants as start
 use Rattle.c104_net.specs.ActLinks.{act_link}
 use Rattle.c104_net.specs.Acts.{IsWithinLimits, node_act}
-use Rattle.c104_net.specs.EventActs.{act_limit, far_act, near_act}
+use Rattle.c104_net.specs.PortActs.{act_limit, far_act, near_act}
 use Rattle.c104_net.specs.Nodes.{Node}
 use Rattle.c104_net.specs.Places.{Shown}
 use Rattle.c104_net.specs.SpareRooms.{IsEnough, SpareRoom}

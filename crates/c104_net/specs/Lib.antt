@@ -4,16 +4,21 @@ pub mod Ends
 pub mod FarEnds
 pub mod Acts
 pub mod EventActs
+pub mod PortActs
 pub mod Places
 pub mod PlaceActs
 pub mod EventsAtPlaces
 pub mod Network
 pub mod Views
+pub mod NetViews
 pub mod Reasons
+pub mod NodeReasons
 pub mod ReasonMeanings
 pub mod Balance
 pub mod Quiet
+pub mod QuietNets
 pub mod Traces
+pub mod EventDeeds
 pub mod Starts
 pub mod TerminalStarts
 pub mod Records
@@ -23,6 +28,7 @@ pub mod Runs
 pub mod NetRecords
 pub mod ActLinks
 pub mod WiredPlaces
+pub mod KnownWires
 pub mod WiredActs
 pub mod Finished
 pub mod EventRuns
@@ -36,6 +42,7 @@ pub mod RoundParts
 pub mod PlaceFaults
 pub mod Traced
 pub mod TracedRuns
+pub mod MappedNodes
 pub mod Deliveries
 pub mod Unchanged
 pub mod Origins
@@ -54,6 +61,7 @@ pub mod Tagged
 pub mod TracedRecords
 pub mod RecordedNets
 pub mod RecordedPlaces
+pub mod ShownNodes
 pub mod SpareRooms
 pub mod LentNodes
 pub mod StartNumbers

@@ -11,21 +11,12 @@ use Rattle.c104_net.specs.declared.starts.NodeStart.{NodeStart}
 use Rattle.c104_net.specs.Balance.{IsSteady}
 use Rattle.c104_net.specs.Nodes.{Node}
 use Rattle.c104_net.specs.Network.{Network, network_of, AnswersWith}
-use Rattle.c104_net.specs.Records.{NodeRecord}
+use Rattle.c104_net.specs.Records.{NodeRecord, node_state, node_start, node_trace}
 use Rattle.c104_net.specs.Runs.{IsRunRecord}
-use Rattle.c104_net.specs.Quiet.{network_begin}
+use Rattle.c104_net.specs.QuietNets.{network_begin}
 use Rattle.c104_net.specs.Starts.{start_node, start_of}
-use Rattle.c104_net.specs.Traces.{event_deeds, event_full, is_trace_full, kept_of, noted_all, seatless, trace_limit}
-
--- what is seen of a node with its record, beside the room for further entries
-abbrev pub node_state : NodeRecord × ℕ → Node Token
-node_state n = n.0.state
-
-abbrev pub node_start : NodeRecord × ℕ → NodeStart
-node_start n = n.0.start
-
-abbrev pub node_trace : NodeRecord × ℕ → List Entry
-node_trace n = n.0.trace
+use Rattle.c104_net.specs.Traces.{is_trace_full, kept_of, noted_all, seatless, trace_limit}
+use Rattle.c104_net.specs.EventDeeds.{event_deeds, event_full}
 
 -- a network, where its nodes started, what they did since, and how many events were done
 pub record NetRecord : Type 0 where

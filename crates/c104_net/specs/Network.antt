@@ -1,6 +1,5 @@
 -- A network: a plan, and its nodes; and what each event does and answers.
-use Rattle.std.specs.Prelude.{ℕ, ◌+◌, ◌≡◌, ◌⊎◌, Bool, true, false, List, ◌++◌, length, map, nat_lt, nat_le, Option, Some, None, is_some}
-use Rattle.std.specs.Prelude.{Result, Ok, Err, if◌then◌else◌}
+use Rattle.std.specs.Prelude.{ℕ, ◌+◌, ◌≡◌, ◌⊎◌, Bool, true, false, List, ◌++◌, length, map, nat_lt, nat_le, Option, Some, None, is_some, Result, Ok, Err, if◌then◌else◌}
 use Rattle.c104_token.specs.declared.text.TheConstants.{MAX_PACKET_BYTES}
 use Rattle.c104_token.specs.Kinds.{Kind}
 use Rattle.c104_link.specs.Steps.{◌>>=◌}
@@ -22,7 +21,8 @@ use Rattle.c104_event.specs.declared.faults.EventFault.{EventFault}
 use Rattle.c104_event.specs.declared.faults.EventFault.TheVariants as fault
 use Rattle.c104_switch.specs.declared.actions.ReplyOf.{ReplyOf}
 use Rattle.c104_net.specs.Acts.{plain_reply}
-use Rattle.c104_net.specs.EventActs.{acts_limit, acts_step, event_acts}
+use Rattle.c104_net.specs.EventActs.{acts_step, event_acts}
+use Rattle.c104_net.specs.PortActs.{acts_limit}
 use Rattle.c104_net.specs.Nodes.{Node, nodes_arrived, nodes_peek}
 use Rattle.c104_net.specs.Places.{room_fault}
 use Rattle.c104_plan.specs.Wiring.{peer}

@@ -1,6 +1,6 @@
 -- The nodes of a network, switches and terminals, and what each does in an event. A terminal has one
 -- link, whatever its number. None is not ready.
-use Rattle.std.specs.Prelude.{ℕ, List, [], length, slice_get, Option, Some, None, Result, Ok, Err}
+use Rattle.std.specs.Prelude.{ℕ, List, [], length, slice_get, Option, Some, None, Result, Ok, Err, Bool, true, false, ◌∷◌}
 use Rattle.c104_token.specs.declared.packets.Packet.{Packet}
 use Rattle.c104_token.specs.Kinds.{Kind}
 use Rattle.c104_link.specs.Steps.{◌>>=◌}
@@ -108,3 +108,14 @@ node_peek a (Terminal t) = None
 -- the same of the node at this place
 abbrev pub nodes_peek : {A : Type 0} → List (Node A) → ℕ → ℕ → Option ℕ
 nodes_peek nodes place a = slice_get nodes place >>= node_peek a
+
+-- whether a node is a switch
+abbrev pub is_switch : {A : Type 0} → Node A → Bool
+is_switch (Switch s) = true
+is_switch (Terminal t) = false
+
+-- the terminals among nodes, in order
+abbrev pub terminals_of : {A : Type 0} → List (Node A) → List (terminal.Terminal A)
+terminals_of [] = []
+terminals_of (Switch s ∷ nodes) = terminals_of nodes
+terminals_of (Terminal t ∷ nodes) = t ∷ terminals_of nodes

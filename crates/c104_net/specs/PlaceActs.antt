@@ -9,7 +9,7 @@ use Rattle.c104_net.specs.declared.acts.ActOf.{ActOf}
 use Rattle.c104_net.specs.declared.crossings.Joint.{Joint}
 use Rattle.c104_net.specs.declared.stamps.Stamp.{Stamp}
 use Rattle.c104_net.specs.Acts.{node_act, nodes_act, plain_reply, reply_outcome, wants_memory}
-use Rattle.c104_net.specs.EventActs.{act_limit, joint_step}
+use Rattle.c104_net.specs.PortActs.{act_limit, joint_step}
 use Rattle.c104_net.specs.Nodes.{Node}
 use Rattle.c104_net.specs.Places.{Shown, fulls, bases, room_fault, states, traces}
 use Rattle.c104_net.specs.Traces.{Deed, full_at, joint_deeds, kept_entry, kept_of, lone_deed, noted, noted_all, noted_at, plain_act}

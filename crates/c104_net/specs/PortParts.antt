@@ -1,33 +1,18 @@
 -- The parts of a round that are about ports: the event of each port, and whether the near end is ready for it.
-use Rattle.std.specs.Prelude.{ℕ, ◌≡◌, ◌<◌, ◌≤◌, Bool, true, false, List, [], ◌∷◌, IfSome, Option, unwrap_or, filter, is_some}
-use Rattle.std.specs.List.{flat_map}
+use Rattle.std.specs.Prelude.{ℕ, ◌≡◌, ◌<◌, ◌≤◌, Bool, true, false, List, IfSome, Option, unwrap_or, is_some}
 use Rattle.c104_crossbar.specs.Groups.{has_bit}
 use Rattle.c104_regs.specs.declared.registers.TheConstants.{LINKS}
 use Rattle.c104_token.specs.Kinds.{Kind}
 use Rattle.c104_switch.specs.declared.actions.ActionOf.TheVariants as action
-use Rattle.c104_plan.specs.Plans.{Plan}
 use Rattle.c104_plan.specs.declared.ports.Port.{Port}
-use Rattle.c104_event.specs.declared.events.Event.{Event}
-use Rattle.c104_event.specs.declared.events.Event.TheVariants as event
 use Rattle.c104_net.specs.declared.acts.ActOf.{ActOf}
 use Rattle.c104_net.specs.declared.acts.ActOf.TheVariants as act
 use Rattle.c104_net.specs.declared.crossings.Crossing.TheVariants as crossing
 use Rattle.c104_net.specs.declared.port_part.PortPart.{PortPart}
 use Rattle.c104_net.specs.declared.port_part.PortPart.TheVariants.{Credit, Cross, Turn}
 use Rattle.c104_net.specs.Acts.{node_act, nodes_act}
-use Rattle.c104_net.specs.EventActs.{near_act}
+use Rattle.c104_net.specs.PortActs.{near_act}
 use Rattle.c104_net.specs.Nodes.{Node}
-use Rattle.c104_net.specs.Rounds.{is_wired, turn_at}
-
--- what a part has for a port
-abbrev pub port_events : PortPart → Port → List Event
-port_events Credit p = event.Credit p ∷ []
-port_events Cross p = event.Cross p ∷ []
-port_events Turn p = turn_at p
-
--- the same for a port that may have no wire
-abbrev pub wired_events : Plan → PortPart → Port → List Event
-wired_events plan part p = flat_map (port_events part) (filter (is_wired plan) (p ∷ []))
 
 -- the act of a switch in a part, at a link
 abbrev pub part_act : {A : Type 0} → PortPart → ℕ → ActOf A

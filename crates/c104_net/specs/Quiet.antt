@@ -1,5 +1,5 @@
 -- Quiet networks: no token stands anywhere, and no packet is under way.
-use Rattle.std.specs.Prelude.{◌≡◌, ◌&&◌, Bool, true, false, [], All, map, Option, Some, None, nat_eq}
+use Rattle.std.specs.Prelude.{◌≡◌, ◌&&◌, Bool, true, false, [], All, Option, Some, None, nat_eq}
 use Rattle.c104_link.specs.Buffers.{Outgoing}
 use Rattle.c104_switch.specs.Switch.{Input, Switch}
 use Rattle.c104_switch.specs.declared.phase.Phase.{Phase}
@@ -7,7 +7,6 @@ use Rattle.c104_switch.specs.declared.phase.Phase.TheVariants.{Fresh, Head, Want
 use Rattle.c104_switch.specs.declared.actions.LinkView.{LinkView}
 use Rattle.c104_net.specs.declared.node.NodeOf.TheVariants as node
 use Rattle.c104_net.specs.Nodes.{Node}
-use Rattle.c104_net.specs.Network.{Network, with_nodes}
 use Rattle.c104_net.specs.Terminals.{terminal_begin}
 
 -- no token stands at an input, and it waits for a packet
@@ -27,10 +26,6 @@ abbrev pub IsQuietNode : {A : Type 0} → Node A → Type 0
 IsQuietNode (node.Switch s) = IsQuietSwitch s
 IsQuietNode (node.Terminal t) = (t.input.items ≡ []) × (t.output.items ≡ [])
 
--- the same of all nodes of a network
-abbrev pub IsQuiet : {A : Type 0} → Network A → Type 0
-IsQuiet net = All IsQuietNode net.nodes
-
 -- whether an input waits for a packet
 abbrev pub is_fresh : {H : Type 0} → Phase H → Bool
 is_fresh Fresh = true
@@ -48,7 +43,3 @@ is_quiet_view (Some v) = nat_eq v.input_level 0 && (nat_eq v.output_level 0 && i
 abbrev pub node_begin : {A : Type 0} → Node A → Node A
 node_begin (node.Switch s) = node.Switch s
 node_begin (node.Terminal t) = node.Terminal (terminal_begin t)
-
--- a network at the start of a run: it stands as it did, and what was sent and what arrived is forgotten
-abbrev pub network_begin : {A : Type 0} → Network A → Network A
-network_begin net = with_nodes net (map node_begin net.nodes)

@@ -15,7 +15,7 @@ use Rattle.c104_net.specs.Places.{Shown}
 use Rattle.c104_net.specs.Runs.{IsRunRecord}
 use Rattle.c104_net.specs.Quiet.{node_begin}
 use Rattle.c104_net.specs.Starts.{start_node, start_of}
-use Rattle.c104_net.specs.TracedRuns.{map_node}
+use Rattle.c104_net.specs.MappedNodes.{map_node}
 use Rattle.c104_net.specs.Traces.{seatless}
 
 -- how a place is read: what kind of token its node carries, what the place shows, the node over plain tokens, and where

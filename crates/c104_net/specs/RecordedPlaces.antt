@@ -11,16 +11,14 @@ use Rattle.c104_switch.specs.Phases.{with_header}
 use Rattle.c104_switch.specs.declared.phase.Phase.{Phase}
 use Rattle.c104_switch.specs.declared.phase.Phase.TheVariants.{Fresh, Head, Want, Stream, Sinking}
 use Rattle.c104_net.specs.declared.node.NodeOf.TheVariants as node
-use Rattle.c104_net.specs.NetRecords.{node_start, node_state}
-use Rattle.c104_net.specs.Places.{Shown, started_base}
-use Rattle.c104_net.specs.Traces.{is_trace_full}
+use Rattle.c104_net.specs.Records.{node_start, node_state, NodeRecord}
 use Rattle.c104_net.specs.Nodes.{Node}
 use Rattle.c104_net.specs.RecordedNets.{reading, KeepsRecord, Reading}
-use Rattle.c104_net.specs.Records.{NodeRecord}
 use Rattle.c104_net.specs.Tagged.{tagged_by, tagged_kind, TaggedToken}
 use Rattle.c104_net.specs.Terminals.{Terminal}
 use Rattle.c104_net.specs.TracedRecords.{plain_node, traced_start, TracedRecord}
-use Rattle.c104_net.specs.TracedRuns.{map_input, map_node, map_outgoing, map_switch, map_terminal}
+use Rattle.c104_net.specs.MappedNodes.{map_input, map_node, map_outgoing, map_switch, map_terminal}
+use Rattle.c104_net.specs.ShownNodes.{node_shown, counted_shown}
 
 -- mapping each token to itself changes no node
 map_self : (xs : List Token) → map (λ (x : Token). x) xs ≡ xs
@@ -68,15 +66,6 @@ node_self : (n : Node Token) → n ≡ map_node (λ (x : Token). x) n
 node_self (node.Switch s) = sym (ap node.Switch (switch_self s))
 node_self (node.Terminal t) = sym (ap node.Terminal (terminal_self t))
 
--- what is shown of a node of plain tokens that keeps its entries
-abbrev pub node_shown : NodeRecord × ℕ → Shown Token
-node_shown n = record {
-  state = n.0.state;
-  base = started_base n.0.start;
-  trace = n.0.trace;
-  full = is_trace_full n.0.trace;
-}
-
 -- how it is read
 abbrev pub node_reading : Reading Token (NodeRecord × ℕ)
 node_reading = reading plain_kind node_shown node_state node_start
@@ -85,15 +74,6 @@ pub node_keeps : KeepsRecord node_reading true
 node_keeps = record {
   reads = record { tokens = record { random = λ j x. refl; sent = λ t n j x. refl }; plain = λ n. node_self n.0.state; started = λ n. refl };
   keeping = refl;
-}
-
--- what is shown of a node of tagged tokens that counts them
-abbrev pub counted_shown : TracedRecord → Shown TaggedToken
-counted_shown n = record {
-  state = n.state;
-  base = started_base n.start;
-  trace = n.trace;
-  full = is_trace_full n.trace;
 }
 
 -- how it is read

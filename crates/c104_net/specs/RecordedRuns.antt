@@ -12,7 +12,8 @@ use Rattle.c104_net.specs.NetRecords.{is_done, NetRecord}
 use Rattle.c104_net.specs.Places.{started_base}
 use Rattle.c104_net.specs.Rounds.{rounds}
 use Rattle.c104_net.specs.Stages.{stage_apply, Stage}
-use Rattle.c104_net.specs.Traces.{event_full, is_trace_full}
+use Rattle.c104_net.specs.Traces.{is_trace_full}
+use Rattle.c104_net.specs.EventDeeds.{event_full}
 
 -- the stage that a network with its record is at
 abbrev pub record_stage : NetRecord → Stage Token

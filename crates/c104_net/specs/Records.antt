@@ -31,3 +31,13 @@ pub record NodeRecord : Type 0 where
 pub record IsRecorded (n : NodeRecord) : Type 0 where
   pub run : IsNodeRun (start_node n.start) n.trace n.state
   pub within : length n.trace ≤ trace_limit
+
+-- what is seen of a node with its record, beside the room for further entries
+abbrev pub node_state : NodeRecord × ℕ → Node Token
+node_state n = n.0.state
+
+abbrev pub node_start : NodeRecord × ℕ → NodeStart
+node_start n = n.0.start
+
+abbrev pub node_trace : NodeRecord × ℕ → List Entry
+node_trace n = n.0.trace

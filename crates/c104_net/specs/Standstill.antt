@@ -3,19 +3,12 @@
 --     IsDeadlocked kind net      it stands still, and isn't quiet
 --     IsStartedStart      where a node starts, with every switch started
 --     IsAcyclicRun      a run in an accepted network that nobody changed, without a cycle of channel dependencies
-use Rattle.std.specs.Prelude.{ℕ, ◌≡◌, ◌<◌, ◌≤◌, All, Bool, true, List, Some, Ok, is_some, length, map, slice_get}
+use Rattle.std.specs.Prelude.{ℕ, ◌≡◌, ◌<◌, ◌≤◌, All, Bool, true, List, Some, Ok, is_some, length, slice_get}
 use Rattle.std.specs.List.{list_all}
-use Rattle.c104_token.specs.Kinds.{Kind, plain_kind}
-use Rattle.c104_token.specs.declared.tokens.Token.{Token}
+use Rattle.c104_token.specs.Kinds.{Kind}
 use Rattle.c104_link.specs.declared.TheConstants.{TOKENS_OF_A_GRANT}
 use Rattle.c104_regs.specs.declared.registers.TheConstants.{LINKS}
-use Rattle.c104_switch.specs.Actions.{Reply}
-use Rattle.c104_switch.specs.Starts.{IsSwitchStart}
 use Rattle.c104_switch.specs.Switch.{Input, Switch}
-use Rattle.c104_plan.specs.Plans.{Plan}
-use Rattle.c104_plan.specs.PlanImage.{Image}
-use Rattle.c104_check.specs.Routes.{IsAccepted, routes_of}
-use Rattle.c104_check.specs.ChannelDependencies.{IsAcyclic}
 use Rattle.c104_switch.specs.declared.actions.ReplyOf.TheVariants as reply
 use Rattle.c104_plan.specs.Wiring.{peer}
 use Rattle.c104_plan.specs.declared.ports.Port.{Port}
@@ -24,16 +17,9 @@ use Rattle.c104_event.specs.declared.events.Event.{Event}
 use Rattle.c104_event.specs.declared.events.Event.TheVariants as event
 use Rattle.c104_net.specs.declared.node.NodeOf.TheVariants as node
 use Rattle.c104_net.specs.Nodes.{Node}
-use Rattle.c104_net.specs.Network.{Network, network_apply, network_of}
-use Rattle.c104_net.specs.Balance.{IsSteady}
-use Rattle.c104_net.specs.Quiet.{IsQuiet}
+use Rattle.c104_net.specs.Network.{Network, network_apply}
+use Rattle.c104_net.specs.QuietNets.{IsQuiet}
 use Rattle.c104_net.specs.Reasons.{network_why}
-use Rattle.c104_net.specs.Runs.{IsDoneRun}
-use Rattle.c104_net.specs.Starts.{start_node}
-use Rattle.c104_net.specs.TerminalStarts.{IsTerminalStart}
-use Rattle.c104_net.specs.Unchanged.{AreStartsOf, IsUnchanged}
-use Rattle.c104_net.specs.declared.starts.NodeStart.{NodeStart}
-use Rattle.c104_net.specs.declared.starts.NodeStart.TheVariants as start
 use Rattle.c104_net.specs.Rounds.{round}
 
 -- an event is answered with NotReady
@@ -79,21 +65,3 @@ IsStartedNode (node.Terminal t) = TOKENS_OF_A_GRANT ≤ t.input.cap
 -- each switch of a network is started
 abbrev pub IsStarted : {A : Type 0} → Network A → Type 0
 IsStarted {A} net = (k : ℕ) (n : Node A) → slice_get net.nodes k ≡ Some n → IsStartedNode n
-
--- where a node starts: a switch is started, and every start keeps what its type keeps
-abbrev pub IsStartedStart : NodeStart → Type 0
-IsStartedStart (start.Switch s) = (s.started ≡ true) × IsSwitchStart s
-IsStartedStart (start.Terminal t) = IsTerminalStart t
-
--- a run from a start, in a network whose labels the check accepts, and whose channels don't depend on one another in a
--- cycle: at the start each switch is started and nothing stands anywhere, nobody changed the network since, and what
--- terminals sent where random headers are put before packets doesn't begin with a random header itself
-pub record IsAcyclicRun (plan : Plan) (image : Image) (starts : List NodeStart) (events : List (Event × Reply))
-    (nodes : List (Node Token)) : Type 0 where
-  pub accepted : IsAccepted (routes_of plan image)
-  pub acyclic : IsAcyclic (routes_of plan image)
-  pub set : AreStartsOf plan image starts
-  pub started : IsStarted {A = Token} (network_of plan (map start_node starts))
-  pub steady : IsSteady {A = Token} (network_of plan (map start_node starts))
-  pub run : IsDoneRun plain_kind (network_of plan (map start_node starts)) events (network_of plan nodes)
-  pub unchanged : IsUnchanged (routes_of plan image) events

@@ -1,10 +1,12 @@
 -- The nodes at the start of a run, over any kind of token: no token stands anywhere.
-use Rattle.c104_switch.specs.Starts.{start_switch, switch_start}
+use Rattle.c104_switch.specs.Starts.{start_switch, switch_start, IsSwitchStart}
 use Rattle.c104_net.specs.Nodes.{Node}
-use Rattle.c104_net.specs.TerminalStarts.{start_terminal, terminal_start}
+use Rattle.c104_net.specs.TerminalStarts.{start_terminal, terminal_start, IsTerminalStart}
 use Rattle.c104_net.specs.declared.node.NodeOf.TheVariants as node
 use Rattle.c104_net.specs.declared.starts.NodeStart.{NodeStart}
 use Rattle.c104_net.specs.declared.starts.NodeStart.TheVariants as start
+use Rattle.std.specs.Prelude.{◌≡◌, true}
+use Rattle.c104_switch.specs.Switch.{Switch}
 
 -- a node at a start
 abbrev pub start_node : {A : Type 0} → NodeStart → Node A
@@ -15,3 +17,8 @@ start_node (start.Terminal t) = node.Terminal (start_terminal t)
 abbrev pub start_of : {A : Type 0} → Node A → NodeStart
 start_of (node.Switch s) = start.Switch (switch_start s)
 start_of (node.Terminal t) = start.Terminal (terminal_start t)
+
+-- where a node starts: a switch is started, and every start keeps what its type keeps
+abbrev pub IsStartedStart : NodeStart → Type 0
+IsStartedStart (start.Switch s) = (s.started ≡ true) × IsSwitchStart s
+IsStartedStart (start.Terminal t) = IsTerminalStart t

@@ -7,7 +7,7 @@ use Rattle.c104_net.specs.Acts.{IsWithinLimits}
 use Rattle.c104_net.specs.Nodes.{Node}
 use Rattle.c104_net.specs.Starts.{start_of}
 use Rattle.c104_net.specs.Tagged.{TaggedToken}
-use Rattle.c104_net.specs.TracedRuns.{map_node}
+use Rattle.c104_net.specs.MappedNodes.{map_node}
 use Rattle.c104_net.specs.Traces.{trace_limit}
 
 -- a node as it is seen: its state, where it started, and what it did since

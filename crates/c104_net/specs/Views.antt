@@ -1,18 +1,15 @@
 -- What can be seen of the nodes of a network: of a switch each of its links, a terminal, the tokens that wait in them,
 -- and the packets that were sent.
-use Rattle.std.specs.Prelude.{ℕ, length, nat_lt, List, Option, Some, None, if◌then◌else◌, slice_get}
+use Rattle.std.specs.Prelude.{ℕ, length, List, Option, Some, None, slice_get}
 use Rattle.c104_token.specs.Kinds.{Kind}
 use Rattle.c104_token.specs.declared.packets.Packet.{Packet}
 use Rattle.c104_link.specs.Steps.{◌>>=◌}
 use Rattle.c104_switch.specs.Views.{input_token, link_view, output_token}
 use Rattle.c104_switch.specs.declared.actions.LinkView.{LinkView}
-use Rattle.c104_plan.specs.declared.ports.Port.{Port}
-use Rattle.c104_plan.specs.declared.ports.Port.TheVariants as port
 use Rattle.c104_net.specs.Terminals as terminal
 use Rattle.c104_net.specs.declared.node.NodeOf.TheVariants.{Switch, Terminal}
 use Rattle.c104_net.specs.declared.terminal.views.TerminalView.{TerminalView}
 use Rattle.c104_net.specs.Nodes.{Node, node_leave}
-use Rattle.c104_net.specs.Network.{Network, terminal_place}
 
 -- what is seen of a terminal
 abbrev pub terminal_view : {A : Type 0} → terminal.Terminal A → TerminalView
@@ -32,13 +29,6 @@ node_terminal_view (Terminal t) = Some (terminal_view t)
 abbrev pub nodes_terminal_view : {A : Type 0} → List (Node A) → ℕ → Option TerminalView
 nodes_terminal_view nodes place = slice_get nodes place >>= node_terminal_view
 
--- what is seen of a terminal of the network
-abbrev pub network_terminal_view : {A : Type 0} → Network A → ℕ → Option TerminalView
-network_terminal_view net t =
-    if nat_lt t (length net.plan.terminals)
-    then nodes_terminal_view net.nodes (terminal_place net.plan t)
-    else None
-
 -- the token that would go out next over link l of a node, if one can
 abbrev pub node_next_token : {A : Type 0} → ℕ → Node A → Option A
 node_next_token l n = node_leave l n >>= (λ r. Some r.0)
@@ -52,15 +42,6 @@ node_input_token l k (Terminal t) = slice_get t.input.items k
 abbrev pub nodes_input_token : {A : Type 0} → List (Node A) → ℕ → ℕ → ℕ → Option A
 nodes_input_token nodes place l k = slice_get nodes place >>= node_input_token l k
 
--- the token at place k of what came in at a port of the network
-abbrev pub network_input_token : {A : Type 0} → Network A → Port → ℕ → Option A
-network_input_token net (port.Switch s l) k =
-    if nat_lt s (length net.plan.switches) then nodes_input_token net.nodes s l k else None
-network_input_token net (port.Terminal t) k =
-    if nat_lt t (length net.plan.terminals)
-    then nodes_input_token net.nodes (terminal_place net.plan t) 0 k
-    else None
-
 -- the token at place k of the output of link l of a node, if it is a switch
 abbrev pub node_output_token : {A : Type 0} → ℕ → ℕ → Node A → Option A
 node_output_token l k (Switch s) = output_token s l k
@@ -69,11 +50,6 @@ node_output_token l k (Terminal t) = None
 -- the same of the node at this place
 abbrev pub nodes_output_token : {A : Type 0} → List (Node A) → ℕ → ℕ → ℕ → Option A
 nodes_output_token nodes place l k = slice_get nodes place >>= node_output_token l k
-
--- the token at place k of the output of a switch's link in the network
-abbrev pub network_output_token : {A : Type 0} → Network A → ℕ → ℕ → ℕ → Option A
-network_output_token net s l k =
-    if nat_lt s (length net.plan.switches) then nodes_output_token net.nodes s l k else None
 
 -- packet n of those that a node sent, if it is a terminal
 abbrev pub node_sent_packet : {A : Type 0} → ℕ → Node A → Option Packet
@@ -84,13 +60,6 @@ node_sent_packet n (Terminal t) = slice_get t.sent n
 abbrev pub nodes_sent_packet : {A : Type 0} → List (Node A) → ℕ → ℕ → Option Packet
 nodes_sent_packet nodes place n = slice_get nodes place >>= node_sent_packet n
 
--- packet n of those that a terminal of the network sent
-abbrev pub network_sent_packet : {A : Type 0} → Network A → ℕ → ℕ → Option Packet
-network_sent_packet net t n =
-    if nat_lt t (length net.plan.terminals)
-    then nodes_sent_packet net.nodes (terminal_place net.plan t) n
-    else None
-
 module _ {A : Type 0} (kind : Kind A) where
   -- what is seen of a link of a node, if it is a switch
   abbrev pub node_link_view : ℕ → Node A → Option LinkView
@@ -100,8 +69,3 @@ module _ {A : Type 0} (kind : Kind A) where
   -- the same of the node at this place
   abbrev pub nodes_link_view : List (Node A) → ℕ → ℕ → Option LinkView
   nodes_link_view nodes place l = slice_get nodes place >>= node_link_view l
-
-  -- what is seen of a link of a switch of the network
-  abbrev pub network_link_view : Network A → ℕ → ℕ → Option LinkView
-  network_link_view net s l =
-      if nat_lt s (length net.plan.switches) then nodes_link_view net.nodes s l else None

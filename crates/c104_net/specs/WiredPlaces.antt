@@ -1,10 +1,6 @@
 -- Which links of a place have wires, where that is kept.
-use Rattle.std.specs.Prelude.{ℕ, ◌≡◌, Bool, true, List, Some, slice_get}
-use Rattle.c104_plan.specs.Plans.{Plan}
-use Rattle.c104_plan.specs.Wiring.{peer}
-use Rattle.c104_plan.specs.declared.ports.Port.{Port}
-use Rattle.c104_net.specs.ActLinks.{act_link, port_link}
-use Rattle.c104_net.specs.EventActs.{port_place}
+use Rattle.std.specs.Prelude.{ℕ, Bool, true, List, slice_get}
+use Rattle.c104_net.specs.ActLinks.{act_link}
 use Rattle.c104_net.specs.Places.{PlaceBase}
 use Rattle.c104_net.specs.Traces.{part}
 use Rattle.c104_net.specs.declared.acts.ActOf.{ActOf}
@@ -23,9 +19,3 @@ links_at bases k l = part true (λ (b : PlaceBase). links_of b l) (slice_get bas
 
 abbrev pub is_linked_at : {A : Type 0} → List PlaceBase → ℕ → ActOf A → Bool
 is_linked_at bases k a = part true (links_at bases k) (act_link a)
-
--- what is kept of the places of a plan's nodes knows each wire, at both its ends
-abbrev pub KnowWires : Plan → List PlaceBase → Type 0
-KnowWires plan bases =
-    (p q : Port) → peer plan p ≡ Some q →
-    (links_at bases (port_place plan p) (port_link p) ≡ true) × (links_at bases (port_place plan q) (port_link q) ≡ true)

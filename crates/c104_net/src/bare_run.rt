@@ -1,7 +1,7 @@
 //! A run of a network that is finished.
 ghost use Rattle.std.specs.Prelude.{◌≡◌, ◌≤◌, [], length};
 ghost use Rattle.std.specs.Vec.{vec_capacity};
-ghost use Rattle.c104_net.specs.Finished.{terminals_of};
+ghost use Rattle.c104_net.specs.Nodes.{terminals_of};
 
 use crate::node::NodeOf;
 use crate::terminal::TerminalOf;

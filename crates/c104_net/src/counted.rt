@@ -4,6 +4,8 @@
 //! enough.
 ghost use Rattle.std.specs.Prelude.{◌≡◌, All, [], ◌∷◌};
 ghost use Rattle.std.specs.Option.{option_copied};
+ghost use Rattle.c104_net.specs.Starts.{start_node, start_of};
+ghost use Rattle.c104_net.specs.Quiet.{IsQuietNode, node_begin};
 ghost use Rattle.c104_net.specs.Nodes.{node_arrived};
 ghost use Rattle.c104_net.specs.TracedRecords.{IsFit, first_traced};
 
@@ -12,7 +14,6 @@ use crate::history::History;
 use crate::node::NodeOf;
 use crate::place::Place;
 use crate::recorded::TRACE_LIMIT;
-use crate::recorded_place::RecordedPlace;
 use crate::stamps::Stamp;
 use crate::tagged::TaggedToken;
 use c104_switch::ReplyOf;
@@ -60,13 +61,37 @@ impl CountedNode {
         let _entries = self.entries;
         self.core.arrived()
     }
+
+    /// Starts a run where the node stands, if it is quiet: what it sent and what arrived is forgotten, and what it
+    /// did. It takes no memory.
+    pub fn begin(&mut self)
+        requires { IsQuietNode self.old.state }
+        ensures begun { self.new.state ≡ node_begin self.old.state }
+        ensures start { self.new.start ≡ start_of self.old.state }
+        ensures trace { self.new.trace ≡ [] }
+        ensures stands { self.new.state ≡ start_node self.new.start }
+    {
+        self.history = History::started(&self.core);
+        self.entries = 0;
+        self.core.begin();
+    }
+
+    /// Disposes of the node, and of what is kept of it.
+    pub fn retire(self) {
+        let CountedNode {
+            core,
+            entries: _,
+            history: _,
+        } = self;
+        core.retire();
+    }
 }
 
 impl Place<TaggedToken> for CountedNode {
     ghost use Rattle.std.specs.Prelude.{◌≡◌, ◌<◌, false, is_some, length, refl, true, OnOk};
     ghost use Rattle.c104_net.specs.Acts.{IsWithinLimits, node_act};
     ghost use Rattle.c104_net.specs.PlaceActs.{ActEnds};
-    ghost use Rattle.c104_net.specs.RecordedPlaces.{counted_shown};
+    ghost use Rattle.c104_net.specs.ShownNodes.{counted_shown};
     ghost use Rattle.c104_net.specs.Tagged.{tagged_kind};
     ghost use Rattle.c104_net.specs.Traces.{trace_limit};
 
@@ -117,36 +142,5 @@ impl Place<TaggedToken> for CountedNode {
         self.history = self.history.with(&stamp, &act, &reply);
         self.entries += 1;
         Ok(reply)
-    }
-}
-
-impl RecordedPlace<TaggedToken> for CountedNode {
-    ghost use Rattle.c104_net.specs.RecordedPlaces.{counted_keeps};
-    ghost use Rattle.c104_net.specs.TracedRecords.{plain_node};
-
-    // A count leaves nothing at the end.
-    type Room = ();
-
-    ghost plain = { λ n. plain_node n.state };
-
-    ghost begun_at = { λ n. n.start };
-
-    ghost fits = { λ plan room. Unit {0} };
-
-    ghost keeps_record = { counted_keeps };
-
-    fn begin(&mut self) {
-        self.history = History::started(&self.core);
-        self.entries = 0;
-        self.core.begin();
-    }
-
-    fn retire(self) {
-        let CountedNode {
-            core,
-            entries: _,
-            history: _,
-        } = self;
-        core.retire();
     }
 }

@@ -1,7 +1,7 @@
 //! What crosses a wire, and the acts at its two ports.
 ghost use Rattle.std.specs.Prelude.{◌≡◌, is_some, true};
 ghost use Rattle.c104_net.specs.Acts.{node_act};
-ghost use Rattle.c104_net.specs.EventActs.{IsAnswerOf, far_act, near_act, port_credit_in, port_enter};
+ghost use Rattle.c104_net.specs.PortActs.{IsAnswerOf, far_act, near_act, port_credit_in, port_enter};
 ghost use Rattle.c104_switch.specs.declared.actions.ReplyOf.{ReplyOf as TheReply};
 
 use crate::acts::ActOf;

@@ -2,12 +2,12 @@
 ghost use Rattle.std.specs.Prelude.{◌≡◌, ◌-◌, None, map, slice_get};
 ghost use Rattle.c104_net.specs.Acts.{IsWithinLimits};
 ghost use Rattle.c104_net.specs.AskedActs.{AreEnds, acts_asked};
-ghost use Rattle.c104_net.specs.EventActs.{act_limit};
+ghost use Rattle.c104_net.specs.PortActs.{act_limit};
 ghost use Rattle.c104_net.specs.EventsAtPlaces.{ActsDone};
 ghost use Rattle.c104_net.specs.PlaceActs.{AloneDone};
 ghost use Rattle.c104_net.specs.ActLinks.{act_link};
 ghost use Rattle.c104_net.specs.Places.{bases, states};
-ghost use Rattle.c104_net.specs.WiredPlaces.{KnowWires};
+ghost use Rattle.c104_net.specs.KnownWires.{KnowWires};
 ghost use Rattle.c104_net.specs.declared.acts.ActOf.TheVariants as act;
 
 use crate::acts::ActOf;

@@ -2,7 +2,7 @@
 ghost use Rattle.std.specs.Prelude.{◌≡◌, map};
 ghost use Rattle.c104_plan.specs.Plans.{IsPlan};
 ghost use Rattle.c104_net.specs.Places.{bases};
-ghost use Rattle.c104_net.specs.WiredPlaces.{KnowWires};
+ghost use Rattle.c104_net.specs.KnownWires.{KnowWires};
 ghost use Rattle.c104_net.specs.EventsAtPlaces.{EventDone, told_answer};
 
 use crate::asked::acts_of;

@@ -3,7 +3,7 @@ ghost use Rattle.std.specs.Prelude.{◌≡◌, ◌≢◌, ◌<◌, ◌||◌, Som
 ghost use Rattle.c104_switch.specs.Actions.{is_ready};
 ghost use Rattle.c104_switch.specs.declared.actions.ReplyOf.{ReplyOf as TheReply};
 ghost use Rattle.c104_net.specs.Acts.{nodes_act};
-ghost use Rattle.c104_net.specs.EventActs.{IsAnswerOf, far_act, joint_step, near_act};
+ghost use Rattle.c104_net.specs.PortActs.{IsAnswerOf, far_act, joint_step, near_act};
 ghost use Rattle.c104_net.specs.PlaceActs.{JointDone};
 ghost use Rattle.c104_net.specs.ActLinks.{port_link};
 ghost use Rattle.c104_net.specs.WiredPlaces.{links_at};

@@ -1,6 +1,6 @@
 //! A node by itself: one switch or terminal, with what it did since its start.
 ghost use Rattle.std.specs.Prelude.{◌≡◌, ◌↔◌, [], IsTrue};
-ghost use Rattle.c104_net.specs.Balance.{is_switch};
+ghost use Rattle.c104_net.specs.Nodes.{is_switch};
 ghost use Rattle.c104_net.specs.LentNodes.{HasCap, IsLentNode, has_link, is_full, lent_token};
 ghost use Rattle.c104_net.specs.Quiet.{IsQuietNode};
 ghost use Rattle.c104_net.specs.Starts.{start_node};

@@ -1,8 +1,7 @@
 //! A node of a network: a switch or a terminal.
 ghost use Rattle.std.specs.Prelude.{◌≡◌, ◌∷◌, []};
 ghost use Rattle.std.specs.Option.{option_copied, option_to_list};
-ghost use Rattle.c104_net.specs.Nodes.{node_waiting, node_arrived, node_peek};
-ghost use Rattle.c104_net.specs.Finished.{terminals_of};
+ghost use Rattle.c104_net.specs.Nodes.{node_waiting, node_arrived, node_peek, terminals_of};
 
 mod acting;
 mod limits;

@@ -2,7 +2,7 @@
 ghost use Rattle.std.specs.Prelude.{◌≡◌, map};
 ghost use Rattle.std.specs.Option.{option_copied};
 ghost use Rattle.c104_net.specs.Network.{network_of};
-ghost use Rattle.c104_net.specs.Views.{network_input_token, network_output_token, network_sent_packet};
+ghost use Rattle.c104_net.specs.NetViews.{network_input_token, network_output_token, network_sent_packet};
 ghost use Rattle.c104_net.specs.Views.{nodes_input_token, nodes_output_token, nodes_sent_packet};
 ghost use Rattle.c104_net.specs.Places.{states};
 

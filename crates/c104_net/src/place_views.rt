@@ -5,7 +5,8 @@ ghost use Rattle.std.specs.Option.{option_copied};
 ghost use Rattle.c104_net.specs.Network.{network_arrived, network_of, network_peek};
 ghost use Rattle.c104_net.specs.Nodes.{nodes_arrived, nodes_peek};
 ghost use Rattle.c104_net.specs.Quiet.{IsQuietNode};
-ghost use Rattle.c104_net.specs.Views.{network_link_view, network_terminal_view, nodes_link_view, nodes_terminal_view};
+ghost use Rattle.c104_net.specs.Views.{nodes_link_view, nodes_terminal_view};
+ghost use Rattle.c104_net.specs.NetViews.{network_link_view, network_terminal_view};
 ghost use Rattle.c104_net.specs.Places.{states};
 
 use crate::place::Place;

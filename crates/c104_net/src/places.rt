@@ -4,7 +4,7 @@ ghost use Rattle.std.specs.Option.{option_copied};
 ghost use Rattle.c104_regs.specs.declared.registers.TheConstants.{LINKS};
 ghost use Rattle.c104_link.specs.Steps.{step_at};
 ghost use Rattle.c104_net.specs.Acts.{IsWithinLimits, nodes_act, wants_memory};
-ghost use Rattle.c104_net.specs.EventActs.{act_limit};
+ghost use Rattle.c104_net.specs.PortActs.{act_limit};
 ghost use Rattle.c104_net.specs.Traces.{full_at};
 ghost use Rattle.c104_switch.specs.Claims.{IsNextLink};
 ghost use Rattle.c104_net.specs.Nodes.{node_claim};

@@ -4,8 +4,8 @@ ghost use Rattle.c104_event.specs.declared.events.Event.TheVariants as event;
 ghost use Rattle.c104_switch.specs.Reasons.{why_at};
 ghost use Rattle.c104_net.specs.Network.{network_of};
 ghost use Rattle.c104_net.specs.Reasons.{claim_reason, end_why, network_why};
-ghost use Rattle.c104_net.specs.Reasons.{node_enter_why, node_leave_why, node_credit_out_why, node_credit_in_why};
-ghost use Rattle.c104_net.specs.Reasons.{node_input_why, node_claim_why, node_drain_why};
+ghost use Rattle.c104_net.specs.NodeReasons.{node_enter_why, node_leave_why, node_credit_out_why, node_credit_in_why};
+ghost use Rattle.c104_net.specs.NodeReasons.{node_input_why, node_claim_why, node_drain_why};
 ghost use Rattle.c104_net.specs.Places.{states};
 
 use crate::ends::End;

@@ -1,16 +1,14 @@
 //! A node with its record: where it started, and what it did since.
 ghost use Rattle.std.specs.Prelude.{◌≡◌, ◌∷◌, []};
 ghost use Rattle.std.specs.Option.{option_to_list};
-ghost use Rattle.c104_net.specs.Finished.{terminals_of};
-ghost use Rattle.c104_net.specs.Balance.{is_switch};
+ghost use Rattle.c104_net.specs.Quiet.{IsQuietNode, node_begin};
+ghost use Rattle.c104_net.specs.Nodes.{terminals_of, is_switch};
 ghost use Rattle.c104_net.specs.Starts.{start_node, start_of};
 ghost use Rattle.c104_net.specs.Records.{IsRecorded};
 
 use crate::acts::{Act, Entry, same_reply};
 use crate::node::NodeOf;
 use crate::place::Place;
-use crate::recorded_place::RecordedPlace;
-use crate::run_parts::RunParts;
 use crate::stamps::Stamp;
 use crate::starts::NodeStart;
 use crate::terminal::TerminalOf;
@@ -88,6 +86,30 @@ impl Node {
         let _start = &self.start;
         self.trace.as_slice()
     }
+
+    /// Starts a run where the node stands, if it is quiet: what it sent and what arrived is forgotten, and what it
+    /// did. It takes no memory.
+    pub fn begin(&mut self)
+        requires { IsQuietNode self.old.0.state }
+        ensures begun { self.new.0.state ≡ node_begin self.old.0.state }
+        ensures start { self.new.0.start ≡ start_of self.old.0.state }
+        ensures trace { self.new.0.trace ≡ [] }
+        ensures stands { self.new.0.state ≡ start_node self.new.0.start }
+    {
+        write_start(&self.core, &mut self.start);
+        self.core.begin();
+        self.trace.clear();
+    }
+
+    /// Disposes of the node, and of what is kept of it.
+    pub fn retire(self) {
+        let Node {
+            core,
+            start: _,
+            trace: _,
+        } = self;
+        core.retire();
+    }
 }
 
 /// Writes where a node stands in place of the start of another of its kind.
@@ -112,7 +134,7 @@ impl Place<Token> for Node {
     ghost use Rattle.c104_token.specs.Kinds.{plain_kind};
     ghost use Rattle.c104_net.specs.Acts.{IsWithinLimits, node_act};
     ghost use Rattle.c104_net.specs.PlaceActs.{ActEnds};
-    ghost use Rattle.c104_net.specs.RecordedPlaces.{node_shown};
+    ghost use Rattle.c104_net.specs.ShownNodes.{node_shown};
     ghost use Rattle.c104_net.specs.Traces.{trace_limit};
 
     ghost shown = { node_shown };
@@ -162,38 +184,5 @@ impl Place<Token> for Node {
             seat: stamp.seat,
         });
         Ok(reply)
-    }
-}
-
-impl RecordedPlace<Token> for Node {
-    ghost use Rattle.std.specs.Vec.{vec_capacity};
-    ghost use Rattle.c104_net.specs.FinishedRecords.{HaveRunRoom};
-    ghost use Rattle.c104_net.specs.RecordedPlaces.{node_keeps};
-
-    // Room for what is left at the end, so that `finish` takes no memory.
-    type Room = RunParts;
-
-    ghost plain = { λ n. n.0.state };
-
-    ghost begun_at = { λ n. n.0.start };
-
-    ghost fits = { λ plan room. HaveRunRoom plan room.starts.items room.traces.items room.terminals.items
-        (vec_capacity room.starts) (vec_capacity room.traces) (vec_capacity room.terminals) };
-
-    ghost keeps_record = { node_keeps };
-
-    fn begin(&mut self) {
-        write_start(&self.core, &mut self.start);
-        self.core.begin();
-        self.trace.clear();
-    }
-
-    fn retire(self) {
-        let Node {
-            core,
-            start: _,
-            trace: _,
-        } = self;
-        core.retire();
     }
 }

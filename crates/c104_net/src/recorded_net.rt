@@ -36,7 +36,7 @@ impl<T: TokenKind, P: RecordedPlace<T>> Model for RecordedNet<T, P> {
     ghost use Rattle.std.specs.Prelude.{map};
     ghost use Rattle.c104_net.specs.NetRecords.{NetRecord};
     ghost use Rattle.c104_net.specs.Places.{bases};
-    ghost use Rattle.c104_net.specs.WiredPlaces.{KnowWires};
+    ghost use Rattle.c104_net.specs.KnownWires.{KnowWires};
     ghost use Rattle.c104_net.specs.RecordedNets.{places_record, reading, IsRecordedNet};
 
     ghost Value = { NetRecord };

@@ -8,6 +8,9 @@ ghost use Rattle.c104_net.specs.RecordedNets.{begun_told, place_told, reading, K
 ghost use Rattle.c104_net.specs.Starts.{start_node};
 ghost use Rattle.c104_net.specs.declared.starts.NodeStart.{NodeStart as TheStart};
 
+mod counting;
+mod keeping;
+
 use crate::place::Place;
 use c104_token::TokenKind;
 

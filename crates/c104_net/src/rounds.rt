@@ -5,7 +5,7 @@
 ghost use Rattle.std.specs.Prelude.{map};
 ghost use Rattle.c104_plan.specs.Plans.{IsPlan};
 ghost use Rattle.c104_net.specs.Places.{bases};
-ghost use Rattle.c104_net.specs.WiredPlaces.{KnowWires};
+ghost use Rattle.c104_net.specs.KnownWires.{KnowWires};
 ghost use Rattle.c104_net.specs.EventRuns.{EventsEnd};
 ghost use Rattle.c104_net.specs.Rounds.{round, rounds};
 ghost use Rattle.c104_net.specs.RoundParts.{PartEnds};

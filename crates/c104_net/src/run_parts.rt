@@ -2,9 +2,8 @@
 ghost use Rattle.std.specs.Prelude.{◌≡◌, ◌≤◌, ◌+◌, ◌++◌, ℕ, [], length, map, All, IfOk};
 ghost use Rattle.std.specs.Option.{option_to_list};
 ghost use Rattle.std.specs.Vec.{vec_capacity};
-ghost use Rattle.c104_net.specs.Finished.{terminals_of};
-ghost use Rattle.c104_net.specs.NetRecords.{node_start, node_state, node_trace};
-ghost use Rattle.c104_net.specs.Records.{IsRecorded, NodeRecord};
+ghost use Rattle.c104_net.specs.Nodes.{terminals_of};
+ghost use Rattle.c104_net.specs.Records.{node_start, node_state, node_trace, IsRecorded, NodeRecord};
 
 use crate::acts::Entry;
 use crate::recorded::Node;

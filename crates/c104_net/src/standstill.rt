@@ -6,7 +6,7 @@
 ghost use Rattle.std.specs.Prelude.{◌≡◌, flat_map, length, map};
 ghost use Rattle.std.specs.List.{range_with_len};
 ghost use Rattle.c104_net.specs.Network.{network_of};
-ghost use Rattle.c104_net.specs.PortParts.{port_events, wired_events};
+ghost use Rattle.c104_net.specs.RoundParts.{port_events, wired_events};
 ghost use Rattle.c104_net.specs.Rounds.{all_claims, all_drains, claims_of, round, switch_claims, turn_at};
 ghost use Rattle.c104_net.specs.Rounds.{wired_links, wired_ports, wired_terminals};
 ghost use Rattle.c104_net.specs.Standstill.{has_reason, have_reasons};

@@ -1,6 +1,6 @@
 //! Where the nodes of a run start: nodes at which no token stands, over any kind of token.
 ghost use Rattle.std.specs.Prelude.{◌↔◌, All, IsTrue};
-ghost use Rattle.c104_net.specs.Standstill.{IsStartedStart};
+ghost use Rattle.c104_net.specs.Starts.{IsStartedStart};
 
 mod numbers;
 

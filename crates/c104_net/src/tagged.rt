@@ -56,7 +56,6 @@ impl TokenKind for TaggedToken {
 }
 
 /// The origins that the terminators among these tokens tell, in order. The only error is out of memory.
-#[tactic(auto, using(crate::proofs::TaggedRuns::tagged_apply, crate::proofs::TaggedRuns::origins_same, crate::proofs::SentCounts::bounded_first, crate::proofs::KnownTokens::lists_same))]
 pub fn tagged_origins(alloc: Global, tokens: &[TaggedToken]) -> Result<Vec<Origin>, NoMemory>
     ensures { IfOk result (λ list. list.items ≡ tagged_origins tokens.now) }
 {

@@ -18,11 +18,13 @@ use Rattle.c104_net.specs.EventPlaces.{event_place}
 use Rattle.c104_net.specs.NetRecords.{IsNetRecord, NetRecord, fresh_record, record_begun_if}
 use Rattle.c104_net.specs.Network.{Network, network_of}
 use Rattle.c104_net.specs.Nodes.{Node}
-use Rattle.c104_net.specs.Quiet.{network_begin, node_begin}
+use Rattle.c104_net.specs.Quiet.{node_begin}
+use Rattle.c104_net.specs.QuietNets.{network_begin}
 use Rattle.c104_net.specs.Runs.{IsRunRecord, at_node}
 use Rattle.c104_net.specs.Starts.{start_node, start_of}
-use Rattle.c104_net.specs.TracedRuns.{map_node, map_switch}
-use Rattle.c104_net.specs.Traces.{Deed, event_deeds, part, seatless}
+use Rattle.c104_net.specs.MappedNodes.{map_node, map_switch}
+use Rattle.c104_net.specs.Traces.{Deed, part, seatless}
+use Rattle.c104_net.specs.EventDeeds.{event_deeds}
 use Rattle.c104_net.specs.Unchanged.{AreStartsOf, IsUnchanged, MayHappen}
 use Rattle.c104_net.specs.declared.acts.Entry.{Entry}
 use Rattle.c104_net.specs.declared.stamps.Stamp.{Stamp}

@@ -9,8 +9,9 @@ use Rattle.c104_net.proofs.WorkBounds.{told_below}
 use Rattle.c104_net.specs.DeadlockFreedom.{IsAcyclicNet, IsAllDelivered, IsFreeOfDeadlock}
 use Rattle.c104_net.specs.NetRecords.{NetRecord}
 use Rattle.c104_net.specs.RecordedRuns.{RecordsRounds}
-use Rattle.c104_net.specs.Quiet.{IsQuiet}
-use Rattle.c104_net.specs.Standstill.{IsStartedStart, StandsStill}
+use Rattle.c104_net.specs.QuietNets.{IsQuiet}
+use Rattle.c104_net.specs.Standstill.{StandsStill}
+use Rattle.c104_net.specs.Starts.{IsStartedStart}
 use Rattle.c104_net.specs.Unchanged.{AreStartsOf}
 use Rattle.c104_net.specs.Work.{told_work, work, work_bound}
 use Rattle.c104_tests_net.proofs.CalmRuns.{unchanged}

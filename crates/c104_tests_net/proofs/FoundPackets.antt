@@ -7,7 +7,7 @@ use Rattle.c104_net.specs.Deliveries.{IsDelivered, Promise, arrived_at, has_head
 use Rattle.c104_net.specs.FinishedRecords.{FinishedRecord, record_finish}
 use Rattle.c104_net.specs.NetRecords.{IsNetRecord, NetRecord}
 use Rattle.c104_net.specs.Origins.{origins_in}
-use Rattle.c104_net.specs.Quiet.{IsQuiet}
+use Rattle.c104_net.specs.QuietNets.{IsQuiet}
 use Rattle.c104_net.specs.RunOrigins.{AreOrigins}
 use Rattle.c104_net.specs.TracedEnds.{traced_end}
 use Rattle.c104_net.specs.Traces.{seatless}

@@ -15,7 +15,7 @@ use Rattle.c104_net.specs.RunOrigins.{AreOrigins}
 use Rattle.c104_net.specs.Terminals.{sent_from, sent_tokens}
 use Rattle.c104_net.specs.Traced.{traced_kind}
 use Rattle.c104_net.specs.TracedEnds.{traced_end}
-use Rattle.c104_net.specs.TracedRuns.{map_node}
+use Rattle.c104_net.specs.MappedNodes.{map_node}
 use Rattle.c104_net.specs.Traces.{part}
 use Rattle.c104_net.specs.Unchanged.{AreStartsOf}
 use Rattle.c104_net.specs.declared.origins.Origin.{Origin}

@@ -3,7 +3,7 @@
 ghost use Rattle.std.specs.Prelude.{◌≡◌, true, IfOk};
 ghost use Rattle.c104_check.specs.Routes.{IsAccepted, routes_of};
 ghost use Rattle.c104_net.specs.NetRecords.{IsNetRecord};
-ghost use Rattle.c104_net.specs.Quiet.{IsQuiet};
+ghost use Rattle.c104_net.specs.QuietNets.{IsQuiet};
 ghost use Rattle.c104_tests_net.specs.CalmNets.{IsCalm};
 ghost use Rattle.c104_tests_net.specs.FoundPackets.{AreFoundOnce};
 

@@ -15,14 +15,14 @@ use Rattle.c104_event.specs.declared.events.Event.TheVariants as event
 use Rattle.c104_event.specs.declared.faults.EventFault.{EventFault}
 use Rattle.c104_event.specs.declared.faults.EventFault.TheVariants as event_fault
 use Rattle.c104_net.specs.declared.stamps.Stamp.{Stamp}
-use Rattle.c104_net.specs.Traces.{seatless}
+use Rattle.c104_net.specs.Traces.{seatless, full_at, kept_of, lone_deed, noted_all, noted_in, trace_limit}
 use Rattle.c104_net.specs.Balance.{AreInPlace}
 use Rattle.c104_net.specs.NetRecords.{NetRecord, fresh_record}
 use Rattle.c104_net.proofs.EventSteps.{control_applied}
 use Rattle.c104_net.specs.Network.{Network, network_apply, new_network, with_nodes}
 use Rattle.c104_net.specs.Stages.{unless_full}
 use Rattle.c104_net.specs.Places.{is_kept_full}
-use Rattle.c104_net.specs.Traces.{event_deeds, full_at, kept_of, lone_deed, noted_all, noted_in, trace_limit}
+use Rattle.c104_net.specs.EventDeeds.{event_deeds}
 use Rattle.c104_net.specs.declared.acts.ActOf.{ActOf}
 use Rattle.c104_net.specs.declared.acts.ActOf.TheVariants as act
 use Rattle.c104_net.specs.declared.acts.Entry.{Entry}

@@ -15,7 +15,7 @@ use Rattle.c104_net.specs.Nodes.{Node}
 use Rattle.c104_net.specs.Runs.{at_node, run_deeds}
 use Rattle.c104_net.specs.Starts.{start_node}
 use Rattle.c104_net.specs.Traces.{entry_of}
-use Rattle.c104_net.proofs.Crossing.{get_set_same}
+use Rattle.c104_net.proofs.WireEnds.{get_set_same}
 use Rattle.c104_tools.proofs.NetCommands.{commands_on, last_below, traces_below}
 use Rattle.c104_tools.proofs.NetSwitches.{IsObeyed, obeyed, stands_at}
 use Rattle.c104_tools.specs.NetCommands.{first_commands, net_commands, net_switches}

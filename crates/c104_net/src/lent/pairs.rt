@@ -1,7 +1,7 @@
 //! What crosses a wire between two nodes that are lent.
 ghost use Rattle.std.specs.Prelude.{◌≡◌, ◌<◌, Some, false, true, is_some, OnOk};
 ghost use Rattle.c104_net.specs.ActLinks.{port_link};
-ghost use Rattle.c104_net.specs.EventActs.{IsAnswerOf, far_act, near_act};
+ghost use Rattle.c104_net.specs.PortActs.{IsAnswerOf, far_act, near_act};
 ghost use Rattle.c104_net.specs.LentNodes.{after_act, crossed, is_full, lent_pair, lent_step};
 ghost use Rattle.c104_switch.specs.Actions.{is_ready, Reply as TheReply};
 ghost use Rattle.c104_switch.specs.declared.actions.ReplyOf.TheVariants as reply;

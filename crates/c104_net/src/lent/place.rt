@@ -11,7 +11,7 @@ impl Place<Token> for LentNode {
     ghost use Rattle.std.specs.Prelude.{◌≡◌, ◌<◌, None, Some, false, is_some, length, refl, true, OnOk};
     ghost use Rattle.c104_token.specs.Kinds.{plain_kind};
     ghost use Rattle.c104_net.specs.Acts.{IsWithinLimits, node_act};
-    ghost use Rattle.c104_net.specs.EventActs.{act_limit};
+    ghost use Rattle.c104_net.specs.PortActs.{act_limit};
     ghost use Rattle.c104_net.specs.LentNodes.{is_full, lent_shown, on_links, has_link};
     ghost use Rattle.c104_net.specs.PlaceActs.{ActEnds};
     ghost use Rattle.c104_net.specs.WiredPlaces.{is_linked};

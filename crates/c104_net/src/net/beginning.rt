@@ -1,7 +1,7 @@
 //! Whether a network's run began with its switches started.
 ghost use Rattle.std.specs.Prelude.{◌≡◌, ◌↔◌, map, All, IsTrue};
-ghost use Rattle.c104_net.specs.NetRecords.{node_start};
-ghost use Rattle.c104_net.specs.Standstill.{IsStartedStart};
+ghost use Rattle.c104_net.specs.Records.{node_start};
+ghost use Rattle.c104_net.specs.Starts.{IsStartedStart};
 
 use super::Net;
 use crate::recorded::Node;

@@ -7,7 +7,7 @@ ghost use Rattle.c104_check.specs.Ranks.{rank_in};
 ghost use Rattle.c104_check.specs.Walks.{port_of};
 ghost use Rattle.c104_check.specs.declared.ports.SwitchPort.{SwitchPort as TheInput};
 ghost use Rattle.c104_plan.specs.Wiring.{peer};
-ghost use Rattle.c104_net.specs.NetRecords.{node_state};
+ghost use Rattle.c104_net.specs.Records.{node_state};
 ghost use Rattle.c104_net.specs.Traces.{part};
 ghost use Rattle.c104_net.specs.Work.{header_held, input_work, inputs_work, level, link_work, node_work, outputs_work};
 ghost use Rattle.c104_net.specs.Work.{terminal_work, told_work, work, work_bound};

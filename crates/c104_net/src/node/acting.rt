@@ -2,7 +2,7 @@
 ghost use Rattle.std.specs.Prelude.{◌≡◌, ◌<◌, ◌≤◌, ℕ, Some, None, true, false, is_some, unwrap_or, IfSome, MatchResult};
 ghost use Rattle.c104_net.specs.Acts.{IsWithinLimits, node_act, reply_outcome, wants_memory};
 ghost use Rattle.c104_regs.specs.declared.registers.TheConstants.{LINKS};
-ghost use Rattle.c104_net.specs.EventActs.{act_limit};
+ghost use Rattle.c104_net.specs.PortActs.{act_limit};
 ghost use Rattle.c104_net.specs.SpareRooms.{IsEnough};
 ghost use Rattle.c104_net.specs.Nodes.{node_claim};
 ghost use Rattle.c104_switch.specs.Actions.{done_reply, token_reply};

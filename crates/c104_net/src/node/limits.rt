@@ -1,7 +1,7 @@
 //! The limits of a terminal's lists, and the memory that they grow by, set aside before an act.
 ghost use Rattle.std.specs.Prelude.{◌≡◌, ◌≤◌, None, Some, length, OnOk};
 ghost use Rattle.c104_net.specs.Acts.{IsWithinLimits};
-ghost use Rattle.c104_net.specs.EventActs.{act_limit};
+ghost use Rattle.c104_net.specs.PortActs.{act_limit};
 ghost use Rattle.c104_net.specs.Nodes.{arrived_tokens};
 ghost use Rattle.c104_net.specs.SpareRooms.{IsEnough};
 ghost use Rattle.c104_net.specs.declared.acts.ActOf.TheVariants as act;

@@ -1,7 +1,7 @@
 //! Why a node isn't ready.
 ghost use Rattle.std.specs.Prelude.{◌≡◌};
-ghost use Rattle.c104_net.specs.Reasons.{node_enter_why, node_leave_why, node_credit_out_why, node_credit_in_why};
-ghost use Rattle.c104_net.specs.Reasons.{node_input_why, node_claim_why, node_drain_why};
+ghost use Rattle.c104_net.specs.NodeReasons.{node_enter_why, node_leave_why, node_credit_out_why, node_credit_in_why};
+ghost use Rattle.c104_net.specs.NodeReasons.{node_input_why, node_claim_why, node_drain_why};
 
 use crate::node::NodeOf;
 use c104_switch::Unready;

@@ -6,7 +6,7 @@ ghost use Rattle.c104_net.specs.Network.{network_apply, network_peek};
 ghost use Rattle.c104_net.specs.ReasonMeanings.{IsEventReason};
 ghost use Rattle.c104_net.specs.Reasons.{is_unready, network_why};
 ghost use Rattle.c104_net.specs.Standstill.{StandsStill};
-ghost use Rattle.c104_net.specs.Views.{network_link_view, network_sent_packet, network_terminal_view};
+ghost use Rattle.c104_net.specs.NetViews.{network_link_view, network_sent_packet, network_terminal_view};
 
 use super::RecordedNet;
 use crate::place_tokens::sent_packet_at;

@@ -2,7 +2,8 @@
 ghost use Rattle.std.specs.Prelude.{◌≡◌, ◌↔◌, map, All, IsTrue};
 ghost use Rattle.c104_net.specs.NetRecords.{record_begun_if};
 ghost use Rattle.c104_net.specs.Places.{states};
-ghost use Rattle.c104_net.specs.Quiet.{IsQuiet, IsQuietNode};
+ghost use Rattle.c104_net.specs.Quiet.{IsQuietNode};
+ghost use Rattle.c104_net.specs.QuietNets.{IsQuiet};
 ghost use Rattle.c104_net.specs.RecordedNets.{begun_told, place_told};
 ghost use Rattle.c104_net.specs.Starts.{start_node};
 

@@ -3,9 +3,8 @@ ghost use Rattle.std.specs.Prelude.{◌<◌, flat_map, length, map};
 ghost use Rattle.c104_event.specs.declared.events.Event.TheVariants as event;
 ghost use Rattle.c104_regs.specs.declared.registers.TheConstants.{LINKS};
 ghost use Rattle.c104_net.specs.Places.{bases};
-ghost use Rattle.c104_net.specs.WiredPlaces.{KnowWires};
-ghost use Rattle.c104_net.specs.Rounds.{all_claims, all_drains, claims_of, switch_claims};
-ghost use Rattle.c104_net.specs.Rounds.{turn_at, wired_ports};
+ghost use Rattle.c104_net.specs.KnownWires.{KnowWires};
+ghost use Rattle.c104_net.specs.Rounds.{all_claims, all_drains, claims_of, switch_claims, turn_at, wired_ports};
 ghost use Rattle.c104_net.specs.RoundParts.{PartEnds};
 ghost use Rattle.c104_net.specs.Stages.{stage_apply, stage_of};
 

@@ -3,7 +3,7 @@ ghost use Rattle.std.specs.Prelude.{◌≡◌, ◌≤◌, ◌<◌, ◌+◌, ◌+
 ghost use Rattle.std.specs.Vec.{vec_capacity};
 ghost use Rattle.c104_link.specs.Steps.{option_outcome};
 ghost use Rattle.c104_token.specs.declared.packets.Packet.{Packet as ThePacket};
-ghost use Rattle.c104_net.specs.EventActs.{outbox_limit};
+ghost use Rattle.c104_net.specs.PortActs.{outbox_limit};
 ghost use Rattle.c104_net.specs.Terminals.{terminal_drain, terminal_send};
 
 use super::{TerminalOf, TerminalPacket};

@@ -3,7 +3,7 @@ ghost use Rattle.std.specs.Prelude.{◌≡◌, option_map};
 ghost use Rattle.c104_net.specs.FinishedRecords.{record_finish};
 ghost use Rattle.c104_net.specs.Tagged.{tag};
 ghost use Rattle.c104_net.specs.TracedEnds.{traced_end};
-ghost use Rattle.c104_net.specs.Views.{network_input_token, network_output_token};
+ghost use Rattle.c104_net.specs.NetViews.{network_input_token, network_output_token};
 
 use super::TracedNet;
 use crate::place_tokens::{input_token_at, output_token_at};

@@ -1,12 +1,11 @@
-use Rattle.c104_net.specs.Places.{bases}
-use Rattle.c104_net.specs.WiredPlaces.{KnowWires}
+use Rattle.c104_net.specs.Places.{bases, Shown}
+use Rattle.c104_net.specs.KnownWires.{KnowWires}
 use Rattle.std.proofs.Common.{List, Result, map, subst, sym}
 use Rattle.c104_plan.specs.Plans.{Plan}
 use Rattle.c104_event.specs.declared.faults.EventFault.{EventFault}
 use Rattle.c104_switch.specs.Actions.{Reply}
 use Rattle.c104_net.specs.AskedActs.{acts_asked}
 use Rattle.c104_net.specs.EventsAtPlaces.{ActsDone, EventDone}
-use Rattle.c104_net.specs.Places.{Shown}
 use Rattle.c104_net.proofs.ActAnswers.{event_done}
 use Rattle.c104_net.proofs.events.do_asked.Goals as goal
 

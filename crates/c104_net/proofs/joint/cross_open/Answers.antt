@@ -1,6 +1,6 @@
 use Rattle.std.proofs.Common.{◌≡◌, ◌∙◌, List, Some, is_some, map, sym, ap}
 use Rattle.c104_net.specs.Acts.{nodes_act}
-use Rattle.c104_net.specs.EventActs.{far_act, near_act}
+use Rattle.c104_net.specs.PortActs.{far_act, near_act}
 use Rattle.c104_net.specs.Nodes.{Node}
 use Rattle.c104_net.specs.declared.acts.ActOf.{ActOf}
 use Rattle.c104_net.proofs.JointEnds.{both_noted, came_answers, far_opens, gone_answers, ready_answer}

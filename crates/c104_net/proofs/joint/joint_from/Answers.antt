@@ -1,9 +1,8 @@
 use Rattle.std.proofs.Common.{arith, ap, map, refl, sym}
-use Rattle.c104_net.specs.EventActs.{near_act}
+use Rattle.c104_net.specs.PortActs.{near_act}
 use Rattle.c104_net.specs.Places.{Shown, room_fault, states}
 use Rattle.c104_net.proofs.JointEnds.{acts_inside, crossing_refused, joint_closed, joint_ready, none_crosses}
-use Rattle.c104_net.proofs.PlaceSteps.{as_many}
-use Rattle.c104_net.proofs.RoundRuns.{err_is}
+use Rattle.c104_net.proofs.PlaceSteps.{as_many, err_is}
 use Rattle.c104_net.proofs.joint.joint_from.Goals as goal
 
 pub returns-then-not-can_far_at : goal.returns-then-not-can_far_at

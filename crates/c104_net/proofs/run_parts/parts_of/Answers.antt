@@ -5,9 +5,8 @@ use Rattle.std.specs.Option.{option_to_list}
 use Rattle.c104_token.specs.declared.tokens.Token.{Token}
 use Rattle.c104_net.specs.declared.acts.Entry.{Entry}
 use Rattle.c104_net.specs.declared.starts.NodeStart.{NodeStart}
-use Rattle.c104_net.specs.Finished.{terminals_of}
-use Rattle.c104_net.specs.NetRecords.{node_start, node_state, node_trace}
-use Rattle.c104_net.specs.Records.{IsRecorded, NodeRecord}
+use Rattle.c104_net.specs.Nodes.{terminals_of}
+use Rattle.c104_net.specs.Records.{node_start, node_state, node_trace, IsRecorded, NodeRecord}
 use Rattle.c104_net.specs.Terminals.{Terminal}
 use Rattle.c104_net.proofs.Finishing.{terminals_popped}
 use Rattle.c104_net.proofs.RunPartLists.{left_on, left_maybe}

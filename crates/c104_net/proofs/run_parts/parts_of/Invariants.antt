@@ -1,8 +1,7 @@
 use Rattle.std.proofs.Common.{◌≡◌, ◌≤◌, ◌+◌, ◌++◌, ℕ, All, length, map, reverse}
 use Rattle.std.specs.Vec.{vec_capacity}
-use Rattle.c104_net.specs.Finished.{terminals_of}
-use Rattle.c104_net.specs.NetRecords.{node_start, node_state, node_trace}
-use Rattle.c104_net.specs.Records.{IsRecorded, NodeRecord}
+use Rattle.c104_net.specs.Nodes.{terminals_of}
+use Rattle.c104_net.specs.Records.{node_start, node_state, node_trace, IsRecorded, NodeRecord}
 use Rattle.c104_net.proofs.run_parts.parts_of.Given as goal
 
 -- what was left so far, the last first, comes after what is left of the other nodes

@@ -1,5 +1,5 @@
 use Rattle.std.proofs.Common.{arith, refl, subst, sym, ◌∙◌}
-use Rattle.c104_net.specs.Standstill.{IsStartedStart}
+use Rattle.c104_net.specs.Starts.{IsStartedStart}
 use Rattle.c104_net.proofs.EachSoFar.{each_next}
 use Rattle.c104_net.proofs.starts.all_started.Goals as goal
 

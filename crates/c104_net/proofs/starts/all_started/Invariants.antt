@@ -1,5 +1,5 @@
 use Rattle.std.proofs.Common.{◌<◌, ℕ, get_or}
-use Rattle.c104_net.specs.Standstill.{IsStartedStart}
+use Rattle.c104_net.specs.Starts.{IsStartedStart}
 use Rattle.c104_net.specs.declared.starts.NodeStart.{NodeStart}
 use Rattle.c104_net.proofs.starts.all_started.Given as goal
 

@@ -1,5 +1,5 @@
 use Rattle.std.proofs.Common.{◌≡◌, ◌∙◌, Some, is_some, ap, subst}
-use Rattle.c104_net.specs.EventActs.{far_act, near_act}
+use Rattle.c104_net.specs.PortActs.{far_act, near_act}
 use Rattle.c104_net.specs.LentNodes.{LentNode, after_act, lent_step}
 use Rattle.c104_net.specs.Nodes.{Node}
 use Rattle.c104_net.specs.declared.acts.ActOf.{ActOf}

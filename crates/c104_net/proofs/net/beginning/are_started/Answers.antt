@@ -1,7 +1,7 @@
 use Rattle.std.proofs.Common.{◌≡◌, ◌∙◌, get_or, map, refl, subst, sym, ap, arith}
 use Rattle.std.proofs.lemmas.List.{get_or-map, length-map}
-use Rattle.c104_net.specs.NetRecords.{node_start}
-use Rattle.c104_net.specs.Standstill.{IsStartedStart}
+use Rattle.c104_net.specs.Records.{node_start}
+use Rattle.c104_net.specs.Starts.{IsStartedStart}
 use Rattle.c104_net.proofs.EachSoFar.{each_next}
 use Rattle.c104_net.proofs.net.beginning.are_started.Goals as goal
 

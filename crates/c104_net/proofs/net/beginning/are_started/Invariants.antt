@@ -1,6 +1,6 @@
 use Rattle.std.proofs.Common.{◌<◌, ℕ, get_or, map}
-use Rattle.c104_net.specs.NetRecords.{node_start}
-use Rattle.c104_net.specs.Standstill.{IsStartedStart}
+use Rattle.c104_net.specs.Records.{node_start}
+use Rattle.c104_net.specs.Starts.{IsStartedStart}
 use Rattle.c104_net.specs.declared.starts.NodeStart.{NodeStart}
 use Rattle.c104_net.proofs.net.beginning.are_started.Given as goal
 

@@ -3,7 +3,7 @@ use Rattle.std.specs.Vec.{with_items}
 use Rattle.std.proofs.lemmas.List.{with_items_is}
 use Rattle.c104_net.specs.NetRecords.{is_done, ticket_after}
 use Rattle.c104_net.specs.RecordedNets.{reading, Reading}
-use Rattle.c104_net.specs.WiredPlaces.{KnowWires}
+use Rattle.c104_net.specs.KnownWires.{KnowWires}
 use Rattle.c104_net.proofs.DoneEvents.{done_law}
 use Rattle.c104_net.proofs.KnownWires.{known_put}
 use Rattle.c104_net.proofs.RecordedPlaces.{goes_on}

@@ -4,9 +4,10 @@ use Rattle.std.proofs.lemmas.List.{with_items_is}
 use Rattle.c104_net.specs.NetRecords.{fresh_record, NetRecord}
 use Rattle.c104_net.specs.Nodes.{Node}
 use Rattle.c104_net.specs.Places.{bases, states}
-use Rattle.c104_net.specs.WiredPlaces.{KnowWires}
+use Rattle.c104_net.specs.KnownWires.{KnowWires}
 use Rattle.c104_net.proofs.KnownWires.{known_by}
-use Rattle.c104_net.specs.Quiet.{network_begin, IsQuiet, IsQuietNode}
+use Rattle.c104_net.specs.Quiet.{IsQuietNode}
+use Rattle.c104_net.specs.QuietNets.{network_begin, IsQuiet}
 use Rattle.c104_net.specs.RecordedNets.{begun_told, place_told, places_record, reading, IsRecordedNet, Reading}
 use Rattle.c104_net.proofs.RecordedBegins.{net_begun, net_begun_kept, quiet_back, wires_begun}
 use Rattle.c104_net.proofs.recorded_net.RecordedNet.begin.Goals as goal

@@ -1,6 +1,6 @@
 use Rattle.std.proofs.Common.{◌∙◌}
 use Rattle.c104_token.specs.declared.tokens.Token.{Token}
-use Rattle.c104_net.specs.Views.{network_sent_packet}
+use Rattle.c104_net.specs.NetViews.{network_sent_packet}
 use Rattle.c104_net.specs.Network.{Network}
 use Rattle.c104_net.specs.RecordedNets.{reading, Reading}
 use Rattle.c104_net.proofs.RecordedNets.{seen_plain}

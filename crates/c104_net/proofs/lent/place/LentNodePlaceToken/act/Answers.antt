@@ -1,7 +1,7 @@
 use Rattle.std.proofs.Common.{◌≡◌, None, Some, false, true, is_some, ap, subst, sym}
 use Rattle.c104_token.specs.Kinds.{plain_kind}
 use Rattle.c104_net.specs.Acts.{node_act}
-use Rattle.c104_net.specs.EventActs.{act_limit}
+use Rattle.c104_net.specs.PortActs.{act_limit}
 use Rattle.c104_net.specs.LentNodes.{LentNode, has_link, is_full, on_links}
 use Rattle.c104_net.proofs.LentNodes.{place_kept}
 use Rattle.c104_net.proofs.lent.place.LentNodePlaceToken.act.Goals as goal

@@ -1,7 +1,6 @@
 use Rattle.std.proofs.Common.{◌↔◌, ℕ, All, IsTrue, List, map, subst, sym}
-use Rattle.c104_net.specs.NetRecords.{node_start}
-use Rattle.c104_net.specs.Records.{NodeRecord}
-use Rattle.c104_net.specs.Standstill.{IsStartedStart}
+use Rattle.c104_net.specs.Records.{node_start, NodeRecord}
+use Rattle.c104_net.specs.Starts.{IsStartedStart}
 use Rattle.c104_net.proofs.net.beginning.Net.began_started.Goals as goal
 
 pub returns : goal.returns

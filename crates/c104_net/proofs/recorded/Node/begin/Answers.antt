@@ -2,7 +2,7 @@ use Rattle.std.proofs.Common.{◌≡◌, ◌∙◌, ap, length, sym, arith}
 use Rattle.c104_net.specs.declared.acts.Entry.{Entry}
 use Rattle.c104_net.specs.Starts.{start_node}
 use Rattle.c104_net.proofs.BegunRecords.{run_kind}
-use Rattle.c104_net.proofs.recorded.NodeRecordedPlaceToken.begin.Goals as goal
+use Rattle.c104_net.proofs.recorded.Node.begin.Goals as goal
 
 pub write_start-requires : goal.write_start-requires
 write_start-requires c = sym (run_kind (start_node c.self.inside.start) c.self.inside.core c.self.inside.trace.items c.self.invariant.run)
