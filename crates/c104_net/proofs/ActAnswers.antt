@@ -4,19 +4,19 @@ use Rattle.c104_plan.specs.Wiring.{peer}
 use Rattle.c104_plan.specs.declared.ports.Port.{Port}
 use Rattle.c104_event.specs.declared.events.Event.{Event}
 use Rattle.c104_event.specs.declared.faults.EventFault.{EventFault}
-use Rattle.c104_net.specs.Acts.{plain_reply, reply_outcome}
+use Rattle.c104_node.specs.Acts.{plain_reply, reply_outcome}
 use Rattle.c104_net.specs.EventActs.{acts_step, crossing_acts, event_acts}
-use Rattle.c104_net.specs.PortActs.{Acts, acts_limit, far_act, near_act}
+use Rattle.c104_node.specs.PortActs.{Acts, acts_limit, far_act, near_act}
 use Rattle.c104_net.specs.EventsAtPlaces.{ActsDone, EventDone, acts_kept, told_answer}
 use Rattle.c104_net.specs.Network.{AnswersWith, Network, event_fault, event_limit, network_apply, network_of, network_step, outcome_if_possible, outcome_if_ready, told_step}
-use Rattle.c104_net.specs.Nodes.{Node}
-use Rattle.c104_net.specs.PlaceActs.{ActsEnd}
-use Rattle.c104_net.specs.Places.{Shown, fulls, room_fault, states, traces}
-use Rattle.c104_net.specs.Traces.{kept_of, noted_all, part, plain_act}
+use Rattle.c104_node.specs.Nodes.{Node}
+use Rattle.c104_node.specs.PlaceActs.{ActsEnd}
+use Rattle.c104_node.specs.Places.{Shown, fulls, room_fault, states, traces}
+use Rattle.c104_node.specs.Traces.{kept_of, noted_all, part, plain_act}
 use Rattle.c104_net.specs.EventDeeds.{acts_deeds, acts_full, event_deeds, event_full}
-use Rattle.c104_net.specs.declared.crossings.Crossing.{Crossing}
-use Rattle.c104_net.specs.declared.crossings.Crossing.TheVariants.{Grant, Token}
-use Rattle.c104_net.specs.declared.stamps.Stamp.{Stamp}
+use Rattle.c104_node.specs.declared.crossings.Crossing.{Crossing}
+use Rattle.c104_node.specs.declared.crossings.Crossing.TheVariants.{Grant, Token}
+use Rattle.c104_node.specs.declared.stamps.Stamp.{Stamp}
 use Rattle.c104_switch.specs.Actions.{Reply, is_ready}
 use Rattle.c104_switch.specs.declared.actions.ReplyOf.{ReplyOf}
 use Rattle.c104_token.specs.Kinds.{Kind}

@@ -11,21 +11,21 @@ use Rattle.c104_event.specs.declared.events.Event.{Event}
 use Rattle.c104_event.specs.declared.events.Event.TheVariants as event
 use Rattle.c104_event.specs.declared.faults.EventFault.{EventFault}
 use Rattle.c104_event.specs.declared.faults.EventFault.TheVariants as fault
-use Rattle.c104_net.specs.declared.acts.ActOf.{ActOf}
-use Rattle.c104_net.specs.declared.crossings.Crossing.{Crossing}
-use Rattle.c104_net.specs.declared.ends.End.{End}
+use Rattle.c104_node.specs.declared.acts.ActOf.{ActOf}
+use Rattle.c104_node.specs.declared.crossings.Crossing.{Crossing}
+use Rattle.c104_node.specs.declared.ends.End.{End}
 use Rattle.c104_net.specs.EventActs.{crossing_acts, event_acts, port_place}
-use Rattle.c104_net.specs.PortActs.{Acts}
+use Rattle.c104_node.specs.PortActs.{Acts}
 use Rattle.c104_net.specs.EventsAtPlaces.{ActsDone, told_answer}
 use Rattle.c104_net.specs.Ends.{end_of}
 use Rattle.c104_net.specs.FarEnds.{far_end}
 use Rattle.c104_net.specs.Network.{event_fault, link_fault, wire_fault, wired_fault}
 use Rattle.c104_net.specs.NetRecords.{is_done, ticket_after}
-use Rattle.c104_net.specs.PlaceActs.{AloneDone, JointDone}
-use Rattle.c104_net.specs.Places.{IsFullByTrace, Shown}
+use Rattle.c104_node.specs.PlaceActs.{AloneDone, JointDone}
+use Rattle.c104_node.specs.Places.{IsFullByTrace, Shown}
 use Rattle.c104_net.specs.RoundParts.{done_answer, PartEnds}
 use Rattle.c104_net.specs.Stages.{stage_apply, stage_of}
-use Rattle.c104_net.specs.Traces.{seatless}
+use Rattle.c104_node.specs.Traces.{seatless}
 use Rattle.c104_net.proofs.ActAnswers.{event_done}
 use Rattle.c104_net.proofs.StageSteps.{fulls_kept, part_done}
 

@@ -7,18 +7,18 @@ use Rattle.c104_event.specs.declared.events.Event.{Event}
 use Rattle.c104_event.specs.declared.events.Event.TheVariants as event
 use Rattle.c104_link.specs.Steps.{◌>>=◌}
 use Rattle.c104_net.specs.Network.{Network, told_step}
-use Rattle.c104_net.specs.declared.crossings.Crossing.TheVariants.{Grant, Token}
-use Rattle.c104_net.proofs.JointEnds.{near_answers, ready_answer}
-use Rattle.c104_net.specs.Acts.{node_act, nodes_act}
+use Rattle.c104_node.specs.declared.crossings.Crossing.TheVariants.{Grant, Token}
+use Rattle.c104_node.proofs.JointEnds.{near_answers, ready_answer}
+use Rattle.c104_node.specs.Acts.{node_act, nodes_act}
 use Rattle.c104_net.specs.EventActs.{acts_step, crossing_acts, event_acts, port_place}
-use Rattle.c104_net.specs.PortActs.{Acts, IsAnswerOf, far_act, joint_step, near_act}
-use Rattle.c104_net.specs.Nodes.{Node}
-use Rattle.c104_net.specs.declared.crossings.Crossing.{Crossing}
+use Rattle.c104_node.specs.PortActs.{Acts, IsAnswerOf, far_act, joint_step, near_act}
+use Rattle.c104_node.specs.Nodes.{Node}
+use Rattle.c104_node.specs.declared.crossings.Crossing.{Crossing}
 use Rattle.c104_switch.specs.Actions.{is_ready}
 use Rattle.c104_switch.specs.declared.actions.ReplyOf.{ReplyOf}
 use Rattle.c104_token.specs.Kinds.{Kind}
 use Rattle.std.proofs.Common.{List, None, Option, Some, ap, length, refl, sym, true, ℕ, ◌-◌, ◌∙◌, ◌≡◌, subst}
-use Rattle.c104_net.proofs.ReadyActs.{act_ready}
+use Rattle.c104_node.proofs.ReadyActs.{act_ready}
 
 module _ {A : Type 0} (kind : Kind A) where
   -- what crosses a wire answers that, and nodes stand at both ends

@@ -13,7 +13,7 @@ use Rattle.c104_switch.specs.Switch as switch
 use Rattle.c104_switch.specs.Commands.{switch_reset, input_reset}
 use Rattle.c104_switch.specs.Control.{switch_control, switch_obey, switch_obey_if_read}
 use Rattle.c104_control.specs.declared.replies.TheConstants.{ALREADY_STARTED}
-use Rattle.c104_net.specs.declared.node.NodeOf.TheVariants.{Switch}
+use Rattle.c104_node.specs.declared.node.NodeOf.TheVariants.{Switch}
 use Rattle.c104_net.proofs.BalancePlaces.{Rests}
 use Rattle.c104_net.proofs.BalanceTurns.{credit_seen, granted_seen}
 

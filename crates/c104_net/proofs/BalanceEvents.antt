@@ -10,8 +10,8 @@ use Rattle.c104_plan.specs.Wiring.{peer}
 use Rattle.c104_event.specs.declared.events.Event.{Event}
 use Rattle.c104_event.specs.declared.events.Event.TheVariants as event
 use Rattle.c104_event.specs.declared.faults.EventFault.{EventFault}
-use Rattle.c104_net.specs.Nodes.{Node, node_input, node_claim, node_control, node_send, node_drain}
-use Rattle.c104_net.proofs.NamedWires.{nodes_cross, nodes_credit}
+use Rattle.c104_node.specs.Nodes.{Node, node_input, node_claim, node_control, node_send, node_drain}
+use Rattle.c104_node.proofs.NamedWires.{nodes_cross, nodes_credit}
 use Rattle.c104_net.specs.Ends.{end_of}
 use Rattle.c104_net.proofs.EventSteps.{by_name, named_step}
 use Rattle.c104_net.specs.Network.{Network, network_of, network_step, terminal_place, event_fault, event_limit, outcome_within_limit}

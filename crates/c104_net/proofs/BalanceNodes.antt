@@ -10,10 +10,10 @@ use Rattle.c104_switch.specs.Turns as turns
 use Rattle.c104_switch.specs.Claims as claims
 use Rattle.c104_switch.specs.Control as controls
 use Rattle.c104_link.proofs.MadeSteps.{given, required, at_place_made, from_place_made, with_place_made}
-use Rattle.c104_net.specs.declared.node.NodeOf.TheVariants.{Switch, Terminal}
-use Rattle.c104_net.specs.Terminals as terminal
-use Rattle.c104_net.specs.Nodes.{Node, as_switch, node_enter, node_leave, node_credit_out, node_credit_in, node_input, node_claim}
-use Rattle.c104_net.specs.Nodes.{node_control, node_send, node_drain}
+use Rattle.c104_node.specs.declared.node.NodeOf.TheVariants.{Switch, Terminal}
+use Rattle.c104_node.specs.Terminals as terminal
+use Rattle.c104_node.specs.Nodes.{Node, as_switch, node_enter, node_leave, node_credit_out, node_credit_in, node_input, node_claim}
+use Rattle.c104_node.specs.Nodes.{node_control, node_send, node_drain}
 use Rattle.c104_net.specs.Balance.{credit_of, granted_of}
 use Rattle.c104_net.proofs.BalancePlaces.{lower, raise, Acts, Rests, seen_kept, seen_changed, seen_other}
 use Rattle.c104_net.proofs.BalanceControl.{control_keeps}

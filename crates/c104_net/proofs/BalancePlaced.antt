@@ -9,13 +9,13 @@ use Rattle.c104_switch.specs.Switch.{new_switch_with, new_input}
 use Rattle.c104_plan.specs.declared.ports.Port.{Port}
 use Rattle.c104_plan.specs.Ports.{IsSwitchPort}
 use Rattle.c104_plan.specs.declared.ports.Port.TheVariants as port
-use Rattle.c104_net.specs.declared.ends.End.{End}
-use Rattle.c104_net.specs.declared.node.NodeOf.TheVariants.{Switch, Terminal}
+use Rattle.c104_node.specs.declared.ends.End.{End}
+use Rattle.c104_node.specs.declared.node.NodeOf.TheVariants.{Switch, Terminal}
 use Rattle.c104_plan.specs.Plans.{Plan, IsPlan}
 use Rattle.c104_plan.specs.declared.plans.Terminal as plans
 use Rattle.c104_plan.specs.PlanImage.{Image, Fits}
-use Rattle.c104_net.specs.Terminals.{new_terminal}
-use Rattle.c104_net.specs.Nodes.{Node, is_switch}
+use Rattle.c104_node.specs.Terminals.{new_terminal}
+use Rattle.c104_node.specs.Nodes.{Node, is_switch}
 use Rattle.c104_plan.specs.Wiring.{peer}
 use Rattle.c104_net.specs.Ends.{end_of}
 use Rattle.c104_net.specs.Network.{network_of, new_switch_nodes, switch_nodes, terminal_nodes}

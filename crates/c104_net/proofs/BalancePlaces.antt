@@ -2,11 +2,11 @@
 use Rattle.std.proofs.Common.{◌≡◌, ◌≢◌, ◌<◌, ◌+◌, ◌-◌, ◌++◌, ℕ, zero, suc, true, false, inl, inr, List, [], ◌∷◌, Option, Some, length, map, replicate, slice_get, slice_set, refl, sym, ◌∙◌, ap, subst, arith}
 use Rattle.std.proofs.lemmas.Bool.{cases_eq}
 use Rattle.c104_link.specs.Steps.{◌>>=◌}
-use Rattle.c104_net.specs.declared.ends.End.{End}
-use Rattle.c104_net.specs.Nodes.{Node, is_switch}
+use Rattle.c104_node.specs.declared.ends.End.{End}
+use Rattle.c104_node.specs.Nodes.{Node, is_switch}
 use Rattle.c104_plan.specs.Plans.{Plan}
 use Rattle.c104_net.specs.Balance.{credit_of, granted_of, AreInPlace}
-use Rattle.c104_net.proofs.WireEnds.{get_set_same, get_set_other}
+use Rattle.c104_node.proofs.WireEnds.{get_set_same, get_set_other}
 use Rattle.c104_net.proofs.BalanceWires.{AreApart}
 
 -- a number that changes, where there is one

@@ -3,10 +3,10 @@ use Rattle.std.proofs.Common.{◌≡◌, ◌≢◌, ℕ, inl, inr, List, Option,
 use Rattle.c104_link.specs.Steps.{step_at, yield_step_at}
 use Rattle.c104_link.proofs.MadeSteps.{given, at_place_made, from_place_made}
 use Rattle.c104_plan.specs.declared.ports.Port.{Port}
-use Rattle.c104_net.specs.declared.ends.End.{End}
+use Rattle.c104_node.specs.declared.ends.End.{End}
 use Rattle.c104_plan.specs.Plans.{Plan, IsPlan}
-use Rattle.c104_net.specs.Nodes.{Node, node_enter, node_leave, node_credit_out, node_credit_in}
-use Rattle.c104_net.proofs.NamedWires.{nodes_cross, nodes_credit}
+use Rattle.c104_node.specs.Nodes.{Node, node_enter, node_leave, node_credit_out, node_credit_in}
+use Rattle.c104_node.proofs.NamedWires.{nodes_cross, nodes_credit}
 use Rattle.c104_plan.specs.Wiring.{peer}
 use Rattle.c104_net.specs.Ends.{end_of}
 use Rattle.c104_net.specs.Network.{network_of}

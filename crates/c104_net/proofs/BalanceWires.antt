@@ -10,7 +10,7 @@ use Rattle.c104_plan.specs.Plans.{Plan, IsPlan}
 use Rattle.c104_plan.specs.Wiring.{IsPlanPort, peer}
 use Rattle.c104_plan.proofs.PortLemmas.{cases_port, is_port-refl}
 use Rattle.c104_plan.proofs.Wires.{wiring}
-use Rattle.c104_net.specs.declared.ends.End.{End}
+use Rattle.c104_node.specs.declared.ends.End.{End}
 use Rattle.c104_net.specs.Ends.{end_of}
 use Rattle.c104_net.specs.FarEnds.{far_end}
 

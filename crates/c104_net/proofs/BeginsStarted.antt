@@ -12,9 +12,9 @@ use Rattle.c104_net.specs.Network.{network_of}
 use Rattle.c104_net.specs.QuietNets.{IsQuiet}
 use Rattle.c104_net.specs.Standstill.{IsStarted, IsStartedNode, StandsStill}
 use Rattle.c104_net.specs.DeadlockFreedom.{IsAcyclicRun}
-use Rattle.c104_net.specs.Starts.{IsStartedStart, start_node}
+use Rattle.c104_node.specs.Starts.{IsStartedStart, start_node}
 use Rattle.c104_net.specs.Unchanged.{AreStartsOf, IsUnchanged}
-use Rattle.c104_net.specs.declared.starts.NodeStart.{NodeStart}
+use Rattle.c104_node.specs.declared.starts.NodeStart.{NodeStart}
 use Rattle.c104_switch.specs.Starts.{IsLinkStart, start_input, start_output}
 use Rattle.c104_switch.specs.Switch.{Input}
 use Rattle.c104_token.specs.Kinds.{plain_kind}
@@ -22,7 +22,7 @@ use Rattle.c104_token.specs.declared.tokens.Token.{Token}
 use Rattle.c104_link.specs.declared.TheConstants.{TOKENS_OF_A_GRANT}
 use Rattle.std.proofs.Common.{All, List, Some, [], map, refl, slice_get, subst, suc, zero, ℕ, ◌∙◌, ◌∷◌, ◌≡◌, ◌≤◌}
 use Rattle.std.proofs.lemmas.List.{length-map}
-use Rattle.c104_net.specs.declared.starts.NodeStart.TheVariants as start
+use Rattle.c104_node.specs.declared.starts.NodeStart.TheVariants as start
 
 -- what is at a place of a mapped list
 mapped : {X Y : Type 0} (g : X → Y) (xs : List X) (k : ℕ) (y : Y) → slice_get (map g xs) k ≡ Some y → (x : X) × (slice_get xs k ≡ Some x) × (g x ≡ y)

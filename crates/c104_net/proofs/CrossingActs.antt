@@ -1,10 +1,10 @@
 -- A token crosses, and credit does, where both ends can act.
 use Rattle.std.proofs.Common.{◌≡◌, ◌∙◌, true, false, List, Option, Some, None, is_some, refl, sym}
 use Rattle.c104_link.specs.Steps.{◌>>=◌, step_at, yield_step_at}
-use Rattle.c104_net.specs.declared.ends.End.{End}
-use Rattle.c104_net.specs.Nodes.{Node, node_enter, node_leave, node_credit_out, node_credit_in}
-use Rattle.c104_net.proofs.NamedWires.{nodes_cross, nodes_credit}
-use Rattle.c104_net.proofs.WireEnds.{entry_kept, credit_kept}
+use Rattle.c104_node.specs.declared.ends.End.{End}
+use Rattle.c104_node.specs.Nodes.{Node, node_enter, node_leave, node_credit_out, node_credit_in}
+use Rattle.c104_node.proofs.NamedWires.{nodes_cross, nodes_credit}
+use Rattle.c104_node.proofs.WireEnds.{entry_kept, credit_kept}
 
 abbrev with_token : {A : Type 0} → A → List (Node A) → Option (A × List (Node A))
 with_token x nodes = Some (x, nodes)

@@ -23,21 +23,21 @@ use Rattle.c104_net.specs.Deliveries.{Promise}
 use Rattle.c104_net.specs.EventRuns.{Outcome, StopsShort, run_events}
 use Rattle.c104_net.specs.NetRecords.{IsNetRecord, NetRecord}
 use Rattle.c104_net.specs.Network.{Network, network_apply, network_of}
-use Rattle.c104_net.specs.Quiet.{IsQuietNode}
+use Rattle.c104_node.specs.Quiet.{IsQuietNode}
 use Rattle.c104_net.specs.QuietNets.{IsQuiet}
 use Rattle.c104_net.specs.RecordedRuns.{record_apply}
 use Rattle.c104_net.specs.Rounds.{rounds}
 use Rattle.c104_net.specs.Runs.{IsDoneRun}
 use Rattle.c104_net.specs.Standstill.{StandsStill}
-use Rattle.c104_net.specs.Starts.{start_node}
-use Rattle.c104_net.specs.Traced.{traced_kind}
-use Rattle.c104_net.specs.Traces.{seatless}
+use Rattle.c104_node.specs.Starts.{start_node}
+use Rattle.c104_node.specs.Traced.{traced_kind}
+use Rattle.c104_node.specs.Traces.{seatless}
 use Rattle.c104_net.specs.TracedRuns.{map_network}
-use Rattle.c104_net.specs.MappedNodes.{map_node}
+use Rattle.c104_node.specs.MappedNodes.{map_node}
 use Rattle.c104_net.specs.WiredActs.{IsRecordedAt}
 use Rattle.c104_net.specs.HeaderWork.{random_work}
 use Rattle.c104_net.specs.Work.{highest_rank}
-use Rattle.c104_net.specs.declared.traced.Traced.{Traced}
+use Rattle.c104_node.specs.declared.traced.Traced.{Traced}
 use Rattle.c104_switch.specs.Actions.{Reply}
 use Rattle.c104_token.specs.Kinds.{plain_kind}
 use Rattle.c104_token.specs.declared.tokens.Token.{Token}

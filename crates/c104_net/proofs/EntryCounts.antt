@@ -5,10 +5,10 @@ use Rattle.std.proofs.lemmas.Bool.Decides.{nat_tests}
 use Rattle.std.proofs.lemmas.List.Elements.{All-head, All-set, All-tail}
 use Rattle.std.proofs.lemmas.Option.{slice_get-get_or, slice_get-map, slice_get_within}
 use Rattle.std.specs.Option.{option_map}
-use Rattle.c104_net.specs.declared.acts.Entry.{Entry}
+use Rattle.c104_node.specs.declared.acts.Entry.{Entry}
 use Rattle.c104_net.specs.NetRecords.{total_entries, IsWithinLimit}
-use Rattle.c104_net.specs.Traces.{Deed, full_at, noted_all, noted_at, trace_limit, is_trace_full}
-use Rattle.c104_net.proofs.WireEnds.{get_set_other}
+use Rattle.c104_node.specs.Traces.{Deed, full_at, noted_all, noted_at, trace_limit, is_trace_full}
+use Rattle.c104_node.proofs.WireEnds.{get_set_other}
 
 -- there is a trace at a place, and it has room for an entry
 abbrev pub HasRoom : List (List Entry) → ℕ → Type 0

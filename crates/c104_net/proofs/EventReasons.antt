@@ -12,11 +12,11 @@ use Rattle.c104_plan.specs.Wiring.{peer}
 use Rattle.c104_event.specs.declared.events.Event.{Event}
 use Rattle.c104_event.specs.declared.events.Event.TheVariants as event
 use Rattle.c104_event.specs.declared.faults.EventFault.{EventFault}
-use Rattle.c104_net.specs.declared.node.NodeOf.TheVariants.{Switch, Terminal}
-use Rattle.c104_net.specs.Nodes.{Node}
+use Rattle.c104_node.specs.declared.node.NodeOf.TheVariants.{Switch, Terminal}
+use Rattle.c104_node.specs.Nodes.{Node}
 use Rattle.c104_net.specs.Ends.{end_of}
 use Rattle.c104_net.specs.Network.{Network, event_fault, terminal_place}
-use Rattle.c104_net.specs.NodeReasons.{node_enter_why, node_leave_why, node_credit_out_why, node_credit_in_why, node_input_why, node_claim_why, node_drain_why}
+use Rattle.c104_node.specs.NodeReasons.{node_enter_why, node_leave_why, node_credit_out_why, node_credit_in_why, node_input_why, node_claim_why, node_drain_why}
 use Rattle.c104_net.specs.Reasons.{end_why, wire_why, claim_reason, event_why, unless_refused, network_why}
 use Rattle.c104_net.specs.ReasonMeanings.{IsLeaveReason, IsEnterReason, IsCreditOutReason, IsCreditInReason, IsInputReason, IsNodeClaimReason, IsDrainReason, IsSaid, IsSaidAt, IsWireReason, IsEventReason}
 

@@ -6,19 +6,19 @@ use Rattle.c104_plan.specs.declared.ports.Port.{Port}
 use Rattle.c104_event.specs.declared.events.Event.{Event}
 use Rattle.c104_link.specs.Steps.{◌>>=◌, step_at, yield_step_at}
 use Rattle.c104_net.proofs.BalanceWires.{nodes_apart, peer_back, switch_inside}
-use Rattle.c104_net.proofs.WireEnds.{get_set_other}
+use Rattle.c104_node.proofs.WireEnds.{get_set_other}
 use Rattle.c104_net.proofs.RunRecords.{in_place, is_switch_place}
-use Rattle.c104_net.specs.Acts.{control_by, done_by, node_act, nodes_act, token_by}
+use Rattle.c104_node.specs.Acts.{control_by, done_by, node_act, nodes_act, token_by}
 use Rattle.c104_net.specs.Balance.{AreInPlace}
-use Rattle.c104_net.specs.Nodes.{is_switch, Node, node_claim, node_control, node_credit_in, node_credit_out, node_drain, node_enter, node_input, node_leave, node_send}
+use Rattle.c104_node.specs.Nodes.{is_switch, Node, node_claim, node_control, node_credit_in, node_credit_out, node_drain, node_enter, node_input, node_leave, node_send}
 use Rattle.c104_net.specs.Ends.{end_of}
 use Rattle.c104_net.specs.EventActs.{acts_step, crossing_acts, port_place}
-use Rattle.c104_net.specs.PortActs.{Acts, act_limit, far_act, port_credit_in, port_credit_out, port_enter, port_leave}
+use Rattle.c104_node.specs.PortActs.{Acts, act_limit, far_act, port_credit_in, port_credit_out, port_enter, port_leave}
 use Rattle.c104_net.specs.Network.{Network, event_fault, event_limit, network_apply, network_step, outcome_if_possible, outcome_if_ready, outcome_within_limit, terminal_place, told_step, with_nodes}
-use Rattle.c104_net.specs.Traces.{part}
-use Rattle.c104_net.proofs.NamedWires.{nodes_credit, nodes_cross}
-use Rattle.c104_net.specs.declared.acts.ActOf.{ActOf}
-use Rattle.c104_net.specs.declared.crossings.Crossing.TheVariants.{Token, Grant}
+use Rattle.c104_node.specs.Traces.{part}
+use Rattle.c104_node.proofs.NamedWires.{nodes_credit, nodes_cross}
+use Rattle.c104_node.specs.declared.acts.ActOf.{ActOf}
+use Rattle.c104_node.specs.declared.crossings.Crossing.TheVariants.{Token, Grant}
 use Rattle.c104_switch.specs.Actions.{Reply}
 use Rattle.c104_switch.specs.Control.{switch_control}
 use Rattle.c104_switch.specs.Switch.{Switch}
@@ -29,8 +29,8 @@ use Rattle.std.proofs.Common.{Bool, List, None, Ok, Option, Some, ap, arith, fal
 use Rattle.std.proofs.lemmas.Bool.Decides.{nat_tests}
 use Rattle.c104_plan.specs.declared.ports.Port.TheVariants as port
 use Rattle.c104_event.specs.declared.events.Event.TheVariants as event
-use Rattle.c104_net.specs.declared.acts.ActOf.TheVariants as act
-use Rattle.c104_net.specs.declared.node.NodeOf.TheVariants as node
+use Rattle.c104_node.specs.declared.acts.ActOf.TheVariants as act
+use Rattle.c104_node.specs.declared.node.NodeOf.TheVariants as node
 use Rattle.c104_switch.specs.declared.actions.ActionOf.TheVariants as action
 use Rattle.c104_switch.specs.declared.actions.ReplyOf.TheVariants as reply
 

@@ -5,7 +5,7 @@ use Rattle.std.proofs.lemmas.List.{length-map}
 use Rattle.std.proofs.lemmas.List.FromFn.{get_or-map-range_with_len, length-range_with_len}
 use Rattle.c104_plan.specs.declared.ports.Port.TheVariants as port
 use Rattle.c104_plan.specs.Plans.{Plan}
-use Rattle.c104_net.specs.declared.ends.End.{End}
+use Rattle.c104_node.specs.declared.ends.End.{End}
 use Rattle.c104_plan.specs.Wiring.{peer}
 use Rattle.c104_net.specs.Ends.{end_of}
 use Rattle.c104_net.specs.FarEnds.{far_end, link_ends, terminal_ends}

@@ -6,7 +6,7 @@ use Rattle.c104_plan.specs.declared.ports.Port.TheVariants as port
 use Rattle.c104_net.proofs.BalanceWires.{peer_back, switch_inside}
 use Rattle.c104_net.specs.Ends.{end_of}
 use Rattle.c104_net.specs.FarEnds.{far_end}
-use Rattle.c104_net.specs.declared.ends.End.{End}
+use Rattle.c104_node.specs.declared.ends.End.{End}
 use Rattle.std.proofs.Common.{None, Option, Some, ap, arith, length, option_map, refl, ◌+◌, ◌-◌, ◌<◌, ◌≡◌, ◌≤◌}
 
 -- behind the switches stands a terminal

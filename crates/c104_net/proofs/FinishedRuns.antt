@@ -1,7 +1,7 @@
 -- A network with its record leaves a run.
 use Rattle.c104_net.specs.FinishedRecords.{IsFinishedRecord, record_finish}
 use Rattle.c104_net.specs.NetRecords.{IsNetRecord, NetRecord}
-use Rattle.c104_net.specs.Traces.{seatless}
+use Rattle.c104_node.specs.Traces.{seatless}
 use Rattle.c104_net.specs.WiredActs.{IsRecordedAt}
 use Rattle.std.proofs.Common.{refl, ℕ}
 

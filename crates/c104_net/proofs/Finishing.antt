@@ -4,10 +4,10 @@ use Rattle.std.proofs.lemmas.Bool.Decides.{nat_tests}
 use Rattle.std.proofs.lemmas.List.{reverse-append}
 use Rattle.std.proofs.lemmas.Option.{slice_get_past}
 use Rattle.c104_link.specs.Steps.{◌>>=◌}
-use Rattle.c104_net.specs.declared.node.NodeOf.TheVariants.{Switch, Terminal}
-use Rattle.c104_net.specs.Terminals as terminal
+use Rattle.c104_node.specs.declared.node.NodeOf.TheVariants.{Switch, Terminal}
+use Rattle.c104_node.specs.Terminals as terminal
 use Rattle.c104_plan.specs.Plans.{Plan}
-use Rattle.c104_net.specs.Nodes.{Node, node_arrived, is_switch, terminals_of}
+use Rattle.c104_node.specs.Nodes.{Node, node_arrived, is_switch, terminals_of}
 use Rattle.c104_net.specs.Network.{Network, network_arrived}
 use Rattle.c104_net.specs.Balance.{AreInPlace}
 use Rattle.c104_net.specs.Finished.{network_finish, run_arrived}

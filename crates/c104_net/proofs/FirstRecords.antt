@@ -8,18 +8,18 @@ use Rattle.c104_token.specs.declared.tokens.Token.{Token}
 use Rattle.c104_regs.specs.declared.settings.Settings.{Settings}
 use Rattle.c104_switch.specs.Switch.{new_switch, new_switch_with}
 use Rattle.c104_plan.specs.declared.plans.Terminal.{Terminal}
-use Rattle.c104_net.specs.declared.node.NodeOf.TheVariants as node
-use Rattle.c104_net.specs.Terminals.{new_terminal}
+use Rattle.c104_node.specs.declared.node.NodeOf.TheVariants as node
+use Rattle.c104_node.specs.Terminals.{new_terminal}
 use Rattle.c104_plan.specs.Plans.{Plan}
 use Rattle.c104_plan.specs.PlanImage.{Image}
-use Rattle.c104_net.specs.declared.acts.Entry.{Entry}
-use Rattle.c104_net.specs.Nodes.{Node}
+use Rattle.c104_node.specs.declared.acts.Entry.{Entry}
+use Rattle.c104_node.specs.Nodes.{Node}
 use Rattle.c104_net.specs.Network.{network_of, new_network, placed_network}
 use Rattle.c104_net.specs.RecordedNets.{IsRecordedNet}
 use Rattle.c104_net.specs.RecordedPlaces.{node_reading}
-use Rattle.c104_net.specs.Records.{NodeRecord, node_start, node_state, node_trace}
+use Rattle.c104_node.specs.Records.{NodeRecord, node_start, node_state, node_trace}
 use Rattle.c104_net.specs.Balance.{IsSteady}
-use Rattle.c104_net.specs.Starts.{start_node, start_of}
+use Rattle.c104_node.specs.Starts.{start_node, start_of}
 use Rattle.c104_net.specs.NetRecords.{first_record, fresh_record, net_record, shown_record, IsNetRecord, IsWithinLimit}
 use Rattle.c104_net.proofs.BalancePlaced.{steady_copy}
 use Rattle.c104_net.proofs.RecordSteps.{same_record}

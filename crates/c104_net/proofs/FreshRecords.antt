@@ -3,12 +3,12 @@ use Rattle.std.proofs.Common.{◌≡◌, ◌∙◌, List, [], map, slice_get, re
 use Rattle.std.proofs.lemmas.Option.{slice_get-map}
 use Rattle.std.specs.Option.{option_map}
 use Rattle.c104_token.specs.declared.tokens.Token.{Token}
-use Rattle.c104_net.specs.declared.acts.Entry.{Entry}
+use Rattle.c104_node.specs.declared.acts.Entry.{Entry}
 use Rattle.c104_net.specs.Balance.{IsSteady}
-use Rattle.c104_net.specs.Nodes.{Node}
+use Rattle.c104_node.specs.Nodes.{Node}
 use Rattle.c104_net.specs.Network.{network_of, Network}
 use Rattle.c104_net.specs.NetRecords.{fresh_record, IsNetRecord, IsWithinLimit}
-use Rattle.c104_net.specs.Starts.{start_node, start_of}
+use Rattle.c104_node.specs.Starts.{start_node, start_of}
 use Rattle.std.proofs.lemmas.List.Elements.{All-map}
 
 abbrev no_entries : Node Token → List Entry

@@ -11,7 +11,7 @@ use Rattle.c104_link.specs.Buffers.{Outgoing}
 use Rattle.c104_net.proofs.WorkBounds.{level_more, sum_more, weigh_more}
 use Rattle.c104_net.specs.HeaderWork.{ahead_at, ahead_by, first_ahead, full_input, full_link, full_node, full_output, full_work}
 use Rattle.c104_net.specs.HeaderWork.{random_ahead, random_bound, random_work}
-use Rattle.c104_net.specs.Nodes.{Node}
+use Rattle.c104_node.specs.Nodes.{Node}
 use Rattle.c104_net.specs.Work.{header_held, highest_rank, input_work, level, link_work, node_work, output_work, sum_at, weigh, work}
 use Rattle.c104_regs.specs.declared.settings.Settings.{Settings}
 use Rattle.c104_switch.specs.Switch.{Input}
@@ -22,7 +22,7 @@ use Rattle.std.proofs.Common.{◌≡◌, ◌≤◌}
 use Rattle.std.proofs.Math.Nat.{suc-mul, zero-mul}
 use Rattle.std.proofs.lemmas.Bool.{cases_Bool}
 use Rattle.c104_plan.specs.declared.ports.Port.TheVariants as port
-use Rattle.c104_net.specs.declared.node.NodeOf.TheVariants as node
+use Rattle.c104_node.specs.declared.node.NodeOf.TheVariants as node
 
 -- By higher ranks
 

@@ -5,7 +5,7 @@ use Rattle.c104_token.specs.Kinds.{Kind}
 use Rattle.c104_link.specs.Steps.{step_at}
 use Rattle.c104_switch.specs.declared.actions.ActionOf.TheVariants as action
 use Rattle.c104_switch.specs.declared.actions.ReplyOf.TheVariants as reply
-use Rattle.c104_net.specs.declared.acts.ActOf.TheVariants as act
+use Rattle.c104_node.specs.declared.acts.ActOf.TheVariants as act
 use Rattle.c104_plan.specs.declared.ports.Port.{Port}
 use Rattle.c104_plan.specs.declared.ports.Port.TheVariants as port
 use Rattle.c104_plan.specs.Plans.{Plan}
@@ -13,13 +13,13 @@ use Rattle.c104_plan.specs.Wiring.{peer, IsPlanPort}
 use Rattle.c104_event.specs.declared.events.Event.{Event}
 use Rattle.c104_event.specs.declared.events.Event.TheVariants as event
 use Rattle.c104_event.specs.declared.faults.EventFault.{EventFault}
-use Rattle.c104_net.specs.Acts.{nodes_act}
+use Rattle.c104_node.specs.Acts.{nodes_act}
 use Rattle.c104_net.specs.EventActs.{port_place}
-use Rattle.c104_net.specs.PortActs.{near_act}
-use Rattle.c104_net.specs.Nodes.{node_claim}
+use Rattle.c104_node.specs.PortActs.{near_act}
+use Rattle.c104_node.specs.Nodes.{node_claim}
 use Rattle.c104_net.proofs.ActSteps.{joint_unready}
 use Rattle.c104_net.proofs.EventSteps.{claim_named, done_step}
-use Rattle.c104_net.specs.declared.crossings.Crossing.TheVariants.{Grant, Token}
+use Rattle.c104_node.specs.declared.crossings.Crossing.TheVariants.{Grant, Token}
 use Rattle.c104_net.specs.Network.{network_apply, network_step, event_fault, outcome_if_possible, outcome_if_ready, link_fault, wire_fault, wired_fault}
 use Rattle.c104_net.specs.RoundParts.{PartEnds}
 use Rattle.c104_net.specs.Stages.{stage_apply, Stage}

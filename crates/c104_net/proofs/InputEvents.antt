@@ -10,7 +10,7 @@ use Rattle.c104_link.proofs.MadeSteps.{at_place_made, given, required, with_plac
 use Rattle.c104_link.specs.Buffers.{Outgoing, outgoing_put, outgoing_put_all}
 use Rattle.c104_link.specs.Steps.{joint_step_at, step_at}
 use Rattle.c104_net.proofs.InputMoves.{HasRead, claim_step, decide_step, has_few, has_wire, head_step, random_step, short_step, sink_step, stream_step}
-use Rattle.c104_net.proofs.NextTokens.{first_some}
+use Rattle.c104_node.proofs.NextTokens.{first_some}
 use Rattle.c104_net.proofs.LinkEvents.{Leaves, StillHolds, kept_same, world_of, worlds}
 use Rattle.c104_net.proofs.NodeViews.{arrivals, arrivals_same, at_id, content_put, content_take, ins, ins_put, items_in, kinds_same, out_at, outs, outs_put, outs_same, part_set, phases, phases_put, sents_same, settings_same, terminal_fresh}
 use Rattle.c104_net.proofs.PacketInvariant.{Holds, IsLabelled, IsWired, kept_by}
@@ -20,10 +20,10 @@ use Rattle.c104_net.proofs.RandomHeaders.{random_length}
 use Rattle.c104_net.specs.Deliveries.{deletes}
 use Rattle.c104_net.proofs.EventSteps.{named_step}
 use Rattle.c104_net.specs.Network.{Network, network_of}
-use Rattle.c104_net.specs.Nodes.{Node, node_claim, node_input}
-use Rattle.c104_net.specs.Traced.{traced_kind}
-use Rattle.c104_net.specs.Traces.{part}
-use Rattle.c104_net.specs.declared.traced.Traced.{Traced}
+use Rattle.c104_node.specs.Nodes.{Node, node_claim, node_input}
+use Rattle.c104_node.specs.Traced.{traced_kind}
+use Rattle.c104_node.specs.Traces.{part}
+use Rattle.c104_node.specs.declared.traced.Traced.{Traced}
 use Rattle.c104_regs.specs.Settings.{header_length}
 use Rattle.c104_regs.specs.declared.settings.Settings.{Settings}
 use Rattle.c104_switch.specs.Actions.{Reply}
@@ -39,7 +39,7 @@ use Rattle.std.proofs.Common.{Bool, List, Option, Some, [], ap, append-nil, arit
 use Rattle.std.proofs.lemmas.Bool.{and_cases, and_parts, cases_Bool, eq-eqb, le-leb, leb-false, leb-true, not-false, not-true, true≢false}
 use Rattle.std.proofs.lemmas.Option.{some_pair_parts}
 use Rattle.c104_event.specs.declared.events.Event.TheVariants as event
-use Rattle.c104_net.specs.declared.node.NodeOf.TheVariants as node
+use Rattle.c104_node.specs.declared.node.NodeOf.TheVariants as node
 use Rattle.c104_plan.specs.declared.ports.Port.TheVariants as port
 use Rattle.c104_switch.specs.declared.actions.ReplyOf.TheVariants as reply
 use Rattle.c104_interval.specs.Selection as table

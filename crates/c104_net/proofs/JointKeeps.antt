@@ -4,14 +4,14 @@ use Rattle.c104_plan.specs.declared.ports.Port.{Port}
 use Rattle.c104_plan.specs.declared.ports.Port.TheVariants as port
 use Rattle.c104_link.proofs.MadeSteps.{from_place_made, given}
 use Rattle.c104_link.specs.Steps.{◌>>=◌}
-use Rattle.c104_net.specs.Acts.{done_by, node_act, nodes_act, plain_reply, token_by}
+use Rattle.c104_node.specs.Acts.{done_by, node_act, nodes_act, plain_reply, token_by}
 use Rattle.c104_net.specs.EventActs.{acts_step, crossing_acts, port_place}
-use Rattle.c104_net.specs.PortActs.{far_act, joint_step, near_act, port_credit_in, port_enter}
+use Rattle.c104_node.specs.PortActs.{far_act, joint_step, near_act, port_credit_in, port_enter}
 use Rattle.c104_net.specs.Network.{Network, network_of, told_step}
-use Rattle.c104_net.specs.Nodes.{Node, node_credit_in, node_credit_out, node_enter, node_leave}
-use Rattle.c104_net.specs.declared.crossings.Crossing.{Crossing}
-use Rattle.c104_net.specs.declared.crossings.Crossing.TheVariants.{Grant, Token}
-use Rattle.c104_net.specs.declared.node.NodeOf.TheVariants as node
+use Rattle.c104_node.specs.Nodes.{Node, node_credit_in, node_credit_out, node_enter, node_leave}
+use Rattle.c104_node.specs.declared.crossings.Crossing.{Crossing}
+use Rattle.c104_node.specs.declared.crossings.Crossing.TheVariants.{Grant, Token}
+use Rattle.c104_node.specs.declared.node.NodeOf.TheVariants as node
 use Rattle.c104_switch.specs.Actions.{Reply}
 use Rattle.c104_switch.specs.declared.actions.ReplyOf.{ReplyOf}
 use Rattle.c104_switch.specs.declared.actions.ReplyOf.TheVariants as reply

@@ -13,20 +13,24 @@ use Rattle.c104_plan.specs.Plans.{Plan}
 use Rattle.c104_event.specs.declared.events.Event.{Event}
 use Rattle.c104_event.specs.declared.events.Event.TheVariants as event
 use Rattle.c104_event.specs.declared.faults.EventFault.{EventFault}
-use Rattle.c104_net.specs.declared.node.NodeOf.TheVariants as node
-use Rattle.c104_net.specs.declared.stamps.Stamp.{Stamp}
-use Rattle.c104_net.specs.declared.starts.NodeStart.{NodeStart}
-use Rattle.c104_net.specs.Nodes.{terminals_of, Node}
-use Rattle.c104_net.specs.Tagged.{tag, tagged_origins, TaggedToken}
+use Rattle.c104_node.specs.declared.node.NodeOf.TheVariants as node
+use Rattle.c104_node.specs.declared.stamps.Stamp.{Stamp}
+use Rattle.c104_node.specs.declared.starts.NodeStart.{NodeStart}
+use Rattle.c104_node.specs.Nodes.{terminals_of, Node}
+use Rattle.c104_node.specs.Tagged.{tag, tagged_origins}
+use Rattle.c104_node.specs.declared.tagged.TaggedToken.{TaggedToken}
 use Rattle.c104_net.specs.Network.{network_apply, network_of, network_step, event_fault, terminal_place, Network}
-use Rattle.c104_net.specs.Origins.{origins_in, AreSure, IsSure, Origin}
+use Rattle.c104_node.specs.Origins.{origins_in, AreSure, IsSure}
+use Rattle.c104_node.specs.declared.origins.Origin.{Origin}
 use Rattle.c104_net.specs.Runs.{run_deeds, IsDoneRun}
-use Rattle.c104_net.specs.Starts.{start_node}
-use Rattle.c104_net.specs.Terminals.{Terminal}
-use Rattle.c104_net.specs.Traced.{sent_token, traced_kind, Source, Traced}
+use Rattle.c104_node.specs.Starts.{start_node}
+use Rattle.c104_node.specs.Terminals.{Terminal}
+use Rattle.c104_node.specs.Traced.{sent_token, traced_kind}
+use Rattle.c104_node.specs.declared.traced.Source.{Source}
+use Rattle.c104_node.specs.declared.traced.Traced.{Traced}
 use Rattle.c104_net.specs.TracedRuns.{map_network}
-use Rattle.c104_net.specs.MappedNodes.{map_node}
-use Rattle.c104_net.specs.Traces.{Deed}
+use Rattle.c104_node.specs.MappedNodes.{map_node}
+use Rattle.c104_node.specs.Traces.{Deed}
 use Rattle.c104_net.specs.EventDeeds.{event_deeds}
 use Rattle.c104_net.proofs.TaggedRuns.{origins_same, IsSmall}
 use Rattle.c104_net.proofs.RoundJoins.{apply_plan}

@@ -2,16 +2,16 @@
 use Rattle.c104_plan.specs.Plans.{Plan}
 use Rattle.c104_event.specs.declared.events.Event.{Event}
 use Rattle.c104_event.specs.declared.faults.EventFault.{EventFault}
-use Rattle.c104_net.specs.ActLinks.{port_link}
+use Rattle.c104_node.specs.ActLinks.{port_link}
 use Rattle.c104_net.specs.EventRuns.{EventsEnd}
 use Rattle.c104_net.specs.EventActs.{port_place}
-use Rattle.c104_net.specs.Places.{PlaceBase, Shown, base_wired, bases}
+use Rattle.c104_node.specs.Places.{PlaceBase, Shown, base_wired, bases}
 use Rattle.c104_net.specs.RoundParts.{PartEnds}
 use Rattle.c104_net.specs.Stages.{stage_apply, stage_of, Stage}
-use Rattle.c104_net.specs.Traces.{part}
-use Rattle.c104_net.specs.WiredPlaces.{links_at, links_of}
+use Rattle.c104_node.specs.Traces.{part}
+use Rattle.c104_node.specs.WiredPlaces.{links_at, links_of}
 use Rattle.c104_net.specs.KnownWires.{KnowWires}
-use Rattle.c104_net.proofs.PlaceSteps.{shown_at}
+use Rattle.c104_node.proofs.PlaceSteps.{shown_at}
 use Rattle.c104_net.proofs.RoundRuns.{ends_keep}
 use Rattle.c104_token.specs.Kinds.{Kind}
 use Rattle.std.proofs.Common.{Bool, Err, List, None, Ok, Option, Result, Some, ap, map, option_map, refl, slice_get, subst, sym, true, inl, ℕ, ◌∙◌, ◌≡◌}

@@ -1,9 +1,9 @@
 -- Acts that lead.
 use Rattle.c104_net.specs.Leading.{act_event, leads}
-use Rattle.c104_net.specs.declared.acts.ActOf.{ActOf}
+use Rattle.c104_node.specs.declared.acts.ActOf.{ActOf}
 use Rattle.c104_token.specs.declared.tokens.Token.{Token}
 use Rattle.std.proofs.Common.{is_some, refl, ℕ, ◌≡◌}
-use Rattle.c104_net.specs.declared.acts.ActOf.TheVariants as act
+use Rattle.c104_node.specs.declared.acts.ActOf.TheVariants as act
 use Rattle.c104_switch.specs.declared.actions.ActionOf.TheVariants as action
 
 -- whether an act leads is told by the act alone

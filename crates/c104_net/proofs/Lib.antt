@@ -1,20 +1,13 @@
-pub mod ActionSteps
-pub mod PlaceSteps
 pub mod BarePlaces
 pub mod ActSteps
-pub mod ReadyActs
 pub mod ActAnswers
 pub mod ActAttempts
-pub mod NamedWires
 pub mod EventSteps
 pub mod FarPorts
-pub mod JointEnds
 pub mod JointKeeps
-pub mod WireEnds
 pub mod CrossingActs
 pub mod FarEndLists
 pub mod Running
-pub mod NodeRuns
 pub mod RunRecords
 pub mod EntryCounts
 pub mod UndoneEvents
@@ -23,7 +16,6 @@ pub mod WiredTraces
 pub mod StartsBack
 pub mod FirstRecords
 pub mod RoundLists
-pub mod Ranges
 pub mod RoundRuns
 pub mod RoundsTaken
 pub mod PartRuns
@@ -46,9 +38,7 @@ pub mod BalanceEvents
 pub mod BalancePlaced
 pub mod Finishing
 pub mod RunPartLists
-pub mod QuietNodes
 pub mod QuietBegins
-pub mod BegunRecords
 pub mod FreshRecords
 mod UnreadyNodes
 pub mod UnreadyEvents
@@ -93,7 +83,6 @@ pub mod ToldEvents
 pub mod FinishedRuns
 pub mod RunOrigins
 pub mod RoundMembers
-mod EachSoFar
 pub mod StillParts
 pub mod StandingRuns
 pub mod WorkSteps
@@ -107,12 +96,10 @@ pub mod WorkBounds
 pub mod FullWork
 mod UndoneRounds
 pub mod DeadlockFree
-pub mod Waiting
 pub mod SentCounts
 pub mod TaggedRuns
 pub mod KnownTokens
 pub mod RecordedStages
-pub mod Walks
 pub mod RecordedNets
 pub mod RecordedPlaces
 pub mod RecordedBegins
@@ -123,8 +110,4 @@ pub mod TracedTokens
 pub mod TracedArrivals
 pub mod RandomOwners
 pub mod RandomHeaders
-pub mod LentNodes
-pub mod LentPairs
-pub mod WrittenValues
-pub mod NextTokens
 pub mod KnownWires

@@ -6,18 +6,18 @@ use Rattle.c104_link.specs.Buffers.{Incoming, Outgoing, incoming_accept, incomin
 use Rattle.c104_link.specs.Steps.{step_at, yield_step_at}
 use Rattle.c104_net.proofs.NodeViews.{arrivals, arrivals_same, arrivals_terminal, at_id, ins, ins_put, ins_same, ins_terminal, kinds_same, kinds_terminal, node_in, node_out, number_id, outs, outs_put, outs_same, outs_terminal, part_same, part_set, phases, phases_same, phases_terminal, sents, sents_same, sents_terminal, settings_same, settings_seen, settings_terminal}
 use Rattle.c104_net.proofs.PortChanges.{at}
-use Rattle.c104_net.specs.Nodes.{is_switch, Node, arrived_tokens, node_credit_in, node_credit_out, node_enter, node_leave}
+use Rattle.c104_node.specs.Nodes.{is_switch, Node, arrived_tokens, node_credit_in, node_credit_out, node_enter, node_leave}
 use Rattle.c104_net.specs.Deliveries.{sent_packets}
 use Rattle.c104_net.specs.Ends.{end_of}
 use Rattle.c104_net.specs.Network.{terminal_place}
-use Rattle.c104_net.specs.Terminals.{Terminal, terminal_credit_in, terminal_credit_out, terminal_enter, terminal_leave, with_input, with_output}
-use Rattle.c104_net.specs.Traces.{part}
+use Rattle.c104_node.specs.Terminals.{Terminal, terminal_credit_in, terminal_credit_out, terminal_enter, terminal_leave, with_input, with_output}
+use Rattle.c104_node.specs.Traces.{part}
 use Rattle.c104_switch.specs.Switch.{Input, Switch, input_accept, input_grant, switch_credit_in, switch_credit_out, switch_enter, switch_leave, with_buffer, with_inputs, with_outputs}
 use Rattle.c104_switch.specs.declared.phase.Phase.TheVariants.{Fresh}
 use Rattle.std.proofs.Common.{List, Some, [], ap, length, map, nat_le, nat_lt, refl, slice_get, slice_set, subst, sym, ℕ, ◌++◌, ◌+◌, ◌-◌, ◌∙◌, ◌∷◌, ◌≡◌}
-use Rattle.c104_net.specs.declared.node.NodeOf.TheVariants as node
+use Rattle.c104_node.specs.declared.node.NodeOf.TheVariants as node
 use Rattle.c104_plan.specs.declared.ports.Port.TheVariants as port
-use Rattle.c104_net.proofs.NextTokens.{leave_some}
+use Rattle.c104_node.proofs.NextTokens.{leave_some}
 
 -- a node is of the kind of a port
 abbrev pub Matches : {A : Type 0} → Port → Node A → Type 0

@@ -6,8 +6,8 @@ use Rattle.c104_net.specs.Leading.{events_at, led_events}
 use Rattle.c104_net.specs.Runs.{AreBehind, AreInOrder}
 use Rattle.c104_net.specs.Merges.{by_ticket, join_by_ticket}
 use Rattle.c104_net.specs.ToldEvents.{told_by, told_event}
-use Rattle.c104_net.specs.declared.acts.Entry.{Entry}
-use Rattle.c104_net.specs.declared.stamps.Stamp.{Stamp}
+use Rattle.c104_node.specs.declared.acts.Entry.{Entry}
+use Rattle.c104_node.specs.declared.stamps.Stamp.{Stamp}
 use Rattle.c104_switch.specs.Actions.{Reply}
 use Rattle.std.proofs.Common.{Bool, List, Some, [], ap, arith, false, if◌then◌else◌, inl, inr, length, map, nat_eq, nat_le, refl, slice_get}
 use Rattle.std.proofs.Common.{subst, suc, sym, true, ℕ, ◌++◌, ◌+◌, ◌<◌, ◌∙◌, ◌∷◌, ◌≡◌, ◌≤◌}

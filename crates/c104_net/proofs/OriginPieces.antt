@@ -5,12 +5,12 @@ use Rattle.c104_net.proofs.HeaderReads.{bytes_push}
 use Rattle.c104_net.proofs.PacketInvariant.{bytes_only}
 use Rattle.c104_net.specs.Deliveries.{IsDelivered, cut_at, deletes}
 use Rattle.c104_net.specs.Network.{Network}
-use Rattle.c104_net.specs.Origins.{AreSure, origin_by, origin_of, origins_in}
-use Rattle.c104_net.specs.Terminals.{sent_from, sent_tokens}
-use Rattle.c104_net.specs.Traced.{traced_kind}
-use Rattle.c104_net.specs.declared.origins.Origin.{Origin}
-use Rattle.c104_net.specs.declared.traced.Source.{Source}
-use Rattle.c104_net.specs.declared.traced.Traced.{Traced}
+use Rattle.c104_node.specs.Origins.{AreSure, origin_by, origin_of, origins_in}
+use Rattle.c104_node.specs.Terminals.{sent_from, sent_tokens}
+use Rattle.c104_node.specs.Traced.{traced_kind}
+use Rattle.c104_node.specs.declared.origins.Origin.{Origin}
+use Rattle.c104_node.specs.declared.traced.Source.{Source}
+use Rattle.c104_node.specs.declared.traced.Traced.{Traced}
 use Rattle.c104_token.specs.Cut.{unfinished_piece, whole_pieces}
 use Rattle.c104_token.specs.Tokens.{end_token, is_end}
 use Rattle.c104_token.specs.declared.tokens.Mark.{Mark}

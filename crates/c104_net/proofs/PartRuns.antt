@@ -10,7 +10,7 @@ use Rattle.c104_event.specs.declared.faults.EventFault.{EventFault}
 use Rattle.c104_net.specs.EventRuns.{run_events, unless_fault, Answers, Outcome}
 use Rattle.c104_net.specs.RoundParts.{PartEnds}
 use Rattle.c104_net.proofs.RoundRuns.{run_append, run_from, run_reply, Applied}
-use Rattle.c104_net.proofs.PlaceSteps.{err_is}
+use Rattle.c104_node.proofs.PlaceSteps.{err_is}
 
 -- where one of two is so, and it isn't, neither is
 pub neither : (a b : Bool) → (a || b) ≡ false → (a ≡ false) × (b ≡ false)

@@ -11,12 +11,12 @@ use Rattle.c104_plan.specs.declared.ports.Port.{Port}
 use Rattle.c104_plan.specs.declared.ports.Port.TheVariants as port
 use Rattle.c104_event.specs.declared.events.Event.{Event}
 use Rattle.c104_event.specs.declared.faults.EventFault.{EventFault}
-use Rattle.c104_net.specs.declared.port_part.PortPart.{PortPart}
-use Rattle.c104_net.specs.declared.port_part.PortPart.TheVariants.{Credit, Cross, Turn}
+use Rattle.c104_node.specs.declared.port_part.PortPart.{PortPart}
+use Rattle.c104_node.specs.declared.port_part.PortPart.TheVariants.{Credit, Cross, Turn}
 use Rattle.c104_net.specs.EventActs.{port_place}
 use Rattle.c104_net.specs.Network.{wired_fault}
-use Rattle.c104_net.specs.Nodes.{Node}
-use Rattle.c104_net.specs.PortParts.{IsFoundReady, IsNearReady, is_ready_at}
+use Rattle.c104_node.specs.Nodes.{Node}
+use Rattle.c104_node.specs.PortParts.{IsFoundReady, IsNearReady, is_ready_at}
 use Rattle.c104_net.specs.RoundParts.{port_events, wired_events, PartEnds}
 use Rattle.c104_net.specs.Rounds.{is_wired, link_numbers, wired_links, wired_ports, wired_terminals}
 use Rattle.c104_net.proofs.IdleEvents.{idle_credit, idle_cross, idle_turn}

@@ -1,14 +1,14 @@
 -- A run that begins keeps the balance.
 use Rattle.std.proofs.Common.{◌≡◌, ◌∙◌, ℕ, true, false, List, [], ◌∷◌, Option, Some, None, map, slice_get, option_map, refl, ap}
 use Rattle.std.proofs.lemmas.Option.{slice_get-map}
-use Rattle.c104_net.specs.Nodes.{Node, is_switch}
+use Rattle.c104_node.specs.Nodes.{Node, is_switch}
 use Rattle.c104_link.specs.Steps.{◌>>=◌}
-use Rattle.c104_net.specs.declared.ends.End.{End}
-use Rattle.c104_net.specs.declared.node.NodeOf.TheVariants.{Switch, Terminal}
+use Rattle.c104_node.specs.declared.ends.End.{End}
+use Rattle.c104_node.specs.declared.node.NodeOf.TheVariants.{Switch, Terminal}
 use Rattle.c104_net.specs.Ends.{end_of}
 use Rattle.c104_net.specs.Balance.{credit_of, granted_of, IsSteady}
 use Rattle.c104_net.specs.Network.{Network}
-use Rattle.c104_net.specs.Quiet.{node_begin}
+use Rattle.c104_node.specs.Quiet.{node_begin}
 use Rattle.c104_net.specs.QuietNets.{network_begin}
 
 -- what a node forgets is nothing of its links

@@ -9,27 +9,27 @@ use Rattle.c104_switch.specs.Starts.{link_starts}
 use Rattle.c104_switch.specs.Switch.{Input}
 use Rattle.c104_token.specs.declared.tokens.Token.{Token}
 use Rattle.c104_plan.specs.Plans.{Plan}
-use Rattle.c104_net.specs.declared.acts.Entry.{Entry}
-use Rattle.c104_net.specs.declared.node.NodeOf.TheVariants as node
-use Rattle.c104_net.specs.declared.starts.NodeStart.{NodeStart}
+use Rattle.c104_node.specs.declared.acts.Entry.{Entry}
+use Rattle.c104_node.specs.declared.node.NodeOf.TheVariants as node
+use Rattle.c104_node.specs.declared.starts.NodeStart.{NodeStart}
 use Rattle.c104_net.specs.Balance.{IsSteady}
 use Rattle.c104_net.specs.Network.{network_of, Network}
 use Rattle.c104_net.specs.NetRecords.{fresh_record, IsNetRecord}
-use Rattle.c104_net.specs.Nodes.{Node}
-use Rattle.c104_net.specs.Places.{Shown, base_wired, bases, states}
-use Rattle.c104_net.specs.Quiet.{node_begin, IsQuietNode}
+use Rattle.c104_node.specs.Nodes.{Node}
+use Rattle.c104_node.specs.Places.{Shown, base_wired, bases, states}
+use Rattle.c104_node.specs.Quiet.{node_begin, IsQuietNode}
 use Rattle.c104_net.specs.QuietNets.{network_begin}
 use Rattle.c104_net.specs.RecordedNets.{Told, begun_told, place_told, places_record, read_state, read_trace, IsReading, IsRecordedNet, Reading}
 use Rattle.c104_net.specs.Runs.{IsRunRecord}
-use Rattle.c104_net.specs.Traces.{seatless}
-use Rattle.c104_net.specs.Starts.{start_node, start_of}
-use Rattle.c104_net.specs.MappedNodes.{map_input, map_node, map_outgoing}
+use Rattle.c104_node.specs.Traces.{seatless}
+use Rattle.c104_node.specs.Starts.{start_node, start_of}
+use Rattle.c104_node.specs.MappedNodes.{map_input, map_node, map_outgoing}
 use Rattle.c104_net.proofs.FreshRecords.{fresh_kept}
-use Rattle.c104_net.proofs.WireEnds.{get_set_other}
+use Rattle.c104_node.proofs.WireEnds.{get_set_other}
 use Rattle.c104_net.proofs.FirstRecords.{map_twice}
 use Rattle.c104_net.proofs.NamedOrigins.{all_back, node_back}
 use Rattle.c104_net.proofs.QuietBegins.{begun_steady}
-use Rattle.c104_net.proofs.PlaceSteps.{shown_at}
+use Rattle.c104_node.proofs.PlaceSteps.{shown_at}
 use Rattle.c104_net.proofs.RecordedNets.{map_same, states_plain, states_shown}
 use Rattle.c104_net.proofs.RecordSteps.{same_record}
 use Rattle.c104_net.proofs.StartMaps.{starts_same}

@@ -7,16 +7,16 @@ use Rattle.c104_switch.specs.Actions.{Reply}
 use Rattle.c104_plan.specs.Plans.{Plan, IsPlan}
 use Rattle.c104_event.specs.declared.events.Event.{Event}
 use Rattle.c104_event.specs.declared.faults.EventFault.{EventFault}
-use Rattle.c104_net.specs.declared.acts.Entry.{Entry}
-use Rattle.c104_net.specs.declared.starts.NodeStart.{NodeStart}
+use Rattle.c104_node.specs.declared.acts.Entry.{Entry}
+use Rattle.c104_node.specs.declared.starts.NodeStart.{NodeStart}
 use Rattle.c104_net.specs.EventRuns.{Answers, EventsEnd}
 use Rattle.c104_net.specs.Network.{Network, network_of, network_step, AnswersWith, WouldBeDone}
 use Rattle.c104_net.specs.NetRecords.{is_done, IsNetRecord, NetRecord}
 use Rattle.c104_net.specs.RecordedNets.{places_record, read_state, read_trace, IsReading, IsRecordedNet, KeepsTokens, Reading}
 use Rattle.c104_net.specs.RecordedRuns.{record_apply, record_at, AnswersRecord}
-use Rattle.c104_net.specs.Places.{Shown, base_start, bases, states}
+use Rattle.c104_node.specs.Places.{Shown, base_start, bases, states}
 use Rattle.c104_net.specs.Stages.{stage_apply, Stage}
-use Rattle.c104_net.specs.MappedNodes.{map_node}
+use Rattle.c104_node.specs.MappedNodes.{map_node}
 use Rattle.c104_net.proofs.FirstRecords.{map_twice}
 use Rattle.c104_net.proofs.RecordedStages.{after_plan, apply_plain, plain_network, plain_stage, record_plain, stage_on, IsRecordedStage}
 use Rattle.c104_net.proofs.RoundRuns.{ends_keep, ends_seen, Applied}

@@ -10,12 +10,12 @@ use Rattle.c104_net.specs.EventRuns.{Answers, EventsEnd}
 use Rattle.c104_net.specs.EventsAtPlaces.{EventDone}
 use Rattle.c104_net.specs.Network.{network_of, AnswersWith}
 use Rattle.c104_net.specs.NetRecords.{is_done, ticket_after, RecordsEvent}
-use Rattle.c104_net.specs.Places.{IsFullByTrace, Shown, fulls, is_kept_full, states, traces}
+use Rattle.c104_node.specs.Places.{IsFullByTrace, Shown, fulls, is_kept_full, states, traces}
 use Rattle.c104_net.specs.RecordedNets.{places_record, read_trace, IsRecordedNet, KeepsRecord, Reading}
 use Rattle.c104_net.specs.RecordedRuns.{record_apply, AnswersRecord}
 use Rattle.c104_net.specs.Stages.{stage_apply, stage_of, Stage}
-use Rattle.c104_net.specs.MappedNodes.{map_node}
-use Rattle.c104_net.specs.Traces.{is_trace_full, kept_of, noted_all, seatless}
+use Rattle.c104_node.specs.MappedNodes.{map_node}
+use Rattle.c104_node.specs.Traces.{is_trace_full, kept_of, noted_all, seatless}
 use Rattle.c104_net.specs.EventDeeds.{event_deeds, event_full}
 use Rattle.c104_net.proofs.FirstRecords.{map_twice}
 use Rattle.c104_net.proofs.RecordedNets.{answers_plain, event_answers, event_on, events_end, events_on, places_stage, starts_same, states_plain}

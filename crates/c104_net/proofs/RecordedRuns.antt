@@ -11,7 +11,7 @@ use Rattle.c104_net.specs.Network.{Network, network_apply}
 use Rattle.c104_net.specs.NetRecords.{is_done, IsNetRecord, NetRecord, RecordsEvent}
 use Rattle.c104_net.specs.RecordedRuns.{record_apply, record_at, record_stage}
 use Rattle.c104_net.specs.Stages.{stage_after, stage_full}
-use Rattle.c104_net.specs.Traces.{is_trace_full}
+use Rattle.c104_node.specs.Traces.{is_trace_full}
 use Rattle.c104_net.specs.EventDeeds.{event_full}
 use Rattle.c104_net.proofs.RecordSteps.{event_kept}
 use Rattle.c104_net.proofs.RoundJoins.{apply_plan}

@@ -8,19 +8,19 @@ use Rattle.c104_plan.specs.Plans.{IsPlan}
 use Rattle.c104_event.specs.declared.events.Event.{Event}
 use Rattle.c104_event.specs.declared.faults.EventFault.{EventFault}
 use Rattle.c104_event.specs.declared.faults.EventFault.TheVariants as fault
-use Rattle.c104_net.specs.declared.starts.NodeStart.{NodeStart}
+use Rattle.c104_node.specs.declared.starts.NodeStart.{NodeStart}
 use Rattle.c104_net.specs.Balance.{AreInPlace}
 use Rattle.c104_net.specs.Network.{Network, network_apply, network_of, network_step, event_fault, event_limit, outcome_if_possible, outcome_if_ready, outcome_within_limit}
 use Rattle.c104_net.specs.NetRecords.{is_done, ticket_after, IsNetRecord, NetRecord}
-use Rattle.c104_net.specs.Nodes.{Node}
-use Rattle.c104_net.specs.Places.{base_start}
+use Rattle.c104_node.specs.Nodes.{Node}
+use Rattle.c104_node.specs.Places.{base_start}
 use Rattle.c104_net.specs.RecordedNets.{KeepsTokens}
 use Rattle.c104_net.specs.RecordedRuns.{record_apply, record_at}
 use Rattle.c104_net.specs.Runs.{IsRunRecord}
 use Rattle.c104_net.specs.Stages.{stage_after, stage_apply, stage_full, unless_full, Stage}
-use Rattle.c104_net.specs.Starts.{start_node}
+use Rattle.c104_node.specs.Starts.{start_node}
 use Rattle.c104_net.specs.TracedRuns.{map_network}
-use Rattle.c104_net.specs.Traces.{kept_of, noted_all, seatless}
+use Rattle.c104_node.specs.Traces.{kept_of, noted_all, seatless}
 use Rattle.c104_net.specs.EventDeeds.{event_deeds}
 use Rattle.c104_net.proofs.RecordedRuns.{record_kept, record_plan}
 use Rattle.c104_net.proofs.RecordSteps.{ticket_left}

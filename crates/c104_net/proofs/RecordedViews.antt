@@ -22,16 +22,16 @@ use Rattle.c104_plan.specs.declared.ports.Port.{Port}
 use Rattle.c104_plan.specs.declared.ports.Port.TheVariants as port
 use Rattle.c104_event.specs.declared.events.Event.{Event}
 use Rattle.c104_event.specs.declared.events.Event.TheVariants as event
-use Rattle.c104_net.specs.declared.node.NodeOf.TheVariants as node
+use Rattle.c104_node.specs.declared.node.NodeOf.TheVariants as node
 use Rattle.c104_net.specs.declared.reason.Reason.{Reason}
 use Rattle.c104_net.specs.Ends.{end_of}
 use Rattle.c104_net.specs.Network.{event_fault, network_peek, terminal_place, Network}
-use Rattle.c104_net.specs.Nodes.{node_peek, Node}
+use Rattle.c104_node.specs.Nodes.{node_peek, Node}
 use Rattle.c104_net.specs.Reasons.{claim_reason, end_why, event_why, network_why, port_reason, unless_refused, wire_why}
-use Rattle.c104_net.specs.NodeReasons.{node_claim_why, node_credit_in_why, node_credit_out_why, node_drain_why, node_enter_why, node_input_why, node_leave_why}
-use Rattle.c104_net.specs.MappedNodes.{map_input, map_node, map_outgoing}
+use Rattle.c104_node.specs.NodeReasons.{node_claim_why, node_credit_in_why, node_credit_out_why, node_drain_why, node_enter_why, node_input_why, node_leave_why}
+use Rattle.c104_node.specs.MappedNodes.{map_input, map_node, map_outgoing}
 use Rattle.c104_net.specs.Standstill.{has_reason, have_reasons}
-use Rattle.c104_net.specs.Views.{node_link_view, node_sent_packet, node_terminal_view}
+use Rattle.c104_node.specs.Views.{node_link_view, node_sent_packet, node_terminal_view}
 use Rattle.c104_net.specs.NetViews.{network_link_view, network_sent_packet, network_terminal_view}
 use Rattle.c104_net.proofs.FirstRecords.{map_twice}
 use Rattle.c104_net.proofs.SwitchMaps.{owner_map, registers_map}

@@ -2,15 +2,15 @@
 use Rattle.c104_event.specs.declared.events.Event.{Event}
 use Rattle.c104_event.specs.declared.faults.EventFault.{EventFault}
 use Rattle.c104_event.specs.declared.faults.EventFault.TheVariants as fault
-use Rattle.c104_net.proofs.Waiting.{drop_there}
+use Rattle.c104_node.proofs.Waiting.{drop_there}
 use Rattle.c104_net.specs.Network.{AnswersEvent, Network}
 use Rattle.c104_net.specs.Replays.{LeadTo}
 use Rattle.c104_net.specs.ToldEvents.{told_event}
-use Rattle.c104_net.specs.Traced.{Traced, traced_kind}
+use Rattle.c104_node.specs.Traced.{traced_kind}
+use Rattle.c104_node.specs.declared.traced.Traced.{Traced}
 use Rattle.c104_net.specs.declared.leading.Lead.{Lead}
 use Rattle.c104_switch.specs.Actions.{Reply}
-use Rattle.std.proofs.Common.{Err, List, Ok, Result, Some, [], ap, arith, drop, inl, inr, map, refl, slice_get, subst, suc, sym, ℕ, ◌+◌}
-use Rattle.std.proofs.Common.{◌∙◌, ◌∷◌, ◌≡◌}
+use Rattle.std.proofs.Common.{Err, List, Ok, Result, Some, [], ap, arith, drop, inl, inr, map, refl, slice_get, subst, suc, sym, ℕ, ◌+◌, ◌∙◌, ◌∷◌, ◌≡◌}
 
 -- an event that is answered leads on
 pub one_led : (net next : Network Traced) (e : Event) (r : Reply) (told : Result Reply EventFault) → AnswersEvent traced_kind net e told next → told ≡ Ok r → LeadTo net (e ∷ []) next

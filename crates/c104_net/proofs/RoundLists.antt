@@ -3,7 +3,7 @@ use Rattle.std.proofs.Common.{ℕ, ◌≡◌, ◌+◌, ◌<◌, List, [], ◌∷
 use Rattle.std.specs.List.{range_with_len}
 use Rattle.std.proofs.lemmas.List.{map-append, take_more}
 use Rattle.c104_net.specs.Rounds.{link_numbers}
-use Rattle.c104_net.proofs.Ranges.{range_more}
+use Rattle.c104_node.proofs.Ranges.{range_more}
 
 -- what is made of each of them
 pub map_next : {X : Type 0} (f : ℕ → X) (n : ℕ) (before so_far next : List X) → so_far ≡ before ++ map f (range_with_len 0 n) → next ≡ so_far ++ f n ∷ [] → next ≡ before ++ map f (range_with_len 0 (n + 1))

@@ -11,7 +11,7 @@ use Rattle.c104_event.specs.declared.events.Event.{Event}
 use Rattle.c104_event.specs.declared.faults.EventFault.{EventFault}
 use Rattle.c104_event.specs.declared.faults.EventFault.TheVariants as fault
 use Rattle.c104_net.proofs.ActSteps.{step_ready}
-use Rattle.c104_net.specs.Acts.{plain_reply}
+use Rattle.c104_node.specs.Acts.{plain_reply}
 use Rattle.c104_net.specs.EventActs.{acts_step, event_acts}
 use Rattle.c104_net.specs.Network.{AnswersEvent, Network, event_fault, event_limit, network_apply, network_step, outcome_if_possible}
 use Rattle.c104_net.specs.Network.{outcome_if_ready, outcome_within_limit, with_nodes}

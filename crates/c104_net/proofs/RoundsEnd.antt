@@ -20,19 +20,19 @@ use Rattle.c104_net.specs.Balance.{IsSteady}
 use Rattle.c104_net.specs.Deliveries.{Promise}
 use Rattle.c104_net.specs.EventRuns.{Outcome, run_events, unless_fault}
 use Rattle.c104_net.specs.Network.{Network, network_apply}
-use Rattle.c104_net.specs.Nodes.{Node}
+use Rattle.c104_node.specs.Nodes.{Node}
 use Rattle.c104_net.specs.QuietNets.{IsQuiet}
 use Rattle.c104_net.specs.Rounds.{rounds}
 use Rattle.c104_net.specs.Runs.{IsDoneRun}
 use Rattle.c104_net.specs.Standstill.{IsStarted}
 use Rattle.c104_check.specs.ChannelDependencies.{IsRanking}
-use Rattle.c104_net.specs.Traced.{traced_kind}
+use Rattle.c104_node.specs.Traced.{traced_kind}
 use Rattle.c104_net.specs.TracedRuns.{map_network}
-use Rattle.c104_net.specs.MappedNodes.{map_incoming, map_input, map_node, map_outgoing}
+use Rattle.c104_node.specs.MappedNodes.{map_incoming, map_input, map_node, map_outgoing}
 use Rattle.c104_net.specs.Unchanged.{IsUnchanged}
 use Rattle.c104_net.specs.HeaderWork.{ahead_at, first_ahead, full_incoming, full_input, full_link, full_node, full_work, random_ahead, random_work}
 use Rattle.c104_net.specs.Work.{header_held, level, sum_at, weigh}
-use Rattle.c104_net.specs.declared.traced.Traced.{Traced}
+use Rattle.c104_node.specs.declared.traced.Traced.{Traced}
 use Rattle.c104_switch.specs.Actions.{Reply}
 use Rattle.c104_switch.specs.Phases.{with_header}
 use Rattle.c104_switch.specs.Switch.{Input}
@@ -42,7 +42,7 @@ use Rattle.c104_token.specs.Kinds.{plain_kind}
 use Rattle.c104_token.specs.declared.tokens.Token.{Token}
 use Rattle.std.proofs.Common.{Err, List, Ok, Result, Some, [], ap, length, map, refl, subst, suc, sym, ℕ, ◌+◌, ◌-◌, ◌*◌, ◌<◌, ◌∙◌, ◌∷◌, ◌≡◌}
 use Rattle.std.proofs.lemmas.List.{length-map}
-use Rattle.c104_net.specs.declared.node.NodeOf.TheVariants as node
+use Rattle.c104_node.specs.declared.node.NodeOf.TheVariants as node
 use Rattle.c104_plan.specs.declared.ports.Port.TheVariants as port
 
 -- the work doesn't read tokens

@@ -7,17 +7,17 @@ use Rattle.c104_switch.specs.Actions.{Reply, is_ready}
 use Rattle.c104_plan.specs.Plans.{Plan}
 use Rattle.c104_event.specs.declared.events.Event.{Event}
 use Rattle.c104_event.specs.declared.faults.EventFault.{EventFault}
-use Rattle.c104_net.specs.declared.acts.Entry.{Entry}
-use Rattle.c104_net.specs.declared.stamps.Stamp.{Stamp}
-use Rattle.c104_net.specs.declared.node.NodeOf.TheVariants.{Switch, Terminal}
+use Rattle.c104_node.specs.declared.acts.Entry.{Entry}
+use Rattle.c104_node.specs.declared.stamps.Stamp.{Stamp}
+use Rattle.c104_node.specs.declared.node.NodeOf.TheVariants.{Switch, Terminal}
 use Rattle.c104_net.specs.Balance.{AreInPlace}
-use Rattle.c104_net.specs.Nodes.{is_switch, Node}
+use Rattle.c104_node.specs.Nodes.{is_switch, Node}
 use Rattle.c104_net.specs.EventPlaces.{event_place}
 use Rattle.c104_net.specs.Network.{Network, network_apply, network_of, AnswersWith}
-use Rattle.c104_net.specs.Traces.{Deed, noted_all, noted_at, seatless, part}
+use Rattle.c104_node.specs.Traces.{Deed, noted_all, noted_at, seatless, part}
 use Rattle.c104_net.specs.EventDeeds.{event_deeds}
 use Rattle.c104_net.specs.Runs.{AreBehind, AreInOrder, IsDoneRun, IsRunRecord, at_node, run_deeds}
-use Rattle.c104_net.proofs.WireEnds.{get_set_same, get_set_other}
+use Rattle.c104_node.proofs.WireEnds.{get_set_same, get_set_other}
 
 -- whether there is a switch at a place
 abbrev is_switch_at : {A : Type 0} → List (Node A) → ℕ → Bool

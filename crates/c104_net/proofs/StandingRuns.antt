@@ -16,18 +16,18 @@ use Rattle.c104_net.proofs.StillPorts.{standstill}
 use Rattle.c104_net.proofs.TracedRuns.{token_of, traced_from}
 use Rattle.c104_net.specs.Balance.{IsSteady}
 use Rattle.c104_net.specs.Network.{Network, network_apply, network_of}
-use Rattle.c104_net.specs.Nodes.{Node}
-use Rattle.c104_net.specs.Quiet.{IsQuietInput, IsQuietNode, IsQuietOutput}
+use Rattle.c104_node.specs.Nodes.{Node}
+use Rattle.c104_node.specs.Quiet.{IsQuietInput, IsQuietNode, IsQuietOutput}
 use Rattle.c104_net.specs.QuietNets.{IsQuiet}
 use Rattle.c104_net.specs.Runs.{IsDoneRun}
 use Rattle.c104_net.specs.Standstill.{IsStarted, IsStartedNode, StandsStill, IsStill, IsUnready}
 use Rattle.c104_net.specs.DeadlockFreedom.{IsAcyclicRun}
-use Rattle.c104_net.specs.Starts.{start_node}
-use Rattle.c104_net.specs.Traced.{traced_kind}
+use Rattle.c104_node.specs.Starts.{start_node}
+use Rattle.c104_node.specs.Traced.{traced_kind}
 use Rattle.c104_net.specs.TracedRuns.{map_network}
-use Rattle.c104_net.specs.MappedNodes.{map_input, map_node, map_outgoing}
-use Rattle.c104_net.specs.declared.starts.NodeStart.{NodeStart}
-use Rattle.c104_net.specs.declared.traced.Traced.{Traced}
+use Rattle.c104_node.specs.MappedNodes.{map_input, map_node, map_outgoing}
+use Rattle.c104_node.specs.declared.starts.NodeStart.{NodeStart}
+use Rattle.c104_node.specs.declared.traced.Traced.{Traced}
 use Rattle.c104_switch.specs.Actions.{Reply}
 use Rattle.c104_switch.specs.Phases.{with_header}
 use Rattle.c104_token.specs.Kinds.{Kind, plain_kind}
@@ -37,7 +37,7 @@ use Rattle.std.proofs.lemmas.List.{length-map}
 use Rattle.std.proofs.lemmas.List.Elements.{All-map}
 use Rattle.std.proofs.lemmas.Option.{slice_get-map}
 use Rattle.c104_event.specs.declared.events.Event.TheVariants as event
-use Rattle.c104_net.specs.declared.node.NodeOf.TheVariants as node
+use Rattle.c104_node.specs.declared.node.NodeOf.TheVariants as node
 
 -- a run keeps the balance of the wires
 pub run_steady : {A : Type 0} (kind : Kind A) (net ended : Network A) (events : List (Event × Reply)) → IsPlan net.plan → IsDoneRun kind net events ended → IsSteady net → IsSteady ended

@@ -4,23 +4,23 @@ use Rattle.c104_plan.specs.PlanImage.{Image}
 use Rattle.c104_plan.specs.Plans.{Plan}
 use Rattle.c104_net.proofs.Promises.{IsStart}
 use Rattle.c104_net.specs.Balance.{AreInPlace}
-use Rattle.c104_net.specs.Nodes.{is_switch, Node}
+use Rattle.c104_node.specs.Nodes.{is_switch, Node}
 use Rattle.c104_net.specs.Network.{network_of}
-use Rattle.c104_net.specs.Quiet.{IsQuietInput, IsQuietNode, IsQuietOutput}
-use Rattle.c104_net.specs.Starts.{start_node}
-use Rattle.c104_net.specs.TerminalStarts.{start_terminal}
-use Rattle.c104_net.specs.Terminals.{Terminal}
-use Rattle.c104_net.specs.MappedNodes.{map_input, map_node, map_outgoing}
+use Rattle.c104_node.specs.Quiet.{IsQuietInput, IsQuietNode, IsQuietOutput}
+use Rattle.c104_node.specs.Starts.{start_node}
+use Rattle.c104_node.specs.TerminalStarts.{start_terminal}
+use Rattle.c104_node.specs.Terminals.{Terminal}
+use Rattle.c104_node.specs.MappedNodes.{map_input, map_node, map_outgoing}
 use Rattle.c104_net.specs.Unchanged.{AreStartsOf}
-use Rattle.c104_net.specs.declared.starts.NodeStart.{NodeStart}
+use Rattle.c104_node.specs.declared.starts.NodeStart.{NodeStart}
 use Rattle.c104_switch.specs.Starts.{start_input, start_output, start_switch}
 use Rattle.c104_switch.specs.declared.link_start.LinkStart.{LinkStart}
 use Rattle.c104_switch.specs.Switch.{Switch}
 use Rattle.c104_token.specs.declared.tokens.Token.{Token}
 use Rattle.std.proofs.Common.{All, Bool, List, Some, [], ap, false, get_or, map, refl, slice_get, suc, sym, true, zero, ℕ, ◌∙◌, ◌∷◌, ◌≡◌}
 use Rattle.std.proofs.lemmas.List.Elements.{All-map}
-use Rattle.c104_net.specs.declared.node.NodeOf.TheVariants as node
-use Rattle.c104_net.specs.declared.starts.NodeStart.TheVariants as start
+use Rattle.c104_node.specs.declared.node.NodeOf.TheVariants as node
+use Rattle.c104_node.specs.declared.starts.NodeStart.TheVariants as start
 
 abbrev pub switch_start : NodeStart → Bool
 switch_start (start.Switch s) = true

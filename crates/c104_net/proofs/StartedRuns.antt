@@ -10,10 +10,10 @@ use Rattle.c104_net.proofs.EventSteps.{control_named, send_named}
 use Rattle.c104_net.proofs.RunSteps.{done_step_is}
 use Rattle.c104_net.proofs.WorkEvents.{AreStarted, started_at, started_set, event_started}
 use Rattle.c104_net.specs.Network.{Network, network_of, network_step, terminal_place}
-use Rattle.c104_net.specs.Nodes.{Node, node_control, node_send}
+use Rattle.c104_node.specs.Nodes.{Node, node_control, node_send}
 use Rattle.c104_net.specs.Runs.{IsDoneRun}
 use Rattle.c104_net.specs.Standstill.{IsStarted, IsStartedNode, IsStartedSwitch}
-use Rattle.c104_net.specs.Terminals.{terminal_send}
+use Rattle.c104_node.specs.Terminals.{terminal_send}
 use Rattle.c104_net.specs.Unchanged.{IsUnchanged, MayHappen}
 use Rattle.c104_switch.specs.Actions.{Reply}
 use Rattle.c104_switch.specs.Control.{switch_control}
@@ -23,7 +23,7 @@ use Rattle.c104_token.specs.declared.packets.Packet.{Packet}
 use Rattle.std.proofs.Common.{List, Option, Some, [], ap, length, slice_get, slice_set, subst, sym, ℕ, ◌∙◌, ◌∷◌, ◌≡◌}
 use Rattle.std.proofs.lemmas.Option.{some_pair_parts}
 use Rattle.c104_event.specs.declared.events.Event.TheVariants as event
-use Rattle.c104_net.specs.declared.node.NodeOf.TheVariants as node
+use Rattle.c104_node.specs.declared.node.NodeOf.TheVariants as node
 use Rattle.c104_switch.specs.declared.actions.ReplyOf.TheVariants as reply
 
 module _ {A : Type 0} where

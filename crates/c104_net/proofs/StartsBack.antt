@@ -3,9 +3,9 @@ use Rattle.std.proofs.Common.{◌≡◌, ◌∙◌, List, [], ◌∷◌, map, re
 use Rattle.c104_switch.specs.declared.link_start.LinkStart.{LinkStart}
 use Rattle.c104_switch.specs.Starts.{link_starts, start_input, start_output}
 use Rattle.c104_token.specs.declared.tokens.Token.{Token}
-use Rattle.c104_net.specs.declared.starts.NodeStart.{NodeStart}
-use Rattle.c104_net.specs.declared.starts.NodeStart.TheVariants as start
-use Rattle.c104_net.specs.Starts.{start_node, start_of}
+use Rattle.c104_node.specs.declared.starts.NodeStart.{NodeStart}
+use Rattle.c104_node.specs.declared.starts.NodeStart.TheVariants as start
+use Rattle.c104_node.specs.Starts.{start_node, start_of}
 
 links_back : (links : List LinkStart) → link_starts {A = Token} (map start_input links) (map start_output links) ≡ links
 links_back [] = refl

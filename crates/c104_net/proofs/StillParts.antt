@@ -15,8 +15,8 @@ use Rattle.c104_net.specs.RoundParts.{port_events}
 use Rattle.c104_net.specs.Reasons.{is_unready}
 use Rattle.c104_net.specs.Rounds.{all_claims, all_drains, claims_of, link_numbers, round, switch_claims, turn_at, wired_links, wired_ports, wired_terminals}
 use Rattle.c104_net.specs.Standstill.{IsUnready, StandsStill, has_reason, have_reasons}
-use Rattle.c104_net.specs.declared.port_part.PortPart.{PortPart}
-use Rattle.c104_net.specs.declared.port_part.PortPart.TheVariants.{Credit, Cross, Turn}
+use Rattle.c104_node.specs.declared.port_part.PortPart.{PortPart}
+use Rattle.c104_node.specs.declared.port_part.PortPart.TheVariants.{Credit, Cross, Turn}
 use Rattle.c104_switch.specs.Actions.{Reply}
 use Rattle.c104_token.specs.Kinds.{Kind}
 use Rattle.std.specs.List.{AllByRecursion, flat_map, list_all, range_with_len}

@@ -20,17 +20,17 @@ use Rattle.c104_net.proofs.RunSteps.{header_cases, header_positive}
 use Rattle.c104_net.proofs.SentBytes.{AreBytesSent}
 use Rattle.c104_net.proofs.StillWires.{arrived, claimed, drained, own_group, stuck}
 use Rattle.c104_net.specs.Balance.{IsSteady}
-use Rattle.c104_net.specs.Nodes.{is_switch, Node}
+use Rattle.c104_node.specs.Nodes.{is_switch, Node}
 use Rattle.c104_net.specs.Network.{Network, network_of, terminal_place}
-use Rattle.c104_net.specs.Quiet.{IsQuietNode}
+use Rattle.c104_node.specs.Quiet.{IsQuietNode}
 use Rattle.c104_net.specs.QuietNets.{IsQuiet}
 use Rattle.c104_net.specs.Runs.{IsDoneRun}
 use Rattle.c104_net.specs.Standstill.{IsStarted, IsStill}
 use Rattle.c104_check.specs.ChannelDependencies.{Depends, IsAcyclic, IsBeginningBy, IsRanking, MayComeBy}
-use Rattle.c104_net.specs.Traced.{traced_kind}
-use Rattle.c104_net.specs.Traces.{part}
+use Rattle.c104_node.specs.Traced.{traced_kind}
+use Rattle.c104_node.specs.Traces.{part}
 use Rattle.c104_net.specs.Unchanged.{IsUnchanged}
-use Rattle.c104_net.specs.declared.traced.Traced.{Traced}
+use Rattle.c104_node.specs.declared.traced.Traced.{Traced}
 use Rattle.c104_regs.specs.Groups.{continues_at}
 use Rattle.c104_switch.specs.Actions.{Reply}
 use Rattle.c104_switch.specs.Switch.{Input}
@@ -40,7 +40,7 @@ use Rattle.std.proofs.Common.{Bool, List, None, Option, Some, [], ap, arith, fal
 use Rattle.std.proofs.lemmas.Bool.{cases_eq}
 use Rattle.std.proofs.lemmas.Bool.Decides.{nat_tests}
 use Rattle.std.proofs.lemmas.Option.{slice_get-get_or}
-use Rattle.c104_net.specs.declared.node.NodeOf.TheVariants as node
+use Rattle.c104_node.specs.declared.node.NodeOf.TheVariants as node
 use Rattle.c104_plan.specs.declared.ports.Port.TheVariants as port
 
 -- the sum of what a function says of the numbers below a limit, which bounds each

@@ -12,11 +12,11 @@ use Rattle.c104_net.proofs.UnreadyEvents.{StandsAt, switch_there, terminal_there
 use Rattle.c104_net.specs.Balance.{IsSteady, credit_at, granted_at}
 use Rattle.c104_net.specs.Ends.{end_of}
 use Rattle.c104_net.specs.Network.{Network, network_of, terminal_place}
-use Rattle.c104_net.specs.Nodes.{Node}
+use Rattle.c104_node.specs.Nodes.{Node}
 use Rattle.c104_net.specs.ReasonMeanings.{IsCreditInReason, IsCreditOutReason, IsEnterReason, IsEventReason, IsLeaveReason, IsSaidAt}
 use Rattle.c104_net.specs.Reasons.{is_unready, network_why}
 use Rattle.c104_net.specs.Standstill.{IsStarted, IsStartedSwitch, IsStill, IsUnready}
-use Rattle.c104_net.specs.Terminals.{Terminal}
+use Rattle.c104_node.specs.Terminals.{Terminal}
 use Rattle.c104_net.specs.declared.reason.Reason.{Reason}
 use Rattle.c104_regs.specs.Groups.{continues_at}
 use Rattle.c104_switch.specs.Group.{is_in_group}
@@ -36,7 +36,7 @@ use Rattle.std.proofs.lemmas.Bool.Decides.{nat_tests}
 use Rattle.std.proofs.lemmas.Option.{slice_get_within}
 use Rattle.c104_plan.specs.declared.ports.Port.TheVariants as port
 use Rattle.c104_event.specs.declared.events.Event.TheVariants as event
-use Rattle.c104_net.specs.declared.node.NodeOf.TheVariants as node
+use Rattle.c104_node.specs.declared.node.NodeOf.TheVariants as node
 use Rattle.c104_switch.specs.declared.actions.ActionOf.TheVariants as action
 
 pub element_at : {X : Type 0} (xs : List X) (k : ℕ) → k < length xs → (x : X) × (slice_get xs k ≡ Some x)

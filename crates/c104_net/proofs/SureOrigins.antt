@@ -5,16 +5,16 @@ use Rattle.c104_net.proofs.StartMaps.{starts_same}
 use Rattle.c104_net.proofs.StepMaps.{run_lift}
 use Rattle.c104_net.specs.Deliveries.{arrived_at}
 use Rattle.c104_net.specs.Network.{Network, network_of, terminal_place}
-use Rattle.c104_net.specs.Nodes.{Node, arrived_tokens}
-use Rattle.c104_net.specs.Origins.{IsSure}
+use Rattle.c104_node.specs.Nodes.{Node, arrived_tokens}
+use Rattle.c104_node.specs.Origins.{IsSure}
 use Rattle.c104_net.specs.Runs.{IsDoneRun}
-use Rattle.c104_net.specs.Starts.{start_node}
-use Rattle.c104_net.specs.Traced.{sent_token, traced_kind}
+use Rattle.c104_node.specs.Starts.{start_node}
+use Rattle.c104_node.specs.Traced.{sent_token, traced_kind}
 use Rattle.c104_net.specs.TracedRuns.{map_network}
-use Rattle.c104_net.specs.MappedNodes.{map_node}
-use Rattle.c104_net.specs.Traces.{part}
-use Rattle.c104_net.specs.declared.starts.NodeStart.{NodeStart}
-use Rattle.c104_net.specs.declared.traced.Traced.{Traced}
+use Rattle.c104_node.specs.MappedNodes.{map_node}
+use Rattle.c104_node.specs.Traces.{part}
+use Rattle.c104_node.specs.declared.starts.NodeStart.{NodeStart}
+use Rattle.c104_node.specs.declared.traced.Traced.{Traced}
 use Rattle.c104_switch.specs.Actions.{Reply}
 use Rattle.c104_token.specs.Kinds.{Kind}
 use Rattle.c104_token.specs.declared.tokens.Token.{Token}
@@ -22,7 +22,7 @@ use Rattle.c104_token.specs.declared.tokens.Token.TheVariants.{Byte}
 use Rattle.std.proofs.Common.{List, None, Option, Some, [], ap, map, option_map, refl, slice_get, subst, suc, sym, zero, ℕ, ◌∷◌, ◌≡◌}
 use Rattle.std.proofs.lemmas.Bool.{true≢false}
 use Rattle.std.proofs.lemmas.Option.{slice_get-map}
-use Rattle.c104_net.specs.declared.node.NodeOf.TheVariants as node
+use Rattle.c104_node.specs.declared.node.NodeOf.TheVariants as node
 use Rattle.c104_token.specs.declared.tokens.Token.TheVariants as token
 
 -- a token with what is sure of it

@@ -8,8 +8,8 @@ use Rattle.c104_interval.specs.declared.intervals.Select.{Select}
 use Rattle.c104_interval.specs.declared.intervals.Select.TheVariants.{Discard, Link, Sink}
 use Rattle.c104_link.specs.Buffers.{Outgoing, outgoing_clear}
 use Rattle.c104_net.proofs.TokenMaps.{if_map, map_phase}
-use Rattle.c104_net.specs.Nodes.{Node, node_control}
-use Rattle.c104_net.specs.MappedNodes.{map_input, map_node, map_outgoing, map_switch}
+use Rattle.c104_node.specs.Nodes.{Node, node_control}
+use Rattle.c104_node.specs.MappedNodes.{map_input, map_node, map_outgoing, map_switch}
 use Rattle.c104_regs.specs.declared.status.Status.{Status}
 use Rattle.c104_switch.specs.Commands.{input_reset}
 use Rattle.c104_switch.specs.Control.{switch_control, switch_obey, switch_obey_if_read}
@@ -24,7 +24,7 @@ use Rattle.std.proofs.Common.{Err, List, None, Ok, Option, Result, Some, [], ap,
 use Rattle.std.proofs.lemmas.List.{length-map}
 use Rattle.std.proofs.lemmas.Option.{slice_get-map}
 use Rattle.c104_control.specs.declared.commands.Command.TheVariants as command
-use Rattle.c104_net.specs.declared.node.NodeOf.TheVariants as node
+use Rattle.c104_node.specs.declared.node.NodeOf.TheVariants as node
 
 module _ {A B : Type 0} (f : A → B) where
   pub streams_map : (o : ℕ) (ph : Phase (List A)) → is_stream o (map_phase f ph) ≡ is_stream o ph

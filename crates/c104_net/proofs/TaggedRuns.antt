@@ -1,16 +1,18 @@
 -- A run over tagged tokens is that over tokens that all tell where they came from.
-use Rattle.std.proofs.Common.{◌≡◌, ◌∙◌, ◌<◌, ◌%◌, ◌++◌, ℕ, Bool, true, false, List, [], ◌∷◌, Option, Some, None, Result, map, slice_get}
-use Rattle.std.proofs.Common.{suc, refl, sym, ap, arith}
+use Rattle.std.proofs.Common.{◌≡◌, ◌∙◌, ◌<◌, ◌%◌, ◌++◌, ℕ, Bool, true, false, List, [], ◌∷◌, Option, Some, None, Result, map, slice_get, suc, refl, sym, ap, arith}
 use Rattle.std.specs.Option.{option_to_list}
 use Rattle.c104_token.specs.declared.tokens.Token.{Token}
 use Rattle.c104_token.specs.Tokens.{is_end}
 use Rattle.c104_switch.specs.Actions.{Reply}
 use Rattle.c104_event.specs.declared.events.Event.{Event}
 use Rattle.c104_event.specs.declared.faults.EventFault.{EventFault}
-use Rattle.c104_net.specs.Tagged.{tag, tagged_by, tagged_kind, tagged_origin, tagged_origins, TaggedToken}
+use Rattle.c104_node.specs.Tagged.{tag, tagged_by, tagged_kind, tagged_origin, tagged_origins}
+use Rattle.c104_node.specs.declared.tagged.TaggedToken.{TaggedToken}
 use Rattle.c104_net.specs.Network.{network_apply, Network}
-use Rattle.c104_net.specs.Origins.{origin_by, origin_of, origins_in, AreSure, IsSure}
-use Rattle.c104_net.specs.Traced.{traced_kind, Source, Traced}
+use Rattle.c104_node.specs.Origins.{origin_by, origin_of, origins_in, AreSure, IsSure}
+use Rattle.c104_node.specs.Traced.{traced_kind}
+use Rattle.c104_node.specs.declared.traced.Source.{Source}
+use Rattle.c104_node.specs.declared.traced.Traced.{Traced}
 use Rattle.c104_net.specs.TracedRuns.{map_network}
 use Rattle.c104_net.proofs.StepMaps.{apply_map}
 use Rattle.c104_net.specs.RecordedPlaces.{plain_by}

@@ -3,16 +3,16 @@ use Rattle.c104_link.specs.Buffers.{Incoming, Outgoing, incoming_accept, incomin
 use Rattle.c104_link.specs.Steps.{joint_step_at, require, step_at, yield_step_at, ◌>>=◌, ◌>>◌}
 use Rattle.c104_link.specs.declared.TheConstants.{TOKENS_OF_A_GRANT}
 use Rattle.c104_link.specs.declared.outgoing.TheConstants.{CREDIT_LIMIT, OUTPUT_CAP}
-use Rattle.c104_net.specs.Nodes.{Node, node_credit_in, node_credit_out, node_drain, node_enter, node_leave}
-use Rattle.c104_net.specs.Terminals.{Terminal, terminal_credit_in, terminal_credit_out, terminal_drain, terminal_enter, terminal_leave}
-use Rattle.c104_net.specs.MappedNodes.{map_incoming, map_input, map_node, map_outgoing, map_switch, map_terminal}
+use Rattle.c104_node.specs.Nodes.{Node, node_credit_in, node_credit_out, node_drain, node_enter, node_leave}
+use Rattle.c104_node.specs.Terminals.{Terminal, terminal_credit_in, terminal_credit_out, terminal_drain, terminal_enter, terminal_leave}
+use Rattle.c104_node.specs.MappedNodes.{map_incoming, map_input, map_node, map_outgoing, map_switch, map_terminal}
 use Rattle.c104_switch.specs.Phases.{with_header}
 use Rattle.c104_switch.specs.Switch.{Switch, input_accept, input_grant, switch_credit_in, switch_credit_out, switch_enter, switch_leave}
 use Rattle.c104_switch.specs.declared.phase.Phase.{Phase}
 use Rattle.std.proofs.Common.{Bool, List, None, Option, Some, [], ap, drop, false, if◌then◌else◌, length, map, nat_le, nat_lt, option_map, refl, slice_get, true, ℕ, ◌+◌, ◌∙◌, ◌∷◌, ◌≡◌}
 use Rattle.std.proofs.lemmas.List.{length-map, map-append, map-set}
 use Rattle.std.proofs.lemmas.Option.{slice_get-map}
-use Rattle.c104_net.specs.declared.node.NodeOf.TheVariants as node
+use Rattle.c104_node.specs.declared.node.NodeOf.TheVariants as node
 
 pub bind_map : {X X' Y Y' : Type 0} (u : X → X') (v : Y → Y') (m : Option X) (h : X → Option Y) (h' : X' → Option Y') → ((x : X) → h' (u x) ≡ option_map v (h x)) → ◌>>=◌ (option_map u m) h' ≡ option_map v (◌>>=◌ m h)
 bind_map u v None h h' e = refl

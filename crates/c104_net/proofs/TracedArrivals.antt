@@ -4,17 +4,17 @@ use Rattle.std.proofs.lemmas.Option.{slice_get-map}
 use Rattle.c104_token.specs.declared.tokens.Token.{Token}
 use Rattle.c104_link.specs.Steps.{◌>>=◌}
 use Rattle.c104_plan.specs.Plans.{Plan}
-use Rattle.c104_net.specs.declared.node.NodeOf.TheVariants as node
+use Rattle.c104_node.specs.declared.node.NodeOf.TheVariants as node
 use Rattle.c104_net.specs.NetRecords.{NetRecord}
 use Rattle.c104_net.specs.Network.{network_arrived, network_of, terminal_place, Network}
-use Rattle.c104_net.specs.Nodes.{node_arrived, Node}
-use Rattle.c104_net.specs.Places.{states}
+use Rattle.c104_node.specs.Nodes.{node_arrived, Node}
+use Rattle.c104_node.specs.Places.{states}
 use Rattle.c104_net.specs.RecordedNets.{places_record}
 use Rattle.c104_net.specs.RecordedPlaces.{counted_keeps, counted_reading}
-use Rattle.c104_net.specs.ShownNodes.{counted_shown}
-use Rattle.c104_net.specs.Tagged.{TaggedToken}
-use Rattle.c104_net.specs.TracedRecords.{TracedRecord}
-use Rattle.c104_net.specs.MappedNodes.{map_node}
+use Rattle.c104_node.specs.ShownNodes.{counted_shown}
+use Rattle.c104_node.specs.declared.tagged.TaggedToken.{TaggedToken}
+use Rattle.c104_node.specs.TracedRecords.{TracedRecord}
+use Rattle.c104_node.specs.MappedNodes.{map_node}
 use Rattle.c104_net.proofs.RecordedNets.{seen_plain}
 use Rattle.c104_net.proofs.TaggedRuns.{plain_network, token_of}
 

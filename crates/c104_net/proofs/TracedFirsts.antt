@@ -5,18 +5,18 @@ use Rattle.c104_token.specs.declared.tokens.Token.{Token}
 use Rattle.c104_switch.specs.Switch.{new_switch}
 use Rattle.c104_plan.specs.declared.plans.Terminal.{Terminal}
 use Rattle.c104_plan.specs.Plans.{Plan, IsPlan}
-use Rattle.c104_net.specs.declared.acts.Entry.{Entry}
-use Rattle.c104_net.specs.declared.node.NodeOf.TheVariants as node
+use Rattle.c104_node.specs.declared.acts.Entry.{Entry}
+use Rattle.c104_node.specs.declared.node.NodeOf.TheVariants as node
 use Rattle.c104_net.specs.Network.{network_of, new_network}
 use Rattle.c104_net.specs.NetRecords.{first_record, fresh_record, net_record, shown_record, IsNetRecord}
-use Rattle.c104_net.specs.Records.{node_start, node_state, node_trace, NodeRecord}
-use Rattle.c104_net.specs.Nodes.{Node}
+use Rattle.c104_node.specs.Records.{node_start, node_state, node_trace, NodeRecord}
+use Rattle.c104_node.specs.Nodes.{Node}
 use Rattle.c104_net.specs.RecordedNets.{places_record, read_trace, IsRecordedNet, Reading}
 use Rattle.c104_net.specs.RecordedPlaces.{counted_reading}
-use Rattle.c104_net.specs.Starts.{start_node, start_of}
-use Rattle.c104_net.specs.Terminals.{new_terminal}
-use Rattle.c104_net.specs.Tagged.{TaggedToken}
-use Rattle.c104_net.specs.TracedRecords.{first_traced, traced_start, traced_state, traced_trace, TracedRecord}
+use Rattle.c104_node.specs.Starts.{start_node, start_of}
+use Rattle.c104_node.specs.Terminals.{new_terminal}
+use Rattle.c104_node.specs.declared.tagged.TaggedToken.{TaggedToken}
+use Rattle.c104_node.specs.TracedRecords.{first_traced, traced_start, traced_state, traced_trace, TracedRecord}
 use Rattle.c104_net.proofs.BalancePlaced.{steady_new}
 use Rattle.c104_net.proofs.FirstRecords.{first_is, map_twice, record_first}
 use Rattle.c104_net.proofs.RecordedBegins.{no_entries, told_first}

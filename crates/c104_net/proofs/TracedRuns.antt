@@ -6,13 +6,13 @@ use Rattle.c104_net.proofs.StartMaps.{starts_same}
 use Rattle.c104_net.proofs.StepMaps.{run_lift}
 use Rattle.c104_net.specs.EventRuns.{run_events, unless_fault}
 use Rattle.c104_net.specs.Network.{Network, network_apply, network_of}
-use Rattle.c104_net.specs.Nodes.{Node}
+use Rattle.c104_node.specs.Nodes.{Node}
 use Rattle.c104_net.specs.Runs.{IsDoneRun}
-use Rattle.c104_net.specs.Starts.{start_node}
-use Rattle.c104_net.specs.Traced.{traced_kind}
+use Rattle.c104_node.specs.Starts.{start_node}
+use Rattle.c104_node.specs.Traced.{traced_kind}
 use Rattle.c104_net.specs.TracedRuns.{IsTracedRun, map_network}
-use Rattle.c104_net.specs.declared.starts.NodeStart.{NodeStart}
-use Rattle.c104_net.specs.declared.traced.Traced.{Traced}
+use Rattle.c104_node.specs.declared.starts.NodeStart.{NodeStart}
+use Rattle.c104_node.specs.declared.traced.Traced.{Traced}
 use Rattle.c104_switch.specs.Actions.{Reply}
 use Rattle.c104_token.specs.Kinds.{Kind, plain_kind}
 use Rattle.c104_token.specs.declared.tokens.Token.{Token}

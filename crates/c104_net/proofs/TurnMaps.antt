@@ -4,8 +4,8 @@ use Rattle.c104_link.specs.Buffers.{Outgoing, outgoing_put}
 use Rattle.c104_net.proofs.SwitchMaps.{decided_map, owned_map}
 use Rattle.c104_net.proofs.TokenMaps.{bind_both, bind_same, drop_map, first_map, if_map, map_phase, place_map, put_all_map, put_map, require_map, with_map}
 use Rattle.c104_link.specs.Steps.{joint_step_at, step_at}
-use Rattle.c104_net.specs.Nodes.{Node, node_claim, node_input}
-use Rattle.c104_net.specs.MappedNodes.{map_input, map_node, map_outgoing, map_switch}
+use Rattle.c104_node.specs.Nodes.{Node, node_claim, node_input}
+use Rattle.c104_node.specs.MappedNodes.{map_input, map_node, map_outgoing, map_switch}
 use Rattle.c104_regs.specs.Settings.{header_length}
 use Rattle.c104_regs.specs.declared.settings.Settings.{Settings}
 use Rattle.c104_switch.specs.Claims.{input_claim, inputs_claim, put_header, switch_claim}
@@ -20,7 +20,7 @@ use Rattle.c104_token.specs.declared.tokens.Token.TheVariants.{Byte}
 use Rattle.std.proofs.Common.{Bool, List, Some, [], ap, false, length, map, nat_le, not, option_map, refl, slice_get, suc, true, ℕ, ⊎_elim, ◌&&◌, ◌++◌, ◌∷◌, ◌≡◌}
 use Rattle.std.proofs.lemmas.Bool.{cases_Bool}
 use Rattle.std.proofs.lemmas.List.{length-map, map-append}
-use Rattle.c104_net.specs.declared.node.NodeOf.TheVariants as node
+use Rattle.c104_node.specs.declared.node.NodeOf.TheVariants as node
 use Rattle.c104_interval.specs.Selection as table
 
 module _ {A B : Type 0} (f : A → B) (from : Kind A) (to : Kind B) (plain_is : (x : A) → to.plain (f x) ≡ from.plain x) (random_is : (j b : ℕ) → to.random j (Byte b) ≡ f (from.random j (Byte b))) where

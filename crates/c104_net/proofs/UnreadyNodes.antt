@@ -12,14 +12,14 @@ use Rattle.c104_switch.specs.Reasons.{why_at, take_why}
 use Rattle.c104_switch.proofs.UnreadySteps.{accept_ready, take_ready, grant_ready, emit_ready, credited_ready}
 use Rattle.c104_switch.proofs.UnreadyClaims.{claim_ready}
 use Rattle.c104_switch.proofs.UnreadyActions.{enter_ready, leave_ready, credit_out_ready, credit_in_ready, input_ready}
-use Rattle.c104_net.specs.declared.ends.End.{End}
-use Rattle.c104_net.specs.declared.node.NodeOf.TheVariants.{Switch, Terminal}
-use Rattle.c104_net.specs.Terminals as terminal
-use Rattle.c104_net.specs.Nodes.{Node, node_enter, node_leave, node_credit_out, node_credit_in, node_input, node_claim, node_drain}
-use Rattle.c104_net.proofs.NamedWires.{nodes_cross, nodes_credit}
+use Rattle.c104_node.specs.declared.ends.End.{End}
+use Rattle.c104_node.specs.declared.node.NodeOf.TheVariants.{Switch, Terminal}
+use Rattle.c104_node.specs.Terminals as terminal
+use Rattle.c104_node.specs.Nodes.{Node, node_enter, node_leave, node_credit_out, node_credit_in, node_input, node_claim, node_drain}
+use Rattle.c104_node.proofs.NamedWires.{nodes_cross, nodes_credit}
 use Rattle.c104_net.specs.Reasons.{end_why}
-use Rattle.c104_net.specs.NodeReasons.{node_enter_why, node_leave_why, node_credit_out_why, node_credit_in_why, node_input_why, node_claim_why, node_drain_why}
-use Rattle.c104_net.proofs.WireEnds.{none_crosses}
+use Rattle.c104_node.specs.NodeReasons.{node_enter_why, node_leave_why, node_credit_out_why, node_credit_in_why, node_input_why, node_claim_why, node_drain_why}
+use Rattle.c104_node.proofs.WireEnds.{none_crosses}
 use Rattle.c104_net.proofs.CrossingActs.{can_cross, can_credit, none_credited}
 
 -- one more step that can always be made

@@ -5,8 +5,8 @@ use Rattle.c104_plan.specs.Plans.{Plan}
 use Rattle.c104_plan.specs.Wiring.{peer}
 use Rattle.c104_plan.specs.declared.ports.Port.{Port}
 use Rattle.c104_link.specs.Buffers.{Outgoing}
-use Rattle.c104_net.specs.Nodes.{Node}
-use Rattle.c104_net.specs.Traces.{part}
+use Rattle.c104_node.specs.Nodes.{Node}
+use Rattle.c104_node.specs.Traces.{part}
 use Rattle.c104_net.specs.Work.{header_held, highest_rank, input_work, level, link_work, most_weight, node_room, node_tokens, node_work}
 use Rattle.c104_net.specs.Work.{output_work, room_held, sum_at, told_work, tokens_held, weigh, work_bound}
 use Rattle.c104_link.proofs.MadeSteps.{given}
@@ -24,7 +24,7 @@ use Rattle.std.proofs.Math.Nat.{add-mul, min-eq_left, min-eq_right, suc-mul, zer
 use Rattle.std.proofs.lemmas.Bool.{cases_lt}
 use Rattle.std.proofs.lemmas.List.{length-map}
 use Rattle.c104_plan.specs.declared.ports.Port.TheVariants as port
-use Rattle.c104_net.specs.declared.node.NodeOf.TheVariants as node
+use Rattle.c104_node.specs.declared.node.NodeOf.TheVariants as node
 
 module _ {X : Type 0} where
   pub weigh_more : (a b : ℕ) → a ≤ b → (xs : List X) → weigh a xs ≤ weigh b xs

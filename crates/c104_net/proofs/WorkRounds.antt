@@ -26,15 +26,15 @@ use Rattle.c104_net.proofs.WorkSteps.{at_far, far_of, own}
 use Rattle.c104_net.specs.Balance.{IsSteady}
 use Rattle.c104_net.specs.EventRuns.{Outcome, run_events, unless_fault}
 use Rattle.c104_net.specs.Network.{Network, network_apply, network_of, network_step}
-use Rattle.c104_net.specs.Nodes.{Node}
+use Rattle.c104_node.specs.Nodes.{Node}
 use Rattle.c104_net.specs.QuietNets.{IsQuiet}
 use Rattle.c104_net.specs.Rounds.{all_claims, all_drains, claims_of, link_numbers, round, rounds, switch_claims, turn_at, wired_ports}
 use Rattle.c104_net.specs.Standstill.{IsStarted, IsUnready}
 use Rattle.c104_check.specs.ChannelDependencies.{IsRanking}
-use Rattle.c104_net.specs.Traced.{traced_kind}
+use Rattle.c104_node.specs.Traced.{traced_kind}
 use Rattle.c104_net.specs.Unchanged.{MayHappen}
 use Rattle.c104_net.specs.HeaderWork.{ahead_by, random_ahead, random_work}
-use Rattle.c104_net.specs.declared.traced.Traced.{Traced}
+use Rattle.c104_node.specs.declared.traced.Traced.{Traced}
 use Rattle.c104_regs.specs.Settings.{header_length}
 use Rattle.c104_regs.specs.declared.settings.Settings.{Settings}
 use Rattle.c104_switch.specs.Actions.{Reply, is_ready}
@@ -45,7 +45,7 @@ use Rattle.std.specs.List.{AllByRecursion, flat_map, range_with_len}
 use Rattle.std.proofs.Common.{Bool, Err, List, None, Ok, Option, Result, Some, [], ap, arith, false, inl, inr, length, map, refl, slice_get, subst, suc, sym, true, zero, ℕ, ⊎_elim, ◌*◌, ◌++◌, ◌+◌, ◌<◌, ◌∙◌, ◌∷◌, ◌≡◌, ◌≤◌, ◌⊎◌}
 use Rattle.std.proofs.lemmas.Bool.{cases_Bool}
 use Rattle.c104_event.specs.declared.events.Event.TheVariants as event
-use Rattle.c104_net.specs.declared.node.NodeOf.TheVariants as node
+use Rattle.c104_node.specs.declared.node.NodeOf.TheVariants as node
 use Rattle.c104_plan.specs.declared.ports.Port.TheVariants as port
 use Rattle.c104_switch.specs.declared.actions.ReplyOf.TheVariants as reply
 

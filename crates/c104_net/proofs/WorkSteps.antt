@@ -10,11 +10,11 @@ use Rattle.c104_link.proofs.MadeSteps.{at_place_made, from_place_made, given, re
 use Rattle.c104_link.specs.Buffers.{Incoming, Outgoing, incoming_accept, incoming_grant, outgoing_credited, outgoing_emit, outgoing_put, outgoing_put_all, without_first}
 use Rattle.c104_link.specs.Steps.{step_at, yield_step_at}
 use Rattle.c104_net.proofs.LinkActs.{Matches}
-use Rattle.c104_net.proofs.NextTokens.{first_some}
+use Rattle.c104_node.proofs.NextTokens.{first_some}
 use Rattle.c104_net.specs.Ends.{end_of}
 use Rattle.c104_net.specs.Network.{terminal_place}
-use Rattle.c104_net.specs.Nodes.{Node, node_credit_in, node_credit_out, node_drain, node_enter, node_leave}
-use Rattle.c104_net.specs.Terminals.{Terminal, terminal_credit_in, terminal_credit_out, terminal_drain, terminal_enter, terminal_leave, with_input, with_output}
+use Rattle.c104_node.specs.Nodes.{Node, node_credit_in, node_credit_out, node_drain, node_enter, node_leave}
+use Rattle.c104_node.specs.Terminals.{Terminal, terminal_credit_in, terminal_credit_out, terminal_drain, terminal_enter, terminal_leave, with_input, with_output}
 use Rattle.c104_net.specs.HeaderWork.{ahead_at, first_ahead, full_incoming, full_input, full_inputs, full_link, full_node, full_output, full_outputs}
 use Rattle.c104_net.specs.Work.{header_held, level, sum_at, weigh}
 use Rattle.c104_check.specs.Walks.{port_of}
@@ -33,7 +33,7 @@ use Rattle.std.proofs.Common.{Bool, List, Some, [], ap, arith, drop, false, leng
 use Rattle.c104_net.proofs.WorkBounds.{weigh_is}
 use Rattle.std.proofs.lemmas.Bool.{and_parts, cases_Bool, le-leb, leb-true}
 use Rattle.std.proofs.lemmas.Bool.Decides.{nat_tests}
-use Rattle.c104_net.specs.declared.node.NodeOf.TheVariants as node
+use Rattle.c104_node.specs.declared.node.NodeOf.TheVariants as node
 use Rattle.c104_plan.specs.declared.ports.Port.TheVariants as port
 
 module _ {X : Type 0} where

@@ -2,11 +2,11 @@
 use Rattle.std.specs.Prelude.{◌≡◌, ◌≢◌, None, Some}
 use Rattle.c104_plan.specs.Plans.{Plan}
 use Rattle.c104_plan.specs.Wiring.{peer}
-use Rattle.c104_net.specs.ActLinks.{act_link}
-use Rattle.c104_net.specs.Acts.{IsWithinLimits}
+use Rattle.c104_node.specs.ActLinks.{act_link}
+use Rattle.c104_node.specs.Acts.{IsWithinLimits}
 use Rattle.c104_net.specs.EventActs.{port_place}
-use Rattle.c104_net.specs.PortActs.{Acts}
-use Rattle.c104_net.specs.declared.acts.ActOf.TheVariants as act
+use Rattle.c104_node.specs.PortActs.{Acts}
+use Rattle.c104_node.specs.declared.acts.ActOf.TheVariants as act
 use Rattle.c104_net.specs.declared.asked.Asked.{Asked}
 use Rattle.c104_net.specs.declared.asked.Asked.TheVariants as asked
 

@@ -2,10 +2,10 @@
 -- granted.
 use Rattle.std.specs.Prelude.{ℕ, ◌≡◌, ◌++◌, true, false, List, Option, Some, length, map, replicate, slice_get}
 use Rattle.c104_link.specs.Steps.{◌>>=◌}
-use Rattle.c104_net.specs.declared.node.NodeOf.TheVariants.{Switch, Terminal}
+use Rattle.c104_node.specs.declared.node.NodeOf.TheVariants.{Switch, Terminal}
 use Rattle.c104_plan.specs.declared.ports.Port.{Port}
-use Rattle.c104_net.specs.declared.ends.End.{End}
-use Rattle.c104_net.specs.Nodes.{Node, is_switch}
+use Rattle.c104_node.specs.declared.ends.End.{End}
+use Rattle.c104_node.specs.Nodes.{Node, is_switch}
 use Rattle.c104_plan.specs.Plans.{Plan}
 use Rattle.c104_plan.specs.Wiring.{peer}
 use Rattle.c104_net.specs.Ends.{end_of}

@@ -9,13 +9,14 @@ use Rattle.c104_switch.specs.Headers.{header_number}
 use Rattle.c104_plan.specs.declared.ports.Port.{Port}
 use Rattle.c104_plan.specs.declared.ports.Port.TheVariants as port
 use Rattle.c104_check.specs.Routes.{Routes, owner, settings_at}
-use Rattle.c104_net.specs.declared.node.NodeOf.TheVariants as node
-use Rattle.c104_net.specs.Nodes.{Node, arrived_tokens}
-use Rattle.c104_net.specs.Terminals.{sent_tokens}
+use Rattle.c104_node.specs.declared.node.NodeOf.TheVariants as node
+use Rattle.c104_node.specs.Nodes.{Node, arrived_tokens}
+use Rattle.c104_node.specs.Terminals.{sent_tokens}
 use Rattle.c104_net.specs.Network.{Network, terminal_place}
 use Rattle.c104_net.specs.QuietNets.{IsQuiet}
-use Rattle.c104_net.specs.Traced.{Traced, traced_kind}
-use Rattle.c104_net.specs.Traces.{part}
+use Rattle.c104_node.specs.Traced.{traced_kind}
+use Rattle.c104_node.specs.declared.traced.Traced.{Traced}
+use Rattle.c104_node.specs.Traces.{part}
 
 -- whether a packet has a whole header, and its number
 abbrev pub has_header : Routes → Packet → Bool

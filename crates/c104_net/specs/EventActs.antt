@@ -10,13 +10,13 @@ use Rattle.c104_plan.specs.declared.ports.Port.{Port}
 use Rattle.c104_plan.specs.declared.ports.Port.TheVariants as port
 use Rattle.c104_event.specs.declared.events.Event.{Event}
 use Rattle.c104_event.specs.declared.events.Event.TheVariants as event
-use Rattle.c104_net.specs.declared.acts.ActOf.TheVariants as act
-use Rattle.c104_net.specs.declared.crossings.Crossing.{Crossing}
-use Rattle.c104_net.specs.declared.crossings.Crossing.TheVariants.{Token, Grant}
-use Rattle.c104_net.specs.Acts.{nodes_act}
+use Rattle.c104_node.specs.declared.acts.ActOf.TheVariants as act
+use Rattle.c104_node.specs.declared.crossings.Crossing.{Crossing}
+use Rattle.c104_node.specs.declared.crossings.Crossing.TheVariants.{Token, Grant}
+use Rattle.c104_node.specs.Acts.{nodes_act}
 use Rattle.c104_net.specs.Ends.{end_of}
-use Rattle.c104_net.specs.Nodes.{Node}
-use Rattle.c104_net.specs.PortActs.{Acts, joint_step}
+use Rattle.c104_node.specs.Nodes.{Node}
+use Rattle.c104_node.specs.PortActs.{Acts, joint_step}
 
 -- what crosses from a port to the other end of its wire, if it has one
 abbrev pub crossing_acts : {A : Type 0} → Crossing → Port → Option Port → Option (Acts A)

@@ -5,10 +5,10 @@ use Rattle.c104_switch.specs.Actions.{Reply, is_ready}
 use Rattle.c104_switch.specs.declared.actions.ReplyOf.TheVariants as reply
 use Rattle.c104_plan.specs.Plans.{Plan}
 use Rattle.c104_event.specs.declared.events.Event.{Event}
-use Rattle.c104_net.specs.declared.stamps.Stamp.{Stamp}
+use Rattle.c104_node.specs.declared.stamps.Stamp.{Stamp}
 use Rattle.c104_net.specs.EventActs.{event_acts, port_place}
-use Rattle.c104_net.specs.PortActs.{Acts, far_act, near_act}
-use Rattle.c104_net.specs.Traces.{entry_of, Deed, part, lone_deed, full_at}
+use Rattle.c104_node.specs.PortActs.{Acts, far_act, near_act}
+use Rattle.c104_node.specs.Traces.{entry_of, Deed, part, lone_deed, full_at}
 
 -- the entries of some acts that were answered so, in an event of this stamp
 abbrev pub acts_deeds : Plan → Stamp → Acts Token → Reply → List Deed

@@ -6,14 +6,14 @@ use Rattle.c104_switch.specs.declared.actions.ReplyOf.{ReplyOf}
 use Rattle.c104_plan.specs.Plans.{Plan}
 use Rattle.c104_event.specs.declared.events.Event.{Event}
 use Rattle.c104_event.specs.declared.faults.EventFault.{EventFault}
-use Rattle.c104_net.specs.declared.stamps.Stamp.{Stamp}
-use Rattle.c104_net.specs.Acts.{plain_reply}
+use Rattle.c104_node.specs.declared.stamps.Stamp.{Stamp}
+use Rattle.c104_node.specs.Acts.{plain_reply}
 use Rattle.c104_net.specs.EventActs.{acts_step, port_place}
-use Rattle.c104_net.specs.PortActs.{Acts, acts_limit}
+use Rattle.c104_node.specs.PortActs.{Acts, acts_limit}
 use Rattle.c104_net.specs.Network.{AnswersWith, network_of}
-use Rattle.c104_net.specs.PlaceActs.{AreDone}
-use Rattle.c104_net.specs.Places.{Shown, bases, fulls, states, traces}
-use Rattle.c104_net.specs.Traces.{Deed, joint_deeds, kept_of, lone_deed, noted_all, plain_act}
+use Rattle.c104_node.specs.PlaceActs.{AreDone}
+use Rattle.c104_node.specs.Places.{Shown, bases, fulls, states, traces}
+use Rattle.c104_node.specs.Traces.{Deed, joint_deeds, kept_of, lone_deed, noted_all, plain_act}
 use Rattle.c104_net.specs.EventDeeds.{acts_full, event_deeds, event_full}
 
 -- the entries of some acts that were answered so

@@ -2,8 +2,8 @@
 use Rattle.std.specs.Prelude.{ℕ, List, Option, Some, slice_get}
 use Rattle.c104_link.specs.Steps.{◌>>=◌}
 use Rattle.c104_plan.specs.Plans.{Plan}
-use Rattle.c104_net.specs.Terminals.{Terminal}
-use Rattle.c104_net.specs.Nodes.{terminals_of}
+use Rattle.c104_node.specs.Terminals.{Terminal}
+use Rattle.c104_node.specs.Nodes.{terminals_of}
 use Rattle.c104_net.specs.Network.{Network}
 
 -- a run that is finished: the plan of its network, and the terminals at its end, in order

@@ -3,20 +3,20 @@
 use Rattle.std.specs.Prelude.{ℕ, All, ◌+◌, ◌≡◌, ◌≤◌, List, [], length, map}
 use Rattle.c104_token.specs.declared.tokens.Token.{Token}
 use Rattle.c104_plan.specs.Plans.{Plan}
-use Rattle.c104_net.specs.declared.acts.Entry.{Entry}
-use Rattle.c104_net.specs.declared.starts.NodeStart.{NodeStart}
+use Rattle.c104_node.specs.declared.acts.Entry.{Entry}
+use Rattle.c104_node.specs.declared.starts.NodeStart.{NodeStart}
 use Rattle.c104_net.specs.Finished.{FinishedRun, network_finish}
 use Rattle.c104_event.specs.declared.events.Event.{Event}
 use Rattle.c104_net.specs.Balance.{AreInPlace, IsSteady}
 use Rattle.c104_net.specs.NetRecords.{IsWithinLimit, NetRecord}
 use Rattle.c104_net.specs.Network.{network_of}
-use Rattle.c104_net.specs.Nodes.{Node}
+use Rattle.c104_node.specs.Nodes.{Node}
 use Rattle.c104_net.specs.Runs.{IsRunRecord}
-use Rattle.c104_net.specs.Starts.{start_node}
-use Rattle.c104_net.specs.declared.stamps.Stamp.{Stamp}
+use Rattle.c104_node.specs.Starts.{start_node}
+use Rattle.c104_node.specs.declared.stamps.Stamp.{Stamp}
 use Rattle.c104_switch.specs.Actions.{Reply}
 use Rattle.c104_token.specs.Kinds.{plain_kind}
-use Rattle.c104_net.specs.Terminals.{Terminal}
+use Rattle.c104_node.specs.Terminals.{Terminal}
 use Rattle.c104_net.specs.WiredActs.{IsRecordedAt}
 
 -- a run that is finished, with its record

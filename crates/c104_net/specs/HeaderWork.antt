@@ -17,9 +17,9 @@ use Rattle.c104_switch.specs.Rooms.{room_left}
 use Rattle.c104_switch.specs.Switch.{Input}
 use Rattle.c104_switch.specs.declared.phase.Phase.{Phase}
 use Rattle.c104_switch.specs.declared.phase.Phase.TheVariants.{Fresh, Head, Want, Stream, Sinking}
-use Rattle.c104_net.specs.declared.node.NodeOf.TheVariants as node
-use Rattle.c104_net.specs.Nodes.{Node}
-use Rattle.c104_net.specs.Terminals.{Terminal}
+use Rattle.c104_node.specs.declared.node.NodeOf.TheVariants as node
+use Rattle.c104_node.specs.Nodes.{Node}
+use Rattle.c104_node.specs.Terminals.{Terminal}
 use Rattle.c104_net.specs.Work.{header_held, highest_rank, level, sum_at, weigh}
 
 -- what a random header of a given number of bytes weighs at an input, where one may be put by what is set there; and

@@ -3,13 +3,13 @@
 use Rattle.c104_plan.specs.Plans.{Plan}
 use Rattle.c104_event.specs.declared.events.Event.{Event}
 use Rattle.c104_net.specs.EventPlaces.{event_place}
-use Rattle.c104_net.specs.declared.acts.ActOf.{ActOf}
-use Rattle.c104_net.specs.declared.acts.Entry.{Entry}
-use Rattle.c104_net.specs.declared.stamps.Stamp.{Stamp}
+use Rattle.c104_node.specs.declared.acts.ActOf.{ActOf}
+use Rattle.c104_node.specs.declared.acts.Entry.{Entry}
+use Rattle.c104_node.specs.declared.stamps.Stamp.{Stamp}
 use Rattle.c104_switch.specs.Actions.{Action, Reply}
 use Rattle.c104_token.specs.declared.tokens.Token.{Token}
 use Rattle.std.specs.Prelude.{Bool, List, None, Option, Some, [], if◌then◌else◌, is_some, nat_eq, suc, ℕ, ◌-◌, ◌∷◌}
-use Rattle.c104_net.specs.declared.acts.ActOf.TheVariants as act
+use Rattle.c104_node.specs.declared.acts.ActOf.TheVariants as act
 use Rattle.c104_switch.specs.declared.actions.ActionOf.TheVariants as action
 use Rattle.c104_event.specs.declared.events.Event.TheVariants as event
 use Rattle.c104_plan.specs.declared.ports.Port.TheVariants as port

@@ -6,16 +6,16 @@ use Rattle.c104_switch.specs.Actions.{Reply, is_ready}
 use Rattle.c104_plan.specs.Plans.{Plan}
 use Rattle.c104_event.specs.declared.events.Event.{Event}
 use Rattle.c104_event.specs.declared.faults.EventFault.{EventFault}
-use Rattle.c104_net.specs.declared.acts.Entry.{Entry}
-use Rattle.c104_net.specs.declared.starts.NodeStart.{NodeStart}
+use Rattle.c104_node.specs.declared.acts.Entry.{Entry}
+use Rattle.c104_node.specs.declared.starts.NodeStart.{NodeStart}
 use Rattle.c104_net.specs.Balance.{IsSteady}
-use Rattle.c104_net.specs.Nodes.{Node}
+use Rattle.c104_node.specs.Nodes.{Node}
 use Rattle.c104_net.specs.Network.{Network, network_of, AnswersWith}
-use Rattle.c104_net.specs.Records.{NodeRecord, node_state, node_start, node_trace}
+use Rattle.c104_node.specs.Records.{NodeRecord, node_state, node_start, node_trace}
 use Rattle.c104_net.specs.Runs.{IsRunRecord}
 use Rattle.c104_net.specs.QuietNets.{network_begin}
-use Rattle.c104_net.specs.Starts.{start_node, start_of}
-use Rattle.c104_net.specs.Traces.{is_trace_full, kept_of, noted_all, seatless, trace_limit}
+use Rattle.c104_node.specs.Starts.{start_node, start_of}
+use Rattle.c104_node.specs.Traces.{is_trace_full, kept_of, noted_all, seatless, trace_limit}
 use Rattle.c104_net.specs.EventDeeds.{event_deeds, event_full}
 
 -- a network, where its nodes started, what they did since, and how many events were done

@@ -5,10 +5,10 @@ use Rattle.c104_token.specs.declared.packets.Packet.{Packet}
 use Rattle.c104_switch.specs.declared.actions.LinkView.{LinkView}
 use Rattle.c104_plan.specs.declared.ports.Port.{Port}
 use Rattle.c104_plan.specs.declared.ports.Port.TheVariants as port
-use Rattle.c104_net.specs.declared.node.NodeOf.TheVariants.{Switch, Terminal}
-use Rattle.c104_net.specs.declared.terminal.views.TerminalView.{TerminalView}
+use Rattle.c104_node.specs.declared.node.NodeOf.TheVariants.{Switch, Terminal}
+use Rattle.c104_node.specs.declared.terminal.views.TerminalView.{TerminalView}
 use Rattle.c104_net.specs.Network.{Network, terminal_place}
-use Rattle.c104_net.specs.Views.{nodes_terminal_view, nodes_input_token, nodes_output_token, nodes_sent_packet, nodes_link_view}
+use Rattle.c104_node.specs.Views.{nodes_terminal_view, nodes_input_token, nodes_output_token, nodes_sent_packet, nodes_link_view}
 
 -- what is seen of a terminal of the network
 abbrev pub network_terminal_view : {A : Type 0} → Network A → ℕ → Option TerminalView

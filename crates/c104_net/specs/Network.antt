@@ -11,8 +11,8 @@ use Rattle.c104_switch.specs.Switch.{new_switch, new_switch_with}
 use Rattle.c104_plan.specs.declared.plans.Terminal.{Terminal}
 use Rattle.c104_plan.specs.Plans.{Plan}
 use Rattle.c104_plan.specs.PlanImage.{Image}
-use Rattle.c104_net.specs.Terminals.{new_terminal}
-use Rattle.c104_net.specs.declared.node.NodeOf.TheVariants as node
+use Rattle.c104_node.specs.Terminals.{new_terminal}
+use Rattle.c104_node.specs.declared.node.NodeOf.TheVariants as node
 use Rattle.c104_plan.specs.declared.ports.Port.{Port}
 use Rattle.c104_plan.specs.declared.ports.Port.TheVariants as port
 use Rattle.c104_event.specs.declared.events.Event.{Event}
@@ -20,11 +20,11 @@ use Rattle.c104_event.specs.declared.events.Event.TheVariants as event
 use Rattle.c104_event.specs.declared.faults.EventFault.{EventFault}
 use Rattle.c104_event.specs.declared.faults.EventFault.TheVariants as fault
 use Rattle.c104_switch.specs.declared.actions.ReplyOf.{ReplyOf}
-use Rattle.c104_net.specs.Acts.{plain_reply}
+use Rattle.c104_node.specs.Acts.{plain_reply}
 use Rattle.c104_net.specs.EventActs.{acts_step, event_acts}
-use Rattle.c104_net.specs.PortActs.{acts_limit}
-use Rattle.c104_net.specs.Nodes.{Node, nodes_arrived, nodes_peek}
-use Rattle.c104_net.specs.Places.{room_fault}
+use Rattle.c104_node.specs.PortActs.{acts_limit}
+use Rattle.c104_node.specs.Nodes.{Node, nodes_arrived, nodes_peek}
+use Rattle.c104_node.specs.Places.{room_fault}
 use Rattle.c104_plan.specs.Wiring.{peer}
 
 -- a network: its plan, and the state of its nodes

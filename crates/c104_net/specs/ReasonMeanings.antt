@@ -9,9 +9,9 @@ use Rattle.c104_plan.specs.declared.ports.Port.TheVariants as port
 use Rattle.c104_plan.specs.Wiring.{peer}
 use Rattle.c104_event.specs.declared.events.Event.{Event}
 use Rattle.c104_event.specs.declared.events.Event.TheVariants as event
-use Rattle.c104_net.specs.declared.node.NodeOf.TheVariants.{Switch, Terminal}
+use Rattle.c104_node.specs.declared.node.NodeOf.TheVariants.{Switch, Terminal}
 use Rattle.c104_net.specs.declared.reason.Reason.{Reason}
-use Rattle.c104_net.specs.Nodes.{Node}
+use Rattle.c104_node.specs.Nodes.{Node}
 use Rattle.c104_net.specs.Ends.{end_of}
 use Rattle.c104_net.specs.Network.{Network, terminal_place}
 use Rattle.c104_net.specs.Reasons.{claim_link}

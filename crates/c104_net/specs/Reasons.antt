@@ -13,13 +13,13 @@ use Rattle.c104_plan.specs.Wiring.{peer}
 use Rattle.c104_event.specs.declared.events.Event.{Event}
 use Rattle.c104_event.specs.declared.events.Event.TheVariants as event
 use Rattle.c104_event.specs.declared.faults.EventFault.{EventFault}
-use Rattle.c104_net.specs.declared.node.NodeOf.TheVariants.{Switch, Terminal}
-use Rattle.c104_net.specs.declared.ends.End.{End}
+use Rattle.c104_node.specs.declared.node.NodeOf.TheVariants.{Switch, Terminal}
+use Rattle.c104_node.specs.declared.ends.End.{End}
 use Rattle.c104_net.specs.declared.reason.Reason.{Reason}
-use Rattle.c104_net.specs.Nodes.{Node}
+use Rattle.c104_node.specs.Nodes.{Node}
 use Rattle.c104_net.specs.Ends.{end_of}
 use Rattle.c104_net.specs.Network.{Network, event_fault, terminal_place}
-use Rattle.c104_net.specs.NodeReasons.{node_enter_why, node_leave_why, node_credit_out_why, node_credit_in_why, node_input_why, node_claim_why, node_drain_why}
+use Rattle.c104_node.specs.NodeReasons.{node_enter_why, node_leave_why, node_credit_out_why, node_credit_in_why, node_input_why, node_claim_why, node_drain_why}
 
 -- a reason, at this port
 abbrev pub port_reason : Port → Option Unready → Option Reason

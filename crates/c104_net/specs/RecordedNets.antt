@@ -6,17 +6,17 @@ use Rattle.c104_token.specs.Kinds.{Kind}
 use Rattle.c104_switch.specs.Actions.{Reply}
 use Rattle.c104_plan.specs.Plans.{Plan}
 use Rattle.c104_event.specs.declared.events.Event.{Event}
-use Rattle.c104_net.specs.declared.acts.Entry.{Entry}
-use Rattle.c104_net.specs.declared.starts.NodeStart.{NodeStart}
+use Rattle.c104_node.specs.declared.acts.Entry.{Entry}
+use Rattle.c104_node.specs.declared.starts.NodeStart.{NodeStart}
 use Rattle.c104_net.specs.Network.{network_of}
 use Rattle.c104_net.specs.NetRecords.{IsNetRecord, NetRecord}
-use Rattle.c104_net.specs.Nodes.{Node}
-use Rattle.c104_net.specs.Places.{Shown}
+use Rattle.c104_node.specs.Nodes.{Node}
+use Rattle.c104_node.specs.Places.{Shown}
 use Rattle.c104_net.specs.Runs.{IsRunRecord}
-use Rattle.c104_net.specs.Quiet.{node_begin}
-use Rattle.c104_net.specs.Starts.{start_node, start_of}
-use Rattle.c104_net.specs.MappedNodes.{map_node}
-use Rattle.c104_net.specs.Traces.{seatless}
+use Rattle.c104_node.specs.Quiet.{node_begin}
+use Rattle.c104_node.specs.Starts.{start_node, start_of}
+use Rattle.c104_node.specs.MappedNodes.{map_node}
+use Rattle.c104_node.specs.Traces.{seatless}
 
 -- how a place is read: what kind of token its node carries, what the place shows, the node over plain tokens, and where
 -- it started

@@ -10,15 +10,16 @@ use Rattle.c104_switch.specs.Switch.{Input, Switch}
 use Rattle.c104_switch.specs.Phases.{with_header}
 use Rattle.c104_switch.specs.declared.phase.Phase.{Phase}
 use Rattle.c104_switch.specs.declared.phase.Phase.TheVariants.{Fresh, Head, Want, Stream, Sinking}
-use Rattle.c104_net.specs.declared.node.NodeOf.TheVariants as node
-use Rattle.c104_net.specs.Records.{node_start, node_state, NodeRecord}
-use Rattle.c104_net.specs.Nodes.{Node}
+use Rattle.c104_node.specs.declared.node.NodeOf.TheVariants as node
+use Rattle.c104_node.specs.Records.{node_start, node_state, NodeRecord}
+use Rattle.c104_node.specs.Nodes.{Node}
 use Rattle.c104_net.specs.RecordedNets.{reading, KeepsRecord, Reading}
-use Rattle.c104_net.specs.Tagged.{tagged_by, tagged_kind, TaggedToken}
-use Rattle.c104_net.specs.Terminals.{Terminal}
-use Rattle.c104_net.specs.TracedRecords.{plain_node, traced_start, TracedRecord}
-use Rattle.c104_net.specs.MappedNodes.{map_input, map_node, map_outgoing, map_switch, map_terminal}
-use Rattle.c104_net.specs.ShownNodes.{node_shown, counted_shown}
+use Rattle.c104_node.specs.Tagged.{tagged_by, tagged_kind}
+use Rattle.c104_node.specs.declared.tagged.TaggedToken.{TaggedToken}
+use Rattle.c104_node.specs.Terminals.{Terminal}
+use Rattle.c104_node.specs.TracedRecords.{plain_node, traced_start, TracedRecord}
+use Rattle.c104_node.specs.MappedNodes.{map_input, map_node, map_outgoing, map_switch, map_terminal}
+use Rattle.c104_node.specs.ShownNodes.{node_shown, counted_shown}
 
 -- mapping each token to itself changes no node
 map_self : (xs : List Token) → map (λ (x : Token). x) xs ≡ xs

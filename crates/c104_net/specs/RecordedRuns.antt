@@ -5,14 +5,14 @@ use Rattle.c104_token.specs.Kinds.{plain_kind}
 use Rattle.c104_switch.specs.Actions.{Reply}
 use Rattle.c104_event.specs.declared.events.Event.{Event}
 use Rattle.c104_event.specs.declared.faults.EventFault.{EventFault}
-use Rattle.c104_net.specs.declared.starts.NodeStart.{NodeStart}
+use Rattle.c104_node.specs.declared.starts.NodeStart.{NodeStart}
 use Rattle.c104_net.specs.EventRuns.{Answers, EventsEnd}
 use Rattle.c104_net.specs.Network.{WouldBeDone}
 use Rattle.c104_net.specs.NetRecords.{is_done, NetRecord}
-use Rattle.c104_net.specs.Places.{started_base}
+use Rattle.c104_node.specs.Places.{started_base}
 use Rattle.c104_net.specs.Rounds.{rounds}
 use Rattle.c104_net.specs.Stages.{stage_apply, Stage}
-use Rattle.c104_net.specs.Traces.{is_trace_full}
+use Rattle.c104_node.specs.Traces.{is_trace_full}
 use Rattle.c104_net.specs.EventDeeds.{event_full}
 
 -- the stage that a network with its record is at

@@ -4,8 +4,9 @@ use Rattle.c104_event.specs.declared.events.Event.TheVariants as event
 use Rattle.c104_event.specs.declared.faults.EventFault.{EventFault}
 use Rattle.c104_net.specs.Leading.{act_event}
 use Rattle.c104_net.specs.Network.{Network, network_apply}
-use Rattle.c104_net.specs.Traced.{Traced, traced_kind}
-use Rattle.c104_net.specs.declared.acts.Entry.{Entry}
+use Rattle.c104_node.specs.Traced.{traced_kind}
+use Rattle.c104_node.specs.declared.traced.Traced.{Traced}
+use Rattle.c104_node.specs.declared.acts.Entry.{Entry}
 use Rattle.c104_net.specs.declared.leading.Lead.{Lead}
 use Rattle.c104_switch.specs.Actions.{Reply}
 use Rattle.std.specs.Prelude.{List, None, Ok, Option, Result, Some, [], slice_get, unwrap_or, ℕ, ◌∷◌, ◌≡◌}

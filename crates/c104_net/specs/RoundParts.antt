@@ -8,8 +8,8 @@ use Rattle.std.specs.List.{flat_map}
 use Rattle.c104_plan.specs.Plans.{Plan}
 use Rattle.c104_plan.specs.declared.ports.Port.{Port}
 use Rattle.c104_event.specs.declared.events.Event.TheVariants as event
-use Rattle.c104_net.specs.declared.port_part.PortPart.{PortPart}
-use Rattle.c104_net.specs.declared.port_part.PortPart.TheVariants.{Credit, Cross, Turn}
+use Rattle.c104_node.specs.declared.port_part.PortPart.{PortPart}
+use Rattle.c104_node.specs.declared.port_part.PortPart.TheVariants.{Credit, Cross, Turn}
 use Rattle.c104_net.specs.Rounds.{is_wired, turn_at}
 
 -- whether an event was done, by its answer, or its fault

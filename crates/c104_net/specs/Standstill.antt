@@ -15,8 +15,8 @@ use Rattle.c104_plan.specs.declared.ports.Port.{Port}
 use Rattle.c104_plan.specs.declared.ports.Port.TheVariants as port
 use Rattle.c104_event.specs.declared.events.Event.{Event}
 use Rattle.c104_event.specs.declared.events.Event.TheVariants as event
-use Rattle.c104_net.specs.declared.node.NodeOf.TheVariants as node
-use Rattle.c104_net.specs.Nodes.{Node}
+use Rattle.c104_node.specs.declared.node.NodeOf.TheVariants as node
+use Rattle.c104_node.specs.Nodes.{Node}
 use Rattle.c104_net.specs.Network.{Network, network_apply}
 use Rattle.c104_net.specs.QuietNets.{IsQuiet}
 use Rattle.c104_net.specs.Reasons.{network_why}

@@ -4,7 +4,7 @@ use Rattle.c104_plan.specs.Plans.{Plan}
 use Rattle.c104_event.specs.declared.events.Event.{Event}
 use Rattle.c104_net.specs.Leading.{led_events}
 use Rattle.c104_net.specs.Merges.{by_ticket}
-use Rattle.c104_net.specs.declared.acts.Entry.{Entry}
+use Rattle.c104_node.specs.declared.acts.Entry.{Entry}
 use Rattle.std.specs.Prelude.{List, [], length, map, suc, ℕ, ◌++◌, ◌∷◌}
 
 -- the events that traces tell, with their tickets, one trace after the other, by the number of switches and the place

@@ -4,13 +4,14 @@ use Rattle.c104_token.specs.declared.tokens.Token.{Token}
 use Rattle.c104_switch.specs.Actions.{Reply}
 use Rattle.c104_plan.specs.Plans.{Plan}
 use Rattle.c104_event.specs.declared.events.Event.{Event}
-use Rattle.c104_net.specs.declared.starts.NodeStart.{NodeStart}
-use Rattle.c104_net.specs.Nodes.{Node}
+use Rattle.c104_node.specs.declared.starts.NodeStart.{NodeStart}
+use Rattle.c104_node.specs.Nodes.{Node}
 use Rattle.c104_net.specs.Network.{Network, network_of}
 use Rattle.c104_net.specs.Runs.{IsDoneRun}
-use Rattle.c104_net.specs.Starts.{start_node}
-use Rattle.c104_net.specs.Traced.{Traced, traced_kind}
-use Rattle.c104_net.specs.MappedNodes.{map_node}
+use Rattle.c104_node.specs.Starts.{start_node}
+use Rattle.c104_node.specs.Traced.{traced_kind}
+use Rattle.c104_node.specs.declared.traced.Traced.{Traced}
+use Rattle.c104_node.specs.MappedNodes.{map_node}
 
 -- the same over other tokens: each token is mapped, and all else stays
 module _ {A B : Type 0} (f : A → B) where

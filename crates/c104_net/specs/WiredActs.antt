@@ -4,14 +4,14 @@ use Rattle.c104_token.specs.declared.tokens.Token.{Token}
 use Rattle.c104_plan.specs.declared.ports.Port.{Port}
 use Rattle.c104_plan.specs.Plans.{Plan}
 use Rattle.c104_plan.specs.Wiring.{peer}
-use Rattle.c104_net.specs.declared.acts.Entry.{Entry}
-use Rattle.c104_net.specs.declared.ends.End.{End}
-use Rattle.c104_net.specs.declared.starts.NodeStart.{NodeStart}
-use Rattle.c104_net.specs.ActLinks.{act_link}
+use Rattle.c104_node.specs.declared.acts.Entry.{Entry}
+use Rattle.c104_node.specs.declared.ends.End.{End}
+use Rattle.c104_node.specs.declared.starts.NodeStart.{NodeStart}
+use Rattle.c104_node.specs.ActLinks.{act_link}
 use Rattle.c104_net.specs.Ends.{end_of}
 use Rattle.c104_net.specs.NetRecords.{NetRecord}
-use Rattle.c104_net.specs.Nodes.{Node}
-use Rattle.c104_net.specs.Records.{IsRecorded, NodeRecord}
+use Rattle.c104_node.specs.Nodes.{Node}
+use Rattle.c104_node.specs.Records.{IsRecorded, NodeRecord}
 
 -- there is a port at this end of a wire, and another at the wire's other end
 abbrev pub IsWiredEnd : Plan → End → Type 0

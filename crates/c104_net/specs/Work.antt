@@ -15,9 +15,9 @@ use Rattle.c104_plan.specs.declared.ports.Port.{Port}
 use Rattle.c104_plan.specs.declared.ports.Port.TheVariants as port
 use Rattle.c104_check.specs.Walks.{port_of}
 use Rattle.c104_check.specs.declared.ports.SwitchPort.{SwitchPort}
-use Rattle.c104_net.specs.declared.node.NodeOf.TheVariants as node
-use Rattle.c104_net.specs.Nodes.{Node}
-use Rattle.c104_net.specs.Terminals.{Terminal}
+use Rattle.c104_node.specs.declared.node.NodeOf.TheVariants as node
+use Rattle.c104_node.specs.Nodes.{Node}
+use Rattle.c104_node.specs.Terminals.{Terminal}
 
 -- as much for each element
 abbrev pub weigh : {X : Type 0} → ℕ → List X → ℕ

@@ -7,12 +7,10 @@ ghost use Rattle.c104_net.specs.EventActs.{crossing_acts, event_acts};
 ghost use Rattle.c104_net.specs.FarEnds.{far_end};
 ghost use Rattle.c104_net.specs.Network.{event_fault, wired_fault};
 
-use crate::acts::ActOf;
-use crate::crossings::{Crossing, Joint};
-use crate::ends::End;
 use crate::wires::Wires;
 use c104_control::ControlBytes;
 use c104_event::{Event, EventFault, Port};
+use c104_node::{ActOf, Crossing, End, Joint};
 use c104_switch::{ActionOf, LINKS};
 use c104_token::{MAX_PACKET_BYTES, Packet, TokenKind};
 

@@ -7,11 +7,9 @@ mod starts;
 
 use crate::bare_run::{RunOf, terminals_of};
 use crate::events::happen;
-use crate::node::NodeOf;
-use crate::stamps::Stamp;
-use crate::terminal::TerminalOf;
 use crate::wires::Wires;
 use c104_event::{Event, EventFault};
+use c104_node::{NodeOf, Stamp, TerminalOf};
 use c104_switch::Reply;
 use c104_token::TokenKind;
 use std::marker::Model;

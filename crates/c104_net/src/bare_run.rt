@@ -1,10 +1,9 @@
 //! A run of a network that is finished.
 ghost use Rattle.std.specs.Prelude.{◌≡◌, ◌≤◌, [], length};
 ghost use Rattle.std.specs.Vec.{vec_capacity};
-ghost use Rattle.c104_net.specs.Nodes.{terminals_of};
+ghost use Rattle.c104_node.specs.Nodes.{terminals_of};
 
-use crate::node::NodeOf;
-use crate::terminal::TerminalOf;
+use c104_node::{NodeOf, TerminalOf};
 use c104_plan::Plan;
 use c104_token::TokenKind;
 use std::marker::Model;

@@ -1,23 +1,20 @@
 //! The acts of an event, done at the places of nodes.
 ghost use Rattle.std.specs.Prelude.{◌≡◌, ◌-◌, None, map, slice_get};
-ghost use Rattle.c104_net.specs.Acts.{IsWithinLimits};
+ghost use Rattle.c104_node.specs.Acts.{IsWithinLimits};
 ghost use Rattle.c104_net.specs.AskedActs.{AreEnds, acts_asked};
-ghost use Rattle.c104_net.specs.PortActs.{act_limit};
+ghost use Rattle.c104_node.specs.PortActs.{act_limit};
 ghost use Rattle.c104_net.specs.EventsAtPlaces.{ActsDone};
-ghost use Rattle.c104_net.specs.PlaceActs.{AloneDone};
-ghost use Rattle.c104_net.specs.ActLinks.{act_link};
-ghost use Rattle.c104_net.specs.Places.{bases, states};
+ghost use Rattle.c104_node.specs.PlaceActs.{AloneDone};
+ghost use Rattle.c104_node.specs.ActLinks.{act_link};
+ghost use Rattle.c104_node.specs.Places.{bases, states};
 ghost use Rattle.c104_net.specs.KnownWires.{KnowWires};
-ghost use Rattle.c104_net.specs.declared.acts.ActOf.TheVariants as act;
+ghost use Rattle.c104_node.specs.declared.acts.ActOf.TheVariants as act;
 
-use crate::acts::ActOf;
 use crate::asked::Asked;
-use crate::joint::joint_at;
-use crate::place::Place;
-use crate::places::{act_ready, is_full_at, node_at, ready_at};
-use crate::sent_packet::SentPacket;
-use crate::stamps::Stamp;
 use c104_event::EventFault;
+use c104_node::{
+    ActOf, Place, SentPacket, Stamp, act_ready, is_full_at, joint_at, node_at, ready_at,
+};
 use c104_plan::Plan;
 use c104_switch::ReplyOf;
 use c104_token::{Packet, TokenKind};

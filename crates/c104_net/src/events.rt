@@ -1,16 +1,15 @@
 //! The events of a network, over any places of its nodes: one act, or one at each end of a wire.
 ghost use Rattle.std.specs.Prelude.{◌≡◌, map};
 ghost use Rattle.c104_plan.specs.Plans.{IsPlan};
-ghost use Rattle.c104_net.specs.Places.{bases};
+ghost use Rattle.c104_node.specs.Places.{bases};
 ghost use Rattle.c104_net.specs.KnownWires.{KnowWires};
 ghost use Rattle.c104_net.specs.EventsAtPlaces.{EventDone, told_answer};
 
 use crate::asked::acts_of;
 use crate::doing::do_acts;
-use crate::place::Place;
-use crate::stamps::Stamp;
 use crate::wires::Wires;
 use c104_event::{Event, EventFault};
+use c104_node::{Place, Stamp};
 use c104_switch::{Reply, ReplyOf};
 use c104_token::TokenKind;
 

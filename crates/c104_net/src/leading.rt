@@ -7,12 +7,11 @@ ghost use Rattle.c104_net.specs.Leading.{act_event, action_event, led_events, le
 ghost use Rattle.c104_net.specs.Merges.{by_ticket};
 ghost use Rattle.c104_net.specs.Replays.{lead_event};
 ghost use Rattle.c104_net.specs.ToldEvents.{told_by, told_event};
-ghost use Rattle.c104_net.specs.declared.acts.Entry.{Entry as TheEntry};
+ghost use Rattle.c104_node.specs.declared.acts.Entry.{Entry as TheEntry};
 
-use crate::acts::{Act, Entry};
-use crate::sent_packet::SentPacket;
 use c104_control::ControlBytes;
 use c104_event::{Event, Port};
+use c104_node::{Act, Entry, SentPacket};
 use c104_switch::{Action, ActionOf};
 use c104_token::{Items, NoMemory, Packet};
 use std::alloc::Global;

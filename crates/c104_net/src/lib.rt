@@ -17,31 +17,18 @@
 //! again and again; a `Watch` is told how far they are.
 #![tactic(auto)]
 
-mod acts;
 mod asked;
 mod bare_net;
 mod bare_run;
-mod counted;
-mod crossings;
 mod doing;
-mod ends;
 mod events;
 mod faults;
-mod history;
-mod joint;
 mod leading;
-mod lent;
 mod net;
-mod node;
-mod origins;
-mod place;
 mod place_tokens;
 mod place_views;
-mod places;
-mod port_part;
 mod reason;
 mod reasons;
-mod recorded;
 mod recorded_net;
 mod recorded_place;
 mod recording;
@@ -49,31 +36,21 @@ mod replays;
 mod rounds;
 mod run;
 mod run_parts;
-mod sent_packet;
-mod stamps;
 mod standstill;
-mod starts;
-mod tagged;
-mod terminal;
-mod traced;
 mod traced_net;
 mod watch;
 mod wires;
 
-pub use acts::{Act, ActOf, Entry};
 pub use c104_event::{Event, EventFault, Port};
+pub use c104_node::{
+    Act, ActOf, Entry, NodeStart, Origin, SentPacket, Source, Stamp, TaggedToken, TerminalStart,
+    TerminalView, Traced, all_started, origin_of, origins_of,
+};
 pub use faults::PlaceFault;
 pub use net::Net;
-pub use origins::{Origin, origin_of, origins_of};
 pub use reason::Reason;
 pub use recorded_net::RecordedNet;
 pub use recorded_place::RecordedPlace;
 pub use run::Run;
-pub use sent_packet::SentPacket;
-pub use stamps::Stamp;
-pub use starts::{NodeStart, all_started};
-pub use tagged::TaggedToken;
-pub use terminal::{TerminalStart, TerminalView};
-pub use traced::{Source, Traced};
 pub use traced_net::TracedNet;
 pub use watch::{Unwatched, Watch};

@@ -16,17 +16,15 @@ mod beginning;
 mod deadlock;
 mod work;
 
-use crate::acts::Entry;
 use crate::faults::PlaceFault;
 use crate::place_views::arrived_at;
-use crate::recorded::Node;
 use crate::recorded_net::RecordedNet;
 use crate::recorded_place::retire_places;
 use crate::recording::{place_new_recorded, place_recorded};
 use crate::run::Run;
 use crate::run_parts::{RunParts, parts_of};
-use crate::stamps::Stamp;
 use crate::wires::Wires;
+use c104_node::{Entry, Node, Stamp};
 use c104_plan::{Image, Plan};
 use c104_token::{NoMemory, Token};
 use std::alloc::Global;

@@ -3,13 +3,12 @@ ghost use Rattle.std.specs.Prelude.{◌≡◌, map};
 ghost use Rattle.std.specs.Option.{option_copied};
 ghost use Rattle.c104_net.specs.Network.{network_of};
 ghost use Rattle.c104_net.specs.NetViews.{network_input_token, network_output_token, network_sent_packet};
-ghost use Rattle.c104_net.specs.Views.{nodes_input_token, nodes_output_token, nodes_sent_packet};
-ghost use Rattle.c104_net.specs.Places.{states};
+ghost use Rattle.c104_node.specs.Views.{nodes_input_token, nodes_output_token, nodes_sent_packet};
+ghost use Rattle.c104_node.specs.Places.{states};
 
-use crate::place::Place;
-use crate::places::node_at;
 use crate::wires::Wires;
 use c104_event::Port;
+use c104_node::{Place, node_at};
 use c104_token::{Packet, TokenKind};
 
 /// The token at this index of what came in at a port. None past the last one, or where the plan has no such port.

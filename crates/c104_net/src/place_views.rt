@@ -3,16 +3,14 @@
 ghost use Rattle.std.specs.Prelude.{◌≡◌, ◌↔◌, map, All, IsTrue};
 ghost use Rattle.std.specs.Option.{option_copied};
 ghost use Rattle.c104_net.specs.Network.{network_arrived, network_of, network_peek};
-ghost use Rattle.c104_net.specs.Nodes.{nodes_arrived, nodes_peek};
-ghost use Rattle.c104_net.specs.Quiet.{IsQuietNode};
-ghost use Rattle.c104_net.specs.Views.{nodes_link_view, nodes_terminal_view};
+ghost use Rattle.c104_node.specs.Nodes.{nodes_arrived, nodes_peek};
+ghost use Rattle.c104_node.specs.Quiet.{IsQuietNode};
+ghost use Rattle.c104_node.specs.Views.{nodes_link_view, nodes_terminal_view};
 ghost use Rattle.c104_net.specs.NetViews.{network_link_view, network_terminal_view};
-ghost use Rattle.c104_net.specs.Places.{states};
+ghost use Rattle.c104_node.specs.Places.{states};
 
-use crate::place::Place;
-use crate::places::node_at;
-use crate::terminal::TerminalView;
 use crate::wires::Wires;
+use c104_node::{Place, TerminalView, node_at};
 use c104_switch::LinkView;
 use c104_token::TokenKind;
 

@@ -4,16 +4,14 @@ ghost use Rattle.c104_event.specs.declared.events.Event.TheVariants as event;
 ghost use Rattle.c104_switch.specs.Reasons.{why_at};
 ghost use Rattle.c104_net.specs.Network.{network_of};
 ghost use Rattle.c104_net.specs.Reasons.{claim_reason, end_why, network_why};
-ghost use Rattle.c104_net.specs.NodeReasons.{node_enter_why, node_leave_why, node_credit_out_why, node_credit_in_why};
-ghost use Rattle.c104_net.specs.NodeReasons.{node_input_why, node_claim_why, node_drain_why};
-ghost use Rattle.c104_net.specs.Places.{states};
+ghost use Rattle.c104_node.specs.NodeReasons.{node_enter_why, node_leave_why, node_credit_out_why, node_credit_in_why};
+ghost use Rattle.c104_node.specs.NodeReasons.{node_input_why, node_claim_why, node_drain_why};
+ghost use Rattle.c104_node.specs.Places.{states};
 
-use crate::ends::End;
-use crate::place::Place;
-use crate::places::node_at;
 use crate::reason::Reason;
 use crate::wires::Wires;
 use c104_event::{Event, Port};
+use c104_node::{End, Place, node_at};
 use c104_switch::{LINKS, Unready};
 use c104_token::TokenKind;
 

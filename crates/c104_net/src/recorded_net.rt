@@ -9,9 +9,9 @@ mod rounds;
 
 use crate::events::happen;
 use crate::recorded_place::{RecordedPlace, retire_places};
-use crate::stamps::Stamp;
 use crate::wires::Wires;
 use c104_event::{Event, EventFault};
+use c104_node::Stamp;
 use c104_plan::Plan;
 use c104_switch::Reply;
 use c104_token::TokenKind;
@@ -35,7 +35,7 @@ pub struct RecordedNet<T: TokenKind, P: RecordedPlace<T>> {
 impl<T: TokenKind, P: RecordedPlace<T>> Model for RecordedNet<T, P> {
     ghost use Rattle.std.specs.Prelude.{map};
     ghost use Rattle.c104_net.specs.NetRecords.{NetRecord};
-    ghost use Rattle.c104_net.specs.Places.{bases};
+    ghost use Rattle.c104_node.specs.Places.{bases};
     ghost use Rattle.c104_net.specs.KnownWires.{KnowWires};
     ghost use Rattle.c104_net.specs.RecordedNets.{places_record, reading, IsRecordedNet};
 

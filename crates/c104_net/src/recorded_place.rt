@@ -2,16 +2,16 @@
 ghost use Rattle.std.specs.Prelude.{◌≡◌};
 ghost use Rattle.c104_token.specs.declared.tokens.Token.{Token as TheToken};
 ghost use Rattle.c104_plan.specs.Plans.{Plan as ThePlan};
-ghost use Rattle.c104_net.specs.Nodes.{Node};
-ghost use Rattle.c104_net.specs.Quiet.{IsQuietNode};
+ghost use Rattle.c104_node.specs.Nodes.{Node};
+ghost use Rattle.c104_node.specs.Quiet.{IsQuietNode};
 ghost use Rattle.c104_net.specs.RecordedNets.{begun_told, place_told, reading, KeepsRecord};
-ghost use Rattle.c104_net.specs.Starts.{start_node};
-ghost use Rattle.c104_net.specs.declared.starts.NodeStart.{NodeStart as TheStart};
+ghost use Rattle.c104_node.specs.Starts.{start_node};
+ghost use Rattle.c104_node.specs.declared.starts.NodeStart.{NodeStart as TheStart};
 
 mod counting;
 mod keeping;
 
-use crate::place::Place;
+use c104_node::Place;
 use c104_token::TokenKind;
 
 /// A place whose node is seen with its record, over plain tokens. Whether the entries are kept when it runs, or only

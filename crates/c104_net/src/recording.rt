@@ -1,15 +1,12 @@
 //! The nodes of a network that keep what they do, at first.
 ghost use Rattle.std.specs.Prelude.{◌≡◌, ◌++◌, [], true, map, OnOk};
 ghost use Rattle.c104_switch.specs.Switch.{new_switch, new_switch_with};
-ghost use Rattle.c104_net.specs.Terminals.{new_terminal};
-ghost use Rattle.c104_net.specs.declared.node.NodeOf.TheVariants as node;
+ghost use Rattle.c104_node.specs.Terminals.{new_terminal};
+ghost use Rattle.c104_node.specs.declared.node.NodeOf.TheVariants as node;
 ghost use Rattle.c104_net.specs.Network.{new_network, placed_network};
 ghost use Rattle.c104_net.specs.NetRecords.{first_record, shown_record};
 
-use crate::node::NodeOf;
-use crate::recorded::Node;
-use crate::starts::NodeStart;
-use crate::terminal::{TerminalOf, TerminalStart};
+use c104_node::{Node, NodeOf, NodeStart, TerminalOf, TerminalStart};
 use c104_plan::{Image, Plan};
 use c104_switch::{SwitchOf, SwitchStart};
 use c104_token::NoMemory;

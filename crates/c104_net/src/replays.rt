@@ -3,11 +3,10 @@ ghost use Rattle.std.specs.Prelude.{[], ◌∷◌, map, OnOk};
 ghost use Rattle.c104_net.specs.Replays.{LeadTo, lead_event};
 ghost use Rattle.c104_net.specs.ToldEvents.{told_event, told_events};
 
-use crate::acts::Entry;
 use crate::bare_net::NetOf;
 use crate::leading::{Lead, event_of, sorted_leads};
-use crate::traced::Traced;
 use c104_event::Event;
+use c104_node::{Entry, Traced};
 use c104_plan::Plan;
 use c104_token::{Items, NoMemory};
 use std::alloc::Global;

@@ -4,7 +4,7 @@
 //! event of which the near end says that it isn't ready: it would change nothing.
 ghost use Rattle.std.specs.Prelude.{map};
 ghost use Rattle.c104_plan.specs.Plans.{IsPlan};
-ghost use Rattle.c104_net.specs.Places.{bases};
+ghost use Rattle.c104_node.specs.Places.{bases};
 ghost use Rattle.c104_net.specs.KnownWires.{KnowWires};
 ghost use Rattle.c104_net.specs.EventRuns.{EventsEnd};
 ghost use Rattle.c104_net.specs.Rounds.{round, rounds};
@@ -15,10 +15,10 @@ mod attempts;
 mod parts;
 mod ports;
 
-use crate::place::Place;
 use crate::watch::Watch;
 use crate::wires::Wires;
 use c104_event::EventFault;
+use c104_node::Place;
 use c104_token::TokenKind;
 use parts::{claim_outputs, credit_ports, cross_ports, drain_terminals, turn_inputs};
 

@@ -7,9 +7,8 @@ ghost use Rattle.c104_net.specs.FinishedRecords.{IsFinishedRecord};
 mod deadlock;
 mod origins;
 
-use crate::acts::Entry;
 use crate::run_parts::RunParts;
-use crate::starts::NodeStart;
+use c104_node::{Entry, NodeStart};
 use c104_plan::Plan;
 use c104_token::Token;
 use std::marker::Model;

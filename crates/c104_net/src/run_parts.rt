@@ -2,13 +2,10 @@
 ghost use Rattle.std.specs.Prelude.{◌≡◌, ◌≤◌, ◌+◌, ◌++◌, ℕ, [], length, map, All, IfOk};
 ghost use Rattle.std.specs.Option.{option_to_list};
 ghost use Rattle.std.specs.Vec.{vec_capacity};
-ghost use Rattle.c104_net.specs.Nodes.{terminals_of};
-ghost use Rattle.c104_net.specs.Records.{node_start, node_state, node_trace, IsRecorded, NodeRecord};
+ghost use Rattle.c104_node.specs.Nodes.{terminals_of};
+ghost use Rattle.c104_node.specs.Records.{node_start, node_state, node_trace, IsRecorded, NodeRecord};
 
-use crate::acts::Entry;
-use crate::recorded::Node;
-use crate::starts::NodeStart;
-use crate::terminal::TerminalOf;
+use c104_node::{Entry, Node, NodeStart, TerminalOf};
 use c104_token::{Items, NoMemory, Token};
 use std::alloc::Global;
 

@@ -10,13 +10,12 @@ ghost use Rattle.c104_net.specs.RoundParts.{port_events, wired_events};
 ghost use Rattle.c104_net.specs.Rounds.{all_claims, all_drains, claims_of, round, switch_claims, turn_at};
 ghost use Rattle.c104_net.specs.Rounds.{wired_links, wired_ports, wired_terminals};
 ghost use Rattle.c104_net.specs.Standstill.{has_reason, have_reasons};
-ghost use Rattle.c104_net.specs.Places.{states};
+ghost use Rattle.c104_node.specs.Places.{states};
 
-use crate::place::Place;
-use crate::port_part::PortPart;
 use crate::reasons::first_reason;
 use crate::wires::Wires;
 use c104_event::{Event, Port};
+use c104_node::{Place, PortPart};
 use c104_switch::LINKS;
 use c104_token::TokenKind;
 

@@ -6,7 +6,7 @@ ghost use Rattle.std.specs.Prelude.{◌≡◌, map, IfOk};
 ghost use Rattle.std.specs.Global.{Vec as Kept};
 ghost use Rattle.c104_net.specs.NetRecords.{fresh_record};
 ghost use Rattle.c104_net.specs.Network.{new_network};
-ghost use Rattle.c104_net.specs.Origins.{Origin as TheOrigin};
+ghost use Rattle.c104_node.specs.declared.origins.Origin.{Origin as TheOrigin};
 ghost use Rattle.c104_net.specs.FinishedRecords.{record_finish};
 ghost use Rattle.c104_net.specs.RunOrigins.{AreOrigins};
 
@@ -14,12 +14,10 @@ mod arriving;
 mod nodes;
 mod tokens;
 
-use crate::counted::CountedNode;
-use crate::origins::Origin;
 use crate::recorded_net::RecordedNet;
 use crate::recorded_place::retire_places;
-use crate::tagged::{TaggedToken, tagged_origins};
 use crate::wires::Wires;
+use c104_node::{CountedNode, Origin, TaggedToken, tagged_origins};
 use c104_plan::Plan;
 use c104_token::NoMemory;
 use nodes::add_new_nodes;

@@ -11,8 +11,8 @@ ghost use Rattle.c104_net.specs.Rounds.{is_wired};
 ghost use Rattle.c104_net.specs.LinkedSets.{AreLinked};
 ghost use Rattle.c104_regs.specs.declared.registers.TheConstants.{LINKS};
 
-use crate::ends::End;
 use c104_event::{EventFault, Port};
+use c104_node::End;
 use c104_plan::Plan;
 use c104_switch::{LINKS, LinkSet};
 use c104_token::NoMemory;

@@ -1,9 +1,9 @@
 -- The lines of what a terminal received, packet by packet, with the origins of what arrived at their side.
 use Rattle.c104_plan.specs.Plans.{Plan}
 use Rattle.c104_net.proofs.OriginPieces.{one_origin, piece_origins}
-use Rattle.c104_net.specs.Origins.{AreSure, origins_in}
-use Rattle.c104_net.specs.declared.origins.Origin.{Origin}
-use Rattle.c104_net.specs.declared.traced.Traced.{Traced}
+use Rattle.c104_node.specs.Origins.{AreSure, origins_in}
+use Rattle.c104_node.specs.declared.origins.Origin.{Origin}
+use Rattle.c104_node.specs.declared.traced.Traced.{Traced}
 use Rattle.c104_session.specs.Shown.{packet_line, packets_text, received_text}
 use Rattle.c104_token.specs.Cut.{whole_pieces}
 use Rattle.c104_token.specs.Packets.{packet_tokens}

@@ -14,12 +14,12 @@ use Rattle.c104_net.specs.Deliveries.{arrived_at}
 use Rattle.c104_net.specs.FinishedRecords.{FinishedRecord, record_finish}
 use Rattle.c104_net.specs.NetRecords.{NetRecord, fresh_record}
 use Rattle.c104_net.specs.Network.{Network, placed_network}
-use Rattle.c104_net.specs.Origins.{origins_in}
-use Rattle.c104_net.specs.declared.origins.Origin.{Origin}
+use Rattle.c104_node.specs.Origins.{origins_in}
+use Rattle.c104_node.specs.declared.origins.Origin.{Origin}
 use Rattle.c104_net.specs.RecordedRuns.{record_apply}
 use Rattle.c104_net.specs.Rounds.{rounds}
 use Rattle.c104_net.specs.TracedEnds.{traced_end}
-use Rattle.c104_net.specs.declared.traced.Traced.{Traced}
+use Rattle.c104_node.specs.declared.traced.Traced.{Traced}
 use Rattle.c104_session.specs.Lines.{script_lines, is_long}
 use Rattle.c104_script.specs.Script.{read_script_line}
 use Rattle.c104_script.specs.declared.faults.LineFault.{LineFault}

@@ -4,7 +4,7 @@ ghost use Rattle.std.specs.Global.{Vec as Kept};
 ghost use Rattle.c104_net.specs.Finished.{run_arrived};
 ghost use Rattle.c104_net.specs.FinishedRecords.{record_finish};
 ghost use Rattle.c104_net.specs.RunOrigins.{AreOrigins};
-ghost use Rattle.c104_net.specs.declared.origins.Origin.{Origin as TheOrigin};
+ghost use Rattle.c104_node.specs.declared.origins.Origin.{Origin as TheOrigin};
 ghost use Rattle.c104_token.specs.declared.tokens.Token.{Token as TheToken};
 
 use c104_net::{Origin, TracedNet};

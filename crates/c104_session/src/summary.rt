@@ -4,10 +4,10 @@ ghost use Rattle.std.specs.Global.{Vec as Kept};
 ghost use Rattle.c104_plan.specs.PortTexts.{terminal_name};
 ghost use Rattle.c104_net.specs.Deliveries.{arrived_at};
 ghost use Rattle.c104_net.specs.RunOrigins.{AreOrigins};
-ghost use Rattle.c104_net.specs.Origins.{AreSure, origins_in};
-ghost use Rattle.c104_net.specs.declared.origins.Origin.{Origin as TheOrigin};
+ghost use Rattle.c104_node.specs.Origins.{AreSure, origins_in};
+ghost use Rattle.c104_node.specs.declared.origins.Origin.{Origin as TheOrigin};
 ghost use Rattle.c104_net.specs.TracedEnds.{traced_end};
-ghost use Rattle.c104_net.specs.declared.traced.Traced.{Traced as TheTraced};
+ghost use Rattle.c104_node.specs.declared.traced.Traced.{Traced as TheTraced};
 ghost use Rattle.c104_session.specs.Shown.{origin_text, packet_line, packets_text, summary};
 ghost use Rattle.c104_token.specs.Packets.{packet_tokens};
 

@@ -17,19 +17,19 @@ use Rattle.c104_net.specs.Balance.{AreInPlace}
 use Rattle.c104_net.specs.EventPlaces.{event_place}
 use Rattle.c104_net.specs.NetRecords.{IsNetRecord, NetRecord, fresh_record, record_begun_if}
 use Rattle.c104_net.specs.Network.{Network, network_of}
-use Rattle.c104_net.specs.Nodes.{Node}
-use Rattle.c104_net.specs.Quiet.{node_begin}
+use Rattle.c104_node.specs.Nodes.{Node}
+use Rattle.c104_node.specs.Quiet.{node_begin}
 use Rattle.c104_net.specs.QuietNets.{network_begin}
 use Rattle.c104_net.specs.Runs.{IsRunRecord, at_node}
-use Rattle.c104_net.specs.Starts.{start_node, start_of}
-use Rattle.c104_net.specs.MappedNodes.{map_node, map_switch}
-use Rattle.c104_net.specs.Traces.{Deed, part, seatless}
+use Rattle.c104_node.specs.Starts.{start_node, start_of}
+use Rattle.c104_node.specs.MappedNodes.{map_node, map_switch}
+use Rattle.c104_node.specs.Traces.{Deed, part, seatless}
 use Rattle.c104_net.specs.EventDeeds.{event_deeds}
 use Rattle.c104_net.specs.Unchanged.{AreStartsOf, IsUnchanged, MayHappen}
-use Rattle.c104_net.specs.declared.acts.Entry.{Entry}
-use Rattle.c104_net.specs.declared.stamps.Stamp.{Stamp}
-use Rattle.c104_net.specs.declared.starts.NodeStart.{NodeStart}
-use Rattle.c104_net.specs.declared.traced.Traced.{Traced}
+use Rattle.c104_node.specs.declared.acts.Entry.{Entry}
+use Rattle.c104_node.specs.declared.stamps.Stamp.{Stamp}
+use Rattle.c104_node.specs.declared.starts.NodeStart.{NodeStart}
+use Rattle.c104_node.specs.declared.traced.Traced.{Traced}
 use Rattle.c104_regs.specs.declared.settings.Settings.{Settings}
 use Rattle.c104_switch.specs.Actions.{Reply}
 use Rattle.c104_switch.specs.Starts.{SwitchStart, switch_start}
@@ -42,9 +42,9 @@ use Rattle.std.proofs.Common.{All, Bool, List, None, Option, Some, [], ap, false
 use Rattle.std.proofs.lemmas.Option.{slice_get-map}
 use Rattle.std.specs.List.{AllByRecursion}
 use Rattle.c104_event.specs.declared.events.Event.TheVariants as event
-use Rattle.c104_net.specs.declared.acts.ActOf.TheVariants as act
-use Rattle.c104_net.specs.declared.node.NodeOf.TheVariants as node
-use Rattle.c104_net.specs.declared.starts.NodeStart.TheVariants as start
+use Rattle.c104_node.specs.declared.acts.ActOf.TheVariants as act
+use Rattle.c104_node.specs.declared.node.NodeOf.TheVariants as node
+use Rattle.c104_node.specs.declared.starts.NodeStart.TheVariants as start
 use Rattle.c104_switch.specs.declared.actions.ActionOf.TheVariants as action
 
 -- an event whose entry is calm

@@ -9,22 +9,22 @@ use Rattle.c104_event.specs.declared.faults.EventFault.{EventFault}
 use Rattle.c104_link.proofs.MadeSteps.{All-place}
 use Rattle.c104_net.proofs.RecordedRuns.{record_plan}
 use Rattle.c104_net.specs.EventActs.{crossing_acts, port_place}
-use Rattle.c104_net.specs.PortActs.{far_act, near_act}
+use Rattle.c104_node.specs.PortActs.{far_act, near_act}
 use Rattle.c104_net.specs.EventRuns.{EventsEnd, Outcome, run_events, unless_fault}
 use Rattle.c104_net.specs.NetRecords.{IsNetRecord, NetRecord, fresh_record}
 use Rattle.c104_net.specs.Network.{network_apply, placed_network, switch_nodes, terminal_nodes}
-use Rattle.c104_net.specs.Nodes.{Node}
+use Rattle.c104_node.specs.Nodes.{Node}
 use Rattle.c104_net.specs.RecordedRuns.{AnswersRecord, RecordsRounds, record_apply, record_stage}
 use Rattle.c104_net.specs.Rounds.{all_claims, all_drains, claims_of, link_numbers, round, rounds, switch_claims, turn_at, wired_ports}
 use Rattle.c104_net.specs.Stages.{stage_full, unless_full}
-use Rattle.c104_net.specs.Starts.{start_of}
-use Rattle.c104_net.specs.Traces.{Deed, entry_of, kept_of, lone_deed, noted_all, noted_at, noted_in, part, seatless}
+use Rattle.c104_node.specs.Starts.{start_of}
+use Rattle.c104_node.specs.Traces.{Deed, entry_of, kept_of, lone_deed, noted_all, noted_at, noted_in, part, seatless}
 use Rattle.c104_net.specs.EventDeeds.{acts_deeds, event_deeds}
-use Rattle.c104_net.specs.declared.acts.ActOf.{ActOf}
-use Rattle.c104_net.specs.declared.acts.Entry.{Entry}
-use Rattle.c104_net.specs.declared.crossings.Crossing.{Crossing}
-use Rattle.c104_net.specs.declared.crossings.Crossing.TheVariants as crossing
-use Rattle.c104_net.specs.declared.stamps.Stamp.{Stamp}
+use Rattle.c104_node.specs.declared.acts.ActOf.{ActOf}
+use Rattle.c104_node.specs.declared.acts.Entry.{Entry}
+use Rattle.c104_node.specs.declared.crossings.Crossing.{Crossing}
+use Rattle.c104_node.specs.declared.crossings.Crossing.TheVariants as crossing
+use Rattle.c104_node.specs.declared.stamps.Stamp.{Stamp}
 use Rattle.c104_check.specs.Routes.{Routes, routes_of, settings_in}
 use Rattle.c104_plan.specs.Wiring.{peer}
 use Rattle.c104_regs.specs.declared.settings.Settings.{Settings}
@@ -38,8 +38,8 @@ use Rattle.std.proofs.Common.{All, Bool, Err, List, None, Ok, Option, Result, So
 use Rattle.std.proofs.lemmas.List.Elements.{All-append, All-cons, All-map, All-nil, All-set}
 use Rattle.std.specs.List.{AllByRecursion, range_with_len}
 use Rattle.c104_event.specs.declared.events.Event.TheVariants as event
-use Rattle.c104_net.specs.declared.acts.ActOf.TheVariants as act
-use Rattle.c104_net.specs.declared.starts.NodeStart.TheVariants as start
+use Rattle.c104_node.specs.declared.acts.ActOf.TheVariants as act
+use Rattle.c104_node.specs.declared.starts.NodeStart.TheVariants as start
 use Rattle.c104_switch.specs.declared.actions.ActionOf.TheVariants as action
 use Rattle.c104_switch.specs.declared.actions.ReplyOf.TheVariants as reply
 use Rattle.c104_plan.specs.declared.ports.Port.TheVariants as port

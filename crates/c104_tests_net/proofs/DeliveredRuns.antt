@@ -11,14 +11,14 @@ use Rattle.c104_net.specs.NetRecords.{NetRecord}
 use Rattle.c104_net.specs.RecordedRuns.{RecordsRounds}
 use Rattle.c104_net.specs.QuietNets.{IsQuiet}
 use Rattle.c104_net.specs.Standstill.{StandsStill}
-use Rattle.c104_net.specs.Starts.{IsStartedStart}
+use Rattle.c104_node.specs.Starts.{IsStartedStart}
 use Rattle.c104_net.specs.Unchanged.{AreStartsOf}
 use Rattle.c104_net.specs.Work.{told_work, work, work_bound}
 use Rattle.c104_tests_net.proofs.CalmRuns.{unchanged}
 use Rattle.c104_tests_net.specs.CalmNets.{IsCalm, IsCalmTrace}
 use Rattle.c104_tests_net.specs.DeliveredNets.{DeliversByRanks, DeliversWithin}
 use Rattle.c104_token.specs.Kinds.{plain_kind}
-use Rattle.c104_net.specs.Traces.{seatless}
+use Rattle.c104_node.specs.Traces.{seatless}
 use Rattle.std.proofs.Common.{All, Err, IfOk, Ok, Result, arith, subst, sym, ℕ, ◌<◌}
 
 -- what such a network keeps is what the theorem asks for

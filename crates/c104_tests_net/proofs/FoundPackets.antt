@@ -6,14 +6,14 @@ use Rattle.c104_net.proofs.OriginPieces.{delivered_origin, received_origins}
 use Rattle.c104_net.specs.Deliveries.{IsDelivered, Promise, arrived_at, has_header, header_of, received, sent_at}
 use Rattle.c104_net.specs.FinishedRecords.{FinishedRecord, record_finish}
 use Rattle.c104_net.specs.NetRecords.{IsNetRecord, NetRecord}
-use Rattle.c104_net.specs.Origins.{origins_in}
+use Rattle.c104_node.specs.Origins.{origins_in}
 use Rattle.c104_net.specs.QuietNets.{IsQuiet}
 use Rattle.c104_net.specs.RunOrigins.{AreOrigins}
 use Rattle.c104_net.specs.TracedEnds.{traced_end}
-use Rattle.c104_net.specs.Traces.{seatless}
+use Rattle.c104_node.specs.Traces.{seatless}
 use Rattle.c104_net.specs.Unchanged.{AreStartsOf, IsUnchanged}
-use Rattle.c104_net.specs.declared.origins.Origin.{Origin}
-use Rattle.c104_net.specs.declared.traced.Traced.{Traced}
+use Rattle.c104_node.specs.declared.origins.Origin.{Origin}
+use Rattle.c104_node.specs.declared.traced.Traced.{Traced}
 use Rattle.c104_tests_net.proofs.CalmRuns.{unchanged}
 use Rattle.c104_tests_net.proofs.NamedPackets.{list_there, same_origin}
 use Rattle.c104_tests_net.specs.CalmNets.{IsCalm, IsCalmTrace, IsListed}

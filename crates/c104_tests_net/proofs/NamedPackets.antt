@@ -9,17 +9,17 @@ use Rattle.c104_net.specs.Deliveries.{IsDelivered, arrived_at, cut_at, received}
 use Rattle.c104_net.specs.FinishedRecords.{FinishedRecord, record_finish}
 use Rattle.c104_net.specs.NetRecords.{NetRecord}
 use Rattle.c104_net.specs.Network.{Network, network_of, terminal_place}
-use Rattle.c104_net.specs.Nodes.{Node, arrived_tokens}
-use Rattle.c104_net.specs.Origins.{origins_in}
+use Rattle.c104_node.specs.Nodes.{Node, arrived_tokens}
+use Rattle.c104_node.specs.Origins.{origins_in}
 use Rattle.c104_net.specs.RunOrigins.{AreOrigins}
-use Rattle.c104_net.specs.Terminals.{sent_from, sent_tokens}
-use Rattle.c104_net.specs.Traced.{traced_kind}
+use Rattle.c104_node.specs.Terminals.{sent_from, sent_tokens}
+use Rattle.c104_node.specs.Traced.{traced_kind}
 use Rattle.c104_net.specs.TracedEnds.{traced_end}
-use Rattle.c104_net.specs.MappedNodes.{map_node}
-use Rattle.c104_net.specs.Traces.{part}
+use Rattle.c104_node.specs.MappedNodes.{map_node}
+use Rattle.c104_node.specs.Traces.{part}
 use Rattle.c104_net.specs.Unchanged.{AreStartsOf}
-use Rattle.c104_net.specs.declared.origins.Origin.{Origin}
-use Rattle.c104_net.specs.declared.traced.Traced.{Traced}
+use Rattle.c104_node.specs.declared.origins.Origin.{Origin}
+use Rattle.c104_node.specs.declared.traced.Traced.{Traced}
 use Rattle.c104_tests_net.proofs.CalmRuns.{unchanged}
 use Rattle.c104_tests_net.specs.CalmNets.{IsCalm, IsCalmTrace, IsNamed, IsNamedByCheck, IsNamedByLabels, IsWhole, received_tokens}
 use Rattle.c104_token.specs.Cut.{whole_pieces}
@@ -32,7 +32,7 @@ use Rattle.std.proofs.lemmas.List.{drop-map, map-append}
 use Rattle.std.specs.Prelude.{IfOk}
 use Rattle.std.specs.Global.{Vec as Kept}
 use Rattle.std.proofs.lemmas.Option.{slice_get-map, slice_get_within}
-use Rattle.c104_net.specs.declared.node.NodeOf.TheVariants as node
+use Rattle.c104_node.specs.declared.node.NodeOf.TheVariants as node
 use Rattle.c104_plan.specs.declared.ports.Port.TheVariants as port
 
 abbrev token_of : Traced → Token

@@ -17,12 +17,12 @@ use Rattle.c104_net.specs.Finished.{network_finish}
 use Rattle.c104_net.specs.FinishedRecords.{FinishedRecord}
 use Rattle.c104_net.specs.NetRecords.{NetRecord}
 use Rattle.c104_net.specs.Network.{Network}
-use Rattle.c104_net.specs.Terminals.{sent_tokens}
+use Rattle.c104_node.specs.Terminals.{sent_tokens}
 use Rattle.c104_net.specs.Unchanged.{AreStartsOf, IsHarmless}
-use Rattle.c104_net.specs.declared.acts.ActOf.{ActOf}
-use Rattle.c104_net.specs.declared.acts.ActOf.TheVariants as act
-use Rattle.c104_net.specs.declared.acts.Entry.{Entry}
-use Rattle.c104_net.specs.declared.origins.Origin.{Origin}
+use Rattle.c104_node.specs.declared.acts.ActOf.{ActOf}
+use Rattle.c104_node.specs.declared.acts.ActOf.TheVariants as act
+use Rattle.c104_node.specs.declared.acts.Entry.{Entry}
+use Rattle.c104_node.specs.declared.origins.Origin.{Origin}
 use Rattle.c104_switch.specs.Actions.{Action, Reply}
 use Rattle.c104_switch.specs.declared.actions.ActionOf.TheVariants as action
 use Rattle.c104_token.specs.Cut.{whole_pieces}

@@ -14,19 +14,19 @@ use Rattle.c104_plan.specs.Plans.{IsPlan, Plan}
 use Rattle.c104_event.specs.declared.events.Event.TheVariants as event
 use Rattle.c104_event.specs.declared.faults.EventFault.{EventFault}
 use Rattle.c104_event.specs.declared.faults.EventFault.TheVariants as event_fault
-use Rattle.c104_net.specs.declared.stamps.Stamp.{Stamp}
-use Rattle.c104_net.specs.Traces.{seatless, full_at, kept_of, lone_deed, noted_all, noted_in, trace_limit}
+use Rattle.c104_node.specs.declared.stamps.Stamp.{Stamp}
+use Rattle.c104_node.specs.Traces.{seatless, full_at, kept_of, lone_deed, noted_all, noted_in, trace_limit}
 use Rattle.c104_net.specs.Balance.{AreInPlace}
 use Rattle.c104_net.specs.NetRecords.{NetRecord, fresh_record}
 use Rattle.c104_net.proofs.EventSteps.{control_applied}
 use Rattle.c104_net.specs.Network.{Network, network_apply, new_network, with_nodes}
 use Rattle.c104_net.specs.Stages.{unless_full}
-use Rattle.c104_net.specs.Places.{is_kept_full}
+use Rattle.c104_node.specs.Places.{is_kept_full}
 use Rattle.c104_net.specs.EventDeeds.{event_deeds}
-use Rattle.c104_net.specs.declared.acts.ActOf.{ActOf}
-use Rattle.c104_net.specs.declared.acts.ActOf.TheVariants as act
-use Rattle.c104_net.specs.declared.acts.Entry.{Entry}
-use Rattle.c104_net.specs.declared.node.NodeOf.TheVariants as node
+use Rattle.c104_node.specs.declared.acts.ActOf.{ActOf}
+use Rattle.c104_node.specs.declared.acts.ActOf.TheVariants as act
+use Rattle.c104_node.specs.declared.acts.Entry.{Entry}
+use Rattle.c104_node.specs.declared.node.NodeOf.TheVariants as node
 use Rattle.c104_regs.specs.declared.settings.Settings.{Settings}
 use Rattle.c104_regs.specs.KeptValues.{kept_entry, kept_values}
 use Rattle.c104_switch.specs.Actions.{Reply, is_ready}

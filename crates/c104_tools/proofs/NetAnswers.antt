@@ -7,15 +7,15 @@ use Rattle.c104_switch.specs.Control.{switch_control}
 use Rattle.c104_switch.specs.declared.actions.ActionOf.TheVariants as action
 use Rattle.c104_switch.specs.declared.actions.ReplyOf.TheVariants as reply
 use Rattle.c104_event.specs.declared.events.Event.TheVariants as event
-use Rattle.c104_net.specs.Traces.{seatless}
-use Rattle.c104_net.specs.declared.acts.ActOf.TheVariants as act
-use Rattle.c104_net.specs.declared.acts.Entry.{Entry}
+use Rattle.c104_node.specs.Traces.{seatless}
+use Rattle.c104_node.specs.declared.acts.ActOf.TheVariants as act
+use Rattle.c104_node.specs.declared.acts.Entry.{Entry}
 use Rattle.c104_net.specs.NetRecords.{IsNetRecord, NetRecord, RecordsEvent, ticket_after}
-use Rattle.c104_net.specs.Nodes.{Node}
+use Rattle.c104_node.specs.Nodes.{Node}
 use Rattle.c104_net.specs.Runs.{at_node, run_deeds}
-use Rattle.c104_net.specs.Starts.{start_node}
-use Rattle.c104_net.specs.Traces.{entry_of}
-use Rattle.c104_net.proofs.WireEnds.{get_set_same}
+use Rattle.c104_node.specs.Starts.{start_node}
+use Rattle.c104_node.specs.Traces.{entry_of}
+use Rattle.c104_node.proofs.WireEnds.{get_set_same}
 use Rattle.c104_tools.proofs.NetCommands.{commands_on, last_below, traces_below}
 use Rattle.c104_tools.proofs.NetSwitches.{IsObeyed, obeyed, stands_at}
 use Rattle.c104_tools.specs.NetCommands.{first_commands, net_commands, net_switches}

@@ -8,7 +8,7 @@ use Rattle.c104_control.specs.Table.{command_bytes, reply_bytes}
 use Rattle.c104_control.specs.declared.commands.Command.{Command}
 use Rattle.c104_control.specs.declared.commands.Command.TheVariants.{CPeek}
 use Rattle.c104_control.specs.declared.replies.Answer.TheVariants.{Value}
-use Rattle.c104_net.proofs.WireEnds.{get_set_same}
+use Rattle.c104_node.proofs.WireEnds.{get_set_same}
 use Rattle.c104_regs.specs.Addresses.{address_number}
 use Rattle.c104_regs.specs.Faults.{register_fault_number}
 use Rattle.c104_regs.specs.declared.addresses.Address.TheVariants.{AtLink}

@@ -7,14 +7,14 @@ use Rattle.c104_switch.specs.declared.actions.ActionOf.TheVariants as action
 use Rattle.c104_switch.specs.declared.actions.ReplyOf.TheVariants as reply
 use Rattle.c104_event.specs.declared.faults.EventFault.{EventFault}
 use Rattle.c104_event.specs.declared.faults.EventFault.TheVariants as fault
-use Rattle.c104_net.specs.declared.acts.ActOf.{ActOf}
-use Rattle.c104_net.specs.declared.acts.ActOf.TheVariants as act
-use Rattle.c104_net.specs.declared.acts.Entry.{Entry}
-use Rattle.c104_net.specs.declared.node.NodeOf.TheVariants as node
-use Rattle.c104_net.specs.Places.{room_fault}
+use Rattle.c104_node.specs.declared.acts.ActOf.{ActOf}
+use Rattle.c104_node.specs.declared.acts.ActOf.TheVariants as act
+use Rattle.c104_node.specs.declared.acts.Entry.{Entry}
+use Rattle.c104_node.specs.declared.node.NodeOf.TheVariants as node
+use Rattle.c104_node.specs.Places.{room_fault}
 use Rattle.c104_net.specs.NetRecords.{NetRecord}
-use Rattle.c104_net.specs.Nodes.{Node}
-use Rattle.c104_net.specs.Traces.{full_at, is_trace_full}
+use Rattle.c104_node.specs.Nodes.{Node}
+use Rattle.c104_node.specs.Traces.{full_at, is_trace_full}
 use Rattle.c104_tools.specs.Ports.{Switches, command_asked}
 use Rattle.c104_tools.specs.declared.ports.Asked.{Asked}
 

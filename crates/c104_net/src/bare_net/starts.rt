@@ -3,14 +3,11 @@ ghost use Rattle.std.specs.Prelude.{◌≡◌, ◌≤◌, [], length, map, IfOk}
 ghost use Rattle.std.specs.Vec.{vec_capacity};
 ghost use Rattle.c104_net.specs.Balance.{IsSteady};
 ghost use Rattle.c104_net.specs.Network.{network_of};
-ghost use Rattle.c104_net.specs.Starts.{start_node};
+ghost use Rattle.c104_node.specs.Starts.{start_node};
 
 use super::NetOf;
-use crate::node::NodeOf;
-use crate::node::starts::add_starts;
-use crate::starts::NodeStart;
-use crate::terminal::TerminalOf;
 use crate::wires::Wires;
+use c104_node::{NodeOf, NodeStart, TerminalOf, add_starts};
 use c104_plan::Plan;
 use c104_token::{NoMemory, TokenKind};
 use std::alloc::Global;

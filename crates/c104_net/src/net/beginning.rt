@@ -1,10 +1,10 @@
 //! Whether a network's run began with its switches started.
 ghost use Rattle.std.specs.Prelude.{◌≡◌, ◌↔◌, map, All, IsTrue};
-ghost use Rattle.c104_net.specs.Records.{node_start};
-ghost use Rattle.c104_net.specs.Starts.{IsStartedStart};
+ghost use Rattle.c104_node.specs.Records.{node_start};
+ghost use Rattle.c104_node.specs.Starts.{IsStartedStart};
 
 use super::Net;
-use crate::recorded::Node;
+use c104_node::Node;
 
 impl Net {
     /// Whether each switch was started where the run began.

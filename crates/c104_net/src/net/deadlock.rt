@@ -1,10 +1,10 @@
 //! The theorem that a network without a cycle of channel dependencies has no deadlock, of a network as it stands.
 ghost use Rattle.std.specs.Prelude.{All, ℕ};
 ghost use Rattle.c104_net.specs.DeadlockFreedom.{IsFreeOfDeadlock};
-ghost use Rattle.c104_net.specs.Records.{IsRecorded, NodeRecord};
+ghost use Rattle.c104_node.specs.Records.{IsRecorded, NodeRecord};
 
 use super::Net;
-use crate::recorded::Node;
+use c104_node::Node;
 
 impl Net {
     /// What is so of the network where its labels are accepted, its channels don't depend on one another in a cycle, its

@@ -15,8 +15,8 @@ use crate::reason::Reason;
 use crate::reasons::first_reason;
 use crate::recorded_place::RecordedPlace;
 use crate::standstill::round_stands;
-use crate::terminal::TerminalView;
 use c104_event::Event;
+use c104_node::TerminalView;
 use c104_switch::LinkView;
 use c104_token::{Packet, TokenKind};
 

@@ -1,11 +1,11 @@
 //! Whether a network is quiet, and the start of a run there.
 ghost use Rattle.std.specs.Prelude.{◌≡◌, ◌↔◌, map, All, IsTrue};
 ghost use Rattle.c104_net.specs.NetRecords.{record_begun_if};
-ghost use Rattle.c104_net.specs.Places.{states};
-ghost use Rattle.c104_net.specs.Quiet.{IsQuietNode};
+ghost use Rattle.c104_node.specs.Places.{states};
+ghost use Rattle.c104_node.specs.Quiet.{IsQuietNode};
 ghost use Rattle.c104_net.specs.QuietNets.{IsQuiet};
 ghost use Rattle.c104_net.specs.RecordedNets.{begun_told, place_told};
-ghost use Rattle.c104_net.specs.Starts.{start_node};
+ghost use Rattle.c104_node.specs.Starts.{start_node};
 
 use super::RecordedNet;
 use crate::place_views::are_quiet;

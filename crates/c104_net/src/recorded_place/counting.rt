@@ -1,12 +1,11 @@
 //! Nodes that count what they did, as places of a network with its record.
 
 use super::RecordedPlace;
-use crate::counted::CountedNode;
-use crate::tagged::TaggedToken;
+use c104_node::{CountedNode, TaggedToken};
 
 impl RecordedPlace<TaggedToken> for CountedNode {
     ghost use Rattle.c104_net.specs.RecordedPlaces.{counted_keeps};
-    ghost use Rattle.c104_net.specs.TracedRecords.{plain_node};
+    ghost use Rattle.c104_node.specs.TracedRecords.{plain_node};
 
     // A count leaves nothing at the end.
     type Room = ();

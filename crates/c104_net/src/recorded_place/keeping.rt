@@ -1,8 +1,8 @@
 //! Nodes that keep what they did, as places of a network with its record.
 
 use super::RecordedPlace;
-use crate::recorded::Node;
 use crate::run_parts::RunParts;
+use c104_node::Node;
 use c104_token::Token;
 
 impl RecordedPlace<Token> for Node {

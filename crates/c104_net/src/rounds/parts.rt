@@ -2,7 +2,7 @@
 ghost use Rattle.std.specs.Prelude.{◌<◌, flat_map, length, map};
 ghost use Rattle.c104_event.specs.declared.events.Event.TheVariants as event;
 ghost use Rattle.c104_regs.specs.declared.registers.TheConstants.{LINKS};
-ghost use Rattle.c104_net.specs.Places.{bases};
+ghost use Rattle.c104_node.specs.Places.{bases};
 ghost use Rattle.c104_net.specs.KnownWires.{KnowWires};
 ghost use Rattle.c104_net.specs.Rounds.{all_claims, all_drains, claims_of, switch_claims, turn_at, wired_ports};
 ghost use Rattle.c104_net.specs.RoundParts.{PartEnds};
@@ -10,11 +10,9 @@ ghost use Rattle.c104_net.specs.Stages.{stage_apply, stage_of};
 
 use super::attempts::{attempt_claim, attempt_drain};
 use super::ports::walk_ports;
-use crate::place::Place;
-use crate::places::{next_claim_at, next_wanting_at};
-use crate::port_part::PortPart;
 use crate::wires::Wires;
 use c104_event::EventFault;
+use c104_node::{Place, PortPart, next_claim_at, next_wanting_at};
 use c104_token::TokenKind;
 
 /// Credit of each wired port.

@@ -5,24 +5,20 @@
 ghost use Rattle.std.specs.Prelude.{◌≡◌, ◌<◌, ◌≤◌, ℕ, None, false, true, flat_map, length, map, unwrap_or, IfSome, Ok};
 ghost use Rattle.c104_plan.specs.declared.ports.Port.TheVariants as port;
 ghost use Rattle.c104_regs.specs.declared.registers.TheConstants.{LINKS};
-ghost use Rattle.c104_net.specs.Places.{bases, states};
+ghost use Rattle.c104_node.specs.Places.{bases, states};
 ghost use Rattle.c104_net.specs.KnownWires.{KnowWires};
 ghost use Rattle.c104_net.specs.Network.{wired_fault};
 ghost use Rattle.c104_net.specs.EventActs.{port_place};
-ghost use Rattle.c104_net.specs.PortParts.{IsNearReady};
+ghost use Rattle.c104_node.specs.PortParts.{IsNearReady};
 ghost use Rattle.c104_net.specs.RoundParts.{port_events, wired_events, PartEnds};
 ghost use Rattle.std.specs.List.{range_with_len};
 ghost use Rattle.c104_net.specs.Rounds.{is_wired, turn_at, wired_links, wired_ports, wired_terminals};
 ghost use Rattle.c104_net.specs.Stages.{stage_apply, stage_of};
 
 use super::attempts::{attempt_joint, attempt_turn};
-use crate::crossings::Crossing;
-use crate::joint::can_near_at;
-use crate::place::Place;
-use crate::places::next_ready_at;
-use crate::port_part::PortPart;
 use crate::wires::Wires;
 use c104_event::{EventFault, Port};
+use c104_node::{Crossing, Place, PortPart, can_near_at, next_ready_at};
 use c104_token::TokenKind;
 
 /// The events of a part at all wired ports.

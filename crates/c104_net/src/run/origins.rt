@@ -1,17 +1,17 @@
 //! Where the packets came from that arrived in a run.
 ghost use Rattle.std.specs.Prelude.{◌≡◌, map, IfOk, Ok};
 ghost use Rattle.std.specs.Global.{Vec as Kept};
-ghost use Rattle.c104_net.specs.Origins.{Origin as TheOrigin, origins_in};
+ghost use Rattle.c104_node.specs.Origins.{origins_in};
+ghost use Rattle.c104_node.specs.declared.origins.Origin.{Origin as TheOrigin};
 ghost use Rattle.c104_net.specs.RunOrigins.{AreOrigins};
-ghost use Rattle.c104_net.specs.Terminals.{Terminal};
-ghost use Rattle.c104_net.specs.declared.traced.Traced.{Traced as TheTraced};
+ghost use Rattle.c104_node.specs.Terminals.{Terminal};
+ghost use Rattle.c104_node.specs.declared.traced.Traced.{Traced as TheTraced};
 
 use super::Run;
 use crate::bare_net::NetOf;
 use crate::bare_run::RunOf;
-use crate::origins::{Origin, origins_of};
 use crate::replays::replay_all;
-use crate::traced::Traced;
+use c104_node::{Origin, Traced, origins_of};
 use c104_token::NoMemory;
 use std::alloc::Global;
 

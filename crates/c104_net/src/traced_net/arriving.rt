@@ -5,11 +5,11 @@ ghost use Rattle.c104_token.specs.declared.tokens.Token.{Token as TheToken};
 ghost use Rattle.c104_net.specs.Finished.{run_arrived};
 ghost use Rattle.c104_net.specs.FinishedRecords.{record_finish};
 ghost use Rattle.c104_net.specs.Network.{network_arrived};
-ghost use Rattle.c104_net.specs.declared.tagged.TaggedToken.{TaggedToken as TheTagged};
+ghost use Rattle.c104_node.specs.declared.tagged.TaggedToken.{TaggedToken as TheTagged};
 
 use super::TracedNet;
 use crate::place_views::arrived_at;
-use crate::tagged::TaggedToken;
+use c104_node::TaggedToken;
 use c104_token::{NoMemory, Token, TokenKind};
 use std::alloc::Global;
 

@@ -1,13 +1,11 @@
 //! The nodes of a new network of tagged tokens.
 ghost use Rattle.std.specs.Prelude.{◌≡◌, ◌++◌, [], map, OnOk};
 ghost use Rattle.c104_switch.specs.Switch.{new_switch};
-ghost use Rattle.c104_net.specs.declared.node.NodeOf.TheVariants as node;
-ghost use Rattle.c104_net.specs.Terminals.{new_terminal};
-ghost use Rattle.c104_net.specs.TracedRecords.{first_traced};
+ghost use Rattle.c104_node.specs.declared.node.NodeOf.TheVariants as node;
+ghost use Rattle.c104_node.specs.Terminals.{new_terminal};
+ghost use Rattle.c104_node.specs.TracedRecords.{first_traced};
 
-use crate::counted::CountedNode;
-use crate::node::NodeOf;
-use crate::terminal::TerminalOf;
+use c104_node::{CountedNode, NodeOf, TerminalOf};
 use c104_plan::Plan;
 use c104_switch::SwitchOf;
 use c104_token::NoMemory;

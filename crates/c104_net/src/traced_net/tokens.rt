@@ -1,14 +1,14 @@
 //! The tokens that wait in a network of tagged tokens.
 ghost use Rattle.std.specs.Prelude.{◌≡◌, option_map};
 ghost use Rattle.c104_net.specs.FinishedRecords.{record_finish};
-ghost use Rattle.c104_net.specs.Tagged.{tag};
+ghost use Rattle.c104_node.specs.Tagged.{tag};
 ghost use Rattle.c104_net.specs.TracedEnds.{traced_end};
 ghost use Rattle.c104_net.specs.NetViews.{network_input_token, network_output_token};
 
 use super::TracedNet;
 use crate::place_tokens::{input_token_at, output_token_at};
-use crate::tagged::TaggedToken;
 use c104_event::Port;
+use c104_node::TaggedToken;
 
 impl TracedNet {
     /// The token at this index, from 0 at the first, of what came in at a port: at an input of a switch, or at a

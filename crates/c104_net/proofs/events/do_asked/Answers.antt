@@ -1,4 +1,4 @@
-use Rattle.c104_net.specs.Places.{bases, Shown}
+use Rattle.c104_node.specs.Places.{bases, Shown}
 use Rattle.c104_net.specs.KnownWires.{KnowWires}
 use Rattle.std.proofs.Common.{List, Result, map, subst, sym}
 use Rattle.c104_plan.specs.Plans.{Plan}

@@ -1,7 +1,7 @@
 use Rattle.std.proofs.Common.{List, Some, drop, map, slice_get, ℕ, ◌++◌, ◌≡◌}
 use Rattle.c104_net.specs.Leading.{led_events}
 use Rattle.c104_net.specs.Replays.{lead_event}
-use Rattle.c104_net.specs.declared.acts.Entry.{Entry}
+use Rattle.c104_node.specs.declared.acts.Entry.{Entry}
 use Rattle.c104_net.proofs.leading.add_leads.Given as goal
 
 -- what was added, and what the entries that are left tell, is all

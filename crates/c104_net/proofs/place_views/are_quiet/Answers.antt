@@ -1,8 +1,8 @@
 use Rattle.std.proofs.Common.{◌∙◌, map, refl, subst, sym, arith}
-use Rattle.c104_net.specs.Places.{Shown, states}
-use Rattle.c104_net.specs.Quiet.{IsQuietNode}
-use Rattle.c104_net.proofs.PlaceSteps.{as_many, read_item}
-use Rattle.c104_net.proofs.QuietNodes.{quiet_next}
+use Rattle.c104_node.specs.Places.{Shown, states}
+use Rattle.c104_node.specs.Quiet.{IsQuietNode}
+use Rattle.c104_node.proofs.PlaceSteps.{as_many, read_item}
+use Rattle.c104_node.proofs.QuietNodes.{quiet_next}
 use Rattle.c104_net.proofs.place_views.are_quiet.Goals as goal
 
 -- this node is quiet too

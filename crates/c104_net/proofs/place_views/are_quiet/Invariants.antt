@@ -1,7 +1,7 @@
 use Rattle.std.proofs.Common.{◌<◌, ℕ, get_or, map}
-use Rattle.c104_net.specs.Nodes.{Node}
-use Rattle.c104_net.specs.Quiet.{IsQuietNode}
-use Rattle.c104_net.specs.Places.{states}
+use Rattle.c104_node.specs.Nodes.{Node}
+use Rattle.c104_node.specs.Quiet.{IsQuietNode}
+use Rattle.c104_node.specs.Places.{states}
 use Rattle.c104_net.proofs.place_views.are_quiet.Given as goal
 
 -- the nodes so far are quiet

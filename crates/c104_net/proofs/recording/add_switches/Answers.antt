@@ -2,10 +2,10 @@ use Rattle.std.proofs.Common.{◌≡◌, ◌∙◌, ◌++◌, ◌∷◌, [], map
 use Rattle.std.proofs.lemmas.List.{map-append}
 use Rattle.c104_token.specs.declared.tokens.Token.{Token}
 use Rattle.c104_switch.specs.Switch.{new_switch_with}
-use Rattle.c104_net.specs.declared.node.NodeOf.TheVariants as node
-use Rattle.c104_net.specs.declared.starts.NodeStart.TheVariants as start
-use Rattle.c104_net.specs.Nodes.{Node}
-use Rattle.c104_net.specs.Starts.{start_node}
+use Rattle.c104_node.specs.declared.node.NodeOf.TheVariants as node
+use Rattle.c104_node.specs.declared.starts.NodeStart.TheVariants as start
+use Rattle.c104_node.specs.Nodes.{Node}
+use Rattle.c104_node.specs.Starts.{start_node}
 use Rattle.c104_net.specs.NetRecords.{first_record, shown_record}
 use Rattle.c104_net.proofs.FirstRecords.{shown_switch}
 use Rattle.c104_net.proofs.RoundLists.{map_one_more}

@@ -1,6 +1,6 @@
 use Rattle.std.proofs.Common.{◌≡◌, map, take, true}
 use Rattle.c104_switch.specs.Switch.{new_switch_with}
-use Rattle.c104_net.specs.declared.node.NodeOf.TheVariants as node
+use Rattle.c104_node.specs.declared.node.NodeOf.TheVariants as node
 use Rattle.c104_net.specs.NetRecords.{first_record, shown_record}
 use Rattle.c104_net.proofs.recording.add_switches.Given as goal
 

@@ -2,11 +2,11 @@ use Rattle.std.proofs.Common.{◌≡◌, ◌∙◌, ◌++◌, ◌∷◌, [], ap,
 use Rattle.std.proofs.lemmas.List.{append_assoc, map-append}
 use Rattle.c104_token.specs.declared.tokens.Token.{Token}
 use Rattle.c104_plan.specs.declared.plans.Terminal.{Terminal}
-use Rattle.c104_net.specs.Terminals.{new_terminal}
-use Rattle.c104_net.specs.declared.node.NodeOf.TheVariants as node
-use Rattle.c104_net.specs.declared.starts.NodeStart.TheVariants as start
-use Rattle.c104_net.specs.Nodes.{Node}
-use Rattle.c104_net.specs.Starts.{start_node}
+use Rattle.c104_node.specs.Terminals.{new_terminal}
+use Rattle.c104_node.specs.declared.node.NodeOf.TheVariants as node
+use Rattle.c104_node.specs.declared.starts.NodeStart.TheVariants as start
+use Rattle.c104_node.specs.Nodes.{Node}
+use Rattle.c104_node.specs.Starts.{start_node}
 use Rattle.c104_net.specs.NetRecords.{first_record, shown_record}
 use Rattle.c104_net.proofs.FirstRecords.{shown_switch}
 use Rattle.c104_net.proofs.RoundLists.{map_one_more}

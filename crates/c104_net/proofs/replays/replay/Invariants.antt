@@ -2,7 +2,7 @@ use Rattle.std.proofs.Common.{drop, map}
 use Rattle.c104_net.specs.Network.{Network}
 use Rattle.c104_net.specs.Replays.{LeadTo, lead_event}
 use Rattle.c104_net.specs.ToldEvents.{told_event}
-use Rattle.c104_net.specs.declared.traced.Traced.{Traced}
+use Rattle.c104_node.specs.declared.traced.Traced.{Traced}
 use Rattle.c104_net.proofs.replays.replay.Given as goal
 
 -- wherever the events that are left lead from here, all lead from the start

@@ -3,7 +3,7 @@ use Rattle.std.proofs.Common.{Ok, ◌≡◌, ◌∙◌, ap, arith, inl, refl, sy
 use Rattle.c104_net.specs.Stages.{stage_apply, stage_of}
 use Rattle.c104_net.specs.EventRuns.{run_events}
 use Rattle.c104_net.specs.Rounds.{round, rounds}
-use Rattle.c104_net.proofs.PlaceSteps.{err_is}
+use Rattle.c104_node.proofs.PlaceSteps.{err_is}
 use Rattle.c104_net.proofs.RoundsTaken.{round_taken, round_refused, round_idle}
 use Rattle.c104_net.proofs.rounds.rounds_at.Goals as goal
 

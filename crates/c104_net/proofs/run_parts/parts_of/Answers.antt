@@ -3,11 +3,11 @@ use Rattle.std.proofs.lemmas.List.{map-append}
 use Rattle.std.proofs.lemmas.List.Elements.{All-push, All-same}
 use Rattle.std.specs.Option.{option_to_list}
 use Rattle.c104_token.specs.declared.tokens.Token.{Token}
-use Rattle.c104_net.specs.declared.acts.Entry.{Entry}
-use Rattle.c104_net.specs.declared.starts.NodeStart.{NodeStart}
-use Rattle.c104_net.specs.Nodes.{terminals_of}
-use Rattle.c104_net.specs.Records.{node_start, node_state, node_trace, IsRecorded, NodeRecord}
-use Rattle.c104_net.specs.Terminals.{Terminal}
+use Rattle.c104_node.specs.declared.acts.Entry.{Entry}
+use Rattle.c104_node.specs.declared.starts.NodeStart.{NodeStart}
+use Rattle.c104_node.specs.Nodes.{terminals_of}
+use Rattle.c104_node.specs.Records.{node_start, node_state, node_trace, IsRecorded, NodeRecord}
+use Rattle.c104_node.specs.Terminals.{Terminal}
 use Rattle.c104_net.proofs.Finishing.{terminals_popped}
 use Rattle.c104_net.proofs.RunPartLists.{left_on, left_maybe}
 use Rattle.c104_net.proofs.run_parts.parts_of.Goals as goal

@@ -3,7 +3,7 @@ use Rattle.c104_net.specs.Network.{network_of}
 use Rattle.c104_net.specs.Standstill.{has_reason}
 use Rattle.c104_net.proofs.StillParts.{left, tested}
 use Rattle.c104_net.specs.Rounds.{switch_claims}
-use Rattle.c104_net.specs.Places.{states}
+use Rattle.c104_node.specs.Places.{states}
 use Rattle.c104_net.proofs.standstill.claims_stand.Given as goal
 
 -- those that are left tell it

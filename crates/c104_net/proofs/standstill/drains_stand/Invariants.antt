@@ -4,7 +4,7 @@ use Rattle.c104_net.specs.Standstill.{has_reason}
 use Rattle.c104_net.proofs.StillParts.{left, tested}
 use Rattle.c104_net.proofs.PartRuns.{single}
 use Rattle.c104_event.specs.declared.events.Event.TheVariants as event
-use Rattle.c104_net.specs.Places.{states}
+use Rattle.c104_node.specs.Places.{states}
 use Rattle.c104_net.proofs.standstill.drains_stand.Given as goal
 
 -- those that are left tell it

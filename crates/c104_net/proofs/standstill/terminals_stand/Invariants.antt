@@ -4,7 +4,7 @@ use Rattle.c104_net.specs.Standstill.{has_reason}
 use Rattle.c104_net.proofs.StillParts.{left, tested}
 use Rattle.c104_net.proofs.PortWalks.{wired_by}
 use Rattle.c104_plan.specs.declared.ports.Port.TheVariants as port
-use Rattle.c104_net.specs.Places.{states}
+use Rattle.c104_node.specs.Places.{states}
 use Rattle.c104_net.proofs.standstill.terminals_stand.Given as goal
 
 -- those that are left tell it

@@ -1,11 +1,11 @@
 use Rattle.std.proofs.Common.{◌∙◌, List, ap, map}
 use Rattle.c104_token.specs.declared.tokens.Token.{Token}
 use Rattle.c104_net.specs.NetRecords.{NetRecord}
-use Rattle.c104_net.specs.Records.{node_state}
+use Rattle.c104_node.specs.Records.{node_state}
 use Rattle.c104_net.specs.Network.{network_arrived, network_of}
-use Rattle.c104_net.specs.Nodes.{Node}
-use Rattle.c104_net.specs.Places.{Shown}
-use Rattle.c104_net.specs.ShownNodes.{node_shown}
+use Rattle.c104_node.specs.Nodes.{Node}
+use Rattle.c104_node.specs.Places.{Shown}
+use Rattle.c104_node.specs.ShownNodes.{node_shown}
 use Rattle.c104_net.proofs.FirstRecords.{map_twice}
 use Rattle.c104_net.proofs.net.Net.arrived.Goals as goal
 

@@ -4,7 +4,7 @@ use Rattle.c104_net.specs.Finished.{run_arrived}
 use Rattle.c104_net.specs.FinishedRecords.{record_finish, FinishedRecord, IsFinishedRecord}
 use Rattle.c104_net.specs.Network.{network_arrived, network_of}
 use Rattle.c104_net.specs.NetRecords.{net_record, NetRecord}
-use Rattle.c104_net.specs.Records.{node_state}
+use Rattle.c104_node.specs.Records.{node_state}
 use Rattle.c104_net.proofs.Finishing.{terminals_counted, arrived_same}
 use Rattle.c104_net.proofs.RecordSteps.{nodes_counted}
 use Rattle.c104_net.proofs.RunPartLists.{finish_is}

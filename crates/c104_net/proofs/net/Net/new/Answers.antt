@@ -1,7 +1,7 @@
 use Rattle.std.proofs.Common.{refl}
 use Rattle.c104_net.specs.Network.{new_network}
 use Rattle.c104_net.proofs.BalancePlaced.{steady_new}
-use Rattle.c104_net.specs.ShownNodes.{node_shown}
+use Rattle.c104_node.specs.ShownNodes.{node_shown}
 use Rattle.c104_net.proofs.KnownWires.{unknown}
 use Rattle.c104_net.proofs.FirstRecords.{first_is, net_first}
 use Rattle.c104_net.proofs.net.Net.new.Goals as goal

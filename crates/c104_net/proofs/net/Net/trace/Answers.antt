@@ -2,7 +2,7 @@ use Rattle.std.proofs.Common.{◌≡◌, ◌≤◌, ◌<◌, ℕ, List, None, So
 use Rattle.std.proofs.lemmas.Bool.Decides.{nat_tests}
 use Rattle.std.proofs.lemmas.Option.{slice_get-map, slice_get_past, slice_get_read}
 use Rattle.std.specs.Option.{option_map}
-use Rattle.c104_net.specs.Records.{node_trace, NodeRecord}
+use Rattle.c104_node.specs.Records.{node_trace, NodeRecord}
 use Rattle.c104_net.specs.WiredActs.{IsRecordedAt}
 use Rattle.c104_net.proofs.WiredTraces.{recorded_at}
 use Rattle.c104_net.proofs.net.Net.trace.Goals as goal

@@ -1,8 +1,8 @@
 use Rattle.std.proofs.Common.{◌≡◌, ◌∙◌, get_or, map, refl, subst, sym, ap, arith}
 use Rattle.std.proofs.lemmas.List.{get_or-map, length-map}
-use Rattle.c104_net.specs.Records.{node_start}
-use Rattle.c104_net.specs.Starts.{IsStartedStart}
-use Rattle.c104_net.proofs.EachSoFar.{each_next}
+use Rattle.c104_node.specs.Records.{node_start}
+use Rattle.c104_node.specs.Starts.{IsStartedStart}
+use Rattle.c104_node.proofs.EachSoFar.{each_next}
 use Rattle.c104_net.proofs.net.beginning.are_started.Goals as goal
 
 -- this node was started too

@@ -1,7 +1,7 @@
 use Rattle.std.proofs.Common.{◌<◌, ℕ, get_or, map}
-use Rattle.c104_net.specs.Records.{node_start}
-use Rattle.c104_net.specs.Starts.{IsStartedStart}
-use Rattle.c104_net.specs.declared.starts.NodeStart.{NodeStart}
+use Rattle.c104_node.specs.Records.{node_start}
+use Rattle.c104_node.specs.Starts.{IsStartedStart}
+use Rattle.c104_node.specs.declared.starts.NodeStart.{NodeStart}
 use Rattle.c104_net.proofs.net.beginning.are_started.Given as goal
 
 -- the nodes so far were started

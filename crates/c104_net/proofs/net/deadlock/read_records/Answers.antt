@@ -1,6 +1,6 @@
 use Rattle.std.proofs.Common.{arith, ℕ}
-use Rattle.c104_net.specs.Records.{IsRecorded, NodeRecord}
-use Rattle.c104_net.proofs.EachSoFar.{each_next}
+use Rattle.c104_node.specs.Records.{IsRecorded, NodeRecord}
+use Rattle.c104_node.proofs.EachSoFar.{each_next}
 use Rattle.c104_net.proofs.net.deadlock.read_records.Goals as goal
 
 pub loop-node-preserved : goal.loop-node-preserved

@@ -1,5 +1,5 @@
 use Rattle.std.proofs.Common.{◌<◌, ℕ, get_or}
-use Rattle.c104_net.specs.Records.{IsRecorded, NodeRecord}
+use Rattle.c104_node.specs.Records.{IsRecorded, NodeRecord}
 use Rattle.c104_net.proofs.net.deadlock.read_records.Given as goal
 
 -- the nodes so far

@@ -4,7 +4,7 @@ use Rattle.c104_check.specs.declared.ports.SwitchPort.{SwitchPort}
 use Rattle.c104_plan.specs.Plans.{Plan}
 use Rattle.c104_plan.specs.Wiring.{peer}
 use Rattle.c104_link.specs.Buffers.{Outgoing}
-use Rattle.c104_net.specs.Traces.{part}
+use Rattle.c104_node.specs.Traces.{part}
 use Rattle.c104_net.specs.Work.{header_held, input_work, level, link_work, told_work, weigh}
 use Rattle.c104_net.proofs.WorkBounds.{added_told, held_length, incoming_told, view_parts, weigh_is}
 use Rattle.c104_switch.specs.Rooms.{room_left}

@@ -1,6 +1,6 @@
 use Rattle.std.proofs.Common.{Some, ap, arith, map, option_map, slice_get, sym, ◌∙◌, ◌≡◌}
 use Rattle.std.proofs.lemmas.Option.{slice_get-get_or, slice_get-map}
-use Rattle.c104_net.specs.Records.{node_state}
+use Rattle.c104_node.specs.Records.{node_state}
 use Rattle.c104_net.specs.Work.{node_work, told_work}
 use Rattle.c104_net.proofs.WorkBounds.{one_next}
 use Rattle.c104_net.proofs.net.work.work_of_nodes.Goals as goal

@@ -1,5 +1,5 @@
 use Rattle.std.proofs.Common.{map, take, ◌≡◌}
-use Rattle.c104_net.specs.Records.{node_state}
+use Rattle.c104_node.specs.Records.{node_state}
 use Rattle.c104_net.specs.Work.{node_work, sum_at, told_work}
 use Rattle.c104_net.proofs.net.work.work_of_nodes.Given as goal
 

@@ -2,9 +2,9 @@ use Rattle.std.proofs.Common.{ap, arith, length, ℕ, ◌*◌, ◌+◌, ◌-◌,
 use Rattle.c104_check.specs.declared.ports.SwitchPort.{SwitchPort}
 use Rattle.c104_plan.specs.Plans.{Plan}
 use Rattle.c104_plan.specs.Wiring.{peer}
-use Rattle.c104_net.specs.Terminals.{Terminal}
+use Rattle.c104_node.specs.Terminals.{Terminal}
 use Rattle.c104_net.specs.Work.{incoming_work, level, output_work, told_work, weigh}
-use Rattle.c104_net.specs.declared.terminal.views.TerminalView.{TerminalView}
+use Rattle.c104_node.specs.declared.terminal.views.TerminalView.{TerminalView}
 use Rattle.c104_net.proofs.WorkBounds.{added_told, incoming_told, weigh_is}
 use Rattle.c104_switch.specs.Rooms.{room_left}
 use Rattle.c104_token.specs.declared.tokens.Token.{Token}

@@ -2,11 +2,11 @@ use Rattle.std.proofs.Common.{◌≡◌, ◌∙◌, All, List, ap, map, sym, sub
 use Rattle.std.specs.Vec.{with_items}
 use Rattle.std.proofs.lemmas.List.{with_items_is}
 use Rattle.c104_net.specs.NetRecords.{fresh_record, NetRecord}
-use Rattle.c104_net.specs.Nodes.{Node}
-use Rattle.c104_net.specs.Places.{bases, states}
+use Rattle.c104_node.specs.Nodes.{Node}
+use Rattle.c104_node.specs.Places.{bases, states}
 use Rattle.c104_net.specs.KnownWires.{KnowWires}
 use Rattle.c104_net.proofs.KnownWires.{known_by}
-use Rattle.c104_net.specs.Quiet.{IsQuietNode}
+use Rattle.c104_node.specs.Quiet.{IsQuietNode}
 use Rattle.c104_net.specs.QuietNets.{network_begin, IsQuiet}
 use Rattle.c104_net.specs.RecordedNets.{begun_told, place_told, places_record, reading, IsRecordedNet, Reading}
 use Rattle.c104_net.proofs.RecordedBegins.{net_begun, net_begun_kept, quiet_back, wires_begun}

@@ -1,7 +1,7 @@
 use Rattle.std.proofs.Common.{All, List, map, subst, sym}
-use Rattle.c104_net.specs.Nodes.{Node}
-use Rattle.c104_net.specs.Places.{states}
-use Rattle.c104_net.specs.Quiet.{IsQuietNode}
+use Rattle.c104_node.specs.Nodes.{Node}
+use Rattle.c104_node.specs.Places.{states}
+use Rattle.c104_node.specs.Quiet.{IsQuietNode}
 use Rattle.c104_net.specs.RecordedNets.{reading, Reading}
 use Rattle.c104_net.proofs.RecordedBegins.{quiet_back, quiet_shown}
 use Rattle.c104_net.proofs.recorded_net.RecordedNet.quiet.Goals as goal

@@ -1,7 +1,7 @@
 use Rattle.std.proofs.Common.{Option, Some, ap, sym, ℕ}
 use Rattle.c104_event.specs.declared.events.Event.TheVariants as event
-use Rattle.c104_net.specs.PortActs.{Acts}
-use Rattle.c104_net.specs.declared.acts.ActOf.TheVariants as act
+use Rattle.c104_node.specs.PortActs.{Acts}
+use Rattle.c104_node.specs.declared.acts.ActOf.TheVariants as act
 use Rattle.c104_net.proofs.ActAttempts.{drain_possible}
 use Rattle.c104_net.proofs.rounds.attempts.attempt_drain.Goals as goal
 

@@ -1,7 +1,7 @@
 use Rattle.std.proofs.Common.{◌<◌, ◌∙◌, map, sym}
 use Rattle.c104_net.specs.Stages.{stage_of}
 use Rattle.c104_net.proofs.PortWalks.{below_links, if_some, near_ready, passed_link}
-use Rattle.c104_net.specs.Places.{states}
+use Rattle.c104_node.specs.Places.{states}
 use Rattle.c104_net.proofs.rounds.ports.next_link.Goals as goal
 
 pub returns-clause-passed : goal.returns-clause-passed

@@ -1,7 +1,7 @@
 use Rattle.c104_net.proofs.KnownWires.{still_known}
 use Rattle.c104_net.proofs.PartRuns.{part_after, stops_after, stops_before}
 use Rattle.c104_net.proofs.PortWalks.{of_ports}
-use Rattle.c104_net.proofs.PlaceSteps.{err_is}
+use Rattle.c104_node.proofs.PlaceSteps.{err_is}
 use Rattle.c104_net.proofs.rounds.ports.walk_ports.Goals as goal
 
 pub returns : goal.returns

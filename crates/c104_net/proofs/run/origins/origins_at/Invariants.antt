@@ -1,8 +1,9 @@
 use Rattle.std.proofs.Common.{◌≡◌, map, take}
 use Rattle.std.specs.Global.{Vec as Kept}
-use Rattle.c104_net.specs.Origins.{Origin, origins_in}
-use Rattle.c104_net.specs.Terminals.{Terminal}
-use Rattle.c104_net.specs.declared.traced.Traced.{Traced}
+use Rattle.c104_node.specs.Origins.{origins_in}
+use Rattle.c104_node.specs.declared.origins.Origin.{Origin}
+use Rattle.c104_node.specs.Terminals.{Terminal}
+use Rattle.c104_node.specs.declared.traced.Traced.{Traced}
 use Rattle.c104_net.proofs.run.origins.origins_at.Given as goal
 
 -- the lists so far are those of the terminals so far

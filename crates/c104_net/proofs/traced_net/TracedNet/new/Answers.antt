@@ -1,5 +1,5 @@
 use Rattle.std.proofs.Common.{◌≡◌, ◌∙◌, refl}
-use Rattle.c104_net.specs.ShownNodes.{counted_shown}
+use Rattle.c104_node.specs.ShownNodes.{counted_shown}
 use Rattle.c104_net.proofs.KnownWires.{unknown}
 use Rattle.c104_net.proofs.TracedFirsts.{traced_new, traced_new_is}
 use Rattle.c104_net.proofs.traced_net.TracedNet.new.Goals as goal

@@ -1,5 +1,5 @@
 use Rattle.std.proofs.Common.{◌≡◌, map, take}
-use Rattle.c104_net.specs.declared.tagged.TaggedToken.{TaggedToken}
+use Rattle.c104_node.specs.declared.tagged.TaggedToken.{TaggedToken}
 use Rattle.c104_net.proofs.traced_net.arriving.plain_tokens.Given as goal
 
 -- the tokens so far

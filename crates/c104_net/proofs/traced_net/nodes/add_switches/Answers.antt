@@ -1,9 +1,9 @@
 use Rattle.std.proofs.Common.{◌≡◌, ◌∙◌, ◌++◌, ◌∷◌, [], ap, arith, rules}
 use Rattle.c104_switch.specs.Switch.{new_switch}
-use Rattle.c104_net.specs.declared.node.NodeOf.TheVariants as node
-use Rattle.c104_net.specs.Nodes.{Node}
-use Rattle.c104_net.specs.Tagged.{TaggedToken}
-use Rattle.c104_net.specs.TracedRecords.{first_traced}
+use Rattle.c104_node.specs.declared.node.NodeOf.TheVariants as node
+use Rattle.c104_node.specs.Nodes.{Node}
+use Rattle.c104_node.specs.declared.tagged.TaggedToken.{TaggedToken}
+use Rattle.c104_node.specs.TracedRecords.{first_traced}
 use Rattle.c104_net.proofs.RoundLists.{map_one_more}
 use Rattle.c104_net.proofs.traced_net.nodes.add_switches.Goals as goal
 

@@ -1,6 +1,6 @@
 use Rattle.std.proofs.Common.{◌↔◌, ℕ, All, IsTrue, List, map, subst, sym}
-use Rattle.c104_net.specs.Records.{node_start, NodeRecord}
-use Rattle.c104_net.specs.Starts.{IsStartedStart}
+use Rattle.c104_node.specs.Records.{node_start, NodeRecord}
+use Rattle.c104_node.specs.Starts.{IsStartedStart}
 use Rattle.c104_net.proofs.net.beginning.Net.began_started.Goals as goal
 
 pub returns : goal.returns

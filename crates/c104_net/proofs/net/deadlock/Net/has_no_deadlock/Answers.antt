@@ -1,7 +1,7 @@
 use Rattle.std.proofs.Common.{All, List, subst, ℕ}
 use Rattle.c104_net.specs.DeadlockFreedom.{IsFreeOfDeadlock}
 use Rattle.c104_net.specs.NetRecords.{NetRecord, net_record}
-use Rattle.c104_net.specs.Records.{IsRecorded, NodeRecord}
+use Rattle.c104_node.specs.Records.{IsRecorded, NodeRecord}
 use Rattle.c104_net.proofs.DeadlockFree.{has_no_deadlock}
 use Rattle.c104_net.proofs.WiredTraces.{all_recorded}
 use Rattle.c104_net.proofs.net.deadlock.Net.has_no_deadlock.Goals as goal

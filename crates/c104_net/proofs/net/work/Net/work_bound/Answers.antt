@@ -1,7 +1,7 @@
 use Rattle.std.proofs.Common.{ap, length, map, ◌*◌, ◌∙◌, ◌≡◌}
 use Rattle.c104_plan.specs.Plans.{Plan}
 use Rattle.c104_net.specs.NetRecords.{NetRecord}
-use Rattle.c104_net.specs.Records.{node_state}
+use Rattle.c104_node.specs.Records.{node_state}
 use Rattle.c104_net.specs.Work.{told_work, work, work_bound}
 use Rattle.c104_net.proofs.net.work.Net.work_bound.Goals as goal
 

@@ -1,7 +1,0 @@
-use Rattle.std.proofs.Common.{◌≡◌, take}
-use Rattle.c104_net.specs.Origins.{origins_in}
-use Rattle.c104_net.proofs.origins.origins_of.Given as goal
-
--- the origins among the tokens so far
-abbrev pub invariant-loop-token : goal.invariant-loop-token
-invariant-loop-token l = l.origins.items ≡ origins_in (take l.token-index l.tokens)

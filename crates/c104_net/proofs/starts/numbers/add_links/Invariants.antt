@@ -1,8 +1,0 @@
-use Rattle.std.proofs.Common.{◌≡◌, ◌++◌, take}
-use Rattle.std.specs.List.{flat_map}
-use Rattle.c104_net.specs.StartNumbers.{link_start_numbers}
-use Rattle.c104_net.proofs.starts.numbers.add_links.Given as goal
-
--- the numbers of the links so far
-abbrev pub invariant-loop-link : goal.invariant-loop-link
-invariant-loop-link l = l.list.items ≡ l.initial.list.items ++ flat_map link_start_numbers (take l.link-index l.links)

@@ -1,7 +1,0 @@
-use Rattle.std.proofs.Common.{◌≡◌, ◌++◌}
-use Rattle.c104_net.proofs.WrittenValues.{so_far}
-use Rattle.c104_net.proofs.starts.numbers.add_written.Given as goal
-
--- the values of the addresses so far
-abbrev pub invariant-loop-addr : goal.invariant-loop-addr
-invariant-loop-addr l = l.list.items ≡ l.initial.list.items ++ so_far l.settings l.addr

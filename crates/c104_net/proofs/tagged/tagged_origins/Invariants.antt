@@ -1,7 +1,0 @@
-use Rattle.std.proofs.Common.{◌≡◌, take}
-use Rattle.c104_net.specs.Tagged.{tagged_origins}
-use Rattle.c104_net.proofs.tagged.tagged_origins.Given as goal
-
--- the origins among the tokens so far
-abbrev pub invariant-loop-token : goal.invariant-loop-token
-invariant-loop-token l = l.origins.items ≡ tagged_origins (take l.token-index l.tokens)

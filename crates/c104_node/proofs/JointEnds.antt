@@ -1,0 +1,191 @@
+-- What crosses a wire, among all nodes: where both ends are ready both act, and else nothing changes.
+use Rattle.c104_plan.specs.declared.ports.Port.{Port}
+use Rattle.c104_link.specs.Steps.{◌>>=◌}
+use Rattle.c104_link.proofs.MadeSteps.{from_place_made}
+use Rattle.c104_node.proofs.WireEnds.{get_set_other}
+use Rattle.c104_event.specs.declared.faults.EventFault.{EventFault}
+use Rattle.c104_node.specs.Acts.{done_by, node_act, nodes_act, reply_outcome, token_by}
+use Rattle.c104_node.specs.PortActs.{IsAnswerOf, far_act, joint_step, near_act}
+use Rattle.c104_node.specs.Nodes.{Node, node_credit_in, node_credit_out, node_enter, node_leave}
+use Rattle.c104_node.specs.PlaceActs.{JointDone}
+use Rattle.c104_node.specs.Places.{Shown, bases, fulls, room_fault, states, traces}
+use Rattle.c104_node.specs.Traces.{full_at, joint_deeds, kept_entry, noted_all, noted_at}
+use Rattle.c104_node.specs.declared.acts.ActOf.{ActOf}
+use Rattle.c104_node.specs.declared.acts.Entry.{Entry}
+use Rattle.c104_node.specs.declared.stamps.Stamp.{Stamp}
+use Rattle.c104_node.specs.declared.crossings.Crossing.{Crossing}
+use Rattle.c104_node.specs.declared.crossings.Joint.{Joint}
+use Rattle.c104_node.specs.declared.crossings.Crossing.TheVariants.{Grant, Token}
+use Rattle.c104_switch.specs.Actions.{is_ready}
+use Rattle.c104_switch.specs.declared.actions.ReplyOf.{ReplyOf}
+use Rattle.c104_token.specs.Kinds.{Kind}
+use Rattle.std.proofs.Common.{Bool, Err, Ok, ◌||◌, [], if◌then◌else◌, ◌∷◌, List, None, Option, Some, ap, arith, false, is_some, length, nat_lt, refl, slice_get, slice_set, subst, sym, true, ℕ, ◌<◌, ◌≤◌, ◌∙◌, ◌≡◌, ◌≢◌}
+use Rattle.std.proofs.lemmas.Bool.Decides.{nat_tests}
+use Rattle.std.proofs.lemmas.Option.{slice_get_past}
+use Rattle.c104_plan.specs.declared.ports.Port.TheVariants as port
+use Rattle.c104_node.specs.declared.node.NodeOf.TheVariants as node
+use Rattle.c104_switch.specs.declared.actions.ReplyOf.TheVariants as reply
+
+-- what is done answers so
+pub ready_answer : {A : Type 0} (crossing : Crossing) (r : ReplyOf A) → IsAnswerOf crossing r → is_ready r ≡ true
+ready_answer Token reply.Done is = absurd is
+ready_answer Token reply.NotReady is = absurd is
+ready_answer Token (reply.Token x) is = refl
+ready_answer Token (reply.Control bytes) is = absurd is
+ready_answer Grant reply.Done is = refl
+ready_answer Grant reply.NotReady is = absurd is
+ready_answer Grant (reply.Token x) is = absurd is
+ready_answer Grant (reply.Control bytes) is = absurd is
+
+module _ {A : Type 0} where
+  token_answer : (made : Option (A × Node A)) (r : ReplyOf A × Node A) → token_by made ≡ Some r → IsAnswerOf Token r.0
+  token_answer None r is = absurd (cc)
+  token_answer (Some v) r is = let same : reply.Token v.0 ≡ r.0 = (let both : ◌≡◌ {A = Option (ReplyOf A × Node A)} (Some (reply.Token v.0, v.1)) (Some r) = is in cc) in subst (IsAnswerOf Token) same tt
+
+  done_answer : (made : Option (Node A)) (r : ReplyOf A × Node A) → done_by made ≡ Some r → r.0 ≡ reply.Done
+  done_answer None r is = absurd (cc)
+  done_answer (Some v) r is = let both : ◌≡◌ {A = Option (ReplyOf A × Node A)} (Some (reply.Done, v)) (Some r) = is in cc
+
+module _ {A : Type 0} (kind : Kind A) where
+  -- the first end answers what crosses
+  pub near_answers : (crossing : Crossing) (p : Port) (n : Node A) (r : ReplyOf A × Node A) → node_act kind 0 (near_act crossing p) n ≡ Some r → IsAnswerOf crossing r.0
+  near_answers Token (port.Switch s l) (node.Switch x) r is = token_answer (node_leave l (node.Switch x)) r is
+  near_answers Token (port.Switch s l) (node.Terminal x) r is = absurd (cc)
+  near_answers Token (port.Terminal t) (node.Switch x) r is = absurd (cc)
+  near_answers Token (port.Terminal t) (node.Terminal x) r is = token_answer (node_leave 0 (node.Terminal x)) r is
+  near_answers Grant (port.Switch s l) (node.Switch x) r is = subst (IsAnswerOf Grant) (sym (done_answer (node_credit_out l (node.Switch x)) r is)) tt
+  near_answers Grant (port.Switch s l) (node.Terminal x) r is = absurd (cc)
+  near_answers Grant (port.Terminal t) (node.Switch x) r is = absurd (cc)
+  near_answers Grant (port.Terminal t) (node.Terminal x) r is = subst (IsAnswerOf Grant) (sym (done_answer (node_credit_out 0 (node.Terminal x)) r is)) tt
+
+  -- and the other end that it came in
+  pub far_done : (crossing : Crossing) (a : ReplyOf A) (q : Port) (m : Node A) (r : ReplyOf A × Node A) → IsAnswerOf crossing a → node_act kind 0 (far_act q a) m ≡ Some r → r.0 ≡ reply.Done
+  far_done Token reply.Done q m r answer is = absurd answer
+  far_done Token reply.NotReady q m r answer is = absurd answer
+  far_done Token (reply.Token x) (port.Switch s l) (node.Switch y) r answer is = done_answer (node_enter x l (node.Switch y)) r is
+  far_done Token (reply.Token x) (port.Switch s l) (node.Terminal y) r answer is = absurd (cc)
+  far_done Token (reply.Token x) (port.Terminal t) (node.Switch y) r answer is = absurd (cc)
+  far_done Token (reply.Token x) (port.Terminal t) (node.Terminal y) r answer is = done_answer (node_enter x 0 (node.Terminal y)) r is
+  far_done Token (reply.Control bytes) q m r answer is = absurd answer
+  far_done Grant reply.Done (port.Switch s l) (node.Switch y) r answer is = done_answer (node_credit_in l (node.Switch y)) r is
+  far_done Grant reply.Done (port.Switch s l) (node.Terminal y) r answer is = absurd (cc)
+  far_done Grant reply.Done (port.Terminal t) (node.Switch y) r answer is = absurd (cc)
+  far_done Grant reply.Done (port.Terminal t) (node.Terminal y) r answer is = done_answer (node_credit_in 0 (node.Terminal y)) r is
+  far_done Grant reply.NotReady q m r answer is = absurd answer
+  far_done Grant (reply.Token x) q m r answer is = absurd answer
+  far_done Grant (reply.Control bytes) q m r answer is = absurd answer
+
+  -- a node that can act is there
+  pub acts_inside : (nodes : List (Node A)) (k : ℕ) (a : ActOf A) → is_some (nodes_act kind nodes k 0 a) ≡ true → k < length nodes
+  acts_inside nodes k a ready = by_test (nat_lt k (length nodes)) refl
+    where
+      by_test : (b : Bool) → nat_lt k (length nodes) ≡ b → k < length nodes
+      by_test true is = grind (arith, nat_tests)
+      by_test false is =
+          let past : length nodes ≤ k = grind (arith, nat_tests) in
+          let none : slice_get nodes k ≡ None = slice_get_past nodes k past in
+          let gone : nodes_act kind nodes k 0 a ≡ None = rw none refl in
+          let no : false ≡ true = sym (ap is_some gone) ∙ ready in
+          absurd (cc)
+
+module _ {A : Type 0} (kind : Kind A) (p q : Port) (crossing : Crossing) (near far : ℕ) (nodes : List (Node A)) where
+  abbrev put_at : List (Node A) → ℕ → ReplyOf A × Node A → Option (ReplyOf A × List (Node A))
+  put_at ns k y = Some (y.0, slice_set ns k y.1)
+
+  abbrev with_reply : ReplyOf A → ReplyOf A × List (Node A) → Option (ReplyOf A × List (Node A))
+  with_reply told s = Some (told, s.1)
+
+  abbrev from_near : ReplyOf A × List (Node A) → Option (ReplyOf A × List (Node A))
+  from_near r = nodes_act kind r.1 far 0 (far_act q r.0) >>= with_reply r.0
+
+  -- the near end acted so
+  abbrev HasGone : ReplyOf A × List (Node A) → Type 0
+  HasGone r = nodes_act kind nodes near 0 (near_act crossing p) ≡ Some r
+
+  -- it answers what crosses
+  pub gone_answers : (r : ReplyOf A × List (Node A)) → HasGone r → IsAnswerOf crossing r.0
+  gone_answers r gone = from_place_made nodes near (node_act kind 0 (near_act crossing p)) r gone (λ n v here made set.
+      subst (λ (z : ReplyOf A × List (Node A)). IsAnswerOf crossing z.0) set (near_answers kind crossing p n v made))
+
+  -- the far end answers that it came in
+  pub came_answers : (r s : ReplyOf A × List (Node A)) → HasGone r → nodes_act kind r.1 far 0 (far_act q r.0) ≡ Some s → s.0 ≡ reply.Done
+  came_answers r s gone came = from_place_made r.1 far (node_act kind 0 (far_act q r.0)) s came (λ m v here made set.
+      ap (λ (z : ReplyOf A × List (Node A)). z.0) (sym set) ∙ far_done kind crossing r.0 q m v (gone_answers r gone) made)
+
+  -- an entry is kept of each
+  pub both_noted : (keeps : Bool) (stamp : Stamp) (before mid after : List (List Entry)) (told last : ReplyOf A) (one two : ActOf A) → one ≡ near_act crossing p → two ≡ far_act q told → last ≡ reply.Done → is_ready told ≡ true →
+      mid ≡ noted_at keeps before near (kept_entry kind stamp one told) → after ≡ noted_at keeps mid far (kept_entry kind stamp two last) → after ≡ noted_all keeps before (joint_deeds kind stamp near far p q crossing told)
+  both_noted keeps stamp before mid after told last one two one_is two_is last_is ready first second =
+      second ∙ ap (λ ts. noted_at keeps ts far (kept_entry kind stamp two last)) first
+      ∙ ap (λ a. noted_at keeps (noted_at keeps before near (kept_entry kind stamp a told)) far (kept_entry kind stamp two last)) one_is
+      ∙ ap (λ a. noted_at keeps (noted_at keeps before near (kept_entry kind stamp (near_act crossing p) told)) far (kept_entry kind stamp a last)) two_is
+      ∙ ap (λ r. noted_at keeps (noted_at keeps before near (kept_entry kind stamp (near_act crossing p) told)) far (kept_entry kind stamp (far_act q told) r)) last_is
+      ∙ sym (ap (λ b. noted_all keeps before (if b then (near, kept_entry kind stamp (near_act crossing p) told) ∷ (far, kept_entry kind stamp (far_act q told) reply.Done) ∷ [] else [])) ready)
+
+  module _ (apart : near ≢ far) where
+    -- whether the far end can act is told by the node there alone
+    some_at : (a : ActOf A) (ns ms : List (Node A)) → slice_get ns far ≡ slice_get ms far → is_some (nodes_act kind ns far 0 a) ≡ is_some (nodes_act kind ms far 0 a)
+    some_at a ns ms same = ap (λ (o : Option (Node A)). is_some (o >>= (λ n. node_act kind 0 a n >>= put_at ns far))) same ∙ by_node (slice_get ms far)
+      where
+        by_made : (made : Option (ReplyOf A × Node A)) → is_some (made >>= put_at ns far) ≡ is_some (made >>= put_at ms far)
+        by_made None = refl
+        by_made (Some y) = refl
+
+        by_node : (o : Option (Node A)) → is_some (o >>= (λ n. node_act kind 0 a n >>= put_at ns far)) ≡ is_some (o >>= (λ n. node_act kind 0 a n >>= put_at ms far))
+        by_node None = refl
+        by_node (Some n) = by_made (node_act kind 0 a n)
+
+    -- and what goes out at the near end changes nothing there
+    far_kept : (a : ActOf A) (r : ReplyOf A × List (Node A)) → HasGone r → is_some (nodes_act kind r.1 far 0 a) ≡ is_some (nodes_act kind nodes far 0 a)
+    far_kept a r gone = from_place_made nodes near (node_act kind 0 (near_act crossing p)) r gone (λ n v here made set.
+        subst (λ (z : ReplyOf A × List (Node A)). is_some (nodes_act kind z.1 far 0 a) ≡ is_some (nodes_act kind nodes far 0 a)) set
+        (some_at a (slice_set nodes near v.1) nodes (get_set_other nodes near far v.1 apart)))
+
+    -- whether the far end is ready, whatever crosses
+    abbrev IsFarReady : Bool → Type 0
+    IsFarReady b = (a : ReplyOf A) → IsAnswerOf crossing a → b ≡ is_some (nodes_act kind nodes far 0 (far_act q a))
+
+    -- where it is, it can act for what went out
+    pub far_opens : (r : ReplyOf A × List (Node A)) → HasGone r → IsFarReady true → true ≡ is_some (nodes_act kind r.1 far 0 (far_act q r.0))
+    far_opens r gone opened = opened r.0 (gone_answers r gone) ∙ sym (far_kept (far_act q r.0) r gone)
+
+    -- where both ends are ready, something crosses
+    pub joint_ready : true ≡ is_some (nodes_act kind nodes near 0 (near_act crossing p)) → IsFarReady true → is_some (joint_step kind near far p q crossing nodes) ≡ true
+    joint_ready ready opened = by_near (nodes_act kind nodes near 0 (near_act crossing p)) refl ready
+      where
+        by_far : (told : ReplyOf A) (made : Option (ReplyOf A × List (Node A))) → true ≡ is_some made → is_some (made >>= with_reply told) ≡ true
+        by_far told None ready = sym ready
+        by_far told (Some s) ready = refl
+
+        by_near : (made : Option (ReplyOf A × List (Node A))) → nodes_act kind nodes near 0 (near_act crossing p) ≡ made → true ≡ is_some made → is_some (made >>= from_near) ≡ true
+        by_near None gone ready = sym ready
+        by_near (Some r) gone ready = by_far r.0 (nodes_act kind r.1 far 0 (far_act q r.0)) (far_opens r gone opened)
+
+    -- where the far end isn't ready, nothing does
+    pub joint_closed : IsFarReady false → joint_step kind near far p q crossing nodes ≡ None
+    joint_closed closed = by_near (nodes_act kind nodes near 0 (near_act crossing p)) refl
+      where
+        by_far : (told : ReplyOf A) (made : Option (ReplyOf A × List (Node A))) → false ≡ is_some made → (made >>= with_reply told) ≡ None
+        by_far told None is = refl
+        by_far told (Some s) is = absurd (cc)
+
+        by_near : (made : Option (ReplyOf A × List (Node A))) → nodes_act kind nodes near 0 (near_act crossing p) ≡ made → (made >>= from_near) ≡ None
+        by_near None gone = refl
+        by_near (Some r) gone = by_far r.0 (nodes_act kind r.1 far 0 (far_act q r.0)) (closed r.0 (gone_answers r gone) ∙ sym (far_kept (far_act q r.0) r gone))
+
+-- what crosses a wire, as it ends at all places
+module _ {A : Type 0} (kind : Kind A) (keeps : Bool) (near far : ℕ) (joint : Joint) (stamp : Stamp) (olds : List (Shown A)) where
+  abbrev made : Option (ReplyOf A × List (Node A))
+  made = joint_step kind near far joint.near joint.far joint.crossing (states olds)
+
+  -- where one end isn't ready
+  pub none_crosses : made ≡ None → JointDone kind keeps near far joint stamp olds (Ok reply.NotReady) olds
+  none_crosses none = record {
+    ends = (ap (λ (m : Option (ReplyOf A × List (Node A))). reply_outcome m (states olds)) (sym none), λ ready. absurd (let no : ⊥ = cc in no));
+    base = refl;
+    trace = refl;
+  }
+
+  -- where both are, and it is refused
+  pub crossing_refused : (f : EventFault) (news : List (Shown A)) → f ≡ room_fault (full_at (fulls olds) near || full_at (fulls olds) far) → is_some made ≡ true → news ≡ olds → JointDone kind keeps near far joint stamp olds (Err f) news
+  crossing_refused f news is ready same = record { ends = (is, ready, ap states same); base = ap bases same; trace = ap traces same }

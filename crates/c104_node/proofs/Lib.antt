@@ -1,0 +1,17 @@
+pub mod ActionSteps
+pub mod PlaceSteps
+pub mod ReadyActs
+pub mod NamedWires
+pub mod JointEnds
+pub mod WireEnds
+pub mod NodeRuns
+pub mod Ranges
+pub mod QuietNodes
+pub mod BegunRecords
+pub mod EachSoFar
+pub mod Waiting
+pub mod Walks
+pub mod LentNodes
+pub mod LentPairs
+pub mod WrittenValues
+pub mod NextTokens

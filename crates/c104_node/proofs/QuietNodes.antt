@@ -1,0 +1,70 @@
+-- A switch is quiet where all its links are seen to be, and only there; and a run that begins keeps the
+-- balance.
+use Rattle.std.proofs.Common.{◌≡◌, ◌∙◌, ◌+◌, ◌<◌, ◌&&◌, ℕ, Bool, true, false, List, [], ◌∷◌, Some, get_or, length, nat_eq, slice_get, inl, inr, refl, sym, subst, arith}
+use Rattle.std.proofs.lemmas.Bool.{cases_eq}
+use Rattle.std.proofs.lemmas.Bool.Decides.{nat_tests}
+use Rattle.std.proofs.lemmas.Option.{slice_get-get_or}
+use Rattle.c104_token.specs.Kinds.{Kind}
+use Rattle.c104_link.specs.Buffers.{Outgoing}
+use Rattle.c104_regs.specs.declared.registers.TheConstants.{LINKS}
+use Rattle.c104_switch.specs.Switch.{Input, Switch as SwitchState}
+use Rattle.c104_switch.specs.Soundness.{IsSound}
+use Rattle.c104_switch.specs.Views.{link_view, phase_view}
+use Rattle.c104_switch.specs.declared.phase.Phase.{Phase}
+use Rattle.c104_switch.specs.declared.phase.Phase.TheVariants.{Fresh, Head, Want, Stream, Sinking}
+use Rattle.c104_node.specs.Nodes.{Node}
+use Rattle.c104_node.specs.Quiet.{is_fresh, is_quiet_view, IsQuietInput, IsQuietNode, IsQuietOutput, IsQuietSwitch}
+
+-- where one of two is not, not both are
+both : (a b : Bool) → (a && b) ≡ true → (a ≡ true) × (b ≡ true)
+both true b is = (refl, is)
+both false b is = cc
+
+empty_is : {X : Type 0} (xs : List X) → nat_eq (length xs) 0 ≡ true → xs ≡ []
+empty_is [] is = refl
+empty_is (x ∷ xs) is = let none : length (x ∷ xs) ≡ 0 = grind (arith, nat_tests) in absurd (let no : ⊥ = omega arith in no)
+
+module _ {A : Type 0} (kind : Kind A) where
+  fresh_is : (phase : Phase (List A)) → is_fresh (phase_view kind phase) ≡ true → phase ≡ Fresh
+  fresh_is Fresh is = refl
+  fresh_is (Head b) is = cc
+  fresh_is (Want b g) is = cc
+  fresh_is (Stream o) is = cc
+  fresh_is Sinking is = cc
+
+  -- what is seen of the two sides of a link
+  abbrev seen : Input A → Outgoing A → Bool
+  seen p q = nat_eq (length p.buffer.items) 0 && (nat_eq (length q.items) 0 && is_fresh (phase_view kind p.phase))
+
+  seen_quiet : (p : Input A) (q : Outgoing A) → seen p q ≡ true → IsQuietInput p × IsQuietOutput q
+  seen_quiet p q is =
+      let first = both (nat_eq (length p.buffer.items) 0) (nat_eq (length q.items) 0 && is_fresh (phase_view kind p.phase)) is in
+      let rest = both (nat_eq (length q.items) 0) (is_fresh (phase_view kind p.phase)) first.1 in
+      ((empty_is p.buffer.items first.0, fresh_is p.phase rest.1), empty_is q.items rest.0)
+
+  module _ (s : SwitchState A) (sound : IsSound s) where
+    view_is : (l : ℕ) (p : Input A) (q : Outgoing A) → slice_get s.inputs l ≡ Some p → slice_get s.outputs l ≡ Some q → is_quiet_view (link_view kind s l) ≡ seen p q
+    view_is l p q input output = rw (input, output) refl
+
+    -- all links are seen to be quiet
+    pub all_quiet : ((l : ℕ) → l < LINKS → is_quiet_view (link_view kind s l) ≡ true) → IsQuietSwitch s
+    all_quiet quiet = (
+      λ i p inside.
+          let q : Outgoing A = get_or s.outputs i (record { items = []; credit = 0 }) in
+          (seen_quiet (get_or s.inputs i p) q (sym (view_is i (get_or s.inputs i p) q (slice_get-get_or s.inputs i p inside) (slice_get-get_or s.outputs i (record { items = []; credit = 0 }) (omega (arith, sound.inputs, sound.outputs)))) ∙ quiet i (omega (arith, sound.inputs)))).0,
+      λ i q inside.
+          let p : Input A = get_or s.inputs i (record { buffer = record { cap = 0; items = []; granted = 0 }; phase = Fresh; sunk = 0; short = 0 }) in
+          (seen_quiet p (get_or s.outputs i q) (sym (view_is i p (get_or s.outputs i q) (slice_get-get_or s.inputs i (record { buffer = record { cap = 0; items = []; granted = 0 }; phase = Fresh; sunk = 0; short = 0 }) (omega (arith, sound.inputs, sound.outputs))) (slice_get-get_or s.outputs i q inside)) ∙ quiet i (omega (arith, sound.outputs)))).1,
+    )
+
+-- the nodes up to one, and this one
+pub quiet_next : {A : Type 0} (nodes : List (Node A)) (i : ℕ) (n : Node A) → i < length nodes → n ≡ get_or nodes i n → IsQuietNode n → ((k : ℕ) (d : Node A) → k < i → IsQuietNode (get_or nodes k d)) → (k : ℕ) (d : Node A) → k < i + 1 → IsQuietNode (get_or nodes k d)
+quiet_next nodes i n inside is quiet before k d below =
+    elim (cases_eq k i) [
+      | inl same ↦ (
+          let here : Some (get_or nodes i d) ≡ Some (get_or nodes i n) = sym (slice_get-get_or nodes i d inside) ∙ slice_get-get_or nodes i n inside in
+          let one : get_or nodes i d ≡ n = (let first : get_or nodes i d ≡ get_or nodes i n = cc in first) ∙ sym is in
+          subst (λ j. IsQuietNode (get_or nodes j d)) (sym same) (subst IsQuietNode (sym one) quiet)
+          )
+      | inr differs ↦ before k d (omega (arith, below, differs))
+    ]

@@ -1,0 +1,38 @@
+-- Tagged tokens: a terminator tells its packet, in few bytes, since numbers are kept by their remainders; any other token
+-- tells nothing.
+use Rattle.std.specs.Prelude.{ℕ, ◌%◌, Bool, true, false, List, Option, Some, None, flat_map}
+use Rattle.std.specs.Option.{option_to_list}
+use Rattle.c104_token.specs.Kinds.{Kind}
+use Rattle.c104_token.specs.Tokens.{is_end}
+use Rattle.c104_token.specs.declared.tokens.Token.{Token}
+use Rattle.c104_node.specs.Origins.{Origin}
+use Rattle.c104_node.specs.Traced.{Source, Traced}
+pub use Rattle.c104_node.specs.declared.tagged.TaggedToken.{TaggedToken}
+
+-- a token of a packet, with its tag if it is a terminator
+abbrev pub tagged_by : Bool → Token → ℕ → ℕ → TaggedToken
+tagged_by true x t n = record { token = x; terminal = t % 65536; number = n % 4294967296 }
+tagged_by false x t n = record { token = x; terminal = 0; number = 0 }
+
+abbrev pub tagged_kind : Kind TaggedToken
+tagged_kind = record {
+  plain = λ x. x.token;
+  random = λ place x. record { token = x; terminal = 0; number = 0 };
+  sent = λ terminal number place x. tagged_by (is_end x) x terminal number;
+}
+
+-- what is kept of a token that tells where it came from
+abbrev pub tagged_source : Token → Option Source → TaggedToken
+tagged_source x None = record { token = x; terminal = 0; number = 0 }
+tagged_source x (Some s) = tagged_by (is_end x) x s.terminal s.number
+
+abbrev pub tag : Traced → TaggedToken
+tag x = tagged_source x.token x.source
+
+-- the packet that a terminator tells
+abbrev pub tagged_origin : Bool → TaggedToken → Option Origin
+tagged_origin true x = Some (record { terminal = x.terminal; number = x.number })
+tagged_origin false x = None
+
+abbrev pub tagged_origins : List TaggedToken → List Origin
+tagged_origins tokens = flat_map (λ x. option_to_list (tagged_origin (is_end x.token) x)) tokens

@@ -1,0 +1,21 @@
+-- Tokens that tell where they came from.
+use Rattle.std.specs.Prelude.{ℕ, Some, None}
+use Rattle.c104_token.specs.Kinds.{Kind}
+use Rattle.c104_token.specs.declared.tokens.Token.{Token}
+pub use Rattle.c104_node.specs.declared.traced.Source.{Source}
+pub use Rattle.c104_node.specs.declared.traced.Traced.{Traced}
+
+-- the token at a place of a packet of a terminal, which has this number among those that were sent there
+abbrev pub sent_token : ℕ → ℕ → ℕ → Token → Traced
+sent_token terminal number place x = record {
+  token = x;
+  source = Some (record { terminal = terminal; number = number; place = place });
+}
+
+-- a token of a packet came from a terminal; one of a random header came from nowhere
+abbrev pub traced_kind : Kind Traced
+traced_kind = record {
+  plain = λ x. x.token;
+  random = λ place x. record { token = x; source = None };
+  sent = sent_token;
+}

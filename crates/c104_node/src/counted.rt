@@ -1,0 +1,146 @@
+//! A node of tagged tokens, which counts what it did.
+//!
+//! A trace has room for a fixed number of entries, and an event is refused where it is full. To know that, a count is
+//! enough.
+ghost use Rattle.std.specs.Prelude.{◌≡◌, All, [], ◌∷◌};
+ghost use Rattle.std.specs.Option.{option_copied};
+ghost use Rattle.c104_node.specs.Starts.{start_node, start_of};
+ghost use Rattle.c104_node.specs.Quiet.{IsQuietNode, node_begin};
+ghost use Rattle.c104_node.specs.Nodes.{node_arrived};
+ghost use Rattle.c104_node.specs.TracedRecords.{IsFit, first_traced};
+
+use crate::acts::ActOf;
+use crate::history::History;
+use crate::node::NodeOf;
+use crate::place::Place;
+use crate::recorded::TRACE_LIMIT;
+use crate::stamps::Stamp;
+use crate::tagged::TaggedToken;
+use c104_switch::ReplyOf;
+use c104_token::NoMemory;
+use std::marker::Model;
+
+/// A node of tagged tokens. Of what it did since its start it keeps how many entries a trace would have, at most
+/// `TRACE_LIMIT`; the entries themselves are in proofs alone.
+pub struct CountedNode {
+    core: NodeOf<TaggedToken>,
+    entries: usize,
+    history: History,
+}
+
+impl Model for CountedNode {
+    ghost use Rattle.c104_node.specs.TracedRecords.{IsCounted, TracedRecord};
+
+    ghost Value = { TracedRecord };
+
+    ghost view = { λ n. record { state = n.core; start = n.history.start; trace = n.history.trace } };
+
+    ghost invariant = { λ n.
+        IsCounted n.entries (record { state = n.core; start = n.history.start; trace = n.history.trace }) };
+}
+
+impl CountedNode {
+    /// A node that starts where it stands.
+    pub fn new(core: NodeOf<TaggedToken>) -> Self
+        ensures { result ≡ first_traced core }
+    {
+        let history = History::started(&core);
+        CountedNode {
+            core,
+            entries: 0,
+            history,
+        }
+    }
+
+    /// The tokens that arrived, if the node is a terminal.
+    pub fn arrived(&self) -> Option<&[TaggedToken]>
+        ensures arrived { option_copied result ≡ node_arrived self.now.state }
+        ensures fit { All IsFit self.now.trace }
+    {
+        // The proof reads what the type keeps by these names.
+        let _entries = self.entries;
+        self.core.arrived()
+    }
+
+    /// Starts a run where the node stands, if it is quiet: what it sent and what arrived is forgotten, and what it
+    /// did. It takes no memory.
+    pub fn begin(&mut self)
+        requires { IsQuietNode self.old.state }
+        ensures begun { self.new.state ≡ node_begin self.old.state }
+        ensures start { self.new.start ≡ start_of self.old.state }
+        ensures trace { self.new.trace ≡ [] }
+        ensures stands { self.new.state ≡ start_node self.new.start }
+    {
+        self.history = History::started(&self.core);
+        self.entries = 0;
+        self.core.begin();
+    }
+
+    /// Disposes of the node, and of what is kept of it.
+    pub fn retire(self) {
+        let CountedNode {
+            core,
+            entries: _,
+            history: _,
+        } = self;
+        core.retire();
+    }
+}
+
+impl Place<TaggedToken> for CountedNode {
+    ghost use Rattle.std.specs.Prelude.{◌≡◌, ◌<◌, false, is_some, length, refl, true, OnOk};
+    ghost use Rattle.c104_node.specs.Acts.{IsWithinLimits, node_act};
+    ghost use Rattle.c104_node.specs.PlaceActs.{ActEnds};
+    ghost use Rattle.c104_node.specs.ShownNodes.{counted_shown};
+    ghost use Rattle.c104_node.specs.Tagged.{tagged_kind};
+    ghost use Rattle.c104_node.specs.Traces.{trace_limit};
+
+    ghost shown = { counted_shown };
+
+    ghost keeps = { true };
+
+    ghost limited = { λ n. refl };
+
+    ghost has_room = { λ n. length n.trace < trace_limit };
+
+    #[inline(always)]
+    fn node(&self) -> &NodeOf<TaggedToken>
+        ensures { result.now ≡ self.now.state }
+    {
+        &self.core
+    }
+
+    #[inline(always)]
+    fn is_full(&self) -> bool
+        ensures { result ≡ (counted_shown self.now).full }
+    {
+        self.entries >= TRACE_LIMIT
+    }
+
+    #[inline(always)]
+    fn room(&mut self) -> Result<(), NoMemory>
+        requires { (counted_shown self.old).full ≡ false }
+        ensures shown { counted_shown self.new ≡ counted_shown self.old }
+        ensures room { OnOk result (length self.new.trace < trace_limit) }
+    {
+        Ok(())
+    }
+
+    #[inline(always)]
+    fn act(
+        &mut self,
+        number: usize,
+        stamp: Stamp,
+        act: ActOf<TaggedToken>,
+    ) -> Result<ReplyOf<TaggedToken>, NoMemory>
+        requires short { IsWithinLimits act }
+        requires room { length self.old.trace < trace_limit }
+        requires ready { is_some (node_act tagged_kind number act self.old.state) ≡ true }
+        ensures { ActEnds tagged_kind true number stamp act (counted_shown self.old) result (counted_shown self.new) }
+    {
+        let reply = self.core.act(number, &act)?;
+        self.history = self.history.with(&stamp, &act, &reply);
+        self.entries += 1;
+        Ok(reply)
+    }
+}

@@ -1,0 +1,61 @@
+//! Where a node started and what it did since, for proofs alone. It takes no memory, and its functions do nothing when
+//! they run.
+//!
+//! A network that counts entries in place of keeping them promises what `Net` promises, so its contracts speak of entries
+//! that nothing holds. By itself a history says nothing: a function could pick any. It is tied to what is there by the
+//! types that have one: its length to the count (`IsCounted`), and the histories of all nodes to one run of events that
+//! leads from their starts to the nodes as they stand (`IsRecordedNet`). So only this crate has the type, and the proofs
+//! of the two functions that make one are written by hand.
+ghost use Rattle.std.specs.Prelude.{List};
+ghost use Rattle.c104_node.specs.declared.acts.Entry.{Entry as TheEntry};
+ghost use Rattle.c104_node.specs.declared.starts.NodeStart.{NodeStart as TheStart};
+
+use crate::acts::ActOf;
+use crate::node::NodeOf;
+use crate::stamps::Stamp;
+use crate::tagged::TaggedToken;
+use c104_switch::ReplyOf;
+use std::marker::Model;
+
+/// Where a node started, and the entries of what it did since. Both are erased: no code can read them.
+#[derive(Drop)]
+pub struct History {
+    pub ghost start: { TheStart },
+    pub ghost trace: { List TheEntry },
+}
+
+impl Model for History {
+    ghost use Rattle.std.specs.Borrow.{ftrue};
+
+    ghost also_owns = { λ _. ftrue };
+}
+
+impl History {
+    ghost use Rattle.std.specs.Prelude.{◌≡◌, [], ◌∷◌, ◌++◌};
+    ghost use Rattle.c104_node.specs.Starts.{start_of};
+    ghost use Rattle.c104_node.specs.Tagged.{tagged_kind};
+    ghost use Rattle.c104_node.specs.Traces.{kept_entry};
+
+    /// The history of a node that starts where it stands.
+    #[inline(always)]
+    pub fn started(_core: &NodeOf<TaggedToken>) -> History
+        ensures { (result.start ≡ start_of _core.now) × (result.trace ≡ []) }
+    {
+        History {}
+    }
+
+    /// The same history with one act more, in the event of this stamp, and its reply.
+    #[inline(always)]
+    pub fn with(
+        &self,
+        _stamp: &Stamp,
+        _act: &ActOf<TaggedToken>,
+        _reply: &ReplyOf<TaggedToken>,
+    ) -> History
+        ensures { (result.start ≡ self.now.start)
+            × (result.trace ≡ self.now.trace
+            ++ kept_entry tagged_kind _stamp.now _act.now _reply.now ∷ []) }
+    {
+        History {}
+    }
+}

@@ -1,0 +1,186 @@
+//! The acts of a node.
+ghost use Rattle.std.specs.Prelude.{◌≡◌, ◌<◌, ◌≤◌, ℕ, Some, None, true, false, is_some, unwrap_or, IfSome, MatchResult};
+ghost use Rattle.c104_node.specs.Acts.{IsWithinLimits, node_act, reply_outcome, wants_memory};
+ghost use Rattle.c104_regs.specs.declared.registers.TheConstants.{LINKS};
+ghost use Rattle.c104_node.specs.PortActs.{act_limit};
+ghost use Rattle.c104_node.specs.SpareRooms.{IsEnough};
+ghost use Rattle.c104_node.specs.Nodes.{node_claim};
+ghost use Rattle.c104_switch.specs.Actions.{done_reply, token_reply};
+ghost use Rattle.c104_switch.specs.Claims.{IsNextLink};
+ghost use Rattle.c104_node.specs.PortParts.{is_node_ready, PassesUnready};
+
+use crate::acts::ActOf;
+use crate::node::NodeOf;
+use crate::port_part::PortPart;
+use crate::terminal::SpareOf;
+use c104_switch::{ActionOf, LinkSet, ReplyOf};
+use c104_token::{NoMemory, TokenKind};
+
+impl<T: TokenKind> NodeOf<T> {
+    /// Does an act, or answers NotReady and changes nothing. The number is the terminal's, if the
+    /// node is one. Only Send and Drain may want memory, and then nothing has changed.
+    #[inline(always)]
+    pub fn act(&mut self, number: usize, act: &ActOf<T>) -> Result<ReplyOf<T>, NoMemory>
+        requires { IsWithinLimits act.now }
+        ensures acted { MatchResult result
+            (λ reply. (reply, self.new) ≡
+            reply_outcome (node_act T.kind number act.now self.old) self.old)
+            (λ _. self.new ≡ self.old) }
+        ensures memory { MatchResult result
+            (λ _. Unit {0})
+            (λ _. wants_memory act.now ≡ true) }
+    {
+        match act {
+            ActOf::Send(packet) => match self {
+                NodeOf::Switch(_) => Ok(ReplyOf::NotReady),
+                NodeOf::Terminal(terminal) => {
+                    terminal.send(number, packet.packet())?;
+                    Ok(ReplyOf::Done)
+                }
+            },
+            ActOf::Drain => match self {
+                NodeOf::Switch(_) => Ok(ReplyOf::NotReady),
+                NodeOf::Terminal(terminal) => {
+                    let token = terminal.drain()?;
+                    Ok(gave(token))
+                }
+            },
+            _ => Ok(self.act_light(act)),
+        }
+    }
+
+    /// Does an act, as `act`, but without memory: it was set aside before.
+    #[inline(always)]
+    pub fn act_reserved(
+        &mut self,
+        number: usize,
+        act: &ActOf<T>,
+        spare: &mut SpareOf<T>,
+    ) -> ReplyOf<T>
+        requires below { act_limit (Some self.old) act.now ≡ None }
+        requires enough { IsEnough spare.old self.old act.now }
+        ensures { (result, self.new) ≡ reply_outcome (node_act T.kind number act.now self.old) self.old }
+    {
+        match act {
+            ActOf::Send(_) => match self {
+                NodeOf::Switch(_) => ReplyOf::NotReady,
+                NodeOf::Terminal(terminal) => {
+                    terminal.send_reserved(number, spare);
+                    ReplyOf::Done
+                }
+            },
+            ActOf::Drain => match self {
+                NodeOf::Switch(_) => ReplyOf::NotReady,
+                NodeOf::Terminal(terminal) => gave(terminal.drain_reserved(spare)),
+            },
+            _ => self.act_light(act),
+        }
+    }
+
+    /// Does an act that wants no memory, or answers NotReady and changes nothing.
+    #[inline(always)]
+    #[tactic(auto, using(crate::proofs::ActionSteps::step_as_node))]
+    fn act_light(&mut self, act: &ActOf<T>) -> ReplyOf<T>
+        requires { wants_memory act.now ≡ false }
+        ensures { (number : ℕ) → (result, self.new) ≡
+            reply_outcome (node_act T.kind number act.now self.old) self.old }
+    {
+        match self {
+            NodeOf::Switch(switch) => match act {
+                ActOf::Step(action) => switch.act(action),
+                _ => ReplyOf::NotReady,
+            },
+            NodeOf::Terminal(terminal) => match act {
+                ActOf::Step(_) => ReplyOf::NotReady,
+                ActOf::Leave => gave(terminal.leave()),
+                ActOf::Enter(token) => done(terminal.enter(*token)),
+                ActOf::CreditOut => done(terminal.credit_out()),
+                ActOf::CreditIn => done(terminal.credit_in()),
+                ActOf::Send(_) | ActOf::Drain => unreachable!(),
+            },
+        }
+    }
+
+    /// Whether an act would be done.
+    #[tactic(auto, using(crate::proofs::ActionSteps::ready_as_node))]
+    #[inline(always)]
+    pub fn ready(&self, number: usize, act: &ActOf<T>) -> bool
+        ensures { result ≡ is_some (node_act T.kind number act.now self.now) }
+    {
+        match self {
+            NodeOf::Switch(switch) => match act {
+                ActOf::Step(action) => switch.ready(action),
+                _ => false,
+            },
+            NodeOf::Terminal(terminal) => match act {
+                ActOf::Step(_) => false,
+                ActOf::Send(_) => true,
+                ActOf::Drain => terminal.can_drain(),
+                ActOf::Leave => terminal.can_leave(),
+                ActOf::Enter(_) => terminal.can_enter(),
+                ActOf::CreditOut => terminal.can_credit_out(),
+                ActOf::CreditIn => terminal.can_credit_in(),
+            },
+        }
+    }
+
+    /// The next link of a set, from this one on, that is ready for a switch's act of a part; of a turn, that may be.
+    #[inline(always)]
+    pub fn next_ready(&self, part: PortPart, from: usize, among: LinkSet) -> Option<usize>
+        ensures { PassesUnready part (λ l. is_node_ready T.kind part l self.now) from among result }
+    {
+        match self {
+            NodeOf::Switch(switch) => match part {
+                PortPart::Credit => switch.next_granting(from, among),
+                PortPart::Cross => switch.next_leaving(from, among),
+                PortPart::Turn => switch.next_turning(from, among),
+            },
+            NodeOf::Terminal(_) => None,
+        }
+    }
+
+    /// The next input, from that of this link on, that wants an output. None where no further one
+    /// does. An input that is passed over claims no output.
+    pub fn next_wanting(&self, from: usize) -> Option<usize>
+        ensures passed { (input output : ℕ) → from ≤ input → input < unwrap_or result LINKS →
+            node_claim input output self.now ≡ None }
+        ensures found { IfSome result (λ input. (from ≤ input) × (input < LINKS)) }
+    {
+        match self {
+            NodeOf::Switch(switch) => switch.next_wanting(from),
+            NodeOf::Terminal(_) => None,
+        }
+    }
+
+    /// The next output, from this one on, that an input can claim. None where it can claim no further
+    /// one.
+    pub fn next_claim(&self, input: usize, from: usize) -> Option<usize>
+        ensures { IsNextLink (λ output. is_some (node_claim input output self.now)) from result }
+    {
+        match self {
+            NodeOf::Switch(switch) => switch.next_claim(input, from),
+            NodeOf::Terminal(_) => None,
+        }
+    }
+}
+
+#[inline(always)]
+fn done<T: TokenKind>(made: bool) -> ReplyOf<T>
+    ensures { result ≡ done_reply made }
+{
+    if made {
+        ReplyOf::Done
+    } else {
+        ReplyOf::NotReady
+    }
+}
+
+#[inline(always)]
+fn gave<T: TokenKind>(token: Option<T>) -> ReplyOf<T>
+    ensures { result ≡ token_reply token }
+{
+    match token {
+        Some(token) => ReplyOf::Token(token),
+        None => ReplyOf::NotReady,
+    }
+}

@@ -1,0 +1,100 @@
+//! What stands for each node of a network: the node, and whatever is kept beside it.
+ghost use Rattle.std.specs.Prelude.{◌≡◌, true, false, Bool, None, Some, is_some, OnOk};
+ghost use Rattle.c104_node.specs.Acts.{IsWithinLimits, node_act};
+ghost use Rattle.c104_node.specs.PortActs.{act_limit};
+ghost use Rattle.c104_node.specs.PlaceActs.{ActEnds};
+ghost use Rattle.c104_node.specs.Places.{IsFullByTrace, Shown};
+ghost use Rattle.c104_node.specs.WiredPlaces.{is_linked};
+
+use crate::acts::ActOf;
+use crate::node::NodeOf;
+use crate::stamps::Stamp;
+use c104_switch::ReplyOf;
+use c104_token::{NoMemory, TokenKind};
+
+/// A place of a node, as an event sees it: the node can be asked, room can be made for whatever is
+/// kept of an act, and then the node can act.
+pub trait Place<T: TokenKind> {
+    /// What the place shows: its node, and what is kept of it.
+    ghost shown: { Self → Shown T };
+
+    /// Whether entries are kept.
+    ghost keeps: { Bool };
+
+    /// There is room for whatever is kept of one act.
+    ghost has_room: { Self → Type 0 };
+
+    /// The node.
+    fn node(&self) -> &NodeOf<T>
+        ensures { result.now ≡ (shown self.now).state };
+
+    /// Whether no further entry may be kept.
+    fn is_full(&self) -> bool
+        ensures { result ≡ (shown self.now).full };
+
+    /// Makes room for whatever is kept of one act, where it isn't full. The only error is out of
+    /// memory.
+    fn room(&mut self) -> Result<(), NoMemory>
+        requires { (shown self.old).full ≡ false }
+        ensures shown { shown self.new ≡ shown self.old }
+        ensures room { OnOk result (has_room self.new) };
+
+    /// The node does an act that it is ready for, over none but links with wires, and that no limit of a list refuses,
+    /// in the event of this stamp. The number is the terminal's, if the node is one. Only Send and Drain may want memory, and then nothing has
+    /// changed.
+    fn act(&mut self, number: usize, stamp: Stamp, act: ActOf<T>) -> Result<ReplyOf<T>, NoMemory>
+        requires short { IsWithinLimits act }
+        requires linked { is_linked (shown self.old).base act ≡ true }
+        requires below { act_limit (Some (shown self.old).state) act ≡ None }
+        requires room { has_room self.old }
+        requires ready { is_some (node_act T.kind number act (shown self.old).state) ≡ true }
+        ensures { ActEnds T.kind keeps number stamp act (shown self.old) result (shown self.new) };
+
+    /// A place is full where its trace is.
+    ghost limited: { (place : Self) → IsFullByTrace keeps (shown place) };
+}
+
+/// The node alone, of whose acts nothing is kept.
+impl<T: TokenKind> Place<T> for NodeOf<T> {
+    ghost use Rattle.std.specs.Prelude.{◌≡◌, false, is_some, refl, true, OnOk};
+    ghost use Rattle.c104_node.specs.Acts.{IsWithinLimits, node_act};
+    ghost use Rattle.c104_node.specs.PlaceActs.{ActEnds};
+    ghost use Rattle.c104_node.specs.Places.{bare_shown};
+
+    ghost shown = { bare_shown };
+
+    ghost keeps = { false };
+
+    ghost limited = { λ n. refl };
+
+    ghost has_room = { λ n. Unit {0} };
+
+    fn node(&self) -> &NodeOf<T>
+        ensures { result.now ≡ self.now }
+    {
+        self
+    }
+
+    #[inline(always)]
+    fn is_full(&self) -> bool
+        ensures { result ≡ false }
+    {
+        false
+    }
+
+    fn room(&mut self) -> Result<(), NoMemory>
+        ensures shown { bare_shown self.new ≡ bare_shown self.old }
+        ensures room { OnOk result (Unit {0}) }
+    {
+        Ok(())
+    }
+
+    #[inline(always)]
+    fn act(&mut self, number: usize, _stamp: Stamp, act: ActOf<T>) -> Result<ReplyOf<T>, NoMemory>
+        requires short { IsWithinLimits act }
+        requires ready { is_some (node_act T.kind number act self.old) ≡ true }
+        ensures { ActEnds T.kind false number _stamp act (bare_shown self.old) result (bare_shown self.new) }
+    {
+        NodeOf::act(self, number, &act)
+    }
+}

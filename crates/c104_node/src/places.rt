@@ -1,0 +1,203 @@
+//! One act of one place among all places.
+ghost use Rattle.std.specs.Prelude.{◌≡◌, ◌≢◌, ◌<◌, ◌≤◌, ℕ, None, true, false, length, is_some, map, slice_get, unwrap_or, IfSome, OnOk};
+ghost use Rattle.std.specs.Option.{option_copied};
+ghost use Rattle.c104_regs.specs.declared.registers.TheConstants.{LINKS};
+ghost use Rattle.c104_link.specs.Steps.{step_at};
+ghost use Rattle.c104_node.specs.Acts.{IsWithinLimits, nodes_act, wants_memory};
+ghost use Rattle.c104_node.specs.PortActs.{act_limit};
+ghost use Rattle.c104_node.specs.Traces.{full_at};
+ghost use Rattle.c104_switch.specs.Claims.{IsNextLink};
+ghost use Rattle.c104_node.specs.Nodes.{node_claim};
+ghost use Rattle.c104_node.specs.PlaceActs.{ActEndsAt, AloneDone, HasActedAt};
+ghost use Rattle.c104_node.specs.ActLinks.{act_link};
+ghost use Rattle.c104_node.specs.WiredPlaces.{is_linked_at};
+ghost use Rattle.c104_node.specs.Places.{bases, HasRoomAt, fulls, states};
+ghost use Rattle.c104_node.specs.PortParts.{is_ready_at, PassesUnready};
+
+use crate::acts::ActOf;
+use crate::node::NodeOf;
+use crate::place::Place;
+use crate::port_part::PortPart;
+use crate::stamps::Stamp;
+use c104_event::EventFault;
+use c104_switch::{LinkSet, ReplyOf};
+use c104_token::{NoMemory, TokenKind};
+
+/// The node at a place. None where there is no such place.
+#[inline(always)]
+pub fn node_at<T: TokenKind, P: Place<T>>(places: &[P], place: usize) -> Option<&NodeOf<T>>
+    ensures { option_copied result ≡ slice_get (states (map P.shown places.now)) place }
+{
+    match places.get(place) {
+        Some(found) => Some(found.node()),
+        None => None,
+    }
+}
+
+/// Whether the node at a place would do an act.
+#[inline(always)]
+pub fn ready_at<T: TokenKind, P: Place<T>>(
+    places: &[P],
+    place: usize,
+    number: usize,
+    act: &ActOf<T>,
+) -> bool
+    ensures { result ≡ is_some (nodes_act T.kind (states (map P.shown places.now)) place number act.now) }
+{
+    match node_at(places, place) {
+        Some(node) => node.ready(number, act),
+        None => false,
+    }
+}
+
+/// Whether no further entry may be kept at a place.
+#[inline(always)]
+pub fn is_full_at<T: TokenKind, P: Place<T>>(places: &[P], place: usize) -> bool
+    ensures { result ≡ full_at (fulls (map P.shown places.now)) place }
+{
+    match places.get(place) {
+        Some(found) => found.is_full(),
+        None => false,
+    }
+}
+
+/// Makes room at a place for whatever is kept of one act, where it isn't full.
+#[inline(always)]
+pub fn room_at<T: TokenKind, P: Place<T>>(places: &mut [P], place: usize) -> Result<(), NoMemory>
+    requires inside { place < length places.old }
+    requires free { full_at (fulls (map P.shown places.old)) place ≡ false }
+    ensures shown { map P.shown places.new ≡ map P.shown places.old }
+    ensures room { OnOk result (HasRoomAt P.has_room places.new place) }
+    ensures others { (j : ℕ) → j ≢ place →
+        HasRoomAt P.has_room places.old j → HasRoomAt P.has_room places.new j }
+{
+    let found = &mut places[place];
+    found.room()
+}
+
+/// The node at a place does an act that it is ready for.
+// Inlined: where the act is known, its other cases go.
+#[inline(always)]
+fn act_at<T: TokenKind, P: Place<T>>(
+    places: &mut [P],
+    place: usize,
+    number: usize,
+    stamp: Stamp,
+    act: ActOf<T>,
+) -> Result<ReplyOf<T>, NoMemory>
+    requires inside { place < length places.old }
+    requires short { IsWithinLimits act }
+    requires linked { is_linked_at (bases (map P.shown places.old)) place act ≡ true }
+    requires below { act_limit (slice_get (states (map P.shown places.old)) place) act ≡ None }
+    requires room { HasRoomAt P.has_room places.old place }
+    requires ready { is_some (nodes_act T.kind (states (map P.shown places.old)) place number act) ≡ true }
+    ensures ends { ActEndsAt T.kind P.keeps place number stamp act
+        (map P.shown places.old) result (map P.shown places.new) }
+    ensures others { (j : ℕ) → j ≢ place →
+        HasRoomAt P.has_room places.old j → HasRoomAt P.has_room places.new j }
+{
+    let found = &mut places[place];
+    found.act(number, stamp, act)
+}
+
+/// The node at a place does an act that it is ready for, and that wants no memory.
+#[inline(always)]
+pub fn act_sure<T: TokenKind, P: Place<T>>(
+    places: &mut [P],
+    place: usize,
+    stamp: Stamp,
+    act: ActOf<T>,
+) -> ReplyOf<T>
+    requires inside { place < length places.old }
+    requires short { IsWithinLimits act }
+    requires linked { is_linked_at (bases (map P.shown places.old)) place act ≡ true }
+    requires light { wants_memory act ≡ false }
+    requires room { HasRoomAt P.has_room places.old place }
+    requires ready { is_some (nodes_act T.kind (states (map P.shown places.old)) place 0 act) ≡ true }
+    ensures done { HasActedAt T.kind P.keeps place 0 stamp act (map P.shown places.old) result (map P.shown places.new) }
+    ensures others { (j : ℕ) → j ≢ place →
+        HasRoomAt P.has_room places.old j → HasRoomAt P.has_room places.new j }
+{
+    match act_at(places, place, 0, stamp, act) {
+        Ok(told) => told,
+        Err(_) => unreachable!(),
+    }
+}
+
+/// The node at a place does an act that it is ready for and that no limit refuses, unless nothing more can be kept of
+/// it.
+#[inline(always)]
+pub fn act_ready<T: TokenKind, P: Place<T>>(
+    places: &mut [P],
+    place: usize,
+    number: usize,
+    stamp: Stamp,
+    act: ActOf<T>,
+) -> Result<ReplyOf<T>, EventFault>
+    requires inside { place < length places.old }
+    requires short { IsWithinLimits act }
+    requires ready { is_some (nodes_act T.kind (states (map P.shown places.old)) place number act) ≡ true }
+    requires lone { act_link act ≡ None }
+    requires within { act_limit (slice_get (states (map P.shown places.old)) place) act ≡ None }
+    ensures { AloneDone T.kind P.keeps place number stamp act (map P.shown places.old) result (map P.shown places.new) }
+{
+    if is_full_at(places, place) {
+        return Err(EventFault::TraceFull);
+    }
+    room_at(places, place)?;
+    Ok(act_at(places, place, number, stamp, act)?)
+}
+
+/// The next link of a set, from this one on, at which the switch at a place is ready for its act of a part; of a turn, at
+/// which it may be.
+#[inline(always)]
+pub fn next_ready_at<T: TokenKind, P: Place<T>>(
+    places: &[P],
+    place: usize,
+    part: PortPart,
+    from: usize,
+    among: LinkSet,
+) -> Option<usize>
+    ensures { PassesUnready part (is_ready_at T.kind part (states (map P.shown places.now)) place)
+        from among result }
+{
+    match node_at(places, place) {
+        Some(node) => node.next_ready(part, from, among),
+        None => None,
+    }
+}
+
+/// The next input of the switch at a place, from that of this link on, that wants an output. None
+/// where no further one does. An input that is passed over claims no output.
+pub fn next_wanting_at<T: TokenKind, P: Place<T>>(
+    places: &[P],
+    place: usize,
+    from: usize,
+) -> Option<usize>
+    ensures passed { (input output : ℕ) → from ≤ input → input < unwrap_or result LINKS →
+        step_at (states (map P.shown places.now)) place (node_claim input output) ≡ None }
+    ensures found { IfSome result (λ input. (from ≤ input) × (input < LINKS)) }
+{
+    match node_at(places, place) {
+        Some(node) => node.next_wanting(from),
+        None => None,
+    }
+}
+
+/// The next output of the switch at a place, from this one on, that an input can claim. None where it
+/// can claim no further one.
+pub fn next_claim_at<T: TokenKind, P: Place<T>>(
+    places: &[P],
+    place: usize,
+    input: usize,
+    from: usize,
+) -> Option<usize>
+    ensures { IsNextLink
+        (λ output. is_some (step_at (states (map P.shown places.now)) place (node_claim input output)))
+        from result }
+{
+    match node_at(places, place) {
+        Some(node) => node.next_claim(input, from),
+        None => None,
+    }
+}
