@@ -1,6 +1,6 @@
 //! The buffers of a network, and where in them the tokens of a packet stand.
 
-use c104_net::{Origin, TaggedToken, TracedNet};
+use c104_net::{Origin, TaggedToken, TracedNet, WaitingTokens};
 use c104_plan::Port;
 use c104_switch::{LINKS, Phase};
 use c104_token::Token;

@@ -8,7 +8,7 @@ use c104_mistakes::{
     Mistake, ScriptMistake, counted, has_dot, name_of, names_switch, names_terminal,
     nearest_terminal,
 };
-use c104_net::{Origin, TracedNet};
+use c104_net::{Origin, Origins, TracedNet};
 use c104_plan::{Plan, Port, read_number};
 use c104_switch::Phase;
 use std::alloc::{AllocError, Global};

@@ -11,7 +11,8 @@ use Rattle.c104_net.proofs.RecordedRounds.{done_after, done_of, plain_run, start
 use Rattle.c104_net.proofs.RoundsEnd.{rounds_deliver, run_plain, work_map}
 use Rattle.c104_net.proofs.RunOrigins.{still_steady, traces_fit}
 use Rattle.c104_net.proofs.SentBytes.{AreBytesSent, run_bytes}
-use Rattle.c104_net.proofs.StandingRuns.{quiet_map, run_steady, stands_quiet, started_traced}
+use Rattle.c104_net.proofs.StandingRuns.{run_steady, stands_quiet, started_traced}
+use Rattle.c104_net.proofs.NodeMaps.{quiet_map}
 use Rattle.c104_net.proofs.StartMaps.{starts_are}
 use Rattle.c104_net.proofs.StartedRuns.{run_started}
 use Rattle.c104_net.proofs.TracedRuns.{token_of, traced_from}

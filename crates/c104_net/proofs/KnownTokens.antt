@@ -37,7 +37,7 @@ use Rattle.c104_net.proofs.RoundJoins.{apply_plan}
 use Rattle.c104_net.proofs.RunOrigins.{terminal_origins}
 use Rattle.c104_net.proofs.RunSteps.{done_possible, done_step_is}
 use Rattle.c104_net.proofs.SentCounts.{bounded_on, counts, low_number, sent_count, step_counts, AddsSent, IsBounded}
-use Rattle.c104_net.proofs.StartMaps.{starts_same}
+use Rattle.c104_net.proofs.NodeMaps.{starts_same}
 use Rattle.c104_net.proofs.StepMaps.{apply_alike, IsSentAlike}
 use Rattle.c104_net.proofs.NoFaults.{node_there}
 use Rattle.c104_net.proofs.SureOrigins.{sure_sent}

@@ -74,6 +74,7 @@ pub mod TracedRuns
 pub mod SureOrigins
 pub mod OriginPieces
 pub mod NamedOrigins
+pub mod NodeMaps
 pub mod LeadingSteps
 pub mod StableSorts
 pub mod GatheredLeads

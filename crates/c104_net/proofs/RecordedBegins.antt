@@ -27,13 +27,11 @@ use Rattle.c104_node.specs.MappedNodes.{map_input, map_node, map_outgoing}
 use Rattle.c104_net.proofs.FreshRecords.{fresh_kept}
 use Rattle.c104_node.proofs.WireEnds.{get_set_other}
 use Rattle.c104_net.proofs.FirstRecords.{map_twice}
-use Rattle.c104_net.proofs.NamedOrigins.{all_back, node_back}
+use Rattle.c104_net.proofs.NodeMaps.{all_back, node_back, quiet_map, starts_same}
 use Rattle.c104_net.proofs.QuietBegins.{begun_steady}
 use Rattle.c104_node.proofs.PlaceSteps.{shown_at}
 use Rattle.c104_net.proofs.RecordedNets.{map_same, states_plain, states_shown}
 use Rattle.c104_net.proofs.RecordSteps.{same_record}
-use Rattle.c104_net.proofs.StartMaps.{starts_same}
-use Rattle.c104_net.proofs.StandingRuns.{quiet_map}
 
 -- what holds of each of a list holds of each that it is mapped to
 all_on : {X Y : Type 0} (f : X → Y) (P : X → Type 0) (Q : Y → Type 0) → ((x : X) → P x → Q (f x)) → (xs : List X) → All P xs → All Q (map f xs)

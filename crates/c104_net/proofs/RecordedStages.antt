@@ -26,7 +26,7 @@ use Rattle.c104_net.proofs.RecordedRuns.{record_kept, record_plan}
 use Rattle.c104_net.proofs.RecordSteps.{ticket_left}
 use Rattle.c104_net.proofs.RoundJoins.{apply_plan}
 use Rattle.c104_net.proofs.RoundRuns.{is_told, step_replies, Applied}
-use Rattle.c104_net.proofs.RunOrigins.{kinds_plain}
+use Rattle.c104_net.proofs.NodeMaps.{kinds_plain}
 use Rattle.c104_net.proofs.RunRecords.{record_on, seatless_order}
 use Rattle.c104_net.proofs.StepMaps.{apply_map}
 use Rattle.c104_net.proofs.UndoneEvents.{undone_deeds}

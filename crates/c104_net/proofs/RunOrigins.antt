@@ -49,12 +49,13 @@ use Rattle.c104_switch.specs.Starts.{start_input, start_output}
 use Rattle.c104_switch.specs.declared.link_start.LinkStart.{LinkStart}
 use Rattle.c104_token.specs.Kinds.{plain_kind}
 use Rattle.c104_token.specs.declared.tokens.Token.{Token}
-use Rattle.std.proofs.Common.{All, Err, IfOk, List, None, Ok, Option, Result, Some, [], ap, arith, false, get_or, if◌then◌else◌, length, map, nat_lt, option_map, refl, slice_get, subst, sym, true, ℕ, ⊎_elim, ◌<◌, ◌∙◌, ◌∷◌, ◌≡◌, ◌≤◌}
+use Rattle.std.proofs.Common.{All, Err, IfOk, List, None, Ok, Option, Result, Some, [], ap, arith, get_or, if◌then◌else◌, length, map, nat_lt, option_map, refl, slice_get, subst, sym, true, ℕ, ⊎_elim, ◌<◌, ◌∙◌, ◌∷◌, ◌≡◌, ◌≤◌}
 use Rattle.std.proofs.lemmas.List.{length-map}
 use Rattle.std.proofs.lemmas.Bool.Decides.{nat_tests}
 use Rattle.std.proofs.lemmas.Option.{slice_get-map, slice_get_cases}
 use Rattle.c104_node.specs.declared.node.NodeOf.TheVariants as node
 use Rattle.c104_node.specs.declared.starts.NodeStart.TheVariants as start
+use Rattle.c104_net.proofs.NodeMaps.{kinds_plain}
 
 -- starts read no token: what holds of the credits at a start holds of them over any kind of token
 module _ (A B : Type 0) where
@@ -133,12 +134,6 @@ module _ (run : FinishedRecord) (is_plan : IsPlan run.finished.plan) (kept : IsK
 
   pub steady_start : IsSteady {A = Traced} (network_of run.finished.plan (map start_node run.starts))
   steady_start = still_steady Token Traced run.finished.plan run.starts kept.started
-
--- where the nodes stand in place, so do those of the traced run
-pub kinds_plain : {A B : Type 0} (f : A → B) (nodes : List (Node A)) → map is_switch (map (map_node f) nodes) ≡ map is_switch nodes
-kinds_plain f [] = refl
-kinds_plain f (node.Switch s ∷ nodes) = ap (λ bs. true ∷ bs) (kinds_plain f nodes)
-kinds_plain f (node.Terminal t ∷ nodes) = ap (λ bs. false ∷ bs) (kinds_plain f nodes)
 
 -- the origins of what arrived at each terminal among nodes
 abbrev pub terminal_origins : Terminal Traced → List Origin

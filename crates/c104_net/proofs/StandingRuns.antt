@@ -17,7 +17,7 @@ use Rattle.c104_net.proofs.TracedRuns.{token_of, traced_from}
 use Rattle.c104_net.specs.Balance.{IsSteady}
 use Rattle.c104_net.specs.Network.{Network, network_apply, network_of}
 use Rattle.c104_node.specs.Nodes.{Node}
-use Rattle.c104_node.specs.Quiet.{IsQuietInput, IsQuietNode, IsQuietOutput}
+use Rattle.c104_node.specs.Quiet.{IsQuietNode}
 use Rattle.c104_net.specs.QuietNets.{IsQuiet}
 use Rattle.c104_net.specs.Runs.{IsDoneRun}
 use Rattle.c104_net.specs.Standstill.{IsStarted, IsStartedNode, StandsStill, IsStill, IsUnready}
@@ -29,7 +29,6 @@ use Rattle.c104_node.specs.MappedNodes.{map_input, map_node, map_outgoing}
 use Rattle.c104_node.specs.declared.starts.NodeStart.{NodeStart}
 use Rattle.c104_node.specs.declared.traced.Traced.{Traced}
 use Rattle.c104_switch.specs.Actions.{Reply}
-use Rattle.c104_switch.specs.Phases.{with_header}
 use Rattle.c104_token.specs.Kinds.{Kind, plain_kind}
 use Rattle.c104_token.specs.declared.tokens.Token.{Token}
 use Rattle.std.proofs.Common.{All, List, Ok, Result, [], ap, get_or, inl, map, option_map, refl, slice_get, subst, sym, ◌∙◌, ◌∷◌, ◌≡◌}
@@ -38,6 +37,7 @@ use Rattle.std.proofs.lemmas.List.Elements.{All-map}
 use Rattle.std.proofs.lemmas.Option.{slice_get-map}
 use Rattle.c104_event.specs.declared.events.Event.TheVariants as event
 use Rattle.c104_node.specs.declared.node.NodeOf.TheVariants as node
+use Rattle.c104_net.proofs.NodeMaps.{quiet_map}
 
 -- a run keeps the balance of the wires
 pub run_steady : {A : Type 0} (kind : Kind A) (net ended : Network A) (events : List (Event × Reply)) → IsPlan net.plan → IsDoneRun kind net events ended → IsSteady net → IsSteady ended
@@ -47,16 +47,6 @@ run_steady {A} kind net ended (e ∷ events) is_plan is steady =
     run_steady kind is.0 ended events (subst IsPlan (sym same) is_plan) is.3 (applied_steady kind net.plan is_plan net.nodes steady e.0 (Ok e.1) is.0 (inl is.1))
 
 module _ {A B : Type 0} (f : A → B) where
-  empty_map : (xs : List A) → xs ≡ [] → map f xs ≡ []
-  empty_map xs e = ap (map f) e
-
-  pub quiet_map : (n : Node A) → IsQuietNode n → IsQuietNode (map_node f n)
-  quiet_map (node.Switch S) q = (
-    All-map IsQuietInput (map_input f) S.inputs (λ i d inside. (empty_map (get_or S.inputs i d).buffer.items (q.0 i d inside).0, ap (with_header (map f)) (q.0 i d inside).1)),
-    All-map IsQuietOutput (map_outgoing f) S.outputs (λ i d inside. empty_map (get_or S.outputs i d).items (q.1 i d inside)),
-  )
-  quiet_map (node.Terminal T) q = (empty_map T.input.items q.0, empty_map T.output.items q.1)
-
   -- a node that is started over other tokens is started over these
   started_map : (n : Node A) → IsStartedNode (map_node f n) → IsStartedNode n
   started_map (node.Switch S) a = record {

@@ -10,11 +10,9 @@ use Rattle.c104_node.specs.Quiet.{IsQuietInput, IsQuietNode, IsQuietOutput}
 use Rattle.c104_node.specs.Starts.{start_node}
 use Rattle.c104_node.specs.TerminalStarts.{start_terminal}
 use Rattle.c104_node.specs.Terminals.{Terminal}
-use Rattle.c104_node.specs.MappedNodes.{map_input, map_node, map_outgoing}
 use Rattle.c104_net.specs.Unchanged.{AreStartsOf}
 use Rattle.c104_node.specs.declared.starts.NodeStart.{NodeStart}
 use Rattle.c104_switch.specs.Starts.{start_input, start_output, start_switch}
-use Rattle.c104_switch.specs.declared.link_start.LinkStart.{LinkStart}
 use Rattle.c104_switch.specs.Switch.{Switch}
 use Rattle.c104_token.specs.declared.tokens.Token.{Token}
 use Rattle.std.proofs.Common.{All, Bool, List, Some, [], ap, false, get_or, map, refl, slice_get, suc, sym, true, zero, ℕ, ◌∙◌, ◌∷◌, ◌≡◌}
@@ -35,24 +33,6 @@ kinds_started A (start.Terminal t ∷ starts) = ap (λ bs. false ∷ bs) (kinds_
 -- starts that are in place are so over any kind of token
 pub still_placed : (A B : Type 0) (plan : Plan) (starts : List NodeStart) → AreInPlace {A = A} plan (map start_node starts) → AreInPlace {A = B} plan (map start_node starts)
 still_placed A B plan starts placed = kinds_started B starts ∙ sym (kinds_started A starts) ∙ placed
-
-module _ {A B : Type 0} (f : A → B) where
-  inputs_same : (links : List LinkStart) → map (map_input f) (map start_input links) ≡ map start_input links
-  inputs_same [] = refl
-  inputs_same (l ∷ links) = ap (λ z. start_input l ∷ z) (inputs_same links)
-
-  outputs_same : (links : List LinkStart) → map (map_outgoing f) (map start_output links) ≡ map start_output links
-  outputs_same [] = refl
-  outputs_same (l ∷ links) = ap (λ z. start_output l ∷ z) (outputs_same links)
-
-  node_same : (s : NodeStart) → map_node f (start_node s) ≡ start_node s
-  node_same (start.Switch s) = rw (inputs_same s.links, outputs_same s.links) refl
-  node_same (start.Terminal t) = refl
-
-  -- tokens that are mapped make no other start
-  pub starts_same : (starts : List NodeStart) → map (map_node f) (map start_node starts) ≡ map start_node starts
-  starts_same [] = refl
-  starts_same (s ∷ starts) = rw (node_same s, starts_same starts) refl
 
 -- what holds of each of a mapped list
 all_of : {X Y : Type 0} (P : Y → Type 0) (g : X → Y) → ((x : X) → P (g x)) → (xs : List X) → All P (map g xs)

@@ -1,7 +1,7 @@
 -- Each terminator that arrives in a run from a start tells its packet.
 use Rattle.c104_plan.specs.Plans.{Plan}
 use Rattle.c104_event.specs.declared.events.Event.{Event}
-use Rattle.c104_net.proofs.StartMaps.{starts_same}
+use Rattle.c104_net.proofs.NodeMaps.{starts_same}
 use Rattle.c104_net.proofs.StepMaps.{run_lift}
 use Rattle.c104_net.specs.Deliveries.{arrived_at}
 use Rattle.c104_net.specs.Network.{Network, network_of, terminal_place}

@@ -38,7 +38,7 @@ use Rattle.c104_net.proofs.Finishing.{terminals_append}
 use Rattle.c104_net.proofs.RecordedNets.{states_shown}
 use Rattle.c104_net.proofs.RunOrigins.{ends_traced, origins_lent, terminal_origins, IsKeptRun}
 use Rattle.c104_net.proofs.SentBytes.{run_bytes, IsFitEntry}
-use Rattle.c104_net.proofs.StartMaps.{starts_same}
+use Rattle.c104_net.proofs.NodeMaps.{starts_same}
 use Rattle.c104_net.proofs.StepMaps.{apply_map}
 use Rattle.c104_net.proofs.ToldEvents.{events_told}
 use Rattle.c104_net.proofs.TracedRuns.{run_after, traced_from}

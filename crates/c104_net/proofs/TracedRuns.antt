@@ -2,7 +2,7 @@
 use Rattle.c104_plan.specs.Plans.{Plan}
 use Rattle.c104_event.specs.declared.events.Event.{Event}
 use Rattle.c104_event.specs.declared.faults.EventFault.{EventFault}
-use Rattle.c104_net.proofs.StartMaps.{starts_same}
+use Rattle.c104_net.proofs.NodeMaps.{starts_same}
 use Rattle.c104_net.proofs.StepMaps.{run_lift}
 use Rattle.c104_net.specs.EventRuns.{run_events, unless_fault}
 use Rattle.c104_net.specs.Network.{Network, network_apply, network_of}

@@ -20,6 +20,7 @@
 mod asked;
 mod bare_net;
 mod bare_run;
+mod deadlock;
 mod doing;
 mod events;
 mod faults;
@@ -35,22 +36,29 @@ mod recording;
 mod replays;
 mod rounds;
 mod run;
+mod run_origins;
 mod run_parts;
 mod standstill;
 mod traced_net;
+mod traced_origins;
 mod watch;
 mod wires;
+mod work;
 
 pub use c104_event::{Event, EventFault, Port};
 pub use c104_node::{
     Act, ActOf, Entry, NodeStart, Origin, SentPacket, Source, Stamp, TaggedToken, TerminalStart,
     TerminalView, Traced, all_started, origin_of, origins_of,
 };
+pub use deadlock::NoDeadlock;
 pub use faults::PlaceFault;
 pub use net::Net;
 pub use reason::Reason;
 pub use recorded_net::RecordedNet;
 pub use recorded_place::RecordedPlace;
 pub use run::Run;
+pub use run_origins::Origins;
 pub use traced_net::TracedNet;
+pub use traced_origins::WaitingTokens;
 pub use watch::{Unwatched, Watch};
+pub use work::LeftWork;

@@ -13,8 +13,6 @@ ghost use Rattle.c104_net.specs.WiredActs.{IsRecordedAt};
 
 mod answers;
 mod beginning;
-mod deadlock;
-mod work;
 
 use crate::faults::PlaceFault;
 use crate::place_views::arrived_at;

@@ -1,6 +1,7 @@
 //! A network whose nodes are seen with their records, over any kind of token and any kind of place.
 ghost use Rattle.std.specs.Prelude.{◌≡◌};
 ghost use Rattle.c104_net.specs.NetRecords.{is_done, ticket_after, IsNetRecord, RecordsEvent};
+ghost use Rattle.c104_net.specs.RecordedNets.{places_record, reading, IsRecordedNet};
 ghost use Rattle.c104_net.specs.RecordedRuns.{AnswersRecord, DoneLaw};
 
 mod asking;
@@ -67,6 +68,27 @@ impl<T: TokenKind, P: RecordedPlace<T>> RecordedNet<T, P> {
         ensures { result.now ≡ self.now.network.plan }
     {
         self.wires.plan()
+    }
+
+    /// The wires of the plan.
+    pub fn wires(&self) -> &Wires
+        ensures { result.now ≡ self.now.network.plan }
+    {
+        &self.wires
+    }
+
+    /// The places of the nodes: the switches in order, and then the terminals. With them the network shows what it
+    /// is in contracts, and what it keeps of them.
+    pub fn places(&self) -> &[P]
+        ensures shown { places_record (reading T.kind P.shown P.plain P.begun_at)
+            self.now.network.plan result.now self.now.count ≡ self.now }
+        ensures kept { IsRecordedNet (reading T.kind P.shown P.plain P.begun_at)
+            self.now.network.plan result.now self.now.count }
+    {
+        // The proof reads the rest of the network by these names.
+        let _plan = self.wires.plan();
+        let _count = self.count;
+        self.places.as_slice()
     }
 
     /// The plan of the network, and what the network keeps.

@@ -4,13 +4,10 @@ ghost use Rattle.std.specs.Option.{option_copied};
 ghost use Rattle.c104_net.specs.Finished.{run_arrived};
 ghost use Rattle.c104_net.specs.FinishedRecords.{IsFinishedRecord};
 
-mod deadlock;
-mod origins;
-
 use crate::run_parts::RunParts;
 use c104_node::{Entry, NodeStart};
 use c104_plan::Plan;
-use c104_token::Token;
+use c104_token::{Items, Token};
 use std::marker::Model;
 
 /// What a run of a network left whose nodes kept what they did: its plan, where each node started, what it
@@ -69,6 +66,13 @@ impl Run {
             Some(trace) => Some(trace.as_slice()),
             None => None,
         }
+    }
+
+    /// What each node did from its start to the end, in order: the switches in order, and then the terminals.
+    pub fn traces(&self) -> &[Items<Entry>]
+        ensures { result.now ≡ self.now.traces }
+    {
+        self.parts.traces.as_slice()
     }
 
     /// How many events were done.

@@ -3,16 +3,12 @@
 //! It is for runs of which nobody reads the traces. The tokens tell the origins of the packets that arrived, so nothing
 //! has to be run a second time to know them, and no entry is kept.
 ghost use Rattle.std.specs.Prelude.{◌≡◌, map, IfOk};
-ghost use Rattle.std.specs.Global.{Vec as Kept};
 ghost use Rattle.c104_net.specs.NetRecords.{fresh_record};
 ghost use Rattle.c104_net.specs.Network.{new_network};
 ghost use Rattle.c104_node.specs.declared.origins.Origin.{Origin as TheOrigin};
-ghost use Rattle.c104_net.specs.FinishedRecords.{record_finish};
-ghost use Rattle.c104_net.specs.RunOrigins.{AreOrigins};
 
 mod arriving;
 mod nodes;
-mod tokens;
 
 use crate::recorded_net::RecordedNet;
 use crate::recorded_place::retire_places;
@@ -53,24 +49,5 @@ impl TracedNet {
                 Err(error)
             }
         }
-    }
-
-    /// For each terminal of the plan, in order, the origins of the packets whose terminators arrived there, in the
-    /// order of their arrival. The tokens tell them. The only error is out of memory.
-    pub fn origins(&self, alloc: Global) -> Result<Vec<Vec<Origin>>, NoMemory>
-        ensures { IfOk result (λ lists.
-            AreOrigins (record_finish self.now) (map (λ (list : Kept TheOrigin). list.items) lists.items)) }
-    {
-        // The proof reads here what every plan keeps, and the count by its name.
-        let _plan = self.wires.plan();
-        let _count = self.count;
-        let mut lists = Vec::new(alloc);
-        let places = self.places.as_slice();
-        for place in places {
-            if let Some(arrived) = place.arrived() {
-                lists.push(tagged_origins(alloc, arrived)?)?;
-            }
-        }
-        Ok(lists)
     }
 }

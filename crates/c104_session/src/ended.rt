@@ -7,7 +7,7 @@ ghost use Rattle.c104_net.specs.RunOrigins.{AreOrigins};
 ghost use Rattle.c104_node.specs.declared.origins.Origin.{Origin as TheOrigin};
 ghost use Rattle.c104_token.specs.declared.tokens.Token.{Token as TheToken};
 
-use c104_net::{Origin, TracedNet};
+use c104_net::{Origin, Origins, TracedNet};
 use c104_plan::Plan;
 use c104_token::{NoMemory, Token};
 use std::alloc::Global;

@@ -12,7 +12,7 @@ ghost use Rattle.c104_session.specs.Shown.{origin_text, packet_line, packets_tex
 ghost use Rattle.c104_token.specs.Packets.{packet_tokens};
 
 use crate::ended::EndedNet;
-use c104_net::Origin;
+use c104_net::{Origin, Origins};
 use c104_plan::Plan;
 use c104_token::{NoMemory, Packet, Token, cut_packets, print_packet};
 use itoa::Buffer;

@@ -21,7 +21,7 @@ use crate::portals::{PORTALS, send_labels};
 use c104_check::{Ranks, RanksOrCycle, check, find_cycle};
 use c104_event::EventFault;
 use c104_label::{image_of, label_mesh};
-use c104_net::Net;
+use c104_net::{LeftWork, Net, NoDeadlock};
 use c104_plan::{Image, Plan};
 use c104_token::parse_packet;
 use std::alloc::Global;

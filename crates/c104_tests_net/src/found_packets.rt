@@ -10,7 +10,7 @@ ghost use Rattle.c104_tests_net.specs.FoundPackets.{AreFoundOnce};
 use crate::calls::{drop_plan, drop_run, plan_of};
 use crate::named_packets::{TREE, in_first_run};
 use c104_label::label_tree;
-use c104_net::{Net, Origin};
+use c104_net::{Net, Origin, Origins};
 use c104_plan::{Image, Plan};
 use c104_token::NoMemory;
 use std::alloc::Global;

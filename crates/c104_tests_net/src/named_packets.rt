@@ -16,7 +16,7 @@ ghost use Rattle.c104_tests_net.specs.CalmNets.{IsCalm, IsListed, IsNamed, IsNam
 use crate::calls::{drop_plan, drop_run, plan_of};
 use c104_check::check;
 use c104_label::{image_of, label_tree};
-use c104_net::{Event, EventFault, Net, Origin, PlaceFault};
+use c104_net::{Event, EventFault, Net, Origin, Origins, PlaceFault};
 use c104_plan::{Image, Plan};
 use c104_token::{NoMemory, Packet, parse_packet};
 use std::alloc::Global;

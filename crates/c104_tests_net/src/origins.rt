@@ -1,5 +1,5 @@
 use crate::calls::{drop_run, finish, is_quiet, placed_network, retire, rounds, send};
-use c104_net::{Net, Origin, Run};
+use c104_net::{Net, Origin, Origins, Run};
 use std::alloc::Global;
 use std::process::Abort;
 use std::test::Fail;

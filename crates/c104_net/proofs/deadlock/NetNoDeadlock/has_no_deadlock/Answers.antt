@@ -1,0 +1,14 @@
+use Rattle.std.proofs.Common.{subst}
+use Rattle.c104_plan.specs.Plans.{IsPlan}
+use Rattle.c104_net.specs.DeadlockFreedom.{IsFreeOfDeadlock}
+use Rattle.c104_net.specs.NetRecords.{NetRecord, net_record}
+use Rattle.c104_net.proofs.DeadlockFree.{has_no_deadlock}
+use Rattle.c104_net.proofs.WiredTraces.{all_recorded}
+use Rattle.c104_net.proofs.deadlock.NetNoDeadlock.has_no_deadlock.Goals as goal
+
+pub returns : goal.returns
+returns c =
+    let is_plan : IsPlan c.args.self.now.network.plan = subst IsPlan c.plan-plan.ensures c.switches-switches.ensures.kept in
+    let net : NetRecord = net_record c.args.self.now.network.plan c.places.result.now c.args.self.now.count in
+    subst IsFreeOfDeadlock c.places.ensures.shown (λ image is. has_no_deadlock net is_plan c.places.ensures.kept.kept
+    (all_recorded c.args.self.now.network.plan is_plan c.places.result.now c.args.self.now.count c.read_records.ensures c.places.ensures.kept.kept) image is)

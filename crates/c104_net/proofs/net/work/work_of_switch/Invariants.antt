@@ -1,7 +1,0 @@
-use Rattle.std.proofs.Common.{take, ◌+◌, ◌≡◌}
-use Rattle.c104_net.specs.Work.{input_work, link_work, sum_at, told_work}
-use Rattle.c104_net.proofs.net.work.work_of_switch.Given as goal
-
--- the work of the links so far
-abbrev pub invariant-loop-link : goal.invariant-loop-link
-invariant-loop-link g l = l.sum ≡ told_work (sum_at (input_work l.plan (g.R.Ranking.rank l.ranks) l.place) 0 (take l.link l.switch.inputs) + sum_at (link_work l.plan (g.R.Ranking.rank l.ranks) l.place) 0 (take l.link l.switch.outputs))

@@ -1,0 +1,10 @@
+use Rattle.std.proofs.Common.{subst, refl}
+use Rattle.c104_plan.specs.Plans.{IsPlan}
+use Rattle.c104_net.proofs.TracedTokens.{input_there}
+use Rattle.c104_net.proofs.traced_origins.TracedNetWaitingTokens.input_token.Goals as goal
+
+pub returns : goal.returns
+returns c =
+    let is_plan : IsPlan c.args.self.now.network.plan = subst IsPlan c.plan-plan.ensures c.switches-switches.ensures.kept in
+    input_there c.args.self.now.network.plan is_plan c.places.result.now c.places.result.now c.args.self.now.count c.places.ensures.kept c.args.self.now refl c.places.ensures.shown
+    c.args.port c.args.index c.input_token_at.result (rw c.wires.ensures at c.input_token_at.ensures)

@@ -1,0 +1,77 @@
+//! Where the packets came from that arrived in a run.
+ghost use Rattle.std.specs.Prelude.{◌≡◌, map, IfOk, Ok};
+ghost use Rattle.std.specs.Global.{Vec as Kept};
+ghost use Rattle.c104_node.specs.Origins.{origins_in};
+ghost use Rattle.c104_node.specs.declared.origins.Origin.{Origin as TheOrigin};
+ghost use Rattle.c104_net.specs.FinishedRecords.{FinishedRecord};
+ghost use Rattle.c104_net.specs.RunOrigins.{AreOrigins};
+ghost use Rattle.c104_node.specs.Terminals.{Terminal};
+ghost use Rattle.c104_node.specs.declared.traced.Traced.{Traced as TheTraced};
+
+use crate::bare_net::NetOf;
+use crate::bare_run::RunOf;
+use crate::replays::replay_all;
+use crate::run::Run;
+use c104_node::{Origin, Traced, origins_of};
+use c104_token::NoMemory;
+use std::alloc::Global;
+
+/// Tells where the packets came from that arrived.
+pub trait Origins {
+    /// What is left where it ends.
+    ghost ended: { Self → FinishedRecord };
+
+    /// For each terminal of the plan, in order, the origins of the packets whose terminators arrived there, in the
+    /// order of their arrival. The only error is out of memory.
+    fn origins(&self, alloc: Global) -> Result<Vec<Vec<Origin>>, NoMemory>
+        ensures { IfOk result (λ lists. AreOrigins (ended self.now) (map (λ (list : Kept TheOrigin). list.items) lists.items)) };
+}
+
+impl Origins for Run {
+    ghost ended = { λ (run : FinishedRecord). run };
+
+    /// For each terminal of the plan, in order, the origins of the packets whose terminators arrived there, in the
+    /// order of their arrival. The run is done once more, over tokens that tell where they came from. The only
+    /// error is out of memory.
+    fn origins(&self, alloc: Global) -> Result<Vec<Vec<Origin>>, NoMemory>
+        ensures { IfOk result (λ lists. AreOrigins self.now (map (λ (list : Kept TheOrigin). list.items) lists.items)) }
+    {
+        // The proof reads here what every plan keeps.
+        let plan = self.plan();
+        let _switches = plan.switches();
+        let traces = self.traces();
+        let starts = self.starts();
+        let mut net = NetOf::<Traced>::from_starts(alloc, plan, starts)?;
+        let replayed = replay_all(alloc, &mut net, plan, traces);
+        let run = net.finish();
+        origins_after(alloc, replayed, &run)
+    }
+}
+
+/// The origins of what arrived at each terminal of a run that was done once more, or why it wasn't.
+fn origins_after(
+    alloc: Global,
+    replayed: Result<(), NoMemory>,
+    run: &RunOf<Traced>,
+) -> Result<Vec<Vec<Origin>>, NoMemory>
+    ensures { IfOk result (λ lists. (replayed ≡ Ok tt)
+        × (map (λ (list : Kept TheOrigin). list.items) lists.items
+        ≡ map (λ (t : Terminal TheTraced). origins_in t.arrived) run.now.terminals)) }
+{
+    replayed?;
+    origins_at(alloc, run)
+}
+
+/// The origins of what arrived at each terminal, in order. The only error is out of memory.
+fn origins_at(alloc: Global, run: &RunOf<Traced>) -> Result<Vec<Vec<Origin>>, NoMemory>
+    ensures { IfOk result (λ lists.
+        map (λ (list : Kept TheOrigin). list.items) lists.items
+        ≡ map (λ (t : Terminal TheTraced). origins_in t.arrived) run.now.terminals) }
+{
+    let mut lists = Vec::new(alloc);
+    let terminals = run.terminals.as_slice();
+    for terminal in terminals {
+        lists.push(origins_of(alloc, terminal.arrived())?)?;
+    }
+    Ok(lists)
+}

@@ -1,0 +1,83 @@
+//! Where the packets came from that arrived in a network of tagged tokens, and those of which tokens wait.
+ghost use Rattle.std.specs.Prelude.{◌≡◌, map, IfOk};
+ghost use Rattle.std.specs.Global.{Vec as Kept};
+ghost use Rattle.c104_net.specs.NetRecords.{NetRecord};
+ghost use Rattle.c104_node.specs.declared.origins.Origin.{Origin as TheOrigin};
+ghost use Rattle.c104_net.specs.FinishedRecords.{record_finish};
+ghost use Rattle.c104_net.specs.RunOrigins.{AreOrigins};
+ghost use Rattle.std.specs.Prelude.{option_map};
+ghost use Rattle.c104_node.specs.Tagged.{tag};
+ghost use Rattle.c104_net.specs.TracedEnds.{traced_end};
+ghost use Rattle.c104_net.specs.NetViews.{network_input_token, network_output_token};
+
+use crate::place_tokens::{input_token_at, output_token_at};
+use crate::run_origins::Origins;
+use crate::traced_net::TracedNet;
+use c104_event::Port;
+use c104_node::{Origin, TaggedToken, tagged_origins};
+use c104_token::NoMemory;
+use std::alloc::Global;
+
+/// Tells the tokens that wait in a network, with where they came from.
+pub trait WaitingTokens {
+    /// The network as a record.
+    ghost record_of: { Self → NetRecord };
+
+    /// The token at this index, from 0 at the first, of what came in at a port: at an input of a switch, or at a
+    /// terminal, where it has yet to arrive. If it is a terminator, it tells its packet. None past the last one, or
+    /// where the plan has no such port.
+    fn input_token(&self, port: Port, index: usize) -> Option<TaggedToken>
+        ensures { result ≡ option_map tag (network_input_token (traced_end (record_finish (record_of self.now))) port index) };
+
+    /// The token at this index, from 0 at the first, of the output of a switch's link. The first goes out next. None
+    /// past the last one, or where the plan has no such switch, or a switch no such link.
+    fn output_token(&self, switch: usize, link: usize, index: usize) -> Option<TaggedToken>
+        ensures { result ≡
+            option_map tag (network_output_token (traced_end (record_finish (record_of self.now))) switch link index) };
+}
+
+impl WaitingTokens for TracedNet {
+    ghost record_of = { λ (r : NetRecord). r };
+
+    fn input_token(&self, port: Port, index: usize) -> Option<TaggedToken>
+        ensures { result ≡ option_map tag (network_input_token (traced_end (record_finish self.now)) port index) }
+    {
+        // The proof reads here what every plan keeps.
+        let plan = self.plan();
+        let _switches = plan.switches();
+        input_token_at(self.wires(), self.places(), port, index)
+    }
+
+    fn output_token(&self, switch: usize, link: usize, index: usize) -> Option<TaggedToken>
+        ensures { result ≡
+            option_map tag (network_output_token (traced_end (record_finish self.now)) switch link index) }
+    {
+        // The proof reads here what every plan keeps.
+        let plan = self.plan();
+        let _switches = plan.switches();
+        output_token_at(self.wires(), self.places(), switch, link, index)
+    }
+}
+
+impl Origins for TracedNet {
+    ghost ended = { record_finish };
+
+    /// For each terminal of the plan, in order, the origins of the packets whose terminators arrived there, in the
+    /// order of their arrival. The tokens tell them. The only error is out of memory.
+    fn origins(&self, alloc: Global) -> Result<Vec<Vec<Origin>>, NoMemory>
+        ensures { IfOk result (λ lists.
+            AreOrigins (record_finish self.now) (map (λ (list : Kept TheOrigin). list.items) lists.items)) }
+    {
+        // The proof reads here what every plan keeps.
+        let plan = self.plan();
+        let _switches = plan.switches();
+        let mut lists = Vec::new(alloc);
+        let places = self.places();
+        for place in places {
+            if let Some(arrived) = place.arrived() {
+                lists.push(tagged_origins(alloc, arrived)?)?;
+            }
+        }
+        Ok(lists)
+    }
+}
