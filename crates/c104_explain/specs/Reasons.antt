@@ -7,7 +7,7 @@ use Rattle.c104_plan.specs.declared.ports.Port.TheVariants as port
 use Rattle.c104_plan.specs.Plans.{Plan}
 use Rattle.c104_plan.specs.PortTexts.{port_text}
 use Rattle.c104_plan.specs.Wiring.{peer}
-use Rattle.c104_net.specs.declared.reason.Reason.{Reason}
+use Rattle.c104_run.specs.declared.reason.Reason.{Reason}
 
 -- the sentence
 abbrev pub reason_sentence : Unready → List ℕ

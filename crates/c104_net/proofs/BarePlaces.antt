@@ -9,15 +9,15 @@ use Rattle.c104_plan.specs.Plans.{Plan}
 use Rattle.c104_event.specs.declared.events.Event.{Event}
 use Rattle.c104_event.specs.declared.faults.EventFault.{EventFault}
 use Rattle.c104_node.specs.declared.stamps.Stamp.{Stamp}
-use Rattle.c104_net.specs.EventActs.{event_acts, port_place}
+use Rattle.c104_run.specs.EventActs.{event_acts, port_place}
 use Rattle.c104_node.specs.PortActs.{Acts}
-use Rattle.c104_net.specs.EventsAtPlaces.{EventDone}
-use Rattle.c104_net.specs.Network.{AnswersEvent, AnswersWith, network_of}
+use Rattle.c104_run.specs.EventsAtPlaces.{EventDone}
+use Rattle.c104_run.specs.Network.{AnswersEvent, AnswersWith, network_of}
 use Rattle.c104_node.specs.Nodes.{Node}
 use Rattle.c104_node.specs.Places.{Shown, bare_shown, fulls, states}
 use Rattle.c104_node.specs.Traces.{full_at, part}
-use Rattle.c104_net.specs.EventDeeds.{acts_full, event_full}
-use Rattle.c104_net.proofs.FirstRecords.{map_twice}
+use Rattle.c104_run.specs.EventDeeds.{acts_full, event_full}
+use Rattle.c104_run.proofs.FirstRecords.{map_twice}
 
 module _ {A : Type 0} (nodes : List (Node A)) where
   bare_states : states (map bare_shown nodes) ≡ nodes

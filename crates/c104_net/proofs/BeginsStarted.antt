@@ -7,10 +7,10 @@ use Rattle.c104_plan.specs.Plans.{IsPlan, Plan}
 use Rattle.c104_link.proofs.MadeSteps.{All-place}
 use Rattle.c104_net.proofs.RunOrigins.{IsKeptRun}
 use Rattle.c104_net.proofs.StandingRuns.{stands_quiet}
-use Rattle.c104_net.specs.FinishedRecords.{FinishedRecord}
-use Rattle.c104_net.specs.Network.{network_of}
-use Rattle.c104_net.specs.QuietNets.{IsQuiet}
-use Rattle.c104_net.specs.Standstill.{IsStarted, IsStartedNode, StandsStill}
+use Rattle.c104_run.specs.FinishedRecords.{FinishedRecord}
+use Rattle.c104_run.specs.Network.{network_of}
+use Rattle.c104_run.specs.QuietNets.{IsQuiet}
+use Rattle.c104_run.specs.Standstill.{IsStarted, IsStartedNode, StandsStill}
 use Rattle.c104_net.specs.DeadlockFreedom.{IsAcyclicRun}
 use Rattle.c104_node.specs.Starts.{IsStartedStart, start_node}
 use Rattle.c104_net.specs.Unchanged.{AreStartsOf, IsUnchanged}

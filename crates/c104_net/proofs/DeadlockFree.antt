@@ -12,7 +12,7 @@ use Rattle.c104_net.proofs.RoundsEnd.{rounds_deliver, run_plain, work_map}
 use Rattle.c104_net.proofs.RunOrigins.{still_steady, traces_fit}
 use Rattle.c104_net.proofs.SentBytes.{AreBytesSent, run_bytes}
 use Rattle.c104_net.proofs.StandingRuns.{run_steady, stands_quiet, started_traced}
-use Rattle.c104_net.proofs.NodeMaps.{quiet_map}
+use Rattle.c104_run.proofs.NodeMaps.{quiet_map}
 use Rattle.c104_net.proofs.StartMaps.{starts_are}
 use Rattle.c104_net.proofs.StartedRuns.{run_started}
 use Rattle.c104_net.proofs.TracedRuns.{token_of, traced_from}
@@ -21,21 +21,21 @@ use Rattle.c104_net.proofs.FullWork.{plain_work, random_within}
 use Rattle.c104_net.proofs.WorkBounds.{bound_by_tokens}
 use Rattle.c104_net.specs.DeadlockFreedom.{HasFullInbox, HasFullTrace, HasNoDeadlock, IsAcyclicNet, IsAllDelivered, NothingDone, RoundsDeliver, IsAcyclicRun}
 use Rattle.c104_net.specs.Deliveries.{Promise}
-use Rattle.c104_net.specs.EventRuns.{Outcome, StopsShort, run_events}
-use Rattle.c104_net.specs.NetRecords.{IsNetRecord, NetRecord}
-use Rattle.c104_net.specs.Network.{Network, network_apply, network_of}
+use Rattle.c104_run.specs.EventRuns.{Outcome, StopsShort, run_events}
+use Rattle.c104_run.specs.NetRecords.{IsNetRecord, NetRecord}
+use Rattle.c104_run.specs.Network.{Network, network_apply, network_of}
 use Rattle.c104_node.specs.Quiet.{IsQuietNode}
-use Rattle.c104_net.specs.QuietNets.{IsQuiet}
-use Rattle.c104_net.specs.RecordedRuns.{record_apply}
-use Rattle.c104_net.specs.Rounds.{rounds}
-use Rattle.c104_net.specs.Runs.{IsDoneRun}
-use Rattle.c104_net.specs.Standstill.{StandsStill}
+use Rattle.c104_run.specs.QuietNets.{IsQuiet}
+use Rattle.c104_run.specs.RecordedRuns.{record_apply}
+use Rattle.c104_run.specs.Rounds.{rounds}
+use Rattle.c104_run.specs.Runs.{IsDoneRun}
+use Rattle.c104_run.specs.Standstill.{StandsStill}
 use Rattle.c104_node.specs.Starts.{start_node}
 use Rattle.c104_node.specs.Traced.{traced_kind}
 use Rattle.c104_node.specs.Traces.{seatless}
-use Rattle.c104_net.specs.TracedRuns.{map_network}
+use Rattle.c104_run.specs.TracedRuns.{map_network}
 use Rattle.c104_node.specs.MappedNodes.{map_node}
-use Rattle.c104_net.specs.WiredActs.{IsRecordedAt}
+use Rattle.c104_run.specs.WiredActs.{IsRecordedAt}
 use Rattle.c104_net.specs.HeaderWork.{random_work}
 use Rattle.c104_net.specs.Work.{highest_rank}
 use Rattle.c104_node.specs.declared.traced.Traced.{Traced}

@@ -18,8 +18,8 @@ use Rattle.c104_net.proofs.PortChanges.{at, at_other}
 use Rattle.c104_net.proofs.TokenMoves.{claim_world, pass_world, read_world, still_world}
 use Rattle.c104_net.proofs.RandomHeaders.{random_length}
 use Rattle.c104_net.specs.Deliveries.{deletes}
-use Rattle.c104_net.proofs.EventSteps.{named_step}
-use Rattle.c104_net.specs.Network.{Network, network_of}
+use Rattle.c104_run.proofs.EventSteps.{named_step}
+use Rattle.c104_run.specs.Network.{Network, network_of}
 use Rattle.c104_node.specs.Nodes.{Node, node_claim, node_input}
 use Rattle.c104_node.specs.Traced.{traced_kind}
 use Rattle.c104_node.specs.Traces.{part}

@@ -5,9 +5,9 @@ use Rattle.c104_plan.specs.declared.ports.Port.TheVariants as port
 use Rattle.c104_link.proofs.MadeSteps.{from_place_made, given}
 use Rattle.c104_link.specs.Steps.{◌>>=◌}
 use Rattle.c104_node.specs.Acts.{done_by, node_act, nodes_act, plain_reply, token_by}
-use Rattle.c104_net.specs.EventActs.{acts_step, crossing_acts, port_place}
+use Rattle.c104_run.specs.EventActs.{acts_step, crossing_acts, port_place}
 use Rattle.c104_node.specs.PortActs.{far_act, joint_step, near_act, port_credit_in, port_enter}
-use Rattle.c104_net.specs.Network.{Network, network_of, told_step}
+use Rattle.c104_run.specs.Network.{Network, network_of, told_step}
 use Rattle.c104_node.specs.Nodes.{Node, node_credit_in, node_credit_out, node_enter, node_leave}
 use Rattle.c104_node.specs.declared.crossings.Crossing.{Crossing}
 use Rattle.c104_node.specs.declared.crossings.Crossing.TheVariants.{Grant, Token}

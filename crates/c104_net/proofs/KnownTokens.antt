@@ -19,27 +19,27 @@ use Rattle.c104_node.specs.declared.starts.NodeStart.{NodeStart}
 use Rattle.c104_node.specs.Nodes.{terminals_of, Node}
 use Rattle.c104_node.specs.Tagged.{tag, tagged_origins}
 use Rattle.c104_node.specs.declared.tagged.TaggedToken.{TaggedToken}
-use Rattle.c104_net.specs.Network.{network_apply, network_of, network_step, event_fault, terminal_place, Network}
+use Rattle.c104_run.specs.Network.{network_apply, network_of, network_step, event_fault, terminal_place, Network}
 use Rattle.c104_node.specs.Origins.{origins_in, AreSure, IsSure}
 use Rattle.c104_node.specs.declared.origins.Origin.{Origin}
-use Rattle.c104_net.specs.Runs.{run_deeds, IsDoneRun}
+use Rattle.c104_run.specs.Runs.{run_deeds, IsDoneRun}
 use Rattle.c104_node.specs.Starts.{start_node}
 use Rattle.c104_node.specs.Terminals.{Terminal}
 use Rattle.c104_node.specs.Traced.{sent_token, traced_kind}
 use Rattle.c104_node.specs.declared.traced.Source.{Source}
 use Rattle.c104_node.specs.declared.traced.Traced.{Traced}
-use Rattle.c104_net.specs.TracedRuns.{map_network}
+use Rattle.c104_run.specs.TracedRuns.{map_network}
 use Rattle.c104_node.specs.MappedNodes.{map_node}
 use Rattle.c104_node.specs.Traces.{Deed}
-use Rattle.c104_net.specs.EventDeeds.{event_deeds}
-use Rattle.c104_net.proofs.TaggedRuns.{origins_same, IsSmall}
-use Rattle.c104_net.proofs.RoundJoins.{apply_plan}
+use Rattle.c104_run.specs.EventDeeds.{event_deeds}
+use Rattle.c104_run.proofs.TaggedRuns.{origins_same, IsSmall}
+use Rattle.c104_run.proofs.RoundJoins.{apply_plan}
 use Rattle.c104_net.proofs.RunOrigins.{terminal_origins}
 use Rattle.c104_net.proofs.RunSteps.{done_possible, done_step_is}
 use Rattle.c104_net.proofs.SentCounts.{bounded_on, counts, low_number, sent_count, step_counts, AddsSent, IsBounded}
-use Rattle.c104_net.proofs.NodeMaps.{starts_same}
-use Rattle.c104_net.proofs.StepMaps.{apply_alike, IsSentAlike}
-use Rattle.c104_net.proofs.NoFaults.{node_there}
+use Rattle.c104_run.proofs.NodeMaps.{starts_same}
+use Rattle.c104_run.proofs.StepMaps.{apply_alike, IsSentAlike}
+use Rattle.c104_run.proofs.NoFaults.{node_there}
 use Rattle.c104_net.proofs.SureOrigins.{sure_sent}
 
 -- a token with what is known of it

@@ -8,8 +8,8 @@ use Rattle.c104_net.proofs.NodeViews.{arrivals, arrivals_same, arrivals_terminal
 use Rattle.c104_net.proofs.PortChanges.{at}
 use Rattle.c104_node.specs.Nodes.{is_switch, Node, arrived_tokens, node_credit_in, node_credit_out, node_enter, node_leave}
 use Rattle.c104_net.specs.Deliveries.{sent_packets}
-use Rattle.c104_net.specs.Ends.{end_of}
-use Rattle.c104_net.specs.Network.{terminal_place}
+use Rattle.c104_run.specs.Ends.{end_of}
+use Rattle.c104_run.specs.Network.{terminal_place}
 use Rattle.c104_node.specs.Terminals.{Terminal, terminal_credit_in, terminal_credit_out, terminal_enter, terminal_leave, with_input, with_output}
 use Rattle.c104_node.specs.Traces.{part}
 use Rattle.c104_switch.specs.Switch.{Input, Switch, input_accept, input_grant, switch_credit_in, switch_credit_out, switch_enter, switch_leave, with_buffer, with_inputs, with_outputs}

@@ -1,9 +1,9 @@
 -- The events of a run, found again by their tickets: what each place tells, joined by ticket, is all that the run did.
 use Rattle.c104_plan.specs.Plans.{Plan}
 use Rattle.c104_event.specs.declared.events.Event.{Event}
-use Rattle.c104_net.specs.EventPlaces.{event_place}
+use Rattle.c104_run.specs.EventPlaces.{event_place}
 use Rattle.c104_net.specs.Leading.{events_at, led_events}
-use Rattle.c104_net.specs.Runs.{AreBehind, AreInOrder}
+use Rattle.c104_run.specs.Runs.{AreBehind, AreInOrder}
 use Rattle.c104_net.specs.Merges.{by_ticket, join_by_ticket}
 use Rattle.c104_net.specs.ToldEvents.{told_by, told_event}
 use Rattle.c104_node.specs.declared.acts.Entry.{Entry}

@@ -4,7 +4,7 @@ use Rattle.c104_plan.specs.declared.ports.Port.{Port}
 use Rattle.c104_net.proofs.HeaderReads.{bytes_push}
 use Rattle.c104_net.proofs.PacketInvariant.{bytes_only}
 use Rattle.c104_net.specs.Deliveries.{IsDelivered, cut_at, deletes}
-use Rattle.c104_net.specs.Network.{Network}
+use Rattle.c104_run.specs.Network.{Network}
 use Rattle.c104_node.specs.Origins.{AreSure, origin_by, origin_of, origins_in}
 use Rattle.c104_node.specs.Terminals.{sent_from, sent_tokens}
 use Rattle.c104_node.specs.Traced.{traced_kind}

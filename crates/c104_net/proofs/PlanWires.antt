@@ -5,14 +5,14 @@ use Rattle.c104_plan.specs.Plans.{IsPlan, Plan}
 use Rattle.c104_plan.specs.Ports.{AreApart, is_port}
 use Rattle.c104_plan.specs.Wiring.{peer}
 use Rattle.c104_plan.specs.declared.ports.Port.{Port}
-use Rattle.c104_net.proofs.BalancePlaces.{switches_first}
-use Rattle.c104_net.proofs.BalanceWires.{peer_back, switch_inside}
+use Rattle.c104_run.proofs.BalancePlaces.{switches_first}
+use Rattle.c104_run.proofs.BalanceWires.{peer_back, switch_inside}
 use Rattle.c104_net.proofs.LinkActs.{Matches}
 use Rattle.c104_net.proofs.PacketInvariant.{IsWired, beside}
-use Rattle.c104_net.specs.Balance.{AreInPlace}
+use Rattle.c104_run.specs.Balance.{AreInPlace}
 use Rattle.c104_node.specs.Nodes.{is_switch, Node}
-use Rattle.c104_net.specs.Ends.{end_of}
-use Rattle.c104_net.specs.Network.{terminal_place}
+use Rattle.c104_run.specs.Ends.{end_of}
+use Rattle.c104_run.specs.Network.{terminal_place}
 use Rattle.std.proofs.Common.{List, None, Option, Some, [], ap, arith, false, length, map, refl, replicate, slice_get, subst, suc, sym, true, zero, ℕ, ◌++◌, ◌+◌, ◌<◌, ◌∙◌, ◌∷◌, ◌≡◌}
 use Rattle.std.proofs.lemmas.Bool.{true≢false}
 use Rattle.c104_node.specs.declared.node.NodeOf.TheVariants as node

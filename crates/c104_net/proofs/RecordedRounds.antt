@@ -2,14 +2,14 @@
 -- events that were done are a run of events that were done.
 use Rattle.c104_event.specs.declared.events.Event.{Event}
 use Rattle.c104_event.specs.declared.faults.EventFault.{EventFault}
-use Rattle.c104_net.proofs.RecordedRuns.{record_plan}
-use Rattle.c104_net.proofs.RoundRuns.{Applied, ends_keep, undone_leaves}
-use Rattle.c104_net.specs.EventRuns.{EventsEnd, Outcome, run_events, unless_fault}
-use Rattle.c104_net.specs.NetRecords.{NetRecord, is_done}
-use Rattle.c104_net.specs.Network.{Network, network_apply}
-use Rattle.c104_net.specs.RecordedRuns.{record_apply, record_stage}
-use Rattle.c104_net.specs.Runs.{IsDoneRun}
-use Rattle.c104_net.specs.Stages.{stage_full}
+use Rattle.c104_run.proofs.RecordedRuns.{record_plan}
+use Rattle.c104_run.proofs.RoundRuns.{Applied, ends_keep, undone_leaves}
+use Rattle.c104_run.specs.EventRuns.{EventsEnd, Outcome, run_events, unless_fault}
+use Rattle.c104_run.specs.NetRecords.{NetRecord, is_done}
+use Rattle.c104_run.specs.Network.{Network, network_apply}
+use Rattle.c104_run.specs.RecordedRuns.{record_apply, record_stage}
+use Rattle.c104_run.specs.Runs.{IsDoneRun}
+use Rattle.c104_run.specs.Stages.{stage_full}
 use Rattle.c104_switch.specs.Actions.{Reply, is_ready}
 use Rattle.c104_token.specs.Kinds.{Kind, plain_kind}
 use Rattle.c104_token.specs.declared.tokens.Token.{Token}

@@ -3,7 +3,7 @@ use Rattle.c104_event.specs.declared.events.Event.{Event}
 use Rattle.c104_event.specs.declared.faults.EventFault.{EventFault}
 use Rattle.c104_event.specs.declared.faults.EventFault.TheVariants as fault
 use Rattle.c104_node.proofs.Waiting.{drop_there}
-use Rattle.c104_net.specs.Network.{AnswersEvent, Network}
+use Rattle.c104_run.specs.Network.{AnswersEvent, Network}
 use Rattle.c104_net.specs.Replays.{LeadTo}
 use Rattle.c104_net.specs.ToldEvents.{told_event}
 use Rattle.c104_node.specs.Traced.{traced_kind}

@@ -3,12 +3,12 @@ use Rattle.c104_plan.specs.Plans.{IsPlan, Plan}
 use Rattle.c104_plan.specs.Wiring.{peer}
 use Rattle.c104_plan.specs.declared.ports.Port.{Port}
 use Rattle.c104_event.specs.declared.events.Event.{Event}
-use Rattle.c104_net.proofs.BalanceWires.{switch_inside, terminal_inside}
-use Rattle.c104_net.proofs.RoundLists.{links_passed}
-use Rattle.c104_net.specs.Network.{Network}
-use Rattle.c104_net.specs.Rounds.{all_claims, all_drains, claims_of, is_wired, link_numbers, round, switch_claims, turn_at, wired_links}
-use Rattle.c104_net.specs.Rounds.{wired_ports, wired_terminals}
-use Rattle.c104_net.specs.Standstill.{StandsStill, IsStill, IsUnready}
+use Rattle.c104_run.proofs.BalanceWires.{switch_inside, terminal_inside}
+use Rattle.c104_run.proofs.RoundLists.{links_passed}
+use Rattle.c104_run.specs.Network.{Network}
+use Rattle.c104_run.specs.Rounds.{all_claims, all_drains, claims_of, is_wired, link_numbers, round, switch_claims, turn_at, wired_links}
+use Rattle.c104_run.specs.Rounds.{wired_ports, wired_terminals}
+use Rattle.c104_run.specs.Standstill.{StandsStill, IsStill, IsUnready}
 use Rattle.c104_token.specs.Kinds.{Kind}
 use Rattle.std.specs.Prelude.{Contains}
 use Rattle.std.specs.List.{flat_map, range_with_len}

@@ -13,21 +13,21 @@ use Rattle.c104_net.proofs.PacketInvariant.{IsLabelled}
 use Rattle.c104_net.proofs.Promises.{each, promised, starts, IsStart}
 use Rattle.c104_net.proofs.RunSteps.{header_positive}
 use Rattle.c104_net.proofs.SentBytes.{AreBytesSent}
-use Rattle.c104_net.proofs.StepMaps.{apply_map}
+use Rattle.c104_run.proofs.StepMaps.{apply_map}
 use Rattle.c104_net.proofs.TracedRuns.{token_of}
 use Rattle.c104_net.proofs.WorkRounds.{rounds_rest}
-use Rattle.c104_net.specs.Balance.{IsSteady}
+use Rattle.c104_run.specs.Balance.{IsSteady}
 use Rattle.c104_net.specs.Deliveries.{Promise}
-use Rattle.c104_net.specs.EventRuns.{Outcome, run_events, unless_fault}
-use Rattle.c104_net.specs.Network.{Network, network_apply}
+use Rattle.c104_run.specs.EventRuns.{Outcome, run_events, unless_fault}
+use Rattle.c104_run.specs.Network.{Network, network_apply}
 use Rattle.c104_node.specs.Nodes.{Node}
-use Rattle.c104_net.specs.QuietNets.{IsQuiet}
-use Rattle.c104_net.specs.Rounds.{rounds}
-use Rattle.c104_net.specs.Runs.{IsDoneRun}
-use Rattle.c104_net.specs.Standstill.{IsStarted}
+use Rattle.c104_run.specs.QuietNets.{IsQuiet}
+use Rattle.c104_run.specs.Rounds.{rounds}
+use Rattle.c104_run.specs.Runs.{IsDoneRun}
+use Rattle.c104_run.specs.Standstill.{IsStarted}
 use Rattle.c104_check.specs.ChannelDependencies.{IsRanking}
 use Rattle.c104_node.specs.Traced.{traced_kind}
-use Rattle.c104_net.specs.TracedRuns.{map_network}
+use Rattle.c104_run.specs.TracedRuns.{map_network}
 use Rattle.c104_node.specs.MappedNodes.{map_incoming, map_input, map_node, map_outgoing}
 use Rattle.c104_net.specs.Unchanged.{IsUnchanged}
 use Rattle.c104_net.specs.HeaderWork.{ahead_at, first_ahead, full_incoming, full_input, full_link, full_node, full_work, random_ahead, random_work}

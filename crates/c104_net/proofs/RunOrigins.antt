@@ -4,7 +4,7 @@ use Rattle.c104_plan.specs.PlanImage.{Image}
 use Rattle.c104_plan.specs.Plans.{IsPlan, Plan}
 use Rattle.c104_event.specs.declared.events.Event.{Event}
 use Rattle.c104_link.specs.Steps.{◌>>=◌}
-use Rattle.c104_net.proofs.Finishing.{arrived_same, terminals_counted}
+use Rattle.c104_run.proofs.Finishing.{arrived_same, terminals_counted}
 use Rattle.c104_net.proofs.NamedOrigins.{found_origins, named_origins, quiet_traced, sent_plain}
 use Rattle.c104_net.proofs.OriginPieces.{packet_origin}
 use Rattle.c104_net.proofs.Promises.{headline}
@@ -13,33 +13,33 @@ use Rattle.c104_net.proofs.StartMaps.{starts_are, still_placed}
 use Rattle.c104_net.proofs.SureOrigins.{arrived_sure}
 use Rattle.c104_net.proofs.ToldEvents.{events_told}
 use Rattle.c104_net.proofs.TracedRuns.{run_after, token_of, traced_from}
-use Rattle.c104_net.specs.Balance.{AreInPlace, IsSteady, credit_at, credit_of, granted_at, granted_of}
+use Rattle.c104_run.specs.Balance.{AreInPlace, IsSteady, credit_at, credit_of, granted_at, granted_of}
 use Rattle.c104_node.specs.Nodes.{is_switch, Node, arrived_tokens, node_arrived, terminals_of}
 use Rattle.c104_net.specs.Deliveries.{Promise, arrived_at, sent_at}
-use Rattle.c104_net.specs.Ends.{end_of}
-use Rattle.c104_net.specs.EventRuns.{run_events, unless_fault}
-use Rattle.c104_net.specs.Finished.{FinishedRun, network_finish, run_arrived}
-use Rattle.c104_net.specs.FinishedRecords.{ended_record, FinishedRecord, IsFinishedRecord}
-use Rattle.c104_net.specs.NetRecords.{NetRecord}
-use Rattle.c104_net.specs.Network.{Network, network_apply, network_arrived, network_of, terminal_place}
+use Rattle.c104_run.specs.Ends.{end_of}
+use Rattle.c104_run.specs.EventRuns.{run_events, unless_fault}
+use Rattle.c104_run.specs.Finished.{FinishedRun, network_finish, run_arrived}
+use Rattle.c104_run.specs.FinishedRecords.{ended_record, FinishedRecord, IsFinishedRecord}
+use Rattle.c104_run.specs.NetRecords.{NetRecord}
+use Rattle.c104_run.specs.Network.{Network, network_apply, network_arrived, network_of, terminal_place}
 use Rattle.c104_node.specs.Origins.{AreSure, origins_in}
 use Rattle.c104_node.specs.declared.origins.Origin.{Origin}
-use Rattle.c104_net.specs.QuietNets.{IsQuiet}
+use Rattle.c104_run.specs.QuietNets.{IsQuiet}
 use Rattle.c104_net.specs.Replays.{LeadTo}
 use Rattle.c104_net.specs.ToldEvents.{told_events}
 use Rattle.c104_node.specs.declared.stamps.Stamp.{Stamp}
 use Rattle.c104_event.specs.declared.faults.EventFault.{EventFault}
 use Rattle.c104_net.specs.RunOrigins.{AreOrigins}
-use Rattle.c104_net.specs.Runs.{IsRunRecord}
+use Rattle.c104_run.specs.Runs.{IsRunRecord}
 use Rattle.c104_node.specs.Starts.{start_node}
 use Rattle.c104_node.specs.Terminals.{Terminal}
 use Rattle.c104_node.specs.Traced.{traced_kind}
 use Rattle.c104_net.specs.TracedEnds.{traced_end}
-use Rattle.c104_net.specs.TracedRuns.{IsTracedRun}
+use Rattle.c104_run.specs.TracedRuns.{IsTracedRun}
 use Rattle.c104_node.specs.MappedNodes.{map_node}
 use Rattle.c104_node.specs.Traces.{part}
 use Rattle.c104_net.specs.Unchanged.{AreStartsOf, IsUnchanged}
-use Rattle.c104_net.specs.WiredActs.{IsRecordedAt}
+use Rattle.c104_run.specs.WiredActs.{IsRecordedAt}
 use Rattle.c104_node.specs.declared.acts.Entry.{Entry}
 use Rattle.c104_node.specs.declared.ends.End.{End}
 use Rattle.c104_node.specs.declared.starts.NodeStart.{NodeStart}
@@ -55,7 +55,7 @@ use Rattle.std.proofs.lemmas.Bool.Decides.{nat_tests}
 use Rattle.std.proofs.lemmas.Option.{slice_get-map, slice_get_cases}
 use Rattle.c104_node.specs.declared.node.NodeOf.TheVariants as node
 use Rattle.c104_node.specs.declared.starts.NodeStart.TheVariants as start
-use Rattle.c104_net.proofs.NodeMaps.{kinds_plain}
+use Rattle.c104_run.proofs.NodeMaps.{kinds_plain}
 
 -- starts read no token: what holds of the credits at a start holds of them over any kind of token
 module _ (A B : Type 0) where

@@ -29,18 +29,18 @@ use Rattle.c104_node.specs.declared.acts.Entry.{Entry}
 use Rattle.c104_node.specs.declared.node.NodeOf.TheVariants.{Switch, Terminal}
 use Rattle.c104_node.specs.declared.starts.NodeStart.{NodeStart}
 use Rattle.c104_node.specs.declared.starts.NodeStart.TheVariants as start
-use Rattle.c104_net.specs.Network.{Network, network_of, network_step, terminal_place, told_step}
-use Rattle.c104_net.specs.NetRecords.{IsWithinLimit}
+use Rattle.c104_run.specs.Network.{Network, network_of, network_step, terminal_place, told_step}
+use Rattle.c104_run.specs.NetRecords.{IsWithinLimit}
 use Rattle.c104_node.specs.Nodes.{Node, node_claim, node_control, node_credit_in, node_credit_out, node_drain, node_enter, node_input, node_leave, node_send}
-use Rattle.c104_net.specs.Runs.{at_node}
+use Rattle.c104_run.specs.Runs.{at_node}
 use Rattle.c104_node.specs.Starts.{start_node}
 use Rattle.c104_node.specs.Terminals as terminal
 use Rattle.c104_node.specs.Traces.{entry_of, lone_deed, trace_limit, Deed}
-use Rattle.c104_net.specs.EventDeeds.{event_deeds}
+use Rattle.c104_run.specs.EventDeeds.{event_deeds}
 use Rattle.c104_node.proofs.WireEnds.{get_set_other, get_set_same}
-use Rattle.c104_net.proofs.EventSteps.{claim_named, control_named, drain_named, input_named, send_named}
+use Rattle.c104_run.proofs.EventSteps.{claim_named, control_named, drain_named, input_named, send_named}
 use Rattle.c104_net.proofs.JointKeeps.{crossing_keeps}
-use Rattle.c104_net.specs.EventActs.{acts_step, crossing_acts}
+use Rattle.c104_run.specs.EventActs.{acts_step, crossing_acts}
 use Rattle.c104_node.specs.declared.crossings.Crossing.{Crossing}
 use Rattle.c104_node.specs.declared.crossings.Crossing.TheVariants as crossing
 

@@ -5,26 +5,26 @@ use Rattle.c104_plan.specs.Plans.{IsPlan, Plan}
 use Rattle.c104_event.specs.declared.events.Event.{Event}
 use Rattle.c104_event.specs.declared.faults.EventFault.{EventFault}
 use Rattle.c104_net.proofs.StartedRuns.{run_started}
-use Rattle.c104_net.proofs.BalanceEvents.{applied_steady}
+use Rattle.c104_run.proofs.BalanceEvents.{applied_steady}
 use Rattle.c104_net.proofs.RoundMembers.{still_of}
 use Rattle.c104_net.proofs.RunOrigins.{still_steady}
-use Rattle.c104_net.proofs.RoundJoins.{apply_plan}
+use Rattle.c104_run.proofs.RoundJoins.{apply_plan}
 use Rattle.c104_net.proofs.SentBytes.{AreBytesSent}
 use Rattle.c104_net.proofs.StartMaps.{starts_are}
-use Rattle.c104_net.proofs.StepMaps.{apply_map}
+use Rattle.c104_run.proofs.StepMaps.{apply_map}
 use Rattle.c104_net.proofs.StillPorts.{standstill}
 use Rattle.c104_net.proofs.TracedRuns.{token_of, traced_from}
-use Rattle.c104_net.specs.Balance.{IsSteady}
-use Rattle.c104_net.specs.Network.{Network, network_apply, network_of}
+use Rattle.c104_run.specs.Balance.{IsSteady}
+use Rattle.c104_run.specs.Network.{Network, network_apply, network_of}
 use Rattle.c104_node.specs.Nodes.{Node}
 use Rattle.c104_node.specs.Quiet.{IsQuietNode}
-use Rattle.c104_net.specs.QuietNets.{IsQuiet}
-use Rattle.c104_net.specs.Runs.{IsDoneRun}
-use Rattle.c104_net.specs.Standstill.{IsStarted, IsStartedNode, StandsStill, IsStill, IsUnready}
+use Rattle.c104_run.specs.QuietNets.{IsQuiet}
+use Rattle.c104_run.specs.Runs.{IsDoneRun}
+use Rattle.c104_run.specs.Standstill.{IsStarted, IsStartedNode, StandsStill, IsStill, IsUnready}
 use Rattle.c104_net.specs.DeadlockFreedom.{IsAcyclicRun}
 use Rattle.c104_node.specs.Starts.{start_node}
 use Rattle.c104_node.specs.Traced.{traced_kind}
-use Rattle.c104_net.specs.TracedRuns.{map_network}
+use Rattle.c104_run.specs.TracedRuns.{map_network}
 use Rattle.c104_node.specs.MappedNodes.{map_input, map_node, map_outgoing}
 use Rattle.c104_node.specs.declared.starts.NodeStart.{NodeStart}
 use Rattle.c104_node.specs.declared.traced.Traced.{Traced}
@@ -37,7 +37,7 @@ use Rattle.std.proofs.lemmas.List.Elements.{All-map}
 use Rattle.std.proofs.lemmas.Option.{slice_get-map}
 use Rattle.c104_event.specs.declared.events.Event.TheVariants as event
 use Rattle.c104_node.specs.declared.node.NodeOf.TheVariants as node
-use Rattle.c104_net.proofs.NodeMaps.{quiet_map}
+use Rattle.c104_run.proofs.NodeMaps.{quiet_map}
 
 -- a run keeps the balance of the wires
 pub run_steady : {A : Type 0} (kind : Kind A) (net ended : Network A) (events : List (Event × Reply)) → IsPlan net.plan → IsDoneRun kind net events ended → IsSteady net → IsSteady ended

@@ -3,9 +3,9 @@ use Rattle.c104_check.specs.Routes.{routes_of, settings_at}
 use Rattle.c104_plan.specs.PlanImage.{Image}
 use Rattle.c104_plan.specs.Plans.{Plan}
 use Rattle.c104_net.proofs.Promises.{IsStart}
-use Rattle.c104_net.specs.Balance.{AreInPlace}
+use Rattle.c104_run.specs.Balance.{AreInPlace}
 use Rattle.c104_node.specs.Nodes.{is_switch, Node}
-use Rattle.c104_net.specs.Network.{network_of}
+use Rattle.c104_run.specs.Network.{network_of}
 use Rattle.c104_node.specs.Quiet.{IsQuietInput, IsQuietNode, IsQuietOutput}
 use Rattle.c104_node.specs.Starts.{start_node}
 use Rattle.c104_node.specs.TerminalStarts.{start_terminal}

@@ -6,13 +6,13 @@ use Rattle.c104_event.specs.declared.events.Event.{Event}
 use Rattle.c104_link.proofs.MadeSteps.{from_place_made, given}
 use Rattle.c104_link.specs.Steps.{step_at, yield_step_at}
 use Rattle.c104_net.proofs.CommandEvents.{SameSides, read_sides}
-use Rattle.c104_net.proofs.EventSteps.{control_named, send_named}
+use Rattle.c104_run.proofs.EventSteps.{control_named, send_named}
 use Rattle.c104_net.proofs.RunSteps.{done_step_is}
 use Rattle.c104_net.proofs.WorkEvents.{AreStarted, started_at, started_set, event_started}
-use Rattle.c104_net.specs.Network.{Network, network_of, network_step, terminal_place}
+use Rattle.c104_run.specs.Network.{Network, network_of, network_step, terminal_place}
 use Rattle.c104_node.specs.Nodes.{Node, node_control, node_send}
-use Rattle.c104_net.specs.Runs.{IsDoneRun}
-use Rattle.c104_net.specs.Standstill.{IsStarted, IsStartedNode, IsStartedSwitch}
+use Rattle.c104_run.specs.Runs.{IsDoneRun}
+use Rattle.c104_run.specs.Standstill.{IsStarted, IsStartedNode, IsStartedSwitch}
 use Rattle.c104_node.specs.Terminals.{terminal_send}
 use Rattle.c104_net.specs.Unchanged.{IsUnchanged, MayHappen}
 use Rattle.c104_switch.specs.Actions.{Reply}

@@ -8,8 +8,8 @@ use Rattle.c104_plan.specs.Plans.{IsPlan, Plan}
 use Rattle.c104_plan.specs.Wiring.{peer}
 use Rattle.c104_plan.specs.declared.ports.Port.{Port}
 use Rattle.c104_event.specs.declared.events.Event.{Event}
-use Rattle.c104_net.proofs.BalancePlaces.{switches_first}
-use Rattle.c104_net.proofs.BalanceWires.{peer_back, switch_inside}
+use Rattle.c104_run.proofs.BalancePlaces.{switches_first}
+use Rattle.c104_run.proofs.BalanceWires.{peer_back, switch_inside}
 use Rattle.c104_net.proofs.Channels.{IsChannel}
 use Rattle.c104_net.proofs.LinkEvents.{world_of}
 use Rattle.c104_net.proofs.NodeViews.{ins, node_phase, outs, phases, terminal_fresh}
@@ -19,13 +19,13 @@ use Rattle.c104_net.proofs.Promises.{IsSettled, IsStart, each, starts}
 use Rattle.c104_net.proofs.RunSteps.{header_cases, header_positive}
 use Rattle.c104_net.proofs.SentBytes.{AreBytesSent}
 use Rattle.c104_net.proofs.StillWires.{arrived, claimed, drained, own_group, stuck}
-use Rattle.c104_net.specs.Balance.{IsSteady}
+use Rattle.c104_run.specs.Balance.{IsSteady}
 use Rattle.c104_node.specs.Nodes.{is_switch, Node}
-use Rattle.c104_net.specs.Network.{Network, network_of, terminal_place}
+use Rattle.c104_run.specs.Network.{Network, network_of, terminal_place}
 use Rattle.c104_node.specs.Quiet.{IsQuietNode}
-use Rattle.c104_net.specs.QuietNets.{IsQuiet}
-use Rattle.c104_net.specs.Runs.{IsDoneRun}
-use Rattle.c104_net.specs.Standstill.{IsStarted, IsStill}
+use Rattle.c104_run.specs.QuietNets.{IsQuiet}
+use Rattle.c104_run.specs.Runs.{IsDoneRun}
+use Rattle.c104_run.specs.Standstill.{IsStarted, IsStill}
 use Rattle.c104_check.specs.ChannelDependencies.{Depends, IsAcyclic, IsBeginningBy, IsRanking, MayComeBy}
 use Rattle.c104_node.specs.Traced.{traced_kind}
 use Rattle.c104_node.specs.Traces.{part}

@@ -5,19 +5,19 @@ use Rattle.c104_plan.specs.Wiring.{peer}
 use Rattle.c104_plan.specs.declared.ports.Port.{Port}
 use Rattle.c104_event.specs.declared.events.Event.{Event}
 use Rattle.c104_link.specs.Buffers.{Incoming, Outgoing}
-use Rattle.c104_net.proofs.BalanceWires.{peer_back, switch_inside, terminal_inside}
-use Rattle.c104_net.proofs.EventReasons.{event_reason_holds}
+use Rattle.c104_run.proofs.BalanceWires.{peer_back, switch_inside, terminal_inside}
+use Rattle.c104_run.proofs.EventReasons.{event_reason_holds}
 use Rattle.c104_net.proofs.NodeViews.{ins, outs, phases}
-use Rattle.c104_net.proofs.UnreadyEvents.{StandsAt, switch_there, terminal_there, unready_answered}
-use Rattle.c104_net.specs.Balance.{IsSteady, credit_at, granted_at}
-use Rattle.c104_net.specs.Ends.{end_of}
-use Rattle.c104_net.specs.Network.{Network, network_of, terminal_place}
+use Rattle.c104_run.proofs.UnreadyEvents.{StandsAt, switch_there, terminal_there, unready_answered}
+use Rattle.c104_run.specs.Balance.{IsSteady, credit_at, granted_at}
+use Rattle.c104_run.specs.Ends.{end_of}
+use Rattle.c104_run.specs.Network.{Network, network_of, terminal_place}
 use Rattle.c104_node.specs.Nodes.{Node}
-use Rattle.c104_net.specs.ReasonMeanings.{IsCreditInReason, IsCreditOutReason, IsEnterReason, IsEventReason, IsLeaveReason, IsSaidAt}
-use Rattle.c104_net.specs.Reasons.{is_unready, network_why}
-use Rattle.c104_net.specs.Standstill.{IsStarted, IsStartedSwitch, IsStill, IsUnready}
+use Rattle.c104_run.specs.ReasonMeanings.{IsCreditInReason, IsCreditOutReason, IsEnterReason, IsEventReason, IsLeaveReason, IsSaidAt}
+use Rattle.c104_run.specs.Reasons.{is_unready, network_why}
+use Rattle.c104_run.specs.Standstill.{IsStarted, IsStartedSwitch, IsStill, IsUnready}
 use Rattle.c104_node.specs.Terminals.{Terminal}
-use Rattle.c104_net.specs.declared.reason.Reason.{Reason}
+use Rattle.c104_run.specs.declared.reason.Reason.{Reason}
 use Rattle.c104_regs.specs.Groups.{continues_at}
 use Rattle.c104_switch.specs.Group.{is_in_group}
 use Rattle.c104_switch.specs.Phases.{is_want}

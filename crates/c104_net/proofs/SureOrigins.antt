@@ -1,16 +1,16 @@
 -- Each terminator that arrives in a run from a start tells its packet.
 use Rattle.c104_plan.specs.Plans.{Plan}
 use Rattle.c104_event.specs.declared.events.Event.{Event}
-use Rattle.c104_net.proofs.NodeMaps.{starts_same}
-use Rattle.c104_net.proofs.StepMaps.{run_lift}
+use Rattle.c104_run.proofs.NodeMaps.{starts_same}
+use Rattle.c104_run.proofs.StepMaps.{run_lift}
 use Rattle.c104_net.specs.Deliveries.{arrived_at}
-use Rattle.c104_net.specs.Network.{Network, network_of, terminal_place}
+use Rattle.c104_run.specs.Network.{Network, network_of, terminal_place}
 use Rattle.c104_node.specs.Nodes.{Node, arrived_tokens}
 use Rattle.c104_node.specs.Origins.{IsSure}
-use Rattle.c104_net.specs.Runs.{IsDoneRun}
+use Rattle.c104_run.specs.Runs.{IsDoneRun}
 use Rattle.c104_node.specs.Starts.{start_node}
 use Rattle.c104_node.specs.Traced.{sent_token, traced_kind}
-use Rattle.c104_net.specs.TracedRuns.{map_network}
+use Rattle.c104_run.specs.TracedRuns.{map_network}
 use Rattle.c104_node.specs.MappedNodes.{map_node}
 use Rattle.c104_node.specs.Traces.{part}
 use Rattle.c104_node.specs.declared.starts.NodeStart.{NodeStart}

@@ -3,12 +3,12 @@ use Rattle.c104_plan.specs.Plans.{IsPlan, Plan}
 use Rattle.c104_event.specs.declared.events.Event.{Event}
 use Rattle.c104_net.proofs.LedEvents.{run_inside, trace_led}
 use Rattle.c104_net.proofs.MergedEvents.{TellEvents, all_from, event_alone, told_from}
-use Rattle.c104_net.specs.Balance.{AreInPlace}
+use Rattle.c104_run.specs.Balance.{AreInPlace}
 use Rattle.c104_node.specs.Nodes.{is_switch, Node}
-use Rattle.c104_net.specs.EventPlaces.{event_place}
+use Rattle.c104_run.specs.EventPlaces.{event_place}
 use Rattle.c104_net.specs.Leading.{events_at, led_events}
-use Rattle.c104_net.specs.Network.{network_of}
-use Rattle.c104_net.specs.Runs.{IsRunRecord, at_node, run_deeds}
+use Rattle.c104_run.specs.Network.{network_of}
+use Rattle.c104_run.specs.Runs.{IsRunRecord, at_node, run_deeds}
 use Rattle.c104_net.specs.ToldEvents.{told_event, told_events}
 use Rattle.c104_node.specs.declared.acts.Entry.{Entry}
 use Rattle.c104_node.specs.declared.stamps.Stamp.{Stamp}

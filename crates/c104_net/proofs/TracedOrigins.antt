@@ -13,36 +13,36 @@ use Rattle.c104_event.specs.declared.faults.EventFault.{EventFault}
 use Rattle.c104_node.specs.declared.acts.Entry.{Entry}
 use Rattle.c104_node.specs.declared.node.NodeOf.TheVariants as node
 use Rattle.c104_node.specs.declared.starts.NodeStart.{NodeStart}
-use Rattle.c104_net.specs.EventRuns.{run_events}
-use Rattle.c104_net.specs.Finished.{network_finish}
+use Rattle.c104_run.specs.EventRuns.{run_events}
+use Rattle.c104_run.specs.Finished.{network_finish}
 use Rattle.c104_node.specs.Nodes.{terminals_of, node_arrived, Node}
-use Rattle.c104_net.specs.FinishedRecords.{record_finish, FinishedRecord}
-use Rattle.c104_net.specs.Network.{network_apply, network_of, Network}
-use Rattle.c104_net.specs.NetRecords.{IsWithinLimit, NetRecord}
+use Rattle.c104_run.specs.FinishedRecords.{record_finish, FinishedRecord}
+use Rattle.c104_run.specs.Network.{network_apply, network_of, Network}
+use Rattle.c104_run.specs.NetRecords.{IsWithinLimit, NetRecord}
 use Rattle.c104_node.specs.declared.origins.Origin.{Origin}
 use Rattle.c104_net.specs.RunOrigins.{AreOrigins}
-use Rattle.c104_net.specs.Runs.{at_node, run_deeds, IsDoneRun, IsRunRecord}
+use Rattle.c104_run.specs.Runs.{at_node, run_deeds, IsDoneRun, IsRunRecord}
 use Rattle.c104_node.specs.Starts.{start_node}
 use Rattle.c104_node.specs.Tagged.{tag, tagged_kind, tagged_origins}
 use Rattle.c104_node.specs.declared.tagged.TaggedToken.{TaggedToken}
 use Rattle.c104_node.specs.Traced.{traced_kind}
 use Rattle.c104_node.specs.declared.traced.Traced.{Traced}
-use Rattle.c104_net.specs.TracedRuns.{map_network, IsTracedRun}
+use Rattle.c104_run.specs.TracedRuns.{map_network, IsTracedRun}
 use Rattle.c104_node.specs.MappedNodes.{map_node}
 use Rattle.c104_net.specs.TracedEnds.{traced_end}
 use Rattle.c104_node.specs.Traces.{seatless}
-use Rattle.c104_net.specs.RecordedNets.{places_record, IsRecordedNet}
-use Rattle.c104_net.specs.RecordedPlaces.{counted_keeps, counted_reading}
+use Rattle.c104_run.specs.RecordedNets.{places_record, IsRecordedNet}
+use Rattle.c104_run.specs.RecordedPlaces.{counted_keeps, counted_reading}
 use Rattle.c104_node.specs.TracedRecords.{traced_start, traced_state, traced_trace, IsFit, TracedRecord}
-use Rattle.c104_net.proofs.Finishing.{terminals_append}
-use Rattle.c104_net.proofs.RecordedNets.{states_shown}
+use Rattle.c104_run.proofs.Finishing.{terminals_append}
+use Rattle.c104_run.proofs.RecordedNets.{states_shown}
 use Rattle.c104_net.proofs.RunOrigins.{ends_traced, origins_lent, terminal_origins, IsKeptRun}
 use Rattle.c104_net.proofs.SentBytes.{run_bytes, IsFitEntry}
-use Rattle.c104_net.proofs.NodeMaps.{starts_same}
-use Rattle.c104_net.proofs.StepMaps.{apply_map}
+use Rattle.c104_run.proofs.NodeMaps.{starts_same}
+use Rattle.c104_run.proofs.StepMaps.{apply_map}
 use Rattle.c104_net.proofs.ToldEvents.{events_told}
 use Rattle.c104_net.proofs.TracedRuns.{run_after, traced_from}
-use Rattle.c104_net.proofs.TaggedRuns.{tagged_apply, tagged_plain, plain_network, token_of}
+use Rattle.c104_run.proofs.TaggedRuns.{tagged_apply, tagged_plain, plain_network, token_of}
 use Rattle.c104_net.proofs.KnownTokens.{lists_same, tagged_lists}
 use Rattle.c104_net.proofs.SentCounts.{bounded_first}
 

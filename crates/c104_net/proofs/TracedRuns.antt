@@ -2,15 +2,15 @@
 use Rattle.c104_plan.specs.Plans.{Plan}
 use Rattle.c104_event.specs.declared.events.Event.{Event}
 use Rattle.c104_event.specs.declared.faults.EventFault.{EventFault}
-use Rattle.c104_net.proofs.NodeMaps.{starts_same}
-use Rattle.c104_net.proofs.StepMaps.{run_lift}
-use Rattle.c104_net.specs.EventRuns.{run_events, unless_fault}
-use Rattle.c104_net.specs.Network.{Network, network_apply, network_of}
+use Rattle.c104_run.proofs.NodeMaps.{starts_same}
+use Rattle.c104_run.proofs.StepMaps.{run_lift}
+use Rattle.c104_run.specs.EventRuns.{run_events, unless_fault}
+use Rattle.c104_run.specs.Network.{Network, network_apply, network_of}
 use Rattle.c104_node.specs.Nodes.{Node}
-use Rattle.c104_net.specs.Runs.{IsDoneRun}
+use Rattle.c104_run.specs.Runs.{IsDoneRun}
 use Rattle.c104_node.specs.Starts.{start_node}
 use Rattle.c104_node.specs.Traced.{traced_kind}
-use Rattle.c104_net.specs.TracedRuns.{IsTracedRun, map_network}
+use Rattle.c104_run.specs.TracedRuns.{IsTracedRun, map_network}
 use Rattle.c104_node.specs.declared.starts.NodeStart.{NodeStart}
 use Rattle.c104_node.specs.declared.traced.Traced.{Traced}
 use Rattle.c104_switch.specs.Actions.{Reply}

@@ -5,24 +5,24 @@ use Rattle.c104_plan.specs.Plans.{Plan, IsPlan}
 use Rattle.c104_plan.specs.declared.ports.Port.{Port}
 use Rattle.c104_plan.specs.declared.ports.Port.TheVariants as port
 use Rattle.c104_node.specs.declared.node.NodeOf.TheVariants as node
-use Rattle.c104_net.specs.FinishedRecords.{record_finish}
-use Rattle.c104_net.specs.NetRecords.{NetRecord}
-use Rattle.c104_net.specs.Network.{network_of, terminal_place, Network}
+use Rattle.c104_run.specs.FinishedRecords.{record_finish}
+use Rattle.c104_run.specs.NetRecords.{NetRecord}
+use Rattle.c104_run.specs.Network.{network_of, terminal_place, Network}
 use Rattle.c104_node.specs.Nodes.{Node}
 use Rattle.c104_node.specs.Places.{Shown, states}
-use Rattle.c104_net.specs.RecordedNets.{places_record, IsRecordedNet}
-use Rattle.c104_net.specs.RecordedPlaces.{counted_reading}
+use Rattle.c104_run.specs.RecordedNets.{places_record, IsRecordedNet}
+use Rattle.c104_run.specs.RecordedPlaces.{counted_reading}
 use Rattle.c104_node.specs.ShownNodes.{counted_shown}
 use Rattle.c104_node.specs.Tagged.{tag}
 use Rattle.c104_node.specs.declared.tagged.TaggedToken.{TaggedToken}
 use Rattle.c104_net.specs.TracedEnds.{traced_end}
 use Rattle.c104_node.specs.TracedRecords.{traced_state, TracedRecord}
-use Rattle.c104_net.specs.TracedRuns.{map_network}
+use Rattle.c104_run.specs.TracedRuns.{map_network}
 use Rattle.c104_node.specs.MappedNodes.{map_input, map_node, map_outgoing}
 use Rattle.c104_node.specs.Views.{node_input_token, node_output_token, nodes_input_token, nodes_output_token}
-use Rattle.c104_net.specs.NetViews.{network_input_token, network_output_token}
-use Rattle.c104_net.proofs.FirstRecords.{map_twice}
-use Rattle.c104_net.proofs.TokenMaps.{bind_both, if_map}
+use Rattle.c104_run.specs.NetViews.{network_input_token, network_output_token}
+use Rattle.c104_run.proofs.FirstRecords.{map_twice}
+use Rattle.c104_run.proofs.TokenMaps.{bind_both, if_map}
 use Rattle.c104_net.proofs.TracedOrigins.{tagged_end}
 
 -- where each token is mapped, each that waits is

@@ -6,19 +6,19 @@ use Rattle.c104_plan.specs.declared.ports.Port.{Port}
 use Rattle.c104_event.specs.declared.events.Event.{Event}
 use Rattle.c104_event.specs.declared.faults.EventFault.{EventFault}
 use Rattle.c104_link.proofs.MadeSteps.{All-place}
-use Rattle.c104_net.proofs.BalanceWires.{switch_inside, terminal_inside}
-use Rattle.c104_net.proofs.PartRuns.{single, singles}
-use Rattle.c104_net.proofs.RoundLists.{links_passed}
-use Rattle.c104_net.proofs.RoundRuns.{Applied}
+use Rattle.c104_run.proofs.BalanceWires.{switch_inside, terminal_inside}
+use Rattle.c104_run.proofs.PartRuns.{single, singles}
+use Rattle.c104_run.proofs.RoundLists.{links_passed}
+use Rattle.c104_run.proofs.RoundRuns.{Applied}
 use Rattle.c104_net.specs.DeadlockFreedom.{HasFullInbox, HasFullTrace, IsUndone, NothingDone}
-use Rattle.c104_net.specs.NetRecords.{NetRecord, is_done}
-use Rattle.c104_net.specs.Network.{Network, event_fault, event_limit, link_fault, network_apply, network_step, node_fault, outcome_if_possible, outcome_if_ready, outcome_within_limit, terminal_place, wire_fault, wired_fault}
+use Rattle.c104_run.specs.NetRecords.{NetRecord, is_done}
+use Rattle.c104_run.specs.Network.{Network, event_fault, event_limit, link_fault, network_apply, network_step, node_fault, outcome_if_possible, outcome_if_ready, outcome_within_limit, terminal_place, wire_fault, wired_fault}
 use Rattle.c104_node.specs.Nodes.{Node, arrived_tokens}
-use Rattle.c104_net.specs.RecordedRuns.{record_apply, record_stage}
-use Rattle.c104_net.specs.Rounds.{all_claims, all_drains, claims_of, is_wired, link_numbers, round, switch_claims, turn_at, wired_links, wired_ports, wired_terminals}
-use Rattle.c104_net.specs.Stages.{stage_full}
-use Rattle.c104_net.specs.Standstill.{IsUnready, StandsStill}
-use Rattle.c104_net.specs.EventActs.{crossing_acts, event_acts, port_place}
+use Rattle.c104_run.specs.RecordedRuns.{record_apply, record_stage}
+use Rattle.c104_run.specs.Rounds.{all_claims, all_drains, claims_of, is_wired, link_numbers, round, switch_claims, turn_at, wired_links, wired_ports, wired_terminals}
+use Rattle.c104_run.specs.Stages.{stage_full}
+use Rattle.c104_run.specs.Standstill.{IsUnready, StandsStill}
+use Rattle.c104_run.specs.EventActs.{crossing_acts, event_acts, port_place}
 use Rattle.c104_node.specs.PortActs.{Acts, act_limit, acts_limit, inbox_limit}
 use Rattle.c104_node.specs.declared.acts.ActOf.TheVariants as act
 use Rattle.c104_node.specs.declared.crossings.Crossing.{Crossing}
@@ -26,7 +26,7 @@ use Rattle.c104_node.specs.declared.crossings.Crossing.TheVariants as crossing
 use Rattle.c104_link.specs.Steps.{◌>>=◌}
 use Rattle.c104_switch.specs.declared.actions.ActionOf.TheVariants as action
 use Rattle.c104_node.specs.Traces.{full_at, part, is_trace_full}
-use Rattle.c104_net.specs.EventDeeds.{acts_full, event_full}
+use Rattle.c104_run.specs.EventDeeds.{acts_full, event_full}
 use Rattle.c104_node.specs.declared.acts.Entry.{Entry}
 use Rattle.c104_switch.specs.Actions.{Action, Reply}
 use Rattle.c104_token.specs.Kinds.{plain_kind}

@@ -7,21 +7,21 @@ use Rattle.c104_event.specs.declared.events.Event.{Event}
 use Rattle.c104_link.proofs.MadeSteps.{at_place_made, from_place_made, given, length-at_place, place_after_set, required, with_place_made}
 use Rattle.c104_link.specs.Buffers.{Incoming, Outgoing, incoming_accept, incoming_grant, outgoing_credited, outgoing_emit, outgoing_put, without_first}
 use Rattle.c104_link.specs.Steps.{◌>>=◌, joint_step_at, step_at, yield_step_at}
-use Rattle.c104_net.proofs.EventSteps.{by_name, claim_named, drain_named, input_named, named_step}
+use Rattle.c104_run.proofs.EventSteps.{by_name, claim_named, drain_named, input_named, named_step}
 use Rattle.c104_net.proofs.JointKeeps.{crossing_keeps}
-use Rattle.c104_net.specs.EventActs.{acts_step, crossing_acts}
+use Rattle.c104_run.specs.EventActs.{acts_step, crossing_acts}
 use Rattle.c104_node.specs.declared.crossings.Crossing.{Crossing}
 use Rattle.c104_node.specs.declared.crossings.Crossing.TheVariants as crossing
-use Rattle.c104_net.proofs.BalanceWires.{peer_back}
+use Rattle.c104_run.proofs.BalanceWires.{peer_back}
 use Rattle.c104_net.proofs.LinkActs.{Matches, leave_same, credit_out_same}
 use Rattle.c104_node.proofs.NextTokens.{first_some}
 use Rattle.c104_net.proofs.PlanWires.{matches}
 use Rattle.c104_net.proofs.WorkSteps.{at_far, at_own, claim_work, credit_in_work, credit_out_work, drain_work, enter_work, far_of, input_set, leave_work, own, sum_set, turn_work}
-use Rattle.c104_net.specs.Balance.{AreInPlace}
+use Rattle.c104_run.specs.Balance.{AreInPlace}
 use Rattle.c104_node.specs.Nodes.{is_switch, Node, node_claim, node_credit_in, node_credit_out, node_drain, node_enter, node_input, node_leave}
-use Rattle.c104_net.specs.Ends.{end_of}
-use Rattle.c104_net.specs.Network.{Network, network_of, network_step, terminal_place, told_step}
-use Rattle.c104_net.specs.Standstill.{IsStarted, IsStartedNode, IsStartedSwitch}
+use Rattle.c104_run.specs.Ends.{end_of}
+use Rattle.c104_run.specs.Network.{Network, network_of, network_step, terminal_place, told_step}
+use Rattle.c104_run.specs.Standstill.{IsStarted, IsStartedNode, IsStartedSwitch}
 use Rattle.c104_node.specs.Terminals.{Terminal, terminal_credit_in, terminal_credit_out, terminal_drain, terminal_enter, terminal_leave}
 use Rattle.c104_node.proofs.NamedWires.{nodes_credit, nodes_cross}
 use Rattle.c104_net.specs.HeaderWork.{ahead_at, full_node, full_work}

@@ -9,27 +9,27 @@ use Rattle.c104_plan.specs.Wiring.{peer}
 use Rattle.c104_plan.specs.declared.ports.Port.{Port}
 use Rattle.c104_event.specs.declared.events.Event.{Event}
 use Rattle.c104_event.specs.declared.faults.EventFault.{EventFault}
-use Rattle.c104_net.proofs.BalanceEvents.{applied_steady}
-use Rattle.c104_net.proofs.BalanceWires.{peer_back}
+use Rattle.c104_run.proofs.BalanceEvents.{applied_steady}
+use Rattle.c104_run.proofs.BalanceWires.{peer_back}
 use Rattle.c104_net.proofs.LinkEvents.{world_of}
 use Rattle.c104_net.proofs.NodeViews.{phases}
 use Rattle.c104_net.proofs.PacketInvariant.{IsChosen, IsLabelled, Suits, group_at}
 use Rattle.c104_net.proofs.PlanWires.{wired}
 use Rattle.c104_net.proofs.Promises.{IsSettled, one, set_is}
 use Rattle.c104_net.proofs.RoundMembers.{still_of}
-use Rattle.c104_net.proofs.RoundRuns.{run_append, run_from, undone_leaves}
+use Rattle.c104_run.proofs.RoundRuns.{run_append, run_from, undone_leaves}
 use Rattle.c104_net.proofs.RunSteps.{done_step_is}
 use Rattle.c104_net.proofs.SentBytes.{SendsBytes}
 use Rattle.c104_net.proofs.StillPorts.{all_quiet, depends_on}
 use Rattle.c104_net.proofs.WorkEvents.{AreStarted, AreFalling, IsOfRound, event_started, event_less}
 use Rattle.c104_net.proofs.WorkSteps.{at_far, far_of, own}
-use Rattle.c104_net.specs.Balance.{IsSteady}
-use Rattle.c104_net.specs.EventRuns.{Outcome, run_events, unless_fault}
-use Rattle.c104_net.specs.Network.{Network, network_apply, network_of, network_step}
+use Rattle.c104_run.specs.Balance.{IsSteady}
+use Rattle.c104_run.specs.EventRuns.{Outcome, run_events, unless_fault}
+use Rattle.c104_run.specs.Network.{Network, network_apply, network_of, network_step}
 use Rattle.c104_node.specs.Nodes.{Node}
-use Rattle.c104_net.specs.QuietNets.{IsQuiet}
-use Rattle.c104_net.specs.Rounds.{all_claims, all_drains, claims_of, link_numbers, round, rounds, switch_claims, turn_at, wired_ports}
-use Rattle.c104_net.specs.Standstill.{IsStarted, IsUnready}
+use Rattle.c104_run.specs.QuietNets.{IsQuiet}
+use Rattle.c104_run.specs.Rounds.{all_claims, all_drains, claims_of, link_numbers, round, rounds, switch_claims, turn_at, wired_ports}
+use Rattle.c104_run.specs.Standstill.{IsStarted, IsUnready}
 use Rattle.c104_check.specs.ChannelDependencies.{IsRanking}
 use Rattle.c104_node.specs.Traced.{traced_kind}
 use Rattle.c104_net.specs.Unchanged.{MayHappen}

@@ -11,8 +11,8 @@ use Rattle.c104_link.specs.Buffers.{Incoming, Outgoing, incoming_accept, incomin
 use Rattle.c104_link.specs.Steps.{step_at, yield_step_at}
 use Rattle.c104_net.proofs.LinkActs.{Matches}
 use Rattle.c104_node.proofs.NextTokens.{first_some}
-use Rattle.c104_net.specs.Ends.{end_of}
-use Rattle.c104_net.specs.Network.{terminal_place}
+use Rattle.c104_run.specs.Ends.{end_of}
+use Rattle.c104_run.specs.Network.{terminal_place}
 use Rattle.c104_node.specs.Nodes.{Node, node_credit_in, node_credit_out, node_drain, node_enter, node_leave}
 use Rattle.c104_node.specs.Terminals.{Terminal, terminal_credit_in, terminal_credit_out, terminal_drain, terminal_enter, terminal_leave, with_input, with_output}
 use Rattle.c104_net.specs.HeaderWork.{ahead_at, first_ahead, full_incoming, full_input, full_inputs, full_link, full_node, full_output, full_outputs}

@@ -14,16 +14,16 @@ use Rattle.c104_event.specs.declared.events.Event.TheVariants as event
 use Rattle.c104_event.specs.declared.faults.EventFault.TheVariants as fault
 use Rattle.c104_node.specs.declared.acts.Entry.{Entry}
 use Rattle.c104_net.specs.Deliveries.{Promise}
-use Rattle.c104_net.specs.Finished.{network_finish}
-use Rattle.c104_net.specs.FinishedRecords.{FinishedRecord}
-use Rattle.c104_net.specs.NetRecords.{NetRecord, is_done}
-use Rattle.c104_net.specs.Network.{network_of}
+use Rattle.c104_run.specs.Finished.{network_finish}
+use Rattle.c104_run.specs.FinishedRecords.{FinishedRecord}
+use Rattle.c104_run.specs.NetRecords.{NetRecord, is_done}
+use Rattle.c104_run.specs.Network.{network_of}
 use Rattle.c104_node.specs.Nodes.{Node}
-use Rattle.c104_net.specs.QuietNets.{IsQuiet}
-use Rattle.c104_net.specs.RecordedRuns.{RecordsRounds, record_apply}
-use Rattle.c104_net.specs.Rounds.{round}
-use Rattle.c104_net.specs.Runs.{IsDoneRun, IsRunRecord}
-use Rattle.c104_net.specs.Standstill.{IsDeadlocked, StandsStill, IsStarted}
+use Rattle.c104_run.specs.QuietNets.{IsQuiet}
+use Rattle.c104_run.specs.RecordedRuns.{RecordsRounds, record_apply}
+use Rattle.c104_run.specs.Rounds.{round}
+use Rattle.c104_run.specs.Runs.{IsDoneRun, IsRunRecord}
+use Rattle.c104_run.specs.Standstill.{IsDeadlocked, StandsStill, IsStarted}
 use Rattle.c104_node.specs.Starts.{IsStartedStart, start_node}
 use Rattle.c104_node.specs.Traced.{traced_kind}
 use Rattle.c104_node.specs.declared.traced.Traced.{Traced}
@@ -37,7 +37,7 @@ use Rattle.c104_switch.specs.Actions.{Reply}
 use Rattle.c104_token.specs.Kinds.{plain_kind}
 use Rattle.c104_token.specs.declared.tokens.Token.{Token}
 use Rattle.c104_plan.specs.Plans.{Plan}
-use Rattle.c104_net.specs.Balance.{IsSteady}
+use Rattle.c104_run.specs.Balance.{IsSteady}
 use Rattle.c104_node.specs.declared.starts.NodeStart.{NodeStart}
 
 -- A network with its record whose labels the check accepts, and whose channels don't depend on one another in a cycle:

@@ -12,8 +12,8 @@ use Rattle.c104_check.specs.Routes.{Routes, owner, settings_at}
 use Rattle.c104_node.specs.declared.node.NodeOf.TheVariants as node
 use Rattle.c104_node.specs.Nodes.{Node, arrived_tokens}
 use Rattle.c104_node.specs.Terminals.{sent_tokens}
-use Rattle.c104_net.specs.Network.{Network, terminal_place}
-use Rattle.c104_net.specs.QuietNets.{IsQuiet}
+use Rattle.c104_run.specs.Network.{Network, terminal_place}
+use Rattle.c104_run.specs.QuietNets.{IsQuiet}
 use Rattle.c104_node.specs.Traced.{traced_kind}
 use Rattle.c104_node.specs.declared.traced.Traced.{Traced}
 use Rattle.c104_node.specs.Traces.{part}

@@ -2,7 +2,7 @@
 -- leads: its only one, or, of the two at the ends of a wire, that where the token or the credits went out.
 use Rattle.c104_plan.specs.Plans.{Plan}
 use Rattle.c104_event.specs.declared.events.Event.{Event}
-use Rattle.c104_net.specs.EventPlaces.{event_place}
+use Rattle.c104_run.specs.EventPlaces.{event_place}
 use Rattle.c104_node.specs.declared.acts.ActOf.{ActOf}
 use Rattle.c104_node.specs.declared.acts.Entry.{Entry}
 use Rattle.c104_node.specs.declared.stamps.Stamp.{Stamp}

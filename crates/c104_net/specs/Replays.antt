@@ -3,7 +3,7 @@ use Rattle.c104_event.specs.declared.events.Event.{Event}
 use Rattle.c104_event.specs.declared.events.Event.TheVariants as event
 use Rattle.c104_event.specs.declared.faults.EventFault.{EventFault}
 use Rattle.c104_net.specs.Leading.{act_event}
-use Rattle.c104_net.specs.Network.{Network, network_apply}
+use Rattle.c104_run.specs.Network.{Network, network_apply}
 use Rattle.c104_node.specs.Traced.{traced_kind}
 use Rattle.c104_node.specs.declared.traced.Traced.{Traced}
 use Rattle.c104_node.specs.declared.acts.Entry.{Entry}

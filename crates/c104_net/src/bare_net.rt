@@ -1,15 +1,14 @@
 //! A network of switches and terminals, over any kind of token, in which a run is done once more.
 ghost use Rattle.std.specs.Prelude.{◌≡◌};
-ghost use Rattle.c104_net.specs.Finished.{network_finish};
-ghost use Rattle.c104_net.specs.Network.{AnswersEvent};
+ghost use Rattle.c104_run.specs.Finished.{network_finish};
+ghost use Rattle.c104_run.specs.Network.{AnswersEvent};
 
 mod starts;
 
 use crate::bare_run::{RunOf, terminals_of};
-use crate::events::happen;
-use crate::wires::Wires;
 use c104_event::{Event, EventFault};
 use c104_node::{NodeOf, Stamp, TerminalOf};
+use c104_run::{Wires, happen};
 use c104_switch::Reply;
 use c104_token::TokenKind;
 use std::marker::Model;
@@ -27,8 +26,8 @@ pub struct NetOf<T: TokenKind> {
 }
 
 impl<T: TokenKind> Model for NetOf<T> {
-    ghost use Rattle.c104_net.specs.Network.{Network, network_of};
-    ghost use Rattle.c104_net.specs.Balance.{IsSteady};
+    ghost use Rattle.c104_run.specs.Network.{Network, network_of};
+    ghost use Rattle.c104_run.specs.Balance.{IsSteady};
     ghost use Rattle.std.specs.Prelude.{◌≡◌, ◌≤◌, [], length};
     ghost use Rattle.std.specs.Vec.{vec_capacity};
 

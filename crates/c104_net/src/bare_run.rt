@@ -17,7 +17,7 @@ pub struct RunOf<T: TokenKind> {
 }
 
 impl<T: TokenKind> Model for RunOf<T> {
-    ghost use Rattle.c104_net.specs.Finished.{FinishedRun};
+    ghost use Rattle.c104_run.specs.Finished.{FinishedRun};
 
     ghost Value = { FinishedRun T };
 

@@ -4,9 +4,8 @@ ghost use Rattle.std.specs.Prelude.{All, ℕ};
 ghost use Rattle.c104_net.specs.DeadlockFreedom.{EndsWithoutDeadlock, IsFreeOfDeadlock};
 ghost use Rattle.c104_node.specs.Records.{IsRecorded, NodeRecord};
 
-use crate::net::Net;
-use crate::run::Run;
 use c104_node::Node;
+use c104_run::{Net, Run};
 
 /// What the theorem says of a value.
 pub trait NoDeadlock {

@@ -1,48 +1,19 @@
-//! Networks of switches and terminals, run event by event.
+//! Networks of switches and terminals, and what is proved of their packets.
 //!
-//! A `Net` is the switches and the terminals of a plan. It keeps that each stands at its place, the switches
-//! first, and that at the two ends of each wire the credit of the one is what the other has granted. An
-//! event is done as a whole, at both ends of its wire, or it is answered with NotReady or refused, and then
-//! nothing has changed. Each node keeps where it started and an `Entry` of each act that it did since, and the
-//! type keeps that the entries of all are those of one run.
-//!
-//! A network can't be dropped, since its switches hold claims: `finish` ends it, and gives a `Run`, which
-//! keeps the plan, the starts, the entries, and what had arrived at each of the terminals. `Run::origins` tells
-//! which packet each received packet was. A `TracedNet` does and answers what a `Net` does, and counts entries in place
-//! of keeping them: its tokens tell which packet each was as they arrive (`TracedNet::origins`). Both are a
-//! `RecordedNet`, each of its own kind of place.
-//!
-//! A `PlaceFault` is why a network was not made, and a `Reason` why an event isn't ready, and where. `view_link` and
-//! `view_terminal` show how a link of a switch and how a terminal stands. `rounds` does the events of all parts in turn,
-//! again and again; a `Watch` is told how far they are.
+//! Networks stand in `c104_run` and their nodes in `c104_node`, and what is public of them is handed on. Here
+//! stands what knows the check of labels, and the replay: `Origins` tells which packet each received packet was, of
+//! a `Run`, which is done once more over tokens that tell where they came from, and of a `TracedNet`, whose tokens
+//! tell it as they arrive. `NoDeadlock` is the theorem that a network without a cycle of channel dependencies has
+//! no deadlock, and `LeftWork` tells how many rounds are enough.
 #![tactic(auto)]
 
-mod asked;
 mod bare_net;
 mod bare_run;
 mod deadlock;
-mod doing;
-mod events;
-mod faults;
 mod leading;
-mod net;
-mod place_tokens;
-mod place_views;
-mod reason;
-mod reasons;
-mod recorded_net;
-mod recorded_place;
-mod recording;
 mod replays;
-mod rounds;
-mod run;
 mod run_origins;
-mod run_parts;
-mod standstill;
-mod traced_net;
 mod traced_origins;
-mod watch;
-mod wires;
 mod work;
 
 pub use c104_event::{Event, EventFault, Port};
@@ -50,15 +21,10 @@ pub use c104_node::{
     Act, ActOf, Entry, NodeStart, Origin, SentPacket, Source, Stamp, TaggedToken, TerminalStart,
     TerminalView, Traced, all_started, origin_of, origins_of,
 };
+pub use c104_run::{
+    Net, PlaceFault, Reason, RecordedNet, RecordedPlace, Run, TracedNet, Unwatched, Watch,
+};
 pub use deadlock::NoDeadlock;
-pub use faults::PlaceFault;
-pub use net::Net;
-pub use reason::Reason;
-pub use recorded_net::RecordedNet;
-pub use recorded_place::RecordedPlace;
-pub use run::Run;
 pub use run_origins::Origins;
-pub use traced_net::TracedNet;
 pub use traced_origins::WaitingTokens;
-pub use watch::{Unwatched, Watch};
 pub use work::LeftWork;

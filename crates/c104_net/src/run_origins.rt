@@ -3,7 +3,7 @@ ghost use Rattle.std.specs.Prelude.{◌≡◌, map, IfOk, Ok};
 ghost use Rattle.std.specs.Global.{Vec as Kept};
 ghost use Rattle.c104_node.specs.Origins.{origins_in};
 ghost use Rattle.c104_node.specs.declared.origins.Origin.{Origin as TheOrigin};
-ghost use Rattle.c104_net.specs.FinishedRecords.{FinishedRecord};
+ghost use Rattle.c104_run.specs.FinishedRecords.{FinishedRecord};
 ghost use Rattle.c104_net.specs.RunOrigins.{AreOrigins};
 ghost use Rattle.c104_node.specs.Terminals.{Terminal};
 ghost use Rattle.c104_node.specs.declared.traced.Traced.{Traced as TheTraced};
@@ -11,8 +11,8 @@ ghost use Rattle.c104_node.specs.declared.traced.Traced.{Traced as TheTraced};
 use crate::bare_net::NetOf;
 use crate::bare_run::RunOf;
 use crate::replays::replay_all;
-use crate::run::Run;
 use c104_node::{Origin, Traced, origins_of};
+use c104_run::Run;
 use c104_token::NoMemory;
 use std::alloc::Global;
 

@@ -1,20 +1,19 @@
 //! Where the packets came from that arrived in a network of tagged tokens, and those of which tokens wait.
 ghost use Rattle.std.specs.Prelude.{◌≡◌, map, IfOk};
 ghost use Rattle.std.specs.Global.{Vec as Kept};
-ghost use Rattle.c104_net.specs.NetRecords.{NetRecord};
+ghost use Rattle.c104_run.specs.NetRecords.{NetRecord};
 ghost use Rattle.c104_node.specs.declared.origins.Origin.{Origin as TheOrigin};
-ghost use Rattle.c104_net.specs.FinishedRecords.{record_finish};
+ghost use Rattle.c104_run.specs.FinishedRecords.{record_finish};
 ghost use Rattle.c104_net.specs.RunOrigins.{AreOrigins};
 ghost use Rattle.std.specs.Prelude.{option_map};
 ghost use Rattle.c104_node.specs.Tagged.{tag};
 ghost use Rattle.c104_net.specs.TracedEnds.{traced_end};
-ghost use Rattle.c104_net.specs.NetViews.{network_input_token, network_output_token};
+ghost use Rattle.c104_run.specs.NetViews.{network_input_token, network_output_token};
 
-use crate::place_tokens::{input_token_at, output_token_at};
 use crate::run_origins::Origins;
-use crate::traced_net::TracedNet;
 use c104_event::Port;
 use c104_node::{Origin, TaggedToken, tagged_origins};
+use c104_run::{TracedNet, input_token_at, output_token_at};
 use c104_token::NoMemory;
 use std::alloc::Global;
 

@@ -10,16 +10,16 @@ ghost use Rattle.c104_plan.specs.Wiring.{peer};
 ghost use Rattle.c104_node.specs.Records.{node_state};
 ghost use Rattle.c104_node.specs.Traces.{part};
 ghost use Rattle.c104_token.specs.declared.tokens.Token.{Token as TheToken};
-ghost use Rattle.c104_net.specs.Network.{Network};
+ghost use Rattle.c104_run.specs.Network.{Network};
 ghost use Rattle.c104_net.specs.Work.{header_held, input_work, inputs_work, level, link_work, node_work, outputs_work};
 ghost use Rattle.c104_net.specs.Work.{terminal_work, told_work, work, work_bound};
 ghost use Rattle.c104_regs.specs.declared.registers.TheConstants.{LINKS};
 
-use crate::net::Net;
 use c104_check::{Ranks, SwitchPort};
 use c104_event::Port;
 use c104_node::{Node, NodeOf, Place, TerminalOf};
 use c104_plan::Plan;
+use c104_run::Net;
 use c104_switch::{HeaderBytes, LINKS, Phase, SwitchOf};
 use c104_token::Token;
 
@@ -46,7 +46,7 @@ pub trait LeftWork {
 }
 
 impl LeftWork for Net {
-    ghost use Rattle.c104_net.specs.NetRecords.{NetRecord};
+    ghost use Rattle.c104_run.specs.NetRecords.{NetRecord};
 
     ghost network = { λ (r : NetRecord). r.network };
 

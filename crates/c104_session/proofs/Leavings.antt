@@ -7,11 +7,11 @@ use Rattle.c104_switch.specs.Actions.{Reply}
 use Rattle.c104_event.specs.declared.events.Event.{Event}
 use Rattle.c104_event.specs.declared.faults.EventFault.{EventFault}
 use Rattle.c104_event.specs.declared.faults.EventFault.TheVariants as fault
-use Rattle.c104_net.specs.NetRecords.{NetRecord, is_done}
-use Rattle.c104_net.specs.Network.{Network, event_fault, event_limit, network_apply, network_step, outcome_if_possible, outcome_if_ready, outcome_within_limit}
-use Rattle.c104_net.specs.RecordedRuns.{AnswersRecord, RecordsRounds, record_apply, record_at, record_stage}
-use Rattle.c104_net.specs.Rounds.{rounds}
-use Rattle.c104_net.specs.Stages.{stage_after, stage_full}
+use Rattle.c104_run.specs.NetRecords.{NetRecord, is_done}
+use Rattle.c104_run.specs.Network.{Network, event_fault, event_limit, network_apply, network_step, outcome_if_possible, outcome_if_ready, outcome_within_limit}
+use Rattle.c104_run.specs.RecordedRuns.{AnswersRecord, RecordsRounds, record_apply, record_at, record_stage}
+use Rattle.c104_run.specs.Rounds.{rounds}
+use Rattle.c104_run.specs.Stages.{stage_after, stage_full}
 use Rattle.c104_script.specs.declared.faults.LineFault.{LineFault}
 use Rattle.c104_script.specs.declared.places.Request.{Request}
 use Rattle.c104_script.specs.declared.places.Request.TheVariants as ask

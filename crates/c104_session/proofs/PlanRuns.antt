@@ -3,7 +3,7 @@ use Rattle.std.proofs.Common.{◌≡◌, ℕ, Bool, false, true, List, [], ◌++
 use Rattle.std.specs.Io.KnownBytes.{Appends, prepend_known}
 use Rattle.c104_plan.specs.Plans.{Plan}
 use Rattle.c104_plan.specs.PlanImage.{Image}
-use Rattle.c104_net.specs.FinishedRecords.{record_finish}
+use Rattle.c104_run.specs.FinishedRecords.{record_finish}
 use Rattle.c104_stream.specs.declared.halt.Halt.{Halt}
 use Rattle.c104_stream.specs.declared.halt.Halt.TheVariants as halt
 use Rattle.c104_session.specs.declared.session.Ended.{Ended}

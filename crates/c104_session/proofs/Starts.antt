@@ -3,9 +3,9 @@ use Rattle.std.proofs.Common.{◌≡◌, ◌↔◌, Bool, IsTrue, Option, Some, 
 use Rattle.c104_plan.specs.PlanImage.{Fits, Image}
 use Rattle.c104_plan.specs.Plans.{IsPlan, Plan}
 use Rattle.c104_event.specs.declared.faults.EventFault.TheVariants as event_fault
-use Rattle.c104_net.specs.NetRecords.{IsNetRecord, NetRecord, fresh_record, record_begun_if}
-use Rattle.c104_net.specs.Network.{new_network, placed_network}
-use Rattle.c104_net.specs.QuietNets.{IsQuiet}
+use Rattle.c104_run.specs.NetRecords.{IsNetRecord, NetRecord, fresh_record, record_begun_if}
+use Rattle.c104_run.specs.Network.{new_network, placed_network}
+use Rattle.c104_run.specs.QuietNets.{IsQuiet}
 use Rattle.c104_tools.proofs.FreshLoads.{fresh_load}
 use Rattle.c104_tools.proofs.NetLoads.{begun_so}
 use Rattle.c104_tools.specs.declared.faults.LoadFault.{LoadFault}

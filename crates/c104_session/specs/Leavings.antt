@@ -1,10 +1,10 @@
 -- What is left of a session where there was no memory to answer a line.
 use Rattle.std.specs.Prelude.{ℕ, ◌≡◌, ⊤, List, ◌++◌, Option, Some, None, Result, Ok, Err}
 use Rattle.c104_event.specs.declared.events.Event.{Event}
-use Rattle.c104_net.specs.EventRuns.{run_events}
-use Rattle.c104_net.specs.NetRecords.{NetRecord}
-use Rattle.c104_net.specs.RecordedRuns.{record_apply}
-use Rattle.c104_net.specs.Rounds.{rounds}
+use Rattle.c104_run.specs.EventRuns.{run_events}
+use Rattle.c104_run.specs.NetRecords.{NetRecord}
+use Rattle.c104_run.specs.RecordedRuns.{record_apply}
+use Rattle.c104_run.specs.Rounds.{rounds}
 use Rattle.c104_script.specs.Script.{read_script_line}
 use Rattle.c104_script.specs.declared.faults.LineFault.{LineFault}
 use Rattle.c104_script.specs.declared.places.Request.{Request}

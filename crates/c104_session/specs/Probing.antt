@@ -4,8 +4,8 @@ use Rattle.c104_plan.specs.Plans.{Plan}
 use Rattle.c104_plan.specs.PlanImage.{Image}
 use Rattle.c104_event.specs.declared.faults.EventFault.TheVariants as event_fault
 use Rattle.c104_interval.specs.declared.intervals.Table.{Table}
-use Rattle.c104_net.specs.NetRecords.{NetRecord}
-use Rattle.c104_net.specs.Network.{network_peek}
+use Rattle.c104_run.specs.NetRecords.{NetRecord}
+use Rattle.c104_run.specs.Network.{network_peek}
 use Rattle.c104_regs.specs.declared.registers.TheConstants.{LINKS}
 use Rattle.c104_regs.specs.declared.faults.RegFault.{RegFault}
 use Rattle.c104_regs.specs.declared.faults.RegFault.TheVariants as register_fault

@@ -9,15 +9,15 @@ use Rattle.c104_plan.specs.Plans.{Plan}
 use Rattle.c104_plan.specs.declared.plans.Terminal.{Terminal}
 use Rattle.c104_plan.specs.PlanImage.{Image}
 use Rattle.c104_plan.specs.PortTexts.{terminal_name}
-use Rattle.c104_net.specs.EventRuns.{run_events}
+use Rattle.c104_run.specs.EventRuns.{run_events}
 use Rattle.c104_net.specs.Deliveries.{arrived_at}
-use Rattle.c104_net.specs.FinishedRecords.{FinishedRecord, record_finish}
-use Rattle.c104_net.specs.NetRecords.{NetRecord, fresh_record}
-use Rattle.c104_net.specs.Network.{Network, placed_network}
+use Rattle.c104_run.specs.FinishedRecords.{FinishedRecord, record_finish}
+use Rattle.c104_run.specs.NetRecords.{NetRecord, fresh_record}
+use Rattle.c104_run.specs.Network.{Network, placed_network}
 use Rattle.c104_node.specs.Origins.{origins_in}
 use Rattle.c104_node.specs.declared.origins.Origin.{Origin}
-use Rattle.c104_net.specs.RecordedRuns.{record_apply}
-use Rattle.c104_net.specs.Rounds.{rounds}
+use Rattle.c104_run.specs.RecordedRuns.{record_apply}
+use Rattle.c104_run.specs.Rounds.{rounds}
 use Rattle.c104_net.specs.TracedEnds.{traced_end}
 use Rattle.c104_node.specs.declared.traced.Traced.{Traced}
 use Rattle.c104_session.specs.Lines.{script_lines, is_long}

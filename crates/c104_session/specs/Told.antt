@@ -3,8 +3,8 @@ use Rattle.std.specs.Prelude.{ℕ, ◌≡◌, ◌<◌, ⊤, true, List, Some, Ok
 use Rattle.c104_event.specs.declared.events.Event.{Event}
 use Rattle.c104_explain.specs.Reasons.{reason_text}
 use Rattle.c104_mistakes.specs.Refusals.{is_refusal}
-use Rattle.c104_net.specs.declared.reason.Reason.{Reason}
-use Rattle.c104_net.specs.Reasons.{network_why}
+use Rattle.c104_run.specs.declared.reason.Reason.{Reason}
+use Rattle.c104_run.specs.Reasons.{network_why}
 use Rattle.c104_switch.specs.declared.actions.ReplyOf.TheVariants as reply
 use Rattle.c104_script.specs.Script.{read_script_line}
 use Rattle.c104_script.specs.declared.answers.Answer.{Answer}

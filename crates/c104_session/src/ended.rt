@@ -1,8 +1,8 @@
 //! The network of a run that has ended.
 ghost use Rattle.std.specs.Prelude.{◌≡◌, map, option_map, IfOk};
 ghost use Rattle.std.specs.Global.{Vec as Kept};
-ghost use Rattle.c104_net.specs.Finished.{run_arrived};
-ghost use Rattle.c104_net.specs.FinishedRecords.{record_finish};
+ghost use Rattle.c104_run.specs.Finished.{run_arrived};
+ghost use Rattle.c104_run.specs.FinishedRecords.{record_finish};
 ghost use Rattle.c104_net.specs.RunOrigins.{AreOrigins};
 ghost use Rattle.c104_node.specs.declared.origins.Origin.{Origin as TheOrigin};
 ghost use Rattle.c104_token.specs.declared.tokens.Token.{Token as TheToken};
@@ -20,7 +20,7 @@ pub struct EndedNet {
 }
 
 impl Model for EndedNet {
-    ghost use Rattle.c104_net.specs.FinishedRecords.{FinishedRecord, record_finish};
+    ghost use Rattle.c104_run.specs.FinishedRecords.{FinishedRecord, record_finish};
 
     ghost Value = { FinishedRecord };
 

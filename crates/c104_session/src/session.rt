@@ -3,10 +3,10 @@ ghost use Rattle.std.specs.Prelude.{◌≡◌, ◌⊎◌, Option, Result, Err, I
 ghost use Rattle.c104_switch.specs.Actions.{Reply as TheReply};
 ghost use Rattle.c104_event.specs.declared.faults.EventFault.{EventFault as TheFault};
 ghost use Rattle.c104_event.specs.declared.faults.EventFault.TheVariants as fault;
-ghost use Rattle.c104_net.specs.FinishedRecords.{record_finish};
+ghost use Rattle.c104_run.specs.FinishedRecords.{record_finish};
 ghost use Rattle.c104_plan.specs.PlanImage.{Fits};
-ghost use Rattle.c104_net.specs.NetRecords.{NetRecord as TheNet};
-ghost use Rattle.c104_net.specs.RecordedRuns.{AnswersRecord};
+ghost use Rattle.c104_run.specs.NetRecords.{NetRecord as TheNet};
+ghost use Rattle.c104_run.specs.RecordedRuns.{AnswersRecord};
 ghost use Rattle.c104_script.specs.declared.answers.Answer.{Answer as TheAnswer};
 ghost use Rattle.c104_session.specs.Leavings.{KeepsAllButNet, LeavesLine, LeavesNet, LeavesRounds};
 ghost use Rattle.c104_session.specs.Shown.{new_session, line_answer, request_answer, rounds_outcome};

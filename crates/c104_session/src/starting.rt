@@ -2,8 +2,8 @@
 ghost use Rattle.std.specs.Prelude.{◌≡◌, IfOk};
 ghost use Rattle.c104_plan.specs.PlanImage.{Fits};
 ghost use Rattle.c104_event.specs.declared.faults.EventFault.TheVariants as event_fault;
-ghost use Rattle.c104_net.specs.NetRecords.{fresh_record};
-ghost use Rattle.c104_net.specs.Network.{new_network, placed_network};
+ghost use Rattle.c104_run.specs.NetRecords.{fresh_record};
+ghost use Rattle.c104_run.specs.Network.{new_network, placed_network};
 ghost use Rattle.c104_tools.specs.declared.faults.LoadFault.TheVariants as fault;
 
 use crate::tools::load_net;

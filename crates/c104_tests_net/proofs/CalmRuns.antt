@@ -13,18 +13,18 @@ use Rattle.c104_net.proofs.RunSteps.{header_positive}
 use Rattle.c104_net.proofs.SentBytes.{AreBytesSent, SendsBytes}
 use Rattle.c104_net.proofs.StartMaps.{starts_are}
 use Rattle.c104_net.proofs.TracedRuns.{traced_from}
-use Rattle.c104_net.specs.Balance.{AreInPlace}
-use Rattle.c104_net.specs.EventPlaces.{event_place}
-use Rattle.c104_net.specs.NetRecords.{IsNetRecord, NetRecord, fresh_record, record_begun_if}
-use Rattle.c104_net.specs.Network.{Network, network_of}
+use Rattle.c104_run.specs.Balance.{AreInPlace}
+use Rattle.c104_run.specs.EventPlaces.{event_place}
+use Rattle.c104_run.specs.NetRecords.{IsNetRecord, NetRecord, fresh_record, record_begun_if}
+use Rattle.c104_run.specs.Network.{Network, network_of}
 use Rattle.c104_node.specs.Nodes.{Node}
 use Rattle.c104_node.specs.Quiet.{node_begin}
-use Rattle.c104_net.specs.QuietNets.{network_begin}
-use Rattle.c104_net.specs.Runs.{IsRunRecord, at_node}
+use Rattle.c104_run.specs.QuietNets.{network_begin}
+use Rattle.c104_run.specs.Runs.{IsRunRecord, at_node}
 use Rattle.c104_node.specs.Starts.{start_node, start_of}
 use Rattle.c104_node.specs.MappedNodes.{map_node, map_switch}
 use Rattle.c104_node.specs.Traces.{Deed, part, seatless}
-use Rattle.c104_net.specs.EventDeeds.{event_deeds}
+use Rattle.c104_run.specs.EventDeeds.{event_deeds}
 use Rattle.c104_net.specs.Unchanged.{AreStartsOf, IsUnchanged, MayHappen}
 use Rattle.c104_node.specs.declared.acts.Entry.{Entry}
 use Rattle.c104_node.specs.declared.stamps.Stamp.{Stamp}

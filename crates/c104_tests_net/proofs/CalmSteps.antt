@@ -7,19 +7,19 @@ use Rattle.c104_plan.specs.declared.ports.Port.{Port}
 use Rattle.c104_event.specs.declared.events.Event.{Event}
 use Rattle.c104_event.specs.declared.faults.EventFault.{EventFault}
 use Rattle.c104_link.proofs.MadeSteps.{All-place}
-use Rattle.c104_net.proofs.RecordedRuns.{record_plan}
-use Rattle.c104_net.specs.EventActs.{crossing_acts, port_place}
+use Rattle.c104_run.proofs.RecordedRuns.{record_plan}
+use Rattle.c104_run.specs.EventActs.{crossing_acts, port_place}
 use Rattle.c104_node.specs.PortActs.{far_act, near_act}
-use Rattle.c104_net.specs.EventRuns.{EventsEnd, Outcome, run_events, unless_fault}
-use Rattle.c104_net.specs.NetRecords.{IsNetRecord, NetRecord, fresh_record}
-use Rattle.c104_net.specs.Network.{network_apply, placed_network, switch_nodes, terminal_nodes}
+use Rattle.c104_run.specs.EventRuns.{EventsEnd, Outcome, run_events, unless_fault}
+use Rattle.c104_run.specs.NetRecords.{IsNetRecord, NetRecord, fresh_record}
+use Rattle.c104_run.specs.Network.{network_apply, placed_network, switch_nodes, terminal_nodes}
 use Rattle.c104_node.specs.Nodes.{Node}
-use Rattle.c104_net.specs.RecordedRuns.{AnswersRecord, RecordsRounds, record_apply, record_stage}
-use Rattle.c104_net.specs.Rounds.{all_claims, all_drains, claims_of, link_numbers, round, rounds, switch_claims, turn_at, wired_ports}
-use Rattle.c104_net.specs.Stages.{stage_full, unless_full}
+use Rattle.c104_run.specs.RecordedRuns.{AnswersRecord, RecordsRounds, record_apply, record_stage}
+use Rattle.c104_run.specs.Rounds.{all_claims, all_drains, claims_of, link_numbers, round, rounds, switch_claims, turn_at, wired_ports}
+use Rattle.c104_run.specs.Stages.{stage_full, unless_full}
 use Rattle.c104_node.specs.Starts.{start_of}
 use Rattle.c104_node.specs.Traces.{Deed, entry_of, kept_of, lone_deed, noted_all, noted_at, noted_in, part, seatless}
-use Rattle.c104_net.specs.EventDeeds.{acts_deeds, event_deeds}
+use Rattle.c104_run.specs.EventDeeds.{acts_deeds, event_deeds}
 use Rattle.c104_node.specs.declared.acts.ActOf.{ActOf}
 use Rattle.c104_node.specs.declared.acts.Entry.{Entry}
 use Rattle.c104_node.specs.declared.crossings.Crossing.{Crossing}

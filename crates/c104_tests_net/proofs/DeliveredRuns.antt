@@ -7,10 +7,10 @@ use Rattle.c104_plan.specs.Plans.{Plan}
 use Rattle.c104_event.specs.declared.faults.EventFault.{EventFault}
 use Rattle.c104_net.proofs.WorkBounds.{told_below}
 use Rattle.c104_net.specs.DeadlockFreedom.{IsAcyclicNet, IsAllDelivered, IsFreeOfDeadlock}
-use Rattle.c104_net.specs.NetRecords.{NetRecord}
-use Rattle.c104_net.specs.RecordedRuns.{RecordsRounds}
-use Rattle.c104_net.specs.QuietNets.{IsQuiet}
-use Rattle.c104_net.specs.Standstill.{StandsStill}
+use Rattle.c104_run.specs.NetRecords.{NetRecord}
+use Rattle.c104_run.specs.RecordedRuns.{RecordsRounds}
+use Rattle.c104_run.specs.QuietNets.{IsQuiet}
+use Rattle.c104_run.specs.Standstill.{StandsStill}
 use Rattle.c104_node.specs.Starts.{IsStartedStart}
 use Rattle.c104_net.specs.Unchanged.{AreStartsOf}
 use Rattle.c104_net.specs.Work.{told_work, work, work_bound}

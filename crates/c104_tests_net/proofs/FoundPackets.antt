@@ -4,10 +4,10 @@ use Rattle.c104_plan.specs.PlanImage.{Image}
 use Rattle.c104_plan.specs.Plans.{Plan}
 use Rattle.c104_net.proofs.OriginPieces.{delivered_origin, received_origins}
 use Rattle.c104_net.specs.Deliveries.{IsDelivered, Promise, arrived_at, has_header, header_of, received, sent_at}
-use Rattle.c104_net.specs.FinishedRecords.{FinishedRecord, record_finish}
-use Rattle.c104_net.specs.NetRecords.{IsNetRecord, NetRecord}
+use Rattle.c104_run.specs.FinishedRecords.{FinishedRecord, record_finish}
+use Rattle.c104_run.specs.NetRecords.{IsNetRecord, NetRecord}
 use Rattle.c104_node.specs.Origins.{origins_in}
-use Rattle.c104_net.specs.QuietNets.{IsQuiet}
+use Rattle.c104_run.specs.QuietNets.{IsQuiet}
 use Rattle.c104_net.specs.RunOrigins.{AreOrigins}
 use Rattle.c104_net.specs.TracedEnds.{traced_end}
 use Rattle.c104_node.specs.Traces.{seatless}

@@ -6,9 +6,9 @@ use Rattle.c104_label.specs.Images.{IsImageOf}
 use Rattle.c104_net.proofs.NamedOrigins.{sent_plain}
 use Rattle.c104_net.proofs.OriginPieces.{delivered_origin, received_origins}
 use Rattle.c104_net.specs.Deliveries.{IsDelivered, arrived_at, cut_at, received}
-use Rattle.c104_net.specs.FinishedRecords.{FinishedRecord, record_finish}
-use Rattle.c104_net.specs.NetRecords.{NetRecord}
-use Rattle.c104_net.specs.Network.{Network, network_of, terminal_place}
+use Rattle.c104_run.specs.FinishedRecords.{FinishedRecord, record_finish}
+use Rattle.c104_run.specs.NetRecords.{NetRecord}
+use Rattle.c104_run.specs.Network.{Network, network_of, terminal_place}
 use Rattle.c104_node.specs.Nodes.{Node, arrived_tokens}
 use Rattle.c104_node.specs.Origins.{origins_in}
 use Rattle.c104_net.specs.RunOrigins.{AreOrigins}

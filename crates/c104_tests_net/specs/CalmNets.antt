@@ -13,10 +13,10 @@ use Rattle.c104_event.specs.declared.events.Event.{Event}
 use Rattle.c104_event.specs.declared.events.Event.TheVariants as event
 use Rattle.c104_label.specs.Images.{IsImageOf}
 use Rattle.c104_net.specs.Deliveries.{arrived_at, cut_at, has_header, header_of, sent_at}
-use Rattle.c104_net.specs.Finished.{network_finish}
-use Rattle.c104_net.specs.FinishedRecords.{FinishedRecord}
-use Rattle.c104_net.specs.NetRecords.{NetRecord}
-use Rattle.c104_net.specs.Network.{Network}
+use Rattle.c104_run.specs.Finished.{network_finish}
+use Rattle.c104_run.specs.FinishedRecords.{FinishedRecord}
+use Rattle.c104_run.specs.NetRecords.{NetRecord}
+use Rattle.c104_run.specs.Network.{Network}
 use Rattle.c104_node.specs.Terminals.{sent_tokens}
 use Rattle.c104_net.specs.Unchanged.{AreStartsOf, IsHarmless}
 use Rattle.c104_node.specs.declared.acts.ActOf.{ActOf}

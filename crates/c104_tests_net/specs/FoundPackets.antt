@@ -4,7 +4,7 @@ use Rattle.std.specs.Global.{Vec as Kept}
 use Rattle.std.specs.Prelude.{ℕ, ◌<◌, ◌≡◌, List, Some, length, slice_get, true}
 use Rattle.c104_check.specs.Routes.{Routes, owner}
 use Rattle.c104_net.specs.Deliveries.{has_header, header_of, sent_at}
-use Rattle.c104_net.specs.Network.{Network}
+use Rattle.c104_run.specs.Network.{Network}
 use Rattle.c104_node.specs.declared.origins.Origin.{Origin}
 use Rattle.c104_tests_net.specs.CalmNets.{IsListed}
 use Rattle.c104_token.specs.declared.packets.Packet.{Packet}

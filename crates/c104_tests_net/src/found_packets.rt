@@ -2,8 +2,8 @@
 //! missing, and none is there twice.
 ghost use Rattle.std.specs.Prelude.{◌≡◌, true, IfOk};
 ghost use Rattle.c104_check.specs.Routes.{IsAccepted, routes_of};
-ghost use Rattle.c104_net.specs.NetRecords.{IsNetRecord};
-ghost use Rattle.c104_net.specs.QuietNets.{IsQuiet};
+ghost use Rattle.c104_run.specs.NetRecords.{IsNetRecord};
+ghost use Rattle.c104_run.specs.QuietNets.{IsQuiet};
 ghost use Rattle.c104_tests_net.specs.CalmNets.{IsCalm};
 ghost use Rattle.c104_tests_net.specs.FoundPackets.{AreFoundOnce};
 

@@ -9,7 +9,7 @@ ghost use Rattle.c104_check.specs.ChannelDependencies.{IsNeverRandomized};
 ghost use Rattle.c104_check.specs.Routes.{IsAccepted, routes_of};
 ghost use Rattle.c104_plan.specs.PlanImage.{Fits, Image as TheImage};
 ghost use Rattle.c104_plan.specs.Plans.{Plan as ThePlan};
-ghost use Rattle.c104_net.specs.FinishedRecords.{record_finish};
+ghost use Rattle.c104_run.specs.FinishedRecords.{record_finish};
 ghost use Rattle.c104_node.specs.declared.origins.Origin.{Origin as TheOrigin};
 ghost use Rattle.c104_tests_net.specs.CalmNets.{IsCalm, IsListed, IsNamed, IsNamedByCheck, IsNamedByLabels, IsNotRandom};
 

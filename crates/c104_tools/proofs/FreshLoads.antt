@@ -16,13 +16,13 @@ use Rattle.c104_event.specs.declared.faults.EventFault.{EventFault}
 use Rattle.c104_event.specs.declared.faults.EventFault.TheVariants as event_fault
 use Rattle.c104_node.specs.declared.stamps.Stamp.{Stamp}
 use Rattle.c104_node.specs.Traces.{seatless, full_at, kept_of, lone_deed, noted_all, noted_in, trace_limit}
-use Rattle.c104_net.specs.Balance.{AreInPlace}
-use Rattle.c104_net.specs.NetRecords.{NetRecord, fresh_record}
-use Rattle.c104_net.proofs.EventSteps.{control_applied}
-use Rattle.c104_net.specs.Network.{Network, network_apply, new_network, with_nodes}
-use Rattle.c104_net.specs.Stages.{unless_full}
+use Rattle.c104_run.specs.Balance.{AreInPlace}
+use Rattle.c104_run.specs.NetRecords.{NetRecord, fresh_record}
+use Rattle.c104_run.proofs.EventSteps.{control_applied}
+use Rattle.c104_run.specs.Network.{Network, network_apply, new_network, with_nodes}
+use Rattle.c104_run.specs.Stages.{unless_full}
 use Rattle.c104_node.specs.Places.{is_kept_full}
-use Rattle.c104_net.specs.EventDeeds.{event_deeds}
+use Rattle.c104_run.specs.EventDeeds.{event_deeds}
 use Rattle.c104_node.specs.declared.acts.ActOf.{ActOf}
 use Rattle.c104_node.specs.declared.acts.ActOf.TheVariants as act
 use Rattle.c104_node.specs.declared.acts.Entry.{Entry}

@@ -10,9 +10,9 @@ use Rattle.c104_event.specs.declared.events.Event.TheVariants as event
 use Rattle.c104_node.specs.Traces.{seatless}
 use Rattle.c104_node.specs.declared.acts.ActOf.TheVariants as act
 use Rattle.c104_node.specs.declared.acts.Entry.{Entry}
-use Rattle.c104_net.specs.NetRecords.{IsNetRecord, NetRecord, RecordsEvent, ticket_after}
+use Rattle.c104_run.specs.NetRecords.{IsNetRecord, NetRecord, RecordsEvent, ticket_after}
 use Rattle.c104_node.specs.Nodes.{Node}
-use Rattle.c104_net.specs.Runs.{at_node, run_deeds}
+use Rattle.c104_run.specs.Runs.{at_node, run_deeds}
 use Rattle.c104_node.specs.Starts.{start_node}
 use Rattle.c104_node.specs.Traces.{entry_of}
 use Rattle.c104_node.proofs.WireEnds.{get_set_same}

@@ -11,14 +11,14 @@ use Rattle.c104_event.specs.declared.events.Event.TheVariants as event
 use Rattle.c104_event.specs.declared.faults.EventFault.{EventFault}
 use Rattle.c104_event.specs.declared.faults.EventFault.TheVariants as event_fault
 use Rattle.c104_link.specs.Buffers.{empty_outgoing}
-use Rattle.c104_net.proofs.BalancePlaces.{still_in_place}
-use Rattle.c104_net.specs.Balance.{AreInPlace}
+use Rattle.c104_run.proofs.BalancePlaces.{still_in_place}
+use Rattle.c104_run.specs.Balance.{AreInPlace}
 use Rattle.c104_node.specs.Nodes.{is_switch, Node}
-use Rattle.c104_net.specs.NetRecords.{NetRecord, fresh_record, record_begun_if}
-use Rattle.c104_net.proofs.EventSteps.{control_applied}
-use Rattle.c104_net.specs.Network.{Network, network_apply, network_of, new_network, new_switch_nodes, placed_network, switch_nodes, terminal_nodes, with_nodes}
+use Rattle.c104_run.specs.NetRecords.{NetRecord, fresh_record, record_begun_if}
+use Rattle.c104_run.proofs.EventSteps.{control_applied}
+use Rattle.c104_run.specs.Network.{Network, network_apply, network_of, new_network, new_switch_nodes, placed_network, switch_nodes, terminal_nodes, with_nodes}
 use Rattle.c104_node.specs.Quiet.{IsQuietInput, IsQuietNode, IsQuietOutput, IsQuietSwitch, node_begin}
-use Rattle.c104_net.specs.QuietNets.{IsQuiet, network_begin}
+use Rattle.c104_run.specs.QuietNets.{IsQuiet, network_begin}
 use Rattle.c104_node.specs.Terminals.{Terminal, new_terminal}
 use Rattle.c104_node.specs.declared.node.NodeOf.TheVariants as node
 use Rattle.c104_regs.specs.declared.settings.Settings.{Settings}

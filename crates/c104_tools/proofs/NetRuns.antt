@@ -7,8 +7,8 @@ use Rattle.c104_event.specs.declared.events.Event.TheVariants as event
 use Rattle.c104_event.specs.declared.faults.EventFault.{EventFault}
 use Rattle.c104_event.specs.declared.faults.EventFault.TheVariants as event_fault
 use Rattle.c104_interval.specs.declared.intervals.Table.{Table}
-use Rattle.c104_net.specs.NetRecords.{NetRecord}
-use Rattle.c104_net.specs.RecordedRuns.{AnswersRecord}
+use Rattle.c104_run.specs.NetRecords.{NetRecord}
+use Rattle.c104_run.specs.RecordedRuns.{AnswersRecord}
 use Rattle.c104_switch.specs.Actions.{Reply}
 use Rattle.c104_tools.specs.declared.faults.LoadFault.{LoadFault}
 use Rattle.c104_tools.specs.declared.faults.LoadFault.TheVariants as fault

@@ -12,7 +12,7 @@ use Rattle.c104_node.specs.declared.acts.ActOf.TheVariants as act
 use Rattle.c104_node.specs.declared.acts.Entry.{Entry}
 use Rattle.c104_node.specs.declared.node.NodeOf.TheVariants as node
 use Rattle.c104_node.specs.Places.{room_fault}
-use Rattle.c104_net.specs.NetRecords.{NetRecord}
+use Rattle.c104_run.specs.NetRecords.{NetRecord}
 use Rattle.c104_node.specs.Nodes.{Node}
 use Rattle.c104_node.specs.Traces.{full_at, is_trace_full}
 use Rattle.c104_tools.specs.Ports.{Switches, command_asked}

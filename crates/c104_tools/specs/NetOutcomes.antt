@@ -6,8 +6,8 @@ use Rattle.c104_event.specs.declared.events.Event.TheVariants as event
 use Rattle.c104_event.specs.declared.faults.EventFault.{EventFault}
 use Rattle.c104_event.specs.declared.faults.EventFault.TheVariants as event_fault
 use Rattle.c104_interval.specs.declared.intervals.Table.{Table}
-use Rattle.c104_net.specs.NetRecords.{NetRecord, is_done}
-use Rattle.c104_net.specs.RecordedRuns.{record_apply}
+use Rattle.c104_run.specs.NetRecords.{NetRecord, is_done}
+use Rattle.c104_run.specs.RecordedRuns.{record_apply}
 use Rattle.c104_switch.specs.Actions.{Reply}
 use Rattle.c104_switch.specs.declared.actions.ReplyOf.TheVariants as reply
 use Rattle.c104_tools.specs.declared.faults.LoadFault.{LoadFault}

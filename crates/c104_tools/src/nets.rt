@@ -6,7 +6,7 @@ ghost use Rattle.c104_tools.specs.NetCommands.{IsControlReply};
 use crate::ports::ControlPort;
 use c104_control::ControlBytes;
 use c104_event::{Event, EventFault};
-use c104_net::{RecordedNet, RecordedPlace};
+use c104_run::{RecordedNet, RecordedPlace};
 use c104_switch::Reply;
 use c104_token::TokenKind;
 

@@ -1,14 +1,14 @@
 //! A network from the starts of its nodes.
 ghost use Rattle.std.specs.Prelude.{◌≡◌, ◌≤◌, [], length, map, IfOk};
 ghost use Rattle.std.specs.Vec.{vec_capacity};
-ghost use Rattle.c104_net.specs.Balance.{IsSteady};
-ghost use Rattle.c104_net.specs.Network.{network_of};
+ghost use Rattle.c104_run.specs.Balance.{IsSteady};
+ghost use Rattle.c104_run.specs.Network.{network_of};
 ghost use Rattle.c104_node.specs.Starts.{start_node};
 
 use super::NetOf;
-use crate::wires::Wires;
 use c104_node::{NodeOf, NodeStart, TerminalOf, add_starts};
 use c104_plan::Plan;
+use c104_run::Wires;
 use c104_token::{NoMemory, TokenKind};
 use std::alloc::Global;
 

@@ -2,7 +2,7 @@ use Rattle.std.proofs.Common.{◌≡◌, ◌++◌, List, [], ◌∷◌, length, 
 use Rattle.std.proofs.lemmas.List.{append-nil}
 use Rattle.c104_node.specs.Terminals.{Terminal}
 use Rattle.c104_node.specs.Nodes.{terminals_of}
-use Rattle.c104_net.proofs.Finishing.{terminals_popped, terminals_on, terminals_end}
+use Rattle.c104_run.proofs.Finishing.{terminals_popped, terminals_on, terminals_end}
 use Rattle.c104_net.proofs.bare_run.terminals_of.Goals as goal
 
 pub loop-node-init : goal.loop-node-init

@@ -1,5 +1,5 @@
 use Rattle.std.proofs.Common.{drop, map}
-use Rattle.c104_net.specs.Network.{Network}
+use Rattle.c104_run.specs.Network.{Network}
 use Rattle.c104_net.specs.Replays.{LeadTo, lead_event}
 use Rattle.c104_net.specs.ToldEvents.{told_event}
 use Rattle.c104_node.specs.declared.traced.Traced.{Traced}

@@ -1,13 +1,13 @@
 use Rattle.std.proofs.Common.{refl}
 use Rattle.c104_node.specs.Places.{bare_shown}
-use Rattle.c104_net.proofs.KnownWires.{unknown}
+use Rattle.c104_run.proofs.KnownWires.{unknown}
 use Rattle.std.proofs.Common.{◌≡◌, ◌∙◌, List, sym, subst}
 use Rattle.std.specs.Vec.{with_items}
 use Rattle.std.proofs.lemmas.List.{with_items_is}
 use Rattle.c104_node.specs.Nodes.{Node}
-use Rattle.c104_net.specs.Network.{AnswersEvent, network_of}
-use Rattle.c104_net.specs.Balance.{IsSteady}
-use Rattle.c104_net.proofs.BalanceEvents.{applied_steady}
+use Rattle.c104_run.specs.Network.{AnswersEvent, network_of}
+use Rattle.c104_run.specs.Balance.{IsSteady}
+use Rattle.c104_run.proofs.BalanceEvents.{applied_steady}
 use Rattle.c104_net.proofs.BarePlaces.{as_they_are}
 use Rattle.c104_net.proofs.bare_net.NetOf.apply.Goals as goal
 

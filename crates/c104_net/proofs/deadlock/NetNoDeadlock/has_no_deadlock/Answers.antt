@@ -1,9 +1,9 @@
 use Rattle.std.proofs.Common.{subst}
 use Rattle.c104_plan.specs.Plans.{IsPlan}
 use Rattle.c104_net.specs.DeadlockFreedom.{IsFreeOfDeadlock}
-use Rattle.c104_net.specs.NetRecords.{NetRecord, net_record}
+use Rattle.c104_run.specs.NetRecords.{NetRecord, net_record}
 use Rattle.c104_net.proofs.DeadlockFree.{has_no_deadlock}
-use Rattle.c104_net.proofs.WiredTraces.{all_recorded}
+use Rattle.c104_run.proofs.WiredTraces.{all_recorded}
 use Rattle.c104_net.proofs.deadlock.NetNoDeadlock.has_no_deadlock.Goals as goal
 
 pub returns : goal.returns

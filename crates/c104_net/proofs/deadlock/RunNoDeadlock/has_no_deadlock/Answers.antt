@@ -1,6 +1,6 @@
 use Rattle.std.proofs.Common.{subst}
 use Rattle.c104_plan.specs.Plans.{IsPlan}
-use Rattle.c104_net.specs.FinishedRecords.{FinishedRecord}
+use Rattle.c104_run.specs.FinishedRecords.{FinishedRecord}
 use Rattle.c104_net.proofs.BeginsStarted.{run_stands}
 use Rattle.c104_net.proofs.RunOrigins.{IsKeptRun, kept_run}
 use Rattle.c104_net.proofs.deadlock.RunNoDeadlock.has_no_deadlock.Goals as goal

@@ -3,9 +3,9 @@ use Rattle.std.specs.Global.{Vec as Kept}
 use Rattle.std.proofs.lemmas.List.{map-append, take_all}
 use Rattle.std.proofs.lemmas.Option.{slice_get-get_or, slice_get_within}
 use Rattle.c104_plan.specs.Plans.{IsPlan}
-use Rattle.c104_net.specs.FinishedRecords.{record_finish}
+use Rattle.c104_run.specs.FinishedRecords.{record_finish}
 use Rattle.c104_node.specs.declared.origins.Origin.{Origin}
-use Rattle.c104_net.specs.NetRecords.{NetRecord}
+use Rattle.c104_run.specs.NetRecords.{NetRecord}
 use Rattle.c104_net.specs.RunOrigins.{AreOrigins}
 use Rattle.c104_node.specs.TracedRecords.{IsFit, TracedRecord}
 use Rattle.c104_net.proofs.TracedOrigins.{arrived_origins, fit_on, origins_on, origins_past, traced_origins}

@@ -1,6 +1,6 @@
 use Rattle.std.proofs.Common.{ap, length, map, ◌*◌, ◌∙◌, ◌≡◌}
 use Rattle.c104_plan.specs.Plans.{Plan}
-use Rattle.c104_net.specs.NetRecords.{NetRecord}
+use Rattle.c104_run.specs.NetRecords.{NetRecord}
 use Rattle.c104_node.specs.Records.{node_state}
 use Rattle.c104_net.specs.Work.{told_work, work, work_bound}
 use Rattle.c104_net.proofs.work.NetLeftWork.work_bound.Goals as goal

@@ -1,7 +1,7 @@
 use Rattle.std.proofs.Common.{◌∙◌, Ok, ap, subst, sym}
 use Rattle.c104_event.specs.declared.events.Event.TheVariants as event
-use Rattle.c104_net.specs.NetRecords.{RecordsEvent}
-use Rattle.c104_net.specs.RecordedRuns.{AnswersRecord}
+use Rattle.c104_run.specs.NetRecords.{RecordsEvent}
+use Rattle.c104_run.specs.RecordedRuns.{AnswersRecord}
 use Rattle.c104_tools.proofs.NetAnswers.{by_switch, commands_grown, was_obeyed}
 use Rattle.c104_tools.proofs.NetRuns.{may_give}
 use Rattle.c104_tools.specs.NetOutcomes.{control_given}

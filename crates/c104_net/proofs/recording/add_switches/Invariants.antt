@@ -1,9 +1,0 @@
-use Rattle.std.proofs.Common.{◌≡◌, map, take, true}
-use Rattle.c104_switch.specs.Switch.{new_switch_with}
-use Rattle.c104_node.specs.declared.node.NodeOf.TheVariants as node
-use Rattle.c104_net.specs.NetRecords.{first_record, shown_record}
-use Rattle.c104_net.proofs.recording.add_switches.Given as goal
-
--- the switches so far are made
-abbrev pub invariant-loop-switch : goal.invariant-loop-switch
-invariant-loop-switch l = map shown_record l.list.items ≡ map (λ settings. first_record (node.Switch (new_switch_with l.cap settings true))) (take l.switch-index l.switch-items)

@@ -1,9 +1,0 @@
-use Rattle.std.proofs.Common.{◌≡◌, ◌++◌, map, take}
-use Rattle.c104_node.specs.Terminals.{new_terminal}
-use Rattle.c104_node.specs.declared.node.NodeOf.TheVariants as node
-use Rattle.c104_net.specs.NetRecords.{first_record, shown_record}
-use Rattle.c104_net.proofs.recording.add_terminals.Given as goal
-
--- the terminals so far are made
-abbrev pub invariant-loop-terminal : goal.invariant-loop-terminal
-invariant-loop-terminal l = map shown_record l.list.items ≡ map shown_record l.initial.list.items ++ map (λ terminal. first_record (node.Terminal (new_terminal l.cap))) (take l._terminal-index l._terminal-items)

@@ -1,7 +1,0 @@
-use Rattle.std.proofs.Common.{map}
-use Rattle.c104_net.specs.NetRecords.{shown_record}
-use Rattle.c104_net.proofs.FirstRecords.{new_all}
-use Rattle.c104_net.proofs.recording.place_new_recorded.Goals as goal
-
-pub returns : goal.returns
-returns c = new_all c.add_terminals.result c.args.plan.now (map shown_record c.add_new_switches.new.list.items) (map shown_record c.add_terminals.new.list.items) c.in_ok-add_new_switches.ensures c.add_terminals.ensures

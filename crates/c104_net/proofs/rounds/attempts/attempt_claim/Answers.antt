@@ -1,7 +1,0 @@
-use Rattle.std.proofs.Common.{refl}
-use Rattle.c104_event.specs.declared.events.Event.TheVariants as event
-use Rattle.c104_net.proofs.ActAttempts.{claim_possible}
-use Rattle.c104_net.proofs.rounds.attempts.attempt_claim.Goals as goal
-
-pub returns : goal.returns
-returns g c = c.attempt_alone.ensures (event.Claim c.args.switch c.args.input c.args.output) (claim_possible c.args.wires.now c.args.switch c.args.input c.args.output c.requires.switch c.requires.input c.requires.output) refl

@@ -1,7 +1,0 @@
-use Rattle.std.proofs.Common.{refl}
-use Rattle.c104_event.specs.declared.events.Event.TheVariants as event
-use Rattle.c104_net.proofs.ActAttempts.{turn_possible}
-use Rattle.c104_net.proofs.rounds.attempts.attempt_turn.Goals as goal
-
-pub returns : goal.returns
-returns g c = c.attempt_alone.ensures (event.Input c.args.switch c.args.link 0) (turn_possible c.args.wires.now c.args.switch c.args.link 0 c.requires.wired) refl

@@ -1,7 +1,0 @@
-use Rattle.c104_event.specs.declared.events.Event.TheVariants as event
-use Rattle.c104_net.specs.Rounds.{wired_ports}
-use Rattle.c104_net.proofs.RoundJoins.{of_events}
-use Rattle.c104_net.proofs.rounds.parts.cross_ports.Goals as goal
-
-pub returns : goal.returns
-returns g c = of_events _ event.Cross (wired_ports c.args.wires.now) _ _ _ c.walk_ports.ensures

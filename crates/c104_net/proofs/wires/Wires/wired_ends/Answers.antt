@@ -1,7 +1,0 @@
-use Rattle.std.proofs.Common.{◌∙◌, ap, sym}
-use Rattle.c104_net.specs.FarEnds.{far_end}
-use Rattle.c104_net.proofs.BalanceWires.{far_apart}
-use Rattle.c104_net.proofs.wires.Wires.wired_ends.Goals as goal
-
-pub returns-clause-apart : goal.returns-clause-apart
-returns-clause-apart c = far_apart c.self.inside.plan c.switches-switches.ensures.kept c.args.port c.end_of.result c.in-Some.far c.end_of.ensures (ap (λ plan. far_end plan c.args.port) c.self.view_is ∙ sym c.far_end.ensures ∙ c.in-Some.is)

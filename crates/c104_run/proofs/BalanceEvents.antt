@@ -1,0 +1,71 @@
+-- Each event keeps every network in balance.
+use Rattle.std.proofs.Common.{◌≡◌, inl, inr, Bool, false, List, Option, Some, None, Result, refl, sym, ap, subst, ◌∙◌}
+use Rattle.c104_token.specs.Kinds.{Kind}
+use Rattle.c104_link.specs.Steps.{step_at, yield_step_at}
+use Rattle.c104_link.proofs.MadeSteps.{given}
+use Rattle.c104_switch.specs.Actions.{Reply}
+use Rattle.c104_switch.specs.declared.actions.ReplyOf.TheVariants as reply
+use Rattle.c104_plan.specs.Plans.{Plan, IsPlan}
+use Rattle.c104_plan.specs.Wiring.{peer}
+use Rattle.c104_event.specs.declared.events.Event.{Event}
+use Rattle.c104_event.specs.declared.events.Event.TheVariants as event
+use Rattle.c104_event.specs.declared.faults.EventFault.{EventFault}
+use Rattle.c104_node.specs.Nodes.{Node, node_input, node_claim, node_control, node_send, node_drain}
+use Rattle.c104_node.proofs.NamedWires.{nodes_cross, nodes_credit}
+use Rattle.c104_run.specs.Ends.{end_of}
+use Rattle.c104_run.proofs.EventSteps.{by_name, named_step}
+use Rattle.c104_run.specs.Network.{Network, network_of, network_step, terminal_place, event_fault, event_limit, outcome_within_limit}
+use Rattle.c104_run.specs.Network.{outcome_if_ready, outcome_if_possible, AnswersEvent, AnswersWith}
+use Rattle.c104_run.specs.Balance.{IsSteady}
+use Rattle.c104_run.proofs.BalanceNodes.{input_rests, claim_rests, control_rests, send_rests, drain_rests}
+use Rattle.c104_run.proofs.BalanceSteps.{steady_at, steady_from, steady_crossed, steady_credited}
+
+module _ {A : Type 0} (kind : Kind A) (plan : Plan) (is_plan : IsPlan plan) (nodes : List (Node A)) (steady : IsSteady (network_of plan nodes)) where
+  abbrev net : Network A
+  net = network_of plan nodes
+
+  -- what is answered and left, of the nodes that a step leaves
+  by_last : (told : Reply) (after : List (Node A)) (r : Reply × Network A) → ◌≡◌ {A = Option (Reply × Network A)} (Some (told, network_of plan after)) (Some r) → IsSteady (network_of plan after) → IsSteady r.1
+  by_last told after r is holds =
+      let same : ◌≡◌ {A = Reply × Network A} (told, network_of plan after) r = cc in
+      subst (λ (r : Reply × Network A). IsSteady r.1) same holds
+
+  -- what an event leaves, where it was ready
+  named_steady : (e : Event) (r : Reply × Network A) → named_step kind net e ≡ Some r → IsSteady r.1
+  named_steady (event.Cross p) r is = given (peer plan p) _ r is (λ q wired more. given (nodes_cross nodes (end_of plan p) (end_of plan q)) _ r more (λ v made last.
+      by_last (reply.Token (kind.plain v.0)) v.1 r last (steady_crossed plan is_plan p q wired nodes v made steady)))
+  named_steady (event.Credit p) r is = given (peer plan p) _ r is (λ q wired more. given (nodes_credit nodes (end_of plan p) (end_of plan q)) _ r more (λ v made last.
+      by_last reply.Done v r last (steady_credited plan is_plan p q wired nodes v made steady)))
+  named_steady (event.Input s l word) r is = given (step_at nodes s (node_input kind l word)) _ r is (λ v made last.
+      by_last reply.Done v r last (steady_at plan nodes v s (node_input kind l word) made (input_rests kind l word) steady))
+  named_steady (event.Claim s i o) r is = given (step_at nodes s (node_claim i o)) _ r is (λ v made last.
+      by_last reply.Done v r last (steady_at plan nodes v s (node_claim i o) made (claim_rests i o) steady))
+  named_steady (event.Control s bytes) r is = given (yield_step_at nodes s (node_control bytes)) _ r is (λ v made last.
+      by_last (reply.Control v.0) v.1 r last (steady_from plan nodes s (node_control bytes) v made (control_rests bytes) steady))
+  named_steady (event.Send t packet) r is = given (step_at nodes (terminal_place plan t) (node_send kind t packet)) _ r is (λ v made last.
+      by_last reply.Done v r last (steady_at plan nodes v (terminal_place plan t) (node_send kind t packet) made (send_rests kind t packet) steady))
+  named_steady (event.Drain t) r is = given (yield_step_at nodes (terminal_place plan t) node_drain) _ r is (λ v made last.
+      by_last (reply.Token (kind.plain v.0)) v.1 r last (steady_from plan nodes (terminal_place plan t) node_drain v made drain_rests steady))
+
+  step_steady : (e : Event) (r : Reply × Network A) → network_step kind net e ≡ Some r → IsSteady r.1
+  step_steady e r is = named_steady e r (sym (by_name kind net is_plan steady.in_place e) ∙ is)
+
+  by_limit : (limit : Option EventFault) (r : Reply × Network A) → IsSteady r.1 → IsSteady (outcome_within_limit kind net limit r).1
+  by_limit None r holds = holds
+  by_limit (Some f) r holds = steady
+
+  by_step : (e : Event) (made : Option (Reply × Network A)) → network_step kind net e ≡ made → IsSteady (outcome_if_ready kind net e made).1
+  by_step e None made = steady
+  by_step e (Some r) made = by_limit (event_limit net e) r (step_steady e r made)
+
+  by_fault : (e : Event) (fault : Option EventFault) → IsSteady (outcome_if_possible kind net e fault).1
+  by_fault e None = by_step e (network_step kind net e) refl
+  by_fault e (Some f) = steady
+
+  -- what an event leaves, whatever it answers
+  pub applied_with : (full : Bool) (e : Event) (answer : Result Reply EventFault) (after : Network A) → AnswersWith kind full net e answer after → IsSteady after
+  applied_with full e answer after (inl is) = subst IsSteady (sym (ap (λ (r : Result Reply EventFault × Network A). r.1) is)) (by_fault e (event_fault plan e))
+  applied_with full e answer after (inr same) = subst IsSteady (sym same.2) steady
+
+  pub applied_steady : (e : Event) (answer : Result Reply EventFault) (after : Network A) → AnswersEvent kind net e answer after → IsSteady after
+  applied_steady e answer after is = applied_with false e answer after is

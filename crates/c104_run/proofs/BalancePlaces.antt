@@ -1,0 +1,114 @@
+-- What a change at one place of a list says of a number that is read at the places.
+use Rattle.std.proofs.Common.{◌≡◌, ◌≢◌, ◌<◌, ◌+◌, ◌-◌, ◌++◌, ℕ, zero, suc, true, false, inl, inr, List, [], ◌∷◌, Option, Some, length, map, replicate, slice_get, slice_set, refl, sym, ◌∙◌, ap, subst, arith}
+use Rattle.std.proofs.lemmas.Bool.{cases_eq}
+use Rattle.c104_link.specs.Steps.{◌>>=◌}
+use Rattle.c104_node.specs.declared.ends.End.{End}
+use Rattle.c104_node.specs.Nodes.{Node, is_switch}
+use Rattle.c104_plan.specs.Plans.{Plan}
+use Rattle.c104_run.specs.Balance.{credit_of, granted_of, AreInPlace}
+use Rattle.c104_node.proofs.WireEnds.{get_set_same, get_set_other}
+use Rattle.c104_run.proofs.BalanceWires.{AreApart}
+
+-- a number that changes, where there is one
+abbrev pub changed : (ℕ → ℕ) → Option ℕ → Option ℕ
+changed change o = o >>= (λ c. Some (change c))
+
+-- one that a token has used, and one that is eight more
+abbrev pub lower : ℕ → ℕ
+lower c = c - 1
+
+abbrev pub raise : ℕ → ℕ
+raise c = c + 8
+
+module _ {X : Type 0} (xs : List X) (i : ℕ) (x y : X) (is : slice_get xs i ≡ Some x) where
+  -- at the place itself the number is that of the new element
+  pub seen_here : (f : X → Option ℕ) → (slice_get (slice_set xs i y) i >>= f) ≡ f y
+  seen_here f = ap (λ o. o >>= f) (get_set_same xs i x y is)
+
+  -- a number that is the same of the new element is the same at every place
+  pub seen_kept : (f : X → Option ℕ) → f y ≡ f x → (j : ℕ) → (slice_get (slice_set xs i y) j >>= f) ≡ (slice_get xs j >>= f)
+  seen_kept f keeps j =
+      elim (cases_eq i j) [
+        | inl same ↦ subst (λ k. (slice_get (slice_set xs i y) k >>= f) ≡ (slice_get xs k >>= f)) same (seen_here f ∙ keeps ∙ sym (ap (λ o. o >>= f) is))
+        | inr other ↦ ap (λ o. o >>= f) (get_set_other xs i j y other)
+      ]
+
+  -- a number that changes at the place
+  pub seen_changed : (f : X → Option ℕ) (change : ℕ → ℕ) → f y ≡ changed change (f x) → (slice_get (slice_set xs i y) i >>= f) ≡ changed change (slice_get xs i >>= f)
+  seen_changed f change new = seen_here f ∙ new ∙ sym (ap (λ o. changed change (o >>= f)) is)
+
+-- and at every other place the number is as it was
+pub seen_other : {X : Type 0} (xs : List X) (i j : ℕ) (y : X) (f : X → Option ℕ) → i ≢ j → (slice_get (slice_set xs i y) j >>= f) ≡ (slice_get xs j >>= f)
+seen_other xs i j y f other = ap (λ o. o >>= f) (get_set_other xs i j y other)
+
+-- a number that is read at each link of a node
+abbrev pub Reading : Type 0 → Type 0
+Reading A = ℕ → Node A → Option ℕ
+
+-- the number that is read at an end of a wire
+abbrev pub read_at : {A : Type 0} → Reading A → List (Node A) → End → Option ℕ
+read_at reading nodes end = slice_get nodes end.node >>= reading end.link
+
+-- the nodes at the places below a number are switches
+abbrev pub AreSwitches : {A : Type 0} → ℕ → List (Node A) → Type 0
+AreSwitches {A} count nodes = (place : ℕ) (n : Node A) → place < count → slice_get nodes place ≡ Some n → is_switch n ≡ true
+
+first_true : {A : Type 0} (a b : ℕ) (nodes : List (Node A)) → map is_switch nodes ≡ replicate a true ++ replicate b false → AreSwitches a nodes
+first_true zero b nodes are place n inside at = absurd (omega arith)
+first_true (suc a) b [] are place n inside at = cc
+first_true (suc a) b (m ∷ nodes) are zero n inside at =
+    let same : m ≡ n = cc in
+    let kind : is_switch m ≡ true = cc in
+    ap is_switch (sym same) ∙ kind
+first_true (suc a) b (m ∷ nodes) are (suc place) n inside at =
+    let rest : map is_switch nodes ≡ replicate a true ++ replicate b false = cc in
+    first_true a b nodes rest place n (omega arith) at
+
+-- nodes that are in place have their switches first
+pub switches_first : {A : Type 0} (plan : Plan) (nodes : List (Node A)) → AreInPlace plan nodes → AreSwitches (length plan.switches) nodes
+switches_first plan nodes = first_true (length plan.switches) (length plan.terminals) nodes
+
+-- a step of one node over one link: one number is kept at every link, and one changes at this one
+pub record Acts {A : Type 0} (kept moved : Reading A) (change : ℕ → ℕ) (l : ℕ) (n m : Node A) : Type 0 where
+  pub in_place : is_switch m ≡ is_switch n
+  pub keeps : (k : ℕ) → kept k m ≡ kept k n
+  pub here : moved l m ≡ changed change (moved l n)
+  pub elsewhere : is_switch n ≡ true → (k : ℕ) → l ≢ k → moved k m ≡ moved k n
+
+-- the same of the nodes, and the ends of wires
+pub record ActsAt {A : Type 0} (kept moved : Reading A) (change : ℕ → ℕ) (count : ℕ) (end : End) (nodes after : List (Node A)) : Type 0 where
+  pub in_place : map is_switch after ≡ map is_switch nodes
+  pub keeps : (other : End) → read_at kept after other ≡ read_at kept nodes other
+  pub here : read_at moved after end ≡ changed change (read_at moved nodes end)
+  pub elsewhere : AreSwitches count nodes → (other : End) → AreApart count end other → read_at moved after other ≡ read_at moved nodes other
+
+-- a step of one node that keeps both numbers
+pub record Rests {A : Type 0} (n m : Node A) : Type 0 where
+  pub in_place : is_switch m ≡ is_switch n
+  pub credit : (k : ℕ) → credit_of k m ≡ credit_of k n
+  pub granted : (k : ℕ) → granted_of k m ≡ granted_of k n
+
+-- a switch stays a switch, and a terminal a terminal
+pub still_in_place : {A : Type 0} (nodes : List (Node A)) (i : ℕ) (n m : Node A) → slice_get nodes i ≡ Some n → is_switch m ≡ is_switch n → map is_switch (slice_set nodes i m) ≡ map is_switch nodes
+still_in_place [] i n m is keeps = refl
+still_in_place (o ∷ nodes) zero n m is keeps =
+    let same : o ≡ n = cc in
+    ap (λ b. b ∷ map is_switch nodes) (keeps ∙ ap is_switch (sym same))
+still_in_place (o ∷ nodes) (suc i) n m is keeps = ap (λ bs. is_switch o ∷ bs) (still_in_place nodes i n m is keeps)
+
+-- a step of the node at an end of a wire is one of the nodes
+pub acts_at : {A : Type 0} (kept moved : Reading A) (change : ℕ → ℕ) (count : ℕ) (end : End) (nodes : List (Node A)) (n m : Node A) → slice_get nodes end.node ≡ Some n → Acts kept moved change end.link n m → ActsAt kept moved change count end nodes (slice_set nodes end.node m)
+acts_at {A} kept moved change count end nodes n m is acts = record {
+  in_place = still_in_place nodes end.node n m is acts.in_place;
+  keeps = λ other. seen_kept nodes end.node n m is (kept other.link) (acts.keeps other.link) other.node;
+  here = seen_changed nodes end.node n m is (moved end.link) change acts.here;
+  elsewhere = by_apart;
+}
+  where
+    by_apart : AreSwitches count nodes → (other : End) → AreApart count end other → read_at moved (slice_set nodes end.node m) other ≡ read_at moved nodes other
+    by_apart placed other (inl differs) = seen_other nodes end.node other.node m (moved other.link) differs
+    by_apart placed other (inr h) =
+        elim (cases_eq end.node other.node) [
+          | inl same ↦ seen_kept nodes end.node n m is (moved other.link) (acts.elsewhere (placed end.node n (subst (λ k. k < count) (sym same) h.0) is) other.link h.1) other.node
+          | inr differs ↦ seen_other nodes end.node other.node m (moved other.link) differs
+        ]

@@ -1,0 +1,128 @@
+-- What crosses a wire keeps every network in balance, and so does each step of one node.
+use Rattle.std.proofs.Common.{◌≡◌, ◌≢◌, ℕ, inl, inr, List, Option, Some, length, slice_get, slice_set, sym, ◌∙◌, ap, subst}
+use Rattle.c104_link.specs.Steps.{step_at, yield_step_at}
+use Rattle.c104_link.proofs.MadeSteps.{given, at_place_made, from_place_made}
+use Rattle.c104_plan.specs.declared.ports.Port.{Port}
+use Rattle.c104_node.specs.declared.ends.End.{End}
+use Rattle.c104_plan.specs.Plans.{Plan, IsPlan}
+use Rattle.c104_node.specs.Nodes.{Node, node_enter, node_leave, node_credit_out, node_credit_in}
+use Rattle.c104_node.proofs.NamedWires.{nodes_cross, nodes_credit}
+use Rattle.c104_plan.specs.Wiring.{peer}
+use Rattle.c104_run.specs.Ends.{end_of}
+use Rattle.c104_run.specs.Network.{network_of}
+use Rattle.c104_run.specs.Balance.{credit_of, granted_of, AreLevel, IsSteady}
+use Rattle.c104_run.proofs.BalanceWires.{port_cases, peer_back, peer_one, ends_apart}
+use Rattle.c104_run.proofs.BalancePlaces.{changed, lower, raise, ActsAt, Rests, acts_at, seen_kept, still_in_place, switches_first}
+use Rattle.c104_run.proofs.BalanceNodes.{leave_acts, enter_acts, credit_out_acts, credit_in_acts}
+
+module _ {A : Type 0} (plan : Plan) where
+  -- a step of one node that keeps both numbers
+  rest_steady : (nodes : List (Node A)) (i : ℕ) (n m : Node A) → slice_get nodes i ≡ Some n → Rests n m → IsSteady (network_of plan nodes) → IsSteady (network_of plan (slice_set nodes i m))
+  rest_steady nodes i n m is rests steady = record {
+    in_place = still_in_place nodes i n m is rests.in_place ∙ steady.in_place;
+    balanced = λ p q wired.
+        let from : End = end_of plan p in
+        let to : End = end_of plan q in
+        let was : AreLevel nodes from to = steady.balanced p q wired in (
+          was.0,
+          seen_kept nodes i n m is (credit_of from.link) (rests.credit from.link) from.node ∙ was.1,
+          seen_kept nodes i n m is (granted_of to.link) (rests.granted to.link) to.node ∙ was.2,
+        );
+  }
+
+  -- a step at one place
+  pub steady_at : (nodes after : List (Node A)) (i : ℕ) (f : Node A → Option (Node A)) → step_at nodes i f ≡ Some after → ((n m : Node A) → f n ≡ Some m → Rests n m) → IsSteady (network_of plan nodes) → IsSteady (network_of plan after)
+  steady_at nodes after i f is rests steady = at_place_made nodes i f after is (λ n m here made set. subst (λ ns. IsSteady (network_of plan ns)) set (rest_steady nodes i n m here (rests n m made) steady))
+
+  -- the same, where something comes of it
+  pub steady_from : {Y : Type 0} (nodes : List (Node A)) (i : ℕ) (f : Node A → Option (Y × Node A)) (r : Y × List (Node A)) → yield_step_at nodes i f ≡ Some r → ((n : Node A) (v : Y × Node A) → f n ≡ Some v → Rests n v.1) → IsSteady (network_of plan nodes) → IsSteady (network_of plan r.1)
+  steady_from {Y} nodes i f r is rests steady = from_place_made nodes i f r is (λ n v here made set. subst (λ (r : Y × List (Node A)). IsSteady (network_of plan r.1)) set (rest_steady nodes i n v.1 here (rests n v made) steady))
+
+  module _ (is_plan : IsPlan plan) (p q : Port) (wired : peer plan p ≡ Some q) (change : ℕ → ℕ) (nodes mid after : List (Node A)) where
+    abbrev count : ℕ
+    count = length plan.switches
+
+    abbrev near : End
+    near = end_of plan p
+
+    abbrev far : End
+    far = end_of plan q
+
+    -- the credit changes at one end, and then what is granted at the other
+    credit_then_granted : ActsAt granted_of credit_of change count near nodes mid → ActsAt credit_of granted_of change count far mid after → IsSteady (network_of plan nodes) → IsSteady (network_of plan after)
+    credit_then_granted first second steady = record { in_place = second.in_place ∙ first.in_place ∙ steady.in_place; balanced = by_port }
+      where
+        by_port : (p' q' : Port) → peer plan p' ≡ Some q' → AreLevel after (end_of plan p') (end_of plan q')
+        by_port p' q' wired' =
+            elim (port_cases p p') [
+              | inl same ↦
+                  let other : Some q ≡ Some q' = sym wired ∙ ap (peer plan) same ∙ wired' in
+                  let one : q ≡ q' = cc in
+                  let was : AreLevel nodes near far = steady.balanced p q wired in
+                  let both : AreLevel after near far = (
+                    change was.0,
+                    second.keeps near ∙ first.here ∙ ap (changed change) was.1,
+                    second.here ∙ ap (changed change) (first.keeps far ∙ was.2),
+                  ) in
+                  subst (λ r. AreLevel after (end_of plan r) (end_of plan q')) same (subst (λ r. AreLevel after near (end_of plan r)) one both)
+              | inr differs ↦
+                  let differs_far : q ≢ q' = λ one. differs (peer_one plan is_plan p p' q wired (wired' ∙ ap Some (sym one))) in
+                  let was : AreLevel nodes (end_of plan p') (end_of plan q') = steady.balanced p' q' wired' in (
+                    was.0,
+                    second.keeps (end_of plan p') ∙ first.elsewhere (switches_first plan nodes steady.in_place) (end_of plan p') (ends_apart plan is_plan p q p' q' wired wired' differs) ∙ was.1,
+                    second.elsewhere (switches_first plan mid (first.in_place ∙ steady.in_place)) (end_of plan q') (ends_apart plan is_plan q p q' p' (peer_back plan is_plan p q wired) (peer_back plan is_plan p' q' wired') differs_far) ∙ first.keeps (end_of plan q') ∙ was.2,
+                  )
+            ]
+
+    -- what is granted changes at one end, and then the credit at the other
+    granted_then_credit : ActsAt credit_of granted_of change count near nodes mid → ActsAt granted_of credit_of change count far mid after → IsSteady (network_of plan nodes) → IsSteady (network_of plan after)
+    granted_then_credit first second steady = record { in_place = second.in_place ∙ first.in_place ∙ steady.in_place; balanced = by_port }
+      where
+        back : peer plan q ≡ Some p
+        back = peer_back plan is_plan p q wired
+
+        by_port : (q' p' : Port) → peer plan q' ≡ Some p' → AreLevel after (end_of plan q') (end_of plan p')
+        by_port q' p' wired' =
+            elim (port_cases q q') [
+              | inl same ↦
+                  let other : Some p ≡ Some p' = sym back ∙ ap (peer plan) same ∙ wired' in
+                  let one : p ≡ p' = cc in
+                  let was : AreLevel nodes far near = steady.balanced q p back in
+                  let both : AreLevel after far near = (
+                    change was.0,
+                    second.here ∙ ap (changed change) (first.keeps far ∙ was.1),
+                    second.keeps near ∙ first.here ∙ ap (changed change) was.2,
+                  ) in
+                  subst (λ r. AreLevel after (end_of plan r) (end_of plan p')) same (subst (λ r. AreLevel after far (end_of plan r)) one both)
+              | inr differs ↦
+                  let differs_near : p ≢ p' = λ one. differs (peer_one plan is_plan q q' p back (wired' ∙ ap Some (sym one))) in
+                  let was : AreLevel nodes (end_of plan q') (end_of plan p') = steady.balanced q' p' wired' in (
+                    was.0,
+                    second.elsewhere (switches_first plan mid (first.in_place ∙ steady.in_place)) (end_of plan q') (ends_apart plan is_plan q p q' p' back wired' differs) ∙ first.keeps (end_of plan q') ∙ was.1,
+                    second.keeps (end_of plan p') ∙ first.elsewhere (switches_first plan nodes steady.in_place) (end_of plan p') (ends_apart plan is_plan p q p' q' wired (peer_back plan is_plan q' p' wired') differs_near) ∙ was.2,
+                  )
+            ]
+
+  module _ (is_plan : IsPlan plan) (p q : Port) (wired : peer plan p ≡ Some q) (nodes : List (Node A)) where
+    -- a token crosses a wire
+    pub steady_crossed : (r : A × List (Node A)) → nodes_cross nodes (end_of plan p) (end_of plan q) ≡ Some r → IsSteady (network_of plan nodes) → IsSteady (network_of plan r.1)
+    steady_crossed r is steady =
+        let from : End = end_of plan p in
+        let to : End = end_of plan q in
+        given (yield_step_at nodes from.node (node_leave from.link)) _ r is (λ v left more. given (step_at v.1 to.node (node_enter v.0 to.link)) _ r more (λ after came last.
+        from_place_made nodes from.node (node_leave from.link) v left (λ n y here gone set. at_place_made v.1 to.node (node_enter v.0 to.link) after came (λ o m there entered made.
+        let first : ActsAt granted_of credit_of lower (length plan.switches) from nodes v.1 = subst (λ (v : A × List (Node A)). ActsAt granted_of credit_of lower (length plan.switches) from nodes v.1) set (acts_at granted_of credit_of lower (length plan.switches) from nodes n y.1 here (leave_acts from.link n y gone)) in
+        let second : ActsAt credit_of granted_of lower (length plan.switches) to v.1 after = subst (ActsAt credit_of granted_of lower (length plan.switches) to v.1) made (acts_at credit_of granted_of lower (length plan.switches) to v.1 o m there (enter_acts v.0 to.link o m entered)) in
+        let same : ◌≡◌ {A = A × List (Node A)} (v.0, after) r = cc in
+        subst (λ (r : A × List (Node A)). IsSteady (network_of plan r.1)) same (credit_then_granted is_plan p q wired lower nodes v.1 after first second steady)))))
+
+    -- credit crosses a wire
+    pub steady_credited : (after : List (Node A)) → nodes_credit nodes (end_of plan p) (end_of plan q) ≡ Some after → IsSteady (network_of plan nodes) → IsSteady (network_of plan after)
+    steady_credited after is steady =
+        let from : End = end_of plan p in
+        let to : End = end_of plan q in
+        given (step_at nodes from.node (node_credit_out from.link)) _ after is (λ mid out more.
+        at_place_made nodes from.node (node_credit_out from.link) mid out (λ n y here gone set. at_place_made mid to.node (node_credit_in to.link) after more (λ o m there came made.
+        let first : ActsAt credit_of granted_of raise (length plan.switches) from nodes mid = subst (ActsAt credit_of granted_of raise (length plan.switches) from nodes) set (acts_at credit_of granted_of raise (length plan.switches) from nodes n y here (credit_out_acts from.link n y gone)) in
+        let second : ActsAt granted_of credit_of raise (length plan.switches) to mid after = subst (ActsAt granted_of credit_of raise (length plan.switches) to mid) made (acts_at granted_of credit_of raise (length plan.switches) to mid o m there (credit_in_acts to.link o m came)) in
+        granted_then_credit is_plan p q wired raise nodes mid after first second steady)))

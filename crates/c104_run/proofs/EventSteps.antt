@@ -1,0 +1,294 @@
+-- An event by its name: in a network of a plan whose nodes stand in their places, the step of the acts of an event is the
+-- step that its name says.
+use Rattle.c104_plan.specs.Plans.{IsPlan, Plan}
+use Rattle.c104_plan.specs.Wiring.{peer}
+use Rattle.c104_plan.specs.declared.ports.Port.{Port}
+use Rattle.c104_event.specs.declared.events.Event.{Event}
+use Rattle.c104_link.specs.Steps.{◌>>=◌, step_at, yield_step_at}
+use Rattle.c104_run.proofs.BalanceWires.{nodes_apart, peer_back, switch_inside}
+use Rattle.c104_node.proofs.WireEnds.{get_set_other}
+use Rattle.c104_run.proofs.RunRecords.{in_place, is_switch_place}
+use Rattle.c104_node.specs.Acts.{control_by, done_by, node_act, nodes_act, token_by}
+use Rattle.c104_run.specs.Balance.{AreInPlace}
+use Rattle.c104_node.specs.Nodes.{is_switch, Node, node_claim, node_control, node_credit_in, node_credit_out, node_drain, node_enter, node_input, node_leave, node_send}
+use Rattle.c104_run.specs.Ends.{end_of}
+use Rattle.c104_run.specs.EventActs.{acts_step, crossing_acts, port_place}
+use Rattle.c104_node.specs.PortActs.{Acts, act_limit, far_act, port_credit_in, port_credit_out, port_enter, port_leave}
+use Rattle.c104_run.specs.Network.{Network, event_fault, event_limit, network_apply, network_step, outcome_if_possible, outcome_if_ready, outcome_within_limit, terminal_place, told_step, with_nodes}
+use Rattle.c104_node.specs.Traces.{part}
+use Rattle.c104_node.proofs.NamedWires.{nodes_credit, nodes_cross}
+use Rattle.c104_node.specs.declared.acts.ActOf.{ActOf}
+use Rattle.c104_node.specs.declared.crossings.Crossing.TheVariants.{Token, Grant}
+use Rattle.c104_switch.specs.Actions.{Reply}
+use Rattle.c104_switch.specs.Control.{switch_control}
+use Rattle.c104_switch.specs.Switch.{Switch}
+use Rattle.c104_switch.specs.declared.actions.ReplyOf.{ReplyOf}
+use Rattle.c104_token.specs.Kinds.{Kind}
+use Rattle.c104_token.specs.declared.packets.Packet.{Packet}
+use Rattle.std.proofs.Common.{Bool, List, None, Ok, Option, Some, ap, arith, false, length, nat_lt, refl, slice_get, slice_set, sym, true, ℕ, ◌+◌, ◌-◌, ◌<◌, ◌∙◌, ◌≡◌}
+use Rattle.std.proofs.lemmas.Bool.Decides.{nat_tests}
+use Rattle.c104_plan.specs.declared.ports.Port.TheVariants as port
+use Rattle.c104_event.specs.declared.events.Event.TheVariants as event
+use Rattle.c104_node.specs.declared.acts.ActOf.TheVariants as act
+use Rattle.c104_node.specs.declared.node.NodeOf.TheVariants as node
+use Rattle.c104_switch.specs.declared.actions.ActionOf.TheVariants as action
+use Rattle.c104_switch.specs.declared.actions.ReplyOf.TheVariants as reply
+
+module _ {A : Type 0} (kind : Kind A) where
+  -- what is left where nothing else comes of an event
+  abbrev pub done_step : Network A → Option (List (Node A)) → Option (Reply × Network A)
+  done_step net made = made >>= (λ nodes. Some (reply.Done, with_nodes net nodes))
+
+  -- the same, where a token comes of it
+  abbrev pub token_step : Network A → Option (A × List (Node A)) → Option (Reply × Network A)
+  token_step net made = made >>= (λ r. Some (reply.Token (kind.plain r.0), with_nodes net r.1))
+
+  -- the same, where a switch replies to a command
+  abbrev pub control_step : Network A → Option (List ℕ × List (Node A)) → Option (Reply × Network A)
+  control_step net made = made >>= (λ r. Some (reply.Control r.0, with_nodes net r.1))
+
+  -- what an event answers and leaves, by the step that its name says
+  abbrev pub named_step : Network A → Event → Option (Reply × Network A)
+  named_step net (event.Cross p) = peer net.plan p >>= (λ q.
+      token_step net (nodes_cross net.nodes (end_of net.plan p) (end_of net.plan q)))
+  named_step net (event.Credit p) = peer net.plan p >>= (λ q.
+      done_step net (nodes_credit net.nodes (end_of net.plan p) (end_of net.plan q)))
+  named_step net (event.Input s l word) = done_step net (step_at net.nodes s (node_input kind l word))
+  named_step net (event.Claim s i o) = done_step net (step_at net.nodes s (node_claim i o))
+  named_step net (event.Control s bytes) = control_step net (yield_step_at net.nodes s (node_control bytes))
+  named_step net (event.Send t packet) =
+      done_step net (step_at net.nodes (terminal_place net.plan t) (node_send kind t packet))
+  named_step net (event.Drain t) =
+      token_step net (yield_step_at net.nodes (terminal_place net.plan t) node_drain)
+
+-- whether a port is a switch's
+abbrev is_switch_port : Port → Bool
+is_switch_port (port.Switch s l) = true
+is_switch_port (port.Terminal t) = false
+
+module _ {A : Type 0} (kind : Kind A) where
+  -- one act at a place, as the step that its name says
+  module _ (net : Network A) (k number : ℕ) (a : ActOf A) where
+    done_alone : (f : Node A → Option (Node A)) → ((n : Node A) → node_act kind number a n ≡ done_by (f n)) → done_step kind net (step_at net.nodes k f) ≡ told_step kind net (nodes_act kind net.nodes k number a)
+    done_alone f same = by_node (slice_get net.nodes k)
+      where
+        by_made : (n : Node A) (made : Option (Node A)) → done_step kind net (made >>= (λ y. Some (slice_set net.nodes k y))) ≡ told_step kind net (done_by made >>= (λ y. Some (y.0, slice_set net.nodes k y.1)))
+        by_made n None = refl
+        by_made n (Some m) = refl
+
+        by_node : (o : Option (Node A)) → done_step kind net (o >>= (λ x. f x >>= (λ y. Some (slice_set net.nodes k y)))) ≡ told_step kind net (o >>= (λ x. node_act kind number a x >>= (λ y. Some (y.0, slice_set net.nodes k y.1))))
+        by_node None = refl
+        by_node (Some n) = by_made n (f n) ∙ ap (λ (made : Option (ReplyOf A × Node A)). told_step kind net (made >>= (λ y. Some (y.0, slice_set net.nodes k y.1)))) (sym (same n))
+
+    token_alone : (f : Node A → Option (A × Node A)) → ((n : Node A) → node_act kind number a n ≡ token_by (f n)) → token_step kind net (yield_step_at net.nodes k f) ≡ told_step kind net (nodes_act kind net.nodes k number a)
+    token_alone f same = by_node (slice_get net.nodes k)
+      where
+        by_made : (n : Node A) (made : Option (A × Node A)) → token_step kind net (made >>= (λ y. Some (y.0, slice_set net.nodes k y.1))) ≡ told_step kind net (token_by made >>= (λ y. Some (y.0, slice_set net.nodes k y.1)))
+        by_made n None = refl
+        by_made n (Some m) = refl
+
+        by_node : (o : Option (Node A)) → token_step kind net (o >>= (λ x. f x >>= (λ y. Some (y.0, slice_set net.nodes k y.1)))) ≡ told_step kind net (o >>= (λ x. node_act kind number a x >>= (λ y. Some (y.0, slice_set net.nodes k y.1))))
+        by_node None = refl
+        by_node (Some n) = by_made n (f n) ∙ ap (λ (made : Option (ReplyOf A × Node A)). told_step kind net (made >>= (λ y. Some (y.0, slice_set net.nodes k y.1)))) (sym (same n))
+
+    control_alone : (f : Node A → Option (List ℕ × Node A)) → ((n : Node A) → node_act kind number a n ≡ control_by (f n)) → control_step kind net (yield_step_at net.nodes k f) ≡ told_step kind net (nodes_act kind net.nodes k number a)
+    control_alone f same = by_node (slice_get net.nodes k)
+      where
+        by_made : (n : Node A) (made : Option (List ℕ × Node A)) → control_step kind net (made >>= (λ y. Some (y.0, slice_set net.nodes k y.1))) ≡ told_step kind net (control_by made >>= (λ y. Some (y.0, slice_set net.nodes k y.1)))
+        by_made n None = refl
+        by_made n (Some m) = refl
+
+        by_node : (o : Option (Node A)) → control_step kind net (o >>= (λ x. f x >>= (λ y. Some (y.0, slice_set net.nodes k y.1)))) ≡ told_step kind net (o >>= (λ x. node_act kind number a x >>= (λ y. Some (y.0, slice_set net.nodes k y.1))))
+        by_node None = refl
+        by_node (Some n) = by_made n (f n) ∙ ap (λ (made : Option (ReplyOf A × Node A)). told_step kind net (made >>= (λ y. Some (y.0, slice_set net.nodes k y.1)))) (sym (same n))
+
+  input_act : (l word number : ℕ) (n : Node A) → node_act kind number (act.Step (action.Input l word)) n ≡ done_by (node_input kind l word n)
+  input_act l word number (node.Switch s) = refl
+  input_act l word number (node.Terminal t) = refl
+
+  claim_act : (i o number : ℕ) (n : Node A) → node_act kind number (act.Step (action.Claim i o)) n ≡ done_by (node_claim i o n)
+  claim_act i o number (node.Switch s) = refl
+  claim_act i o number (node.Terminal t) = refl
+
+  control_act : (bytes : List ℕ) (number : ℕ) (n : Node A) → node_act kind number (act.Step (action.Control bytes)) n ≡ control_by (node_control bytes n)
+  control_act bytes number (node.Switch s) = refl
+  control_act bytes number (node.Terminal t) = refl
+
+  -- the acts at a port, of a node of its kind
+  module _ (plan : Plan) where
+    leave_is : (p : Port) (n : Node A) → is_switch n ≡ is_switch_port p → node_act kind 0 (port_leave p) n ≡ token_by (node_leave (end_of plan p).link n)
+    leave_is (port.Switch s l) (node.Switch x) fits = refl
+    leave_is (port.Switch s l) (node.Terminal x) fits = absurd (cc)
+    leave_is (port.Terminal t) (node.Switch x) fits = absurd (cc)
+    leave_is (port.Terminal t) (node.Terminal x) fits = refl
+
+    enter_is : (p : Port) (x : A) (n : Node A) → is_switch n ≡ is_switch_port p → node_act kind 0 (port_enter x p) n ≡ done_by (node_enter x (end_of plan p).link n)
+    enter_is (port.Switch s l) x (node.Switch y) fits = refl
+    enter_is (port.Switch s l) x (node.Terminal y) fits = absurd (cc)
+    enter_is (port.Terminal t) x (node.Switch y) fits = absurd (cc)
+    enter_is (port.Terminal t) x (node.Terminal y) fits = refl
+
+    credit_out_is : (p : Port) (n : Node A) → is_switch n ≡ is_switch_port p → node_act kind 0 (port_credit_out p) n ≡ done_by (node_credit_out (end_of plan p).link n)
+    credit_out_is (port.Switch s l) (node.Switch y) fits = refl
+    credit_out_is (port.Switch s l) (node.Terminal y) fits = absurd (cc)
+    credit_out_is (port.Terminal t) (node.Switch y) fits = absurd (cc)
+    credit_out_is (port.Terminal t) (node.Terminal y) fits = refl
+
+    credit_in_is : (p : Port) (n : Node A) → is_switch n ≡ is_switch_port p → node_act kind 0 (port_credit_in p) n ≡ done_by (node_credit_in (end_of plan p).link n)
+    credit_in_is (port.Switch s l) (node.Switch y) fits = refl
+    credit_in_is (port.Switch s l) (node.Terminal y) fits = absurd (cc)
+    credit_in_is (port.Terminal t) (node.Switch y) fits = absurd (cc)
+    credit_in_is (port.Terminal t) (node.Terminal y) fits = refl
+
+  module _ (plan : Plan) (is_plan : IsPlan plan) (nodes : List (Node A)) (placed : AreInPlace plan nodes) where
+    -- the node at a wired port is of the port's kind
+    fits_there : (p q : Port) (n : Node A) → peer plan p ≡ Some q → slice_get nodes (port_place plan p) ≡ Some n → is_switch n ≡ is_switch_port p
+    fits_there p q n wired at = sym (ap (part false is_switch) at) ∙ in_place plan nodes placed (port_place plan p) ∙ by_port p q wired
+      where
+        by_port : (p q : Port) → peer plan p ≡ Some q → is_switch_place plan (port_place plan p) ≡ is_switch_port p
+        by_port (port.Switch s l) q wired = let inside : s < length plan.switches = (switch_inside plan is_plan s l q wired).0 in grind (arith, nat_tests)
+        by_port (port.Terminal t) q wired = grind (arith, nat_tests)
+
+    abbrev after_near : Port → Port → ReplyOf A × List (Node A) → Option (ReplyOf A × List (Node A))
+    after_near p q r = nodes_act kind r.1 (port_place plan q) 0 (far_act q r.0) >>= (λ s. Some (r.0, s.1))
+
+    abbrev set_at : {Y : Type 0} → List (Node A) → Port → Y × Node A → Option (Y × List (Node A))
+    set_at ns p y = Some (y.0, slice_set ns (port_place plan p) y.1)
+
+    abbrev put_at : List (Node A) → Port → Node A → Option (List (Node A))
+    put_at ns p y = Some (slice_set ns (port_place plan p) y)
+
+    abbrev done_near : Port → Node A → ReplyOf A × List (Node A)
+    done_near p m = (reply.Done, slice_set nodes (port_place plan p) m)
+
+    abbrev token_near : Port → A → Node A → ReplyOf A × List (Node A)
+    token_near p x m = (reply.Token x, slice_set nodes (port_place plan p) m)
+
+    abbrev with_token : A → List (Node A) → Option (A × List (Node A))
+    with_token x ns = Some (x, ns)
+
+    module _ (p q : Port) (wired : peer plan p ≡ Some q) where
+      -- the node at the far end is as it was
+      far_same : (m : Node A) → slice_get (slice_set nodes (port_place plan p) m) (port_place plan q) ≡ slice_get nodes (port_place plan q)
+      far_same m = get_set_other nodes (port_place plan p) (port_place plan q) m (nodes_apart plan is_plan p q wired)
+
+      -- a crossing, as the steps at both ends
+      cross_is : acts_step kind plan nodes (Acts.Joint p q Token) ≡ token_by (nodes_cross nodes (end_of plan p) (end_of plan q))
+      cross_is = by_near (slice_get nodes (port_place plan p)) refl
+        where
+          by_far : (x : A) (m : Node A) (o : Option (Node A)) → slice_get (slice_set nodes (port_place plan p) m) (port_place plan q) ≡ o →
+              after_near p q (token_near p x m) ≡ token_by (step_at (slice_set nodes (port_place plan p) m) (port_place plan q) (node_enter x (end_of plan q).link) >>= with_token x)
+          by_far x m None at = rw at refl
+          by_far x m (Some n) at = rw (at, enter_is plan q x n (fits_there q p n (peer_back plan is_plan p q wired) (sym (far_same m) ∙ at))) (by_made (node_enter x (end_of plan q).link n))
+            where
+              by_made : (made : Option (Node A)) →
+                  ((done_by {A = A} made >>= set_at (slice_set nodes (port_place plan p) m) q) >>= (λ (s : ReplyOf A × List (Node A)). Some (reply.Token x, s.1)))
+                  ≡ token_by ((made >>= put_at (slice_set nodes (port_place plan p) m) q) >>= with_token x)
+              by_made None = refl
+              by_made (Some y) = refl
+
+          by_left : (made : Option (A × Node A)) →
+              ((token_by made >>= set_at nodes p) >>= after_near p q)
+              ≡ token_by ((made >>= set_at nodes p) >>= (λ (r : A × List (Node A)). step_at r.1 (port_place plan q) (node_enter r.0 (end_of plan q).link) >>= with_token r.0))
+          by_left None = refl
+          by_left (Some m) = by_far m.0 m.1 (slice_get (slice_set nodes (port_place plan p) m.1) (port_place plan q)) refl
+
+          by_near : (o : Option (Node A)) → slice_get nodes (port_place plan p) ≡ o → acts_step kind plan nodes (Acts.Joint p q Token) ≡ token_by (nodes_cross nodes (end_of plan p) (end_of plan q))
+          by_near None at = rw at refl
+          by_near (Some n) at = rw (at, leave_is plan p n (fits_there p q n wired at)) (by_left (node_leave (end_of plan p).link n))
+
+      -- and so a grant
+      credit_is : acts_step kind plan nodes (Acts.Joint p q Grant) ≡ done_by {A = A} (nodes_credit nodes (end_of plan p) (end_of plan q))
+      credit_is = by_near (slice_get nodes (port_place plan p)) refl
+        where
+          by_far : (m : Node A) (o : Option (Node A)) → slice_get (slice_set nodes (port_place plan p) m) (port_place plan q) ≡ o →
+              after_near p q (done_near p m) ≡ done_by {A = A} (step_at (slice_set nodes (port_place plan p) m) (port_place plan q) (node_credit_in (end_of plan q).link))
+          by_far m None at = rw at refl
+          by_far m (Some n) at = rw (at, credit_in_is plan q n (fits_there q p n (peer_back plan is_plan p q wired) (sym (far_same m) ∙ at))) (by_made (node_credit_in (end_of plan q).link n))
+            where
+              by_made : (made : Option (Node A)) →
+                  ((done_by {A = A} made >>= set_at (slice_set nodes (port_place plan p) m) q) >>= (λ (s : ReplyOf A × List (Node A)). Some (reply.Done, s.1)))
+                  ≡ done_by {A = A} (made >>= put_at (slice_set nodes (port_place plan p) m) q)
+              by_made None = refl
+              by_made (Some y) = refl
+
+          by_out : (made : Option (Node A)) →
+              ((done_by {A = A} made >>= set_at nodes p) >>= after_near p q)
+              ≡ done_by {A = A} ((made >>= put_at nodes p) >>= (λ granted. step_at granted (port_place plan q) (node_credit_in (end_of plan q).link)))
+          by_out None = refl
+          by_out (Some m) = by_far m (slice_get (slice_set nodes (port_place plan p) m) (port_place plan q)) refl
+
+          by_near : (o : Option (Node A)) → slice_get nodes (port_place plan p) ≡ o → acts_step kind plan nodes (Acts.Joint p q Grant) ≡ done_by {A = A} (nodes_credit nodes (end_of plan p) (end_of plan q))
+          by_near None at = rw at refl
+          by_near (Some n) at = rw (at, credit_out_is plan p n (fits_there p q n wired at)) (by_out (node_credit_out (end_of plan p).link n))
+
+  -- what comes of a token or of a mere step, as it is told
+  token_told : (net : Network A) (made : Option (A × List (Node A))) → token_step kind net made ≡ told_step kind net (token_by made)
+  token_told net None = refl
+  token_told net (Some r) = refl
+
+  done_told : (net : Network A) (made : Option (List (Node A))) → done_step kind net made ≡ told_step kind net (done_by {A = A} made)
+  done_told net None = refl
+  done_told net (Some r) = refl
+
+  -- what an event of one node answers and leaves needs no more
+  pub input_named : (net : Network A) (s l word : ℕ) → done_step kind net (step_at net.nodes s (node_input kind l word)) ≡ network_step kind net (event.Input s l word)
+  input_named net s l word = done_alone net s (s - length net.plan.switches) (act.Step (action.Input l word)) (node_input kind l word) (input_act l word (s - length net.plan.switches))
+
+  pub claim_named : (net : Network A) (s i o : ℕ) → done_step kind net (step_at net.nodes s (node_claim i o)) ≡ network_step kind net (event.Claim s i o)
+  claim_named net s i o = done_alone net s (s - length net.plan.switches) (act.Step (action.Claim i o)) (node_claim i o) (claim_act i o (s - length net.plan.switches))
+
+  pub control_named : (net : Network A) (s : ℕ) (bytes : List ℕ) → control_step kind net (yield_step_at net.nodes s (node_control bytes)) ≡ network_step kind net (event.Control s bytes)
+  control_named net s bytes = control_alone net s (s - length net.plan.switches) (act.Step (action.Control bytes)) (node_control bytes) (control_act bytes (s - length net.plan.switches))
+
+  pub send_named : (net : Network A) (t : ℕ) (packet : Packet) → done_step kind net (step_at net.nodes (terminal_place net.plan t) (node_send kind t packet)) ≡ network_step kind net (event.Send t packet)
+  send_named net t packet =
+      let number : (length net.plan.switches + t) - length net.plan.switches ≡ t = omega arith in
+      done_alone net (terminal_place net.plan t) (terminal_place net.plan t - length net.plan.switches) (act.Send packet) (node_send kind t packet) (λ n. ap (λ k. node_act kind k (act.Send packet) n) number)
+
+  pub drain_named : (net : Network A) (t : ℕ) → token_step kind net (yield_step_at net.nodes (terminal_place net.plan t) node_drain) ≡ network_step kind net (event.Drain t)
+  drain_named net t = token_alone net (terminal_place net.plan t) (terminal_place net.plan t - length net.plan.switches) act.Drain node_drain (λ n. refl)
+
+  -- the step that the name of an event says is the step of its acts
+  named_is : (net : Network A) → IsPlan net.plan → AreInPlace net.plan net.nodes → (e : Event) → named_step kind net e ≡ network_step kind net e
+  named_is net is_plan placed (event.Cross p) = by_peer (peer net.plan p) refl
+    where
+      by_peer : (o : Option Port) → peer net.plan p ≡ o → (o >>= (λ q. token_step kind net (nodes_cross net.nodes (end_of net.plan p) (end_of net.plan q)))) ≡ (crossing_acts Token p o >>= (λ acts. told_step kind net (acts_step kind net.plan net.nodes acts)))
+      by_peer None wired = refl
+      by_peer (Some q) wired = token_told net (nodes_cross net.nodes (end_of net.plan p) (end_of net.plan q)) ∙ ap (told_step kind net) (sym (cross_is net.plan is_plan net.nodes placed p q wired))
+  named_is net is_plan placed (event.Credit p) = by_peer (peer net.plan p) refl
+    where
+      by_peer : (o : Option Port) → peer net.plan p ≡ o → (o >>= (λ q. done_step kind net (nodes_credit net.nodes (end_of net.plan p) (end_of net.plan q)))) ≡ (crossing_acts Grant p o >>= (λ acts. told_step kind net (acts_step kind net.plan net.nodes acts)))
+      by_peer None wired = refl
+      by_peer (Some q) wired = done_told net (nodes_credit net.nodes (end_of net.plan p) (end_of net.plan q)) ∙ ap (told_step kind net) (sym (credit_is net.plan is_plan net.nodes placed p q wired))
+  named_is net is_plan placed (event.Input s l word) = input_named net s l word
+  named_is net is_plan placed (event.Claim s i o) = claim_named net s i o
+  named_is net is_plan placed (event.Control s bytes) = control_named net s bytes
+  named_is net is_plan placed (event.Send t packet) = send_named net t packet
+  named_is net is_plan placed (event.Drain t) = drain_named net t
+
+  -- what an event answers and leaves, by its name
+  pub by_name : (net : Network A) → IsPlan net.plan → AreInPlace net.plan net.nodes → (e : Event) → network_step kind net e ≡ named_step kind net e
+  by_name net is_plan placed e = sym (named_is net is_plan placed e)
+
+  -- a command of a switch that stands there is replied to
+  module _ (net : Network A) (k : ℕ) (bytes : List ℕ) (s : Switch A) (here : nat_lt k (length net.plan.switches) ≡ true) (there : slice_get net.nodes k ≡ Some (node.Switch s)) where
+    abbrev after : Network A
+    after = with_nodes net (slice_set net.nodes k (node.Switch (switch_control s bytes).1))
+
+    abbrev put : ReplyOf A × Node A → Option (ReplyOf A × List (Node A))
+    put y = Some (y.0, slice_set net.nodes k y.1)
+
+    made : network_step kind net (event.Control k bytes) ≡ Some (reply.Control (switch_control s bytes).0, after)
+    made = ap (λ (o : Option (Node A)). told_step kind net (o >>= (λ n. node_act kind (k - length net.plan.switches) (act.Step (action.Control bytes)) n >>= put))) there
+
+    possible : event_fault net.plan (event.Control k bytes) ≡ None
+    possible = rw here refl
+
+    unlimited : event_limit net (event.Control k bytes) ≡ None
+    unlimited = ap (λ (o : Option (Node A)). act_limit o (act.Step (action.Control bytes))) there
+
+    pub control_applied : network_apply kind net (event.Control k bytes) ≡ (Ok (reply.Control (switch_control s bytes).0), after)
+    control_applied =
+        ap (outcome_if_possible kind net (event.Control k bytes)) possible ∙ ap (outcome_if_ready kind net (event.Control k bytes)) made
+        ∙ ap (λ f. outcome_within_limit kind net f (reply.Control (switch_control s bytes).0, after)) unlimited

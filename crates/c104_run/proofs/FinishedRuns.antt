@@ -1,0 +1,19 @@
+-- A network with its record leaves a run.
+use Rattle.c104_run.specs.FinishedRecords.{IsFinishedRecord, record_finish}
+use Rattle.c104_run.specs.NetRecords.{IsNetRecord, NetRecord}
+use Rattle.c104_node.specs.Traces.{seatless}
+use Rattle.c104_run.specs.WiredActs.{IsRecordedAt}
+use Rattle.std.proofs.Common.{refl, ℕ}
+
+pub finished_record : (net : NetRecord) → IsNetRecord net → ((k : ℕ) → IsRecordedAt net k) → IsFinishedRecord (record_finish net)
+finished_record net kept recorded = record {
+  stamps = seatless;
+  events = kept.told.0;
+  nodes = net.network.nodes;
+  told = kept.told.1;
+  ended = refl;
+  placed = kept.steady.in_place;
+  started = kept.started;
+  recorded = recorded;
+  within = kept.within;
+}

@@ -1,0 +1,78 @@
+-- What a run leaves: the terminals stand after the switches, each at its place.
+use Rattle.std.proofs.Common.{append_assoc, reverse, ◌≡◌, ◌+◌, ◌++◌, ℕ, zero, suc, Bool, true, false, List, [], ◌∷◌, Option, Some, None, nat_lt, if◌then◌else◌, length, map, replicate, slice_get, refl, sym, ap, ◌∙◌, arith}
+use Rattle.std.proofs.lemmas.Bool.Decides.{nat_tests}
+use Rattle.std.proofs.lemmas.List.{reverse-append}
+use Rattle.std.proofs.lemmas.Option.{slice_get_past}
+use Rattle.c104_link.specs.Steps.{◌>>=◌}
+use Rattle.c104_node.specs.declared.node.NodeOf.TheVariants.{Switch, Terminal}
+use Rattle.c104_node.specs.Terminals as terminal
+use Rattle.c104_plan.specs.Plans.{Plan}
+use Rattle.c104_node.specs.Nodes.{Node, node_arrived, is_switch, terminals_of}
+use Rattle.c104_run.specs.Network.{Network, network_arrived}
+use Rattle.c104_run.specs.Balance.{AreInPlace}
+use Rattle.c104_run.specs.Finished.{network_finish, run_arrived}
+
+module _ {A : Type 0} where
+  -- the terminals among nodes one after the other
+  pub terminals_append : (ms ns : List (Node A)) → terminals_of (ms ++ ns) ≡ terminals_of ms ++ terminals_of ns
+  terminals_append [] ns = refl
+  terminals_append (Switch s ∷ ms) ns = terminals_append ms ns
+  terminals_append (Terminal t ∷ ms) ns = ap (λ ts. t ∷ ts) (terminals_append ms ns)
+
+  -- the last node leaves
+  pub terminals_popped : (list rest : List (Node A)) (n : Node A) (back : List (terminal.Terminal A)) → list ≡ rest ++ n ∷ [] → back ≡ terminals_of (n ∷ []) → terminals_of list ≡ terminals_of rest ++ back
+  terminals_popped list rest n back is gives = ap terminals_of is ∙ terminals_append rest (n ∷ []) ∙ ap (λ ts. terminals_of rest ++ ts) (sym gives)
+
+  -- a terminal that leaves joins those that left before, the last first
+  pub terminals_on : (all : List (terminal.Terminal A)) (list rest : List (Node A)) (t : terminal.Terminal A) (room more : List (terminal.Terminal A)) → terminals_of list ≡ terminals_of rest ++ t ∷ [] → more ≡ room ++ t ∷ [] → terminals_of list ++ reverse room ≡ all → terminals_of rest ++ reverse more ≡ all
+  terminals_on all list rest t room more last joined before =
+      let turned : reverse more ≡ t ∷ reverse room = ap reverse joined ∙ reverse-append room (t ∷ []) in
+      ap (λ ts. terminals_of rest ++ ts) turned ∙ sym (append_assoc (terminals_of rest) (t ∷ []) (reverse room)) ∙ ap (λ ts. ts ++ reverse room) (sym last) ∙ before
+
+  -- no node is left
+  pub terminals_end : (list : List (Node A)) → length list ≡ 0 → terminals_of list ≡ []
+  terminals_end [] none = refl
+  terminals_end (n ∷ nodes) none = absurd (let no : ⊥ = omega arith in no)
+
+  -- how many terminals there are
+  count_terminals : (a b : ℕ) (nodes : List (Node A)) → map is_switch nodes ≡ replicate a true ++ replicate b false → length (terminals_of nodes) ≡ b
+  count_terminals zero zero [] are = refl
+  count_terminals zero (suc b) [] are = cc
+  count_terminals (suc a) b [] are = cc
+  count_terminals zero zero (n ∷ nodes) are = cc
+  count_terminals zero (suc b) (Switch s ∷ nodes) are = cc
+  count_terminals zero (suc b) (Terminal t ∷ nodes) are = ap suc (count_terminals zero b nodes (let rest : map is_switch nodes ≡ replicate b false = cc in rest))
+  count_terminals (suc a) b (Switch s ∷ nodes) are = count_terminals a b nodes (let rest : map is_switch nodes ≡ replicate a true ++ replicate b false = cc in rest)
+  count_terminals (suc a) b (Terminal t ∷ nodes) are = cc
+
+  -- what had arrived there
+  abbrev arrived_from : Option (terminal.Terminal A) → Option (List A)
+  arrived_from found = found >>= (λ t. Some t.arrived)
+
+  among_terminals : (b : ℕ) (nodes : List (Node A)) → map is_switch nodes ≡ replicate b false → (t : ℕ) → arrived_from (slice_get (terminals_of nodes) t) ≡ (slice_get nodes t >>= node_arrived)
+  among_terminals b [] are t = refl
+  among_terminals zero (n ∷ nodes) are t = cc
+  among_terminals (suc b) (Switch s ∷ nodes) are t = cc
+  among_terminals (suc b) (Terminal x ∷ nodes) are zero = refl
+  among_terminals (suc b) (Terminal x ∷ nodes) are (suc t) = among_terminals b nodes (let rest : map is_switch nodes ≡ replicate b false = cc in rest) t
+
+  among_nodes : (a b : ℕ) (nodes : List (Node A)) → map is_switch nodes ≡ replicate a true ++ replicate b false → (t : ℕ) → arrived_from (slice_get (terminals_of nodes) t) ≡ (slice_get nodes (a + t) >>= node_arrived)
+  among_nodes zero b nodes are t = among_terminals b nodes are t ∙ ap (λ k. slice_get nodes k >>= node_arrived) (let same : t ≡ 0 + t = omega arith in same)
+  among_nodes (suc a) b [] are t = absurd (let no : ◌≡◌ {A = List Bool} [] (true ∷ replicate a true ++ replicate b false) = are in cc)
+  among_nodes (suc a) b (Switch s ∷ nodes) are t = among_nodes a b nodes (let rest : map is_switch nodes ≡ replicate a true ++ replicate b false = cc in rest) t ∙ ap (λ k. slice_get (Switch s ∷ nodes) k >>= node_arrived) (let same : suc (a + t) ≡ suc a + t = omega arith in same)
+  among_nodes (suc a) b (Terminal x ∷ nodes) are t = absurd (let no : false ≡ true = cc in cc)
+
+  -- there is a terminal for each of the plan
+  pub terminals_counted : (plan : Plan) (nodes : List (Node A)) → AreInPlace plan nodes → length (terminals_of nodes) ≡ length plan.terminals
+  terminals_counted plan nodes are = count_terminals (length plan.switches) (length plan.terminals) nodes are
+
+  -- what a run says of a terminal is what its network said
+  pub arrived_same : (net : Network A) → AreInPlace net.plan net.nodes → (t : ℕ) → run_arrived (network_finish net) t ≡ network_arrived net t
+  arrived_same net are t = by_place (nat_lt t (length net.plan.terminals)) refl
+    where
+      by_place : (inside : Bool) → nat_lt t (length net.plan.terminals) ≡ inside → run_arrived (network_finish net) t ≡ (if inside then (slice_get net.nodes (length net.plan.switches + t) >>= node_arrived) else None)
+      by_place true inside = among_nodes (length net.plan.switches) (length net.plan.terminals) net.nodes are t
+      by_place false past =
+          let counted = terminals_counted net.plan net.nodes are in
+          let none : slice_get (terminals_of net.nodes) t ≡ None = slice_get_past (terminals_of net.nodes) t (grind (arith, nat_tests)) in
+          ap arrived_from none

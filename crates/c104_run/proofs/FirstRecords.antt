@@ -1,0 +1,118 @@
+-- A network with its record, where nothing was done yet.
+use Rattle.std.proofs.Common.{◌≡◌, ◌∙◌, ◌++◌, ℕ, true, All, Result, Ok, Err, OnOk, List, [], ◌∷◌, map, refl, slice_get, sym, ap, subst, arith}
+use Rattle.std.proofs.lemmas.List.{map-append}
+use Rattle.std.proofs.lemmas.List.Elements.{All-map}
+use Rattle.std.proofs.lemmas.Option.{slice_get-map}
+use Rattle.std.specs.Option.{option_map}
+use Rattle.c104_token.specs.declared.tokens.Token.{Token}
+use Rattle.c104_regs.specs.declared.settings.Settings.{Settings}
+use Rattle.c104_switch.specs.Switch.{new_switch, new_switch_with}
+use Rattle.c104_plan.specs.declared.plans.Terminal.{Terminal}
+use Rattle.c104_node.specs.declared.node.NodeOf.TheVariants as node
+use Rattle.c104_node.specs.Terminals.{new_terminal}
+use Rattle.c104_plan.specs.Plans.{Plan}
+use Rattle.c104_plan.specs.PlanImage.{Image}
+use Rattle.c104_node.specs.declared.acts.Entry.{Entry}
+use Rattle.c104_node.specs.Nodes.{Node}
+use Rattle.c104_run.specs.Network.{network_of, new_network, placed_network}
+use Rattle.c104_run.specs.RecordedNets.{IsRecordedNet}
+use Rattle.c104_run.specs.RecordedPlaces.{node_reading}
+use Rattle.c104_node.specs.Records.{NodeRecord, node_start, node_state, node_trace}
+use Rattle.c104_run.specs.Balance.{IsSteady}
+use Rattle.c104_node.specs.Starts.{start_node, start_of}
+use Rattle.c104_run.specs.NetRecords.{first_record, fresh_record, net_record, shown_record, IsNetRecord, IsWithinLimit}
+use Rattle.c104_run.proofs.BalancePlaced.{steady_copy}
+use Rattle.c104_run.proofs.RecordSteps.{same_record}
+use Rattle.c104_run.proofs.StartsBack.{starts_back}
+
+abbrev Shown : Type 0
+Shown = Node Token × Node Token × List Entry
+
+abbrev no_entries : Node Token → List Entry
+no_entries n = []
+
+pub map_twice : {X Y Z : Type 0} (g : Y → Z) (f : X → Y) (xs : List X) → map g (map f xs) ≡ map (λ x. g (f x)) xs
+map_twice g f [] = refl
+map_twice g f (x ∷ xs) = ap (λ zs. g (f x) ∷ zs) (map_twice g f xs)
+
+abbrev made_switch : ℕ → List Settings → Node Token
+made_switch cap settings = node.Switch (new_switch_with cap settings true)
+
+abbrev made_terminal : ℕ → Terminal → Node Token
+made_terminal cap t = node.Terminal (new_terminal cap)
+
+-- a new switch, for each of a plan
+abbrev made_new : ℕ → List ℕ → Node Token
+made_new cap name = node.Switch (new_switch cap)
+
+-- switches and then terminals, as they are made
+all_made : {E X : Type 0} (r : Result (Unit {0}) E) (made : X → Node Token) (xs : List X) (cap : ℕ) (terminals : List Terminal) (mid new : List Shown) → mid ≡ map (λ x. first_record (made x)) xs →
+    OnOk r (new ≡ mid ++ map (λ t. first_record (made_terminal cap t)) terminals) → OnOk r (new ≡ map first_record (map made xs ++ map (made_terminal cap) terminals))
+all_made (Ok u) made xs cap terminals mid new first grown =
+    grown ∙ ap (λ ys. ys ++ map (λ t. first_record (made_terminal cap t)) terminals) (first ∙ sym (map_twice first_record made xs))
+    ∙ ap (λ ys. map first_record (map made xs) ++ ys) (sym (map_twice first_record (made_terminal cap) terminals))
+    ∙ sym (map-append first_record (map made xs) (map (made_terminal cap) terminals))
+all_made (Err e) made xs cap terminals mid new first grown = tt
+
+-- as they are placed
+pub placed_all : {E : Type 0} (r : Result (Unit {0}) E) (plan : Plan) (image : Image) (mid new : List Shown) → mid ≡ map (λ settings. first_record (made_switch plan.cap settings)) image.settings →
+    OnOk r (new ≡ mid ++ map (λ t. first_record (made_terminal plan.cap t)) plan.terminals) → OnOk r (new ≡ map first_record (placed_network plan image).nodes)
+placed_all r plan image mid new first grown = all_made r (made_switch plan.cap) image.settings plan.cap plan.terminals mid new first grown
+
+-- and as they are new
+pub new_all : {E : Type 0} (r : Result (Unit {0}) E) (plan : Plan) (mid new : List Shown) → mid ≡ map (λ name. first_record (made_new plan.cap name)) plan.switches →
+    OnOk r (new ≡ mid ++ map (λ t. first_record (made_terminal plan.cap t)) plan.terminals) → OnOk r (new ≡ map first_record (new_network plan).nodes)
+new_all r plan mid new first grown = all_made r (made_new plan.cap) plan.switches plan.cap plan.terminals mid new first grown
+
+-- what a switch with its start shows
+pub shown_switch : (v : NodeRecord × ℕ) (r : NodeRecord) (n : Node Token) → v.0 ≡ r → r.state ≡ n → start_node r.start ≡ n → r.trace ≡ [] → shown_record v ≡ first_record n
+shown_switch v r n is state begun trace =
+    ap (λ (r : NodeRecord). (r.state, start_node r.start, r.trace)) is ∙ ap (λ (m : Node Token). (m, start_node r.start, r.trace)) state ∙ ap (λ (m : Node Token). (n, m, r.trace)) begun ∙ ap (λ (t : List Entry). (n, n, t)) trace
+
+-- what nodes show at their start
+shown_first : (list : List (NodeRecord × ℕ)) (nodes : List (Node Token)) → map shown_record list ≡ map first_record nodes → (map node_state list ≡ nodes) × (map start_node (map node_start list) ≡ nodes) × (map node_trace list ≡ map no_entries nodes)
+shown_first [] [] is = (refl, refl, refl)
+shown_first [] (m ∷ nodes) is = cc
+shown_first (n ∷ list) [] is = cc
+shown_first (n ∷ list) (m ∷ nodes) is =
+    let first : shown_record n ≡ first_record m = cc in
+    let rest : map shown_record list ≡ map first_record nodes = cc in
+    let others = shown_first list nodes rest in (
+      ap (λ x. x ∷ map node_state list) (ap (λ (v : Shown). v.0) first) ∙ ap (λ xs. m ∷ xs) others.0,
+      ap (λ x. x ∷ map start_node (map node_start list)) (ap (λ (v : Shown). v.1) first) ∙ ap (λ xs. m ∷ xs) others.1,
+      ap (λ x. x ∷ map node_trace list) (ap (λ (v : Shown). v.2) first) ∙ ap (λ xs. [] ∷ xs) others.2,
+    )
+
+module _ (plan wires : Plan) (nodes : List (Node Token)) (list : List (NodeRecord × ℕ)) (same : wires ≡ plan) (shown : map shown_record list ≡ map first_record nodes) where
+  -- it keeps what such a network keeps
+  pub record_first : IsSteady (network_of plan nodes) → IsNetRecord (net_record wires list 0)
+  record_first steady =
+      let are = shown_first list nodes shown in
+      let there : IsSteady (network_of wires nodes) = steady_copy plan wires nodes same steady in
+      record {
+        steady = subst (λ ns. IsSteady (network_of wires ns)) (sym are.0) there;
+        started = subst (λ ns. IsSteady (network_of wires ns)) (sym are.1) there;
+        told = (
+          [],
+          record {
+            run = ap (network_of wires) (are.0 ∙ sym are.1);
+            told = λ k. ap (λ ts. slice_get ts k) are.2 ∙ slice_get-map no_entries nodes k ∙ ap (λ ns. option_map no_entries (slice_get ns k)) (sym are.1);
+            counted = refl;
+            ordered = tt;
+          },
+        );
+        within = subst (All IsWithinLimit) (sym are.2) (All-map IsWithinLimit no_entries nodes (λ i d inside. omega arith));
+        counted = omega arith;
+      }
+
+  -- and so does the type of it
+  pub net_first : IsSteady (network_of plan nodes) → IsRecordedNet node_reading wires list 0
+  net_first steady = let kept = record_first steady in record { kept = kept; events = kept.told.0; told = kept.told.1 }
+
+  -- and it is the one that was made, where a run starts
+  pub first_is : net_record wires list 0 ≡ fresh_record (network_of plan nodes)
+  first_is =
+      let are = shown_first list nodes shown in
+      same_record (net_record wires list 0) (fresh_record (network_of plan nodes))
+      (ap (λ p. network_of p (map node_state list)) same ∙ ap (network_of plan) are.0)
+      (starts_back (map node_start list) ∙ ap (map start_of) are.1) are.2 refl

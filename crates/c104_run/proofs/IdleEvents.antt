@@ -1,0 +1,77 @@
+-- Events of a round whose near end isn't ready: they do nothing.
+use Rattle.std.proofs.Common.{◌≡◌, ◌<◌, ◌-◌, ◌∙◌, ℕ, nat_lt, Bool, true, false, [], ◌∷◌, Option, Some, None, Ok, is_some, length, refl, sym, ap, arith}
+use Rattle.std.proofs.lemmas.Bool.Decides.{nat_tests}
+use Rattle.c104_token.specs.Kinds.{Kind}
+use Rattle.c104_link.specs.Steps.{step_at}
+use Rattle.c104_switch.specs.declared.actions.ActionOf.TheVariants as action
+use Rattle.c104_switch.specs.declared.actions.ReplyOf.TheVariants as reply
+use Rattle.c104_node.specs.declared.acts.ActOf.TheVariants as act
+use Rattle.c104_plan.specs.declared.ports.Port.{Port}
+use Rattle.c104_plan.specs.declared.ports.Port.TheVariants as port
+use Rattle.c104_plan.specs.Plans.{Plan}
+use Rattle.c104_plan.specs.Wiring.{peer, IsPlanPort}
+use Rattle.c104_event.specs.declared.events.Event.{Event}
+use Rattle.c104_event.specs.declared.events.Event.TheVariants as event
+use Rattle.c104_event.specs.declared.faults.EventFault.{EventFault}
+use Rattle.c104_node.specs.Acts.{nodes_act}
+use Rattle.c104_run.specs.EventActs.{port_place}
+use Rattle.c104_node.specs.PortActs.{near_act}
+use Rattle.c104_node.specs.Nodes.{node_claim}
+use Rattle.c104_run.proofs.ActSteps.{joint_unready}
+use Rattle.c104_run.proofs.EventSteps.{claim_named, done_step}
+use Rattle.c104_node.specs.declared.crossings.Crossing.TheVariants.{Grant, Token}
+use Rattle.c104_run.specs.Network.{network_apply, network_step, event_fault, outcome_if_possible, outcome_if_ready, link_fault, wire_fault, wired_fault}
+use Rattle.c104_run.specs.RoundParts.{PartEnds}
+use Rattle.c104_run.specs.Stages.{stage_apply, Stage}
+use Rattle.c104_run.proofs.StageSteps.{unready_part}
+use Rattle.c104_run.proofs.NoFaults.{link_there, node_there, past_node}
+
+pub none_of : {X : Type 0} (o : Option X) → is_some o ≡ false → o ≡ None
+none_of None is = refl
+none_of (Some x) is = absurd (cc is)
+
+-- a port of the plan that has a wire
+module _ (plan : Plan) where
+  pub port_inside : (p : Port) → wired_fault plan p ≡ None → IsPlanPort plan p
+  port_inside (port.Switch s l) wired =
+      let other : Option EventFault = wire_fault (peer plan (port.Switch s l)) in
+      (node_there (link_fault l other) (length plan.switches) s wired, link_there other l (past_node (link_fault l other) (length plan.switches) s wired))
+  port_inside (port.Terminal t) wired = node_there (wire_fault (peer plan (port.Terminal t))) (length plan.terminals) t wired
+
+  pub wired_inside : (p q : Port) → IsPlanPort plan p → peer plan p ≡ Some q → wired_fault plan p ≡ None
+  wired_inside (port.Switch s l) q inside is =
+      let is_switch : nat_lt s (length plan.switches) ≡ true = let below : s < length plan.switches = inside.0 in grind (arith, nat_tests) in
+      let is_link : nat_lt l 32 ≡ true = let below : l < 32 = inside.1 in grind (arith, nat_tests) in
+      rw (is_switch, is_link, is) refl
+  wired_inside (port.Terminal t) q inside is =
+      let is_terminal : nat_lt t (length plan.terminals) ≡ true = grind (arith, nat_tests) in
+      rw (is_terminal, is) refl
+
+module _ {A : Type 0} (kind : Kind A) (keeps : Bool) (s : Stage A) where
+  -- an event that could happen and isn't ready
+  idle_event : (e : Event) → event_fault s.network.plan e ≡ None → network_step kind s.network e ≡ None → PartEnds (stage_apply kind keeps) s (e ∷ []) (Ok false) s
+  idle_event e possible unready =
+      let unchanged : network_apply kind s.network e ≡ (Ok reply.NotReady, s.network) = ap (outcome_if_possible kind s.network e) possible ∙ ap (outcome_if_ready kind s.network e) unready in
+      unready_part kind keeps s e unchanged
+
+  -- nothing crosses from a port whose node isn't ready
+  pub idle_credit : (p : Port) → wired_fault s.network.plan p ≡ None → is_some (nodes_act kind s.network.nodes (port_place s.network.plan p) 0 (near_act Grant p)) ≡ false → PartEnds (stage_apply kind keeps) s (event.Credit p ∷ []) (Ok false) s
+  idle_credit p wired unready = idle_event (event.Credit p) wired (joint_unready kind s.network Grant p (none_of _ unready) (peer s.network.plan p))
+
+  pub idle_cross : (p : Port) → wired_fault s.network.plan p ≡ None → is_some (nodes_act kind s.network.nodes (port_place s.network.plan p) 0 (near_act Token p)) ≡ false → PartEnds (stage_apply kind keeps) s (event.Cross p ∷ []) (Ok false) s
+  idle_cross p wired unready = idle_event (event.Cross p) wired (joint_unready kind s.network Token p (none_of _ unready) (peer s.network.plan p))
+
+  pub idle_turn : (k l : ℕ) → wired_fault s.network.plan (port.Switch k l) ≡ None → is_some (nodes_act kind s.network.nodes k 0 (act.Step (action.Input l 0))) ≡ false → PartEnds (stage_apply kind keeps) s (event.Input k l 0 ∷ []) (Ok false) s
+  idle_turn k l wired unready =
+      let inside = port_inside s.network.plan (port.Switch k l) wired in
+      let is_switch : nat_lt k (length s.network.plan.switches) ≡ true = let below : k < length s.network.plan.switches = inside.0 in grind (arith, nat_tests) in
+      let is_link : nat_lt l 32 ≡ true = let below : l < 32 = inside.1 in grind (arith, nat_tests) in
+      let first : k - length s.network.plan.switches ≡ 0 = let below : k < length s.network.plan.switches = inside.0 in omega arith in
+      idle_event (event.Input k l 0) (rw (is_switch, is_link) refl) (rw first (rw (none_of (nodes_act kind s.network.nodes k 0 (act.Step (action.Input l 0))) unready) refl))
+
+  pub idle_claim : (k i o : ℕ) → k < length s.network.plan.switches → i < 32 → o < 32 → step_at s.network.nodes k (node_claim i o) ≡ None → PartEnds (stage_apply kind keeps) s (event.Claim k i o ∷ []) (Ok false) s
+  idle_claim k i o switch input output none =
+      let is_switch : nat_lt k (length s.network.plan.switches) ≡ true = grind (arith, nat_tests) in
+      let is_input : nat_lt i 32 ≡ true = grind (arith, nat_tests) in
+      let is_output : nat_lt o 32 ≡ true = grind (arith, nat_tests) in
+      idle_event (event.Claim k i o) (rw (is_switch, is_input, is_output) refl) (sym (claim_named kind s.network k i o) ∙ ap (done_step kind s.network) none)

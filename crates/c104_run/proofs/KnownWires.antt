@@ -1,0 +1,58 @@
+-- What is known of the wires of places: no act changes it, and an act that crosses a wire goes over it.
+use Rattle.c104_plan.specs.Plans.{Plan}
+use Rattle.c104_event.specs.declared.events.Event.{Event}
+use Rattle.c104_event.specs.declared.faults.EventFault.{EventFault}
+use Rattle.c104_node.specs.ActLinks.{port_link}
+use Rattle.c104_run.specs.EventRuns.{EventsEnd}
+use Rattle.c104_run.specs.EventActs.{port_place}
+use Rattle.c104_node.specs.Places.{PlaceBase, Shown, base_wired, bases}
+use Rattle.c104_run.specs.RoundParts.{PartEnds}
+use Rattle.c104_run.specs.Stages.{stage_apply, stage_of, Stage}
+use Rattle.c104_node.specs.Traces.{part}
+use Rattle.c104_node.specs.WiredPlaces.{links_at, links_of}
+use Rattle.c104_run.specs.KnownWires.{KnowWires}
+use Rattle.c104_node.proofs.PlaceSteps.{shown_at}
+use Rattle.c104_run.proofs.RoundRuns.{ends_keep}
+use Rattle.c104_token.specs.Kinds.{Kind}
+use Rattle.std.proofs.Common.{Bool, Err, List, None, Ok, Option, Result, Some, ap, map, option_map, refl, slice_get, subst, sym, true, inl, ℕ, ◌∙◌, ◌≡◌}
+use Rattle.std.proofs.lemmas.Option.{slice_get-map}
+
+-- what is known of wires hangs on nothing else
+module _ (bs cs : List PlaceBase) (same : map base_wired bs ≡ map base_wired cs) where
+  by_wired : (l : ℕ) (o : Option PlaceBase) → part true (λ (b : PlaceBase). links_of b l) o ≡ part true (λ (w : Option (ℕ → Bool)). part true (λ (wired : ℕ → Bool). wired l) w) (option_map base_wired o)
+  by_wired l None = refl
+  by_wired l (Some b) = refl
+
+  links_same : (k l : ℕ) → links_at bs k l ≡ links_at cs k l
+  links_same k l =
+      by_wired l (slice_get bs k)
+      ∙ ap (part true (λ (w : Option (ℕ → Bool)). part true (λ (wired : ℕ → Bool). wired l) w)) (sym (slice_get-map base_wired bs k) ∙ ap (λ ws. slice_get ws k) same ∙ slice_get-map base_wired cs k)
+      ∙ sym (by_wired l (slice_get cs k))
+
+  pub known_by : (plan : Plan) → KnowWires plan cs → KnowWires plan bs
+  known_by plan known = λ p q wired. (links_same _ _ ∙ (known p q wired).0, links_same _ _ ∙ (known p q wired).1)
+
+module _ {A : Type 0} where
+  -- nothing is asked where nothing is known
+  pub unknown : {P : Type 0} (shown : P → Shown A) → ((p : P) → (shown p).base.wired ≡ None) → (plan : Plan) (xs : List P) → KnowWires plan (bases (map shown xs))
+  unknown {P} shown none plan xs = λ p q wired. (by_place (port_place plan p) (port_link p) (slice_get xs (port_place plan p)) refl, by_place (port_place plan q) (port_link q) (slice_get xs (port_place plan q)) refl)
+    where
+      by_place : (k l : ℕ) (o : Option P) → slice_get xs k ≡ o → links_at (bases (map shown xs)) k l ≡ true
+      by_place k l None is = rw (shown_at (λ (s : Shown A). s.base) shown xs k None is) refl
+      by_place k l (Some x) is = rw (shown_at (λ (s : Shown A). s.base) shown xs k (Some x) is, none x) refl
+
+  -- what is known of places that were lent is known of those that are put back
+  pub known_put : {P : Type 0} (shown : P → Shown A) (plan : Plan) (items lent new put : List P) → lent ≡ items → put ≡ new → (KnowWires plan (bases (map shown lent)) → KnowWires plan (bases (map shown new))) →
+      KnowWires plan (bases (map shown items)) → KnowWires plan (bases (map shown put))
+  known_put shown plan items lent new put lent_is put_is goes known =
+      subst (λ ps. KnowWires plan (bases (map shown ps))) (sym put_is) (goes (subst (λ ps. KnowWires plan (bases (map shown ps))) (sym lent_is) known))
+
+  -- what was known is known after events in turn, and after a part of a round
+  pub known_after : (kind : Kind A) (keeps : Bool) (plan : Plan) (olds news : List (Shown A)) (count counted : ℕ) (es : List Event) (r : Result (Unit {0}) EventFault) → EventsEnd (stage_apply kind keeps) (stage_of plan olds count) es r (stage_of plan news counted) →
+      KnowWires plan (bases olds) → KnowWires plan (bases news)
+  known_after kind keeps plan olds news count counted es r ends known = subst (KnowWires plan) (sym (ends_keep (stage_apply kind keeps) (λ (t : Stage A). t.bases ≡ bases olds) (λ t e same. same) (stage_of plan olds count) (stage_of plan news counted) es r refl ends)) known
+
+  pub still_known : (kind : Kind A) (keeps : Bool) (plan : Plan) (olds news : List (Shown A)) (count counted : ℕ) (es : List Event) (r : Result Bool EventFault) → PartEnds (stage_apply kind keeps) (stage_of plan olds count) es r (stage_of plan news counted) →
+      KnowWires plan (bases olds) → KnowWires plan (bases news)
+  still_known kind keeps plan olds news count counted es (Ok changed) ends known = known_after kind keeps plan olds news count counted es (Ok tt) (inl (sym ends.ends.0)) known
+  still_known kind keeps plan olds news count counted es (Err f) ends known = known_after kind keeps plan olds news count counted es (Err f) ends.ends known

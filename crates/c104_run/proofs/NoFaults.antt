@@ -1,0 +1,28 @@
+-- What it says that there is no fault: a node is there, and a link.
+use Rattle.std.proofs.Common.{◌≡◌, ◌<◌, ℕ, Bool, true, false, Option, Some, None, arith, if◌then◌else◌, nat_lt, refl}
+use Rattle.std.proofs.lemmas.Bool.Decides.{nat_tests}
+use Rattle.c104_event.specs.declared.faults.EventFault.{EventFault}
+use Rattle.c104_event.specs.declared.faults.EventFault.TheVariants as fault
+use Rattle.c104_run.specs.Network.{link_fault, node_fault}
+
+module _ (other : Option EventFault) where
+  -- where a number isn't below another, there is a fault
+  below : (count n : ℕ) (f : EventFault) (inside : Bool) → nat_lt n count ≡ inside → (if inside then other else Some f) ≡ None → n < count
+  below count n f true inside is = grind (arith, nat_tests)
+  below count n f false inside is = absurd (cc is)
+
+  past : (f : EventFault) (inside : Bool) → (if inside then other else Some f) ≡ None → other ≡ None
+  past f true is = is
+  past f false is = absurd (cc is)
+
+  pub node_there : (count n : ℕ) → node_fault count n other ≡ None → n < count
+  node_there count n is = below count n fault.NoNode (nat_lt n count) refl is
+
+  pub past_node : (count n : ℕ) → node_fault count n other ≡ None → other ≡ None
+  past_node count n is = past fault.NoNode (nat_lt n count) is
+
+  pub link_there : (l : ℕ) → link_fault l other ≡ None → l < 32
+  link_there l is = below 32 l fault.NoLink (nat_lt l 32) refl is
+
+  pub past_link : (l : ℕ) → link_fault l other ≡ None → other ≡ None
+  past_link l is = past fault.NoLink (nat_lt l 32) is

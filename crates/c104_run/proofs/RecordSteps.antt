@@ -1,0 +1,167 @@
+-- An event, done or not, keeps what the type of a network with its record keeps.
+use Rattle.std.proofs.Common.{◌≡◌, ◌∙◌, ◌+◌, ◌-◌, ◌++◌, ◌≤◌, ℕ, All, Bool, true, false, List, [], ◌∷◌, Option, Some, None, Result, Ok, Err, length, length-append, map, replicate, slice_get, inl, inr, refl, sym, ap, subst, arith}
+use Rattle.std.proofs.lemmas.List.{length-map, length-replicate}
+use Rattle.c104_token.specs.declared.tokens.Token.{Token}
+use Rattle.c104_token.specs.Kinds.{Kind, plain_kind}
+use Rattle.c104_link.proofs.MadeSteps.{given, from_place_made}
+use Rattle.c104_switch.specs.Actions.{Reply, is_ready}
+use Rattle.c104_switch.specs.declared.actions.ReplyOf.TheVariants as reply
+use Rattle.c104_plan.specs.declared.ports.Port.{Port}
+use Rattle.c104_plan.specs.Plans.{Plan, IsPlan}
+use Rattle.c104_plan.specs.Wiring.{peer}
+use Rattle.c104_event.specs.declared.events.Event.{Event}
+use Rattle.c104_event.specs.declared.faults.EventFault.{EventFault}
+use Rattle.c104_node.specs.declared.stamps.Stamp.{Stamp}
+use Rattle.c104_node.specs.declared.acts.Entry.{Entry}
+use Rattle.c104_run.specs.Balance.{credit_of, granted_of, AreInPlace, IsSteady}
+use Rattle.c104_node.specs.Nodes.{is_switch, Node}
+use Rattle.c104_run.specs.Ends.{end_of}
+use Rattle.c104_run.proofs.ActSteps.{joint_wired}
+use Rattle.c104_node.specs.Acts.{node_act}
+use Rattle.c104_run.specs.EventActs.{acts_step, event_acts, port_place}
+use Rattle.c104_node.specs.PortActs.{Acts}
+use Rattle.c104_run.specs.Network.{Network, network_apply, network_of, network_step, told_step, event_fault, event_limit, outcome_within_limit, outcome_if_ready, outcome_if_possible, AnswersWith}
+use Rattle.c104_run.specs.Runs.{IsRunRecord, at_node, run_deeds}
+use Rattle.c104_node.specs.Starts.{start_node}
+use Rattle.c104_node.specs.Traces.{Deed, full_at, noted_all, seatless, is_trace_full}
+use Rattle.c104_run.specs.EventDeeds.{acts_deeds, acts_full, event_deeds, event_full}
+use Rattle.c104_run.specs.NetRecords.{is_done, ticket_after, total_entries, IsNetRecord, IsWithinLimit, NetRecord, RecordsEvent}
+use Rattle.c104_run.proofs.BalanceEvents.{applied_with}
+use Rattle.c104_run.proofs.BalanceWires.{nodes_apart}
+use Rattle.c104_run.proofs.EntryCounts.{all_more, all_within, lengths_same, room_there, total_below, HasRoom, HaveRoom}
+use Rattle.c104_run.proofs.RunRecords.{record_on, seatless_order}
+use Rattle.c104_run.proofs.UndoneEvents.{undone_deeds, undone_stays}
+use Rattle.c104_run.proofs.PartRuns.{neither}
+
+-- how many nodes there are
+pub nodes_counted : {A : Type 0} (plan : Plan) (nodes : List (Node A)) → AreInPlace plan nodes → length nodes ≡ length plan.switches + length plan.terminals
+nodes_counted plan nodes are =
+    sym (length-map nodes is_switch) ∙ ap (length {A = Bool}) are ∙ length-append (replicate (length plan.switches) true) (replicate (length plan.terminals) false)
+    ∙ (let a = length-replicate (length plan.switches) true in let b = length-replicate (length plan.terminals) false in omega (arith, a, b))
+
+module _ {A : Type 0} (kind : Kind A) (net after : Network A) (r : Reply) where
+  abbrev Answered : Type 0
+  Answered = Result Reply EventFault × Network A
+
+  limit_made : (limit : Option EventFault) (s : Reply × Network A) → ◌≡◌ {A = Answered} (Ok r, after) (outcome_within_limit kind net limit s) → ◌≡◌ {A = Reply × Network A} s (r, after)
+  limit_made None s was =
+      let told : Ok r ≡ Ok s.0 = ap (λ (t : Answered). t.0) was in
+      let same : r ≡ s.0 = cc in
+      sym (ap (λ x. (x, after)) same ∙ ap (λ n. (s.0, n)) (ap (λ (t : Answered). t.1) was))
+  limit_made (Some f) s was = let told : ◌≡◌ {A = Result Reply EventFault} (Ok r) (Err f) = ap (λ (t : Answered). t.0) was in cc
+
+  ready_made : (e : Event) (made : Option (Reply × Network A)) → ◌≡◌ {A = Answered} (Ok r, after) (outcome_if_ready kind net e made) → is_ready r ≡ true → made ≡ Some (r, after)
+  ready_made e None was ready = let told : ◌≡◌ {A = Result Reply EventFault} (Ok r) (Ok reply.NotReady) = ap (λ (t : Answered). t.0) was in let same : r ≡ reply.NotReady = cc in let no : is_ready {A = Token} reply.NotReady ≡ true = ap is_ready (sym same) ∙ ready in cc
+  ready_made e (Some s) was ready = ap Some (limit_made (event_limit net e) s was)
+
+  there_made : (e : Event) (fault : Option EventFault) → ◌≡◌ {A = Answered} (Ok r, after) (outcome_if_possible kind net e fault) → is_ready r ≡ true → network_step kind net e ≡ Some (r, after)
+  there_made e None was ready = ready_made e (network_step kind net e) was ready
+  there_made e (Some f) was ready = let told : ◌≡◌ {A = Result Reply EventFault} (Ok r) (Err f) = ap (λ (t : Answered). t.0) was in cc
+
+  -- an event that was done was made as a step
+  pub done_made : (e : Event) → ◌≡◌ {A = Answered} (Ok r, after) (network_apply kind net e) → is_ready r ≡ true → network_step kind net e ≡ Some (r, after)
+  done_made e was ready = there_made e (event_fault net.plan e) was ready
+
+-- where no trace is full that an event adds to, there is room for its entries
+module _ (plan : Plan) (is_plan : IsPlan plan) (nodes : List (Node Token)) (steady : IsSteady (network_of plan nodes)) (traces : List (List Entry)) (same : length traces ≡ length nodes) (stamp : Stamp) (r : Reply) (after : Network Token) (ready : is_ready r ≡ true) where
+  abbrev net : Network Token
+  net = network_of plan nodes
+
+  abbrev deeds : Event → List Deed
+  deeds e = event_deeds plan stamp e r
+
+  near_room : (p q : Port) → peer plan p ≡ Some q → full_at (map is_trace_full traces) (end_of plan p).node ≡ false → HasRoom traces (end_of plan p).node
+  near_room p q wired free =
+      let level = steady.balanced p q wired in
+      given (slice_get nodes (end_of plan p).node) (credit_of (end_of plan p).link) level.0 level.1 (λ n there at. room_there nodes traces (end_of plan p).node n same there free)
+
+  far_room : (p q : Port) → peer plan p ≡ Some q → full_at (map is_trace_full traces) (end_of plan q).node ≡ false → HasRoom traces (end_of plan q).node
+  far_room p q wired free =
+      let level = steady.balanced p q wired in
+      given (slice_get nodes (end_of plan q).node) (granted_of (end_of plan q).link) level.0 level.2 (λ n there at. room_there nodes traces (end_of plan q).node n same there free)
+
+  lone_room : (k : ℕ) (n : Node Token) → slice_get nodes k ≡ Some n → full_at (map is_trace_full traces) k ≡ false → HasRoom traces k
+  lone_room k n there free = room_there nodes traces k n same there free
+
+  pub deeds_room : (e : Event) → network_step plain_kind net e ≡ Some (r, after) → event_full plan (map is_trace_full traces) e ≡ false → HaveRoom traces (deeds e)
+  deeds_room e made free = given (event_acts plan e) _ (r, after) made (λ acts known more. rw known (by_acts acts known more (rw known at free)))
+    where
+      by_acts : (acts : Acts Token) → event_acts plan e ≡ Some acts → told_step plain_kind net (acts_step plain_kind plan nodes acts) ≡ Some (r, after) → acts_full plan (map is_trace_full traces) acts ≡ false → HaveRoom traces (acts_deeds plan stamp acts r)
+      by_acts (Acts.Alone k a) known more free = given (acts_step plain_kind plan nodes (Acts.Alone k a)) _ (r, after) more (λ v stepped last. from_place_made nodes k (node_act plain_kind (k - length plan.switches) a) v stepped (λ n m here step set. rw ready (lone_room k n here free)))
+      by_acts (Acts.Joint p q crossing) known more free =
+          let wired = joint_wired plan e p q crossing known in
+          let both = neither (full_at (map is_trace_full traces) (port_place plan p)) (full_at (map is_trace_full traces) (port_place plan q)) free in
+          rw ready (near_room p q wired both.0, far_room p q wired both.1, nodes_apart plan is_plan p q wired)
+
+-- records that show the same are one
+pub same_record : (new old : NetRecord) → new.network ≡ old.network → new.starts ≡ old.starts → new.traces ≡ old.traces → new.count ≡ old.count → new ≡ old
+same_record new old network starts traces count =
+    let a : new ≡ record new { network = old.network } = ap (λ n. record new { network = n }) network in
+    let b : record new { network = old.network } ≡ record new { network = old.network; starts = old.starts } = ap (λ s. record new { network = old.network; starts = s }) starts in
+    let c : record new { network = old.network; starts = old.starts } ≡ record old { count = new.count } = ap (λ t. record { network = old.network; starts = old.starts; traces = t; count = new.count }) traces in
+    a ∙ b ∙ c ∙ ap (λ n. record old { count = n }) count
+
+module _ (old new : NetRecord) (is_plan : IsPlan old.network.plan) (same_plan : new.network.plan ≡ old.network.plan) (before : IsNetRecord old) (e : Event) where
+  abbrev plan : Plan
+  plan = old.network.plan
+
+  abbrev full : Bool
+  full = event_full plan (map is_trace_full old.traces) e
+
+  -- there is a trace for each node
+  traces_counted : length old.traces ≡ length old.network.nodes
+  traces_counted =
+      let start : List (Node Token) = map start_node old.starts in
+      let run = before.told in
+      lengths_same old.traces start (λ k n. at_node k (run_deeds plan seatless 0 run.0)) run.1.told ∙ nodes_counted plan start before.started.in_place ∙ sym (nodes_counted plan old.network.nodes before.steady.in_place)
+
+  -- so there is always a ticket left
+  pub ticket_left : old.count + 1 ≡ ticket_after old.count true
+  ticket_left =
+      let total = total_below old.traces before.within in
+      let count = nodes_counted plan old.network.nodes before.steady.in_place in
+      omega (arith, total, traces_counted, count, before.counted, is_plan.few_switches, is_plan.terminals.few)
+
+  done_kept : (r : Reply) → is_ready r ≡ true → AnswersWith plain_kind full old.network e (Ok r) new.network → full ≡ false →
+      new.traces ≡ noted_all true old.traces (event_deeds plan (seatless old.count) e r) → new.starts ≡ old.starts → new.count ≡ ticket_after old.count true → IsNetRecord new
+  done_kept r ready answers free noted starts count =
+      let nodes : List (Node Token) = old.network.nodes in
+      let after : Network Token = network_of plan new.network.nodes in
+      let is_after : new.network ≡ after = ap (λ p. network_of p new.network.nodes) same_plan in
+      let due : ◌≡◌ {A = Result Reply EventFault × Network Token} (Ok r, new.network) (network_apply plain_kind old.network e) = elim answers [ inl is ↦ is | inr refused ↦ absurd (cc refused.0) ] in
+      let deeds : List Deed = event_deeds plan (seatless old.count) e r in
+      let room : HaveRoom old.traces deeds = deeds_room plan is_plan nodes before.steady old.traces traces_counted (seatless old.count) r new.network ready e (done_made plain_kind old.network new.network r e due ready) free in
+      let one_more : new.count ≡ old.count + 1 = count ∙ sym ticket_left in
+      let more = all_more old.traces deeds room in
+      let run = before.told in
+      let on = record_on plain_kind plan seatless (map start_node old.starts) nodes new.network.nodes old.traces new.traces old.count run.0 full e r before.steady.in_place run.1
+      (subst (λ net. AnswersWith plain_kind full old.network e (Ok r) net) is_after answers) ready
+      noted (seatless_order plan 0 (run.0 ++ (e, r) ∷ [])) in
+      record {
+        steady = applied_with plain_kind plan is_plan nodes before.steady full e (Ok r) new.network answers;
+        started = subst (λ p. IsSteady {A = Token} (network_of p (map start_node new.starts))) (sym same_plan) (subst (λ ss. IsSteady {A = Token} (network_of plan (map start_node ss))) (sym starts) before.started);
+        told = (
+          run.0 ++ (e, r) ∷ [],
+          subst (λ p. IsRunRecord plain_kind p seatless (map start_node new.starts) new.network.nodes new.traces new.count (run.0 ++ (e, r) ∷ [])) (sym same_plan)
+              (subst (λ ss. IsRunRecord plain_kind plan seatless (map start_node ss) new.network.nodes new.traces new.count (run.0 ++ (e, r) ∷ [])) (sym starts)
+              (subst (λ n. IsRunRecord plain_kind plan seatless (map start_node old.starts) new.network.nodes new.traces n (run.0 ++ (e, r) ∷ [])) (sym one_more) on)),
+        );
+        within = subst (λ ts. All IsWithinLimit ts) (sym noted) (all_within old.traces deeds room before.within);
+        counted = subst (λ ts. new.count ≤ total_entries ts) (sym noted) (omega (arith, one_more, more, before.counted));
+      }
+
+  undone_kept : (answer : Result Reply EventFault) → is_done answer ≡ false → RecordsEvent old e answer new → IsNetRecord new
+  undone_kept answer undone is =
+      let network : new.network ≡ old.network = undone_stays old.network new.network full e answer undone is.answers in
+      let traces : new.traces ≡ old.traces = is.traces ∙ ap (noted_all true old.traces) (undone_deeds plan (seatless old.count) e answer undone) in
+      let count : new.count ≡ old.count = is.count ∙ ap (ticket_after old.count) undone in
+      subst IsNetRecord (sym (same_record new old network is.starts traces count)) before
+
+  -- an event that was answered so, done or not, keeps what the type keeps
+  pub event_kept : (answer : Result Reply EventFault) → RecordsEvent old e answer new → IsNetRecord new
+  event_kept (Ok r) is = by_reply (is_ready r) refl
+    where
+      by_reply : (done : Bool) → is_ready r ≡ done → IsNetRecord new
+      by_reply true ready = done_kept r ready is.answers (is.free ready) is.traces is.starts (is.count ∙ ap (ticket_after old.count) ready)
+      by_reply false undone = undone_kept (Ok r) undone is
+  event_kept (Err f) is = undone_kept (Err f) refl is

@@ -1,0 +1,158 @@
+-- Events over any kind of token, as they are seen over plain tokens; and what they keep of a run.
+use Rattle.std.proofs.Common.{◌≡◌, ◌∙◌, ◌+◌, ◌&&◌, ◌++◌, Bool, true, false, List, [], ◌∷◌, Option, Some, None, Result, Ok, Err, if◌then◌else◌, map, inl, refl, sym, ap, subst}
+use Rattle.c104_token.specs.declared.tokens.Token.{Token}
+use Rattle.c104_token.specs.declared.tokens.Token.TheVariants.{Byte}
+use Rattle.c104_token.specs.Kinds.{Kind, plain_kind}
+use Rattle.c104_switch.specs.Actions.{Reply, is_ready}
+use Rattle.c104_plan.specs.Plans.{IsPlan}
+use Rattle.c104_event.specs.declared.events.Event.{Event}
+use Rattle.c104_event.specs.declared.faults.EventFault.{EventFault}
+use Rattle.c104_event.specs.declared.faults.EventFault.TheVariants as fault
+use Rattle.c104_node.specs.declared.starts.NodeStart.{NodeStart}
+use Rattle.c104_run.specs.Balance.{AreInPlace}
+use Rattle.c104_run.specs.Network.{Network, network_apply, network_of, network_step, event_fault, event_limit, outcome_if_possible, outcome_if_ready, outcome_within_limit}
+use Rattle.c104_run.specs.NetRecords.{is_done, ticket_after, IsNetRecord, NetRecord}
+use Rattle.c104_node.specs.Nodes.{Node}
+use Rattle.c104_node.specs.Places.{base_start}
+use Rattle.c104_run.specs.RecordedNets.{KeepsTokens}
+use Rattle.c104_run.specs.RecordedRuns.{record_apply, record_at}
+use Rattle.c104_run.specs.Runs.{IsRunRecord}
+use Rattle.c104_run.specs.Stages.{stage_after, stage_apply, stage_full, unless_full, Stage}
+use Rattle.c104_node.specs.Starts.{start_node}
+use Rattle.c104_run.specs.TracedRuns.{map_network}
+use Rattle.c104_node.specs.Traces.{kept_of, noted_all, seatless}
+use Rattle.c104_run.specs.EventDeeds.{event_deeds}
+use Rattle.c104_run.proofs.RecordedRuns.{record_kept, record_plan}
+use Rattle.c104_run.proofs.RecordSteps.{ticket_left}
+use Rattle.c104_run.proofs.RoundJoins.{apply_plan}
+use Rattle.c104_run.proofs.RoundRuns.{is_told, step_replies, Applied}
+use Rattle.c104_run.proofs.NodeMaps.{kinds_plain}
+use Rattle.c104_run.proofs.RunRecords.{record_on, seatless_order}
+use Rattle.c104_run.proofs.StepMaps.{apply_map}
+use Rattle.c104_run.proofs.UndoneEvents.{undone_deeds}
+
+-- an event that isn't done leaves the network as it was
+module _ {A : Type 0} (kind : Kind A) (net : Network A) (e : Event) where
+  limit_leaves : (limit : Option EventFault) (r : Reply × Network A) → network_step kind net e ≡ Some r → is_done (outcome_within_limit kind net limit r).0 ≡ false → (outcome_within_limit kind net limit r).1 ≡ net
+  limit_leaves None r made undone = let told : is_ready r.0 ≡ true = is_told r.0 (step_replies kind net e r made) in let no : true ≡ false = sym told ∙ undone in cc
+  limit_leaves (Some f) r made undone = refl
+
+  ready_leaves : (made : Option (Reply × Network A)) → network_step kind net e ≡ made → is_done (outcome_if_ready kind net e made).0 ≡ false → (outcome_if_ready kind net e made).1 ≡ net
+  ready_leaves None at undone = refl
+  ready_leaves (Some r) at undone = limit_leaves (event_limit net e) r at undone
+
+  there_leaves : (fault : Option EventFault) → is_done (outcome_if_possible kind net e fault).0 ≡ false → (outcome_if_possible kind net e fault).1 ≡ net
+  there_leaves None undone = ready_leaves (network_step kind net e) refl undone
+  there_leaves (Some f) undone = refl
+
+  pub undone_left : is_done (network_apply kind net e).0 ≡ false → (network_apply kind net e).1 ≡ net
+  undone_left undone = there_leaves (event_fault net.plan e) undone
+
+module _ {A : Type 0} (kind : Kind A) where
+  -- the network over plain tokens
+  abbrev pub plain_network : Network A → Network Token
+  plain_network net = map_network kind.plain net
+
+  -- the stage over plain tokens
+  abbrev pub plain_stage : Stage A → Stage Token
+  plain_stage s = record { network = plain_network s.network; bases = s.bases; traces = s.traces; count = s.count }
+
+-- what is kept of a stage of a run over this kind of token
+pub record IsRecordedStage {A : Type 0} (kind : Kind A) (starts : List NodeStart) (s : Stage A) : Type 0 where
+  pub begun : map base_start s.bases ≡ map Some starts
+  pub kept : IsNetRecord (record_at starts (plain_stage kind s))
+  pub events : List (Event × Reply)
+  pub told : IsRunRecord kind s.network.plan seatless (map start_node starts) s.network.nodes s.traces s.count events
+
+module _ {A : Type 0} (kind : Kind A) (tokens : KeepsTokens kind) where
+  -- an event is answered alike over plain tokens, and leaves what is seen of what it leaves
+  pub apply_plain : (net : Network A) (e : Event) → ◌≡◌ {A = Applied (Network Token)} (network_apply plain_kind (plain_network kind net) e) ((network_apply kind net e).0, plain_network kind (network_apply kind net e).1)
+  apply_plain net e = apply_map kind.plain kind plain_kind (λ x. refl) (λ j b. sym (tokens.random j (Byte b))) (λ t n j x. sym (tokens.sent t n j x)) net e
+
+  module _ (s : Stage A) (e : Event) where
+    abbrev due : Applied (Network A)
+    due = network_apply kind s.network e
+
+    abbrev full : Bool
+    full = stage_full true s e
+
+    abbrev seen : Applied (Network A) → Applied (Network Token)
+    seen d = (d.0, plain_network kind d.1)
+
+    -- the same events are answered alike, with their entries
+    pub stage_plain : ◌≡◌ {A = Applied (Stage Token)} ((stage_apply kind true s e).0, plain_stage kind (stage_apply kind true s e).1) (stage_apply plain_kind true (plain_stage kind s) e)
+    stage_plain =
+        by_full (full && is_done due.0)
+        ∙ ap (λ (d : Applied (Network Token)). stage_after true (plain_stage kind s) e (unless_full full (plain_network kind s.network) d))
+        (sym (apply_plain s.network e))
+      where
+        by_full : (refused : Bool) → ◌≡◌ {A = Applied (Stage Token)}
+            ((stage_after true s e (if refused then (Err fault.TraceFull, s.network) else due)).0, plain_stage kind (stage_after true s e (if refused then (Err fault.TraceFull, s.network) else due)).1)
+            (stage_after true (plain_stage kind s) e (if refused then (Err fault.TraceFull, plain_network kind s.network) else seen due))
+        by_full true = refl
+        by_full false = refl
+
+  -- over plain tokens it is the record after the event
+  pub record_plain : (starts : List NodeStart) (s : Stage A) (e : Event) → ◌≡◌ {A = Applied NetRecord} ((stage_apply kind true s e).0, record_at starts (plain_stage kind (stage_apply kind true s e).1)) (record_apply (record_at starts (plain_stage kind s)) e)
+  record_plain starts s e = ap (λ (d : Applied (Stage Token)). (d.0, record_at starts d.1)) (stage_plain s e)
+
+  module _ (starts : List NodeStart) (s : Stage A) (e : Event) (is_plan : IsPlan s.network.plan) (is : IsRecordedStage kind starts s) where
+    abbrev r : NetRecord
+    r = record_at starts (plain_stage kind s)
+
+    abbrev after : Stage A
+    after = (stage_apply kind true s e).1
+
+    abbrev start : List (Node A)
+    start = map start_node starts
+
+    after_kept : IsNetRecord (record_at starts (plain_stage kind after))
+    after_kept = subst IsNetRecord (sym (ap (λ (d : Applied NetRecord). d.1) (record_plain starts s e))) (record_kept r e is_plan is.kept)
+
+    pub after_plan : after.network.plan ≡ s.network.plan
+    after_plan = ap (λ (d : Applied NetRecord). d.1.network.plan) (record_plain starts s e) ∙ record_plan r e
+
+    abbrev Told : Stage A → Type 0
+    Told t = (events : List (Event × Reply)) × IsRunRecord kind s.network.plan seatless start t.network.nodes t.traces t.count events
+
+    stage_in_place : AreInPlace s.network.plan s.network.nodes
+    stage_in_place = sym (kinds_plain kind.plain s.network.nodes) ∙ is.kept.steady.in_place
+
+    abbrev left : Applied (Network A) → Stage A
+    left d = (stage_after true s e d).1
+
+    told_on : (d : Applied (Network A)) → d ≡ network_apply kind s.network e → (done : Bool) → is_done d.0 ≡ done → Told (left d)
+    told_on d is_due false undone =
+        let net : d.1 ≡ s.network = ap (λ (x : Applied (Network A)). x.1) is_due ∙ undone_left kind s.network e (ap (λ (x : Applied (Network A)). is_done x.0) (sym is_due) ∙ undone) in
+        let none = undone_deeds s.network.plan (seatless s.count) e d.0 undone in
+        let same : left d ≡ s =
+        ap (λ (n : Network A). record { network = n; bases = s.bases; traces = noted_all true s.traces (kept_of (event_deeds s.network.plan (seatless s.count) e) d.0); count = ticket_after s.count (is_done d.0) }) net
+        ∙ ap (λ ds. record { network = s.network; bases = s.bases; traces = noted_all true s.traces ds; count = ticket_after s.count (is_done d.0) }) none
+        ∙ ap (λ b. record { network = s.network; bases = s.bases; traces = s.traces; count = ticket_after s.count b }) undone in
+        subst Told (sym same) (is.events, is.told)
+    told_on d is_due true done = by_answer d.0 d.1 is_due done
+      where
+        by_answer : (answer : Result Reply EventFault) (net : Network A) → ◌≡◌ {A = Applied (Network A)} (answer, net) (network_apply kind s.network e) → is_done answer ≡ true → Told (left (answer, net))
+        by_answer (Ok r0) net is_due ready =
+            let plan : net.plan ≡ s.network.plan = ap (λ (x : Applied (Network A)). x.1.plan) is_due ∙ apply_plan kind s.network e in
+            let there : net ≡ network_of s.network.plan net.nodes = ap (λ p. network_of p net.nodes) plan in
+            let due : ◌≡◌ {A = Applied (Network A)} (Ok r0, network_of s.network.plan net.nodes) (network_apply kind s.network e) = ap (λ n. (Ok r0, n)) (sym there) ∙ is_due in
+            let one : s.count + 1 ≡ ticket_after s.count (is_ready r0) = ticket_left r r is_plan refl is.kept e ∙ ap (ticket_after s.count) (sym ready) in
+            let on = record_on kind s.network.plan seatless start s.network.nodes net.nodes s.traces (noted_all true s.traces (event_deeds s.network.plan (seatless s.count) e r0)) s.count is.events false e r0 stage_in_place is.told (inl due) ready refl (seatless_order s.network.plan 0 (is.events ++ (e, r0) ∷ [])) in
+            (is.events ++ (e, r0) ∷ [], subst (λ c. IsRunRecord kind s.network.plan seatless start net.nodes (noted_all true s.traces (event_deeds s.network.plan (seatless s.count) e r0)) c (is.events ++ (e, r0) ∷ [])) one on)
+        by_answer (Err f) net is_due ready = cc
+
+    by_full : (refused : Bool) → Told (left (if refused then (Err fault.TraceFull, s.network) else network_apply kind s.network e))
+    by_full true = (is.events, is.told)
+    by_full false = told_on (network_apply kind s.network e) refl (is_done (network_apply kind s.network e).0) refl
+
+    -- an event keeps it
+    pub stage_on : IsRecordedStage kind starts after
+    stage_on =
+        let told : Told after = by_full (stage_full true s e && is_done (network_apply kind s.network e).0) in
+        record {
+          begun = is.begun;
+          kept = after_kept;
+          events = told.0;
+          told = subst (λ p. IsRunRecord kind p seatless start after.network.nodes after.traces after.count told.0) (sym after_plan) told.1;
+        }

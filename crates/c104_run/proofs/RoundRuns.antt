@@ -1,0 +1,168 @@
+-- A run that stops at the first fault, by a prefix of its events, and what it keeps; and what leaves a
+-- network as it was.
+use Rattle.std.proofs.Common.{true, false, ◌≡◌, List, [], ◌∷◌, ◌++◌, Result, Ok, Err, Option, Some, None, refl, sym, ap}
+use Rattle.std.proofs.Common.{◌∙◌, subst, inl, inr}
+use Rattle.c104_token.specs.Kinds.{Kind}
+use Rattle.c104_switch.specs.Actions.{Reply}
+use Rattle.c104_switch.specs.declared.actions.ReplyOf.{ReplyOf}
+use Rattle.c104_switch.specs.declared.actions.ReplyOf.TheVariants as reply
+use Rattle.c104_link.proofs.MadeSteps.{given}
+use Rattle.c104_event.specs.declared.events.Event.{Event}
+use Rattle.c104_event.specs.declared.faults.EventFault.{EventFault}
+use Rattle.c104_event.specs.declared.faults.EventFault.TheVariants as fault
+use Rattle.c104_run.proofs.ActSteps.{step_ready}
+use Rattle.c104_node.specs.Acts.{plain_reply}
+use Rattle.c104_run.specs.EventActs.{acts_step, event_acts}
+use Rattle.c104_run.specs.Network.{AnswersEvent, Network, event_fault, event_limit, network_apply, network_step, outcome_if_possible}
+use Rattle.c104_run.specs.Network.{outcome_if_ready, outcome_within_limit, with_nodes}
+use Rattle.c104_run.specs.NetRecords.{is_done}
+use Rattle.c104_run.specs.EventRuns.{run_events, unless_fault, Answers, EventsEnd, Outcome}
+use Rattle.c104_switch.specs.Actions.{is_ready}
+
+-- what isn't NotReady is done
+pub is_told : (r : Reply) → (r ≡ reply.NotReady → ⊥) → is_ready r ≡ true
+is_told reply.Done other = refl
+is_told reply.NotReady other = absurd (other refl)
+is_told (reply.Token x) other = refl
+is_told (reply.Control bytes) other = refl
+
+-- what one event comes to
+abbrev pub Applied : Type 0 → Type 0
+Applied S = Result Reply EventFault × S
+
+module _ {S : Type 0} (apply : S → Event → Applied S) where
+  -- the rest of a run goes on from where its prefix came to
+  unless_later : (events more : List Event) → ((s : S) → run_events apply s (events ++ more) ≡ unless_fault (run_events apply s events).0 (run_events apply s events).1 (λ next. run_events apply next more)) →
+      (answer : Result Reply EventFault) (s : S) →
+      unless_fault answer s (λ next. run_events apply next (events ++ more)) ≡ unless_fault (unless_fault answer s (λ next. run_events apply next events)).0 (unless_fault answer s (λ next. run_events apply next events)).1 (λ next. run_events apply next more)
+  unless_later events more later (Ok r) s = later s
+  unless_later events more later (Err f) s = refl
+
+  pub run_append : (events more : List Event) (s : S) → run_events apply s (events ++ more) ≡ unless_fault (run_events apply s events).0 (run_events apply s events).1 (λ next. run_events apply next more)
+  run_append [] more s = refl
+  run_append (e ∷ events) more s = unless_later events more (run_append events more) (apply s e).0 (apply s e).1
+
+  -- after a prefix without a fault
+  pub run_from : (s mid : S) (events more : List Event) → run_events apply s events ≡ (Ok tt, mid) → run_events apply s (events ++ more) ≡ run_events apply mid more
+  run_from s mid events more front = run_append events more s ∙ ap (λ (r : Outcome S). unless_fault r.0 r.1 (λ next. run_events apply next more)) front
+
+  -- one event
+  run_one : (s after : S) (e : Event) (answer : Result Reply EventFault) → ◌≡◌ {A = Applied S} (answer, after) (apply s e) →
+      run_events apply s (e ∷ []) ≡ unless_fault answer after (λ next. (Ok tt, next))
+  run_one s after e answer due = ap (λ (r : Applied S). unless_fault r.0 r.1 (λ next. (Ok tt, next))) (sym due)
+
+  pub run_reply : (s after : S) (e : Event) (r : Reply) → ◌≡◌ {A = Applied S} (Ok r, after) (apply s e) → run_events apply s (e ∷ []) ≡ (Ok tt, after)
+  run_reply s after e r due = run_one s after e (Ok r) due
+
+  same_fault : (f g : EventFault) → ◌≡◌ {A = Result Reply EventFault} (Err f) (Err g) → ◌≡◌ {A = Result (Unit {0}) EventFault} (Err f) (Err g)
+  same_fault f g same = let faults : f ≡ g = cc in ap Err faults
+
+  -- a run ends with the fault of an event, or out of memory
+  pub fault_ends : (s after : S) (e : Event) (f : EventFault) → Answers apply s e (Err f) after → EventsEnd apply s (e ∷ []) (Err f) after
+  fault_ends s after e f answer =
+      elim answer [
+        | inl due ↦ inl (sym (run_one s after e (Err f) due))
+        | inr refused ↦ inr (record {
+          refused = same_fault f fault.NoMemory refused.0;
+          front = [];
+          event = e;
+          rest = [];
+          parts = refl;
+          stands = ap (λ n. (Ok tt, n)) (sym refused.2);
+          wanted = subst (λ n. is_done (apply n e).0 ≡ true) (sym refused.2) refused.1;
+        })
+      ]
+
+  -- what every event keeps a run keeps
+  module _ (Kept : S → Type 0) (keeps : (s : S) (e : Event) → Kept s → Kept (apply s e).1) where
+    run_keeps : (events : List Event) (s : S) → Kept s → Kept (run_events apply s events).1
+    run_keeps [] s holds = holds
+    run_keeps (e ∷ events) s holds = by_answer (λ next kept. run_keeps events next kept) (apply s e).0 (apply s e).1 (keeps s e holds)
+      where
+        by_answer : ((next : S) → Kept next → Kept (run_events apply next events).1) → (answer : Result Reply EventFault) (next : S) → Kept next → Kept (unless_fault answer next (λ n. run_events apply n events)).1
+        by_answer more (Ok r) next holds = more next holds
+        by_answer more (Err f) next holds = holds
+
+    pub ends_keep : (s after : S) (events : List Event) (result : Result (Unit {0}) EventFault) → Kept s → EventsEnd apply s events result after → Kept after
+    ends_keep s after events result holds ends =
+        elim ends [
+          | inl due ↦ subst Kept (sym (ap (λ (r : Outcome S). r.1) due)) (run_keeps events s holds)
+          | inr short ↦ subst Kept (ap (λ (r : Outcome S). r.1) short.stands) (run_keeps short.front s holds)
+        ]
+
+-- a run as it is seen, where each event is seen so
+module _ {S R : Type 0} (apply : S → Event → Applied S) (apply_seen : R → Event → Applied R) (seen : S → R)
+    (follows : (s : S) (e : Event) → ◌≡◌ {A = Applied R} ((apply s e).0, seen (apply s e).1) (apply_seen (seen s) e)) where
+  run_seen : (events : List Event) (s : S) → ◌≡◌ {A = Outcome R} ((run_events apply s events).0, seen (run_events apply s events).1) (run_events apply_seen (seen s) events)
+  run_seen [] s = refl
+  run_seen (e ∷ events) s =
+      by_answer (λ next. run_seen events next) (apply s e).0 (apply s e).1
+      ∙ ap (λ (r : Applied R). unless_fault r.0 r.1 (λ next. run_events apply_seen next events)) (follows s e)
+    where
+      by_answer : ((next : S) → ◌≡◌ {A = Outcome R} ((run_events apply next events).0, seen (run_events apply next events).1) (run_events apply_seen (seen next) events)) → (answer : Result Reply EventFault) (next : S) →
+          ◌≡◌ {A = Outcome R} ((unless_fault answer next (λ n. run_events apply n events)).0, seen (unless_fault answer next (λ n. run_events apply n events)).1) (unless_fault answer (seen next) (λ n. run_events apply_seen n events))
+      by_answer more (Ok r) next = more next
+      by_answer more (Err f) next = refl
+
+  pub ends_seen : (s after : S) (events : List Event) (result : Result (Unit {0}) EventFault) → EventsEnd apply s events result after → EventsEnd apply_seen (seen s) events result (seen after)
+  ends_seen s after events result ends =
+      elim ends [
+        | inl due ↦ inl (ap (λ (r : Outcome S). (r.0, seen r.1)) due ∙ run_seen events s)
+        | inr short ↦ inr (record {
+          refused = short.refused;
+          front = short.front;
+          event = short.event;
+          rest = short.rest;
+          parts = short.parts;
+          stands = sym (run_seen short.front s) ∙ ap (λ (r : Outcome S). (r.0, seen r.1)) short.stands;
+          wanted = ap (λ (r : Applied R). is_done r.0) (sym (follows after short.event)) ∙ short.wanted;
+        })
+      ]
+
+module _ {A : Type 0} (kind : Kind A) where
+  -- a step that is ready replies something else than that it isn't
+  abbrev Replies : Option (Reply × Network A) → Type 0
+  Replies made = (r : Reply × Network A) → made ≡ Some r → r.0 ≡ reply.NotReady → ⊥
+
+  -- what is told of a reply that is one
+  plain_replies : (r : ReplyOf A) → is_ready r ≡ true → plain_reply kind r ≡ reply.NotReady → ⊥
+  plain_replies reply.Done ready unready = cc
+  plain_replies reply.NotReady ready unready = cc
+  plain_replies (reply.Token x) ready unready = cc
+  plain_replies (reply.Control bytes) ready unready = cc
+
+  pub step_replies : (net : Network A) (e : Event) → Replies (network_step kind net e)
+  step_replies net e r is unready = given (event_acts net.plan e) _ r is (λ acts known more. given (acts_step kind net.plan net.nodes acts) _ r more (λ made stepped last.
+      (let told : plain_reply kind made.0 ≡ r.0 = (let both : ◌≡◌ {A = Reply × Network A} (plain_reply kind made.0, with_nodes net made.1) r = cc in ap (λ (s : Reply × Network A). s.0) both) in
+      plain_replies made.0 (step_ready kind net.plan net.nodes acts made stepped) (told ∙ unready))))
+
+  -- an event that isn't ready changes nothing
+  abbrev Answered : Type 0
+  Answered = Result Reply EventFault × Network A
+
+  same_answer : (r s : Answered) → r ≡ s → r.0 ≡ s.0
+  same_answer r s same = ap (λ (t : Answered). t.0) same
+
+  same_network : (r s : Answered) → r ≡ s → r.1 ≡ s.1
+  same_network r s same = ap (λ (t : Answered). t.1) same
+
+  limit_stays : (net after : Network A) (limit : Option EventFault) (r : Reply × Network A) → (r.0 ≡ reply.NotReady → ⊥) → ◌≡◌ {A = Answered} (Ok reply.NotReady, after) (outcome_within_limit kind net limit r) → after ≡ net
+  limit_stays net after None r replies was = let ok : Ok reply.NotReady ≡ Ok r.0 = same_answer _ _ was in let unready : r.0 ≡ reply.NotReady = cc in absurd (replies unready)
+  limit_stays net after (Some f) r replies was = same_network _ _ was
+
+  ready_stays : (net after : Network A) (e : Event) (made : Option (Reply × Network A)) → Replies made → ◌≡◌ {A = Answered} (Ok reply.NotReady, after) (outcome_if_ready kind net e made) → after ≡ net
+  ready_stays net after e None replies was = same_network _ _ was
+  ready_stays net after e (Some r) replies was = limit_stays net after (event_limit net e) r (replies r refl) was
+
+  there_stays : (net after : Network A) (e : Event) (f : Option EventFault) → ◌≡◌ {A = Answered} (Ok reply.NotReady, after) (outcome_if_possible kind net e f) → after ≡ net
+  there_stays net after e None was = ready_stays net after e (network_step kind net e) (step_replies net e) was
+  there_stays net after e (Some f) was = same_network _ _ was
+
+  pub unready_stays : (net after : Network A) (e : Event) → ◌≡◌ {A = Result Reply EventFault × Network A} (Ok reply.NotReady, after) (network_apply kind net e) → after ≡ net
+  unready_stays net after e was = there_stays net after e (event_fault net.plan e) was
+
+  pub undone_leaves : (mid after : Network A) (e : Event) (r : Reply) → is_ready r ≡ false → AnswersEvent kind mid e (Ok r) after → after ≡ mid
+  undone_leaves mid after e reply.NotReady undone answer = elim answer [ inl due ↦ unready_stays mid after e due | inr refused ↦ refused.2 ]
+  undone_leaves mid after e reply.Done undone answer = cc
+  undone_leaves mid after e (reply.Token x) undone answer = cc
+  undone_leaves mid after e (reply.Control bytes) undone answer = cc

@@ -1,0 +1,14 @@
+-- A run of events goes on by one event.
+use Rattle.std.proofs.Common.{List, [], ◌∷◌, ◌++◌, Result, refl, subst}
+use Rattle.c104_switch.specs.Actions.{Reply}
+use Rattle.c104_event.specs.declared.events.Event.{Event}
+use Rattle.c104_event.specs.declared.faults.EventFault.{EventFault}
+use Rattle.c104_run.specs.EventRuns.{Answers, AnswersAll}
+
+module _ {S : Type 0} (apply : S → Event → Result Reply EventFault × S) where
+  pub run_on : (s mid after : S) (events : List Event) (answers : List (Result Reply EventFault)) (e : Event) (a : Result Reply EventFault) →
+      AnswersAll apply s events answers mid → Answers apply mid e a after → AnswersAll apply s (events ++ e ∷ []) (answers ++ a ∷ []) after
+  run_on s mid after [] [] e a run more = (after, subst (λ n. Answers apply n e a after) run more, refl)
+  run_on s mid after [] (b ∷ answers) e a run more = absurd run
+  run_on s mid after (d ∷ events) [] e a run more = absurd run
+  run_on s mid after (d ∷ events) (b ∷ answers) e a run more = (run.0, run.1, run_on run.0 mid after events answers e a run.2 more)

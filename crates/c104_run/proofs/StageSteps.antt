@@ -1,0 +1,132 @@
+-- An event of a stage: what it answers, and what is kept of it.
+use Rattle.std.proofs.Common.{◌≡◌, ◌∙◌, ◌&&◌, ℕ, Bool, true, false, List, [], ◌∷◌, Option, Some, None, Result, Ok, Err, IfOk, if◌then◌else◌, is_some, map, inl, inr, refl, sym, ap}
+use Rattle.c104_token.specs.Kinds.{Kind}
+use Rattle.c104_switch.specs.Actions.{Reply, is_ready}
+use Rattle.c104_switch.specs.declared.actions.ReplyOf.TheVariants as reply
+use Rattle.c104_plan.specs.Plans.{Plan}
+use Rattle.c104_event.specs.declared.events.Event.{Event}
+use Rattle.c104_event.specs.declared.faults.EventFault.{EventFault}
+use Rattle.c104_event.specs.declared.faults.EventFault.TheVariants as fault
+use Rattle.c104_node.specs.declared.acts.Entry.{Entry}
+use Rattle.c104_run.specs.Network.{Network, network_apply, network_step, outcome_if_possible, outcome_if_ready, outcome_within_limit, AnswersWith, WouldBeDone}
+use Rattle.c104_node.specs.Places.{IsFullByTrace, PlaceBase, Shown, fulls, is_kept_full, room_fault, traces}
+use Rattle.c104_run.specs.NetRecords.{is_done, ticket_after}
+use Rattle.c104_run.specs.EventsAtPlaces.{EventDone}
+use Rattle.c104_node.specs.Traces.{kept_of, noted_all, seatless}
+use Rattle.c104_run.specs.EventDeeds.{event_deeds, event_full}
+use Rattle.c104_run.specs.EventRuns.{Answers}
+use Rattle.c104_run.specs.Stages.{stage_after, stage_apply, stage_full, stage_of, unless_full, Stage}
+use Rattle.c104_run.specs.RoundParts.{done_answer, PartEnds}
+use Rattle.c104_run.proofs.UndoneEvents.{undone_deeds}
+use Rattle.c104_run.proofs.PartRuns.{part_of_reply}
+use Rattle.c104_run.proofs.RoundRuns.{fault_ends, is_told, step_replies, undone_leaves, Applied}
+
+-- where each place is full where its trace is, that of all is told by their traces
+pub fulls_kept : {A P : Type 0} (keeps : Bool) (shown : P → Shown A) → ((p : P) → IsFullByTrace keeps (shown p)) → (places : List P) → fulls (map shown places) ≡ map (is_kept_full keeps) (traces (map shown places))
+fulls_kept keeps shown limited [] = refl
+fulls_kept keeps shown limited (p ∷ places) =
+    ap (λ b. b ∷ fulls (map shown places)) (limited p) ∙ ap (λ bs. is_kept_full keeps (shown p).trace ∷ bs) (fulls_kept keeps shown limited places)
+
+-- an event that is done adds to no full trace
+not_full : (full : Bool) (answer : Result Reply EventFault) → IfOk answer (λ r. is_ready r ≡ true → full ≡ false) → (full && is_done answer) ≡ false
+not_full false answer free = refl
+not_full true (Ok r) free = by_ready (is_ready r) free
+  where
+    by_ready : (ready : Bool) → (ready ≡ true → true ≡ false) → ready ≡ false
+    by_ready true free = free refl
+    by_ready false free = refl
+not_full true (Err f) free = refl
+
+-- an event that would be done is done
+pub would : {A : Type 0} (kind : Kind A) (net : Network A) (e : Event) → WouldBeDone kind net e → is_done (network_apply kind net e).0 ≡ true
+would {A} kind net e (possible, ready, within) = by_step (network_step kind net e) refl ready
+  where
+    by_step : (made : Option (Reply × Network A)) → network_step kind net e ≡ made → is_some made ≡ true → is_done (network_apply kind net e).0 ≡ true
+    by_step None made ready = absurd (cc ready)
+    by_step (Some r) made ready =
+        let due : network_apply kind net e ≡ (Ok r.0, r.1) = ap (outcome_if_possible kind net e) possible ∙ ap (outcome_if_ready kind net e) made ∙ ap (λ f. outcome_within_limit kind net f r) within in
+        ap (λ (d : Applied (Network A)). is_done d.0) due ∙ is_told r.0 (step_replies kind net e r made)
+
+module _ {A : Type 0} where
+  abbrev stage_with : Network A → List PlaceBase → List (List Entry) → ℕ → Stage A
+  stage_with network bases traces count = record { network = network; bases = bases; traces = traces; count = count }
+
+  -- stages that show the same are the same
+  pub same_stage : (s t : Stage A) → s.network ≡ t.network → s.bases ≡ t.bases → s.traces ≡ t.traces → s.count ≡ t.count → s ≡ t
+  same_stage s t network bases traces count =
+      ap (λ x. stage_with x s.bases s.traces s.count) network ∙ ap (λ x. stage_with t.network x s.traces s.count) bases
+      ∙ ap (λ x. stage_with t.network t.bases x s.count) traces ∙ ap (λ x. stage_with t.network t.bases t.traces x) count
+
+module _ {A : Type 0} (kind : Kind A) (keeps : Bool) (s after : Stage A) (full : Bool) (e : Event) where
+  -- what is kept of an event of this answer
+  abbrev Keeps : Result Reply EventFault → Type 0
+  Keeps answer =
+      (after.bases ≡ s.bases)
+      × (after.traces ≡ noted_all keeps s.traces (kept_of (event_deeds s.network.plan (seatless s.count) e) answer))
+      × (after.count ≡ ticket_after s.count (is_done answer))
+
+  -- what is due in the network is due in the stage
+  due_stage : (answer : Result Reply EventFault) → Keeps answer → ◌≡◌ {A = Applied (Network A)} (answer, after.network) (unless_full (stage_full keeps s e) s.network (network_apply kind s.network e)) → ◌≡◌ {A = Applied (Stage A)} (answer, after) (stage_apply kind keeps s e)
+  due_stage answer kept due =
+      ap (λ (t : Stage A). (answer, t)) (same_stage after (stage_after keeps s e (answer, after.network)).1 refl kept.0 kept.1 kept.2)
+      ∙ ap (stage_after keeps s e) due
+
+  -- of an event that isn't done nothing is kept
+  undone_same : (answer : Result Reply EventFault) → Keeps answer → is_done answer ≡ false → after.network ≡ s.network → after ≡ s
+  undone_same answer kept undone network =
+      same_stage after s network kept.0 (kept.1 ∙ ap (noted_all keeps s.traces) (undone_deeds s.network.plan (seatless s.count) e answer undone)) (kept.2 ∙ ap (ticket_after s.count) undone)
+
+  module _ (told : full ≡ stage_full keeps s e) where
+    abbrev due : Applied (Network A)
+    due = network_apply kind s.network e
+
+    -- a full trace refuses an event that would be done, and no other
+    is_open : (full && is_done due.0) ≡ false → unless_full (stage_full keeps s e) s.network due ≡ due
+    is_open free = ap (λ b. unless_full b s.network due) (sym told) ∙ ap (λ b. if b then (Err fault.TraceFull, s.network) else due) free
+
+    is_refused : full ≡ true → is_done due.0 ≡ true → unless_full (stage_full keeps s e) s.network due ≡ (Err fault.TraceFull, s.network)
+    is_refused is done = ap (λ b. unless_full b s.network due) (sym told ∙ is) ∙ ap (λ b. if b then (Err fault.TraceFull, s.network) else due) done
+
+    refused_stage : (f : Bool) → full ≡ f → (answer : Result Reply EventFault) → Keeps answer → answer ≡ Err (room_fault f) → WouldBeDone kind s.network e → after.network ≡ s.network → Answers (stage_apply kind keeps) s e answer after
+    refused_stage true is answer kept refused wanted same =
+        inl (due_stage answer kept (ap (λ (a : Result Reply EventFault). (a, after.network)) refused ∙ ap (λ (n : Network A). (Err fault.TraceFull, n)) same ∙ sym (is_refused is (would kind s.network e wanted))))
+    refused_stage false is answer kept refused wanted same =
+        inr (
+          refused,
+          ap (λ (d : Applied (Network A)). is_done d.0) (is_open (ap (λ b. b && is_done due.0) is)) ∙ would kind s.network e wanted,
+          undone_same answer kept (ap is_done refused) same,
+        )
+
+    stage_answers : (answer : Result Reply EventFault) → Keeps answer → AnswersWith kind full s.network e answer after.network → IfOk answer (λ r. is_ready r ≡ true → full ≡ false) → Answers (stage_apply kind keeps) s e answer after
+    stage_answers answer kept (inl is) free = inl (due_stage answer kept (is ∙ sym (is_open (ap (λ (d : Applied (Network A)). full && is_done d.0) (sym is) ∙ not_full full answer free))))
+    stage_answers answer kept (inr refused) free = refused_stage full refl answer kept refused.0 refused.1 refused.2
+
+    -- a part of one event
+    attempted : (answer : Result Reply EventFault) → Keeps answer → AnswersWith kind full s.network e answer after.network → IfOk answer (λ r. is_ready r ≡ true → full ≡ false) → PartEnds (stage_apply kind keeps) s (e ∷ []) (done_answer answer) after
+    attempted (Ok r) kept answers free =
+        part_of_reply (stage_apply kind keeps) s after e r
+        (λ undone. undone_same (Ok r) kept undone (undone_leaves kind s.network after.network e r undone (elim answers [ inl is ↦ inl is | inr refused ↦ absurd (cc refused.0) ])))
+        (stage_answers (Ok r) kept answers free)
+    attempted (Err f) kept answers free = record { ends = fault_ends (stage_apply kind keeps) s after e f (stage_answers (Err f) kept answers free) }
+
+-- an event at places, as a step of the stage that they show
+module _ {A : Type 0} (kind : Kind A) (keeps : Bool) (plan : Plan) (olds news : List (Shown A)) (count counted : ℕ) (limited : fulls olds ≡ map (is_kept_full keeps) (traces olds))
+    (e : Event) (answer : Result Reply EventFault) (done : EventDone kind keeps plan (seatless count) e olds answer news) (told : counted ≡ ticket_after count (is_done answer)) where
+  abbrev stage : List (Shown A) → ℕ → Stage A
+  stage shown n = stage_of plan shown n
+
+  full_told : event_full plan (fulls olds) e ≡ stage_full keeps (stage olds count) e
+  full_told = ap (λ fs. event_full plan fs e) limited
+
+  pub stage_done : Answers (stage_apply kind keeps) (stage olds count) e answer (stage news counted)
+  stage_done = stage_answers kind keeps (stage olds count) (stage news counted) (event_full plan (fulls olds) e) e full_told answer (done.base, done.trace, told) done.answers done.free
+
+  pub part_done : PartEnds (stage_apply kind keeps) (stage olds count) (e ∷ []) (done_answer answer) (stage news counted)
+  part_done = attempted kind keeps (stage olds count) (stage news counted) (event_full plan (fulls olds) e) e full_told answer (done.base, done.trace, told) done.answers done.free
+
+module _ {A : Type 0} (kind : Kind A) where
+  -- an event that isn't ready
+  pub unready_part : (keeps : Bool) (s : Stage A) (e : Event) → network_apply kind s.network e ≡ (Ok reply.NotReady, s.network) → PartEnds (stage_apply kind keeps) s (e ∷ []) (Ok false) s
+  unready_part keeps s e unready =
+      attempted kind keeps s s (stage_full keeps s e) e refl (Ok reply.NotReady)
+      (refl, sym (ap (noted_all keeps s.traces) (undone_deeds s.network.plan (seatless s.count) e (Ok reply.NotReady) refl)), refl) (inl (sym unready)) (λ ready. absurd (cc ready))

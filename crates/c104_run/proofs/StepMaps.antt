@@ -1,0 +1,344 @@
+-- Events over one kind of token and over another: what is told of tokens beside themselves can be taken away.
+use Rattle.c104_plan.specs.Wiring.{peer}
+use Rattle.c104_event.specs.declared.events.Event.{Event}
+use Rattle.c104_event.specs.declared.faults.EventFault.{EventFault}
+use Rattle.c104_run.proofs.SwitchMaps.{control_node_map}
+use Rattle.c104_run.proofs.TurnMaps.{claim_node_map, input_node_map}
+use Rattle.c104_run.proofs.TokenMaps.{bind_both, credit_in_node_map, credit_out_node_map, drain_node_map, enter_node_map, leave_node_map}
+use Rattle.c104_plan.specs.Plans.{Plan}
+use Rattle.c104_plan.specs.declared.ports.Port.{Port}
+use Rattle.c104_plan.specs.declared.ports.Port.TheVariants as port
+use Rattle.c104_link.specs.Steps.{◌>>=◌}
+use Rattle.c104_node.specs.Acts.{control_by, done_by, node_act, nodes_act, plain_reply, token_by}
+use Rattle.c104_run.specs.EventActs.{acts_step, crossing_acts, event_acts, port_place}
+use Rattle.c104_node.specs.PortActs.{Acts, act_limit, acts_limit, far_act, near_act}
+use Rattle.c104_run.specs.Network.{Network, event_fault, event_limit, network_apply, network_step, outcome_if_possible, outcome_if_ready, outcome_within_limit, terminal_place, told_step, with_nodes}
+use Rattle.c104_node.specs.declared.acts.ActOf.{ActOf}
+use Rattle.c104_node.specs.declared.acts.ActOf.TheVariants as act
+use Rattle.c104_node.specs.declared.crossings.Crossing.{Crossing}
+use Rattle.c104_node.specs.declared.crossings.Crossing.TheVariants.{Grant, Token}
+use Rattle.c104_switch.specs.declared.actions.ActionOf.{ActionOf}
+use Rattle.c104_switch.specs.declared.actions.ActionOf.TheVariants as action
+use Rattle.c104_switch.specs.declared.actions.ReplyOf.{ReplyOf}
+use Rattle.c104_node.specs.Nodes.{Node, arrived_tokens, node_control, node_send, waiting_tokens}
+use Rattle.c104_run.specs.Runs.{IsDoneRun}
+use Rattle.c104_node.specs.Terminals.{sent_from, sent_tokens, Terminal}
+use Rattle.c104_run.specs.TracedRuns.{map_network}
+use Rattle.c104_node.specs.MappedNodes.{map_node}
+use Rattle.c104_switch.specs.Actions.{Reply}
+use Rattle.c104_token.specs.Kinds.{Kind}
+use Rattle.c104_token.specs.Packets.{packet_tokens}
+use Rattle.c104_token.specs.declared.packets.Packet.{Packet}
+use Rattle.c104_token.specs.declared.tokens.Token.{Token as PlainToken}
+use Rattle.c104_token.specs.declared.tokens.Token.TheVariants.{Byte}
+use Rattle.std.proofs.Common.{arith, List, None, Ok, Option, Result, Some, [], ap, length, map, option_map, refl, slice_get, slice_set, subst, suc, sym, ℕ, ◌-◌, ◌∙◌, ◌∷◌, ◌≡◌}
+use Rattle.std.proofs.lemmas.List.{length-map, map-append, map-set}
+use Rattle.std.proofs.lemmas.Option.{slice_get-map}
+use Rattle.c104_event.specs.declared.events.Event.TheVariants as event
+use Rattle.c104_node.specs.declared.node.NodeOf.TheVariants as node
+use Rattle.c104_switch.specs.declared.actions.ReplyOf.TheVariants as reply
+
+module _ {A B : Type 0} (f : A → B) (from : Kind A) (to : Kind B) (plain_is : (x : A) → to.plain (f x) ≡ from.plain x) (random_is : (j b : ℕ) → to.random j (Byte b) ≡ f (from.random j (Byte b))) where
+  sent_map : (t n : ℕ) → ((j : ℕ) (x : PlainToken) → to.sent t n j x ≡ f (from.sent t n j x)) → (j : ℕ) (xs : List PlainToken) → sent_from to t n j xs ≡ map f (sent_from from t n j xs)
+  sent_map t n alike j [] = refl
+  sent_map t n alike j (x ∷ xs) = rw (alike j x, sent_map t n alike (suc j) xs) refl
+
+  -- what a node sends is the same, mapped
+  abbrev IsSentHere : ℕ → Option (Node A) → Type 0
+  IsSentHere t o = (T : Terminal A) → o ≡ Some (node.Terminal T) → (j : ℕ) (x : PlainToken) → to.sent t (length T.sent) j x ≡ f (from.sent t (length T.sent) j x)
+
+  send_map : (t : ℕ) (p : Packet) (n : Node A) → IsSentHere t (Some n) → node_send to t p (map_node f n) ≡ option_map (map_node f) (node_send from t p n)
+  send_map t p (node.Switch S) alike = refl
+  send_map t p (node.Terminal T) alike = ap (λ z. Some (node.Terminal z)) (rw (sent_map t (length T.sent) (alike T refl) 0 (packet_tokens p), ← map-append f T.output.items (sent_tokens from t (length T.sent) p)) refl)
+
+  abbrev pub map_done : Reply × Network A → Reply × Network B
+  map_done r = (r.0, map_network f r.1)
+
+  -- acts and replies over the other kind
+  abbrev map_action : ActionOf A → ActionOf B
+  map_action (action.Enter l x) = action.Enter l (f x)
+  map_action (action.Leave l) = action.Leave l
+  map_action (action.CreditOut l) = action.CreditOut l
+  map_action (action.CreditIn l) = action.CreditIn l
+  map_action (action.Input l word) = action.Input l word
+  map_action (action.Claim i o) = action.Claim i o
+  map_action (action.Control bytes) = action.Control bytes
+
+  abbrev map_act : ActOf A → ActOf B
+  map_act (act.Step a) = act.Step (map_action a)
+  map_act (act.Send packet) = act.Send packet
+  map_act act.Drain = act.Drain
+  map_act act.Leave = act.Leave
+  map_act (act.Enter x) = act.Enter (f x)
+  map_act act.CreditOut = act.CreditOut
+  map_act act.CreditIn = act.CreditIn
+
+  abbrev map_reply : ReplyOf A → ReplyOf B
+  map_reply reply.Done = reply.Done
+  map_reply reply.NotReady = reply.NotReady
+  map_reply (reply.Token x) = reply.Token (f x)
+  map_reply (reply.Control bytes) = reply.Control bytes
+
+  abbrev map_acts : Acts A → Acts B
+  map_acts (Acts.Alone k a) = Acts.Alone k (map_act a)
+  map_acts (Acts.Joint p q crossing) = Acts.Joint p q crossing
+
+  abbrev map_made : ReplyOf A × Node A → ReplyOf B × Node B
+  map_made z = (map_reply z.0, map_node f z.1)
+
+  abbrev map_all : ReplyOf A × List (Node A) → ReplyOf B × List (Node B)
+  map_all z = (map_reply z.0, map (map_node f) z.1)
+
+  done_map : (made : Option (Node A)) (made' : Option (Node B)) → made' ≡ option_map (map_node f) made → done_by {A = B} made' ≡ option_map map_made (done_by {A = A} made)
+  done_map made made' e = bind_both (map_node f) map_made made made' _ _ e (λ n. refl)
+
+  moved_map : (made : Option (A × Node A)) (made' : Option (B × Node B)) → made' ≡ option_map (λ (z : A × Node A). (f z.0, map_node f z.1)) made → token_by made' ≡ option_map map_made (token_by made)
+  moved_map made made' e = bind_both _ map_made made made' _ _ e (λ r. refl)
+
+  replied_map : (made : Option (List ℕ × Node A)) (made' : Option (List ℕ × Node B)) → made' ≡ option_map (λ (z : List ℕ × Node A). (z.0, map_node f z.1)) made → control_by {A = B} made' ≡ option_map map_made (control_by {A = A} made)
+  replied_map made made' e = bind_both _ map_made made made' _ _ e (λ r. refl)
+
+  -- what an act sends is the same, mapped
+  abbrev IsSentBy : ℕ → Option (Node A) → ActOf A → Type 0
+  IsSentBy number o (act.Step a) = Unit {0}
+  IsSentBy number o (act.Send packet) = IsSentHere number o
+  IsSentBy number o act.Drain = Unit {0}
+  IsSentBy number o act.Leave = Unit {0}
+  IsSentBy number o (act.Enter x) = Unit {0}
+  IsSentBy number o act.CreditOut = Unit {0}
+  IsSentBy number o act.CreditIn = Unit {0}
+
+  -- an act of a node
+  act_map : (number : ℕ) (a : ActOf A) (n : Node A) → IsSentBy number (Some n) a → node_act to number (map_act a) (map_node f n) ≡ option_map map_made (node_act from number a n)
+  act_map number (act.Step (action.Enter l x)) (node.Switch S) alike = done_map _ _ (enter_node_map f x l (node.Switch S))
+  act_map number (act.Step (action.Leave l)) (node.Switch S) alike = moved_map _ _ (leave_node_map f l (node.Switch S))
+  act_map number (act.Step (action.CreditOut l)) (node.Switch S) alike = done_map _ _ (credit_out_node_map f l (node.Switch S))
+  act_map number (act.Step (action.CreditIn l)) (node.Switch S) alike = done_map _ _ (credit_in_node_map f l (node.Switch S))
+  act_map number (act.Step (action.Input l word)) (node.Switch S) alike = done_map _ _ (input_node_map f from to plain_is random_is l word (node.Switch S))
+  act_map number (act.Step (action.Claim i o)) (node.Switch S) alike = done_map _ _ (claim_node_map f from to plain_is random_is i o (node.Switch S))
+  act_map number (act.Step (action.Control bytes)) (node.Switch S) alike = replied_map (node_control bytes (node.Switch S)) (node_control bytes (map_node f (node.Switch S))) (control_node_map f bytes (node.Switch S))
+  act_map number (act.Step a) (node.Terminal T) alike = refl
+  act_map number (act.Send packet) n alike = done_map _ _ (send_map number packet n alike)
+  act_map number act.Drain n alike = moved_map _ _ (drain_node_map f n)
+  act_map number act.Leave (node.Switch S) alike = refl
+  act_map number act.Leave (node.Terminal T) alike = moved_map _ _ (leave_node_map f 0 (node.Terminal T))
+  act_map number (act.Enter x) (node.Switch S) alike = refl
+  act_map number (act.Enter x) (node.Terminal T) alike = done_map _ _ (enter_node_map f x 0 (node.Terminal T))
+  act_map number act.CreditOut (node.Switch S) alike = refl
+  act_map number act.CreditOut (node.Terminal T) alike = done_map _ _ (credit_out_node_map f 0 (node.Terminal T))
+  act_map number act.CreditIn (node.Switch S) alike = refl
+  act_map number act.CreditIn (node.Terminal T) alike = done_map _ _ (credit_in_node_map f 0 (node.Terminal T))
+
+  near_map : (crossing : Crossing) (p : Port) → near_act crossing p ≡ map_act (near_act crossing p)
+  near_map Token (port.Switch s l) = refl
+  near_map Token (port.Terminal t) = refl
+  near_map Grant (port.Switch s l) = refl
+  near_map Grant (port.Terminal t) = refl
+
+  far_map : (q : Port) (r : ReplyOf A) → far_act q (map_reply r) ≡ map_act (far_act q r)
+  far_map (port.Switch s l) reply.Done = refl
+  far_map (port.Switch s l) reply.NotReady = refl
+  far_map (port.Switch s l) (reply.Token x) = refl
+  far_map (port.Switch s l) (reply.Control bytes) = refl
+  far_map (port.Terminal t) reply.Done = refl
+  far_map (port.Terminal t) reply.NotReady = refl
+  far_map (port.Terminal t) (reply.Token x) = refl
+  far_map (port.Terminal t) (reply.Control bytes) = refl
+
+  near_alike : (crossing : Crossing) (p : Port) (o : Option (Node A)) → IsSentBy 0 o (near_act crossing p)
+  near_alike Token (port.Switch s l) o = tt
+  near_alike Token (port.Terminal t) o = tt
+  near_alike Grant (port.Switch s l) o = tt
+  near_alike Grant (port.Terminal t) o = tt
+
+  far_alike : (q : Port) (r : ReplyOf A) (o : Option (Node A)) → IsSentBy 0 o (far_act q r)
+  far_alike (port.Switch s l) reply.Done o = tt
+  far_alike (port.Switch s l) reply.NotReady o = tt
+  far_alike (port.Switch s l) (reply.Token x) o = tt
+  far_alike (port.Switch s l) (reply.Control bytes) o = tt
+  far_alike (port.Terminal t) reply.Done o = tt
+  far_alike (port.Terminal t) reply.NotReady o = tt
+  far_alike (port.Terminal t) (reply.Token x) o = tt
+  far_alike (port.Terminal t) (reply.Control bytes) o = tt
+
+  abbrev set_at : {C : Type 0} → List (Node C) → ℕ → ReplyOf C × Node C → Option (ReplyOf C × List (Node C))
+  set_at nodes k y = Some (y.0, slice_set nodes k y.1)
+
+  abbrev told_with : ReplyOf B → List (Node B) → Option (ReplyOf B × List (Node B))
+  told_with r nodes = Some (r, nodes)
+
+  nodes_map : (nodes : List (Node A)) (k number : ℕ) (a : ActOf A) (b : ActOf B) → b ≡ map_act a → IsSentBy number (slice_get nodes k) a → nodes_act to (map (map_node f) nodes) k number b ≡ option_map map_all (nodes_act from nodes k number a)
+  nodes_map nodes k number a b same alike =
+      ap (λ c. nodes_act to (map (map_node f) nodes) k number c) same
+      ∙ ap (λ (o : Option (Node B)). o >>= (λ x. node_act to number (map_act a) x >>= set_at (map (map_node f) nodes) k)) (slice_get-map (map_node f) nodes k)
+      ∙ by_node (slice_get nodes k) alike
+    where
+      by_node : (o : Option (Node A)) → IsSentBy number o a →
+          (option_map (map_node f) o >>= (λ x. node_act to number (map_act a) x >>= set_at (map (map_node f) nodes) k)) ≡ option_map map_all (o >>= (λ x. node_act from number a x >>= set_at nodes k))
+      by_node None alike = refl
+      by_node (Some n) alike = bind_both map_made map_all (node_act from number a n) _ _ _ (act_map number a n alike) (λ y. ap (told_with (map_reply y.0)) (sym (map-set (map_node f) nodes k y.1)))
+
+  -- what acts send is the same, mapped
+  abbrev AreSentAlike : Plan → List (Node A) → Acts A → Type 0
+  AreSentAlike plan nodes (Acts.Alone k a) = IsSentBy (k - length plan.switches) (slice_get nodes k) a
+  AreSentAlike plan nodes (Acts.Joint p q crossing) = Unit {0}
+
+  -- the step of some acts
+  acts_map : (plan : Plan) (nodes : List (Node A)) (acts : Acts A) → AreSentAlike plan nodes acts → acts_step to plan (map (map_node f) nodes) (map_acts acts) ≡ option_map map_all (acts_step from plan nodes acts)
+  acts_map plan nodes (Acts.Alone k a) alike = nodes_map nodes k (k - length plan.switches) a (map_act a) refl alike
+  acts_map plan nodes (Acts.Joint p q crossing) alike =
+      bind_both map_all map_all (nodes_act from nodes (port_place plan p) 0 (near_act crossing p)) _ _ _ (nodes_map nodes (port_place plan p) 0 (near_act crossing p) (near_act crossing p) (near_map crossing p) (near_alike crossing p (slice_get nodes (port_place plan p)))) (λ r.
+      bind_both map_all map_all (nodes_act from r.1 (port_place plan q) 0 (far_act q r.0)) _ _ _ (nodes_map r.1 (port_place plan q) 0 (far_act q r.0) (far_act q (map_reply r.0)) (far_map q r.0) (far_alike q r.0 (slice_get r.1 (port_place plan q)))) (λ s. refl))
+
+  -- the acts of an event
+  events_map : (plan : Plan) (e : Event) → event_acts plan e ≡ option_map map_acts (event_acts plan e)
+  events_map plan (event.Cross p) = by_peer (peer plan p)
+    where
+      by_peer : (o : Option Port) → crossing_acts Token p o ≡ option_map map_acts (crossing_acts Token p o)
+      by_peer None = refl
+      by_peer (Some q) = refl
+  events_map plan (event.Credit p) = by_peer (peer plan p)
+    where
+      by_peer : (o : Option Port) → crossing_acts Grant p o ≡ option_map map_acts (crossing_acts Grant p o)
+      by_peer None = refl
+      by_peer (Some q) = refl
+  events_map plan (event.Input s l word) = refl
+  events_map plan (event.Claim s i o) = refl
+  events_map plan (event.Control s bytes) = refl
+  events_map plan (event.Send t packet) = refl
+  events_map plan (event.Drain t) = refl
+
+  plain_map : (r : ReplyOf A) → plain_reply to (map_reply r) ≡ plain_reply from r
+  plain_map reply.Done = refl
+  plain_map reply.NotReady = refl
+  plain_map (reply.Token x) = ap reply.Token (plain_is x)
+  plain_map (reply.Control bytes) = refl
+
+  abbrev told_so : Network A → List (Node A) → Reply → Reply × Network B
+  told_so net nodes r = (r, map_network f (with_nodes net nodes))
+
+  told_map : (net : Network A) (made : Option (ReplyOf A × List (Node A))) → told_step to (map_network f net) (option_map map_all made) ≡ option_map map_done (told_step from net made)
+  told_map net None = refl
+  told_map net (Some r) = ap (λ z. Some (told_so net r.1 z)) (plain_map r.0)
+
+  abbrev step_from : {C : Type 0} → Kind C → Network C → Acts C → Option (Reply × Network C)
+  step_from kind net acts = told_step kind net (acts_step kind net.plan net.nodes acts)
+
+  waiting_map : (n : Node A) → length (waiting_tokens (map_node f n)) ≡ length (waiting_tokens n)
+  waiting_map (node.Switch S) = refl
+  waiting_map (node.Terminal T) = length-map T.output.items f
+
+  arrived_map : (n : Node A) → arrived_tokens (map_node f n) ≡ map f (arrived_tokens n)
+  arrived_map (node.Switch S) = refl
+  arrived_map (node.Terminal T) = refl
+
+  act_limit_map : (o : Option (Node A)) (a : ActOf A) → act_limit (option_map (map_node f) o) (map_act a) ≡ act_limit o a
+  act_limit_map None a = refl
+  act_limit_map (Some n) (act.Step a) = refl
+  act_limit_map (Some n) (act.Send packet) = rw (waiting_map n) refl
+  act_limit_map (Some n) act.Drain = rw (arrived_map n, length-map (arrived_tokens n) f) refl
+  act_limit_map (Some n) act.Leave = refl
+  act_limit_map (Some n) (act.Enter x) = refl
+  act_limit_map (Some n) act.CreditOut = refl
+  act_limit_map (Some n) act.CreditIn = refl
+
+  pub limit_map : (net : Network A) (e : Event) → event_limit (map_network f net) e ≡ event_limit net e
+  limit_map net e = ap (λ o. o >>= acts_limit (map (map_node f) net.nodes)) (events_map net.plan e) ∙ by_acts (event_acts net.plan e)
+    where
+      by_acts : (o : Option (Acts A)) → (option_map map_acts o >>= acts_limit (map (map_node f) net.nodes)) ≡ (o >>= acts_limit net.nodes)
+      by_acts None = refl
+      by_acts (Some (Acts.Alone k a)) = ap (λ m. act_limit m (map_act a)) (slice_get-map (map_node f) net.nodes k) ∙ act_limit_map (slice_get net.nodes k) a
+      by_acts (Some (Acts.Joint p q crossing)) = refl
+
+  abbrev pub map_answer : Result Reply EventFault × Network A → Result Reply EventFault × Network B
+  map_answer r = (r.0, map_network f r.1)
+
+  within_map : (net : Network A) (o : Option EventFault) (r : Reply × Network A) → ◌≡◌ {A = Result Reply EventFault × Network B} (outcome_within_limit to (map_network f net) o (map_done r)) (map_answer (outcome_within_limit from net o r))
+  within_map net None r = refl
+  within_map net (Some k) r = refl
+
+  ready_map : (net : Network A) (e : Event) (o : Option (Reply × Network A)) → ◌≡◌ {A = Result Reply EventFault × Network B} (outcome_if_ready to (map_network f net) e (option_map map_done o)) (map_answer (outcome_if_ready from net e o))
+  ready_map net e None = refl
+  ready_map net e (Some r) = ap (λ o. outcome_within_limit to (map_network f net) o (map_done r)) (limit_map net e) ∙ within_map net (event_limit net e) r
+
+  -- what an event sends is the same, mapped, from where the terminal stands
+  abbrev pub IsSentAlike : Network A → Event → Type 0
+  IsSentAlike net (event.Cross p) = Unit {0}
+  IsSentAlike net (event.Credit p) = Unit {0}
+  IsSentAlike net (event.Input s l word) = Unit {0}
+  IsSentAlike net (event.Claim s i o) = Unit {0}
+  IsSentAlike net (event.Control s bytes) = Unit {0}
+  IsSentAlike net (event.Send t p) = IsSentHere t (slice_get net.nodes (terminal_place net.plan t))
+  IsSentAlike net (event.Drain t) = Unit {0}
+
+  -- the acts of such an event
+  acts_alike : (net : Network A) (e : Event) → IsSentAlike net e → (acts : Acts A) → event_acts net.plan e ≡ Some acts → AreSentAlike net.plan net.nodes acts
+  acts_alike net (event.Cross p) alike acts known = by_peer (peer net.plan p) known
+    where
+      by_peer : (o : Option Port) → crossing_acts Token p o ≡ Some acts → AreSentAlike net.plan net.nodes acts
+      by_peer None is = absurd (cc)
+      by_peer (Some q) is = let same : Acts.Joint p q Token ≡ acts = cc in subst (AreSentAlike net.plan net.nodes) same tt
+  acts_alike net (event.Credit p) alike acts known = by_peer (peer net.plan p) known
+    where
+      by_peer : (o : Option Port) → crossing_acts Grant p o ≡ Some acts → AreSentAlike net.plan net.nodes acts
+      by_peer None is = absurd (cc)
+      by_peer (Some q) is = let same : Acts.Joint p q Grant ≡ acts = cc in subst (AreSentAlike net.plan net.nodes) same tt
+  acts_alike net (event.Input s l word) alike acts known = let same : Acts.Alone s (act.Step (action.Input l word)) ≡ acts = cc in subst (AreSentAlike net.plan net.nodes) same tt
+  acts_alike net (event.Claim s i o) alike acts known = let same : Acts.Alone s (act.Step (action.Claim i o)) ≡ acts = cc in subst (AreSentAlike net.plan net.nodes) same tt
+  acts_alike net (event.Control s bytes) alike acts known = let same : Acts.Alone s (act.Step (action.Control bytes)) ≡ acts = cc in subst (AreSentAlike net.plan net.nodes) same tt
+  acts_alike net (event.Send t p) alike acts known =
+      let same : Acts.Alone (terminal_place net.plan t) (act.Send p) ≡ acts = cc in
+      let number : t ≡ terminal_place net.plan t - length net.plan.switches = omega arith in
+      subst (AreSentAlike net.plan net.nodes) same (subst (λ k. IsSentHere k (slice_get net.nodes (terminal_place net.plan t))) number alike)
+  acts_alike net (event.Drain t) alike acts known = let same : Acts.Alone (terminal_place net.plan t) act.Drain ≡ acts = cc in subst (AreSentAlike net.plan net.nodes) same tt
+
+  -- a step of the one is a step of the other, with the same reply, where what it sends is the same
+  step_alike : (net : Network A) (e : Event) → IsSentAlike net e → network_step to (map_network f net) e ≡ option_map map_done (network_step from net e)
+  step_alike net e alike = by_acts (event_acts net.plan e) refl
+    where
+      by_acts : (o : Option (Acts A)) → event_acts net.plan e ≡ o → network_step to (map_network f net) e ≡ option_map map_done (network_step from net e)
+      by_acts o known =
+          ap (λ (m : Option (Acts B)). m >>= step_from to (map_network f net)) (events_map net.plan e ∙ ap (option_map map_acts) known)
+          ∙ by_known o known
+          ∙ ap (λ (m : Option (Acts A)). option_map map_done (m >>= step_from from net)) (sym known)
+        where
+          by_known : (o : Option (Acts A)) → event_acts net.plan e ≡ o → (option_map map_acts o >>= step_from to (map_network f net)) ≡ option_map map_done (o >>= step_from from net)
+          by_known None known = refl
+          by_known (Some acts) known = ap (told_step to (map_network f net)) (acts_map net.plan net.nodes acts (acts_alike net e alike acts known)) ∙ told_map net (acts_step from net.plan net.nodes acts)
+
+  there_alike : (net : Network A) (e : Event) → IsSentAlike net e → (o : Option EventFault) → ◌≡◌ {A = Result Reply EventFault × Network B} (outcome_if_possible to (map_network f net) e o) (map_answer (outcome_if_possible from net e o))
+  there_alike net e alike None = ap (outcome_if_ready to (map_network f net) e) (step_alike net e alike) ∙ ready_map net e (network_step from net e)
+  there_alike net e alike (Some k) = refl
+
+  -- an event is answered alike, and leaves what it leaves, mapped, where what it sends is the same
+  pub apply_alike : (net : Network A) (e : Event) → IsSentAlike net e → ◌≡◌ {A = Result Reply EventFault × Network B} (network_apply to (map_network f net) e) (map_answer (network_apply from net e))
+  apply_alike net e alike = there_alike net e alike (event_fault net.plan e)
+
+  -- what is told of all that may be sent
+  module _ (sent_is : (t n j : ℕ) (x : PlainToken) → to.sent t n j x ≡ f (from.sent t n j x)) where
+    all_alike : (net : Network A) (e : Event) → IsSentAlike net e
+    all_alike net (event.Cross p) = tt
+    all_alike net (event.Credit p) = tt
+    all_alike net (event.Input s l word) = tt
+    all_alike net (event.Claim s i o) = tt
+    all_alike net (event.Control s bytes) = tt
+    all_alike net (event.Send t p) = λ T at j x. sent_is t (length T.sent) j x
+    all_alike net (event.Drain t) = tt
+
+    -- a step of the one is a step of the other, with the same reply
+    pub step_map : (net : Network A) (e : Event) → network_step to (map_network f net) e ≡ option_map map_done (network_step from net e)
+    step_map net e = step_alike net e (all_alike net e)
+
+    -- an event is answered alike, and leaves what it leaves, mapped
+    pub apply_map : (net : Network A) (e : Event) → ◌≡◌ {A = Result Reply EventFault × Network B} (network_apply to (map_network f net) e) (map_answer (network_apply from net e))
+    apply_map net e = apply_alike net e (all_alike net e)
+
+    -- a run over the other kind, from where a network is mapped to, is that of a run over the one, with the same replies
+    pub run_lift : (net : Network A) (ended : Network B) (events : List (Event × Reply)) → IsDoneRun to (map_network f net) events ended → (last : Network A) × IsDoneRun from net events last × (map_network f last ≡ ended)
+    run_lift net ended [] is = (net, refl, sym is)
+    run_lift net ended (e ∷ events) is =
+        let same : ◌≡◌ {A = Result Reply EventFault × Network B} (Ok e.1, is.0) (map_answer (network_apply from net e.0)) = is.1 ∙ apply_map net e.0 in
+        let done : ◌≡◌ {A = Result Reply EventFault × Network A} (Ok e.1, (network_apply from net e.0).1) (network_apply from net e.0) = ap (λ (z : Result Reply EventFault × Network B). (z.0, (network_apply from net e.0).1)) same in
+        let next : is.0 ≡ map_network f (network_apply from net e.0).1 = ap (λ (z : Result Reply EventFault × Network B). z.1) same in
+        let rest = run_lift (network_apply from net e.0).1 ended events (subst (λ n. IsDoneRun to n events ended) next is.3) in
+        (rest.0, ((network_apply from net e.0).1, done, is.2, rest.1), rest.2)

@@ -1,0 +1,140 @@
+-- A round is walked part by part: each of its events has a reason why it isn't ready exactly where the network stands
+-- still.
+use Rattle.c104_plan.proofs.RangeLists.{all_of_each}
+use Rattle.c104_plan.specs.Plans.{IsPlan, Plan}
+use Rattle.c104_event.specs.declared.events.Event.{Event}
+use Rattle.c104_event.specs.declared.faults.EventFault.{EventFault}
+use Rattle.c104_link.proofs.MadeSteps.{All-place}
+use Rattle.c104_run.proofs.PartRuns.{single, singles}
+use Rattle.c104_run.proofs.PortWalks.{of_switch, switches_each, wired_by, wired_each}
+use Rattle.c104_run.proofs.RoundLists.{links_passed}
+use Rattle.c104_run.proofs.UnreadyEvents.{unready_answered}
+use Rattle.c104_run.specs.Balance.{IsSteady}
+use Rattle.c104_run.specs.Network.{Network, network_apply}
+use Rattle.c104_run.specs.RoundParts.{port_events}
+use Rattle.c104_run.specs.Reasons.{is_unready}
+use Rattle.c104_run.specs.Rounds.{all_claims, all_drains, claims_of, link_numbers, round, switch_claims, turn_at, wired_links, wired_ports, wired_terminals}
+use Rattle.c104_run.specs.Standstill.{IsUnready, StandsStill, has_reason, have_reasons}
+use Rattle.c104_node.specs.declared.port_part.PortPart.{PortPart}
+use Rattle.c104_node.specs.declared.port_part.PortPart.TheVariants.{Credit, Cross, Turn}
+use Rattle.c104_switch.specs.Actions.{Reply}
+use Rattle.c104_token.specs.Kinds.{Kind}
+use Rattle.std.specs.List.{AllByRecursion, flat_map, list_all, range_with_len}
+use Rattle.std.proofs.Common.{Bool, Err, List, Ok, Result, Some, [], ap, arith, false, length, map, refl, slice_get, suc, sym, true, ℕ, ◌&&◌, ◌++◌, ◌+◌, ◌-◌, ◌<◌, ◌∙◌, ◌∷◌, ◌≡◌, ◌≤◌}
+use Rattle.std.proofs.lemmas.List.Folds.{list_all-append}
+use Rattle.c104_plan.specs.declared.ports.Port.TheVariants as port
+use Rattle.c104_event.specs.declared.events.Event.TheVariants as event
+use Rattle.c104_switch.specs.declared.actions.ReplyOf.TheVariants as reply
+
+-- a test of all events of the numbers below n: those that are left tell it, so far as none has failed
+module _ (p : Event → Bool) where
+  pub one_event : (e : Event) → list_all p (e ∷ []) ≡ p e
+  one_event e = by_test (p e)
+    where
+      by_test : (b : Bool) → (b && true) ≡ b
+      by_test true = refl
+      by_test false = refl
+
+  module _ (part : ℕ → List Event) (n : ℕ) where
+    abbrev pub tested : Bool
+    tested = list_all p (flat_map part (range_with_len 0 n))
+
+    abbrev pub left : ℕ → Bool
+    left i = list_all p (flat_map part (range_with_len i (n - i)))
+
+    pub left_first : left 0 ≡ tested
+    left_first = let same : n - 0 ≡ n = omega arith in ap (λ m. list_all p (flat_map part (range_with_len 0 m))) same
+
+    one_left : (i : ℕ) → i < n → left i ≡ (list_all p (part i) && left (i + 1))
+    one_left i inside =
+        let count : n - i ≡ suc (n - (i + 1)) = omega (arith, inside) in
+        ap (λ m. list_all p (flat_map part (range_with_len i m))) count ∙ list_all-append p (part i) (flat_map part (range_with_len (i + 1) (n - (i + 1))))
+
+    pub left_next : (i : ℕ) → i < n → left i ≡ tested → list_all p (part i) ≡ true → left (i + 1) ≡ tested
+    left_next i inside so_far this = ap (λ b. b && left (i + 1)) (sym this) ∙ sym (one_left i inside) ∙ so_far
+
+    pub left_stops : (i : ℕ) → i < n → left i ≡ tested → list_all p (part i) ≡ false → false ≡ tested
+    left_stops i inside so_far this = ap (λ b. b && left (i + 1)) (sym this) ∙ sym (one_left i inside) ∙ so_far
+
+    pub left_none : (i : ℕ) → n ≤ i → left i ≡ tested → true ≡ tested
+    left_none i past so_far = let count : n - i ≡ 0 = omega (arith, past) in ap (λ m. list_all p (flat_map part (range_with_len i m))) (sym count) ∙ so_far
+
+  -- what the numbers are of
+  pub of_links : (plan : Plan) (part : PortPart) (s : ℕ) → tested (wired_by plan part (port.Switch s)) 32 ≡ list_all p (of_switch plan part s)
+  of_links plan part s = ap (list_all p) (ap (flat_map (wired_by plan part (port.Switch s))) (links_passed 32 refl) ∙ wired_each plan part (port.Switch s) link_numbers)
+
+  pub of_switches : (plan : Plan) (part : PortPart) → tested (of_switch plan part) (length plan.switches) ≡ list_all p (flat_map (port_events part) (flat_map (wired_links plan) (range_with_len 0 (length plan.switches))))
+  of_switches plan part = ap (list_all p) (switches_each plan part (range_with_len 0 (length plan.switches)))
+
+  pub of_terminals : (plan : Plan) (part : PortPart) → tested (wired_by plan part port.Terminal) (length plan.terminals) ≡ list_all p (flat_map (port_events part) (wired_terminals plan))
+  of_terminals plan part = ap (list_all p) (wired_each plan part port.Terminal (range_with_len 0 (length plan.terminals)))
+
+  pub of_claims : (s i : ℕ) → tested (single (event.Claim s i)) 32 ≡ list_all p (claims_of s i)
+  of_claims s i = ap (list_all p) (ap (flat_map (single (event.Claim s i))) (links_passed 32 refl) ∙ singles (event.Claim s i) link_numbers)
+
+  pub of_inputs : (s : ℕ) → tested (claims_of s) 32 ≡ list_all p (switch_claims s)
+  of_inputs s = ap (λ ns. list_all p (flat_map (claims_of s) ns)) (links_passed 32 refl)
+
+  pub of_drains : (n : ℕ) → tested (single event.Drain) n ≡ list_all p (all_drains n)
+  of_drains n = ap (list_all p) (singles event.Drain (range_with_len 0 n))
+
+  -- the parts of all ports, and of a round
+  abbrev pub ports : Plan → PortPart → Bool
+  ports plan part = list_all p (flat_map (port_events part) (wired_ports plan))
+
+  pub of_round : (plan : Plan) → list_all p (round plan) ≡ (ports plan Credit && (ports plan Cross && (ports plan Turn && (list_all p (all_claims (length plan.switches)) && list_all p (all_drains (length plan.terminals))))))
+  of_round plan =
+      let a : List Event = map event.Credit (wired_ports plan) in
+      let b : List Event = map event.Cross (wired_ports plan) in
+      let c : List Event = flat_map turn_at (wired_ports plan) in
+      let d : List Event = all_claims (length plan.switches) in
+      let e : List Event = all_drains (length plan.terminals) in
+      list_all-append p (a ++ b ++ c ++ d) e ∙ ap (λ x. x && list_all p e) (list_all-append p (a ++ b ++ c) d ∙ ap (λ x. x && list_all p d) (list_all-append p (a ++ b) c ∙ ap (λ x. x && list_all p c) (list_all-append p a b)))
+      ∙ regroup (list_all p a) (list_all p b) (list_all p c) (list_all p d) (list_all p e)
+      ∙ ap (λ x. x && (list_all p b && (list_all p c && (list_all p d && list_all p e)))) (ap (list_all p) (sym (singles event.Credit (wired_ports plan))))
+      ∙ ap (λ x. ports plan Credit && (x && (list_all p c && (list_all p d && list_all p e)))) (ap (list_all p) (sym (singles event.Cross (wired_ports plan))))
+    where
+      regroup : (a b c d e : Bool) → ((((a && b) && c) && d) && e) ≡ (a && (b && (c && (d && e))))
+      regroup true b c d e = regroup_three b c d e
+        where
+          regroup_three : (b c d e : Bool) → (((b && c) && d) && e) ≡ (b && (c && (d && e)))
+          regroup_three true true d e = refl
+          regroup_three true false d e = refl
+          regroup_three false c d e = refl
+      regroup false b c d e = refl
+
+-- a network stands still exactly where each event of a round has a reason
+module _ {A : Type 0} (kind : Kind A) (net : Network A) (is_plan : IsPlan net.plan) (steady : IsSteady net) where
+  unready_is : (answer : Result Reply EventFault) → is_unready answer ≡ true → answer ≡ Ok reply.NotReady
+  unready_is (Ok reply.Done) is = absurd (cc is)
+  unready_is (Ok reply.NotReady) is = refl
+  unready_is (Ok (reply.Token x)) is = absurd (cc is)
+  unready_is (Ok (reply.Control bytes)) is = absurd (cc is)
+  unready_is (Err f) is = absurd (cc is)
+
+  reason_unready : (e : Event) → has_reason net e ≡ true → IsUnready kind net e
+  reason_unready e is = unready_is (network_apply kind net e).0 (sym (unready_answered kind net is_plan steady e) ∙ is)
+
+  unready_reason : (e : Event) → IsUnready kind net e → has_reason net e ≡ true
+  unready_reason e is = unready_answered kind net is_plan steady e ∙ ap is_unready is
+
+  each_unready : (es : List Event) → have_reasons net es ≡ true → AllByRecursion (IsUnready kind net) es
+  each_unready [] is = tt
+  each_unready (e ∷ es) is = by_first (λ rest. each_unready es rest) (has_reason net e) refl is
+    where
+      by_first : (have_reasons net es ≡ true → AllByRecursion (IsUnready kind net) es) → (b : Bool) → has_reason net e ≡ b → (b && have_reasons net es) ≡ true → AllByRecursion (IsUnready kind net) (e ∷ es)
+      by_first later true first rest = (reason_unready e first, later rest)
+      by_first later false first rest = absurd (cc rest)
+
+  all_reasons : (es : List Event) → ((i : ℕ) (e : Event) → slice_get es i ≡ Some e → IsUnready kind net e) → have_reasons net es ≡ true
+  all_reasons [] all = refl
+  all_reasons (e ∷ es) all = rw (unready_reason e (all 0 e refl)) (all_reasons es (λ i f at. all (suc i) f at))
+
+  pub stands_where : have_reasons net (round net.plan) ≡ true → StandsStill kind net
+  stands_where is = all_of_each (IsUnready kind net) (round net.plan) (each_unready (round net.plan) is)
+
+  pub reasons_where : StandsStill kind net → have_reasons net (round net.plan) ≡ true
+  reasons_where all = all_reasons (round net.plan) (λ i e at. All-place (IsUnready kind net) (round net.plan) i e at all)
+
+-- what the loops over the events of a round cite
+pub ruleset still_parts = (one_event, left_first, left_next, left_stops, left_none, of_links, of_switches, of_terminals, of_claims, of_inputs, of_drains)

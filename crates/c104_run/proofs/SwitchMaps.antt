@@ -1,0 +1,101 @@
+-- Switches over one kind of token and over another: commands, and what a switch tells of itself.
+use Rattle.c104_control.specs.Reading.{read_command}
+use Rattle.c104_control.specs.Table.{reply_bytes}
+use Rattle.c104_control.specs.declared.commands.Command.{Command}
+use Rattle.c104_control.specs.declared.faults.CommandFault.{CommandFault}
+use Rattle.c104_control.specs.declared.replies.Answer.{Answer}
+use Rattle.c104_interval.specs.declared.intervals.Select.{Select}
+use Rattle.c104_interval.specs.declared.intervals.Select.TheVariants.{Discard, Link, Sink}
+use Rattle.c104_link.specs.Buffers.{Outgoing, outgoing_clear}
+use Rattle.c104_run.proofs.TokenMaps.{if_map, map_phase}
+use Rattle.c104_node.specs.Nodes.{Node, node_control}
+use Rattle.c104_node.specs.MappedNodes.{map_input, map_node, map_outgoing, map_switch}
+use Rattle.c104_regs.specs.declared.status.Status.{Status}
+use Rattle.c104_switch.specs.Commands.{input_reset}
+use Rattle.c104_switch.specs.Control.{switch_control, switch_obey, switch_obey_if_read}
+use Rattle.c104_switch.specs.Headers.{decided_phase}
+use Rattle.c104_switch.specs.Peeks.{is_busy, link_status, registers, sides_status, status_of, statuses_from}
+use Rattle.c104_switch.specs.Phases.{is_stream}
+use Rattle.c104_switch.specs.Switch.{Input, Switch, is_owned}
+use Rattle.c104_switch.specs.Views.{owner_from}
+use Rattle.c104_switch.specs.declared.phase.Phase.{Phase}
+use Rattle.c104_switch.specs.declared.phase.Phase.TheVariants.{Fresh, Head, Sinking, Stream, Want}
+use Rattle.std.proofs.Common.{Err, List, None, Ok, Option, Result, Some, [], ap, map, option_map, refl, slice_get, suc, zero, ℕ, ◌∷◌, ◌≡◌}
+use Rattle.std.proofs.lemmas.List.{length-map}
+use Rattle.std.proofs.lemmas.Option.{slice_get-map}
+use Rattle.c104_control.specs.declared.commands.Command.TheVariants as command
+use Rattle.c104_node.specs.declared.node.NodeOf.TheVariants as node
+
+module _ {A B : Type 0} (f : A → B) where
+  pub streams_map : (o : ℕ) (ph : Phase (List A)) → is_stream o (map_phase f ph) ≡ is_stream o ph
+  streams_map o Fresh = refl
+  streams_map o (Head b) = refl
+  streams_map o (Want b g) = refl
+  streams_map o (Stream p) = refl
+  streams_map o Sinking = refl
+
+  pub owned_map : (inputs : List (Input A)) (o : ℕ) → is_owned (map (map_input f) inputs) o ≡ is_owned inputs o
+  owned_map [] o = refl
+  owned_map (p ∷ inputs) o = rw (streams_map o p.phase, owned_map inputs o) refl
+
+  pub decided_map : (b : List A) (sel : Select) → decided_phase (map f b) sel ≡ map_phase f (decided_phase b sel)
+  decided_map b (Link g) = refl
+  decided_map b Discard = refl
+  decided_map b Sink = refl
+
+  -- what a switch tells of itself
+  pub busy_map : (ph : Phase (List A)) → is_busy (map_phase f ph) ≡ is_busy ph
+  busy_map Fresh = refl
+  busy_map (Head b) = refl
+  busy_map (Want b g) = refl
+  busy_map (Stream o) = refl
+  busy_map Sinking = refl
+
+  pub owner_map : (n : ℕ) (inputs : List (Input A)) (o : ℕ) → owner_from n (map (map_input f) inputs) o ≡ owner_from n inputs o
+  owner_map n [] o = refl
+  owner_map n (p ∷ inputs) o = rw (streams_map o p.phase, owner_map (suc n) inputs o) refl
+
+  pub status_map : (inputs : List (Input A)) (l : ℕ) (p : Input A) (q : Outgoing A) → status_of (map (map_input f) inputs) l (map_input f p) (map_outgoing f q) ≡ status_of inputs l p q
+  status_map inputs l p q = rw (length-map p.buffer.items f, length-map q.items f, owner_map 0 inputs l, busy_map p.phase, owned_map inputs l) refl
+
+  pub sides_map : (inputs : List (Input A)) (l : ℕ) (p : Option (Input A)) (q : Option (Outgoing A)) → sides_status (map (map_input f) inputs) l (option_map (map_input f) p) (option_map (map_outgoing f) q) ≡ sides_status inputs l p q
+  sides_map inputs l None q = refl
+  sides_map inputs l (Some p) None = refl
+  sides_map inputs l (Some p) (Some q) = status_map inputs l p q
+
+  pub link_map : (S : Switch A) (l : ℕ) → link_status (map_switch f S) l ≡ link_status S l
+  unfolding link_status
+  link_map S l = rw (slice_get-map (map_input f) S.inputs l, slice_get-map (map_outgoing f) S.outputs l) (sides_map S.inputs l (slice_get S.inputs l) (slice_get S.outputs l))
+
+  pub statuses_map : (S : Switch A) (l n : ℕ) → statuses_from (map_switch f S) l n ≡ statuses_from S l n
+  statuses_map S l zero = refl
+  statuses_map S l (suc n) = rw (link_map S l, statuses_map S (suc l) n) refl
+
+  pub registers_map : (S : Switch A) → registers (map_switch f S) ≡ registers S
+  registers_map S = ap (λ (z : List Status). record { started = S.started; settings = S.settings; statuses = z }) (statuses_map S 0 32)
+
+  pub reset_inputs : (l : List (Input A)) → map (input_reset {A = B}) (map (map_input f) l) ≡ map (map_input f) (map (input_reset {A = A}) l)
+  reset_inputs [] = refl
+  reset_inputs (p ∷ l) = ap (λ z. input_reset (map_input f p) ∷ z) (reset_inputs l)
+
+  pub reset_outputs : (l : List (Outgoing A)) → map (outgoing_clear {A = B}) (map (map_outgoing f) l) ≡ map (map_outgoing f) (map (outgoing_clear {A = A}) l)
+  reset_outputs [] = refl
+  reset_outputs (q ∷ l) = ap (λ z. outgoing_clear (map_outgoing f q) ∷ z) (reset_outputs l)
+
+  pub obeyed_map : (S : Switch A) (c : Command) → ◌≡◌ {A = Answer × Switch B} (switch_obey (map_switch f S) c) ((switch_obey S c).0, map_switch f (switch_obey S c).1)
+  obeyed_map S command.Start = if_map (λ (z : Answer × Switch A). (z.0, map_switch f z.1)) S.started S.started _ _ _ _ refl refl refl
+  obeyed_map S command.Reset = rw (reset_inputs S.inputs, reset_outputs S.outputs) refl
+  obeyed_map S command.Identify = refl
+  obeyed_map S (command.CPeek a) = rw (registers_map S) refl
+  obeyed_map S (command.CPoke a v) = rw (registers_map S) refl
+
+  pub read_command_map : (S : Switch A) (c : Result Command CommandFault) → ◌≡◌ {A = Answer × Switch B} (switch_obey_if_read (map_switch f S) c) ((switch_obey_if_read S c).0, map_switch f (switch_obey_if_read S c).1)
+  read_command_map S (Ok c) = obeyed_map S c
+  read_command_map S (Err e) = refl
+
+  pub control_map : (S : Switch A) (bytes : List ℕ) → ◌≡◌ {A = List ℕ × Switch B} (switch_control (map_switch f S) bytes) ((switch_control S bytes).0, map_switch f (switch_control S bytes).1)
+  control_map S bytes = ap (λ (z : Answer × Switch B). (reply_bytes z.0, z.1)) (read_command_map S (read_command bytes))
+
+  pub control_node_map : (bytes : List ℕ) (n : Node A) → node_control bytes (map_node f n) ≡ option_map (λ (z : List ℕ × Node A). (z.0, map_node f z.1)) (node_control bytes n)
+  control_node_map bytes (node.Switch S) = ap (λ (z : List ℕ × Switch B). Some (z.0, node.Switch z.1)) (control_map S bytes)
+  control_node_map bytes (node.Terminal T) = refl

@@ -1,0 +1,40 @@
+-- What arrived in a network of tagged tokens is what arrived over plain tokens.
+use Rattle.std.proofs.Common.{◌≡◌, ◌∙◌, ℕ, Bool, true, false, List, Option, Some, None, if◌then◌else◌, length, map, nat_lt, option_map, slice_get, refl, ap}
+use Rattle.std.proofs.lemmas.Option.{slice_get-map}
+use Rattle.c104_token.specs.declared.tokens.Token.{Token}
+use Rattle.c104_link.specs.Steps.{◌>>=◌}
+use Rattle.c104_plan.specs.Plans.{Plan}
+use Rattle.c104_node.specs.declared.node.NodeOf.TheVariants as node
+use Rattle.c104_run.specs.NetRecords.{NetRecord}
+use Rattle.c104_run.specs.Network.{network_arrived, network_of, terminal_place, Network}
+use Rattle.c104_node.specs.Nodes.{node_arrived, Node}
+use Rattle.c104_node.specs.Places.{states}
+use Rattle.c104_run.specs.RecordedNets.{places_record}
+use Rattle.c104_run.specs.RecordedPlaces.{counted_keeps, counted_reading}
+use Rattle.c104_node.specs.ShownNodes.{counted_shown}
+use Rattle.c104_node.specs.declared.tagged.TaggedToken.{TaggedToken}
+use Rattle.c104_node.specs.TracedRecords.{TracedRecord}
+use Rattle.c104_node.specs.MappedNodes.{map_node}
+use Rattle.c104_run.proofs.RecordedNets.{seen_plain}
+use Rattle.c104_run.proofs.TaggedRuns.{plain_network, token_of}
+
+arrived_plain : (n : Node TaggedToken) → node_arrived (map_node token_of n) ≡ option_map (map token_of) (node_arrived n)
+arrived_plain (node.Switch s) = refl
+arrived_plain (node.Terminal t) = refl
+
+map_there : (o : Option (Node TaggedToken)) → (option_map (map_node token_of) o >>= node_arrived) ≡ option_map (map token_of) (o >>= node_arrived)
+map_there None = refl
+map_there (Some n) = arrived_plain n
+
+pub network_arrived_plain : (net : Network TaggedToken) (t : ℕ) → network_arrived (plain_network net) t ≡ option_map (map token_of) (network_arrived net t)
+network_arrived_plain net t = by_place (nat_lt t (length net.plan.terminals))
+  where
+    by_place : (inside : Bool) → (if inside then (slice_get (map (map_node token_of) net.nodes) (terminal_place net.plan t) >>= node_arrived) else None) ≡ option_map (map token_of) (if inside then (slice_get net.nodes (terminal_place net.plan t) >>= node_arrived) else None)
+    by_place true = ap (λ o. o >>= node_arrived) (slice_get-map (map_node token_of) net.nodes (terminal_place net.plan t)) ∙ map_there (slice_get net.nodes (terminal_place net.plan t))
+    by_place false = refl
+
+pub arrived_there : (plan : Plan) (nodes lent : List TracedRecord) (count t : ℕ) (r : NetRecord) (o : Option (List TaggedToken)) → lent ≡ nodes → places_record counted_reading plan nodes count ≡ r →
+    ◌≡◌ {A = Option (List TaggedToken)} o (network_arrived (network_of plan (states (map counted_shown lent))) t) → option_map (map token_of) o ≡ network_arrived r.network t
+arrived_there plan nodes lent count t r o lent_is shown is =
+    ap (option_map (map token_of)) is
+    ∙ seen_plain counted_reading counted_keeps.reads (λ (net : Network TaggedToken). option_map (map token_of) (network_arrived net t)) (λ (net : Network Token). network_arrived net t) (λ net. network_arrived_plain net t) plan nodes lent lent_is count r shown

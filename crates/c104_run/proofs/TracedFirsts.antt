@@ -1,0 +1,107 @@
+-- A new network of tagged tokens.
+use Rattle.std.proofs.Common.{◌≡◌, ◌∙◌, ◌++◌, ℕ, List, [], ◌∷◌, map, refl, sym, ap, subst}
+use Rattle.std.proofs.lemmas.List.{map-append}
+use Rattle.c104_token.specs.declared.tokens.Token.{Token}
+use Rattle.c104_switch.specs.Switch.{new_switch}
+use Rattle.c104_plan.specs.declared.plans.Terminal.{Terminal}
+use Rattle.c104_plan.specs.Plans.{Plan, IsPlan}
+use Rattle.c104_node.specs.declared.acts.Entry.{Entry}
+use Rattle.c104_node.specs.declared.node.NodeOf.TheVariants as node
+use Rattle.c104_run.specs.Network.{network_of, new_network}
+use Rattle.c104_run.specs.NetRecords.{first_record, fresh_record, net_record, shown_record, IsNetRecord}
+use Rattle.c104_node.specs.Records.{node_start, node_state, node_trace, NodeRecord}
+use Rattle.c104_node.specs.Nodes.{Node}
+use Rattle.c104_run.specs.RecordedNets.{places_record, read_trace, IsRecordedNet, Reading}
+use Rattle.c104_run.specs.RecordedPlaces.{counted_reading}
+use Rattle.c104_node.specs.Starts.{start_node, start_of}
+use Rattle.c104_node.specs.Terminals.{new_terminal}
+use Rattle.c104_node.specs.declared.tagged.TaggedToken.{TaggedToken}
+use Rattle.c104_node.specs.TracedRecords.{first_traced, traced_start, traced_state, traced_trace, TracedRecord}
+use Rattle.c104_run.proofs.BalancePlaced.{steady_new}
+use Rattle.c104_run.proofs.FirstRecords.{first_is, map_twice, record_first}
+use Rattle.c104_run.proofs.RecordedBegins.{no_entries, told_first}
+use Rattle.c104_run.proofs.RecordSteps.{same_record}
+
+-- a place as it is seen, as a node of plain tokens that keeps its record
+abbrev seen : {A P : Type 0} → Reading A P → P → NodeRecord × ℕ
+seen v p = (record { state = v.plain p; start = v.start p; trace = read_trace v p }, 0)
+
+record_seen : {A P : Type 0} (v : Reading A P) (plan : Plan) (places : List P) (count : ℕ) → places_record v plan places count ≡ net_record plan (map (seen v) places) count
+record_seen v plan places count =
+    same_record (places_record v plan places count) (net_record plan (map (seen v) places) count)
+    (ap (network_of plan) (sym (map_twice node_state (seen v) places))) (sym (map_twice node_start (seen v) places)) (sym (map_twice node_trace (seen v) places)) refl
+
+-- new nodes stand at their starts, over any kind of token
+module _ (A : Type 0) (cap : ℕ) where
+  switch_new : start_node {A = A} (start_of (node.Switch (new_switch {A = A} cap))) ≡ node.Switch (new_switch cap)
+  switch_new = refl
+
+  terminal_new : start_node {A = A} (start_of (node.Terminal (new_terminal {A = A} cap))) ≡ node.Terminal (new_terminal cap)
+  terminal_new = refl
+
+abbrev made_switch : ℕ → List ℕ → TracedRecord
+made_switch cap name = first_traced (node.Switch (new_switch cap))
+
+abbrev made_terminal : ℕ → Terminal → TracedRecord
+made_terminal cap t = first_traced (node.Terminal (new_terminal cap))
+
+abbrev made : Plan → List TracedRecord
+made plan = map (made_switch plan.cap) plan.switches ++ map (made_terminal plan.cap) plan.terminals
+
+map_const : {X Y Z : Type 0} (g : Y → Z) (f : X → Y) (h : X → Z) → ((x : X) → g (f x) ≡ h x) → (xs : List X) → map g (map f xs) ≡ map h xs
+map_const g f h same [] = refl
+map_const g f h same (x ∷ xs) = ap (λ z. z ∷ map g (map f xs)) (same x) ∙ ap (λ zs. h x ∷ zs) (map_const g f h same xs)
+
+made_map : {Z : Type 0} (g : TracedRecord → Z) (h : List ℕ → Z) (k : Terminal → Z) (plan : Plan) → ((name : List ℕ) → g (made_switch plan.cap name) ≡ h name) → ((t : Terminal) → g (made_terminal plan.cap t) ≡ k t) → map g (made plan) ≡ map h plan.switches ++ map k plan.terminals
+made_map g h k plan one two =
+    map-append g (map (made_switch plan.cap) plan.switches) (map (made_terminal plan.cap) plan.terminals)
+    ∙ ap (λ xs. xs ++ map g (map (made_terminal plan.cap) plan.terminals)) (map_const g (made_switch plan.cap) h one plan.switches)
+    ∙ ap (λ ys. map h plan.switches ++ ys) (map_const g (made_terminal plan.cap) k two plan.terminals)
+
+-- a new network of them keeps what such a network keeps, and is a new network over plain tokens
+module _ (plan wires : Plan) (list : List TracedRecord) (same : wires ≡ plan) (is : list ≡ made plan) (is_plan : IsPlan plan) where
+  abbrev names_node : List ℕ → Node TaggedToken
+  names_node name = node.Switch (new_switch plan.cap)
+
+  abbrev terminals_node : Terminal → Node TaggedToken
+  terminals_node t = node.Terminal (new_terminal plan.cap)
+
+  states_new : map traced_state list ≡ map names_node plan.switches ++ map terminals_node plan.terminals
+  states_new = ap (map traced_state) is ∙ made_map traced_state names_node terminals_node plan (λ name. refl) (λ t. refl)
+
+  stand_new : map start_node (map traced_start list) ≡ map traced_state list
+  stand_new =
+      map_twice start_node traced_start list
+      ∙ ap (map (λ (n : TracedRecord). start_node n.start)) is
+      ∙ made_map (λ (n : TracedRecord). start_node n.start) names_node terminals_node plan (λ name. switch_new TaggedToken plan.cap) (λ t. terminal_new TaggedToken plan.cap)
+      ∙ sym states_new
+
+  none_new : map traced_trace list ≡ map no_entries (map traced_state list)
+  none_new = ap (map traced_trace) is ∙ made_map traced_trace (λ name. []) (λ t. []) plan (λ name. refl) (λ t. refl)
+      ∙ sym (made_map (λ (n : TracedRecord). no_entries n.state) (λ name. []) (λ t. []) plan (λ name. refl) (λ t. refl))
+      ∙ sym (map_twice no_entries traced_state (made plan)) ∙ ap (λ ns. map no_entries (map traced_state ns)) (sym is)
+
+  abbrev first_switch : List ℕ → Node Token × Node Token × List Entry
+  first_switch name = first_record (node.Switch (new_switch plan.cap))
+
+  abbrev first_terminal : Terminal → Node Token × Node Token × List Entry
+  first_terminal t = first_record (node.Terminal (new_terminal plan.cap))
+
+  shown_new : map shown_record (map (seen counted_reading) list) ≡ map first_record (new_network plan).nodes
+  shown_new =
+      map_twice shown_record (seen counted_reading) list
+      ∙ ap (map (λ (n : TracedRecord). shown_record (seen counted_reading n))) is
+      ∙ made_map (λ (n : TracedRecord). shown_record (seen counted_reading n)) first_switch first_terminal plan (λ name. refl) (λ t. refl)
+      ∙ ap (λ xs. xs ++ map first_terminal plan.terminals) (sym (map_twice first_record (λ (name : List ℕ). node.Switch (new_switch plan.cap)) plan.switches))
+      ∙ ap (λ ys. map first_record (map (λ (name : List ℕ). node.Switch (new_switch plan.cap)) plan.switches) ++ ys) (sym (map_twice first_record (λ (t : Terminal). node.Terminal (new_terminal plan.cap)) plan.terminals))
+      ∙ sym (map-append first_record (map (λ (name : List ℕ). node.Switch (new_switch plan.cap)) plan.switches) (map (λ (t : Terminal). node.Terminal (new_terminal plan.cap)) plan.terminals))
+
+  pub traced_new : IsRecordedNet counted_reading wires list 0
+  traced_new = record {
+    kept = subst IsNetRecord (sym (record_seen counted_reading wires list 0)) (record_first plan wires (new_network plan).nodes (map (seen counted_reading) list) same shown_new (steady_new plan (new_network plan).nodes refl is_plan));
+    events = [];
+    told = told_first counted_reading wires list stand_new none_new;
+  }
+
+  pub traced_new_is : places_record counted_reading wires list 0 ≡ fresh_record (new_network plan)
+  traced_new_is = record_seen counted_reading wires list 0 ∙ first_is plan wires (new_network plan).nodes (map (seen counted_reading) list) same shown_new

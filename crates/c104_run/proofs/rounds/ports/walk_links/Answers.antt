@@ -1,0 +1,22 @@
+use Rattle.std.proofs.Common.{arith, map}
+use Rattle.c104_run.specs.Stages.{stage_of}
+use Rattle.c104_run.proofs.KnownWires.{still_known}
+use Rattle.c104_plan.specs.declared.ports.Port.TheVariants as port
+use Rattle.c104_run.proofs.PortWalks.{at_wired, of_links, wired_by}
+use Rattle.c104_run.proofs.PartRuns.{number_next, number_stops, numbers_done, numbers_passed}
+use Rattle.c104_run.proofs.rounds.ports.walk_links.Goals as goal
+
+pub loop-link-preserved : goal.loop-link-preserved
+loop-link-preserved g c = record {
+  ends = number_next _ (wired_by c.args.wires.now c.args.part (port.Switch c.args.switch)) _ _ _ _ _ _ _ c.in-Some.ensures.found.1 (numbers_passed _ (wired_by c.args.wires.now c.args.part (port.Switch c.args.switch)) 32 c.loop-link.from _ _ (stage_of c.args.wires.now (map g.P.Place.shown c.loop-link.places) c.loop-link.count) _ c.in-Some.ensures.found.0 (omega (arith, c.in-Some.ensures.found.1)) (λ k above below. c.in-Some.ensures.passed k c.loop-link.count above below) c.loop-link.invariant.ends) (at_wired c.args.wires.now c.args.part _ _ _ _ _ c.in-Some.ensures.linked c.in_ok-done.ensures);
+  within = omega (arith, c.in-Some.ensures.found.1);
+}
+
+pub returns : goal.returns
+returns g c = of_links c.args.wires.now c.args.part _ _ _ _ _ (numbers_done _ (wired_by c.args.wires.now c.args.part (port.Switch c.args.switch)) 32 32 _ _ _ (omega arith) (numbers_passed _ (wired_by c.args.wires.now c.args.part (port.Switch c.args.switch)) 32 c.loop-link.from _ _ (stage_of c.args.wires.now (map g.P.Place.shown c.loop-link.places) c.loop-link.count) _ c.loop-link.invariant.within (omega arith) (λ k above below. c.in_default.ensures.passed k c.loop-link.count above below) c.loop-link.invariant.ends))
+
+pub returns-in_err-done : goal.returns-in_err-done
+returns-in_err-done g c = of_links c.args.wires.now c.args.part _ _ _ _ _ (number_stops _ (wired_by c.args.wires.now c.args.part (port.Switch c.args.switch)) _ _ _ _ _ _ _ _ c.in-Some.ensures.found.1 (numbers_passed _ (wired_by c.args.wires.now c.args.part (port.Switch c.args.switch)) 32 c.loop-link.from _ _ (stage_of c.args.wires.now (map g.P.Place.shown c.loop-link.places) c.loop-link.count) _ c.in-Some.ensures.found.0 (omega (arith, c.in-Some.ensures.found.1)) (λ k above below. c.in-Some.ensures.passed k c.loop-link.count above below) c.loop-link.invariant.ends) (at_wired c.args.wires.now c.args.part _ _ _ _ _ c.in-Some.ensures.linked c.in_err-done.ensures) c.from_residual.ensures)
+
+pub try_at-requires-clause-knows : goal.try_at-requires-clause-knows
+try_at-requires-clause-knows g c = still_known g.T.TokenKind.kind _ _ _ _ _ _ _ _ c.loop-link.invariant.ends c.requires.knows

@@ -1,0 +1,15 @@
+use Rattle.std.proofs.Common.{◌≡◌, ◌∙◌, refl}
+use Rattle.c104_node.specs.ShownNodes.{counted_shown}
+use Rattle.c104_run.proofs.KnownWires.{unknown}
+use Rattle.c104_run.proofs.TracedFirsts.{traced_new, traced_new_is}
+use Rattle.c104_run.proofs.traced_net.TracedNet.new.Goals as goal
+
+pub invariant_of-result : goal.invariant_of-result
+invariant_of-result c =
+    let same : c.in_ok-wires.wires ≡ c.args.plan.now = c.in_ok-wires.ensures ∙ c.in_ok-copy.ensures.cases in
+    (traced_new c.args.plan.now c.in_ok-wires.wires c.add_new_nodes.new.list.items same c.in-Ok.ensures c.switches-switches.ensures.kept, tt, unknown counted_shown (λ n. refl) c.in_ok-wires.wires c.add_new_nodes.new.list.items)
+
+pub returns-in-Ok : goal.returns-in-Ok
+returns-in-Ok c =
+    let same : c.in_ok-wires.wires ≡ c.args.plan.now = c.in_ok-wires.ensures ∙ c.in_ok-copy.ensures.cases in
+    traced_new_is c.args.plan.now c.in_ok-wires.wires c.add_new_nodes.new.list.items same c.in-Ok.ensures c.switches-switches.ensures.kept

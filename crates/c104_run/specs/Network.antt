@@ -1,0 +1,171 @@
+-- A network: a plan, and its nodes; and what each event does and answers.
+use Rattle.std.specs.Prelude.{ℕ, ◌+◌, ◌≡◌, ◌⊎◌, Bool, true, false, List, ◌++◌, length, map, nat_lt, nat_le, Option, Some, None, is_some, Result, Ok, Err, if◌then◌else◌}
+use Rattle.c104_token.specs.declared.text.TheConstants.{MAX_PACKET_BYTES}
+use Rattle.c104_token.specs.Kinds.{Kind}
+use Rattle.c104_link.specs.Steps.{◌>>=◌}
+use Rattle.c104_switch.specs.Actions.{Reply}
+use Rattle.c104_switch.specs.declared.actions.ReplyOf.TheVariants as reply
+use Rattle.c104_regs.specs.declared.registers.TheConstants.{LINKS}
+use Rattle.c104_regs.specs.declared.settings.Settings.{Settings}
+use Rattle.c104_switch.specs.Switch.{new_switch, new_switch_with}
+use Rattle.c104_plan.specs.declared.plans.Terminal.{Terminal}
+use Rattle.c104_plan.specs.Plans.{Plan}
+use Rattle.c104_plan.specs.PlanImage.{Image}
+use Rattle.c104_node.specs.Terminals.{new_terminal}
+use Rattle.c104_node.specs.declared.node.NodeOf.TheVariants as node
+use Rattle.c104_plan.specs.declared.ports.Port.{Port}
+use Rattle.c104_plan.specs.declared.ports.Port.TheVariants as port
+use Rattle.c104_event.specs.declared.events.Event.{Event}
+use Rattle.c104_event.specs.declared.events.Event.TheVariants as event
+use Rattle.c104_event.specs.declared.faults.EventFault.{EventFault}
+use Rattle.c104_event.specs.declared.faults.EventFault.TheVariants as fault
+use Rattle.c104_switch.specs.declared.actions.ReplyOf.{ReplyOf}
+use Rattle.c104_node.specs.Acts.{plain_reply}
+use Rattle.c104_run.specs.EventActs.{acts_step, event_acts}
+use Rattle.c104_node.specs.PortActs.{acts_limit}
+use Rattle.c104_node.specs.Nodes.{Node, nodes_arrived, nodes_peek}
+use Rattle.c104_node.specs.Places.{room_fault}
+use Rattle.c104_plan.specs.Wiring.{peer}
+
+-- a network: its plan, and the state of its nodes
+pub record Network (A : Type 0) : Type 0 where
+  pub plan : Plan
+  -- the switches in order, and then the terminals
+  pub nodes : List (Node A)
+
+-- a network of this plan, with these nodes
+abbrev pub network_of : {A : Type 0} → Plan → List (Node A) → Network A
+network_of plan nodes = record { plan = plan; nodes = nodes }
+
+-- the network with these nodes
+abbrev pub with_nodes : {A : Type 0} → Network A → List (Node A) → Network A
+with_nodes net nodes = record net { nodes = nodes }
+
+-- the place of a terminal among the nodes
+abbrev pub terminal_place : Plan → ℕ → ℕ
+terminal_place plan t = length plan.switches + t
+
+-- what arrived at a terminal
+abbrev pub network_arrived : {A : Type 0} → Network A → ℕ → Option (List A)
+network_arrived net t =
+    if nat_lt t (length net.plan.terminals)
+    then nodes_arrived net.nodes (terminal_place net.plan t)
+    else None
+
+-- the value of a register of a switch
+abbrev pub network_peek : {A : Type 0} → Network A → ℕ → ℕ → Option ℕ
+network_peek net s a =
+    if nat_lt s (length net.plan.switches) then nodes_peek net.nodes s a else None
+
+-- switches at first, with buffers of this size, each started with these settings
+abbrev pub switch_nodes : {A : Type 0} → ℕ → List (List Settings) → List (Node A)
+switch_nodes cap switches = map (λ settings. node.Switch (new_switch_with cap settings true)) switches
+
+-- terminals at first, with buffers of this size, one for each of these of a plan
+abbrev pub terminal_nodes : {A : Type 0} → ℕ → List Terminal → List (Node A)
+terminal_nodes cap terminals = map (λ (t : Terminal). node.Terminal (new_terminal cap)) terminals
+
+-- switches at first, with buffers of this size: each is reset, and not started
+abbrev pub new_switch_nodes : {A : Type 0} → ℕ → List (List ℕ) → List (Node A)
+new_switch_nodes cap names = map (λ name. node.Switch (new_switch cap)) names
+
+-- a new network: no switch is started, and nothing is anywhere. All buffers have the plan's size.
+abbrev pub new_network : {A : Type 0} → Plan → Network A
+new_network plan = record {
+  plan = plan;
+  nodes = new_switch_nodes plan.cap plan.switches ++ terminal_nodes plan.cap plan.terminals;
+}
+
+-- a network at first: each switch started with the image's settings, and nothing anywhere. All buffers
+-- have the plan's size.
+abbrev pub placed_network : {A : Type 0} → Plan → Image → Network A
+placed_network plan image = record {
+  plan = plan;
+  nodes = switch_nodes plan.cap image.settings ++ terminal_nodes plan.cap plan.terminals;
+}
+
+-- no such node, where n isn't below count; and else the other fault, if there is one
+abbrev pub node_fault : ℕ → ℕ → Option EventFault → Option EventFault
+node_fault count n other = if nat_lt n count then other else Some fault.NoNode
+
+-- no such link, where a switch has none of number l; and else the other fault, if there is one
+abbrev pub link_fault : ℕ → Option EventFault → Option EventFault
+link_fault l other = if nat_lt l LINKS then other else Some fault.NoLink
+
+-- no such node or link, where the plan has no such port; and else the other fault, if there is one
+abbrev pub port_fault : Plan → Port → Option EventFault → Option EventFault
+port_fault plan (port.Switch s l) other = node_fault (length plan.switches) s (link_fault l other)
+port_fault plan (port.Terminal t) other = node_fault (length plan.terminals) t other
+
+-- not wired, where there is no port at the other end of a wire
+abbrev pub wire_fault : Option Port → Option EventFault
+wire_fault None = Some fault.NotWired
+wire_fault (Some q) = None
+
+-- why an event about the wire at a port can't happen: there is no such port, or it isn't wired
+abbrev pub wired_fault : Plan → Port → Option EventFault
+wired_fault plan p = port_fault plan p (wire_fault (peer plan p))
+
+-- why an event can't happen in a network of this plan, whatever its nodes hold
+abbrev pub event_fault : Plan → Event → Option EventFault
+event_fault plan (event.Cross p) = wired_fault plan p
+event_fault plan (event.Credit p) = wired_fault plan p
+event_fault plan (event.Input s l word) = node_fault (length plan.switches) s (link_fault l None)
+event_fault plan (event.Claim s i o) =
+    node_fault (length plan.switches) s (link_fault i (link_fault o None))
+event_fault plan (event.Control s bytes) = node_fault (length plan.switches) s None
+event_fault plan (event.Send t packet) = node_fault (length plan.terminals) t
+    (if nat_le (length packet.bytes) MAX_PACKET_BYTES then None else Some fault.TooLong)
+event_fault plan (event.Drain t) = node_fault (length plan.terminals) t None
+
+-- why an event that is ready can't happen now: a terminal's list would pass its limit
+abbrev pub event_limit : {A : Type 0} → Network A → Event → Option EventFault
+event_limit net e = event_acts net.plan e >>= acts_limit net.nodes
+
+module _ {A : Type 0} (kind : Kind A) where
+  -- what was answered, as it is told, and the network that is left
+  abbrev pub told_step : Network A → Option (ReplyOf A × List (Node A)) → Option (Reply × Network A)
+  told_step net made = made >>= (λ r. Some (plain_reply kind r.0, with_nodes net r.1))
+
+  -- what an event answers and leaves, where it is ready: the step of its acts
+  abbrev pub network_step : Network A → Event → Option (Reply × Network A)
+  network_step net e = event_acts net.plan e >>= (λ acts. told_step net (acts_step kind net.plan net.nodes acts))
+
+  -- an event that is ready is done, if no limit is passed
+  abbrev pub outcome_within_limit : Network A → Option EventFault → Reply × Network A → Result Reply EventFault × Network A
+  outcome_within_limit net None r = (Ok r.0, r.1)
+  outcome_within_limit net (Some f) r = (Err f, net)
+
+  -- an event that isn't ready changes nothing; one that is ready is done, if no limit is passed
+  abbrev pub outcome_if_ready : Network A → Event → Option (Reply × Network A) → Result Reply EventFault × Network A
+  outcome_if_ready net e None = (Ok reply.NotReady, net)
+  outcome_if_ready net e (Some r) = outcome_within_limit net (event_limit net e) r
+
+  -- an event that can't happen is refused, and changes nothing; any other is done if it is ready
+  abbrev pub outcome_if_possible : Network A → Event → Option EventFault → Result Reply EventFault × Network A
+  outcome_if_possible net e None = outcome_if_ready net e (network_step net e)
+  outcome_if_possible net e (Some f) = (Err f, net)
+
+  -- what an event answers, and the network after it: a fault of the event, not ready, a limit that
+  -- would be passed, or its reply, in this order. Only the last changes anything.
+  abbrev pub network_apply : Network A → Event → Result Reply EventFault × Network A
+  network_apply net e = outcome_if_possible net e (event_fault net.plan e)
+
+  -- an event for which memory can run out: no fault and no limit refuses it, and it is ready
+  abbrev pub WouldBeDone : Network A → Event → Type 0
+  WouldBeDone net e =
+      (event_fault net.plan e ≡ None)
+      × (is_some (network_step net e) ≡ true)
+      × (event_limit net e ≡ None)
+
+  -- an answer and the network after it: what is due; or, of an event that would be done, that a trace
+  -- is full or memory has run out, and nothing changed
+  abbrev pub AnswersWith : Bool → Network A → Event → Result Reply EventFault → Network A → Type 0
+  AnswersWith full net e answer after =
+      (◌≡◌ {A = Result Reply EventFault × Network A} (answer, after) (network_apply net e))
+      ⊎ ((answer ≡ Err (room_fault full)) × WouldBeDone net e × (after ≡ net))
+
+  -- the same where no trace is kept: what is due, or out of memory for an event that would be done, and
+  -- nothing changed
+  abbrev pub AnswersEvent : Network A → Event → Result Reply EventFault → Network A → Type 0
+  AnswersEvent net e answer after = AnswersWith false net e answer after

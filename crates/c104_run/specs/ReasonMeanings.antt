@@ -1,0 +1,82 @@
+-- What the reason of an event says of the network: it holds of the node at its port.
+use Rattle.std.specs.Prelude.{ℕ, ◌≡◌, ◌⊎◌, Option, Some, None, slice_get}
+use Rattle.c104_switch.specs.ReasonMeanings.{IsReason, IsAcceptReason, IsTakeReason, IsGrantReason, IsEmitReason, IsCreditedReason}
+use Rattle.c104_switch.specs.declared.actions.ActionOf.TheVariants as action
+use Rattle.c104_switch.specs.declared.unready.Unready.{Unready}
+use Rattle.c104_switch.specs.declared.unready.Unready.TheVariants.{NoLink}
+use Rattle.c104_plan.specs.declared.ports.Port.{Port}
+use Rattle.c104_plan.specs.declared.ports.Port.TheVariants as port
+use Rattle.c104_plan.specs.Wiring.{peer}
+use Rattle.c104_event.specs.declared.events.Event.{Event}
+use Rattle.c104_event.specs.declared.events.Event.TheVariants as event
+use Rattle.c104_node.specs.declared.node.NodeOf.TheVariants.{Switch, Terminal}
+use Rattle.c104_run.specs.declared.reason.Reason.{Reason}
+use Rattle.c104_node.specs.Nodes.{Node}
+use Rattle.c104_run.specs.Ends.{end_of}
+use Rattle.c104_run.specs.Network.{Network, terminal_place}
+use Rattle.c104_run.specs.Reasons.{claim_link}
+
+-- no token goes out of a node over a link's wire
+abbrev pub IsLeaveReason : {A : Type 0} → ℕ → Node A → Unready → Type 0
+IsLeaveReason l (Switch s) reason = IsReason s (action.Leave l) reason
+IsLeaveReason l (Terminal t) reason = IsEmitReason t.output reason
+
+-- no token comes in there, whatever the token
+abbrev pub IsEnterReason : {A : Type 0} → ℕ → Node A → Unready → Type 0
+IsEnterReason {A} l (Switch s) reason = (x : A) → IsReason s (action.Enter l x) reason
+IsEnterReason l (Terminal t) reason = IsAcceptReason t.input reason
+
+-- a link doesn't grant eight more tokens
+abbrev pub IsCreditOutReason : {A : Type 0} → ℕ → Node A → Unready → Type 0
+IsCreditOutReason l (Switch s) reason = IsReason s (action.CreditOut l) reason
+IsCreditOutReason l (Terminal t) reason = IsGrantReason t.input reason
+
+-- a link may not send eight more tokens
+abbrev pub IsCreditInReason : {A : Type 0} → ℕ → Node A → Unready → Type 0
+IsCreditInReason l (Switch s) reason = IsReason s (action.CreditIn l) reason
+IsCreditInReason l (Terminal t) reason = IsCreditedReason t.output reason
+
+-- an input takes no turn; a terminal has none that could
+abbrev pub IsInputReason : {A : Type 0} → ℕ → ℕ → Node A → Unready → Type 0
+IsInputReason l word (Switch s) reason = IsReason s (action.Input l word) reason
+IsInputReason l word (Terminal t) reason = reason ≡ NoLink
+
+-- an input doesn't claim an output; a terminal has none that could
+abbrev pub IsNodeClaimReason : {A : Type 0} → ℕ → ℕ → Node A → Unready → Type 0
+IsNodeClaimReason i o (Switch s) reason = IsReason s (action.Claim i o) reason
+IsNodeClaimReason i o (Terminal t) reason = reason ≡ NoLink
+
+-- no token arrives; at a switch none does
+abbrev pub IsDrainReason : {A : Type 0} → Node A → Unready → Type 0
+IsDrainReason (Switch s) reason = reason ≡ NoLink
+IsDrainReason (Terminal t) reason = IsTakeReason t.input reason
+
+-- it is said of a node, or there is none
+abbrev pub IsSaid : {A : Type 0} → (Node A → Unready → Type 0) → Option (Node A) → Unready → Type 0
+IsSaid Says None reason = reason ≡ NoLink
+IsSaid Says (Some n) reason = Says n reason
+
+-- it is said of the node at a port, at this end of its wire
+abbrev pub IsSaidAt : {A : Type 0} → Network A → (ℕ → Node A → Unready → Type 0) → Port → Unready → Type 0
+IsSaidAt net Says p reason = IsSaid (Says (end_of net.plan p).link) (slice_get net.nodes (end_of net.plan p).node) reason
+
+-- of the wire at a port, this is said at that port, or at the other end
+abbrev pub IsWireReason : {A : Type 0} → Network A → Port → (ℕ → Node A → Unready → Type 0) → (ℕ → Node A → Unready → Type 0) →
+    Reason → Type 0
+IsWireReason net p Near Far r =
+    ((r.port ≡ p) × IsSaidAt net Near r.port r.unready)
+    ⊎ ((peer net.plan p ≡ Some r.port) × IsSaidAt net Far r.port r.unready)
+
+-- what the reason of an event says: its port is one of the event's, and the reason holds there. A command
+-- and a packet that is sent have none
+abbrev pub IsEventReason : {A : Type 0} → Network A → Event → Reason → Type 0
+IsEventReason net (event.Cross p) r = IsWireReason net p IsLeaveReason IsEnterReason r
+IsEventReason net (event.Credit p) r = IsWireReason net p IsCreditOutReason IsCreditInReason r
+IsEventReason net (event.Input s l word) r =
+    (r.port ≡ port.Switch s l) × IsSaid (IsInputReason l word) (slice_get net.nodes s) r.unready
+IsEventReason net (event.Claim s i o) r =
+    (r.port ≡ port.Switch s (claim_link i o r.unready)) × IsSaid (IsNodeClaimReason i o) (slice_get net.nodes s) r.unready
+IsEventReason net (event.Control s bytes) r = ⊥
+IsEventReason net (event.Send t packet) r = ⊥
+IsEventReason net (event.Drain t) r =
+    (r.port ≡ port.Terminal t) × IsSaid IsDrainReason (slice_get net.nodes (terminal_place net.plan t)) r.unready

@@ -1,0 +1,39 @@
+-- Parts of a round: how a run of some events ends that tells whether any of them was done.
+use Rattle.std.specs.Prelude.{◌≡◌, Bool, false, List, Result, Ok, Err, [], ◌∷◌, filter}
+use Rattle.c104_switch.specs.Actions.{Reply, is_ready}
+use Rattle.c104_event.specs.declared.events.Event.{Event}
+use Rattle.c104_event.specs.declared.faults.EventFault.{EventFault}
+use Rattle.c104_run.specs.EventRuns.{EventsEnd, run_events}
+use Rattle.std.specs.List.{flat_map}
+use Rattle.c104_plan.specs.Plans.{Plan}
+use Rattle.c104_plan.specs.declared.ports.Port.{Port}
+use Rattle.c104_event.specs.declared.events.Event.TheVariants as event
+use Rattle.c104_node.specs.declared.port_part.PortPart.{PortPart}
+use Rattle.c104_node.specs.declared.port_part.PortPart.TheVariants.{Credit, Cross, Turn}
+use Rattle.c104_run.specs.Rounds.{is_wired, turn_at}
+
+-- whether an event was done, by its answer, or its fault
+abbrev pub done_answer : Result Reply EventFault → Result Bool EventFault
+done_answer (Ok r) = Ok (is_ready r)
+done_answer (Err f) = Err f
+
+module _ {S : Type 0} (apply : S → Event → Result Reply EventFault × S) where
+  -- how a part ends: as the run of its events, and where it tells that none was done nothing has changed; or as a run
+  -- that a fault stops
+  abbrev pub Ending : S → List Event → Result Bool EventFault → S → Type 0
+  Ending s events (Ok changed) after =
+      (run_events apply s events ≡ (Ok tt, after)) × (changed ≡ false → after ≡ s)
+  Ending s events (Err f) after = EventsEnd apply s events (Err f) after
+
+  pub record PartEnds (s : S) (events : List Event) (result : Result Bool EventFault) (after : S) : Type 0 where
+    pub ends : Ending s events result after
+
+-- what a part has for a port
+abbrev pub port_events : PortPart → Port → List Event
+port_events Credit p = event.Credit p ∷ []
+port_events Cross p = event.Cross p ∷ []
+port_events Turn p = turn_at p
+
+-- the same for a port that may have no wire
+abbrev pub wired_events : Plan → PortPart → Port → List Event
+wired_events plan part p = flat_map (port_events part) (filter (is_wired plan) (p ∷ []))

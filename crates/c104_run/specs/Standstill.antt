@@ -1,0 +1,67 @@
+-- Networks in which nothing can happen.
+--     StandsStill kind net      no event of a round can be done
+--     IsDeadlocked kind net      it stands still, and isn't quiet
+--     IsStartedStart      where a node starts, with every switch started
+--     IsAcyclicRun      a run in an accepted network that nobody changed, without a cycle of channel dependencies
+use Rattle.std.specs.Prelude.{ℕ, ◌≡◌, ◌<◌, ◌≤◌, All, Bool, true, List, Some, Ok, is_some, length, slice_get}
+use Rattle.std.specs.List.{list_all}
+use Rattle.c104_token.specs.Kinds.{Kind}
+use Rattle.c104_link.specs.declared.TheConstants.{TOKENS_OF_A_GRANT}
+use Rattle.c104_regs.specs.declared.registers.TheConstants.{LINKS}
+use Rattle.c104_switch.specs.Switch.{Input, Switch}
+use Rattle.c104_switch.specs.declared.actions.ReplyOf.TheVariants as reply
+use Rattle.c104_plan.specs.Wiring.{peer}
+use Rattle.c104_plan.specs.declared.ports.Port.{Port}
+use Rattle.c104_plan.specs.declared.ports.Port.TheVariants as port
+use Rattle.c104_event.specs.declared.events.Event.{Event}
+use Rattle.c104_event.specs.declared.events.Event.TheVariants as event
+use Rattle.c104_node.specs.declared.node.NodeOf.TheVariants as node
+use Rattle.c104_node.specs.Nodes.{Node}
+use Rattle.c104_run.specs.Network.{Network, network_apply}
+use Rattle.c104_run.specs.QuietNets.{IsQuiet}
+use Rattle.c104_run.specs.Reasons.{network_why}
+use Rattle.c104_run.specs.Rounds.{round}
+
+-- an event is answered with NotReady
+abbrev pub IsUnready : {A : Type 0} → Kind A → Network A → Event → Type 0
+IsUnready kind net e = (network_apply kind net e).0 ≡ Ok reply.NotReady
+
+-- no event of a round can be done: each is answered with NotReady
+abbrev pub StandsStill : {A : Type 0} → Kind A → Network A → Type 0
+StandsStill kind net = All (IsUnready kind net) (round net.plan)
+
+-- a deadlock: nothing can be done, and some token stands somewhere or some packet is under way
+abbrev pub IsDeadlocked : {A : Type 0} → Kind A → Network A → Type 0
+IsDeadlocked kind net = StandsStill kind net × (IsQuiet net → ⊥)
+
+-- whether an event has a reason why it isn't ready
+abbrev pub has_reason : {A : Type 0} → Network A → Event → Bool
+has_reason net e = is_some (network_why net e)
+
+-- the same of each of some events
+abbrev pub have_reasons : {A : Type 0} → Network A → List Event → Bool
+have_reasons net es = list_all (has_reason net) es
+
+-- the same, event by event
+pub record IsStill {A : Type 0} (kind : Kind A) (net : Network A) : Type 0 where
+  pub credits : (p q : Port) → peer net.plan p ≡ Some q → IsUnready kind net (event.Credit p)
+  pub crosses : (p q : Port) → peer net.plan p ≡ Some q → IsUnready kind net (event.Cross p)
+  pub inputs : (s l : ℕ) (q : Port) → peer net.plan (port.Switch s l) ≡ Some q → IsUnready kind net (event.Input s l 0)
+  pub claims : (s i o : ℕ) → s < length net.plan.switches → i < LINKS → o < LINKS → IsUnready kind net (event.Claim s i o)
+  pub drains : (t : ℕ) → t < length net.plan.terminals → IsUnready kind net (event.Drain t)
+
+-- a switch that is started, with its links, and with buffers that have room for a grant
+pub record IsStartedSwitch {A : Type 0} (s : Switch A) : Type 0 where
+  pub started : s.started ≡ true
+  pub settings : length s.settings ≡ LINKS
+  pub inputs : length s.inputs ≡ LINKS
+  pub outputs : length s.outputs ≡ LINKS
+  pub room : (l : ℕ) (p : Input A) → slice_get s.inputs l ≡ Some p → TOKENS_OF_A_GRANT ≤ p.buffer.cap
+
+abbrev pub IsStartedNode : {A : Type 0} → Node A → Type 0
+IsStartedNode (node.Switch s) = IsStartedSwitch s
+IsStartedNode (node.Terminal t) = TOKENS_OF_A_GRANT ≤ t.input.cap
+
+-- each switch of a network is started
+abbrev pub IsStarted : {A : Type 0} → Network A → Type 0
+IsStarted {A} net = (k : ℕ) (n : Node A) → slice_get net.nodes k ≡ Some n → IsStartedNode n

@@ -1,0 +1,130 @@
+//! What an event asks of the nodes of a network, by the plan's ports alone.
+ghost use Rattle.std.specs.Prelude.{◌≡◌, None, Some, IfOk, MatchResult};
+ghost use Rattle.c104_plan.specs.Wiring.{peer};
+ghost use Rattle.c104_event.specs.declared.events.Event.TheVariants as event;
+ghost use Rattle.c104_run.specs.AskedActs.{AreEnds, acts_asked};
+ghost use Rattle.c104_run.specs.EventActs.{crossing_acts, event_acts};
+ghost use Rattle.c104_run.specs.FarEnds.{far_end};
+ghost use Rattle.c104_run.specs.Network.{event_fault, wired_fault};
+
+use crate::wires::Wires;
+use c104_control::ControlBytes;
+use c104_event::{Event, EventFault, Port};
+use c104_node::{ActOf, Crossing, End, Joint};
+use c104_switch::{ActionOf, LINKS};
+use c104_token::{MAX_PACKET_BYTES, Packet, TokenKind};
+
+/// What an event asks.
+pub enum Asked<'a, T> {
+    /// An act of the node at a place.
+    Alone(usize, ActOf<T>),
+    /// The terminal at a place sends a packet, which isn't copied before it is known that it can.
+    Send(usize, &'a Packet),
+    /// An act of each of the nodes at two places.
+    Joint(usize, usize, Joint),
+}
+
+/// What an event asks; or why it can't happen, whatever the nodes hold: NoNode, NoLink, NotWired or TooLong.
+#[inline(always)]
+pub fn acts_of<'a, T: TokenKind>(
+    wires: &Wires,
+    event: &'a Event,
+) -> Result<Asked<'a, T>, EventFault>
+    ensures fault { MatchResult result
+        (λ asked. event_fault wires.now event.now ≡ None)
+        (λ fault. event_fault wires.now event.now ≡ Some fault) }
+    ensures acts { IfOk result (λ asked. event_acts wires.now event.now ≡ Some (acts_asked asked)) }
+    ensures ends { IfOk result (λ asked. AreEnds wires.now asked) }
+{
+    let plan = wires.plan();
+    let switches = plan.switches().len();
+    let terminals = plan.terminals().len();
+    match event {
+        Event::Cross(port) => joint_of(wires, *port, Crossing::Token),
+        Event::Credit(port) => joint_of(wires, *port, Crossing::Grant),
+        Event::Input { switch, link, word } => {
+            if *switch >= switches {
+                return Err(EventFault::NoNode);
+            }
+            if *link >= LINKS {
+                return Err(EventFault::NoLink);
+            }
+            Ok(Asked::Alone(*switch, ActOf::Step(ActionOf::Input(*link, *word))))
+        }
+        Event::Claim {
+            switch,
+            input,
+            output,
+        } => {
+            if *switch >= switches {
+                return Err(EventFault::NoNode);
+            }
+            if *input >= LINKS || *output >= LINKS {
+                return Err(EventFault::NoLink);
+            }
+            Ok(Asked::Alone(*switch, ActOf::Step(ActionOf::Claim(*input, *output))))
+        }
+        Event::Control { switch, bytes } => {
+            if *switch >= switches {
+                return Err(EventFault::NoNode);
+            }
+            let bytes = ControlBytes::new(bytes.as_slice());
+            Ok(Asked::Alone(*switch, ActOf::Step(ActionOf::Control(bytes))))
+        }
+        Event::Send { terminal, packet } => {
+            if *terminal >= terminals {
+                return Err(EventFault::NoNode);
+            }
+            if packet.bytes.as_bytes().len() > MAX_PACKET_BYTES {
+                return Err(EventFault::TooLong);
+            }
+            Ok(Asked::Send(switches + *terminal, packet))
+        }
+        Event::Drain { terminal } => {
+            if *terminal >= terminals {
+                return Err(EventFault::NoNode);
+            }
+            Ok(Asked::Alone(switches + *terminal, ActOf::Drain))
+        }
+    }
+}
+
+/// Something crosses the wire at a port.
+#[inline(always)]
+pub fn joint_of<'a, T: TokenKind>(
+    wires: &Wires,
+    port: Port,
+    crossing: Crossing,
+) -> Result<Asked<'a, T>, EventFault>
+    ensures fault { MatchResult result
+        (λ asked. wired_fault wires.now port ≡ None)
+        (λ fault. wired_fault wires.now port ≡ Some fault) }
+    ensures acts { IfOk result (λ asked. crossing_acts crossing port (peer wires.now port) ≡ Some (acts_asked asked)) }
+    ensures ends { IfOk result (λ asked. AreEnds wires.now asked) }
+{
+    let ends = wires.ends(port)?;
+    let far = far_port(wires, port, ends.far);
+    Ok(Asked::Joint(
+        ends.near.node,
+        ends.far.node,
+        Joint {
+            near: port,
+            far,
+            crossing,
+        },
+    ))
+}
+
+/// The port at the far end of a wire.
+#[inline(always)]
+pub fn far_port(wires: &Wires, port: Port, far: End) -> Port
+    requires { far_end wires.now port ≡ Some far }
+    ensures { peer wires.now port ≡ Some result }
+{
+    let switches = wires.plan().switches().len();
+    if far.node < switches {
+        Port::Switch(far.node, far.link)
+    } else {
+        Port::Terminal(far.node - switches)
+    }
+}

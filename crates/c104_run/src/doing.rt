@@ -1,0 +1,113 @@
+//! The acts of an event, done at the places of nodes.
+ghost use Rattle.std.specs.Prelude.{◌≡◌, ◌-◌, None, map, slice_get};
+ghost use Rattle.c104_node.specs.Acts.{IsWithinLimits};
+ghost use Rattle.c104_run.specs.AskedActs.{AreEnds, acts_asked};
+ghost use Rattle.c104_node.specs.PortActs.{act_limit};
+ghost use Rattle.c104_run.specs.EventsAtPlaces.{ActsDone};
+ghost use Rattle.c104_node.specs.PlaceActs.{AloneDone};
+ghost use Rattle.c104_node.specs.ActLinks.{act_link};
+ghost use Rattle.c104_node.specs.Places.{bases, states};
+ghost use Rattle.c104_run.specs.KnownWires.{KnowWires};
+ghost use Rattle.c104_node.specs.declared.acts.ActOf.TheVariants as act;
+
+use crate::asked::Asked;
+use c104_event::EventFault;
+use c104_node::{
+    ActOf, Place, SentPacket, Stamp, act_ready, is_full_at, joint_at, node_at, ready_at,
+};
+use c104_plan::Plan;
+use c104_switch::ReplyOf;
+use c104_token::{Packet, TokenKind};
+
+/// Why an act that is ready can't be done now: a terminal's list would pass its limit.
+#[inline(always)]
+fn limit_at<T: TokenKind, P: Place<T>>(
+    places: &[P],
+    place: usize,
+    act: &ActOf<T>,
+) -> Option<EventFault>
+    requires { IsWithinLimits act.now }
+    ensures { result ≡ act_limit (slice_get (states (map P.shown places.now)) place) act.now }
+{
+    node_at(places, place)?.limit(act)
+}
+
+/// The node at a place does an act, if it is ready and no limit of a list refuses it.
+#[inline(always)]
+pub fn do_alone<T: TokenKind, P: Place<T>>(
+    switches: usize,
+    places: &mut [P],
+    place: usize,
+    act: ActOf<T>,
+    stamp: Stamp,
+) -> Result<ReplyOf<T>, EventFault>
+    requires short { IsWithinLimits act }
+    requires lone { act_link act ≡ None }
+    ensures { AloneDone T.kind P.keeps place (place - switches) stamp act
+        (map P.shown places.old) result (map P.shown places.new) }
+{
+    let number = place.saturating_sub(switches);
+    if !ready_at(places, place, number, &act) {
+        return Ok(ReplyOf::NotReady);
+    }
+    if place >= places.len() {
+        return Ok(ReplyOf::NotReady);
+    }
+    if let Some(fault) = limit_at(places, place, &act) {
+        return Err(fault);
+    }
+    act_ready(places, place, number, stamp, act)
+}
+
+/// The terminal at a place sends a packet, if the limit of its list doesn't refuse it. The packet is copied only then.
+#[inline(always)]
+fn do_send<T: TokenKind, P: Place<T>>(
+    switches: usize,
+    places: &mut [P],
+    place: usize,
+    packet: &Packet,
+    stamp: Stamp,
+) -> Result<ReplyOf<T>, EventFault>
+    requires { IsWithinLimits {A = T} (act.Send packet.now) }
+    ensures { AloneDone T.kind P.keeps place (place - switches) stamp (act.Send packet.now)
+        (map P.shown places.old) result (map P.shown places.new) }
+{
+    let Some(node) = node_at(places, place) else {
+        return Ok(ReplyOf::NotReady);
+    };
+    if node.waiting().is_none() {
+        return Ok(ReplyOf::NotReady);
+    }
+    if let Some(fault) = node.send_limit(packet) {
+        return Err(fault);
+    }
+    if is_full_at(places, place) {
+        return Err(EventFault::TraceFull);
+    }
+    let Ok(copy) = SentPacket::copy_of(packet) else {
+        return Err(EventFault::NoMemory);
+    };
+    let number = place.saturating_sub(switches);
+    act_ready(places, place, number, stamp, ActOf::Send(copy))
+}
+
+/// Does what an event asks at these places, or changes nothing.
+#[inline(always)]
+pub fn do_acts<T: TokenKind, P: Place<T>>(
+    plan: &Plan,
+    places: &mut [P],
+    asked: Asked<'_, T>,
+    stamp: Stamp,
+) -> Result<ReplyOf<T>, EventFault>
+    requires ends { AreEnds plan.now asked }
+    requires knows { KnowWires plan.now (bases (map P.shown places.old)) }
+    ensures { ActsDone T.kind P.keeps plan.now stamp (acts_asked asked.entry)
+        (map P.shown places.old) result (map P.shown places.new) }
+{
+    let switches = plan.switches().len();
+    match asked {
+        Asked::Alone(place, act) => do_alone(switches, places, place, act, stamp),
+        Asked::Send(place, packet) => do_send(switches, places, place, packet, stamp),
+        Asked::Joint(near, far, joint) => joint_at(places, near, far, joint, stamp),
+    }
+}

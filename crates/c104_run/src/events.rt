@@ -1,0 +1,70 @@
+//! The events of a network, over any places of its nodes: one act, or one at each end of a wire.
+ghost use Rattle.std.specs.Prelude.{◌≡◌, map};
+ghost use Rattle.c104_plan.specs.Plans.{IsPlan};
+ghost use Rattle.c104_node.specs.Places.{bases};
+ghost use Rattle.c104_run.specs.KnownWires.{KnowWires};
+ghost use Rattle.c104_run.specs.EventsAtPlaces.{EventDone, told_answer};
+
+use crate::asked::acts_of;
+use crate::doing::do_acts;
+use crate::wires::Wires;
+use c104_event::{Event, EventFault};
+use c104_node::{Place, Stamp};
+use c104_switch::{Reply, ReplyOf};
+use c104_token::TokenKind;
+
+/// Does an event at these places, which stand for the nodes of a network of this plan: the acts that it asks, or none.
+/// Its entries bear the stamp.
+pub fn happen<T: TokenKind, P: Place<T>>(
+    wires: &Wires,
+    places: &mut [P],
+    stamp: Stamp,
+    event: &Event,
+) -> Result<Reply, EventFault>
+    requires knows { KnowWires wires.now (bases (map P.shown places.old)) }
+    ensures done { EventDone T.kind P.keeps wires.now stamp event.now (map P.shown places.old) result (map P.shown places.new) }
+    ensures kept { IsPlan wires.now }
+{
+    // Each arm is a code of its own for its kind of event, in which it is known what acts are asked: a control command
+    // takes about 70 instructions less than by one call for all kinds.
+    match event {
+        Event::Cross(_) => do_asked(wires, places, stamp, event),
+        Event::Credit(_) => do_asked(wires, places, stamp, event),
+        Event::Input { .. } => do_asked(wires, places, stamp, event),
+        Event::Claim { .. } => do_asked(wires, places, stamp, event),
+        Event::Control { .. } => do_asked(wires, places, stamp, event),
+        Event::Send { .. } => do_asked(wires, places, stamp, event),
+        Event::Drain { .. } => do_asked(wires, places, stamp, event),
+    }
+}
+
+/// Does the acts that an event asks, or none.
+#[inline(always)]
+fn do_asked<T: TokenKind, P: Place<T>>(
+    wires: &Wires,
+    places: &mut [P],
+    stamp: Stamp,
+    event: &Event,
+) -> Result<Reply, EventFault>
+    requires knows { KnowWires wires.now (bases (map P.shown places.old)) }
+    ensures done { EventDone T.kind P.keeps wires.now stamp event.now (map P.shown places.old) result (map P.shown places.new) }
+    ensures kept { IsPlan wires.now }
+{
+    let plan = wires.plan();
+    let asked = acts_of(wires, event)?;
+    answered(do_acts(plan, places, asked, stamp))
+}
+
+/// An answer as it is told, with a plain token.
+#[inline(always)]
+fn answered<T: TokenKind>(answer: Result<ReplyOf<T>, EventFault>) -> Result<Reply, EventFault>
+    ensures { result ≡ told_answer T.kind answer }
+{
+    match answer {
+        Ok(ReplyOf::Done) => Ok(Reply::Done),
+        Ok(ReplyOf::NotReady) => Ok(Reply::NotReady),
+        Ok(ReplyOf::Token(token)) => Ok(Reply::Token(token.plain())),
+        Ok(ReplyOf::Control(bytes)) => Ok(Reply::Control(bytes)),
+        Err(fault) => Err(fault),
+    }
+}

@@ -1,0 +1,79 @@
+//! What a network tells of itself, what can be seen of its nodes, and why an event isn't ready in it.
+ghost use Rattle.std.specs.Prelude.{◌≡◌, ◌↔◌, is_some, IfSome, IsTrue};
+ghost use Rattle.std.specs.Option.{option_copied};
+ghost use Rattle.c104_token.specs.Kinds.{plain_kind};
+ghost use Rattle.c104_run.specs.Network.{network_apply, network_peek};
+ghost use Rattle.c104_run.specs.ReasonMeanings.{IsEventReason};
+ghost use Rattle.c104_run.specs.Reasons.{is_unready, network_why};
+ghost use Rattle.c104_run.specs.Standstill.{StandsStill};
+ghost use Rattle.c104_run.specs.NetViews.{network_link_view, network_sent_packet, network_terminal_view};
+
+use super::RecordedNet;
+use crate::place_tokens::sent_packet_at;
+use crate::place_views::{peek_at, view_link_at, view_terminal_at};
+use crate::reason::Reason;
+use crate::reasons::first_reason;
+use crate::recorded_place::RecordedPlace;
+use crate::standstill::round_stands;
+use c104_event::Event;
+use c104_node::TerminalView;
+use c104_switch::LinkView;
+use c104_token::{Packet, TokenKind};
+
+impl<T: TokenKind, P: RecordedPlace<T>> RecordedNet<T, P> {
+    /// The value of the register at this address of a switch. None where the plan has no such
+    /// switch, or no register has the address.
+    pub fn peek(&self, switch: usize, addr: u16) -> Option<u32>
+        ensures { result ≡ network_peek self.now.network switch addr }
+    {
+        peek_at(&self.wires, self.places.as_slice(), switch, addr)
+    }
+
+    /// Why `apply` would answer NotReady to this event, and where: the first of its conditions that
+    /// doesn't hold. None where the event would be done, or refused for whatever fault.
+    pub fn why(&self, event: &Event) -> Option<Reason>
+        ensures why { result ≡ network_why self.now.network event.now }
+        ensures ready { is_some result ≡
+            is_unready (network_apply plain_kind self.now.network event.now).0 }
+        ensures holds { IfSome result (IsEventReason self.now.network event.now) }
+    {
+        // The proof reads by these names what every such network and every plan keeps.
+        let _count = self.count;
+        let _plan = self.wires.plan();
+        first_reason(&self.wires, self.places.as_slice(), event)
+    }
+
+    /// Whether the network stands still: to each event of a round (`rounds`) `apply` would answer NotReady. False
+    /// where one of them would be done, or be refused, as a Drain whose inbox is full. It changes nothing and takes
+    /// no memory.
+    pub fn stands_still(&self) -> bool
+        ensures { IsTrue result ↔ StandsStill plain_kind self.now.network }
+    {
+        // The proof reads by these names what every such network and every plan keeps.
+        let _count = self.count;
+        let _plan = self.wires.plan();
+        round_stands(&self.wires, self.places.as_slice())
+    }
+
+    /// What can be seen of a link of a switch. None where the plan has no such switch, or a switch no such link.
+    pub fn view_link(&self, switch: usize, link: usize) -> Option<LinkView>
+        ensures { result ≡ network_link_view plain_kind self.now.network switch link }
+    {
+        view_link_at(&self.wires, self.places.as_slice(), switch, link)
+    }
+
+    /// What can be seen of a terminal. None where the plan has no such terminal.
+    pub fn view_terminal(&self, terminal: usize) -> Option<TerminalView>
+        ensures { result ≡ network_terminal_view self.now.network terminal }
+    {
+        view_terminal_at(&self.wires, self.places.as_slice(), terminal)
+    }
+
+    /// The packet of this number, from 0, among those that a terminal sent since the start. None where it sent no such
+    /// packet, or the plan has no such terminal.
+    pub fn sent_packet(&self, terminal: usize, number: usize) -> Option<&Packet>
+        ensures { option_copied result ≡ network_sent_packet self.now.network terminal number }
+    {
+        sent_packet_at(&self.wires, self.places.as_slice(), terminal, number)
+    }
+}

@@ -1,0 +1,37 @@
+//! Rounds of a network whose nodes are seen with their records.
+ghost use Rattle.c104_run.specs.RecordedRuns.{RecordsRounds};
+
+use super::RecordedNet;
+use crate::recorded_place::RecordedPlace;
+use crate::rounds::rounds_at;
+use crate::watch::{Unwatched, Watch};
+use c104_event::EventFault;
+use c104_token::TokenKind;
+
+impl<T: TokenKind, P: RecordedPlace<T>> RecordedNet<T, P> {
+    /// Does `count` rounds, up to the first fault of an event. A round is this emulator's own order of events: Credit
+    /// of each wired port, those of the switches by switch and link and then the terminals; Cross of the same; Input of
+    /// each wired input, with word 0; Claim of each input and output of each switch; and Drain of each terminal. An
+    /// event that isn't ready stops nothing.
+    ///
+    /// The events before a fault stand, and their entries. NoMemory comes when out of memory for an event
+    /// that would be done.
+    pub fn rounds(&mut self, count: u32) -> Result<(), EventFault>
+        ensures { RecordsRounds self.old count result self.new }
+    {
+        self.rounds_watched(count, &mut Unwatched)
+    }
+
+    /// The same, and tells of each round that changed something.
+    pub fn rounds_watched<W: Watch>(&mut self, count: u32, watch: &mut W) -> Result<(), EventFault>
+        ensures { RecordsRounds self.old count result self.new }
+    {
+        rounds_at(
+            &self.wires,
+            self.places.as_mut_slice(),
+            &mut self.count,
+            count,
+            watch,
+        )
+    }
+}

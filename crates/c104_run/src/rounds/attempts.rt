@@ -1,0 +1,163 @@
+//! One event of a round, which tells whether it was done, and is counted where it was.
+//!
+//! A round knows of each of its events that it can happen, and what acts it asks: so an event is tried by its acts.
+ghost use Rattle.std.specs.Prelude.{◌≡◌, ◌<◌, ◌∷◌, [], None, Some, is_some, length, map, true};
+ghost use Rattle.c104_plan.specs.Wiring.{peer};
+ghost use Rattle.c104_plan.specs.declared.ports.Port.TheVariants as port;
+ghost use Rattle.c104_event.specs.declared.events.Event.{Event as TheEvent};
+ghost use Rattle.c104_event.specs.declared.events.Event.TheVariants as event;
+ghost use Rattle.c104_regs.specs.declared.registers.TheConstants.{LINKS};
+ghost use Rattle.c104_node.specs.ActLinks.{act_link};
+ghost use Rattle.c104_node.specs.Places.{bases, states};
+ghost use Rattle.c104_run.specs.KnownWires.{KnowWires};
+ghost use Rattle.c104_node.specs.Acts.{IsWithinLimits, nodes_act};
+ghost use Rattle.c104_run.specs.EventsAtPlaces.{told_answer};
+ghost use Rattle.c104_node.specs.PortActs.{Acts, near_act};
+ghost use Rattle.c104_run.specs.EventActs.{crossing_acts, event_acts, port_place};
+ghost use Rattle.c104_run.specs.Network.{event_fault, wired_fault};
+ghost use Rattle.c104_run.specs.NetRecords.{is_done, ticket_after};
+ghost use Rattle.c104_run.specs.RoundParts.{PartEnds, done_answer};
+ghost use Rattle.c104_run.specs.Stages.{stage_apply, stage_of};
+
+use crate::asked::far_port;
+use crate::doing::do_alone;
+use crate::wires::Wires;
+use c104_event::{EventFault, Port};
+use c104_node::{ActOf, Crossing, Joint, Place, Stamp, joint_from};
+use c104_switch::{ActionOf, ReplyOf};
+use c104_token::TokenKind;
+
+/// Tries a crossing from a port that is wired and ready, and tells whether it was done. Its ticket is the count of the
+/// events before it.
+#[inline(always)]
+pub fn attempt_joint<T: TokenKind, P: Place<T>>(
+    wires: &Wires,
+    places: &mut [P],
+    count: &mut u64,
+    port: Port,
+    crossing: Crossing,
+) -> Result<bool, EventFault>
+    requires knows { KnowWires wires.now (bases (map P.shown places.old)) }
+    requires wired { wired_fault wires.now port ≡ None }
+    requires goes { is_some
+        (nodes_act T.kind (states (map P.shown places.old)) (port_place wires.now port) 0 (near_act crossing port)) ≡ true }
+    ensures { (e : TheEvent) → event_fault wires.now e ≡ None →
+        event_acts {A = T} wires.now e ≡ crossing_acts crossing port (peer wires.now port) →
+        PartEnds (stage_apply T.kind P.keeps)
+        (stage_of wires.now (map P.shown places.old) count.old) (e ∷ [])
+        result (stage_of wires.now (map P.shown places.new) count.new) }
+{
+    let ends = wires.wired_ends(port);
+    let joint = Joint {
+        near: port,
+        far: far_port(wires, port, ends.far),
+        crossing,
+    };
+    let stamp = Stamp {
+        ticket: *count,
+        seat: None,
+    };
+    let answer = joint_from(places, ends.near.node, ends.far.node, joint, stamp);
+    counted(count, answer)
+}
+
+/// The same of a turn of the input at a wired link, with word 0.
+#[inline(always)]
+pub fn attempt_turn<T: TokenKind, P: Place<T>>(
+    wires: &Wires,
+    places: &mut [P],
+    count: &mut u64,
+    switch: usize,
+    link: usize,
+) -> Result<bool, EventFault>
+    requires wired { wired_fault wires.now (port.Switch switch link) ≡ None }
+    ensures { PartEnds (stage_apply T.kind P.keeps)
+        (stage_of wires.now (map P.shown places.old) count.old) (event.Input switch link 0 ∷ [])
+        result (stage_of wires.now (map P.shown places.new) count.new) }
+{
+    let act = ActOf::Step(ActionOf::Input(link, 0));
+    attempt_alone(wires, places, count, switch, act)
+}
+
+/// The same of a claim.
+pub fn attempt_claim<T: TokenKind, P: Place<T>>(
+    wires: &Wires,
+    places: &mut [P],
+    count: &mut u64,
+    switch: usize,
+    input: usize,
+    output: usize,
+) -> Result<bool, EventFault>
+    requires switch { switch < length wires.now.switches }
+    requires input { input < LINKS }
+    requires output { output < LINKS }
+    ensures { PartEnds (stage_apply T.kind P.keeps)
+        (stage_of wires.now (map P.shown places.old) count.old) (event.Claim switch input output ∷ [])
+        result (stage_of wires.now (map P.shown places.new) count.new) }
+{
+    let act = ActOf::Step(ActionOf::Claim(input, output));
+    attempt_alone(wires, places, count, switch, act)
+}
+
+/// The same of an arrival at a terminal.
+#[inline(always)]
+pub fn attempt_drain<T: TokenKind, P: Place<T>>(
+    wires: &Wires,
+    places: &mut [P],
+    count: &mut u64,
+    terminal: usize,
+) -> Result<bool, EventFault>
+    requires terminal { terminal < length wires.now.terminals }
+    ensures { PartEnds (stage_apply T.kind P.keeps)
+        (stage_of wires.now (map P.shown places.old) count.old) (event.Drain terminal ∷ [])
+        result (stage_of wires.now (map P.shown places.new) count.new) }
+{
+    let place = wires.terminal_place(terminal);
+    attempt_alone(wires, places, count, place, ActOf::Drain)
+}
+
+/// Tries an event that can happen and asks an act of one node, and tells whether it was done.
+#[inline(always)]
+fn attempt_alone<T: TokenKind, P: Place<T>>(
+    wires: &Wires,
+    places: &mut [P],
+    count: &mut u64,
+    place: usize,
+    act: ActOf<T>,
+) -> Result<bool, EventFault>
+    requires short { IsWithinLimits act }
+    requires lone { act_link act ≡ None }
+    ensures { (e : TheEvent) → event_fault wires.now e ≡ None →
+        event_acts wires.now e ≡ Some (Acts.Alone place act) →
+        PartEnds (stage_apply T.kind P.keeps)
+        (stage_of wires.now (map P.shown places.old) count.old) (e ∷ [])
+        result (stage_of wires.now (map P.shown places.new) count.new) }
+{
+    let switches = wires.switch_count();
+    let stamp = Stamp {
+        ticket: *count,
+        seat: None,
+    };
+    let answer = do_alone(switches, places, place, act, stamp);
+    counted(count, answer)
+}
+
+/// Counts an event that was answered so, if it was done, and tells whether it was.
+// Saturating: no network comes near the end, since its traces are full long before.
+#[inline(always)]
+fn counted<T: TokenKind>(
+    count: &mut u64,
+    answer: Result<ReplyOf<T>, EventFault>,
+) -> Result<bool, EventFault>
+    ensures told { result ≡ done_answer (told_answer T.kind answer) }
+    ensures count { count.new ≡ ticket_after count.old (is_done (told_answer T.kind answer)) }
+{
+    match answer {
+        Ok(ReplyOf::NotReady) => Ok(false),
+        Ok(_) => {
+            *count = count.saturating_add(1);
+            Ok(true)
+        }
+        Err(fault) => Err(fault),
+    }
+}

@@ -1,0 +1,143 @@
+//! The parts of a round: all its events of one kind. Each tells whether any of them was done.
+ghost use Rattle.std.specs.Prelude.{◌<◌, flat_map, length, map};
+ghost use Rattle.c104_event.specs.declared.events.Event.TheVariants as event;
+ghost use Rattle.c104_regs.specs.declared.registers.TheConstants.{LINKS};
+ghost use Rattle.c104_node.specs.Places.{bases};
+ghost use Rattle.c104_run.specs.KnownWires.{KnowWires};
+ghost use Rattle.c104_run.specs.Rounds.{all_claims, all_drains, claims_of, switch_claims, turn_at, wired_ports};
+ghost use Rattle.c104_run.specs.RoundParts.{PartEnds};
+ghost use Rattle.c104_run.specs.Stages.{stage_apply, stage_of};
+
+use super::attempts::{attempt_claim, attempt_drain};
+use super::ports::walk_ports;
+use crate::wires::Wires;
+use c104_event::EventFault;
+use c104_node::{Place, PortPart, next_claim_at, next_wanting_at};
+use c104_token::TokenKind;
+
+/// Credit of each wired port.
+pub fn credit_ports<T: TokenKind, P: Place<T>>(
+    wires: &Wires,
+    places: &mut [P],
+    count: &mut u64,
+) -> Result<bool, EventFault>
+    requires knows { KnowWires wires.now (bases (map P.shown places.old)) }
+    ensures { PartEnds (stage_apply T.kind P.keeps)
+        (stage_of wires.now (map P.shown places.old) count.old) (map event.Credit (wired_ports wires.now))
+        result (stage_of wires.now (map P.shown places.new) count.new) }
+{
+    walk_ports(wires, places, count, PortPart::Credit)
+}
+
+/// A crossing from each wired port.
+pub fn cross_ports<T: TokenKind, P: Place<T>>(
+    wires: &Wires,
+    places: &mut [P],
+    count: &mut u64,
+) -> Result<bool, EventFault>
+    requires knows { KnowWires wires.now (bases (map P.shown places.old)) }
+    ensures { PartEnds (stage_apply T.kind P.keeps)
+        (stage_of wires.now (map P.shown places.old) count.old) (map event.Cross (wired_ports wires.now))
+        result (stage_of wires.now (map P.shown places.new) count.new) }
+{
+    walk_ports(wires, places, count, PortPart::Cross)
+}
+
+/// A turn of each wired input.
+pub fn turn_inputs<T: TokenKind, P: Place<T>>(
+    wires: &Wires,
+    places: &mut [P],
+    count: &mut u64,
+) -> Result<bool, EventFault>
+    requires knows { KnowWires wires.now (bases (map P.shown places.old)) }
+    ensures { PartEnds (stage_apply T.kind P.keeps)
+        (stage_of wires.now (map P.shown places.old) count.old) (flat_map turn_at (wired_ports wires.now))
+        result (stage_of wires.now (map P.shown places.new) count.new) }
+{
+    walk_ports(wires, places, count, PortPart::Turn)
+}
+
+/// The claims of all switches.
+pub fn claim_outputs<T: TokenKind, P: Place<T>>(
+    wires: &Wires,
+    places: &mut [P],
+    count: &mut u64,
+) -> Result<bool, EventFault>
+    ensures { PartEnds (stage_apply T.kind P.keeps)
+        (stage_of wires.now (map P.shown places.old) count.old) (all_claims (length wires.now.switches))
+        result (stage_of wires.now (map P.shown places.new) count.new) }
+{
+    let mut changed = false;
+    let switches = wires.switch_count();
+    for switch in 0..switches {
+        let done = claim_in_switch(wires, places, count, switch)?;
+        changed |= done;
+    }
+    Ok(changed)
+}
+
+/// The claims of a switch. Those of an input that wants no output are left out.
+fn claim_in_switch<T: TokenKind, P: Place<T>>(
+    wires: &Wires,
+    places: &mut [P],
+    count: &mut u64,
+    switch: usize,
+) -> Result<bool, EventFault>
+    requires switch { switch < length wires.now.switches }
+    ensures { PartEnds (stage_apply T.kind P.keeps)
+        (stage_of wires.now (map P.shown places.old) count.old) (switch_claims switch)
+        result (stage_of wires.now (map P.shown places.new) count.new) }
+{
+    let mut changed = false;
+    let mut from = 0;
+    while let Some(input) = next_wanting_at(places, switch, from) {
+        let done = claim_for_input(wires, places, count, switch, input)?;
+        changed |= done;
+        from = input + 1;
+    }
+    Ok(changed)
+}
+
+/// The claims of an input. Those that it can't make are left out, and after one that is made it can
+/// make no more.
+fn claim_for_input<T: TokenKind, P: Place<T>>(
+    wires: &Wires,
+    places: &mut [P],
+    count: &mut u64,
+    switch: usize,
+    input: usize,
+) -> Result<bool, EventFault>
+    requires switch { switch < length wires.now.switches }
+    requires input { input < LINKS }
+    ensures { PartEnds (stage_apply T.kind P.keeps)
+        (stage_of wires.now (map P.shown places.old) count.old) (claims_of switch input)
+        result (stage_of wires.now (map P.shown places.new) count.new) }
+{
+    let mut changed = false;
+    let mut from = 0;
+    while let Some(output) = next_claim_at(places, switch, input, from) {
+        let done = attempt_claim(wires, places, count, switch, input, output)?;
+        changed |= done;
+        from = output + 1;
+    }
+    Ok(changed)
+}
+
+/// A token's arrival at each terminal.
+pub fn drain_terminals<T: TokenKind, P: Place<T>>(
+    wires: &Wires,
+    places: &mut [P],
+    count: &mut u64,
+) -> Result<bool, EventFault>
+    ensures { PartEnds (stage_apply T.kind P.keeps)
+        (stage_of wires.now (map P.shown places.old) count.old) (all_drains (length wires.now.terminals))
+        result (stage_of wires.now (map P.shown places.new) count.new) }
+{
+    let mut changed = false;
+    let terminals = wires.terminal_count();
+    for terminal in 0..terminals {
+        let done = attempt_drain(wires, places, count, terminal)?;
+        changed |= done;
+    }
+    Ok(changed)
+}

@@ -1,0 +1,229 @@
+//! The parts of a round that are about ports. Those of a switch are walked by the sets of its links, and
+//! of terminals each is asked, so that no event is tried of which it is known that its near end isn't ready.
+//!
+//! The walks are inlined, since each part is a code of its own.
+ghost use Rattle.std.specs.Prelude.{◌≡◌, ◌<◌, ◌≤◌, ℕ, None, false, true, flat_map, length, map, unwrap_or, IfSome, Ok};
+ghost use Rattle.c104_plan.specs.declared.ports.Port.TheVariants as port;
+ghost use Rattle.c104_regs.specs.declared.registers.TheConstants.{LINKS};
+ghost use Rattle.c104_node.specs.Places.{bases, states};
+ghost use Rattle.c104_run.specs.KnownWires.{KnowWires};
+ghost use Rattle.c104_run.specs.Network.{wired_fault};
+ghost use Rattle.c104_run.specs.EventActs.{port_place};
+ghost use Rattle.c104_node.specs.PortParts.{IsNearReady};
+ghost use Rattle.c104_run.specs.RoundParts.{port_events, wired_events, PartEnds};
+ghost use Rattle.std.specs.List.{range_with_len};
+ghost use Rattle.c104_run.specs.Rounds.{is_wired, turn_at, wired_links, wired_ports, wired_terminals};
+ghost use Rattle.c104_run.specs.Stages.{stage_apply, stage_of};
+
+use super::attempts::{attempt_joint, attempt_turn};
+use crate::wires::Wires;
+use c104_event::{EventFault, Port};
+use c104_node::{Crossing, Place, PortPart, can_near_at, next_ready_at};
+use c104_token::TokenKind;
+
+/// The events of a part at all wired ports.
+#[inline(always)]
+pub fn walk_ports<T: TokenKind, P: Place<T>>(
+    wires: &Wires,
+    places: &mut [P],
+    count: &mut u64,
+    part: PortPart,
+) -> Result<bool, EventFault>
+    requires knows { KnowWires wires.now (bases (map P.shown places.old)) }
+    ensures { PartEnds (stage_apply T.kind P.keeps)
+        (stage_of wires.now (map P.shown places.old) count.old)
+        (flat_map (port_events part) (wired_ports wires.now))
+        result (stage_of wires.now (map P.shown places.new) count.new) }
+{
+    let of_switches = walk_switches(wires, places, count, part)?;
+    let of_terminals = walk_terminals(wires, places, count, part)?;
+    Ok(of_switches | of_terminals)
+}
+
+/// The events of a part at the wired links of the switches.
+#[inline(always)]
+fn walk_switches<T: TokenKind, P: Place<T>>(
+    wires: &Wires,
+    places: &mut [P],
+    count: &mut u64,
+    part: PortPart,
+) -> Result<bool, EventFault>
+    requires knows { KnowWires wires.now (bases (map P.shown places.old)) }
+    ensures { PartEnds (stage_apply T.kind P.keeps)
+        (stage_of wires.now (map P.shown places.old) count.old)
+        (flat_map (port_events part)
+        (flat_map (wired_links wires.now) (range_with_len 0 (length wires.now.switches))))
+        result (stage_of wires.now (map P.shown places.new) count.new) }
+{
+    let mut changed = false;
+    let switches = wires.switch_count();
+    for switch in 0..switches {
+        let done = walk_links(wires, places, count, part, switch)?;
+        changed |= done;
+    }
+    Ok(changed)
+}
+
+/// The events of a part at the wired links of a switch.
+#[inline(always)]
+fn walk_links<T: TokenKind, P: Place<T>>(
+    wires: &Wires,
+    places: &mut [P],
+    count: &mut u64,
+    part: PortPart,
+    switch: usize,
+) -> Result<bool, EventFault>
+    requires knows { KnowWires wires.now (bases (map P.shown places.old)) }
+    requires switch { switch < length wires.now.switches }
+    ensures { PartEnds (stage_apply T.kind P.keeps)
+        (stage_of wires.now (map P.shown places.old) count.old)
+        (flat_map (port_events part) (wired_links wires.now switch))
+        result (stage_of wires.now (map P.shown places.new) count.new) }
+{
+    let mut changed = false;
+    let mut from = 0;
+    while let Some(link) = next_link(wires, places, part, switch, from) {
+        let done = try_at(wires, places, count, part, Port::Switch(switch, link))?;
+        changed |= done;
+        from = link + 1;
+    }
+    Ok(changed)
+}
+
+/// The next wired link of a switch, from this one on, that is ready for its event of a part; of a turn, that may be.
+#[inline(always)]
+fn next_link<T: TokenKind, P: Place<T>>(
+    wires: &Wires,
+    places: &[P],
+    part: PortPart,
+    switch: usize,
+    from: usize,
+) -> Option<usize>
+    requires { switch < length wires.now.switches }
+    ensures passed { (l count : ℕ) → from ≤ l → l < unwrap_or result LINKS → PartEnds (stage_apply T.kind P.keeps)
+        (stage_of wires.now (map P.shown places.now) count)
+        (wired_events wires.now part (port.Switch switch l))
+        (Ok false) (stage_of wires.now (map P.shown places.now) count) }
+    ensures found { IfSome result (λ l. (from ≤ l) × (l < LINKS)) }
+    ensures wired { IfSome result (λ l. wired_fault wires.now (port.Switch switch l) ≡ None) }
+    ensures linked { IfSome result (λ l. is_wired wires.now (port.Switch switch l) ≡ true) }
+    ensures ready { IfSome result (λ l. IsNearReady T.kind part
+        (states (map P.shown places.now)) (port_place wires.now (port.Switch switch l)) (port.Switch switch l)) }
+{
+    let among = wires.linked(switch);
+    next_ready_at(places, switch, part, from, among)
+}
+
+/// The events of a part at the wired terminals.
+#[inline(always)]
+fn walk_terminals<T: TokenKind, P: Place<T>>(
+    wires: &Wires,
+    places: &mut [P],
+    count: &mut u64,
+    part: PortPart,
+) -> Result<bool, EventFault>
+    requires knows { KnowWires wires.now (bases (map P.shown places.old)) }
+    ensures { PartEnds (stage_apply T.kind P.keeps)
+        (stage_of wires.now (map P.shown places.old) count.old)
+        (flat_map (port_events part) (wired_terminals wires.now))
+        result (stage_of wires.now (map P.shown places.new) count.new) }
+{
+    let mut changed = false;
+    let terminals = wires.terminal_count();
+    for terminal in 0..terminals {
+        let done = try_terminal(wires, places, count, part, terminal)?;
+        changed |= done;
+    }
+    Ok(changed)
+}
+
+/// The event of a part at a terminal, if it is wired.
+#[inline(always)]
+fn try_terminal<T: TokenKind, P: Place<T>>(
+    wires: &Wires,
+    places: &mut [P],
+    count: &mut u64,
+    part: PortPart,
+    terminal: usize,
+) -> Result<bool, EventFault>
+    requires knows { KnowWires wires.now (bases (map P.shown places.old)) }
+    requires terminal { terminal < length wires.now.terminals }
+    ensures { PartEnds (stage_apply T.kind P.keeps)
+        (stage_of wires.now (map P.shown places.old) count.old)
+        (wired_events wires.now part (port.Terminal terminal))
+        result (stage_of wires.now (map P.shown places.new) count.new) }
+{
+    if !wires.is_linked(terminal) {
+        return Ok(false);
+    }
+    if !is_ready(wires, places, part, terminal) {
+        return Ok(false);
+    }
+    try_at(wires, places, count, part, Port::Terminal(terminal))
+}
+
+/// Whether a wired terminal is ready for its event of a part. It has no input.
+#[inline(always)]
+fn is_ready<T: TokenKind, P: Place<T>>(
+    wires: &Wires,
+    places: &[P],
+    part: PortPart,
+    terminal: usize,
+) -> bool
+    requires { wired_fault wires.now (port.Terminal terminal) ≡ None }
+    ensures passed { (count : ℕ) → result ≡ false → PartEnds (stage_apply T.kind P.keeps)
+        (stage_of wires.now (map P.shown places.now) count) (port_events part (port.Terminal terminal))
+        (Ok false) (stage_of wires.now (map P.shown places.now) count) }
+    ensures ready { result ≡ true → IsNearReady T.kind part
+        (states (map P.shown places.now)) (port_place wires.now (port.Terminal terminal)) (port.Terminal terminal) }
+{
+    let port = Port::Terminal(terminal);
+    let place = wires.near_end(port).node;
+    match part {
+        PortPart::Credit => can_near_at(places, place, Crossing::Grant, port),
+        PortPart::Cross => can_near_at(places, place, Crossing::Token, port),
+        PortPart::Turn => false,
+    }
+}
+
+/// The event of a part at a wired port, which is ready for it; for a turn, which may be.
+#[inline(always)]
+fn try_at<T: TokenKind, P: Place<T>>(
+    wires: &Wires,
+    places: &mut [P],
+    count: &mut u64,
+    part: PortPart,
+    port: Port,
+) -> Result<bool, EventFault>
+    requires knows { KnowWires wires.now (bases (map P.shown places.old)) }
+    requires wired { wired_fault wires.now port ≡ None }
+    requires ready { IsNearReady T.kind part (states (map P.shown places.old)) (port_place wires.now port) port }
+    ensures { PartEnds (stage_apply T.kind P.keeps)
+        (stage_of wires.now (map P.shown places.old) count.old) (port_events part port)
+        result (stage_of wires.now (map P.shown places.new) count.new) }
+{
+    match part {
+        PortPart::Credit => attempt_joint(wires, places, count, port, Crossing::Grant),
+        PortPart::Cross => attempt_joint(wires, places, count, port, Crossing::Token),
+        PortPart::Turn => try_turn(wires, places, count, port),
+    }
+}
+
+/// The input at a wired port takes a turn, with word 0, if it is a switch's.
+#[inline(always)]
+fn try_turn<T: TokenKind, P: Place<T>>(
+    wires: &Wires,
+    places: &mut [P],
+    count: &mut u64,
+    port: Port,
+) -> Result<bool, EventFault>
+    requires wired { wired_fault wires.now port ≡ None }
+    ensures { PartEnds (stage_apply T.kind P.keeps)
+        (stage_of wires.now (map P.shown places.old) count.old) (turn_at port)
+        result (stage_of wires.now (map P.shown places.new) count.new) }
+{
+    match port {
+        Port::Switch(switch, link) => attempt_turn(wires, places, count, switch, link),
+        Port::Terminal(_) => Ok(false),
+    }
+}

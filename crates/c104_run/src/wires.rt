@@ -1,0 +1,328 @@
+//! The wires of a plan, by port.
+ghost use Rattle.std.specs.Prelude.{◌≡◌, ◌≢◌, ◌<◌, ℕ, Some, None, true, length, IfOk, MatchResult};
+ghost use Rattle.c104_crossbar.specs.Groups.{has_bit};
+ghost use Rattle.c104_plan.specs.declared.ports.Port.TheVariants as port;
+ghost use Rattle.c104_plan.specs.Plans.{IsPlan};
+ghost use Rattle.c104_plan.specs.Wiring.{IsPlanPort};
+ghost use Rattle.c104_run.specs.Ends.{end_of};
+ghost use Rattle.c104_run.specs.FarEnds.{far_end, link_ends, terminal_ends};
+ghost use Rattle.c104_run.specs.Network.{terminal_place, wired_fault};
+ghost use Rattle.c104_run.specs.Rounds.{is_wired};
+ghost use Rattle.c104_run.specs.LinkedSets.{AreLinked};
+ghost use Rattle.c104_regs.specs.declared.registers.TheConstants.{LINKS};
+
+use c104_event::{EventFault, Port};
+use c104_node::End;
+use c104_plan::Plan;
+use c104_switch::{LINKS, LinkSet};
+use c104_token::NoMemory;
+use std::alloc::Global;
+use std::marker::Model;
+
+/// A plan, with the table of its wires: the far end at each port is one look-up.
+#[derive(Drop)]
+pub struct Wires {
+    plan: Plan,
+    // The far end at link l of switch s is at place 32 s + l.
+    links: Vec<Option<End>>,
+    terminals: Vec<Option<End>>,
+    // The wired links of each switch.
+    linked: Vec<LinkSet>,
+}
+
+impl Model for Wires {
+    ghost use Rattle.std.specs.Prelude.{◌≡◌};
+    ghost use Rattle.c104_plan.specs.Plans.{Plan};
+    ghost use Rattle.c104_run.specs.FarEnds.{link_ends, terminal_ends};
+    ghost use Rattle.std.specs.Prelude.{length};
+    ghost use Rattle.c104_run.specs.LinkedSets.{AreLinked};
+
+    ghost Value = { Plan };
+
+    ghost view = { λ wires. wires.plan };
+
+    ghost invariant = { λ wires.
+        (wires.links.items ≡ link_ends wires.plan)
+        × (wires.terminals.items ≡ terminal_ends wires.plan)
+        × AreLinked wires.plan (length wires.plan.switches) wires.linked.items };
+}
+
+/// The ends of a wire: that of the port that was named, and the other.
+#[derive(Clone, Copy)]
+pub struct Ends {
+    pub near: End,
+    pub far: End,
+}
+
+impl Wires {
+    /// The wires of this plan. The only error is out of memory.
+    pub fn new(alloc: Global, plan: Plan) -> Result<Self, NoMemory>
+        ensures { IfOk result (λ wires. wires ≡ plan) }
+    {
+        let ends = far_ends(alloc, &plan)?;
+        Ok(Wires {
+            plan,
+            links: ends.links,
+            terminals: ends.terminals,
+            linked: ends.linked,
+        })
+    }
+
+    /// The plan.
+    pub fn plan(&self) -> &Plan
+        ensures plan { result.now ≡ self.now }
+        ensures kept { IsPlan self.now }
+    {
+        // The proof reads here what every plan keeps.
+        let _switches = self.plan.switches();
+        &self.plan
+    }
+
+    /// How many switches the plan has.
+    #[inline(always)]
+    pub fn switch_count(&self) -> usize
+        ensures { result ≡ length self.now.switches }
+    {
+        self.plan.switches().len()
+    }
+
+    /// How many terminals it has.
+    #[inline(always)]
+    pub fn terminal_count(&self) -> usize
+        ensures { result ≡ length self.now.terminals }
+    {
+        self.plan.terminals().len()
+    }
+
+    /// The place of a terminal among the nodes.
+    #[inline(always)]
+    pub fn terminal_place(&self, terminal: usize) -> usize
+        requires { terminal < length self.now.terminals }
+        ensures { result ≡ terminal_place self.now terminal }
+    {
+        self.plan.switches().len() + terminal
+    }
+
+    /// The wired links of a switch.
+    #[inline(always)]
+    pub fn linked(&self, switch: usize) -> LinkSet
+        requires { switch < length self.now.switches }
+        ensures linked { (l : ℕ) → l < LINKS →
+            has_bit result l ≡ is_wired self.now (port.Switch switch l) }
+        ensures wired { (l : ℕ) → l < LINKS → has_bit result l ≡ true →
+            wired_fault self.now (port.Switch switch l) ≡ None }
+    {
+        // The proof reads here what every plan keeps.
+        let _switches = self.plan.switches();
+        self.linked[switch]
+    }
+
+    /// Whether a terminal has a wire.
+    #[inline(always)]
+    pub fn is_linked(&self, terminal: usize) -> bool
+        requires { terminal < length self.now.terminals }
+        ensures linked { result ≡ is_wired self.now (port.Terminal terminal) }
+        ensures wired { result ≡ true → wired_fault self.now (port.Terminal terminal) ≡ None }
+    {
+        // The proof reads here what every plan keeps.
+        let _switches = self.plan.switches();
+        let far = self.far_end(Port::Terminal(terminal));
+        far.is_some()
+    }
+
+    /// The near end of the wire at a port.
+    #[inline(always)]
+    pub fn near_end(&self, port: Port) -> End
+        requires { wired_fault self.now port ≡ None }
+        ensures { result ≡ end_of self.now port }
+    {
+        end_of(&self.plan, port)
+    }
+
+    /// The plan alone.
+    pub fn into_plan(self) -> Plan
+        ensures { result ≡ self }
+    {
+        self.plan
+    }
+
+    /// The ends of the wire at a port, which are at two nodes. NoNode, NoLink or NotWired where
+    /// there is none.
+    #[inline(always)]
+    pub fn ends(&self, port: Port) -> Result<Ends, EventFault>
+        ensures fault { MatchResult result
+            (λ ends. wired_fault self.now port ≡ None)
+            (λ fault. wired_fault self.now port ≡ Some fault) }
+        ensures near { IfOk result (λ ends. ends.near ≡ end_of self.now port) }
+        ensures far { IfOk result (λ ends. far_end self.now port ≡ Some ends.far) }
+        ensures apart { IfOk result (λ ends. ends.near.node ≢ ends.far.node) }
+    {
+        let switches = self.plan.switches().len();
+        match port {
+            Port::Switch(switch, _) if switch >= switches => return Err(EventFault::NoNode),
+            Port::Switch(_, link) if link >= LINKS => return Err(EventFault::NoLink),
+            Port::Terminal(terminal) if terminal >= self.plan.terminals().len() => {
+                return Err(EventFault::NoNode);
+            }
+            _ => (),
+        }
+        let Some(far) = self.far_end(port) else {
+            return Err(EventFault::NotWired);
+        };
+        Ok(Ends {
+            near: end_of(&self.plan, port),
+            far,
+        })
+    }
+
+    /// The ends of the wire at a port that has one, which are at two nodes.
+    #[inline(always)]
+    pub fn wired_ends(&self, port: Port) -> Ends
+        requires { wired_fault self.now port ≡ None }
+        ensures near { result.near ≡ end_of self.now port }
+        ensures far { far_end self.now port ≡ Some result.far }
+        ensures apart { result.near.node ≢ result.far.node }
+    {
+        // The proof reads here what every plan keeps.
+        let _switches = self.plan.switches();
+        let Some(far) = self.far_end(port) else {
+            unreachable!()
+        };
+        Ends {
+            near: end_of(&self.plan, port),
+            far,
+        }
+    }
+
+    /// The far end of the wire at a port of the plan. None where it has no wire.
+    #[inline(always)]
+    fn far_end(&self, port: Port) -> Option<End>
+        requires { IsPlanPort self.now port }
+        ensures { result ≡ far_end self.now port }
+    {
+        match port {
+            Port::Switch(switch, link) => self.end_of_link(switch, link),
+            Port::Terminal(terminal) => self.terminals[terminal],
+        }
+    }
+
+    /// The far end of the wire at a link of a switch of the plan.
+    #[inline(always)]
+    fn end_of_link(&self, switch: usize, link: usize) -> Option<End>
+        requires { IsPlanPort self.now (port.Switch switch link) }
+        ensures { result ≡ far_end self.now (port.Switch switch link) }
+    {
+        // The plan has at most 64 switches, so the sum fits.
+        let _switches = self.plan.switches();
+        self.links[switch * LINKS + link]
+    }
+}
+
+/// What is found of the wires of a plan.
+#[derive(Drop)]
+struct FarEnds {
+    links: Vec<Option<End>>,
+    terminals: Vec<Option<End>>,
+    linked: Vec<LinkSet>,
+}
+
+/// The far ends of all links and terminals of a plan, and the wired links of its switches.
+fn far_ends(alloc: Global, plan: &Plan) -> Result<FarEnds, NoMemory>
+    ensures links { IfOk result (λ ends. ends.links.items ≡ link_ends plan.now) }
+    ensures terminals { IfOk result (λ ends. ends.terminals.items ≡ terminal_ends plan.now) }
+    ensures linked { IfOk result (λ ends.
+        AreLinked plan.now (length plan.now.switches) ends.linked.items) }
+{
+    let links = link_ends(alloc, plan)?;
+    let terminals = terminal_ends(alloc, plan)?;
+    let linked = linked_sets(alloc, plan, &links)?;
+    Ok(FarEnds {
+        links,
+        terminals,
+        linked,
+    })
+}
+
+/// The far ends of all links of a plan, by switch and link.
+fn link_ends(alloc: Global, plan: &Plan) -> Result<Vec<Option<End>>, NoMemory>
+    ensures { IfOk result (λ ends. ends.items ≡ link_ends plan.now) }
+{
+    let count = plan.switches().len() * LINKS;
+    let mut ends = Vec::with_capacity(alloc, count)?;
+    for place in 0..count {
+        let port = Port::Switch(place / LINKS, place % LINKS);
+        ends.push(find_far_end(plan, port))?;
+    }
+    Ok(ends)
+}
+
+/// The far ends of the terminals of a plan, in order.
+fn terminal_ends(alloc: Global, plan: &Plan) -> Result<Vec<Option<End>>, NoMemory>
+    ensures { IfOk result (λ ends. ends.items ≡ terminal_ends plan.now) }
+{
+    let count = plan.terminals().len();
+    let mut ends = Vec::with_capacity(alloc, count)?;
+    for terminal in 0..count {
+        ends.push(find_far_end(plan, Port::Terminal(terminal)))?;
+    }
+    Ok(ends)
+}
+
+/// The wired links of each switch, in order, by the far ends of all links.
+fn linked_sets(alloc: Global, plan: &Plan, links: &[Option<End>]) -> Result<Vec<LinkSet>, NoMemory>
+    requires { links.now ≡ link_ends plan.now }
+    ensures { IfOk result (λ sets. AreLinked plan.now (length plan.now.switches) sets.items) }
+{
+    let count = plan.switches().len();
+    let mut sets = Vec::with_capacity(alloc, count)?;
+    for switch in 0..count {
+        sets.push(linked_set(plan, links, switch))?;
+    }
+    Ok(sets)
+}
+
+/// The wired links of a switch, by the far ends of all links.
+fn linked_set(plan: &Plan, links: &[Option<End>], switch: usize) -> LinkSet
+    requires links { links.now ≡ link_ends plan.now }
+    requires switch { switch < length plan.now.switches }
+    ensures { (l : ℕ) → l < LINKS →
+        has_bit result l ≡ is_wired plan.now (port.Switch switch l) }
+{
+    // The plan has at most 64 switches, so the sum fits.
+    let _switches = plan.switches();
+    let mut set = LinkSet::new();
+    for link in 0..LINKS {
+        set.set(link, links[switch * LINKS + link].is_some());
+    }
+    set
+}
+
+/// The far end of the wire at a port, found among the plan's wires.
+fn find_far_end(plan: &Plan, port: Port) -> Option<End>
+    ensures { result ≡ far_end plan.now port }
+{
+    match plan.peer(port) {
+        Some(other) => Some(end_of(plan, other)),
+        None => None,
+    }
+}
+
+/// Where a port is among the nodes.
+#[inline(always)]
+fn end_of(plan: &Plan, port: Port) -> End
+    requires { IsPlanPort plan.now port }
+    ensures { result ≡ end_of plan.now port }
+{
+    let terminals = plan.terminals().len();
+    let switches = plan.switches().len();
+    match port {
+        Port::Switch(switch, link) => End { node: switch, link },
+        Port::Terminal(terminal) => {
+            prove!(terminal < terminals);
+            End {
+                node: switches + terminal,
+                link: 0,
+            }
+        }
+    }
+}
