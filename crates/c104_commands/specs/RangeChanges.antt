@@ -1,7 +1,8 @@
 -- What is told of a terminal that is to have another range of labels.
 --     IsFreeRange plan t first count      these labels are headers, and no other terminal has one of them
 --     TellsRange plan t text      lines by which terminal t has such a range, or none
-use Rattle.std.specs.Prelude.{◌≡◌, ◌≢◌, ◌⊎◌, ℕ, ◌+◌, ◌<◌, ◌≤◌, nat_lt, if◌then◌else◌, List, [], ◌++◌, length, slice_get, slice_index_or, Some, codes}
+use Rattle.std.specs.Prelude.{◌≡◌, ◌≢◌, ◌⊎◌, ℕ, ◌+◌, ◌<◌, ◌≤◌, nat_lt, if◌then◌else◌, List, [], ◌++◌, length, slice_get, slice_index_or}
+use Rattle.std.specs.Prelude.{Some, codes}
 use Rattle.std.specs.Fmt.{decimal}
 use Rattle.c104_plan.specs.Plans.{Plan, host_port}
 use Rattle.c104_plan.specs.declared.plans.Terminal.{Terminal}

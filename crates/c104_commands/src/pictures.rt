@@ -5,7 +5,8 @@ ghost use Rattle.c104_check.specs.Checks.{IsCause};
 ghost use Rattle.c104_check.specs.Routes.{IsAccepted, routes_of};
 ghost use Rattle.c104_check.specs.declared.faults.CheckFault.TheVariants as check_fault;
 ghost use Rattle.c104_plan.specs.PlanImage.{Fits};
-ghost use Rattle.c104_commands.specs.Pictures.{IsAcceptedPicture, IsHeaderPicture, IsMarkedPicture, IsPicture, IsPlainPicture, IsRefusedPicture, cycle_inputs, header_line};
+ghost use Rattle.c104_commands.specs.Pictures.{IsAcceptedPicture, IsHeaderPicture, IsMarkedPicture, IsPicture, IsPlainPicture};
+ghost use Rattle.c104_commands.specs.Pictures.{IsRefusedPicture, cycle_inputs, header_line};
 
 use crate::cycle_texts::cycle_text;
 use crate::texts::check_fault_text;

@@ -2,7 +2,8 @@
 ghost use Rattle.std.specs.Prelude.{◌≡◌, ◌<◌, ◌+◌, length, map, nat_le};
 ghost use Rattle.c104_check.specs.Routes.{to_port};
 ghost use Rattle.c104_commands.specs.RowChanges.{input_rows};
-ghost use Rattle.c104_commands.specs.RowSteps.{IsCovering, IsRowChange, added_rows, change_of, covering_with, new_rows, replaced_rows, row_if};
+ghost use Rattle.c104_commands.specs.RowSteps.{IsCovering, IsRowChange, added_rows, change_of, covering_with, new_rows, replaced_rows};
+ghost use Rattle.c104_commands.specs.RowSteps.{row_if};
 ghost use Rattle.c104_plan.specs.PlanImage.{base_of, table_row};
 ghost use Rattle.c104_plan.specs.Plans.{rows_of};
 

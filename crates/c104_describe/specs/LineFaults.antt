@@ -1,7 +1,9 @@
 -- The faults of a line, each by itself. What a line says is laid out by its first word, in a row for each
 -- as in the format's table, and each fault has a condition of its own over that. No condition rests on
 -- another, and their order says nothing.
-use Rattle.std.specs.Prelude.{◌≡◌, ℕ, ◌+◌, ◌*◌, ◌^◌, ◌<◌, ◌&&◌, ◌||◌, Bool, true, false, not, List, [], ◌∷◌, ◌++◌, length, map, take, drop, is_none, is_some, nat_le, nat_lt, bytes_eq, codes, if◌then◌else◌, IsTrue, option_map, Option, Some, None, Result, Ok, Err}
+use Rattle.std.specs.Prelude.{◌≡◌, ℕ, ◌+◌, ◌*◌, ◌^◌, ◌<◌, ◌&&◌, ◌||◌, Bool, true, false, not, List, [], ◌∷◌, ◌++◌, length, map, take, drop}
+use Rattle.std.specs.Prelude.{is_none, is_some, nat_le, nat_lt, bytes_eq, codes, if◌then◌else◌, IsTrue, option_map, Option, Some, None}
+use Rattle.std.specs.Prelude.{Result, Ok, Err}
 use Rattle.std.specs.List.{list_any}
 use Rattle.std.specs.Option.{option_map_or, unwrap_or}
 use Rattle.c104_interval.specs.declared.intervals.TheConstants.{ROWS}
@@ -17,7 +19,8 @@ use Rattle.c104_plan.specs.Ports.{is_any_at}
 use Rattle.c104_plan.specs.declared.ports.Port.{Port}
 use Rattle.c104_describe.specs.PlanWords.{Keyword, keyword_of, range_words}
 use Rattle.c104_describe.specs.PlanDrafts.{Draft, is_mixed}
-use Rattle.c104_plan.specs.Plans.{Plan, switch_number, terminal_number, is_taken, is_linked, is_continued, is_deleted, rows_of, next_first, most_switches, most_terminals, most_header_bytes, label_count, last_link, is_buffer_size}
+use Rattle.c104_plan.specs.Plans.{Plan, switch_number, terminal_number, is_taken, is_linked, is_continued, is_deleted, rows_of, next_first}
+use Rattle.c104_plan.specs.Plans.{most_switches, most_terminals, most_header_bytes, label_count, last_link, is_buffer_size}
 use Rattle.c104_plan.specs.declared.plans.PlanBase.{PlanBase}
 use Rattle.c104_plan.specs.declared.plans.PlanRandom.{PlanRandom}
 

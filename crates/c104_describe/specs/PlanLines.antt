@@ -1,11 +1,13 @@
 -- The grammar of a description: what a line says after the lines before it. Of all that is wrong
 -- with a line the fault of the least number is answered, so each line's conditions stand in the
 -- order of the faults' numbers.
-use Rattle.std.specs.Prelude.{ℕ, ◌+◌, ◌*◌, ◌^◌, ◌==◌, ◌&&◌, ◌||◌, Bool, true, not, List, [], ◌∷◌, ◌++◌, length, nat_le, nat_lt, bytes_eq, codes, is_some, Option, Some, Result, Ok, Err}
+use Rattle.std.specs.Prelude.{ℕ, ◌+◌, ◌*◌, ◌^◌, ◌==◌, ◌&&◌, ◌||◌, Bool, true, not, List, [], ◌∷◌, ◌++◌, length, nat_le, nat_lt, bytes_eq}
+use Rattle.std.specs.Prelude.{codes, is_some, Option, Some, Result, Ok, Err}
 use Rattle.c104_interval.specs.declared.intervals.TheConstants.{ROWS}
 use Rattle.c104_plan.specs.declared.ports.Port.TheVariants as port
 use Rattle.c104_describe.specs.declared.words.Keyword.TheVariants as keyword
-use Rattle.c104_describe.specs.declared.faults.PlanFaultKind.TheVariants.{BadName, BadNumber, BadShape, LinkTaken, MixedStyle, NameTaken, SelfWire, TooMany, Twice, UnknownName, UnknownWord}
+use Rattle.c104_describe.specs.declared.faults.PlanFaultKind.TheVariants.{BadName, BadNumber, BadShape, LinkTaken, MixedStyle, NameTaken}
+use Rattle.c104_describe.specs.declared.faults.PlanFaultKind.TheVariants.{SelfWire, TooMany, Twice, UnknownName, UnknownWord}
 use Rattle.c104_plan.specs.Checks.{◌>>=◌, ◌>>◌, require, value_or_fault}
 use Rattle.c104_plan.specs.TextCut.{uncommented_line, line_words, is_plain_line}
 use Rattle.c104_plan.specs.TextWords.{read_number, is_name}
@@ -16,7 +18,8 @@ use Rattle.c104_plan.specs.declared.plans.Shape.TheVariants.{Mesh, Cube}
 use Rattle.c104_plan.specs.Layouts.{Layout, mesh, cube, filled_switches, filled_terminals, filled_wires}
 pub use Rattle.c104_describe.specs.PlanDrafts.{Draft}
 use Rattle.c104_describe.specs.PlanDrafts.{is_mixed}
-use Rattle.c104_plan.specs.Plans.{Plan, switch_number, terminal_number, is_taken, is_linked, is_continued, is_deleted, rows_of, next_first, most_switches, most_terminals, most_header_bytes, label_count, last_link, is_buffer_size}
+use Rattle.c104_plan.specs.Plans.{Plan, switch_number, terminal_number, is_taken, is_linked, is_continued, is_deleted, rows_of, next_first}
+use Rattle.c104_plan.specs.Plans.{most_switches, most_terminals, most_header_bytes, label_count, last_link, is_buffer_size}
 use Rattle.c104_plan.specs.declared.plans.Shape.{Shape}
 use Rattle.c104_plan.specs.declared.plans.PlanBase.{PlanBase}
 use Rattle.c104_plan.specs.declared.plans.PlanRandom.{PlanRandom}

@@ -1,5 +1,6 @@
 -- Descriptions: lines in order, up to the first faulty one.
-use Rattle.std.specs.Prelude.{◌≡◌, ℕ, ◌+◌, ◌<◌, ◌≤◌, ◌⊎◌, false, List, [], ◌∷◌, length, take, nat_le, slice_get, if◌then◌else◌, Some, None, Result, Ok, Err, MatchResult}
+use Rattle.std.specs.Prelude.{◌≡◌, ℕ, ◌+◌, ◌<◌, ◌≤◌, ◌⊎◌, false, List, [], ◌∷◌, length, take, nat_le, slice_get, if◌then◌else◌, Some, None}
+use Rattle.std.specs.Prelude.{Result, Ok, Err, MatchResult}
 use Rattle.c104_describe.specs.declared.faults.PlanFaultKind.TheVariants.{NoMemory, TooLong}
 use Rattle.c104_describe.specs.declared.drafts.Draft.{Draft as Kept}
 use Rattle.c104_plan.specs.TextCut.{lines, most_bytes}

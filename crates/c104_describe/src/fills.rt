@@ -1,7 +1,8 @@
 //! Descriptions: whole networks, meshes and cubes.
 ghost use Rattle.std.specs.Prelude.{◌≡◌, ℕ, ◌*◌, ◌^◌, ◌<◌, ◌≤◌, ◌++◌, map, IfOk, OnOk};
 ghost use Rattle.std.specs.List.{range_with_len};
-ghost use Rattle.c104_plan.specs.Layouts.{cube, filled_name, filled_terminal, filled_wires, mesh, mesh_beyond, wire_at, wire_to, wires_from};
+ghost use Rattle.c104_plan.specs.Layouts.{cube, filled_name, filled_terminal, filled_wires, mesh, mesh_beyond, wire_at, wire_to};
+ghost use Rattle.c104_plan.specs.Layouts.{wires_from};
 ghost use Rattle.c104_plan.specs.declared.ports.Port.TheVariants as port;
 ghost use Rattle.c104_describe.specs.PlanLines.{cube_line, mesh_line};
 ghost use Rattle.c104_plan.specs.PlanParts.{plan_of};

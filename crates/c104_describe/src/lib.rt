@@ -3,7 +3,7 @@
 //! `read_description` makes a `Plan` of a text, or tells a `PlanFault`: the first faulty line and the least of its
 //! faults, of kind `PlanFaultKind`. `print_plan` prints a plan as a description, which gives that plan.
 //!
-//! Plans and images stand in `c104_plan`, and what is public of them is handed on.
+//! Plans and images are those of `c104_plan`, which this crate re-exports.
 #![tactic(auto)]
 
 mod description;

@@ -2,9 +2,11 @@
 ghost use Rattle.std.specs.Prelude.{◌≡◌, ◌≤◌, ◌++◌, ◌∷◌, [], length, map, IfOk, OnOk, Ok};
 ghost use Rattle.std.specs.String.{string_bytes};
 ghost use Rattle.c104_plan.specs.declared.plans.Shape.TheVariants.{Hand, Tree};
-ghost use Rattle.c104_describe.specs.PlanPrint.{buffer_words, counted_words, header_words, label_words, network_lines, plan_text, sentence, switch_words, text_of};
+ghost use Rattle.c104_describe.specs.PlanPrint.{buffer_words, counted_words, header_words, label_words, network_lines, plan_text, sentence};
+ghost use Rattle.c104_describe.specs.PlanPrint.{switch_words, text_of};
 ghost use Rattle.c104_plan.specs.PortTexts.{port_text, select_text, switch_name, terminal_name};
-ghost use Rattle.c104_describe.specs.PlanPrint.{terminal_words, wire_words, continue_words, delete_words, base_words, random_words, row_words};
+ghost use Rattle.c104_describe.specs.PlanPrint.{terminal_words, wire_words, continue_words, delete_words, base_words, random_words};
+ghost use Rattle.c104_describe.specs.PlanPrint.{row_words};
 ghost use Rattle.c104_describe.specs.PlanText.{read_description};
 ghost use Rattle.c104_plan.specs.TextCut.{most_bytes};
 

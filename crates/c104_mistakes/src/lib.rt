@@ -1,4 +1,4 @@
-//! What people are told of their mistakes.
+//! What users are told of their mistakes.
 //!
 //! An answer names a fault by its number and name. A message says what was wanted, and about which word:
 //! `description_message` of a faulty description, `fault_message` of a faulty line of a script and
@@ -20,7 +20,6 @@ mod scripts;
 mod words;
 
 pub use commands::{command_message, is_refusal};
-pub use description_mistakes::DescriptionMistake;
 pub use descriptions::description_message;
 pub use messages::{About, Behind, Messages, Silent};
 pub use nearest::{nearest_node, nearest_switch, nearest_terminal};

@@ -1,4 +1,4 @@
--- Places of bare nodes, of which nothing is kept: no trace is full, so an event is refused for want of memory alone.
+-- Places of bare nodes, of which nothing is kept: no trace is full, so an event is refused where memory is short, and for no other reason.
 use Rattle.std.proofs.Common.{◌≡◌, ◌∙◌, ℕ, false, List, Option, Some, None, Result, map, option_map, slice_get, unwrap_or, refl, subst}
 use Rattle.std.proofs.lemmas.Option.{slice_get-map}
 use Rattle.std.proofs.lemmas.List.{map-id}

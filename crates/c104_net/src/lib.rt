@@ -1,10 +1,11 @@
 //! Networks of switches and terminals, and what is proved of their packets.
 //!
-//! Networks stand in `c104_run` and their nodes in `c104_node`, and what is public of them is handed on. Here
-//! stands what knows the check of labels, and the replay: `Origins` tells which packet each received packet was, of
-//! a `Run`, which is done once more over tokens that tell where they came from, and of a `TracedNet`, whose tokens
-//! tell it as they arrive. `NoDeadlock` is the theorem that a network without a cycle of channel dependencies has
-//! no deadlock, and `LeftWork` tells how many rounds are enough.
+//! Networks and runs are those of `c104_run`, and their nodes those of `c104_node`; this crate re-exports what users
+//! of a network need of both. Its own are the theorems, which know the check of labels.
+//!
+//! `Origins` tells which packet each received packet was: of a `Run`, which is replayed over tokens that tell where
+//! they came from, and of a `TracedNet`, whose tokens tell it as they arrive. `NoDeadlock` says that a network without
+//! a cycle of channel dependencies has no deadlock, and `LeftWork` how many rounds are enough.
 #![tactic(auto)]
 
 mod bare_net;

@@ -1,7 +1,8 @@
 -- A node by itself, as a worker thread has it behind a lock: it knows how large its buffers are and which of its links
 -- have wires, and its type keeps that its trace is a run from its start to its state, over wired links alone and
 -- within all limits.
-use Rattle.std.specs.Prelude.{ℕ, ◌≡◌, ◌≤◌, ◌<◌, ◌++◌, ◌&&◌, All, Bool, true, false, List, [], ◌∷◌, Option, Some, None, if◌then◌else◌, length, nat_lt}
+use Rattle.std.specs.Prelude.{ℕ, ◌≡◌, ◌≤◌, ◌<◌, ◌++◌, ◌&&◌, All, Bool, true, false, List, [], ◌∷◌, Option, Some, None, if◌then◌else◌}
+use Rattle.std.specs.Prelude.{length, nat_lt}
 use Rattle.c104_crossbar.specs.Groups.{has_bit}
 use Rattle.c104_regs.specs.declared.registers.TheConstants.{LINKS}
 use Rattle.c104_token.specs.Kinds.{plain_kind}

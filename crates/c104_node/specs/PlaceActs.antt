@@ -15,7 +15,7 @@ use Rattle.c104_node.specs.Places.{Shown, fulls, bases, room_fault, states, trac
 use Rattle.c104_node.specs.Traces.{Deed, full_at, joint_deeds, kept_entry, kept_of, lone_deed, noted, noted_all, noted_at, plain_act}
 
 -- how acts end: they are answered as is due, and no limit and no full trace was in the way where they are ready; or they
--- are ready and refused, by a limit, a full trace or for want of memory, and nothing changed
+-- are ready and refused, by a limit, a full trace or where memory is short, and nothing changed
 abbrev pub ActsEnd : {A : Type 0} → Option EventFault → Option (ReplyOf A × List (Node A)) → Bool → List (Node A)
     → Result (ReplyOf A) EventFault → List (Node A) → Type 0
 ActsEnd {A} limit made full nodes (Ok reply) after =

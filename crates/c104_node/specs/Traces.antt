@@ -1,5 +1,6 @@
 -- What is kept of acts: entries, which lie in the traces of nodes by the order of events.
-use Rattle.std.specs.Prelude.{ℕ, ◌++◌, List, [], ◌∷◌, Bool, true, false, Option, Some, None, Result, Ok, Err, if◌then◌else◌, length, nat_le, slice_get, slice_set, unwrap_or}
+use Rattle.std.specs.Prelude.{ℕ, ◌++◌, List, [], ◌∷◌, Bool, true, false, Option, Some, None, Result, Ok, Err, if◌then◌else◌, length, nat_le}
+use Rattle.std.specs.Prelude.{slice_get, slice_set, unwrap_or}
 use Rattle.c104_token.specs.declared.tokens.Token.{Token}
 use Rattle.c104_token.specs.Kinds.{Kind}
 use Rattle.c104_switch.specs.Actions.{Action, Reply, is_ready}

@@ -130,7 +130,7 @@ impl LentNode {
         self.trace.len() >= TRACE_LIMIT
     }
 
-    /// Retires a switch, and lets go of all else.
+    /// Disposes of the node, with its trace: a switch is retired.
     pub fn retire(self) {
         let LentNode {
             core,

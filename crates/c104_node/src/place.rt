@@ -39,9 +39,9 @@ pub trait Place<T: TokenKind> {
         ensures shown { shown self.new ≡ shown self.old }
         ensures room { OnOk result (has_room self.new) };
 
-    /// The node does an act that it is ready for, over none but links with wires, and that no limit of a list refuses,
-    /// in the event of this stamp. The number is the terminal's, if the node is one. Only Send and Drain may want memory, and then nothing has
-    /// changed.
+    /// Does an act that the node is ready for, in the event of this stamp: over none but links with wires, and not
+    /// one that the limit of a list refuses. The number is the terminal's, if the node is one. The only error is out
+    /// of memory, for Send and Drain alone, and then nothing has changed.
     fn act(&mut self, number: usize, stamp: Stamp, act: ActOf<T>) -> Result<ReplyOf<T>, NoMemory>
         requires short { IsWithinLimits act }
         requires linked { is_linked (shown self.old).base act ≡ true }

@@ -17,7 +17,7 @@ use Rattle.c104_token.specs.Kinds.{Kind}
 use Rattle.std.proofs.Common.{Bool, Err, List, None, Ok, Option, Result, Some, ap, map, option_map, refl, slice_get, subst, sym, true, inl, ℕ, ◌∙◌, ◌≡◌}
 use Rattle.std.proofs.lemmas.Option.{slice_get-map}
 
--- what is known of wires hangs on nothing else
+-- what is known of wires depends on nothing else
 module _ (bs cs : List PlaceBase) (same : map base_wired bs ≡ map base_wired cs) where
   by_wired : (l : ℕ) (o : Option PlaceBase) → part true (λ (b : PlaceBase). links_of b l) o ≡ part true (λ (w : Option (ℕ → Bool)). part true (λ (wired : ℕ → Bool). wired l) w) (option_map base_wired o)
   by_wired l None = refl

@@ -1,5 +1,6 @@
 -- A network: a plan, and its nodes; and what each event does and answers.
-use Rattle.std.specs.Prelude.{ℕ, ◌+◌, ◌≡◌, ◌⊎◌, Bool, true, false, List, ◌++◌, length, map, nat_lt, nat_le, Option, Some, None, is_some, Result, Ok, Err, if◌then◌else◌}
+use Rattle.std.specs.Prelude.{ℕ, ◌+◌, ◌≡◌, ◌⊎◌, Bool, true, false, List, ◌++◌, length, map, nat_lt, nat_le, Option, Some, None, is_some}
+use Rattle.std.specs.Prelude.{Result, Ok, Err, if◌then◌else◌}
 use Rattle.c104_token.specs.declared.text.TheConstants.{MAX_PACKET_BYTES}
 use Rattle.c104_token.specs.Kinds.{Kind}
 use Rattle.c104_link.specs.Steps.{◌>>=◌}

@@ -19,7 +19,8 @@ use Rattle.c104_run.specs.declared.reason.Reason.{Reason}
 use Rattle.c104_node.specs.Nodes.{Node}
 use Rattle.c104_run.specs.Ends.{end_of}
 use Rattle.c104_run.specs.Network.{Network, event_fault, terminal_place}
-use Rattle.c104_node.specs.NodeReasons.{node_enter_why, node_leave_why, node_credit_out_why, node_credit_in_why, node_input_why, node_claim_why, node_drain_why}
+use Rattle.c104_node.specs.NodeReasons.{node_enter_why, node_leave_why, node_credit_out_why, node_credit_in_why, node_input_why}
+use Rattle.c104_node.specs.NodeReasons.{node_claim_why, node_drain_why}
 
 -- a reason, at this port
 abbrev pub port_reason : Port → Option Unready → Option Reason

@@ -73,7 +73,11 @@ node_reading = reading plain_kind node_shown node_state node_start
 
 pub node_keeps : KeepsRecord node_reading true
 node_keeps = record {
-  reads = record { tokens = record { random = λ j x. refl; sent = λ t n j x. refl }; plain = λ n. node_self n.0.state; started = λ n. refl };
+  reads = record {
+    tokens = record { random = λ j x. refl; sent = λ t n j x. refl };
+    plain = λ n. node_self n.0.state;
+    started = λ n. refl;
+  };
   keeping = refl;
 }
 
@@ -88,6 +92,10 @@ plain_by false x t n = refl
 
 pub counted_keeps : KeepsRecord counted_reading true
 counted_keeps = record {
-  reads = record { tokens = record { random = λ j x. refl; sent = λ t n j x. plain_by (is_end x) x t n }; plain = λ n. refl; started = λ n. refl };
+  reads = record {
+    tokens = record { random = λ j x. refl; sent = λ t n j x. plain_by (is_end x) x t n };
+    plain = λ n. refl;
+    started = λ n. refl;
+  };
   keeping = refl;
 }

@@ -15,7 +15,8 @@ use Rattle.c104_tools.specs.declared.faults.LoadFault.TheVariants as fault
 use Rattle.c104_tools.specs.declared.reading.LinkNumbers.{LinkNumbers}
 use Rattle.c104_tools.specs.Loads.{load_list, pokes, verify_list}
 use Rattle.c104_tools.specs.NetCommands.{net_switch_count}
-use Rattle.c104_tools.specs.Outcomes.{Given, Judge, and_then, any_value, due_value_only, link_made, link_peeks, nothing_made, run_steps, table_made, table_peeks}
+use Rattle.c104_tools.specs.Outcomes.{Given, Judge, and_then, any_value, due_value_only, link_made, link_peeks, nothing_made, run_steps}
+use Rattle.c104_tools.specs.Outcomes.{table_made, table_peeks}
 use Rattle.c104_tools.specs.Steps.{Step}
 
 -- what a command is given, by what its event answers. A switch that stands in a network always replies.
