@@ -110,7 +110,9 @@ pub record IsKeptRun (run : FinishedRecord) : Type 0 where
 pub traces_fit : (net : NetRecord) → ((k : ℕ) → IsRecordedAt net k) → (k : ℕ) (trace : List Entry) → slice_get net.traces k ≡ Some trace → All IsFitEntry trace
 traces_fit net recorded k trace at =
     let found = recorded k trace at in
-    fit_run (start_node found.1) found.0 trace found.2.recorded.run
+    let both : Some found.0.trace ≡ Some trace = sym found.1.trace ∙ at in
+    let same : found.0.trace ≡ trace = cc in
+    subst (All IsFitEntry) same (fit_run found.0.wired (start_node found.0.start) found.0.state found.0.trace found.1.recorded.run)
 
 pub kept_run : (run : FinishedRecord) → IsFinishedRecord run → IsKeptRun run
 kept_run run is = record {

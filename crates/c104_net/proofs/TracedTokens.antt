@@ -12,7 +12,7 @@ use Rattle.c104_node.specs.Nodes.{Node}
 use Rattle.c104_node.specs.Places.{Shown, states}
 use Rattle.c104_run.specs.RecordedNets.{places_record, IsRecordedNet}
 use Rattle.c104_run.specs.RecordedPlaces.{counted_reading}
-use Rattle.c104_node.specs.ShownNodes.{counted_shown}
+use Rattle.c104_node.specs.TracedRecords.{counted_shown}
 use Rattle.c104_node.specs.Tagged.{tag}
 use Rattle.c104_node.specs.declared.tagged.TaggedToken.{TaggedToken}
 use Rattle.c104_net.specs.TracedEnds.{traced_end}

@@ -2,7 +2,7 @@
 //! and of a finished run.
 ghost use Rattle.std.specs.Prelude.{All, ℕ};
 ghost use Rattle.c104_net.specs.DeadlockFreedom.{EndsWithoutDeadlock, IsFreeOfDeadlock};
-ghost use Rattle.c104_node.specs.Records.{IsRecorded, NodeRecord};
+ghost use Rattle.c104_node.specs.Records.{IsRecorded, NodeRecord, NodeRoom};
 
 use c104_node::Node;
 use c104_run::{Net, Run};
@@ -59,7 +59,7 @@ impl NoDeadlock for Run {
 
 /// Each of these nodes keeps a run of its own. The proof reads it here.
 fn read_records(nodes: &[Node])
-    ensures { All (λ (n : NodeRecord × ℕ). IsRecorded n.0) nodes.now }
+    ensures { All (λ (n : NodeRecord × NodeRoom). IsRecorded n.0) nodes.now }
 {
     for node in nodes {
         let _trace = node.trace();

@@ -99,6 +99,6 @@ module _ (r : Reply) (m : Node Token) where
   act_kind number act.CreditIn (node.Terminal t) is = terminal_done (terminal.terminal_credit_in t) is
 
 -- so does a run
-pub run_kind : (from to : Node Token) (entries : List Entry) → IsNodeRun from entries to → is_switch to ≡ is_switch from
-run_kind from to [] run = ap is_switch run
-run_kind from to (e ∷ entries) run = run_kind run.1 to entries run.4 ∙ act_kind e.reply run.1 run.0 e.act from run.3
+pub run_kind : (wired : ℕ) (from to : Node Token) (entries : List Entry) → IsNodeRun wired from entries to → is_switch to ≡ is_switch from
+run_kind wired from to [] run = ap is_switch run
+run_kind wired from to (e ∷ entries) run = run_kind wired run.0 to entries run.3 ∙ act_kind e.reply run.0 0 e.act from run.2

@@ -4,14 +4,14 @@ pub mod ReadyActs
 pub mod NamedWires
 pub mod JointEnds
 pub mod WireEnds
-pub mod NodeRuns
 pub mod Ranges
 pub mod QuietNodes
 pub mod BegunRecords
+mod BufferSizes
 pub mod EachSoFar
 pub mod Waiting
 pub mod Walks
-pub mod LentNodes
-pub mod LentPairs
+pub mod RecordedNodes
+pub mod NodePairs
 pub mod WrittenValues
 pub mod NextTokens

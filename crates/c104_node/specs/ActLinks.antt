@@ -1,9 +1,10 @@
 -- The links that acts go over.
-use Rattle.std.specs.Prelude.{ℕ, Option, Some, None}
+use Rattle.std.specs.Prelude.{ℕ, Bool, true, Option, Some, None}
 use Rattle.c104_switch.specs.declared.actions.ActionOf.{ActionOf}
 use Rattle.c104_switch.specs.declared.actions.ActionOf.TheVariants as action
 use Rattle.c104_plan.specs.declared.ports.Port.{Port}
 use Rattle.c104_plan.specs.declared.ports.Port.TheVariants as port
+use Rattle.c104_node.specs.Traces.{part}
 use Rattle.c104_node.specs.declared.acts.ActOf.{ActOf}
 use Rattle.c104_node.specs.declared.acts.ActOf.TheVariants as act
 
@@ -31,3 +32,7 @@ act_link act.Leave = Some 0
 act_link (act.Enter x) = Some 0
 act_link act.CreditOut = Some 0
 act_link act.CreditIn = Some 0
+
+-- whether an act goes over no link, or over one of these
+abbrev pub on_links : {A : Type 0} → (ℕ → Bool) → ActOf A → Bool
+on_links links a = part true links (act_link a)

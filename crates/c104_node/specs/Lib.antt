@@ -20,7 +20,5 @@ pub mod Origins
 pub mod Outboxes
 pub mod Tagged
 pub mod TracedRecords
-pub mod ShownNodes
 pub mod SpareRooms
-pub mod LentNodes
 pub mod StartNumbers

@@ -5,10 +5,11 @@ use Rattle.c104_node.specs.declared.acts.Entry.{Entry}
 use Rattle.c104_node.specs.declared.starts.NodeStart.{NodeStart}
 use Rattle.c104_node.specs.Acts.{IsWithinLimits}
 use Rattle.c104_node.specs.Nodes.{Node}
+use Rattle.c104_node.specs.Places.{Shown, started_base}
 use Rattle.c104_node.specs.Starts.{start_of}
 use Rattle.c104_node.specs.Tagged.{TaggedToken}
 use Rattle.c104_node.specs.MappedNodes.{map_node}
-use Rattle.c104_node.specs.Traces.{trace_limit}
+use Rattle.c104_node.specs.Traces.{is_trace_full, trace_limit}
 
 -- a node as it is seen: its state, where it started, and what it did since
 pub record TracedRecord : Type 0 where
@@ -43,3 +44,12 @@ first_traced n = record { state = n; start = start_of n; trace = [] }
 -- the same node over plain tokens
 abbrev pub plain_node : Node TaggedToken → Node Token
 plain_node n = map_node (λ (x : TaggedToken). x.token) n
+
+-- what is shown of a node of tagged tokens that counts its entries
+abbrev pub counted_shown : TracedRecord → Shown TaggedToken
+counted_shown n = record {
+  state = n.state;
+  base = started_base n.start;
+  trace = n.trace;
+  full = is_trace_full n.trace;
+}

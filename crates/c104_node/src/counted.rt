@@ -91,7 +91,7 @@ impl Place<TaggedToken> for CountedNode {
     ghost use Rattle.std.specs.Prelude.{◌≡◌, ◌<◌, false, is_some, length, refl, true, OnOk};
     ghost use Rattle.c104_node.specs.Acts.{IsWithinLimits, node_act};
     ghost use Rattle.c104_node.specs.PlaceActs.{ActEnds};
-    ghost use Rattle.c104_node.specs.ShownNodes.{counted_shown};
+    ghost use Rattle.c104_node.specs.TracedRecords.{counted_shown};
     ghost use Rattle.c104_node.specs.Tagged.{tagged_kind};
     ghost use Rattle.c104_node.specs.Traces.{trace_limit};
 

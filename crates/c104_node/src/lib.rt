@@ -15,7 +15,6 @@ mod crossings;
 mod ends;
 mod history;
 mod joint;
-mod lent;
 mod node;
 mod origins;
 mod place;

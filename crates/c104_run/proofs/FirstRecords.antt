@@ -1,11 +1,13 @@
 -- A network with its record, where nothing was done yet.
-use Rattle.std.proofs.Common.{◌≡◌, ◌∙◌, ◌++◌, ℕ, true, All, Result, Ok, Err, OnOk, List, [], ◌∷◌, map, refl, slice_get, sym, ap, subst, arith}
-use Rattle.std.proofs.lemmas.List.{map-append}
-use Rattle.std.proofs.lemmas.List.Elements.{All-map}
+use Rattle.std.proofs.Common.{◌≡◌, ◌≤◌, ◌+◌, ◌∙◌, ◌++◌, ℕ, Bool, true, length, take, All, Result, Ok, Err, OnOk, List, [], ◌∷◌, map, refl, slice_get, sym, ap, subst, arith}
+use Rattle.std.proofs.lemmas.List.{length-append, length-map, length-take-le, map-append}
+use Rattle.std.proofs.lemmas.List.Elements.{All-map, All-replicate}
 use Rattle.std.proofs.lemmas.Option.{slice_get-map}
 use Rattle.std.specs.Option.{option_map}
 use Rattle.c104_token.specs.declared.tokens.Token.{Token}
 use Rattle.c104_regs.specs.declared.settings.Settings.{Settings}
+use Rattle.c104_switch.specs.Starts.{new_link, new_start, SwitchStart}
+use Rattle.c104_switch.specs.declared.link_start.LinkStart.{LinkStart}
 use Rattle.c104_switch.specs.Switch.{new_switch, new_switch_with}
 use Rattle.c104_plan.specs.declared.plans.Terminal.{Terminal}
 use Rattle.c104_node.specs.declared.node.NodeOf.TheVariants as node
@@ -15,12 +17,13 @@ use Rattle.c104_plan.specs.PlanImage.{Image}
 use Rattle.c104_node.specs.declared.acts.Entry.{Entry}
 use Rattle.c104_node.specs.Nodes.{Node}
 use Rattle.c104_run.specs.Network.{network_of, new_network, placed_network}
-use Rattle.c104_run.specs.RecordedNets.{IsRecordedNet}
+use Rattle.c104_run.specs.RecordedNets.{IsRecordedNet, places_record, read_trace, Reading}
 use Rattle.c104_run.specs.RecordedPlaces.{node_reading}
-use Rattle.c104_node.specs.Records.{NodeRecord, node_start, node_state, node_trace}
+use Rattle.c104_node.specs.Records.{HasCap, NodeRecord, NodeRoom}
+use Rattle.c104_node.specs.declared.starts.NodeStart.TheVariants as start
 use Rattle.c104_run.specs.Balance.{IsSteady}
 use Rattle.c104_node.specs.Starts.{start_node, start_of}
-use Rattle.c104_run.specs.NetRecords.{first_record, fresh_record, net_record, shown_record, IsNetRecord, IsWithinLimit}
+use Rattle.c104_run.specs.NetRecords.{first_record, fresh_record, shown_record, IsNetRecord, IsWithinLimit}
 use Rattle.c104_run.proofs.BalancePlaced.{steady_copy}
 use Rattle.c104_run.proofs.RecordSteps.{same_record}
 use Rattle.c104_run.proofs.StartsBack.{starts_back}
@@ -65,54 +68,71 @@ pub new_all : {E : Type 0} (r : Result (Unit {0}) E) (plan : Plan) (mid new : Li
 new_all r plan mid new first grown = all_made r (made_new plan.cap) plan.switches plan.cap plan.terminals mid new first grown
 
 -- what a switch with its start shows
-pub shown_switch : (v : NodeRecord × ℕ) (r : NodeRecord) (n : Node Token) → v.0 ≡ r → r.state ≡ n → start_node r.start ≡ n → r.trace ≡ [] → shown_record v ≡ first_record n
+pub shown_switch : (v : NodeRecord × NodeRoom) (r : NodeRecord) (n : Node Token) → v.0 ≡ r → r.state ≡ n → start_node r.start ≡ n → r.trace ≡ [] → shown_record v ≡ first_record n
 shown_switch v r n is state begun trace =
     ap (λ (r : NodeRecord). (r.state, start_node r.start, r.trace)) is ∙ ap (λ (m : Node Token). (m, start_node r.start, r.trace)) state ∙ ap (λ (m : Node Token). (n, m, r.trace)) begun ∙ ap (λ (t : List Entry). (n, n, t)) trace
 
--- what nodes show at their start
-shown_first : (list : List (NodeRecord × ℕ)) (nodes : List (Node Token)) → map shown_record list ≡ map first_record nodes → (map node_state list ≡ nodes) × (map start_node (map node_start list) ≡ nodes) × (map node_trace list ≡ map no_entries nodes)
-shown_first [] [] is = (refl, refl, refl)
-shown_first [] (m ∷ nodes) is = cc
-shown_first (n ∷ list) [] is = cc
-shown_first (n ∷ list) (m ∷ nodes) is =
-    let first : shown_record n ≡ first_record m = cc in
-    let rest : map shown_record list ≡ map first_record nodes = cc in
-    let others = shown_first list nodes rest in (
-      ap (λ x. x ∷ map node_state list) (ap (λ (v : Shown). v.0) first) ∙ ap (λ xs. m ∷ xs) others.0,
-      ap (λ x. x ∷ map start_node (map node_start list)) (ap (λ (v : Shown). v.1) first) ∙ ap (λ xs. m ∷ xs) others.1,
-      ap (λ x. x ∷ map node_trace list) (ap (λ (v : Shown). v.2) first) ∙ ap (λ xs. [] ∷ xs) others.2,
-    )
+-- what places show at their start, over plain tokens
+abbrev shown_by : {A P : Type 0} → Reading A P → P → Shown
+shown_by v p = (v.plain p, start_node (v.start p), read_trace v p)
 
-module _ (plan wires : Plan) (nodes : List (Node Token)) (list : List (NodeRecord × ℕ)) (same : wires ≡ plan) (shown : map shown_record list ≡ map first_record nodes) where
-  -- it keeps what such a network keeps
-  pub record_first : IsSteady (network_of plan nodes) → IsNetRecord (net_record wires list 0)
-  record_first steady =
-      let are = shown_first list nodes shown in
-      let there : IsSteady (network_of wires nodes) = steady_copy plan wires nodes same steady in
-      record {
-        steady = subst (λ ns. IsSteady (network_of wires ns)) (sym are.0) there;
-        started = subst (λ ns. IsSteady (network_of wires ns)) (sym are.1) there;
-        told = (
-          [],
-          record {
-            run = ap (network_of wires) (are.0 ∙ sym are.1);
-            told = λ k. ap (λ ts. slice_get ts k) are.2 ∙ slice_get-map no_entries nodes k ∙ ap (λ ns. option_map no_entries (slice_get ns k)) (sym are.1);
-            counted = refl;
-            ordered = tt;
-          },
-        );
-        within = subst (All IsWithinLimit) (sym are.2) (All-map IsWithinLimit no_entries nodes (λ i d inside. omega arith));
-        counted = omega arith;
-      }
+module _ {A P : Type 0} (v : Reading A P) where
+  shown_first : (list : List P) (nodes : List (Node Token)) → map (shown_by v) list ≡ map first_record nodes →
+      (map v.plain list ≡ nodes) × (map start_node (map v.start list) ≡ nodes) × (map (read_trace v) list ≡ map no_entries nodes)
+  shown_first [] [] is = (refl, refl, refl)
+  shown_first [] (m ∷ nodes) is = cc
+  shown_first (n ∷ list) [] is = cc
+  shown_first (n ∷ list) (m ∷ nodes) is =
+      let first : shown_by v n ≡ first_record m = cc in
+      let rest : map (shown_by v) list ≡ map first_record nodes = cc in
+      let others = shown_first list nodes rest in (
+        ap (λ x. x ∷ map v.plain list) (ap (λ (s : Shown). s.0) first) ∙ ap (λ xs. m ∷ xs) others.0,
+        ap (λ x. x ∷ map start_node (map v.start list)) (ap (λ (s : Shown). s.1) first) ∙ ap (λ xs. m ∷ xs) others.1,
+        ap (λ x. x ∷ map (read_trace v) list) (ap (λ (s : Shown). s.2) first) ∙ ap (λ xs. [] ∷ xs) others.2,
+      )
 
-  -- and so does the type of it
-  pub net_first : IsSteady (network_of plan nodes) → IsRecordedNet node_reading wires list 0
-  net_first steady = let kept = record_first steady in record { kept = kept; events = kept.told.0; told = kept.told.1 }
+  module _ (plan wires : Plan) (nodes : List (Node Token)) (list : List P) (same : wires ≡ plan) (shown : map (shown_by v) list ≡ map first_record nodes) where
+    -- a network of them keeps what such a network keeps
+    pub record_first : IsSteady (network_of plan nodes) → IsNetRecord (places_record v wires list 0)
+    record_first steady =
+        let are = shown_first list nodes shown in
+        let there : IsSteady (network_of wires nodes) = steady_copy plan wires nodes same steady in
+        record {
+          steady = subst (λ ns. IsSteady (network_of wires ns)) (sym are.0) there;
+          started = subst (λ ns. IsSteady (network_of wires ns)) (sym are.1) there;
+          told = (
+            [],
+            record {
+              run = ap (network_of wires) (are.0 ∙ sym are.1);
+              told = λ k. ap (λ ts. slice_get ts k) are.2 ∙ slice_get-map no_entries nodes k ∙ ap (λ ns. option_map no_entries (slice_get ns k)) (sym are.1);
+              counted = refl;
+              ordered = tt;
+            },
+          );
+          within = subst (All IsWithinLimit) (sym are.2) (All-map IsWithinLimit no_entries nodes (λ i d inside. omega arith));
+          counted = omega arith;
+        }
 
-  -- and it is the one that was made, where a run starts
-  pub first_is : net_record wires list 0 ≡ fresh_record (network_of plan nodes)
-  first_is =
-      let are = shown_first list nodes shown in
-      same_record (net_record wires list 0) (fresh_record (network_of plan nodes))
-      (ap (λ p. network_of p (map node_state list)) same ∙ ap (network_of plan) are.0)
-      (starts_back (map node_start list) ∙ ap (map start_of) are.1) are.2 refl
+    -- and it is the one that was made, where a run starts
+    pub first_is : places_record v wires list 0 ≡ fresh_record (network_of plan nodes)
+    first_is =
+        let are = shown_first list nodes shown in
+        same_record (places_record v wires list 0) (fresh_record (network_of plan nodes))
+        (ap (λ p. network_of p (map v.plain list)) same ∙ ap (network_of plan) are.0)
+        (starts_back (map v.start list) ∙ ap (map start_of) are.1) are.2 refl
+
+-- so do nodes that keep their entries
+pub net_first : (plan wires : Plan) (nodes : List (Node Token)) (list : List (NodeRecord × NodeRoom)) → wires ≡ plan → map shown_record list ≡ map first_record nodes → IsSteady (network_of plan nodes) → IsRecordedNet node_reading wires list 0
+net_first plan wires nodes list same shown steady =
+    let kept = record_first node_reading plan wires nodes list same shown steady in
+    record { kept = kept; events = kept.told.0; told = kept.told.1 }
+
+-- how many nodes there are, by what they show
+pub made_count : {X : Type 0} (made : X → Shown) (before : List Shown) (xs : List X) (i : ℕ) (list : List (NodeRecord × NodeRoom)) → map shown_record list ≡ before ++ map made (take i xs) → i ≤ length xs → length list ≡ length before + i
+made_count made before xs i list is inside =
+    sym (length-map list shown_record) ∙ ap (length {A = Shown}) is ∙ length-append before (map made (take i xs))
+    ∙ ap (λ n. length before + n) (length-map (take i xs) made ∙ length-take-le i xs inside)
+
+-- the buffers of a new switch are of its size
+pub new_sized : (cap : ℕ) (settings : List Settings) (started : Bool) (s : SwitchStart) → s ≡ new_start cap settings started → HasCap cap (start.Switch s)
+new_sized cap settings started s is = subst (λ (r : SwitchStart). HasCap cap (start.Switch r)) (sym is) (All-replicate (λ (l : LinkStart). l.cap ≡ cap) 32 (new_link cap) refl)

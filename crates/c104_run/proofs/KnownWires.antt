@@ -10,11 +10,11 @@ use Rattle.c104_run.specs.RoundParts.{PartEnds}
 use Rattle.c104_run.specs.Stages.{stage_apply, stage_of, Stage}
 use Rattle.c104_node.specs.Traces.{part}
 use Rattle.c104_node.specs.WiredPlaces.{links_at, links_of}
-use Rattle.c104_run.specs.KnownWires.{KnowWires}
+use Rattle.c104_run.specs.KnownWires.{is_linked_end, KnowWires}
 use Rattle.c104_node.proofs.PlaceSteps.{shown_at}
 use Rattle.c104_run.proofs.RoundRuns.{ends_keep}
 use Rattle.c104_token.specs.Kinds.{Kind}
-use Rattle.std.proofs.Common.{Bool, Err, List, None, Ok, Option, Result, Some, ap, map, option_map, refl, slice_get, subst, sym, true, inl, ℕ, ◌∙◌, ◌≡◌}
+use Rattle.std.proofs.Common.{Bool, IfSome, Err, List, None, Ok, Option, Result, Some, ap, map, option_map, refl, slice_get, subst, sym, true, inl, ℕ, ◌∙◌, ◌≡◌}
 use Rattle.std.proofs.lemmas.Option.{slice_get-map}
 
 -- what is known of wires depends on nothing else
@@ -30,16 +30,38 @@ module _ (bs cs : List PlaceBase) (same : map base_wired bs ≡ map base_wired c
       ∙ sym (by_wired l (slice_get cs k))
 
   pub known_by : (plan : Plan) → KnowWires plan cs → KnowWires plan bs
-  known_by plan known = λ p q wired. (links_same _ _ ∙ (known p q wired).0, links_same _ _ ∙ (known p q wired).1)
+  known_by plan known = record {
+    ends = λ p q wired. (links_same _ _ ∙ (known.ends p q wired).0, links_same _ _ ∙ (known.ends p q wired).1);
+    exact = λ k b here. exact_by k b here (slice_get cs k) refl;
+  }
+    where
+      exact_by : (k : ℕ) (b : PlaceBase) → slice_get bs k ≡ Some b → (o : Option PlaceBase) → slice_get cs k ≡ o → IfSome b.wired (λ (wired : ℕ → Bool). (l : ℕ) → wired l ≡ is_linked_end plan k l)
+      exact_by k b here None there =
+          let both : Some b.wired ≡ None = sym (ap (option_map base_wired) here) ∙ sym (slice_get-map base_wired bs k) ∙ ap (λ ws. slice_get ws k) same ∙ slice_get-map base_wired cs k ∙ ap (option_map base_wired) there in
+          absurd (let no : ⊥ = cc in no)
+      exact_by k b here (Some c) there =
+          let both : Some b.wired ≡ Some c.wired = sym (ap (option_map base_wired) here) ∙ sym (slice_get-map base_wired bs k) ∙ ap (λ ws. slice_get ws k) same ∙ slice_get-map base_wired cs k ∙ ap (option_map base_wired) there in
+          let one : b.wired ≡ c.wired = cc in
+          subst (λ o. IfSome o (λ (wired : ℕ → Bool). (l : ℕ) → wired l ≡ is_linked_end plan k l)) (sym one) (known.exact k c there)
 
 module _ {A : Type 0} where
   -- nothing is asked where nothing is known
   pub unknown : {P : Type 0} (shown : P → Shown A) → ((p : P) → (shown p).base.wired ≡ None) → (plan : Plan) (xs : List P) → KnowWires plan (bases (map shown xs))
-  unknown {P} shown none plan xs = λ p q wired. (by_place (port_place plan p) (port_link p) (slice_get xs (port_place plan p)) refl, by_place (port_place plan q) (port_link q) (slice_get xs (port_place plan q)) refl)
+  unknown {P} shown none plan xs = record {
+    ends = λ p q wired. (by_place (port_place plan p) (port_link p) (slice_get xs (port_place plan p)) refl, by_place (port_place plan q) (port_link q) (slice_get xs (port_place plan q)) refl);
+    exact = λ k b here. exact_by k b here (slice_get xs k) refl;
+  }
     where
       by_place : (k l : ℕ) (o : Option P) → slice_get xs k ≡ o → links_at (bases (map shown xs)) k l ≡ true
       by_place k l None is = rw (shown_at (λ (s : Shown A). s.base) shown xs k None is) refl
       by_place k l (Some x) is = rw (shown_at (λ (s : Shown A). s.base) shown xs k (Some x) is, none x) refl
+
+      exact_by : (k : ℕ) (b : PlaceBase) → slice_get (bases (map shown xs)) k ≡ Some b → (o : Option P) → slice_get xs k ≡ o → IfSome b.wired (λ (wired : ℕ → Bool). (l : ℕ) → wired l ≡ is_linked_end plan k l)
+      exact_by k b here None is = let both : None ≡ Some b = sym (shown_at (λ (s : Shown A). s.base) shown xs k None is) ∙ here in absurd (let no : ⊥ = cc in no)
+      exact_by k b here (Some x) is =
+          let both : Some (shown x).base ≡ Some b = sym (shown_at (λ (s : Shown A). s.base) shown xs k (Some x) is) ∙ here in
+          let one : (shown x).base ≡ b = cc in
+          subst (λ o. IfSome o (λ (wired : ℕ → Bool). (l : ℕ) → wired l ≡ is_linked_end plan k l)) (sym (none x) ∙ ap base_wired one) tt
 
   -- what is known of places that were lent is known of those that are put back
   pub known_put : {P : Type 0} (shown : P → Shown A) (plan : Plan) (items lent new put : List P) → lent ≡ items → put ≡ new → (KnowWires plan (bases (map shown lent)) → KnowWires plan (bases (map shown new))) →

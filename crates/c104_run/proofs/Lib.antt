@@ -57,3 +57,5 @@ pub mod RecordedViews
 pub mod TracedFirsts
 pub mod TracedArrivals
 pub mod KnownWires
+pub mod LinkedNodes
+mod PartCounts

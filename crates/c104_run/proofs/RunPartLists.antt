@@ -9,7 +9,7 @@ use Rattle.c104_node.specs.declared.starts.NodeStart.{NodeStart}
 use Rattle.c104_node.specs.Nodes.{terminals_of}
 use Rattle.c104_run.specs.FinishedRecords.{record_finish, FinishedRecord}
 use Rattle.c104_run.specs.NetRecords.{net_record}
-use Rattle.c104_node.specs.Records.{node_start, node_state, node_trace, NodeRecord}
+use Rattle.c104_node.specs.Records.{node_start, node_state, node_trace, NodeRecord, NodeRoom}
 use Rattle.c104_node.specs.Terminals.{Terminal}
 
 -- the last of a list leaves what comes before what was left of those behind it
@@ -27,7 +27,7 @@ left_maybe all all_rest whole left more (Some y) is joined before =
     ap (λ ys. all_rest ++ ys) turned ∙ sym (append_assoc all_rest (y ∷ []) (reverse left)) ∙ ap (λ ys. ys ++ reverse left) (sym is) ∙ before
 
 -- what is left of a run, by its parts
-pub finish_is : (plan is_plan : Plan) (nodes : List (NodeRecord × ℕ)) (count : ℕ) (terminals : List (Terminal Token)) (starts : List NodeStart) (traces : List (List Entry)) →
+pub finish_is : (plan is_plan : Plan) (nodes : List (NodeRecord × NodeRoom)) (count : ℕ) (terminals : List (Terminal Token)) (starts : List NodeStart) (traces : List (List Entry)) →
     is_plan ≡ plan → terminals ≡ terminals_of (map node_state nodes) → starts ≡ map node_start nodes → traces ≡ map node_trace nodes →
     ◌≡◌ {A = FinishedRecord} (record { finished = record { plan = is_plan; terminals = terminals }; starts = starts; traces = traces; count = count }) (record_finish (net_record plan nodes count))
 finish_is plan is_plan nodes count terminals starts traces same ends begun told =

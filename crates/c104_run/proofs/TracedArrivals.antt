@@ -11,7 +11,7 @@ use Rattle.c104_node.specs.Nodes.{node_arrived, Node}
 use Rattle.c104_node.specs.Places.{states}
 use Rattle.c104_run.specs.RecordedNets.{places_record}
 use Rattle.c104_run.specs.RecordedPlaces.{counted_keeps, counted_reading}
-use Rattle.c104_node.specs.ShownNodes.{counted_shown}
+use Rattle.c104_node.specs.TracedRecords.{counted_shown}
 use Rattle.c104_node.specs.declared.tagged.TaggedToken.{TaggedToken}
 use Rattle.c104_node.specs.TracedRecords.{TracedRecord}
 use Rattle.c104_node.specs.MappedNodes.{map_node}

@@ -1,5 +1,5 @@
 -- A new network of tagged tokens.
-use Rattle.std.proofs.Common.{◌≡◌, ◌∙◌, ◌++◌, ℕ, List, [], ◌∷◌, map, refl, sym, ap, subst}
+use Rattle.std.proofs.Common.{◌≡◌, ◌∙◌, ◌++◌, ℕ, List, [], ◌∷◌, map, refl, sym, ap}
 use Rattle.std.proofs.lemmas.List.{map-append}
 use Rattle.c104_token.specs.declared.tokens.Token.{Token}
 use Rattle.c104_switch.specs.Switch.{new_switch}
@@ -8,28 +8,17 @@ use Rattle.c104_plan.specs.Plans.{Plan, IsPlan}
 use Rattle.c104_node.specs.declared.acts.Entry.{Entry}
 use Rattle.c104_node.specs.declared.node.NodeOf.TheVariants as node
 use Rattle.c104_run.specs.Network.{network_of, new_network}
-use Rattle.c104_run.specs.NetRecords.{first_record, fresh_record, net_record, shown_record, IsNetRecord}
-use Rattle.c104_node.specs.Records.{node_start, node_state, node_trace, NodeRecord}
+use Rattle.c104_run.specs.NetRecords.{first_record, fresh_record}
 use Rattle.c104_node.specs.Nodes.{Node}
-use Rattle.c104_run.specs.RecordedNets.{places_record, read_trace, IsRecordedNet, Reading}
+use Rattle.c104_run.specs.RecordedNets.{places_record, IsRecordedNet}
 use Rattle.c104_run.specs.RecordedPlaces.{counted_reading}
 use Rattle.c104_node.specs.Starts.{start_node, start_of}
 use Rattle.c104_node.specs.Terminals.{new_terminal}
 use Rattle.c104_node.specs.declared.tagged.TaggedToken.{TaggedToken}
-use Rattle.c104_node.specs.TracedRecords.{first_traced, traced_start, traced_state, traced_trace, TracedRecord}
+use Rattle.c104_node.specs.TracedRecords.{first_traced, plain_node, traced_start, traced_state, traced_trace, TracedRecord}
 use Rattle.c104_run.proofs.BalancePlaced.{steady_new}
 use Rattle.c104_run.proofs.FirstRecords.{first_is, map_twice, record_first}
 use Rattle.c104_run.proofs.RecordedBegins.{no_entries, told_first}
-use Rattle.c104_run.proofs.RecordSteps.{same_record}
-
--- a place as it is seen, as a node of plain tokens that keeps its record
-abbrev seen : {A P : Type 0} → Reading A P → P → NodeRecord × ℕ
-seen v p = (record { state = v.plain p; start = v.start p; trace = read_trace v p }, 0)
-
-record_seen : {A P : Type 0} (v : Reading A P) (plan : Plan) (places : List P) (count : ℕ) → places_record v plan places count ≡ net_record plan (map (seen v) places) count
-record_seen v plan places count =
-    same_record (places_record v plan places count) (net_record plan (map (seen v) places) count)
-    (ap (network_of plan) (sym (map_twice node_state (seen v) places))) (sym (map_twice node_start (seen v) places)) (sym (map_twice node_trace (seen v) places)) refl
 
 -- new nodes stand at their starts, over any kind of token
 module _ (A : Type 0) (cap : ℕ) where
@@ -87,21 +76,23 @@ module _ (plan wires : Plan) (list : List TracedRecord) (same : wires ≡ plan) 
   abbrev first_terminal : Terminal → Node Token × Node Token × List Entry
   first_terminal t = first_record (node.Terminal (new_terminal plan.cap))
 
-  shown_new : map shown_record (map (seen counted_reading) list) ≡ map first_record (new_network plan).nodes
+  abbrev shown : TracedRecord → Node Token × Node Token × List Entry
+  shown n = (plain_node n.state, start_node n.start, n.trace)
+
+  shown_new : map shown list ≡ map first_record (new_network plan).nodes
   shown_new =
-      map_twice shown_record (seen counted_reading) list
-      ∙ ap (map (λ (n : TracedRecord). shown_record (seen counted_reading n))) is
-      ∙ made_map (λ (n : TracedRecord). shown_record (seen counted_reading n)) first_switch first_terminal plan (λ name. refl) (λ t. refl)
+      ap (map shown) is
+      ∙ made_map shown first_switch first_terminal plan (λ name. refl) (λ t. refl)
       ∙ ap (λ xs. xs ++ map first_terminal plan.terminals) (sym (map_twice first_record (λ (name : List ℕ). node.Switch (new_switch plan.cap)) plan.switches))
       ∙ ap (λ ys. map first_record (map (λ (name : List ℕ). node.Switch (new_switch plan.cap)) plan.switches) ++ ys) (sym (map_twice first_record (λ (t : Terminal). node.Terminal (new_terminal plan.cap)) plan.terminals))
       ∙ sym (map-append first_record (map (λ (name : List ℕ). node.Switch (new_switch plan.cap)) plan.switches) (map (λ (t : Terminal). node.Terminal (new_terminal plan.cap)) plan.terminals))
 
   pub traced_new : IsRecordedNet counted_reading wires list 0
   traced_new = record {
-    kept = subst IsNetRecord (sym (record_seen counted_reading wires list 0)) (record_first plan wires (new_network plan).nodes (map (seen counted_reading) list) same shown_new (steady_new plan (new_network plan).nodes refl is_plan));
+    kept = record_first counted_reading plan wires (new_network plan).nodes list same shown_new (steady_new plan (new_network plan).nodes refl is_plan);
     events = [];
     told = told_first counted_reading wires list stand_new none_new;
   }
 
   pub traced_new_is : places_record counted_reading wires list 0 ≡ fresh_record (new_network plan)
-  traced_new_is = record_seen counted_reading wires list 0 ∙ first_is plan wires (new_network plan).nodes (map (seen counted_reading) list) same shown_new
+  traced_new_is = first_is counted_reading plan wires (new_network plan).nodes list same shown_new

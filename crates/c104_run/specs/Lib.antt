@@ -28,3 +28,4 @@ pub mod TracedRuns
 pub mod Standstill
 pub mod RecordedNets
 pub mod RecordedPlaces
+pub mod NetParts

@@ -11,7 +11,7 @@ use Rattle.c104_node.specs.declared.starts.NodeStart.{NodeStart}
 use Rattle.c104_run.specs.Balance.{IsSteady}
 use Rattle.c104_node.specs.Nodes.{Node}
 use Rattle.c104_run.specs.Network.{Network, network_of, AnswersWith}
-use Rattle.c104_node.specs.Records.{NodeRecord, node_state, node_start, node_trace}
+use Rattle.c104_node.specs.Records.{NodeRecord, NodeRoom, node_state, node_start, node_trace}
 use Rattle.c104_run.specs.Runs.{IsRunRecord}
 use Rattle.c104_run.specs.QuietNets.{network_begin}
 use Rattle.c104_node.specs.Starts.{start_node, start_of}
@@ -26,7 +26,7 @@ pub record NetRecord : Type 0 where
   pub count : ℕ
 
 -- what nodes with their records and such a count show
-abbrev pub net_record : Plan → List (NodeRecord × ℕ) → ℕ → NetRecord
+abbrev pub net_record : Plan → List (NodeRecord × NodeRoom) → ℕ → NetRecord
 net_record plan nodes count = record {
   network = network_of plan (map node_state nodes);
   starts = map node_start nodes;
@@ -35,7 +35,7 @@ net_record plan nodes count = record {
 }
 
 -- what is shown of a node with its record: its state, its state at its start, and its trace
-abbrev pub shown_record : NodeRecord × ℕ → Node Token × Node Token × List Entry
+abbrev pub shown_record : NodeRecord × NodeRoom → Node Token × Node Token × List Entry
 shown_record n = (n.0.state, start_node n.0.start, n.0.trace)
 
 -- the same of a node at its start

@@ -11,7 +11,7 @@ use Rattle.c104_switch.specs.Phases.{with_header}
 use Rattle.c104_switch.specs.declared.phase.Phase.{Phase}
 use Rattle.c104_switch.specs.declared.phase.Phase.TheVariants.{Fresh, Head, Want, Stream, Sinking}
 use Rattle.c104_node.specs.declared.node.NodeOf.TheVariants as node
-use Rattle.c104_node.specs.Records.{node_start, node_state, NodeRecord}
+use Rattle.c104_node.specs.Records.{node_start, node_state, NodeRecord, NodeRoom}
 use Rattle.c104_node.specs.Nodes.{Node}
 use Rattle.c104_run.specs.RecordedNets.{reading, KeepsRecord, Reading}
 use Rattle.c104_node.specs.Tagged.{tagged_by, tagged_kind}
@@ -19,7 +19,8 @@ use Rattle.c104_node.specs.declared.tagged.TaggedToken.{TaggedToken}
 use Rattle.c104_node.specs.Terminals.{Terminal}
 use Rattle.c104_node.specs.TracedRecords.{plain_node, traced_start, TracedRecord}
 use Rattle.c104_node.specs.MappedNodes.{map_input, map_node, map_outgoing, map_switch, map_terminal}
-use Rattle.c104_node.specs.ShownNodes.{node_shown, counted_shown}
+use Rattle.c104_node.specs.Records.{node_shown}
+use Rattle.c104_node.specs.TracedRecords.{counted_shown}
 
 -- mapping each token to itself changes no node
 map_self : (xs : List Token) → map (λ (x : Token). x) xs ≡ xs
@@ -68,7 +69,7 @@ node_self (node.Switch s) = sym (ap node.Switch (switch_self s))
 node_self (node.Terminal t) = sym (ap node.Terminal (terminal_self t))
 
 -- how it is read
-abbrev pub node_reading : Reading Token (NodeRecord × ℕ)
+abbrev pub node_reading : Reading Token (NodeRecord × NodeRoom)
 node_reading = reading plain_kind node_shown node_state node_start
 
 pub node_keeps : KeepsRecord node_reading true

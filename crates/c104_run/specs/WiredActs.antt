@@ -1,16 +1,13 @@
 -- The acts of a node that go over a link: tokens and credits come in and go out there, and such a link has a wire.
 use Rattle.std.specs.Prelude.{ℕ, ◌≡◌, All, List, Some, slice_get}
-use Rattle.c104_token.specs.declared.tokens.Token.{Token}
 use Rattle.c104_plan.specs.declared.ports.Port.{Port}
 use Rattle.c104_plan.specs.Plans.{Plan}
 use Rattle.c104_plan.specs.Wiring.{peer}
 use Rattle.c104_node.specs.declared.acts.Entry.{Entry}
 use Rattle.c104_node.specs.declared.ends.End.{End}
-use Rattle.c104_node.specs.declared.starts.NodeStart.{NodeStart}
 use Rattle.c104_node.specs.ActLinks.{act_link}
 use Rattle.c104_run.specs.Ends.{end_of}
 use Rattle.c104_run.specs.NetRecords.{NetRecord}
-use Rattle.c104_node.specs.Nodes.{Node}
 use Rattle.c104_node.specs.Records.{IsRecorded, NodeRecord}
 
 -- there is a port at this end of a wire, and another at the wire's other end
@@ -30,10 +27,10 @@ AreWiredLinks plan k trace = All (IsWiredAct plan k) trace
 pub record IsRecordedNode (r : NetRecord) (k : ℕ) (n : NodeRecord) : Type 0 where
   pub state : slice_get r.network.nodes k ≡ Some n.state
   pub start : slice_get r.starts k ≡ Some n.start
+  pub trace : slice_get r.traces k ≡ Some n.trace
   pub recorded : IsRecorded n
   pub wired : AreWiredLinks r.network.plan k n.trace
 
 -- the trace of the node at a place is such a run
 abbrev pub IsRecordedAt : NetRecord → ℕ → Type 0
-IsRecordedAt r k = (trace : List Entry) → slice_get r.traces k ≡ Some trace →
-    (state : Node Token) × (start : NodeStart) × IsRecordedNode r k (record { state = state; start = start; trace = trace })
+IsRecordedAt r k = (trace : List Entry) → slice_get r.traces k ≡ Some trace → (n : NodeRecord) × IsRecordedNode r k n

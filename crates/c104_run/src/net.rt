@@ -8,11 +8,11 @@ ghost use Rattle.c104_plan.specs.Plans.{IsPlan};
 ghost use Rattle.c104_run.specs.Finished.{run_arrived};
 ghost use Rattle.c104_run.specs.FinishedRecords.{HaveRunRoom, record_finish};
 ghost use Rattle.c104_run.specs.Network.{network_arrived, new_network, placed_network};
-ghost use Rattle.c104_run.specs.NetRecords.{fresh_record, IsNetRecord};
-ghost use Rattle.c104_run.specs.WiredActs.{IsRecordedAt};
+ghost use Rattle.c104_run.specs.NetRecords.{fresh_record};
 
 mod answers;
 mod beginning;
+mod nodes;
 
 use crate::faults::PlaceFault;
 use crate::place_views::arrived_at;
@@ -22,7 +22,7 @@ use crate::recording::{place_new_recorded, place_recorded};
 use crate::run::Run;
 use crate::run_parts::{RunParts, parts_of};
 use crate::wires::Wires;
-use c104_node::{Entry, Node, Stamp};
+use c104_node::Node;
 use c104_plan::{Image, Plan};
 use c104_token::{NoMemory, Token};
 use std::alloc::Global;
@@ -39,7 +39,7 @@ impl Net {
     {
         let frame = Frame::new(alloc, plan)?;
         let mut places = Vec::new(alloc);
-        match place_new_recorded(alloc, plan, &mut places) {
+        match place_new_recorded(alloc, &frame.wires, &mut places) {
             Ok(()) => Ok(Net {
                 wires: frame.wires,
                 places,
@@ -76,7 +76,7 @@ impl Net {
     {
         let frame = Frame::new(alloc, plan)?;
         let mut places = Vec::new(alloc);
-        match place_recorded(alloc, plan, image, &mut places) {
+        match place_recorded(alloc, &frame.wires, image, &mut places) {
             Ok(()) => Ok(Net {
                 wires: frame.wires,
                 places,
@@ -123,21 +123,6 @@ impl Net {
         ensures { option_copied result ≡ network_arrived self.now.network terminal }
     {
         arrived_at(&self.wires, self.places.as_slice(), terminal)
-    }
-
-    /// What the node at a place did since its start, in order. None where there is no such node.
-    pub fn trace(&self, node: usize) -> Option<&[Entry]>
-        ensures trace { option_copied result ≡ slice_get self.now.traces node }
-        ensures told { IsNetRecord self.now }
-        ensures recorded { IsRecordedAt self.now node }
-    {
-        // The proof reads here what every plan keeps, and the count by its name.
-        let _plan = self.wires.plan();
-        let _count = self.count;
-        match self.places.get(node) {
-            Some(found) => Some(found.trace()),
-            None => None,
-        }
     }
 }
 

@@ -1,5 +1,7 @@
 //! A network whose nodes are seen with their records, over any kind of token and any kind of place.
-ghost use Rattle.std.specs.Prelude.{◌≡◌};
+ghost use Rattle.std.specs.Prelude.{◌≡◌, map};
+ghost use Rattle.c104_node.specs.Places.{bases};
+ghost use Rattle.c104_run.specs.KnownWires.{KnowWires};
 ghost use Rattle.c104_run.specs.NetRecords.{is_done, ticket_after, IsNetRecord, RecordsEvent};
 ghost use Rattle.c104_run.specs.RecordedNets.{places_record, reading, IsRecordedNet};
 ghost use Rattle.c104_run.specs.RecordedRuns.{AnswersRecord, DoneLaw};
@@ -84,6 +86,7 @@ impl<T: TokenKind, P: RecordedPlace<T>> RecordedNet<T, P> {
             self.now.network.plan result.now self.now.count ≡ self.now }
         ensures kept { IsRecordedNet (reading T.kind P.shown P.plain P.begun_at)
             self.now.network.plan result.now self.now.count }
+        ensures wired { KnowWires self.now.network.plan (bases (map P.shown result.now)) }
     {
         // The proof reads the rest of the network by these names.
         let _plan = self.wires.plan();

@@ -1,58 +1,75 @@
 //! The nodes of a network that keep what they do, at first.
-ghost use Rattle.std.specs.Prelude.{◌≡◌, ◌++◌, [], true, map, OnOk};
+ghost use Rattle.std.specs.Prelude.{◌≡◌, ◌++◌, [], length, true, map, OnOk};
 ghost use Rattle.c104_switch.specs.Switch.{new_switch, new_switch_with};
+ghost use Rattle.c104_plan.specs.PlanImage.{Fits};
 ghost use Rattle.c104_node.specs.Terminals.{new_terminal};
 ghost use Rattle.c104_node.specs.declared.node.NodeOf.TheVariants as node;
+ghost use Rattle.c104_run.specs.KnownWires.{AreLinkedNodes};
 ghost use Rattle.c104_run.specs.Network.{new_network, placed_network};
 ghost use Rattle.c104_run.specs.NetRecords.{first_record, shown_record};
 
+use crate::wires::Wires;
 use c104_node::{Node, NodeOf, NodeStart, TerminalOf, TerminalStart};
-use c104_plan::{Image, Plan};
+use c104_plan::Image;
 use c104_switch::{SwitchOf, SwitchStart};
 use c104_token::NoMemory;
 use std::alloc::Global;
 
-/// The nodes of a network of this plan join an empty list, and nothing is kept of them yet: the
-/// switches, each started with the image's settings, and then the terminals. The only error is out
-/// of memory.
+/// The nodes of a network with these wires join an empty list, and nothing is kept of them yet: the switches, each started
+/// with the settings of an image that fits the plan, and then the terminals. The only error is out of memory.
 pub fn place_recorded(
     alloc: Global,
-    plan: &Plan,
+    wires: &Wires,
     image: &Image,
     list: &mut Vec<Node>,
 ) -> Result<(), NoMemory>
-    requires { list.old.items ≡ [] }
-    ensures { OnOk result (map shown_record list.new.items
-        ≡ map first_record (placed_network plan.now image.now).nodes) }
+    requires empty { list.old.items ≡ [] }
+    requires fits { Fits image.now wires.now }
+    ensures first { OnOk result (map shown_record list.new.items
+        ≡ map first_record (placed_network wires.now image.now).nodes) }
+    ensures linked { OnOk result (AreLinkedNodes wires.now list.new.items) }
 {
-    add_switches(alloc, plan, image, list)?;
-    add_terminals(alloc, plan, list)
+    add_switches(alloc, wires, image, list)?;
+    add_terminals(alloc, wires, list)
 }
 
-/// The nodes of a new network of this plan join an empty list, and nothing is kept of them yet: the
-/// switches, reset and not started, and then the terminals. The only error is out of memory.
-pub fn place_new_recorded(alloc: Global, plan: &Plan, list: &mut Vec<Node>) -> Result<(), NoMemory>
+/// The nodes of a new network with these wires join an empty list, and nothing is kept of them yet: the switches, reset
+/// and not started, and then the terminals. The only error is out of memory.
+pub fn place_new_recorded(
+    alloc: Global,
+    wires: &Wires,
+    list: &mut Vec<Node>,
+) -> Result<(), NoMemory>
     requires { list.old.items ≡ [] }
-    ensures { OnOk result (map shown_record list.new.items
-        ≡ map first_record (new_network plan.now).nodes) }
+    ensures first { OnOk result (map shown_record list.new.items
+        ≡ map first_record (new_network wires.now).nodes) }
+    ensures linked { OnOk result (AreLinkedNodes wires.now list.new.items) }
 {
-    add_new_switches(alloc, plan, list)?;
-    add_terminals(alloc, plan, list)
+    add_new_switches(alloc, wires, list)?;
+    add_terminals(alloc, wires, list)
 }
 
 /// A new switch for each of a plan joins an empty list.
 #[tactic(auto, using(crate::proofs::PlanBuffers::valid_cap))]
-fn add_new_switches(alloc: Global, plan: &Plan, list: &mut Vec<Node>) -> Result<(), NoMemory>
+fn add_new_switches(alloc: Global, wires: &Wires, list: &mut Vec<Node>) -> Result<(), NoMemory>
     requires { list.old.items ≡ [] }
-    ensures { OnOk result (map shown_record list.new.items
-        ≡ map (λ name. first_record (node.Switch (new_switch plan.now.cap))) plan.now.switches) }
+    ensures first { OnOk result (map shown_record list.new.items
+        ≡ map (λ name. first_record (node.Switch (new_switch wires.now.cap))) wires.now.switches) }
+    ensures linked { OnOk result (AreLinkedNodes wires.now list.new.items) }
 {
-    let cap = plan.cap();
-    for _name in plan.switches() {
+    let cap = wires.plan().cap();
+    for _name in wires.plan().switches() {
         list.reserve(1)?;
         let start = SwitchStart::new(alloc, cap)?;
         let core = SwitchOf::new(alloc, cap)?;
-        let node = Node::new(alloc, NodeOf::Switch(core), NodeStart::Switch(start));
+        let links = wires.node_links(list.len());
+        let node = Node::new(
+            alloc,
+            NodeOf::Switch(core),
+            NodeStart::Switch(start),
+            cap,
+            links,
+        );
         list.push_reserved(node);
     }
     Ok(())
@@ -62,39 +79,58 @@ fn add_new_switches(alloc: Global, plan: &Plan, list: &mut Vec<Node>) -> Result<
 #[tactic(auto, using(crate::proofs::PlanBuffers::valid_cap))]
 fn add_switches(
     alloc: Global,
-    plan: &Plan,
+    wires: &Wires,
     image: &Image,
     list: &mut Vec<Node>,
 ) -> Result<(), NoMemory>
-    requires { list.old.items ≡ [] }
-    ensures { OnOk result (map shown_record list.new.items
-        ≡ map (λ settings. first_record (node.Switch (new_switch_with plan.now.cap settings true)))
+    requires empty { list.old.items ≡ [] }
+    requires fits { Fits image.now wires.now }
+    ensures first { OnOk result (map shown_record list.new.items
+        ≡ map (λ settings. first_record (node.Switch (new_switch_with wires.now.cap settings true)))
         image.now.settings) }
+    ensures linked { OnOk result (AreLinkedNodes wires.now list.new.items) }
 {
-    let cap = plan.cap();
+    let cap = wires.plan().cap();
     for switch in image.switches() {
         list.reserve(1)?;
         let start = SwitchStart::placed(alloc, cap, switch.registers())?;
         let core = SwitchOf::placed(alloc, cap, switch.registers())?;
-        let node = Node::new(alloc, NodeOf::Switch(core), NodeStart::Switch(start));
+        let links = wires.node_links(list.len());
+        let node = Node::new(
+            alloc,
+            NodeOf::Switch(core),
+            NodeStart::Switch(start),
+            cap,
+            links,
+        );
         list.push_reserved(node);
     }
     Ok(())
 }
 
-/// The terminals of a plan join a list.
+/// The terminals of a plan join its switches.
 #[tactic(auto, using(crate::proofs::PlanBuffers::valid_cap))]
-fn add_terminals(alloc: Global, plan: &Plan, list: &mut Vec<Node>) -> Result<(), NoMemory>
-    ensures { OnOk result (map shown_record list.new.items ≡ map shown_record list.old.items
-        ++ map (λ terminal. first_record (node.Terminal (new_terminal plan.now.cap)))
-        plan.now.terminals) }
+fn add_terminals(alloc: Global, wires: &Wires, list: &mut Vec<Node>) -> Result<(), NoMemory>
+    requires placed { length list.old.items ≡ length wires.now.switches }
+    requires linked { AreLinkedNodes wires.now list.old.items }
+    ensures first { OnOk result (map shown_record list.new.items ≡ map shown_record list.old.items
+        ++ map (λ terminal. first_record (node.Terminal (new_terminal wires.now.cap)))
+        wires.now.terminals) }
+    ensures linked { OnOk result (AreLinkedNodes wires.now list.new.items) }
 {
-    let cap = plan.cap();
-    for _terminal in plan.terminals() {
+    let cap = wires.plan().cap();
+    for _terminal in wires.plan().terminals() {
         list.reserve(1)?;
         let core = TerminalOf::new(alloc, cap)?;
         let start = TerminalStart::new(cap);
-        let node = Node::new(alloc, NodeOf::Terminal(core), NodeStart::Terminal(start));
+        let links = wires.node_links(list.len());
+        let node = Node::new(
+            alloc,
+            NodeOf::Terminal(core),
+            NodeStart::Terminal(start),
+            cap,
+            links,
+        );
         list.push_reserved(node);
     }
     Ok(())

@@ -3,7 +3,7 @@ ghost use Rattle.std.specs.Prelude.{◌≡◌, ◌≤◌, ◌+◌, ◌++◌, ℕ
 ghost use Rattle.std.specs.Option.{option_to_list};
 ghost use Rattle.std.specs.Vec.{vec_capacity};
 ghost use Rattle.c104_node.specs.Nodes.{terminals_of};
-ghost use Rattle.c104_node.specs.Records.{node_start, node_state, node_trace, IsRecorded, NodeRecord};
+ghost use Rattle.c104_node.specs.Records.{node_start, node_state, node_trace, IsRecorded, NodeRecord, NodeRoom};
 
 use c104_node::{Entry, Node, NodeStart, TerminalOf};
 use c104_token::{Items, NoMemory, Token};
@@ -55,7 +55,7 @@ pub fn parts_of(
     ensures starts { result.starts.items ≡ map node_start list.items }
     ensures traces { result.traces.items ≡ map node_trace list.items }
     ensures terminals { result.terminals.items ≡ terminals_of (map node_state list.items) }
-    ensures recorded { All (λ (node : NodeRecord × ℕ). IsRecorded node.0) list.items }
+    ensures recorded { All (λ (node : NodeRecord × NodeRoom). IsRecorded node.0) list.items }
 {
     while let Some(node) = list.pop() {
         let (terminal, start, trace) = node.finish();

@@ -1,10 +1,12 @@
 //! The wires of a plan, by port.
-ghost use Rattle.std.specs.Prelude.{◌≡◌, ◌≢◌, ◌<◌, ℕ, Some, None, true, length, IfOk, MatchResult};
+ghost use Rattle.std.specs.Prelude.{◌≡◌, ◌≢◌, ◌<◌, ◌+◌, ℕ, Some, None, true, length, IfOk, MatchResult};
 ghost use Rattle.c104_crossbar.specs.Groups.{has_bit};
 ghost use Rattle.c104_plan.specs.declared.ports.Port.TheVariants as port;
 ghost use Rattle.c104_plan.specs.Plans.{IsPlan};
 ghost use Rattle.c104_plan.specs.Wiring.{IsPlanPort};
+ghost use Rattle.c104_node.specs.Records.{has_link};
 ghost use Rattle.c104_run.specs.Ends.{end_of};
+ghost use Rattle.c104_run.specs.KnownWires.{is_linked_end};
 ghost use Rattle.c104_run.specs.FarEnds.{far_end, link_ends, terminal_ends};
 ghost use Rattle.c104_run.specs.Network.{terminal_place, wired_fault};
 ghost use Rattle.c104_run.specs.Rounds.{is_wired};
@@ -128,6 +130,23 @@ impl Wires {
         let _switches = self.plan.switches();
         let far = self.far_end(Port::Terminal(terminal));
         far.is_some()
+    }
+
+    /// The wired links of the node at a place: the switches in order, and then the terminals. A terminal's one link is 0.
+    #[tactic(auto, using(crate::proofs::LinkedNodes::linked_switch, crate::proofs::LinkedNodes::linked_terminal))]
+    pub fn node_links(&self, place: usize) -> LinkSet
+        requires { place < length self.now.switches + length self.now.terminals }
+        ensures { (l : ℕ) → has_link result l ≡ is_linked_end self.now place l }
+    {
+        // The proof reads here what every plan keeps.
+        let _plan = self.plan();
+        let switches = self.switch_count();
+        if place < switches {
+            return self.linked(place);
+        }
+        let mut links = LinkSet::new();
+        links.set(0, self.is_linked(place - switches));
+        links
     }
 
     /// The near end of the wire at a port.

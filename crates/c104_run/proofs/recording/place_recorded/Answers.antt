@@ -3,5 +3,5 @@ use Rattle.c104_run.specs.NetRecords.{shown_record}
 use Rattle.c104_run.proofs.FirstRecords.{placed_all}
 use Rattle.c104_run.proofs.recording.place_recorded.Goals as goal
 
-pub returns : goal.returns
-returns c = placed_all c.add_terminals.result c.args.plan.now c.args.image.now (map shown_record c.add_switches.new.list.items) (map shown_record c.add_terminals.new.list.items) c.in_ok-add_switches.ensures c.add_terminals.ensures
+pub returns-clause-first : goal.returns-clause-first
+returns-clause-first c = placed_all c.add_terminals.result c.args.wires.now c.args.image.now (map shown_record c.add_switches.new.list.items) (map shown_record c.add_terminals.new.list.items) c.in_ok-add_switches.ensures.first c.add_terminals.ensures.first

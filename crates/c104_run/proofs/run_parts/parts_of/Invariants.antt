@@ -1,7 +1,7 @@
 use Rattle.std.proofs.Common.{◌≡◌, ◌≤◌, ◌+◌, ◌++◌, ℕ, All, length, map, reverse}
 use Rattle.std.specs.Vec.{vec_capacity}
 use Rattle.c104_node.specs.Nodes.{terminals_of}
-use Rattle.c104_node.specs.Records.{node_start, node_state, node_trace, IsRecorded, NodeRecord}
+use Rattle.c104_node.specs.Records.{node_start, node_state, node_trace, IsRecorded, NodeRecord, NodeRoom}
 use Rattle.c104_run.proofs.run_parts.parts_of.Given as goal
 
 -- what was left so far, the last first, comes after what is left of the other nodes
@@ -12,7 +12,7 @@ invariant-loop-node l = record {
   terminals : terminals_of (map node_state l.list.items) ++ reverse l.terminals.items ≡ terminals_of (map node_state l.initial.list.items);
   start_room : length l.list.items + length l.starts.items ≤ vec_capacity l.starts;
   trace_room : length l.list.items + length l.traces.items ≤ vec_capacity l.traces;
-  recorded : All (λ (n : NodeRecord × ℕ). IsRecorded n.0) l.list.items → All (λ (n : NodeRecord × ℕ). IsRecorded n.0) l.initial.list.items;
+  recorded : All (λ (n : NodeRecord × NodeRoom). IsRecorded n.0) l.list.items → All (λ (n : NodeRecord × NodeRoom). IsRecorded n.0) l.initial.list.items;
   terminal_room : length (terminals_of (map node_state l.list.items)) + length l.terminals.items ≤ vec_capacity l.terminals;
 }
 

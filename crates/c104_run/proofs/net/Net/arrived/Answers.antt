@@ -5,7 +5,7 @@ use Rattle.c104_node.specs.Records.{node_state}
 use Rattle.c104_run.specs.Network.{network_arrived, network_of}
 use Rattle.c104_node.specs.Nodes.{Node}
 use Rattle.c104_node.specs.Places.{Shown}
-use Rattle.c104_node.specs.ShownNodes.{node_shown}
+use Rattle.c104_node.specs.Records.{node_shown}
 use Rattle.c104_run.proofs.FirstRecords.{map_twice}
 use Rattle.c104_run.proofs.net.Net.arrived.Goals as goal
 

@@ -1,17 +1,26 @@
-use Rattle.std.proofs.Common.{refl}
+use Rattle.std.proofs.Common.{◌∙◌, ap, refl, subst, sym}
+use Rattle.c104_plan.specs.Plans.{IsPlan, Plan}
+use Rattle.c104_run.specs.NetRecords.{fresh_record}
 use Rattle.c104_run.specs.Network.{new_network}
+use Rattle.c104_run.specs.RecordedPlaces.{node_reading}
 use Rattle.c104_run.proofs.BalancePlaced.{steady_new}
-use Rattle.c104_node.specs.ShownNodes.{node_shown}
-use Rattle.c104_run.proofs.KnownWires.{unknown}
 use Rattle.c104_run.proofs.FirstRecords.{first_is, net_first}
+use Rattle.c104_run.proofs.LinkedNodes.{nodes_know}
 use Rattle.c104_run.proofs.net.Net.new.Goals as goal
 
+is_plan : (c : goal.In-Ok) → IsPlan c.in_ok-frame.frame.wires
+is_plan c = subst IsPlan (sym c.in_ok-frame.ensures.wires) c.in_ok-frame.ensures.kept
+
 pub invariant_of-result : goal.invariant_of-result
-invariant_of-result c = (
-  net_first c.args.plan.now c.in_ok-frame.frame.wires (new_network c.args.plan.now).nodes c.place_new_recorded.new.list.items c.in_ok-frame.ensures.wires c.in-Ok.ensures (steady_new c.args.plan.now (new_network c.args.plan.now).nodes refl c.in_ok-frame.ensures.kept),
-  c.in_ok-frame.ensures.room,
-  unknown node_shown (λ n. refl) c.in_ok-frame.frame.wires c.place_new_recorded.new.list.items,
-)
+invariant_of-result c =
+    let wires : Plan = c.in_ok-frame.frame.wires in (
+      net_first wires wires (new_network wires).nodes c.place_new_recorded.new.list.items refl c.in-Ok.ensures.first (steady_new wires (new_network wires).nodes refl (is_plan c)),
+      c.in_ok-frame.ensures.room,
+      nodes_know wires (is_plan c) c.place_new_recorded.new.list.items c.in-Ok.ensures.linked,
+    )
 
 pub returns-in-Ok : goal.returns-in-Ok
-returns-in-Ok c = first_is c.args.plan.now c.in_ok-frame.frame.wires (new_network c.args.plan.now).nodes c.place_new_recorded.new.list.items c.in_ok-frame.ensures.wires c.in-Ok.ensures
+returns-in-Ok c =
+    let wires : Plan = c.in_ok-frame.frame.wires in
+    first_is node_reading wires wires (new_network wires).nodes c.place_new_recorded.new.list.items refl c.in-Ok.ensures.first
+    ∙ ap (λ (p : Plan). fresh_record (new_network p)) c.in_ok-frame.ensures.wires

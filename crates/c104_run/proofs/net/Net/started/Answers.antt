@@ -1,17 +1,31 @@
-use Rattle.std.proofs.Common.{refl}
+use Rattle.std.proofs.Common.{◌∙◌, ap, refl, subst, sym}
+use Rattle.c104_plan.specs.PlanImage.{Fits}
+use Rattle.c104_plan.specs.Plans.{IsPlan, Plan}
+use Rattle.c104_run.specs.NetRecords.{fresh_record}
 use Rattle.c104_run.specs.Network.{placed_network}
+use Rattle.c104_run.specs.RecordedPlaces.{node_reading}
 use Rattle.c104_run.proofs.BalancePlaced.{steady_made}
-use Rattle.c104_node.specs.ShownNodes.{node_shown}
-use Rattle.c104_run.proofs.KnownWires.{unknown}
 use Rattle.c104_run.proofs.FirstRecords.{first_is, net_first}
+use Rattle.c104_run.proofs.LinkedNodes.{nodes_know}
 use Rattle.c104_run.proofs.net.Net.started.Goals as goal
 
+pub place_recorded-requires-clause-fits : goal.place_recorded-requires-clause-fits
+place_recorded-requires-clause-fits c = subst (Fits c.args.image.now) (sym c.in_ok-frame.ensures.wires) c.requires
+
+is_plan : (c : goal.In-Ok) → IsPlan c.in_ok-frame.frame.wires
+is_plan c = subst IsPlan (sym c.in_ok-frame.ensures.wires) c.in_ok-frame.ensures.kept
+
 pub invariant_of-result : goal.invariant_of-result
-invariant_of-result c = (
-  net_first c.args.plan.now c.in_ok-frame.frame.wires (placed_network c.args.plan.now c.args.image.now).nodes c.place_recorded.new.list.items c.in_ok-frame.ensures.wires c.in-Ok.ensures (steady_made c.args.plan.now c.args.plan.now c.args.image.now (placed_network c.args.plan.now c.args.image.now).nodes refl refl c.requires c.in_ok-frame.ensures.kept),
-  c.in_ok-frame.ensures.room,
-  unknown node_shown (λ n. refl) c.in_ok-frame.frame.wires c.place_recorded.new.list.items,
-)
+invariant_of-result c =
+    let wires : Plan = c.in_ok-frame.frame.wires in
+    let fits : Fits c.args.image.now wires = subst (Fits c.args.image.now) (sym c.in_ok-frame.ensures.wires) c.requires in (
+      net_first wires wires (placed_network wires c.args.image.now).nodes c.place_recorded.new.list.items refl c.in-Ok.ensures.first (steady_made wires wires c.args.image.now (placed_network wires c.args.image.now).nodes refl refl fits (is_plan c)),
+      c.in_ok-frame.ensures.room,
+      nodes_know wires (is_plan c) c.place_recorded.new.list.items c.in-Ok.ensures.linked,
+    )
 
 pub returns-in-Ok : goal.returns-in-Ok
-returns-in-Ok c = first_is c.args.plan.now c.in_ok-frame.frame.wires (placed_network c.args.plan.now c.args.image.now).nodes c.place_recorded.new.list.items c.in_ok-frame.ensures.wires c.in-Ok.ensures
+returns-in-Ok c =
+    let wires : Plan = c.in_ok-frame.frame.wires in
+    first_is node_reading wires wires (placed_network wires c.args.image.now).nodes c.place_recorded.new.list.items refl c.in-Ok.ensures.first
+    ∙ ap (λ (p : Plan). fresh_record (placed_network p c.args.image.now)) c.in_ok-frame.ensures.wires

@@ -1,5 +1,5 @@
 use Rattle.std.proofs.Common.{◌≡◌, ◌∙◌, refl}
-use Rattle.c104_node.specs.ShownNodes.{counted_shown}
+use Rattle.c104_node.specs.TracedRecords.{counted_shown}
 use Rattle.c104_run.proofs.KnownWires.{unknown}
 use Rattle.c104_run.proofs.TracedFirsts.{traced_new, traced_new_is}
 use Rattle.c104_run.proofs.traced_net.TracedNet.new.Goals as goal

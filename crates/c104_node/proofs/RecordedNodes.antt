@@ -1,0 +1,106 @@
+-- A node with its record: its run goes on by an act; and plain tokens don't tell the number of a terminal.
+use Rattle.c104_token.specs.Kinds.{plain_kind}
+use Rattle.c104_token.specs.declared.tokens.Token.{Token}
+use Rattle.c104_switch.specs.Actions.{Reply, is_ready}
+use Rattle.c104_switch.specs.declared.actions.ReplyOf.{ReplyOf}
+use Rattle.c104_event.specs.declared.faults.EventFault.{EventFault}
+use Rattle.c104_node.specs.declared.acts.ActOf.{ActOf}
+use Rattle.c104_node.specs.declared.acts.ActOf.TheVariants as act
+use Rattle.c104_node.specs.declared.acts.Entry.{Entry}
+use Rattle.c104_node.specs.declared.node.NodeOf.TheVariants as node
+use Rattle.c104_node.specs.declared.stamps.Stamp.{Stamp}
+use Rattle.c104_node.specs.Acts.{IsWithinLimits, done_by, node_act, reply_outcome}
+use Rattle.c104_node.specs.PortActs.{act_limit}
+use Rattle.c104_node.specs.ActLinks.{on_links}
+use Rattle.c104_node.specs.Records.{IsRecorded, IsNodeRun, NodeRecord, MayAct, after_act, fault_first, has_link, is_full, recorded_limit, recorded_step}
+use Rattle.c104_node.specs.Nodes.{Node}
+use Rattle.c104_node.specs.Starts.{start_node}
+use Rattle.c104_node.specs.Terminals.{sent_from}
+use Rattle.c104_node.specs.Traces.{entry_of, trace_limit}
+use Rattle.c104_node.proofs.ReadyActs.{act_ready}
+use Rattle.std.proofs.Common.{Bool, List, None, Option, Some, [], ap, arith, false, is_some, length, length-append, nat_le, refl, subst, suc, sym, true, ℕ, ◌+◌, ◌++◌, ◌∙◌, ◌∷◌, ◌≡◌}
+use Rattle.std.proofs.lemmas.Bool.{both_ways}
+use Rattle.std.proofs.lemmas.Bool.Decides.{nat_tests}
+use Rattle.std.specs.Prelude.{if◌then◌else◌}
+
+-- an act that was ready is made
+made_ready : {A S : Type 0} (made : Option (ReplyOf A × S)) (r : ReplyOf A) (new old : S) → is_some made ≡ true → ◌≡◌ {A = ReplyOf A × S} (r, new) (reply_outcome made old) → made ≡ Some (r, new)
+made_ready None r new old ready gives = cc
+made_ready (Some q) r new old ready gives = ap Some (sym gives)
+
+-- the run goes on by one act
+run_on : (wired : ℕ) (from mid to : Node Token) (entries : List Entry) (e : Entry) → IsNodeRun wired from entries mid → MayAct wired mid e.act → node_act plain_kind 0 e.act mid ≡ Some (e.reply, to) → IsNodeRun wired from (entries ++ e ∷ []) to
+run_on wired from mid to [] e run may made = (to, subst (λ n. MayAct wired n e.act) run may, subst (λ n. node_act plain_kind 0 e.act n ≡ Some (e.reply, to)) run made, refl)
+run_on wired from mid to (d ∷ entries) e run may made = (run.0, run.1, run.2, run_on wired run.0 mid to entries e run.3 may made)
+
+module _ (n : NodeRecord) (a : ActOf Token) where
+  -- an act that is ready goes over no link without a wire, and its node is ready for it
+  pub linked_ready : is_some (recorded_step n a) ≡ true → (on_links (has_link n.wired) a ≡ true) × (recorded_step n a ≡ node_act plain_kind 0 a n.state)
+  linked_ready ready = by_link (on_links (has_link n.wired) a) (node_act plain_kind 0 a n.state) ready
+    where
+      by_link : (b : Bool) (made : Option (Reply × Node Token)) → is_some (if b then made else None) ≡ true → (b ≡ true) × ((if b then made else None) ≡ made)
+      by_link true made ready = (refl, refl)
+      by_link false made ready = absurd (both_ways false refl ready)
+
+  -- where no limit of the node refuses it, none of its lists does, and its trace isn't full
+  limit_none : recorded_limit n a ≡ None → (act_limit (Some n.state) a ≡ None) × (is_full n ≡ false)
+  limit_none none = by_fault (act_limit (Some n.state) a) (is_full n) none
+    where
+      by_fault : (f : Option EventFault) (full : Bool) → fault_first f full ≡ None → (f ≡ None) × (full ≡ false)
+      by_fault None true none = absurd (cc)
+      by_fault None false none = (refl, refl)
+      by_fault (Some f) full none = absurd (cc)
+
+  module _ (r : Reply) (to : Node Token) (ready : is_some (recorded_step n a) ≡ true) (gives : ◌≡◌ {A = Reply × Node Token} (r, to) (reply_outcome (node_act plain_kind 0 a n.state) n.state)) where
+    node_made : node_act plain_kind 0 a n.state ≡ Some (r, to)
+    node_made = made_ready (node_act plain_kind 0 a n.state) r to n.state (ap is_some (sym (linked_ready ready).1) ∙ ready) gives
+
+    -- it is made, and answers something else than that it isn't ready
+    pub recorded_made : recorded_step n a ≡ Some (r, to)
+    recorded_made = (linked_ready ready).1 ∙ node_made
+
+    pub recorded_ready : is_ready r ≡ true
+    recorded_ready = act_ready plain_kind 0 a n.state (r, to) node_made
+
+    -- and the node keeps what its type says
+    pub recorded_kept : (stamp : Stamp) → IsRecorded n → IsWithinLimits a → recorded_limit n a ≡ None → IsRecorded (after_act n stamp a r to)
+    recorded_kept stamp kept short none = record {
+      sized = kept.sized;
+      run = run_on n.wired (start_node n.start) n.state to n.trace (entry_of stamp a r) kept.run (record { short = short; linked = (linked_ready ready).0; below = (limit_none none).0 }) node_made;
+      within =
+          let more : length (n.trace ++ entry_of stamp a r ∷ []) ≡ length n.trace + 1 = length-append n.trace (entry_of stamp a r ∷ []) in
+          let free : nat_le trace_limit (length n.trace) ≡ false = (limit_none none).1 in
+          grind (arith, nat_tests, more, free);
+    }
+
+same_sent : (a b n m i j : ℕ) (xs : List Token) → sent_from plain_kind a n i xs ≡ sent_from plain_kind b m j xs
+same_sent a b n m i j [] = refl
+same_sent a b n m i j (x ∷ xs) = ap (λ ys. x ∷ ys) (same_sent a b n m (suc i) (suc j) xs)
+
+-- whatever a terminal's number, over plain tokens its acts are the same
+pub number_plain : (a b : ℕ) (x : ActOf Token) (n : Node Token) → node_act plain_kind a x n ≡ node_act plain_kind b x n
+number_plain a b (act.Step y) (node.Switch s) = refl
+number_plain a b (act.Step y) (node.Terminal t) = refl
+number_plain a b (act.Send packet) (node.Switch s) = refl
+number_plain a b (act.Send packet) (node.Terminal t) =
+    ap (λ (items : List Token). done_by {A = Token} {S = Node Token} (Some (node.Terminal (record t { output = record { items = t.output.items ++ items; credit = t.output.credit }; sent = t.sent ++ packet ∷ [] }))))
+    (same_sent a b (length t.sent) (length t.sent) 0 0 _)
+number_plain a b act.Drain n = refl
+number_plain a b act.Leave (node.Switch s) = refl
+number_plain a b act.Leave (node.Terminal t) = refl
+number_plain a b (act.Enter y) (node.Switch s) = refl
+number_plain a b (act.Enter y) (node.Terminal t) = refl
+number_plain a b act.CreditOut (node.Switch s) = refl
+number_plain a b act.CreditOut (node.Terminal t) = refl
+number_plain a b act.CreditIn (node.Switch s) = refl
+number_plain a b act.CreditIn (node.Terminal t) = refl
+
+-- an act of a node as a place of a network, whatever its number there
+module _ (n : NodeRecord) (number : ℕ) (a : ActOf Token) (linked : on_links (has_link n.wired) a ≡ true) (ready : is_some (node_act plain_kind number a n.state) ≡ true) where
+  pub place_ready : is_some (recorded_step n a) ≡ true
+  place_ready = ap (λ b. is_some (if b then node_act plain_kind 0 a n.state else None)) linked ∙ ap is_some (number_plain 0 number a n.state) ∙ ready
+
+  pub place_kept : (r : Reply) (to : Node Token) (stamp : Stamp) → ◌≡◌ {A = Reply × Node Token} (r, to) (reply_outcome (node_act plain_kind number a n.state) n.state) → IsRecorded n → IsWithinLimits a → act_limit (Some n.state) a ≡ None → is_full n ≡ false → IsRecorded (after_act n stamp a r to)
+  place_kept r to stamp gives kept short below free =
+      recorded_kept n a r to place_ready (gives ∙ ap (λ made. reply_outcome made n.state) (number_plain number 0 a n.state)) stamp kept short
+      (ap (λ f. fault_first f (is_full n)) below ∙ ap (fault_first None) free)

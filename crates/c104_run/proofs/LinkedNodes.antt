@@ -1,0 +1,99 @@
+-- Nodes that are given the wired links of their places know the wires of their plan.
+use Rattle.std.proofs.Common.{◌≡◌, ◌∙◌, ◌<◌, ◌≤◌, ◌+◌, ◌-◌, ◌++◌, ◌&&◌, ◌⊎◌, ℕ, Bool, true, false, List, [], ◌∷◌, Option, Some, None}
+use Rattle.std.proofs.Common.{zero, suc, IfSome, inl, inr, is_some, length, map, nat_eq, nat_lt, slice_get, refl, sym, ap, subst, arith}
+use Rattle.std.proofs.lemmas.Bool.{cases_eq}
+use Rattle.std.proofs.lemmas.Bool.Decides.{nat_tests}
+use Rattle.c104_crossbar.specs.Groups.{has_bit}
+use Rattle.c104_token.specs.declared.tokens.Token.{Token}
+use Rattle.c104_plan.specs.declared.ports.Port.{Port}
+use Rattle.c104_plan.specs.declared.ports.Port.TheVariants as port
+use Rattle.c104_plan.specs.Plans.{IsPlan, Plan}
+use Rattle.c104_plan.specs.Wiring.{peer, IsPlanPort}
+use Rattle.c104_plan.proofs.Wires.{wiring}
+use Rattle.c104_node.specs.ActLinks.{port_link}
+use Rattle.c104_node.specs.Places.{PlaceBase, Shown, base_wired, bases}
+use Rattle.c104_node.specs.Records.{has_link, node_shown, NodeRecord, NodeRoom}
+use Rattle.c104_node.specs.WiredPlaces.{links_at}
+use Rattle.c104_node.proofs.PlaceSteps.{shown_at}
+use Rattle.c104_run.specs.EventActs.{port_place}
+use Rattle.c104_run.specs.KnownWires.{is_linked_end, AreLinkedNodes, KnowWires}
+use Rattle.c104_run.specs.Rounds.{is_wired}
+
+-- what is so of each element by its place is so of one more
+each_more : {X : Type 0} (P : ℕ → X → Type 0) (xs : List X) (x : X) → ((k : ℕ) (y : X) → slice_get xs k ≡ Some y → P k y) → P (length xs) x → (k : ℕ) (y : X) → slice_get (xs ++ x ∷ []) k ≡ Some y → P k y
+each_more P [] x before own zero y here = let same : x ≡ y = cc in subst (P zero) same own
+each_more P [] x before own (suc k) y here = absurd (let no : ⊥ = cc in no)
+each_more P (z ∷ xs) x before own zero y here = before zero y here
+each_more P (z ∷ xs) x before own (suc k) y here = each_more (λ i. P (suc i)) xs x (λ i. before (suc i)) own k y here
+
+module _ (plan : Plan) where
+  -- a set has the wired links of a switch: it has no link past the last
+  pub linked_switch : IsPlan plan → (k set : ℕ) → k < length plan.switches → ((l : ℕ) → l < 32 → has_bit set l ≡ is_wired plan (port.Switch k l)) → (l : ℕ) → has_link set l ≡ is_linked_end plan k l
+  linked_switch is_plan k set inside same l =
+      let here : nat_lt k (length plan.switches) ≡ true = grind (arith, nat_tests, inside) in
+      rw here (by_link (nat_lt l 32) refl)
+    where
+      no_wire : (32 ≤ l) → (o : Option Port) → peer plan (port.Switch k l) ≡ o → false ≡ is_some o
+      no_wire past None is = refl
+      no_wire past (Some q) is = let port_inside : IsPlanPort plan (port.Switch k l) = (wiring plan is_plan).inside (port.Switch k l) q is in absurd (let no : ⊥ = omega (arith, past, port_inside) in no)
+
+      by_link : (b : Bool) → nat_lt l 32 ≡ b → (b && has_bit set l) ≡ is_wired plan (port.Switch k l)
+      by_link true is = same l (grind (arith, nat_tests, is))
+      by_link false is = no_wire (grind (arith, nat_tests, is)) (peer plan (port.Switch k l)) refl
+
+  -- and of a terminal: link 0, where it has a wire
+  pub linked_terminal : (t first set : ℕ) (wired : Bool) → wired ≡ is_wired plan (port.Terminal t) → ((l : ℕ) → has_bit first l ≡ false) → has_bit set 0 ≡ wired → ((l : ℕ) → l < 32 → (l ≡ 0 → ⊥) → has_bit set l ≡ has_bit first l) → (k : ℕ) → length plan.switches ≤ k → k - length plan.switches ≡ t → (l : ℕ) → has_link set l ≡ is_linked_end plan k l
+  linked_terminal t first set wired is none here others k past place l =
+      let no_switch : nat_lt k (length plan.switches) ≡ false = grind (arith, nat_tests, past) in
+      rw (no_switch, place, sym is) (by_link (cases_eq l 0))
+    where
+      past_last : (b : Bool) → nat_lt l 32 ≡ b → (l ≡ 0 → ⊥) → (b && has_bit set l) ≡ false
+      past_last true inside other = others l (grind (arith, nat_tests, inside)) other ∙ none l
+      past_last false inside other = refl
+
+      by_link : (l ≡ 0) ⊎ (l ≡ 0 → ⊥) → (nat_lt l 32 && has_bit set l) ≡ (nat_eq l 0 && wired)
+      by_link (inl first_link) = rw first_link here
+      by_link (inr other) =
+          let not_zero : nat_eq l 0 ≡ false = grind (arith, nat_tests, other) in
+          past_last (nat_lt l 32) refl other ∙ sym (ap (λ b. b && wired) not_zero)
+
+  -- one node more
+  pub linked_more : (nodes more : List (NodeRecord × NodeRoom)) (n : NodeRecord × NodeRoom) → AreLinkedNodes plan nodes → ((l : ℕ) → has_link n.0.wired l ≡ is_linked_end plan (length nodes) l) → more ≡ nodes ++ n ∷ [] → AreLinkedNodes plan more
+  linked_more nodes more n before own is = λ k m here. each_more (λ i x. (l : ℕ) → has_link x.0.wired l ≡ is_linked_end plan i l) nodes n before own k m (subst (λ ns. slice_get ns k ≡ Some m) is here)
+
+  pub linked_none : AreLinkedNodes plan []
+  linked_none = λ k n here. absurd (let no : ⊥ = cc in no)
+
+module _ (plan : Plan) (is_plan : IsPlan plan) (nodes : List (NodeRecord × NodeRoom)) (linked : AreLinkedNodes plan nodes) where
+  linked_port : (p : Port) → IsPlanPort plan p → is_linked_end plan (port_place plan p) (port_link p) ≡ is_wired plan p
+  linked_port (port.Switch s l) inside = let here : nat_lt s (length plan.switches) ≡ true = grind (arith, nat_tests, inside.0) in rw here refl
+  linked_port (port.Terminal t) inside =
+      let past : nat_lt (length plan.switches + t) (length plan.switches) ≡ false = grind (arith, nat_tests) in
+      let back : length plan.switches + t - length plan.switches ≡ t = omega arith in
+      rw (past, back) refl
+
+  known_end : (p q : Port) → peer plan p ≡ Some q → links_at (bases (map node_shown nodes)) (port_place plan p) (port_link p) ≡ true
+  known_end p q wired = by_place (slice_get nodes (port_place plan p)) refl
+    where
+      by_place : (o : Option (NodeRecord × NodeRoom)) → slice_get nodes (port_place plan p) ≡ o → links_at (bases (map node_shown nodes)) (port_place plan p) (port_link p) ≡ true
+      by_place None is = rw (shown_at (λ (s : Shown Token). s.base) node_shown nodes (port_place plan p) None is) refl
+      by_place (Some n) is =
+          rw (shown_at (λ (s : Shown Token). s.base) node_shown nodes (port_place plan p) (Some n) is)
+          (linked (port_place plan p) n is (port_link p) ∙ linked_port p ((wiring plan is_plan).inside p q wired) ∙ ap is_some wired)
+
+  pub nodes_know : KnowWires plan (bases (map node_shown nodes))
+  nodes_know = record {
+    ends = λ p q wired. (known_end p q wired, known_end q p ((wiring plan is_plan).back p q wired));
+    exact = λ k b here. exact_by k b here (slice_get nodes k) refl;
+  }
+    where
+      exact_by : (k : ℕ) (b : PlaceBase) → slice_get (bases (map node_shown nodes)) k ≡ Some b → (o : Option (NodeRecord × NodeRoom)) → slice_get nodes k ≡ o → IfSome b.wired (λ (wired : ℕ → Bool). (l : ℕ) → wired l ≡ is_linked_end plan k l)
+      exact_by k b here None is = let both : None ≡ Some b = sym (shown_at (λ (s : Shown Token). s.base) node_shown nodes k None is) ∙ here in absurd (let no : ⊥ = cc in no)
+      exact_by k b here (Some n) is =
+          let both : Some (node_shown n).base ≡ Some b = sym (shown_at (λ (s : Shown Token). s.base) node_shown nodes k (Some n) is) ∙ here in
+          let one : (node_shown n).base ≡ b = cc in
+          subst (λ o. IfSome o (λ (wired : ℕ → Bool). (l : ℕ) → wired l ≡ is_linked_end plan k l)) (ap base_wired one) (linked k n is)
+
+-- and what is known tells the links of each node
+pub known_nodes : (plan : Plan) (nodes : List (NodeRecord × NodeRoom)) → KnowWires plan (bases (map node_shown nodes)) → AreLinkedNodes plan nodes
+known_nodes plan nodes known = λ k n here. known.exact k (node_shown n).base (shown_at (λ (s : Shown Token). s.base) node_shown nodes k (Some n) here)

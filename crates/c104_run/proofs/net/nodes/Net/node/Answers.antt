@@ -1,0 +1,35 @@
+use Rattle.std.proofs.Common.{◌≡◌, ◌≤◌, ◌<◌, ℕ, List, None, Some, length, map, slice_get, ap, refl, subst, sym, arith, ◌∙◌}
+use Rattle.std.proofs.lemmas.Bool.Decides.{nat_tests}
+use Rattle.std.proofs.lemmas.Option.{slice_get-map, slice_get_past, slice_get_read}
+use Rattle.std.specs.Option.{option_map}
+use Rattle.c104_node.specs.Records.{has_link, node_trace, NodeRecord, NodeRoom}
+use Rattle.c104_run.specs.KnownWires.{is_linked_end}
+use Rattle.c104_run.specs.NetRecords.{NetRecord}
+use Rattle.c104_run.specs.WiredActs.{IsRecordedNode}
+use Rattle.c104_run.proofs.LinkedNodes.{known_nodes}
+use Rattle.c104_run.proofs.WiredTraces.{node_recorded}
+use Rattle.c104_run.proofs.net.nodes.Net.node.Goals as goal
+
+-- the node there
+at : (c : goal.After-trace-trace) → slice_get c.self.inside.places.items c.args.place ≡ Some c.in-Some.node.now
+at c =
+    let inside : c.args.place < length c.deref.result.now = grind (arith, nat_tests, c.in-Some.ensures.lookup.0) in
+    ap (λ (xs : List (NodeRecord × NodeRoom)). slice_get xs c.args.place) (sym c.deref.ensures.value)
+    ∙ slice_get_read c.deref.result.now (length c.deref.result.now) c.args.place c.in-Some.node.now refl inside c.in-Some.ensures.lookup.1
+
+pub returns-in-Some-clause-node : goal.returns-in-Some-clause-node
+returns-in-Some-clause-node c =
+    subst (λ (r : NetRecord). IsRecordedNode r c.args.place c.in-Some.node.now.0) c.self.view_is
+    (node_recorded c.self.inside.wires c.self.inside.places.items c.self.inside.count c.args.place c.in-Some.node.now (at c) c.trace-trace.ensures.recorded (known_nodes c.self.inside.wires c.self.inside.places.items c.self.invariant.2))
+
+pub returns-in-Some-clause-linked : goal.returns-in-Some-clause-linked
+returns-in-Some-clause-linked c = λ l.
+    known_nodes c.self.inside.wires c.self.inside.places.items c.self.invariant.2 c.args.place c.in-Some.node.now (at c) l
+    ∙ ap (λ (r : NetRecord). is_linked_end r.network.plan c.args.place l) c.self.view_is
+
+-- there is no such node
+pub returns-in-None-clause-node : goal.returns-in-None-clause-node
+returns-in-None-clause-node c =
+    let outside : length c.deref.result.now ≤ c.args.place = grind (arith, nat_tests, c.in-None.ensures.lookup.0) in
+    let none : slice_get c.self.inside.places.items c.args.place ≡ None = ap (λ (xs : List (NodeRecord × NodeRoom)). slice_get xs c.args.place) (sym c.deref.ensures.value) ∙ slice_get_past c.deref.result.now c.args.place outside in
+    ap (λ (r : NetRecord). slice_get r.traces c.args.place) (sym c.self.view_is) ∙ slice_get-map node_trace c.self.inside.places.items c.args.place ∙ ap (option_map node_trace) none

@@ -1,0 +1,61 @@
+//! The nodes of a network, each by itself.
+ghost use Rattle.std.specs.Prelude.{◌≡◌, ℕ, None, slice_get, IfSome, MatchOption};
+ghost use Rattle.std.specs.Option.{option_copied};
+ghost use Rattle.c104_node.specs.Records.{has_link};
+ghost use Rattle.c104_run.specs.KnownWires.{is_linked_end};
+ghost use Rattle.c104_run.specs.NetParts.{parts_record};
+ghost use Rattle.c104_run.specs.NetRecords.{IsNetRecord};
+ghost use Rattle.c104_run.specs.WiredActs.{IsRecordedAt, IsRecordedNode};
+
+use super::Net;
+use crate::net_parts::NetParts;
+use c104_node::{Entry, Node};
+
+impl Net {
+    /// The node at a place: the switches in order, and then the terminals. None where there is no such node.
+    pub fn node(&self, place: usize) -> Option<&Node>
+        ensures node { MatchOption result (slice_get self.now.traces place ≡ None)
+            (λ node. IsRecordedNode self.now place node.now.0) }
+        ensures linked { IfSome result (λ node. (l : ℕ) →
+            has_link node.now.0.wired l ≡ is_linked_end self.now.network.plan place l) }
+    {
+        // The proof reads here what every plan keeps, and the count by its name.
+        let _plan = self.wires.plan();
+        let _count = self.count;
+        match self.places.get(place) {
+            Some(node) => {
+                // And here what every node keeps.
+                let _trace = node.trace();
+                Some(node)
+            }
+            None => None,
+        }
+    }
+
+    /// What the node at a place did since its start, in order. None where there is no such node.
+    pub fn trace(&self, node: usize) -> Option<&[Entry]>
+        ensures trace { option_copied result ≡ slice_get self.now.traces node }
+        ensures told { IsNetRecord self.now }
+        ensures recorded { IsRecordedAt self.now node }
+    {
+        let _told = self.told_plan();
+        match self.node(node) {
+            Some(found) => Some(found.trace()),
+            None => None,
+        }
+    }
+
+    /// The parts of the network: its plan, its nodes, each with what it did, and how many events were done. It takes no
+    /// memory.
+    pub fn into_nodes(self) -> NetParts
+        ensures { parts_record result ≡ self }
+    {
+        let Net {
+            wires,
+            places,
+            count,
+            room: _,
+        } = self;
+        NetParts::new(wires, places, count)
+    }
+}
