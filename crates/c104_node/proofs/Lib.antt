@@ -15,3 +15,5 @@ pub mod RecordedNodes
 pub mod NodePairs
 pub mod WrittenValues
 pub mod NextTokens
+pub mod StartCopies
+pub mod InputCopies

@@ -2,6 +2,7 @@
 ghost use Rattle.std.specs.Prelude.{◌↔◌, All, IsTrue};
 ghost use Rattle.c104_node.specs.Starts.{IsStartedStart};
 
+mod copies;
 mod numbers;
 
 use crate::terminal::TerminalStart;

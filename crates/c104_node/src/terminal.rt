@@ -8,6 +8,7 @@ ghost use Rattle.c104_node.specs.Terminals.{terminal_credit_in, terminal_drain};
 ghost use Rattle.c104_node.specs.Outboxes.{waiting_taken};
 ghost use Rattle.c104_node.specs.Terminals.{sent_tokens, terminal_begin, terminal_send};
 
+mod copies;
 mod reasons;
 mod spare;
 mod starts;

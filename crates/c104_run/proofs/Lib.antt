@@ -57,5 +57,7 @@ pub mod RecordedViews
 pub mod TracedFirsts
 pub mod TracedArrivals
 pub mod KnownWires
-pub mod LinkedNodes
+mod LinkedNodes
 mod PartCounts
+pub mod NodeParts
+pub mod NodeRuns

@@ -1,69 +1,139 @@
--- The acts of a trace go over wired links, since its node knows which of its links have wires.
-use Rattle.std.proofs.Common.{◌≡◌, ◌∙◌, ◌<◌, ◌+◌, ◌-◌, ◌&&◌, ℕ, Bool, true, false, All, List, [], ◌∷◌, Option, Some, None}
-use Rattle.std.proofs.Common.{if◌then◌else◌, is_some, length, map, nat_eq, nat_lt, slice_get, refl, sym, ap, arith}
-use Rattle.std.proofs.lemmas.Bool.{and_parts, both_ways}
+-- The acts of a run go over wired links, since tokens and credits cross wires alone.
+use Rattle.std.proofs.Common.{◌≡◌, ◌∙◌, ◌++◌, ◌+◌, ℕ, suc, Bool, true, false, All, List, [], ◌∷◌, Option, Some, None, IfSome, if◌then◌else◌, length, map, nat_eq, slice_get, refl, sym, ap, subst, arith}
 use Rattle.std.proofs.lemmas.Bool.Decides.{nat_tests}
 use Rattle.std.proofs.lemmas.List.Elements.{All-cons, All-nil}
 use Rattle.std.proofs.lemmas.Option.{slice_get-map}
 use Rattle.std.specs.Option.{option_map}
-use Rattle.c104_token.specs.declared.tokens.Token.{Token}
+use Rattle.c104_token.specs.declared.tokens.Token.{Token as PlainToken}
 use Rattle.c104_link.proofs.MadeSteps.{All-place}
+use Rattle.c104_switch.specs.Actions.{Reply, is_ready}
+use Rattle.c104_switch.specs.declared.actions.ReplyOf.TheVariants as reply
 use Rattle.c104_plan.specs.declared.ports.Port.{Port}
 use Rattle.c104_plan.specs.declared.ports.Port.TheVariants as port
-use Rattle.c104_plan.specs.Plans.{Plan}
+use Rattle.c104_plan.specs.Plans.{Plan, IsPlan}
 use Rattle.c104_plan.specs.Wiring.{peer}
+use Rattle.c104_event.specs.declared.events.Event.{Event}
+use Rattle.c104_event.specs.declared.events.Event.TheVariants as event
+use Rattle.c104_node.specs.declared.stamps.Stamp.{Stamp}
+use Rattle.c104_node.specs.declared.acts.ActOf.{ActOf}
 use Rattle.c104_node.specs.declared.acts.Entry.{Entry}
-use Rattle.c104_node.specs.declared.ends.End.{End}
-use Rattle.c104_node.specs.ActLinks.{act_link}
+use Rattle.c104_run.specs.Ends.{end_of}
+use Rattle.c104_run.specs.EventActs.{crossing_acts, port_place}
+use Rattle.c104_node.specs.PortActs.{far_act, near_act}
+use Rattle.c104_node.specs.declared.crossings.Crossing.{Crossing}
+use Rattle.c104_node.specs.declared.crossings.Crossing.TheVariants.{Grant, Token}
+use Rattle.c104_run.specs.NetRecords.{net_record, IsNetRecord, NetRecord}
+use Rattle.c104_node.specs.Records.{node_start, node_state, node_trace, IsRecorded, NodeRecord, NodeRoom}
 use Rattle.c104_node.specs.Nodes.{Node}
-use Rattle.c104_node.specs.Records.{has_link, node_start, node_state, node_trace, IsNodeRun, IsRecorded, NodeRecord, NodeRoom}
+use Rattle.c104_run.specs.Runs.{at_node, run_deeds}
 use Rattle.c104_node.specs.Starts.{start_node}
-use Rattle.c104_node.specs.Traces.{part}
-use Rattle.c104_run.specs.KnownWires.{is_linked_end, AreLinkedNodes}
-use Rattle.c104_run.specs.NetRecords.{net_record}
-use Rattle.c104_run.specs.WiredActs.{AreWiredLinks, IsRecordedAt, IsRecordedNode, IsWiredAct, IsWiredEnd}
+use Rattle.c104_node.specs.Traces.{entry_of, lone_deed, part, Deed, seatless}
+use Rattle.c104_run.specs.EventDeeds.{acts_deeds, event_deeds}
+use Rattle.c104_node.specs.ActLinks.{act_link}
+use Rattle.c104_run.specs.WiredActs.{AreWiredLinks, IsRecordedAt, IsRecordedNode, IsWiredAct}
+use Rattle.c104_run.proofs.BalanceWires.{peer_back}
 
-module _ (plan : Plan) (k : ℕ) where
-  -- a link that has a wire is the end of one
-  wired_end : (l : ℕ) → is_linked_end plan k l ≡ true → IsWiredEnd plan (record { node = k; link = l })
-  wired_end l linked = by_kind (nat_lt k (length plan.switches)) refl linked
+module _ (plan : Plan) (is_plan : IsPlan plan) where
+  -- the act at a port that is wired goes over a wired link
+  near_wired : (crossing : Crossing) (p q : Port) → peer plan p ≡ Some q → (stamp : Stamp) (r : Reply) → IsWiredAct plan (port_place plan p) (entry_of stamp (near_act crossing p) r)
+  near_wired Token (port.Switch s i) q wired stamp r = λ l is. (let link : i ≡ l = cc in (port.Switch s i, q, ap (λ (x : ℕ). record { node = s; link = x }) link, wired))
+  near_wired Token (port.Terminal t) q wired stamp r = λ l is. (let link : 0 ≡ l = cc in (port.Terminal t, q, ap (λ (x : ℕ). record { node = length plan.switches + t; link = x }) link, wired))
+  near_wired Grant (port.Switch s i) q wired stamp r = λ l is. (let link : i ≡ l = cc in (port.Switch s i, q, ap (λ (x : ℕ). record { node = s; link = x }) link, wired))
+  near_wired Grant (port.Terminal t) q wired stamp r = λ l is. (let link : 0 ≡ l = cc in (port.Terminal t, q, ap (λ (x : ℕ). record { node = length plan.switches + t; link = x }) link, wired))
+
+  far_link : (told : Reply) (q : Port) → act_link (far_act q told) ≡ Some (end_of plan q).link
+  far_link reply.Done (port.Switch s l) = refl
+  far_link reply.Done (port.Terminal t) = refl
+  far_link reply.NotReady (port.Switch s l) = refl
+  far_link reply.NotReady (port.Terminal t) = refl
+  far_link (reply.Token x) (port.Switch s l) = refl
+  far_link (reply.Token x) (port.Terminal t) = refl
+  far_link (reply.Control bytes) (port.Switch s l) = refl
+  far_link (reply.Control bytes) (port.Terminal t) = refl
+
+  far_wired : (told : Reply) (q p : Port) → peer plan q ≡ Some p → (stamp : Stamp) (r : Reply) → IsWiredAct plan (port_place plan q) (entry_of stamp (far_act q told) r)
+  far_wired told q p wired stamp r = λ l is. (let both : Some (end_of plan q).link ≡ Some l = sym (far_link told q) ∙ is in let link : (end_of plan q).link ≡ l = cc in (q, p, ap (λ (x : ℕ). record { node = (end_of plan q).node; link = x }) link, wired))
+
+  -- entries whose acts go over wired links, each at the place of its node
+  abbrev AreWired : List Deed → Type 0
+  AreWired [] = Unit {0}
+  AreWired (d ∷ deeds) = IsWiredAct plan d.0 d.1 × AreWired deeds
+
+  wired_append : (ds es : List Deed) → AreWired ds → AreWired es → AreWired (ds ++ es)
+  wired_append [] es here more = more
+  wired_append (d ∷ ds) es here more = (here.0, wired_append ds es here.1 more)
+
+  -- the entries of an event
+  lone_wired : (stamp : Stamp) (k : ℕ) (a : ActOf PlainToken) (r : Reply) → act_link a ≡ None → AreWired (lone_deed stamp k a r)
+  lone_wired stamp k a r none = by_reply (is_ready r)
     where
-      peered : (p : Port) → (end : (q : Port) → peer plan p ≡ Some q → IsWiredEnd plan (record { node = k; link = l })) → (o : Option Port) → peer plan p ≡ o → is_some o ≡ true → IsWiredEnd plan (record { node = k; link = l })
-      peered p end None is wired = absurd (both_ways false refl wired)
-      peered p end (Some q) is wired = end q is
+      by_reply : (done : Bool) → AreWired (if done then (k, entry_of stamp a r) ∷ [] else [])
+      by_reply false = tt
+      by_reply true = (λ l is. (let both : None ≡ Some l = sym none ∙ is in absurd (let no : ⊥ = cc in no)), tt)
 
-      by_kind : (b : Bool) → nat_lt k (length plan.switches) ≡ b → (if b then is_some (peer plan (port.Switch k l)) else nat_eq l 0 && is_some (peer plan (port.Terminal (k - length plan.switches)))) ≡ true → IsWiredEnd plan (record { node = k; link = l })
-      by_kind true is wired = peered (port.Switch k l) (λ q there. (port.Switch k l, q, refl, there)) (peer plan (port.Switch k l)) refl wired
-      by_kind false is wired =
-          let t = k - length plan.switches in
-          let both = and_parts (nat_eq l 0) (is_some (peer plan (port.Terminal t))) wired in
-          let zero : 0 ≡ l = grind (arith, nat_tests, both.0) in
-          let place : length plan.switches + t ≡ k = grind (arith, nat_tests, is) in
-          peered (port.Terminal t) (λ q there. (port.Terminal t, q, ap (λ (n : ℕ). record { node = n; link = 0 }) place ∙ ap (λ (m : ℕ). record { node = k; link = m }) zero, there)) (peer plan (port.Terminal t)) refl both.1
+  joint_wired_deeds : (stamp : Stamp) (crossing : Crossing) (p : Port) (r : Reply) (o : Option Port) → peer plan p ≡ o → AreWired (part [] (λ acts. acts_deeds plan stamp acts r) (crossing_acts crossing p o))
+  joint_wired_deeds stamp crossing p r None wired = tt
+  joint_wired_deeds stamp crossing p r (Some q) wired = by_reply (is_ready r)
+    where
+      by_reply : (done : Bool) → AreWired (if done then (port_place plan p, entry_of stamp (near_act crossing p) r) ∷ (port_place plan q, entry_of stamp (far_act q r) reply.Done) ∷ [] else [])
+      by_reply false = tt
+      by_reply true = (near_wired crossing p q wired stamp r, (far_wired r q p (peer_back plan is_plan p q wired) stamp reply.Done, tt))
 
-  module _ (set : ℕ) (linked : (l : ℕ) → has_link set l ≡ is_linked_end plan k l) where
-    -- an act over one of the node's links goes over a wired one
-    act_wired : (e : Entry) → part true (has_link set) (act_link e.act) ≡ true → IsWiredAct plan k e
-    act_wired e over = λ l is. wired_end l (sym (linked l) ∙ sym (ap (part true (has_link set)) is) ∙ over)
+  event_wired : (stamp : Stamp) (e : Event) (r : Reply) → AreWired (event_deeds plan stamp e r)
+  event_wired stamp (event.Cross p) r = joint_wired_deeds stamp Token p r (peer plan p) refl
+  event_wired stamp (event.Credit p) r = joint_wired_deeds stamp Grant p r (peer plan p) refl
+  event_wired stamp (event.Input s l word) r = lone_wired stamp s _ r refl
+  event_wired stamp (event.Claim s i o) r = lone_wired stamp s _ r refl
+  event_wired stamp (event.Control s bytes) r = lone_wired stamp s _ r refl
+  event_wired stamp (event.Send t packet) r = lone_wired stamp _ _ r refl
+  event_wired stamp (event.Drain t) r = lone_wired stamp _ _ r refl
 
-    run_wired : (from to : Node Token) (entries : List Entry) → IsNodeRun set from entries to → AreWiredLinks plan k entries
-    run_wired from to [] run = All-nil (IsWiredAct plan k)
-    run_wired from to (e ∷ entries) run = All-cons (IsWiredAct plan k) e entries (act_wired e run.1.linked) (run_wired run.0 to entries run.3)
+  -- those of a run, and the part of a node of them
+  run_wired : (stamps : ℕ → Stamp) (n : ℕ) (events : List (Event × Reply)) → AreWired (run_deeds plan stamps n events)
+  run_wired stamps n [] = tt
+  run_wired stamps n (e ∷ events) = wired_append (event_deeds plan (stamps n) e.0 e.1) (run_deeds plan stamps (suc n) events) (event_wired (stamps n) e.0 e.1) (run_wired stamps (suc n) events)
 
--- what is kept of the node at a place, where what its own type keeps is known
-pub node_recorded : (plan : Plan) (nodes : List (NodeRecord × NodeRoom)) (count k : ℕ) (n : NodeRecord × NodeRoom) → slice_get nodes k ≡ Some n → IsRecorded n.0 → AreLinkedNodes plan nodes → IsRecordedNode (net_record plan nodes count) k n.0
-node_recorded plan nodes count k n at recorded linked = record {
-  state = slice_get-map node_state nodes k ∙ ap (option_map node_state) at;
-  start = slice_get-map node_start nodes k ∙ ap (option_map node_start) at;
-  trace = slice_get-map node_trace nodes k ∙ ap (option_map node_trace) at;
-  recorded = recorded;
-  wired = run_wired plan k n.0.wired (linked k n at) (start_node n.0.start) n.0.state n.0.trace recorded.run;
-}
+  node_wired : (k : ℕ) (deeds : List Deed) → AreWired deeds → AreWiredLinks plan k (at_node k deeds)
+  node_wired k [] wired = All-nil (IsWiredAct plan k)
+  node_wired k (d ∷ deeds) wired = by_place (node_wired k deeds wired.1) (nat_eq d.0 k) refl
+    where
+      by_place : AreWiredLinks plan k (at_node k deeds) → (b : Bool) → nat_eq d.0 k ≡ b → AreWiredLinks plan k (if b then d.1 ∷ at_node k deeds else at_node k deeds)
+      by_place rest true at =
+          let same : d.0 ≡ k = grind (arith, nat_tests, at) in
+          All-cons (IsWiredAct plan k) d.1 (at_node k deeds) (subst (λ j. IsWiredAct plan j d.1) same wired.0) rest
+      by_place rest false at = rest
 
--- the same of every node
-pub all_recorded : (plan : Plan) (nodes : List (NodeRecord × NodeRoom)) (count : ℕ) → All (λ (n : NodeRecord × NodeRoom). IsRecorded n.0) nodes → AreLinkedNodes plan nodes → (k : ℕ) → IsRecordedAt (net_record plan nodes count) k
-all_recorded plan nodes count all linked k = λ trace here. by_place (slice_get nodes k) refl trace here
+-- so traces that tell a run
+pub told_wired : (plan : Plan) → IsPlan plan → (stamps : ℕ → Stamp) (events : List (Event × Reply)) (start : List (Node PlainToken)) (traces : List (List Entry)) → ((k : ℕ) → slice_get traces k ≡ option_map (λ n. at_node k (run_deeds plan stamps 0 events)) (slice_get start k)) →
+    (k : ℕ) (trace : List Entry) → slice_get traces k ≡ Some trace → AreWiredLinks plan k trace
+told_wired plan is_plan stamps events start traces told k trace here = by_start (slice_get start k) (sym here ∙ told k)
   where
-    by_place : (o : Option (NodeRecord × NodeRoom)) → slice_get nodes k ≡ o → (trace : List Entry) → slice_get (map node_trace nodes) k ≡ Some trace → (n : NodeRecord) × IsRecordedNode (net_record plan nodes count) k n
-    by_place None at trace here = let both : None ≡ Some trace = sym (slice_get-map node_trace nodes k ∙ ap (option_map node_trace) at) ∙ here in absurd (let no : ⊥ = cc in no)
-    by_place (Some n) at trace here = (n.0, node_recorded plan nodes count k n at (All-place (λ (n : NodeRecord × NodeRoom). IsRecorded n.0) nodes k n at all) linked)
+    by_start : (o : Option (Node PlainToken)) → Some trace ≡ option_map (λ n. at_node k (run_deeds plan stamps 0 events)) o → AreWiredLinks plan k trace
+    by_start None is = absurd (let no : ⊥ = cc in no)
+    by_start (Some n) is =
+        let part : trace ≡ at_node k (run_deeds plan stamps 0 events) = cc in
+        subst (AreWiredLinks plan k) (sym part) (node_wired plan is_plan k (run_deeds plan stamps 0 events) (run_wired plan is_plan stamps 0 events))
+
+-- so those of a network with its record
+pub traces_wired : (r : NetRecord) → IsPlan r.network.plan → IsNetRecord r → (k : ℕ) (trace : List Entry) → slice_get r.traces k ≡ Some trace → AreWiredLinks r.network.plan k trace
+traces_wired r is_plan kept = told_wired r.network.plan is_plan seatless kept.told.0 (map start_node r.starts) r.traces kept.told.1.told
+
+-- what is kept of nodes, where the links that their acts go over are known to have wires
+module _ (plan : Plan) (nodes : List (NodeRecord × NodeRoom)) (count : ℕ) (wired : (k : ℕ) (trace : List Entry) → slice_get (map node_trace nodes) k ≡ Some trace → AreWiredLinks plan k trace) where
+  pub node_recorded : (k : ℕ) (n : NodeRecord × NodeRoom) → slice_get nodes k ≡ Some n → IsRecorded n.0 → IsRecordedNode (net_record plan nodes count) k n.0
+  node_recorded k n at recorded =
+      let there : slice_get (map node_trace nodes) k ≡ Some n.0.trace = slice_get-map node_trace nodes k ∙ ap (option_map node_trace) at in
+      record {
+        state = slice_get-map node_state nodes k ∙ ap (option_map node_state) at;
+        start = slice_get-map node_start nodes k ∙ ap (option_map node_start) at;
+        trace = there;
+        recorded = recorded;
+        wired = wired k n.0.trace there;
+      }
+
+  pub all_recorded : All (λ (n : NodeRecord × NodeRoom). IsRecorded n.0) nodes → (k : ℕ) → IsRecordedAt (net_record plan nodes count) k
+  all_recorded all k = λ trace here. by_place (slice_get nodes k) refl trace here
+    where
+      by_place : (o : Option (NodeRecord × NodeRoom)) → slice_get nodes k ≡ o → (trace : List Entry) → slice_get (map node_trace nodes) k ≡ Some trace → (n : NodeRecord) × IsRecordedNode (net_record plan nodes count) k n
+      by_place None at trace here = let both : None ≡ Some trace = sym (slice_get-map node_trace nodes k ∙ ap (option_map node_trace) at) ∙ here in absurd (let no : ⊥ = cc in no)
+      by_place (Some n) at trace here = (n.0, node_recorded k n at (All-place (λ (n : NodeRecord × NodeRoom). IsRecorded n.0) nodes k n at all))

@@ -21,8 +21,10 @@ pub mod Stages
 pub mod Rounds
 pub mod RecordedRuns
 pub mod FinishedRecords
+pub mod NodeRuns
 pub mod LinkedSets
 pub mod RoundParts
+pub mod NodeParts
 pub mod PlaceFaults
 pub mod TracedRuns
 pub mod Standstill

@@ -6,6 +6,7 @@ use c104_event::{Event, EventFault};
 use c104_label::image_of;
 use c104_net::{Entry, Net, Reason, Run};
 use c104_plan::{Image, Plan, hand_image};
+use c104_run::round_part;
 use c104_switch::Reply;
 use c104_token::{Packet, Token, parse_packet};
 use c104_tools::{ControlPort, LoadFault, load, verify, write_register};
@@ -25,6 +26,11 @@ pub fn own_image(alloc: Global, plan: &Plan) -> Result<Image, Fail> {
 /// The image of a plan's labels.
 pub fn label_image(alloc: Global, plan: &Plan) -> Result<Image, Fail> {
     Ok(image_of(alloc, plan)?)
+}
+
+/// The part of a node in a round.
+pub fn part_of(alloc: Global, plan: &Plan, node: usize) -> Result<Vec<Event>, Fail> {
+    Ok(round_part(alloc, plan, node)?)
 }
 
 /// Drops a plan. Whoever owns one hands it over here, since it is expensive to prove that one may be dropped.

@@ -23,6 +23,8 @@ mod named_packets;
 #[cfg(test)]
 mod net;
 #[cfg(test)]
+mod node_parts;
+#[cfg(test)]
 mod origins;
 #[cfg(test)]
 mod portals;

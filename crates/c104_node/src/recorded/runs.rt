@@ -1,6 +1,6 @@
 //! The start of a node's run, and its end.
 ghost use Rattle.std.specs.Prelude.{◌≡◌, ◌∷◌, []};
-ghost use Rattle.std.specs.Option.{option_to_list};
+ghost use Rattle.std.specs.Option.{option_copied, option_to_list};
 ghost use Rattle.c104_node.specs.Nodes.{is_switch, terminals_of};
 ghost use Rattle.c104_node.specs.Quiet.{IsQuietNode, node_begin};
 ghost use Rattle.c104_node.specs.Records.{IsRecorded};
@@ -28,6 +28,16 @@ impl Node {
         write_start(&self.core, &mut self.start);
         self.core.begin();
         self.trace.clear();
+    }
+
+    /// The terminal, if the node is one.
+    pub fn terminal(&self) -> Option<&TerminalOf<Token>>
+        ensures { option_to_list (option_copied result) ≡ terminals_of (self.now.0.state ∷ []) }
+    {
+        match &self.core {
+            NodeOf::Switch(_) => None,
+            NodeOf::Terminal(terminal) => Some(terminal),
+        }
     }
 
     /// Retires a switch, or gives the terminal; and where the node started, and what it did since.

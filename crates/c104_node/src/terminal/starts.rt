@@ -41,6 +41,17 @@ impl TerminalStart {
         }
     }
 
+    /// The same start.
+    pub fn same(&self) -> Self
+        ensures { result ≡ self.now }
+    {
+        TerminalStart {
+            cap: self.cap,
+            granted: self.granted,
+            credit: self.credit,
+        }
+    }
+
     /// For how many tokens its input buffer has room.
     pub fn cap(&self) -> usize
         ensures cap { result ≡ self.now.cap }

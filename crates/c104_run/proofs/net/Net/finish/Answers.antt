@@ -9,8 +9,7 @@ use Rattle.c104_run.proofs.Finishing.{terminals_counted, arrived_same}
 use Rattle.c104_run.proofs.RecordSteps.{nodes_counted}
 use Rattle.c104_run.proofs.RunPartLists.{finish_is}
 use Rattle.c104_run.proofs.FinishedRuns.{finished_record}
-use Rattle.c104_run.proofs.LinkedNodes.{known_nodes}
-use Rattle.c104_run.proofs.WiredTraces.{all_recorded}
+use Rattle.c104_run.proofs.WiredTraces.{all_recorded, traces_wired}
 use Rattle.c104_run.proofs.net.Net.finish.Goals as goal
 
 pub parts_of-parts-requires-clause-start_room : goal.parts_of-parts-requires-clause-start_room
@@ -35,7 +34,7 @@ left_is : (c : goal.After-into_plan) → ◌≡◌ {A = FinishedRecord} (record 
 left_is c = finish_is c.self.inside.wires c.into_plan.result c.self.inside.places.items c.self.inside.count c.parts_of-parts.result.terminals.items c.parts_of-parts.result.starts.items c.parts_of-parts.result.traces.items c.into_plan.ensures c.parts_of-parts.ensures.terminals c.parts_of-parts.ensures.starts c.parts_of-parts.ensures.traces
 
 pub invariant_of-result : goal.invariant_of-result
-invariant_of-result c = subst IsFinishedRecord (sym (left_is c)) (finished_record (net_record c.self.inside.wires c.self.inside.places.items c.self.inside.count) c.self.invariant.0.kept (all_recorded c.self.inside.wires c.self.inside.places.items c.self.inside.count c.parts_of-parts.ensures.recorded (known_nodes c.self.inside.wires c.self.inside.places.items c.self.invariant.2)))
+invariant_of-result c = subst IsFinishedRecord (sym (left_is c)) (finished_record (net_record c.self.inside.wires c.self.inside.places.items c.self.inside.count) c.self.invariant.0.kept (all_recorded c.self.inside.wires c.self.inside.places.items c.self.inside.count (traces_wired (net_record c.self.inside.wires c.self.inside.places.items c.self.inside.count) c.plan-plan.ensures.kept c.self.invariant.0.kept) c.parts_of-parts.ensures.recorded))
 
 pub returns-clause-left : goal.returns-clause-left
 returns-clause-left c = left_is c ∙ ap record_finish c.self.view_is

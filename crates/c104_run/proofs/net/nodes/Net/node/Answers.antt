@@ -4,10 +4,10 @@ use Rattle.std.proofs.lemmas.Option.{slice_get-map, slice_get_past, slice_get_re
 use Rattle.std.specs.Option.{option_map}
 use Rattle.c104_node.specs.Records.{has_link, node_trace, NodeRecord, NodeRoom}
 use Rattle.c104_run.specs.KnownWires.{is_linked_end}
-use Rattle.c104_run.specs.NetRecords.{NetRecord}
+use Rattle.c104_run.specs.NetRecords.{net_record, NetRecord}
 use Rattle.c104_run.specs.WiredActs.{IsRecordedNode}
 use Rattle.c104_run.proofs.LinkedNodes.{known_nodes}
-use Rattle.c104_run.proofs.WiredTraces.{node_recorded}
+use Rattle.c104_run.proofs.WiredTraces.{node_recorded, traces_wired}
 use Rattle.c104_run.proofs.net.nodes.Net.node.Goals as goal
 
 -- the node there
@@ -20,7 +20,7 @@ at c =
 pub returns-in-Some-clause-node : goal.returns-in-Some-clause-node
 returns-in-Some-clause-node c =
     subst (λ (r : NetRecord). IsRecordedNode r c.args.place c.in-Some.node.now.0) c.self.view_is
-    (node_recorded c.self.inside.wires c.self.inside.places.items c.self.inside.count c.args.place c.in-Some.node.now (at c) c.trace-trace.ensures.recorded (known_nodes c.self.inside.wires c.self.inside.places.items c.self.invariant.2))
+    (node_recorded c.self.inside.wires c.self.inside.places.items c.self.inside.count (traces_wired (net_record c.self.inside.wires c.self.inside.places.items c.self.inside.count) c.plan-plan.ensures.kept c.self.invariant.0.kept) c.args.place c.in-Some.node.now (at c) c.trace-trace.ensures.recorded)
 
 pub returns-in-Some-clause-linked : goal.returns-in-Some-clause-linked
 returns-in-Some-clause-linked c = λ l.

@@ -1,0 +1,46 @@
+-- What is left of nodes that were taken out of a network is a run that can be kept: all that is proved of such runs holds
+-- of it.
+use Rattle.std.proofs.Common.{◌≡◌, ◌∙◌, ◌+◌, ◌<◌, ◌++◌, ℕ, All, List, [], ◌∷◌, ap, get_or, length, map, refl, sym, take}
+use Rattle.std.proofs.lemmas.List.{map_more}
+use Rattle.std.proofs.lemmas.List.Elements.{All-head, All-map, All-tail, All-weaker}
+use Rattle.c104_token.specs.declared.tokens.Token.{Token}
+use Rattle.c104_plan.specs.Plans.{IsPlan, Plan}
+use Rattle.c104_node.specs.Records.{node_start, node_state, node_trace, IsRecorded, NodeRecord, NodeRoom}
+use Rattle.c104_node.specs.Nodes.{Node, is_switch, terminals_of}
+use Rattle.c104_node.specs.Starts.{start_node}
+use Rattle.c104_node.specs.Terminals.{Terminal}
+use Rattle.c104_node.proofs.BegunRecords.{run_kind}
+use Rattle.c104_run.specs.FinishedRecords.{IsFinishedRecord}
+use Rattle.c104_run.specs.NetRecords.{IsWithinLimit}
+use Rattle.c104_run.specs.NodeRuns.{IsKeptNode, TellRun, nodes_run, starting_nodes}
+use Rattle.c104_run.proofs.Finishing.{terminals_append}
+use Rattle.c104_run.proofs.WiredTraces.{all_recorded, told_wired}
+
+-- each node stands where it started
+kinds_kept : (nodes : List (NodeRecord × NodeRoom)) → All IsKeptNode nodes → map is_switch (map node_state nodes) ≡ map is_switch (starting_nodes nodes)
+kinds_kept [] kept = refl
+kinds_kept (n ∷ nodes) kept =
+    ap (λ b. b ∷ map is_switch (map node_state nodes)) (run_kind n.0.wired (start_node n.0.start) n.0.state n.0.trace (All-head IsKeptNode n nodes kept).run)
+    ∙ ap (λ bs. is_switch (start_node {A = Token} n.0.start) ∷ bs) (kinds_kept nodes (All-tail IsKeptNode n nodes kept))
+
+-- what is left of a node more
+pub terminals_next : (nodes : List (NodeRecord × NodeRoom)) (i : ℕ) (n : NodeRecord × NodeRoom) (made next : List (Terminal Token)) → i < length nodes → n ≡ get_or nodes i n → made ≡ terminals_of (map node_state (take i nodes)) → next ≡ made ++ terminals_of (node_state n ∷ []) → next ≡ terminals_of (map node_state (take (i + 1) nodes))
+terminals_next nodes i n made next inside is so grown =
+    grown
+    ∙ ap (λ (ts : List (Terminal Token)). ts ++ terminals_of (node_state n ∷ [])) so
+    ∙ sym (terminals_append (map node_state (take i nodes)) (node_state n ∷ []))
+    ∙ ap terminals_of (ap (λ (m : NodeRecord × NodeRoom). map node_state (take i nodes) ++ node_state m ∷ []) is ∙ sym (map_more node_state nodes i n inside))
+
+module _ (plan : Plan) (is_plan : IsPlan plan) (nodes : List (NodeRecord × NodeRoom)) (count : ℕ) (tell : TellRun plan nodes count) (kept : All IsKeptNode nodes) where
+  pub run_is_kept : IsFinishedRecord (nodes_run plan nodes count)
+  run_is_kept = record {
+    stamps = tell.stamps;
+    events = tell.events;
+    nodes = map node_state nodes;
+    told = tell.told;
+    ended = refl;
+    placed = kinds_kept nodes kept ∙ tell.started.in_place;
+    started = tell.started;
+    recorded = all_recorded plan nodes count (told_wired plan is_plan tell.stamps tell.events (starting_nodes nodes) (map node_trace nodes) tell.told.told) kept;
+    within = All-map IsWithinLimit node_trace nodes (All-weaker IsKeptNode (λ n. IsWithinLimit n.0.trace) (λ n own. own.within) nodes kept);
+  }
