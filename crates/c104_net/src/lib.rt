@@ -19,11 +19,12 @@ mod work;
 
 pub use c104_event::{Event, EventFault, Port};
 pub use c104_node::{
-    Act, ActOf, Entry, NodeStart, Origin, SentPacket, Source, Stamp, TaggedToken, TerminalStart,
-    TerminalView, Traced, all_started, origin_of, origins_of,
+    Act, ActOf, Entry, Node, NodeStart, Origin, SentPacket, Source, Stamp, TaggedToken,
+    TerminalStart, TerminalView, Traced, all_started, origin_of, origins_of,
 };
 pub use c104_run::{
-    Net, PlaceFault, Reason, RecordedNet, RecordedPlace, Run, TracedNet, Unwatched, Watch,
+    Net, NetParts, PlaceFault, Reason, RecordedNet, RecordedPlace, Run, TracedNet, Unwatched,
+    Watch, round_part,
 };
 pub use deadlock::NoDeadlock;
 pub use run_origins::Origins;

@@ -28,7 +28,7 @@ mod tagged;
 mod terminal;
 mod traced;
 
-pub use acts::{Act, ActOf, Entry};
+pub use acts::{Act, ActOf, Entry, same_reply};
 pub use counted::CountedNode;
 pub use crossings::{Crossing, Joint};
 pub use ends::End;

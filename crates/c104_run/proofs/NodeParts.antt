@@ -4,7 +4,6 @@ use Rattle.std.proofs.Common.{ap, append-nil, append_assoc, arith, filter, lengt
 use Rattle.std.specs.List.{flat_map, range_with_len}
 use Rattle.std.proofs.lemmas.Bool.Decides.{nat_tests}
 use Rattle.std.proofs.lemmas.List.Elements.{filter-append, filter_agree}
-use Rattle.std.proofs.lemmas.Grind.{flat_map-append}
 use Rattle.c104_plan.specs.Plans.{Plan}
 use Rattle.c104_plan.specs.declared.ports.Port.{Port}
 use Rattle.c104_plan.specs.declared.ports.Port.TheVariants as port
@@ -16,7 +15,7 @@ use Rattle.c104_run.specs.EventActs.{port_place}
 use Rattle.c104_run.specs.EventPlaces.{event_place}
 use Rattle.c104_run.specs.NodeParts.{events_of, node_ports, own_events, round_part}
 use Rattle.c104_run.specs.RoundParts.{port_events}
-use Rattle.c104_run.specs.Rounds.{all_claims, all_drains, claims_of, is_wired, link_numbers, round, switch_claims, turn_at}
+use Rattle.c104_run.specs.Rounds.{all_claims, all_drains, claims_of, is_wired, link_numbers, switch_claims, turn_at}
 use Rattle.c104_run.specs.Rounds.{wired_links, wired_ports, wired_terminals}
 use Rattle.c104_run.proofs.PartRuns.{singles}
 

@@ -5,16 +5,22 @@ use Rattle.std.proofs.lemmas.List.{map_more}
 use Rattle.std.proofs.lemmas.List.Elements.{All-head, All-map, All-tail, All-weaker}
 use Rattle.c104_token.specs.declared.tokens.Token.{Token}
 use Rattle.c104_plan.specs.Plans.{IsPlan, Plan}
-use Rattle.c104_node.specs.Records.{node_start, node_state, node_trace, IsRecorded, NodeRecord, NodeRoom}
-use Rattle.c104_node.specs.Nodes.{Node, is_switch, terminals_of}
+use Rattle.c104_node.specs.Records.{node_state, node_trace, NodeRecord, NodeRoom}
+use Rattle.c104_node.specs.Nodes.{is_switch, terminals_of}
 use Rattle.c104_node.specs.Starts.{start_node}
 use Rattle.c104_node.specs.Terminals.{Terminal}
 use Rattle.c104_node.proofs.BegunRecords.{run_kind}
 use Rattle.c104_run.specs.FinishedRecords.{IsFinishedRecord}
+use Rattle.c104_node.specs.Traces.{seatless}
+use Rattle.c104_run.specs.NetParts.{AreParts, Parts}
 use Rattle.c104_run.specs.NetRecords.{IsWithinLimit}
 use Rattle.c104_run.specs.NodeRuns.{IsKeptNode, TellRun, nodes_run, starting_nodes}
 use Rattle.c104_run.proofs.Finishing.{terminals_append}
 use Rattle.c104_run.proofs.WiredTraces.{all_recorded, told_wired}
+
+-- the parts of a network tell its run
+pub parts_tell : (p : Parts) → AreParts p → TellRun p.plan p.nodes p.count
+parts_tell p are = record { stamps = seatless; events = are.told.told.0; told = are.told.told.1; started = are.told.started }
 
 -- each node stands where it started
 kinds_kept : (nodes : List (NodeRecord × NodeRoom)) → All IsKeptNode nodes → map is_switch (map node_state nodes) ≡ map is_switch (starting_nodes nodes)

@@ -1,9 +1,13 @@
 -- How many events were done of a network that is taken apart.
-use Rattle.std.proofs.Common.{◌≡◌, ◌≤◌, arith, length, map}
+use Rattle.std.proofs.Common.{◌≤◌, ℕ, List, arith, map}
 use Rattle.std.proofs.lemmas.List.{length-map}
-use Rattle.c104_plan.specs.Plans.{IsPlan}
-use Rattle.c104_node.specs.Records.{node_trace}
+use Rattle.c104_plan.specs.Plans.{IsPlan, Plan}
+use Rattle.c104_node.specs.Places.{bases}
+use Rattle.c104_node.specs.Records.{node_shown, node_state, node_trace, NodeRecord, NodeRoom}
+use Rattle.c104_run.specs.KnownWires.{KnowWires}
+use Rattle.c104_run.specs.NetRecords.{net_record, IsNetRecord}
 use Rattle.c104_run.specs.NetParts.{AreParts, Parts}
+use Rattle.c104_run.proofs.RecordSteps.{nodes_counted}
 use Rattle.c104_run.proofs.EntryCounts.{total_below}
 
 -- there is at least an entry for each event
@@ -12,3 +16,14 @@ few_events p is_plan are =
     let total = total_below (map node_trace p.nodes) are.told.within in
     let traces = length-map p.nodes node_trace in
     omega (arith, total, traces, are.nodes, are.told.counted, is_plan.few_switches, is_plan.terminals.few)
+
+-- what a network comes to that is taken apart
+pub are_parts : (plan : Plan) (nodes : List (NodeRecord × NodeRoom)) (count : ℕ) → IsNetRecord (net_record plan nodes count) → KnowWires plan (bases (map node_shown nodes)) → AreParts (record { plan = plan; nodes = nodes; count = count })
+are_parts plan nodes count kept known = record {
+  told = kept;
+  nodes =
+      let counted = nodes_counted plan (map node_state nodes) kept.steady.in_place in
+      let same = length-map nodes node_state in
+      omega (arith, counted, same);
+  wired = known;
+}

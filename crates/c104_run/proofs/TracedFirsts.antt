@@ -7,7 +7,7 @@ use Rattle.c104_plan.specs.declared.plans.Terminal.{Terminal}
 use Rattle.c104_plan.specs.Plans.{Plan, IsPlan}
 use Rattle.c104_node.specs.declared.acts.Entry.{Entry}
 use Rattle.c104_node.specs.declared.node.NodeOf.TheVariants as node
-use Rattle.c104_run.specs.Network.{network_of, new_network}
+use Rattle.c104_run.specs.Network.{new_network}
 use Rattle.c104_run.specs.NetRecords.{first_record, fresh_record}
 use Rattle.c104_node.specs.Nodes.{Node}
 use Rattle.c104_run.specs.RecordedNets.{places_record, IsRecordedNet}

@@ -1,5 +1,5 @@
 -- The acts of a run go over wired links, since tokens and credits cross wires alone.
-use Rattle.std.proofs.Common.{◌≡◌, ◌∙◌, ◌++◌, ◌+◌, ℕ, suc, Bool, true, false, All, List, [], ◌∷◌, Option, Some, None, IfSome, if◌then◌else◌, length, map, nat_eq, slice_get, refl, sym, ap, subst, arith}
+use Rattle.std.proofs.Common.{◌≡◌, ◌∙◌, ◌++◌, ◌+◌, ℕ, suc, Bool, true, false, All, List, [], ◌∷◌, Option, Some, None, if◌then◌else◌, length, map, nat_eq, slice_get, refl, sym, ap, subst, arith}
 use Rattle.std.proofs.lemmas.Bool.Decides.{nat_tests}
 use Rattle.std.proofs.lemmas.List.Elements.{All-cons, All-nil}
 use Rattle.std.proofs.lemmas.Option.{slice_get-map}

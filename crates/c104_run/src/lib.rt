@@ -11,9 +11,12 @@
 //! what a `Net` does, and counts entries in place of keeping them. Both are a `RecordedNet`, each of its own kind
 //! of place.
 //!
+//! Its parts (`NetParts`) keep what it kept: the plan, the nodes, and how many events were done.
+//!
 //! A `PlaceFault` is why a network was not made, and a `Reason` why an event isn't ready, and where. `view_link`
 //! and `view_terminal` show how a link of a switch and how a terminal stands. `rounds` does the events of all parts
-//! in turn, again and again; a `Watch` is told how far they are.
+//! in turn, again and again; a `Watch` is told how far they are. `round_part` gives what a round has for one node.
+//! `Run::of_nodes` is the run that nodes tell which were taken out of a network.
 #![tactic(auto)]
 
 mod asked;
@@ -39,6 +42,7 @@ mod traced_net;
 mod watch;
 mod wires;
 
+pub use asked::{Asked, acts_of};
 pub use events::happen;
 pub use faults::PlaceFault;
 pub use net::Net;

@@ -2,6 +2,7 @@
 ghost use Rattle.std.specs.Prelude.{◌≡◌, ◌≤◌, length};
 ghost use Rattle.c104_plan.specs.Plans.{IsPlan};
 ghost use Rattle.c104_run.specs.NetParts.{AreParts};
+ghost use Rattle.c104_run.specs.NodeRuns.{TellRun};
 
 use crate::wires::Wires;
 use c104_node::Node;
@@ -54,6 +55,7 @@ impl NetParts {
     pub fn nodes(&self) -> &[Node]
         ensures nodes { result.now ≡ self.now.nodes }
         ensures told { AreParts self.now }
+        ensures run { TellRun self.now.plan result.now self.now.count }
     {
         // The proof reads the rest of the parts by these names.
         let _plan = self.wires.plan();

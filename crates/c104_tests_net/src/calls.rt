@@ -4,9 +4,8 @@ use c104_control::ControlBytes;
 use c104_describe::read_description;
 use c104_event::{Event, EventFault};
 use c104_label::image_of;
-use c104_net::{Entry, Net, Reason, Run};
+use c104_net::{Entry, Net, NetParts, Reason, Run, round_part};
 use c104_plan::{Image, Plan, hand_image};
-use c104_run::round_part;
 use c104_switch::Reply;
 use c104_token::{Packet, Token, parse_packet};
 use c104_tools::{ControlPort, LoadFault, load, verify, write_register};
@@ -101,6 +100,16 @@ pub fn finish(net: Net) -> Run {
 /// Disposes of a network.
 pub fn retire(net: Net) {
     net.retire();
+}
+
+/// The parts of a network.
+pub fn take_apart(net: Net) -> NetParts {
+    net.into_nodes()
+}
+
+/// The run that the nodes of a network tell which was taken apart.
+pub fn told_run(alloc: Global, parts: &NetParts) -> Result<Run, Fail> {
+    Ok(Run::of_nodes(alloc, parts.plan(), parts.nodes(), parts.count())?)
 }
 
 /// The packet of a text.

@@ -15,6 +15,8 @@ mod crossings;
 #[cfg(test)]
 mod deadlock;
 #[cfg(test)]
+mod fabrics;
+#[cfg(test)]
 mod faults;
 #[cfg(test)]
 mod found_packets;
@@ -24,6 +26,8 @@ mod named_packets;
 mod net;
 #[cfg(test)]
 mod node_parts;
+#[cfg(test)]
+mod node_runs;
 #[cfg(test)]
 mod origins;
 #[cfg(test)]

@@ -151,6 +151,7 @@ pub record IsClosed (terms : Terms) (next : ℕ) (v : View) : Type 0 where
   pub none_twice : AreNoneTwice terms.first next v.drawn
   pub each_once : length v.numbers ≡ terms.seats → AreOnce terms.first next v.drawn
   pub seats : length v.numbers ≡ terms.seats → AreOnce 0 terms.seats v.numbers
+  pub few : length v.numbers ≤ terms.seats
 
 pub closes : (terms : Terms) (words : List ℕ) (views : List View) → IsWordOf terms words views → (next : ℕ) → get_elem? words 0 ≡ some next → (id : ℕ) (v : View) → get_elem? views id ≡ some v → IsClosed terms next v
 closes terms words views rule next last id v at =
@@ -159,4 +160,5 @@ closes terms words views rule next last id v at =
       none_twice = apart terms words views rule id v at;
       each_once = λ full. (gathers terms words views rule id v at full).drawn;
       seats = λ full. (gathers terms words views rule id v at full).numbers;
+      few = omega (arith, rule.made_fits, (replaced (λ u. u.numbers) views id v spent at).lengths);
     })

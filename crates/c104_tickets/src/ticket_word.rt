@@ -107,6 +107,7 @@ impl TicketWord {
         ensures none_twice { AreNoneTwice self.terms.first result pass.view.drawn }
         ensures each_once { length pass.view.numbers ≡ self.terms.seats → AreOnce self.terms.first result pass.view.drawn }
         ensures seats { length pass.view.numbers ≡ self.terms.seats → AreOnce 0 self.terms.seats pass.view.numbers }
+        ensures few { length pass.view.numbers ≤ self.terms.seats }
     {
         let Pass { seat } = pass;
         let closed = self.into_table().close_with(seat);

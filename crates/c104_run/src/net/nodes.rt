@@ -1,5 +1,5 @@
 //! The nodes of a network, each by itself.
-ghost use Rattle.std.specs.Prelude.{◌≡◌, ℕ, None, slice_get, IfSome, MatchOption};
+ghost use Rattle.std.specs.Prelude.{◌≡◌, ◌≤◌, ℕ, None, slice_get, IfSome, MatchOption};
 ghost use Rattle.std.specs.Option.{option_copied};
 ghost use Rattle.c104_node.specs.Records.{has_link};
 ghost use Rattle.c104_run.specs.KnownWires.{is_linked_end};
@@ -43,6 +43,17 @@ impl Net {
             Some(found) => Some(found.trace()),
             None => None,
         }
+    }
+
+    /// How many events were done since the start: at most 320 times the most entries of a node.
+    pub fn count(&self) -> u64
+        ensures count { result ≡ self.now.count }
+        ensures few { result ≤ 335544320 }
+    {
+        // The proof reads here what every plan keeps, and the nodes by their name.
+        let _plan = self.wires.plan();
+        let _nodes = self.places.as_slice();
+        self.count
     }
 
     /// The parts of the network: its plan, its nodes, each with what it did, and how many events were done. It takes no

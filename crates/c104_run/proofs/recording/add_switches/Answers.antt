@@ -1,7 +1,6 @@
-use Rattle.std.proofs.Common.{◌+◌, ℕ, List, length, ◌≡◌, ◌∙◌, ◌++◌, ◌∷◌, [], map, true, refl, ap, arith, rules}
+use Rattle.std.proofs.Common.{◌+◌, List, length, ◌≡◌, ◌∙◌, ◌++◌, ◌∷◌, [], map, true, refl, ap, arith, rules}
 use Rattle.std.proofs.lemmas.List.{map-append}
 use Rattle.c104_token.specs.declared.tokens.Token.{Token}
-use Rattle.c104_plan.specs.Plans.{Plan}
 use Rattle.c104_regs.specs.declared.settings.Settings.{Settings}
 use Rattle.c104_switch.specs.Switch.{new_switch_with}
 use Rattle.c104_node.specs.declared.node.NodeOf.TheVariants as node

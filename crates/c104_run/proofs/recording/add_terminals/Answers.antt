@@ -1,4 +1,4 @@
-use Rattle.std.proofs.Common.{◌+◌, ℕ, List, length, ◌≡◌, ◌∙◌, ◌++◌, ◌∷◌, [], ap, arith, map, refl, rules, take}
+use Rattle.std.proofs.Common.{◌+◌, length, ◌≡◌, ◌∙◌, ◌++◌, ◌∷◌, [], ap, arith, map, refl, rules, take}
 use Rattle.std.proofs.lemmas.List.{append_assoc, length-map, map-append}
 use Rattle.c104_token.specs.declared.tokens.Token.{Token}
 use Rattle.c104_plan.specs.declared.plans.Terminal.{Terminal}

@@ -1,7 +1,6 @@
 use Rattle.std.proofs.Common.{◌≡◌, ◌∙◌, ap, length, subst, sym, arith}
 use Rattle.c104_node.specs.Records.{HasCap}
 use Rattle.c104_node.specs.declared.acts.Entry.{Entry}
-use Rattle.c104_node.specs.declared.starts.NodeStart.{NodeStart}
 use Rattle.c104_node.specs.Starts.{start_node}
 use Rattle.c104_node.proofs.BegunRecords.{run_kind}
 use Rattle.c104_node.proofs.BufferSizes.{run_sized, sized_start, start_sized}

@@ -22,3 +22,6 @@ returns-clause-each_once c = (closed c).each_once
 
 pub returns-clause-seats : goal.returns-clause-seats
 returns-clause-seats c = (closed c).seats
+
+pub returns-clause-few : goal.returns-clause-few
+returns-clause-few c = (closed c).few

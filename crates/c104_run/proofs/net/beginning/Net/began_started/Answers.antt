@@ -1,4 +1,4 @@
-use Rattle.std.proofs.Common.{◌↔◌, ℕ, All, IsTrue, List, map, subst, sym}
+use Rattle.std.proofs.Common.{◌↔◌, All, IsTrue, List, map, subst, sym}
 use Rattle.c104_node.specs.Records.{node_start, NodeRecord, NodeRoom}
 use Rattle.c104_node.specs.Starts.{IsStartedStart}
 use Rattle.c104_run.proofs.net.beginning.Net.began_started.Goals as goal

@@ -1,8 +1,8 @@
-use Rattle.std.proofs.Common.{◌≡◌, ◌≤◌, ◌<◌, ℕ, List, None, Some, length, map, slice_get, ap, refl, subst, sym, arith, ◌∙◌}
+use Rattle.std.proofs.Common.{◌≡◌, ◌≤◌, ◌<◌, List, None, Some, length, slice_get, ap, refl, subst, sym, arith, ◌∙◌}
 use Rattle.std.proofs.lemmas.Bool.Decides.{nat_tests}
 use Rattle.std.proofs.lemmas.Option.{slice_get-map, slice_get_past, slice_get_read}
 use Rattle.std.specs.Option.{option_map}
-use Rattle.c104_node.specs.Records.{has_link, node_trace, NodeRecord, NodeRoom}
+use Rattle.c104_node.specs.Records.{node_trace, NodeRecord, NodeRoom}
 use Rattle.c104_run.specs.KnownWires.{is_linked_end}
 use Rattle.c104_run.specs.NetRecords.{net_record, NetRecord}
 use Rattle.c104_run.specs.WiredActs.{IsRecordedNode}

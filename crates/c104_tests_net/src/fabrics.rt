@@ -1,0 +1,241 @@
+//! Events that threads do through the seats of a fabric.
+ghost use Rattle.std.specs.Prelude.{◌≡◌, IfOk};
+ghost use Rattle.std.specs.Thread.{IsSync};
+ghost use Rattle.c104_workers.specs.Fabrics.{AreSeatsOf};
+
+use crate::calls::{packet_of, placed_network};
+use c104_control::ControlBytes;
+use c104_event::{Event, EventFault, Port};
+use c104_switch::Reply;
+use c104_token::{Packet, Token};
+use c104_tools::ControlPort;
+use c104_workers::{Fabric, FabricPort, Gathered, Seat};
+use std::alloc::Global;
+use std::sync::Wait;
+use std::test::Fail;
+use std::thread::{Threads, join};
+
+/// Two terminals on one switch, with a row to each.
+const PLAN: &[u8] = b"switch A\nterminal a A.0\nterminal b A.1\n\
+    row A.0 1 0\nrow A.0 2 1\nrow A.1 1 0\nrow A.1 2 1\n";
+
+/// A fabric of the plan with the settings of its lines, and its seats.
+fn fabric_of(alloc: Global, seats: usize) -> Result<(Fabric, Vec<Seat>), Fail>
+    ensures { IfOk result (λ made. AreSeatsOf made.0.word_id made.1.items) }
+{
+    let net = placed_network(alloc, PLAN)?;
+    match Fabric::new(alloc, net, seats) {
+        Ok(made) => Ok(made),
+        Err((net, fault)) => {
+            net.retire();
+            Err(fault.into())
+        }
+    }
+}
+
+/// Both packets arrive, and each seat has its 16 calls: a packet sent, two grants, six crossings, four turns of which one is
+/// a claim, and three arrivals.
+#[test]
+fn packets_by_two_threads(rt: HostRuntime) -> Result<(), Fail> {
+    let one = packet_of(rt.alloc(), "01 aa eop")?;
+    let two = packet_of(rt.alloc(), "00 bb eom")?;
+    let (fabric, seats) = fabric_of(rt.alloc(), 2)?;
+    let gathered = run_two(&rt, rt.alloc(), fabric, seats, (one, two));
+    let counts = counts_of(&gathered);
+    gathered.retire();
+    assert!(rt; counts == (16, 16, 24));
+    Ok(())
+}
+
+/// How many calls the first two seats have, and how many entries the switch.
+fn counts_of(gathered: &Gathered) -> (usize, usize, usize) {
+    match (gathered.seats(), gathered.nodes()) {
+        ([first, second, ..], [switch, ..]) => (
+            first.calls.as_slice().len(),
+            second.calls.as_slice().len(),
+            switch.trace().len(),
+        ),
+        _ => (0, 0, 0),
+    }
+}
+
+/// Each of two seats is used by a thread of its own; then the fabric ends.
+fn run_two<R: Threads + Wait + Sync>(
+    rt: &R,
+    alloc: Global,
+    fabric: Fabric,
+    mut seats: Vec<Seat>,
+    packets: (Packet, Packet),
+) -> Gathered
+    requires { AreSeatsOf fabric.word_id seats.items }
+{
+    let Some(second) = seats.pop() else {
+        return fabric.close(seats);
+    };
+    let Some(first) = seats.pop() else {
+        return fabric.close(seats);
+    };
+    let (first, second) = by_two_threads(rt, &fabric, first, second, packets);
+    let mut seats = Vec::new(alloc);
+    let _first = seats.push(first);
+    let _second = seats.push(second);
+    fabric.close(seats)
+}
+
+/// Two threads, each with a seat of its own.
+fn by_two_threads<R: Threads + Wait + Sync>(
+    rt: &R,
+    fabric: &Fabric,
+    first: Seat,
+    second: Seat,
+    packets: (Packet, Packet),
+) -> (Seat, Seat)
+    requires first { first.0.word_id ≡ fabric.now.word_id }
+    requires second { second.0.word_id ≡ fabric.now.word_id }
+    ensures first { result.0.0.word_id ≡ fabric.now.word_id }
+    ensures second { result.1.0.word_id ≡ fabric.now.word_id }
+{
+    let (one, two) = packets;
+    join(
+        rt,
+        move || -> Seat
+            requires { IsSync R.row × (first.0.word_id ≡ fabric.now.word_id) }
+            ensures { result.0.word_id ≡ fabric.entry.now.word_id }
+        { carried(rt, fabric, first, 0, one) },
+        move || -> Seat
+            requires { IsSync R.row × (second.0.word_id ≡ fabric.now.word_id) }
+            ensures { result.0.word_id ≡ fabric.entry.now.word_id }
+        { carried(rt, fabric, second, 1, two) },
+    )
+}
+
+/// Sends a packet of three tokens to the other terminal, and takes the one that comes from there.
+fn carried<R: Wait>(rt: &R, fabric: &Fabric, mut seat: Seat, here: usize, packet: Packet) -> Seat
+    requires { seat.0.word_id ≡ fabric.now.word_id }
+    ensures { result.0.word_id ≡ fabric.now.word_id }
+{
+    let events = own_events(here, packet);
+    do_each(rt, fabric, &mut seat, &events);
+    take_packet(rt, fabric, &mut seat, here);
+    seat
+}
+
+/// What a terminal and its link of the switch do until its packet stands at the other link: none of it waits for the
+/// other terminal.
+fn own_events(here: usize, packet: Packet) -> [Event; 9] {
+    let turn = |_: u8| Event::Input {
+        switch: 0,
+        link: here,
+        word: 0,
+    };
+    [
+        Event::Send {
+            terminal: here,
+            packet,
+        },
+        Event::Credit(Port::Switch(0, here)),
+        Event::Cross(Port::Terminal(here)),
+        Event::Cross(Port::Terminal(here)),
+        Event::Cross(Port::Terminal(here)),
+        turn(0),
+        Event::Claim {
+            switch: 0,
+            input: here,
+            output: 1 ^ here,
+        },
+        turn(1),
+        turn(2),
+    ]
+}
+
+/// Does events in turn, whatever they are answered.
+fn do_each<R: Wait>(rt: &R, fabric: &Fabric, seat: &mut Seat, events: &[Event])
+    requires { seat.old.0.word_id ≡ fabric.now.word_id }
+    ensures { seat.new.0.word_id ≡ fabric.now.word_id }
+{
+    for event in events {
+        let _answer = fabric.apply(rt, seat, event);
+    }
+}
+
+/// Takes the packet that comes to a terminal, up to its terminator: it waits for who sends it.
+fn take_packet<R: Wait>(rt: &R, fabric: &Fabric, seat: &mut Seat, here: usize)
+    requires { seat.old.0.word_id ≡ fabric.now.word_id }
+    ensures { seat.new.0.word_id ≡ fabric.now.word_id }
+{
+    let grant = Event::Credit(Port::Terminal(here));
+    let cross = Event::Cross(Port::Switch(0, here));
+    let drain = Event::Drain { terminal: here };
+    let _granted = fabric.apply(rt, seat, &grant);
+    for _ in rt.forever() {
+        let _crossed = fabric.apply(rt, seat, &cross);
+        match fabric.apply(rt, seat, &drain) {
+            Ok(Reply::Token(Token::Eop | Token::Eom)) | Err(_) => return,
+            Ok(_) => (),
+        }
+    }
+    unreachable!()
+}
+
+/// Commands by a seat: what is poked is read back, and then the seat ends with the fabric.
+#[test]
+fn commands_by_a_seat(rt: HostRuntime) -> Result<(), Fail> {
+    let (fabric, seats) = fabric_of(rt.alloc(), 1)?;
+    let (told, gathered) = ask_and_close(&rt, rt.alloc(), fabric, seats);
+    let (calls, _, entries) = counts_of(&gathered);
+    gathered.retire();
+    assert!(rt; told && calls == entries);
+    Ok(())
+}
+
+/// The last seat is asked, and then the fabric ends with it.
+fn ask_and_close<R: Wait>(
+    rt: &R,
+    alloc: Global,
+    fabric: Fabric,
+    mut seats: Vec<Seat>,
+) -> (bool, Gathered)
+    requires { AreSeatsOf fabric.word_id seats.items }
+{
+    let Some(mut seat) = seats.pop() else {
+        return (false, fabric.close(seats));
+    };
+    let told = is_told(rt, &fabric, &mut seat);
+    let mut seats = Vec::new(alloc);
+    let _kept = seats.push(seat);
+    (told, fabric.close(seats))
+}
+
+/// What a seat pokes is read back by it, and a terminal that isn't there is told so.
+fn is_told<R: Wait>(rt: &R, fabric: &Fabric, seat: &mut Seat) -> bool
+    requires { seat.old.0.word_id ≡ fabric.now.word_id }
+    ensures { seat.new.0.word_id ≡ fabric.now.word_id }
+{
+    let poked = command_by(rt, fabric, seat, &ControlBytes::new(&[5, 2, 1, 5, 0, 0, 0]));
+    let read = command_by(rt, fabric, seat, &ControlBytes::new(&[4, 2, 1]));
+    let refused = fabric.apply(rt, seat, &Event::Drain { terminal: 9 });
+    is_reply(&poked, &[0x85])
+        && is_reply(&read, &[0x84, 5, 0, 0, 0])
+        && refused == Err(EventFault::NoNode)
+}
+
+fn is_reply(answer: &Result<ControlBytes, EventFault>, due: &[u8]) -> bool {
+    match answer {
+        Ok(bytes) => bytes.as_slice() == due,
+        Err(_) => false,
+    }
+}
+
+/// One command of the switch through a seat.
+fn command_by<R: Wait>(
+    rt: &R,
+    fabric: &Fabric,
+    seat: &mut Seat,
+    bytes: &ControlBytes,
+) -> Result<ControlBytes, EventFault>
+    requires { seat.old.0.word_id ≡ fabric.now.word_id }
+    ensures { seat.new.0.word_id ≡ fabric.now.word_id }
+{
+    let mut port = FabricPort { rt, fabric, seat };
+    port.command(0, bytes)
+}

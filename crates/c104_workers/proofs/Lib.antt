@@ -1,0 +1,6 @@
+pub mod EventPlaces
+pub mod EventReplies
+pub mod SeatGrowth
+pub mod GatheredSeats
+pub mod PortCommands
+pub mod PortRuns

@@ -1,0 +1,104 @@
+-- Fabrics: the plan, the word of tickets, and what the nodes had done when the fabric was made; and what a fabric leaves.
+use Rattle.std.specs.Prelude.{ℕ, ◌≡◌, ◌+◌, ◌-◌, ◌≤◌, ◌&&◌, ◌++◌, List, [], ◌∷◌, if◌then◌else◌, length, map, nat_le}
+use Rattle.std.specs.List.{range_with_len}
+use Rattle.c104_plan.specs.Plans.{Plan}
+use Rattle.c104_node.specs.Records.{NodeRecord, NodeRoom}
+use Rattle.c104_node.specs.StartNumbers.{start_numbers}
+use Rattle.c104_node.specs.declared.acts.Entry.{Entry}
+use Rattle.c104_run.specs.NetRecords.{IsNetRecord, NetRecord}
+use Rattle.c104_run.specs.NetParts.{node_count}
+use Rattle.c104_tickets.specs.Tickets.{TableId, first_view}
+use Rattle.c104_tickets.specs.declared.TheConstants.{SEAT_LIMIT}
+use Rattle.c104_tickets.specs.declared.views.Terms.{Terms}
+use Rattle.c104_tickets.specs.declared.views.View.{View}
+use Rattle.c104_workers.specs.Calls.{SeatView, tickets_of}
+use Rattle.c104_workers.specs.declared.calls.SeatCalls.{SeatCalls}
+use Rattle.c104_workers.specs.declared.making.FabricFault.{FabricFault}
+use Rattle.c104_workers.specs.declared.making.FabricFault.TheVariants as fault
+
+-- what is known of the network of a fabric: its plan, how many events it had done, where its nodes started, as numbers,
+-- and what they had done since
+pub record Handed : Type 0 where
+  pub plan : Plan
+  pub count : ℕ
+  pub starts : List (List ℕ)
+  pub before : List (List Entry)
+
+-- what is so known of a network with its record
+abbrev pub handed_of : NetRecord → Handed
+handed_of r = record {
+  plan = r.network.plan;
+  count = r.count;
+  starts = map start_numbers r.starts;
+  before = r.traces;
+}
+
+-- it is known of some network with its record: so what the nodes had done is that of one run
+pub record WasHanded (handed : Handed) : Type 0 where
+  pub net : NetRecord
+  pub kept : IsNetRecord net
+  pub is : handed ≡ handed_of net
+
+-- a fabric as it is seen: what is known of its network, its word of tickets, and what that was told
+pub record FabricView : Type 0 where
+  pub handed : Handed
+  pub word_id : TableId
+  pub terms : Terms
+
+-- what a fabric tells its word of tickets: the first ticket is how many events were done
+abbrev pub terms_of : ℕ → ℕ → Terms
+terms_of count seats = record { first = count; seats = seats }
+
+-- a seat of a fabric at first, with no call yet
+abbrev pub first_seat : TableId → Terms → ℕ → SeatView
+first_seat word_id terms number = record { word_id = word_id; terms = terms; number = number; calls = [] }
+
+-- the seats of a fabric at first, by their numbers from 0 on
+abbrev pub first_seats : TableId → Terms → List SeatView
+first_seats word_id terms =
+    first_seat word_id terms 0 ∷ map (λ k. first_seat word_id terms (k + 1)) (range_with_len 0 (terms.seats - 1))
+
+abbrev pub seat_view : SeatView × ℕ → SeatView
+seat_view s = s.0
+
+-- what the first pass knows after so many seats were made
+abbrev pub first_view_after : Terms → ℕ → View
+first_view_after terms made = record (first_view terms) { made = made }
+
+-- a seat draws from this word
+abbrev pub IsSeatOf : TableId → SeatView × ℕ → Type 0
+IsSeatOf word_id s = s.0.word_id ≡ word_id
+
+-- the same of each of a list
+abbrev pub AreSeatsOf : TableId → List (SeatView × ℕ) → Type 0
+AreSeatsOf word_id [] = Unit {0}
+AreSeatsOf word_id (s ∷ seats) = IsSeatOf word_id s × AreSeatsOf word_id seats
+
+-- the tickets of seats
+abbrev pub all_tickets : List (SeatView × ℕ) → List ℕ
+all_tickets [] = []
+all_tickets (s ∷ seats) = tickets_of s.0.calls ++ all_tickets seats
+
+-- what a seat leaves
+abbrev pub calls_of : SeatView × ℕ → SeatCalls
+calls_of s = record { number = s.0.number; calls = s.0.calls }
+
+-- whether a fabric may have so many seats, and why there is none
+abbrev pub IsSeatCount : ℕ → Type 0
+IsSeatCount seats = (1 ≤ seats) × (seats ≤ SEAT_LIMIT)
+
+abbrev pub fabric_fault : ℕ → FabricFault
+fabric_fault seats = if nat_le 1 seats && nat_le seats SEAT_LIMIT then fault.NoMemory else fault.SeatCount
+
+-- what a fabric leaves
+pub record Left : Type 0 where
+  pub handed : Handed
+  -- the ticket after the last
+  pub next : ℕ
+  pub nodes : List (NodeRecord × NodeRoom)
+  pub seats : List SeatCalls
+
+-- what its type keeps: a node for each switch and each terminal, and what was known of the network
+pub record IsLeft (left : Left) : Type 0 where
+  pub nodes : length left.nodes ≡ node_count left.handed.plan
+  pub handed : WasHanded left.handed

@@ -1,0 +1,5 @@
+pub mod Calls
+pub mod LentCalls
+pub mod SeatGrowth
+pub mod Fabrics
+pub mod SeatCommands

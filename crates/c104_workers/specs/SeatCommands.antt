@@ -1,0 +1,58 @@
+-- The control commands that were done through a seat.
+use Rattle.std.specs.Prelude.{ℕ, ◌≡◌, ◌<◌, ◌++◌, List, [], ◌∷◌, Result, Ok, Err, length}
+use Rattle.c104_event.specs.declared.events.Event.{Event}
+use Rattle.c104_event.specs.declared.events.Event.TheVariants as event
+use Rattle.c104_event.specs.declared.faults.EventFault.{EventFault}
+use Rattle.c104_event.specs.declared.faults.EventFault.TheVariants as fault
+use Rattle.c104_switch.specs.Actions.{Reply}
+use Rattle.c104_switch.specs.declared.actions.ReplyOf.TheVariants as reply
+use Rattle.c104_tools.specs.Outcomes.{Given}
+use Rattle.c104_tools.specs.Ports.{command_asked}
+use Rattle.c104_tools.specs.declared.ports.Asked.{Asked}
+use Rattle.c104_workers.specs.Calls.{IsSameSeat, SeatView}
+use Rattle.c104_workers.specs.Fabrics.{FabricView}
+use Rattle.c104_workers.specs.SeatGrowth.{GrewBy}
+use Rattle.c104_workers.specs.declared.calls.Call.{Call}
+
+-- the command, with its reply, that a switch was asked by an event that was answered so; none of any other event
+abbrev pub told_command : Event → Reply → List Asked
+told_command (event.Cross p) r = []
+told_command (event.Credit p) r = []
+told_command (event.Input s l word) r = []
+told_command (event.Claim s i o) r = []
+told_command (event.Control s bytes) (reply.Control told) = command_asked s bytes told ∷ []
+told_command (event.Control s bytes) reply.Done = []
+told_command (event.Control s bytes) reply.NotReady = []
+told_command (event.Control s bytes) (reply.Token x) = []
+told_command (event.Send t packet) r = []
+told_command (event.Drain t) r = []
+
+-- the commands of calls, in order
+abbrev pub seat_commands : List Call → List Asked
+seat_commands [] = []
+seat_commands (c ∷ calls) = told_command c.event c.reply ++ seat_commands calls
+
+-- why a command of a switch isn't answered: there is no such switch, or what stands for it isn't ready; or the trace of
+-- the switch or the seat's list is full, or memory has run out
+abbrev pub IsFabricUnanswered : FabricView → ℕ → EventFault → Type 0
+IsFabricUnanswered fabric switch fault.NoNode = Unit {0}
+IsFabricUnanswered fabric switch fault.NoLink = ⊥
+IsFabricUnanswered fabric switch fault.NotWired = ⊥
+IsFabricUnanswered fabric switch fault.TooLong = ⊥
+IsFabricUnanswered fabric switch fault.OutboxFull = ⊥
+IsFabricUnanswered fabric switch fault.InboxFull = ⊥
+IsFabricUnanswered fabric switch fault.TraceFull = switch < length fabric.handed.plan.switches
+IsFabricUnanswered fabric switch fault.NoMemory = switch < length fabric.handed.plan.switches
+
+-- what a command of a switch does to a seat: its list grew by exactly the call of that command, with the reply that is
+-- given; or no reply is given, and the seat is as it was
+abbrev pub IsOneCall : SeatView → SeatView → ℕ → List ℕ → Given → Type 0
+IsOneCall old new switch bytes (Ok told) = GrewBy old new (event.Control switch bytes) (reply.Control told)
+IsOneCall old new switch bytes (Err f) = new ≡ old
+
+-- the same of a port to a fabric through a seat: it stays one to the same fabric
+pub record CommandCalled (fabric fabric' : FabricView) (seat seat' : SeatView) (switch : ℕ) (bytes : List ℕ) (given : Given)
+    : Type 0 where
+  pub fabric_same : fabric' ≡ fabric
+  pub seat_same : IsSameSeat seat seat'
+  pub called : IsOneCall seat seat' switch bytes given

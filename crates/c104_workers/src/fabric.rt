@@ -1,0 +1,206 @@
+//! A fabric: nodes behind locks of their own, and the word of tickets.
+ghost use Rattle.std.specs.Prelude.{◌≡◌, None, Some, IfOk, MatchResult};
+ghost use Rattle.c104_plan.specs.Plans.{IsPlan};
+ghost use Rattle.c104_run.specs.EventActs.{event_acts};
+ghost use Rattle.c104_run.specs.NetParts.{node_count};
+ghost use Rattle.c104_run.specs.Network.{event_fault};
+ghost use Rattle.c104_workers.specs.Calls.{IsSameSeat};
+ghost use Rattle.c104_workers.specs.Fabrics.{WasHanded};
+ghost use Rattle.c104_workers.specs.LentCalls.{AreBelow, AreLentFor, CallsLent, CallsOne, CallsTwo, asked_places, event_places};
+ghost use Rattle.c104_workers.specs.SeatGrowth.{FaultsAs, Grew};
+
+use crate::calls::SeatCalls;
+use crate::lent_calls::{call_node, call_pair, call_send};
+use crate::seats::Seat;
+use c104_event::{Event, EventFault};
+use c104_node::{Entry, Node};
+use c104_plan::Plan;
+use c104_run::{Asked, Wires, acts_of};
+use c104_switch::Reply;
+use c104_tickets::TicketWord;
+use c104_token::{Items, Token};
+use std::marker::Model;
+use std::sync::{Mutex, Wait};
+
+/// The nodes of a network behind locks of their own. Events are done on them through seats.
+pub struct Fabric {
+    pub(crate) wires: Wires,
+    pub(crate) word: TicketWord,
+    // The switches in order, and then the terminals.
+    pub(crate) locks: Vec<Mutex<Node>>,
+    // Room for the nodes at the end, and for what each seat leaves, so that `close` takes no memory.
+    pub(crate) nodes: Vec<Node>,
+    pub(crate) lists: Vec<SeatCalls>,
+    // Where each node had started when the fabric was made, as numbers, and what it had done since.
+    pub(crate) starts: Vec<Items<u32>>,
+    pub(crate) before: Vec<Items<Entry>>,
+}
+
+impl Model for Fabric {
+    ghost use Rattle.std.specs.Prelude.{◌≡◌, ◌≤◌, [], vec_len};
+    ghost use Rattle.std.specs.Vec.{vec_capacity};
+    ghost use Rattle.c104_run.specs.NetParts.{node_count};
+    ghost use Rattle.c104_workers.specs.Fabrics.{FabricView, WasHanded};
+
+    ghost Value = { FabricView };
+
+    ghost view = { λ f. record {
+      handed = record { plan = f.wires; count = f.word.terms.first; starts = f.starts.items; before = f.before.items };
+      word_id = f.word.word_id;
+      terms = f.word.terms;
+    } };
+
+    ghost invariant = { λ f.
+        (vec_len f.locks ≡ node_count f.wires)
+        × (f.nodes.items ≡ []) × (vec_len f.locks ≤ vec_capacity f.nodes)
+        × (f.lists.items ≡ []) × (f.word.terms.seats ≤ vec_capacity f.lists)
+        × (1 ≤ f.word.terms.seats)
+        × WasHanded (record { plan = f.wires; count = f.word.terms.first; starts = f.starts.items; before = f.before.items }) };
+}
+
+impl Fabric {
+    /// The plan of the network.
+    pub fn plan(&self) -> &Plan
+        ensures plan { result.now ≡ self.now.handed.plan }
+        ensures kept { IsPlan self.now.handed.plan }
+        ensures handed { WasHanded self.now.handed }
+    {
+        // The proof reads the rest of the fabric by these names.
+        let _word = &self.word;
+        let _starts = self.starts.as_slice();
+        let _before = self.before.as_slice();
+        self.wires.plan()
+    }
+
+    /// The places of an event's nodes, the lower first: one, or the two at the ends of a wire. NoNode, NoLink, NotWired or
+    /// TooLong where the event can't happen.
+    pub fn place(&self, event: &Event) -> Result<(usize, Option<usize>), EventFault>
+        ensures fault { MatchResult result
+            (λ places. event_fault self.now.handed.plan event.now ≡ None)
+            (λ fault. event_fault self.now.handed.plan event.now ≡ Some fault) }
+        ensures places { IfOk result (λ places. event_places self.now.handed.plan event.now ≡ Some places) }
+        ensures lent { IfOk result (λ places. AreLentFor (event_acts self.now.handed.plan event.now) places.1) }
+        ensures inside { IfOk result (λ places. AreBelow (node_count self.now.handed.plan) places) }
+    {
+        // The proof reads here what every plan keeps.
+        let _plan = self.wires.plan();
+        let asked: Asked<'_, Token> = acts_of(&self.wires, event)?;
+        Ok(places_of(asked))
+    }
+
+    /// Does an event on the nodes that are lent, the lower first, if it is ready there and no limit refuses it. It takes
+    /// no lock, and draws a ticket only when the event is sure to be done.
+    ///
+    /// It is NotReady also where a node is of another kind than the event's, or hasn't the wired link of a Cross or
+    /// Credit. OutboxFull, InboxFull, TraceFull, which is told of the seat's list too, or NoMemory where it is refused.
+    pub fn apply_held(
+        &self,
+        seat: &mut Seat,
+        event: &Event,
+        first: &mut Node,
+        second: Option<&mut Node>,
+    ) -> Result<Reply, EventFault>
+        requires word { seat.old.0.word_id ≡ self.now.word_id }
+        requires fault { event_fault self.now.handed.plan event.now ≡ None }
+        requires lent { AreLentFor (event_acts self.now.handed.plan event.now) second }
+        ensures { CallsLent self.now.handed.plan (event_acts self.now.handed.plan event.now) seat.old.0 seat.new.0
+            first.old.0 first.new.0 second.entry second.exit event.now result }
+    {
+        match second {
+            None => self.apply_to_one(seat, event, first),
+            Some(other) => self.apply_to_two(seat, event, first, other),
+        }
+    }
+
+    /// Does an event of one node.
+    fn apply_to_one(
+        &self,
+        seat: &mut Seat,
+        event: &Event,
+        node: &mut Node,
+    ) -> Result<Reply, EventFault>
+        requires word { seat.old.0.word_id ≡ self.now.word_id }
+        requires fault { event_fault self.now.handed.plan event.now ≡ None }
+        requires lent { AreLentFor {X = Unit {0}} (event_acts self.now.handed.plan event.now) None }
+        ensures { CallsOne (event_acts self.now.handed.plan event.now) seat.old.0 seat.new.0 node.old.0 node.new.0
+            event.now result }
+    {
+        let asked: Result<Asked<'_, Token>, EventFault> = acts_of(&self.wires, event);
+        match asked {
+            Ok(Asked::Alone(_, act)) => call_node(seat, &self.word, node, act, event),
+            Ok(Asked::Send(_, packet)) => call_send(seat, &self.word, node, packet, event),
+            Ok(Asked::Joint(_, _, _)) => unreachable!(),
+            Err(_) => unreachable!(),
+        }
+    }
+
+    /// Does an event of the two nodes at the ends of a wire.
+    fn apply_to_two(
+        &self,
+        seat: &mut Seat,
+        event: &Event,
+        first: &mut Node,
+        second: &mut Node,
+    ) -> Result<Reply, EventFault>
+        requires word { seat.old.0.word_id ≡ self.now.word_id }
+        requires fault { event_fault self.now.handed.plan event.now ≡ None }
+        requires lent { AreLentFor {X = Unit {0}} (event_acts self.now.handed.plan event.now) (Some tt) }
+        ensures { CallsTwo self.now.handed.plan (event_acts self.now.handed.plan event.now) seat.old.0 seat.new.0
+            first.old.0 first.new.0 second.old.0 second.new.0 event.now result }
+    {
+        let asked: Result<Asked<'_, Token>, EventFault> = acts_of(&self.wires, event);
+        match asked {
+            Ok(Asked::Joint(near, far, joint)) => {
+                if near < far {
+                    call_pair(seat, &self.word, first, second, joint, event)
+                } else {
+                    call_pair(seat, &self.word, second, first, joint, event)
+                }
+            }
+            Ok(Asked::Alone(_, _)) => unreachable!(),
+            Ok(Asked::Send(_, _)) => unreachable!(),
+            Err(_) => unreachable!(),
+        }
+    }
+
+    /// Does an event on its nodes, under their locks, of which the lower is taken first: as `apply_held` does it there.
+    /// NoNode, NoLink, NotWired or TooLong where the event can't happen. Where it is done, the seat has a call more.
+    pub fn apply<R: Wait>(
+        &self,
+        rt: &R,
+        seat: &mut Seat,
+        event: &Event,
+    ) -> Result<Reply, EventFault>
+        requires word { seat.old.0.word_id ≡ self.now.word_id }
+        ensures fault { FaultsAs (event_fault self.now.handed.plan event.now) event.now result }
+        ensures grew { Grew seat.old.0 seat.new.0 event.now result }
+        ensures same { IsSameSeat seat.old.0 seat.new.0 }
+    {
+        let (lower, higher) = self.place(event)?;
+        let mut first = self.locks[lower].lock(rt);
+        match higher {
+            None => self.apply_to_one(seat, event, &mut first),
+            Some(higher) => {
+                let mut second = self.locks[higher].lock(rt);
+                self.apply_to_two(seat, event, &mut first, &mut second)
+            }
+        }
+    }
+}
+
+/// The places of what an event asks, the lower first.
+fn places_of(asked: Asked<'_, Token>) -> (usize, Option<usize>)
+    ensures { result ≡ asked_places asked.entry }
+{
+    match asked {
+        Asked::Alone(place, _) => (place, None),
+        Asked::Send(place, _) => (place, None),
+        Asked::Joint(near, far, _) => {
+            if near < far {
+                (near, Some(far))
+            } else {
+                (far, Some(near))
+            }
+        }
+    }
+}

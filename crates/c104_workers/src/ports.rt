@@ -1,0 +1,57 @@
+//! A fabric takes control commands through a seat.
+ghost use Rattle.std.specs.Prelude.{◌≡◌};
+
+use crate::fabric::Fabric;
+use crate::seats::Seat;
+use c104_control::ControlBytes;
+use c104_event::{Event, EventFault};
+use c104_switch::ReplyOf;
+use c104_tools::ControlPort;
+use std::sync::Wait;
+
+/// A fabric with a seat of it, as a port for the loader and the debugger. Its commands are those of the seat's calls; it
+/// shows no switches, since others may act on them between two commands. A command is exactly one call of the seat, or
+/// none; so the seat stays one of the fabric. It isn't answered where there is no such switch, where the switch's trace or
+/// the seat's list is full, or when out of memory.
+#[derive(Drop)]
+pub struct FabricPort<'a, R: Wait> {
+    pub rt: &'a R,
+    pub fabric: &'a Fabric,
+    pub seat: &'a mut Seat,
+    ghost own: { seat.now.0.word_id ≡ fabric.now.word_id },
+}
+
+impl<R: Wait> ControlPort for FabricPort<'_, R> {
+    ghost use Rattle.std.specs.Prelude.{◌≡◌, None, length};
+    ghost use Rattle.c104_workers.specs.SeatCommands.{CommandCalled, IsFabricUnanswered, seat_commands};
+
+    ghost commands = { λ p. seat_commands p.seat.now.0.calls };
+
+    ghost switch_count = { λ p. length p.fabric.now.handed.plan.switches };
+
+    ghost shown = { λ p. None };
+
+    ghost unanswered = { λ p switch bytes f. IsFabricUnanswered p.fabric.now switch f };
+
+    // It stays a port through the same reference, so that who lent the seat knows what became of it.
+    ghost due = { λ p switch bytes given after.
+        (after.seat.ghost_name ≡ p.seat.ghost_name)
+        × CommandCalled p.fabric.now after.fabric.now p.seat.now.0 after.seat.now.0 switch bytes given };
+
+    fn switches(&self) -> usize {
+        self.fabric.plan().switches().len()
+    }
+
+    fn command(&mut self, switch: usize, bytes: &ControlBytes) -> Result<ControlBytes, EventFault> {
+        let event = Event::Control {
+            switch,
+            bytes: ControlBytes::new(bytes.as_slice()),
+        };
+        let answer = self.fabric.apply(self.rt, self.seat, &event)?;
+        match answer {
+            ReplyOf::Control(reply) => Ok(reply),
+            ReplyOf::NotReady => Err(EventFault::NoNode),
+            ReplyOf::Done | ReplyOf::Token(_) => unreachable!(),
+        }
+    }
+}

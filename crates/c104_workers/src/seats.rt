@@ -1,0 +1,165 @@
+//! A seat: through it events are done, and it keeps a call of each.
+ghost use Rattle.std.specs.Prelude.{◌≡◌, ◌<◌, ◌∷◌, None, [], true, false, is_some, OnOk};
+ghost use Rattle.c104_node.specs.Acts.{IsWithinLimits};
+ghost use Rattle.c104_node.specs.Records.{HasRoomFor, is_full, recorded_limit, pair_step, recorded_step};
+ghost use Rattle.c104_switch.specs.Actions.{is_ready};
+ghost use Rattle.c104_workers.specs.Calls.{is_seat_full, tickets_of};
+ghost use Rattle.c104_workers.specs.LentCalls.{NodeActed, PairActed};
+
+use crate::calls::{Call, SeatCalls};
+use c104_event::Event;
+use c104_node::{Act, Joint, Node, act_pair, same_reply};
+use c104_switch::Reply;
+use c104_tickets::{Pass, TICKET_LIMIT, TicketWord};
+use c104_token::{Items, NoMemory};
+use std::alloc::Global;
+use std::marker::Model;
+
+/// A seat of a fabric. It keeps a call of each event that was done through it, in order, at most 1,048,576.
+#[derive(Drop)]
+pub struct Seat {
+    pass: Pass,
+    number: u8,
+    calls: Vec<Call>,
+}
+
+impl Model for Seat {
+    ghost use Rattle.std.specs.Prelude.{◌-◌, ℕ, vec_len};
+    ghost use Rattle.std.specs.Vec.{vec_capacity};
+    ghost use Rattle.c104_workers.specs.Calls.{IsSeat, SeatView};
+
+    // What is seen, and for how many further calls there is room.
+    ghost Value = { SeatView × ℕ };
+
+    ghost view = { λ s. (
+      record { word_id = s.pass.word_id; terms = s.pass.view.terms; number = s.number; calls = s.calls.items },
+      vec_capacity s.calls - vec_len s.calls,
+    ) };
+
+    ghost invariant = { λ s. IsSeat s.pass s.number s.calls.items };
+}
+
+impl Seat {
+    /// A seat with no call yet.
+    pub(crate) fn new(alloc: Global, pass: Pass, number: u8) -> Self
+        requires single { pass.view.numbers ≡ number ∷ [] }
+        requires fresh { pass.view.drawn ≡ [] }
+        ensures { result.0 ≡ record { word_id = pass.word_id; terms = pass.view.terms; number = number; calls = [] } }
+    {
+        Seat {
+            pass,
+            number,
+            calls: Vec::new(alloc),
+        }
+    }
+
+    /// The number of the seat, below 64.
+    pub fn number(&self) -> u8
+        ensures { result ≡ self.now.0.number }
+    {
+        self.number
+    }
+
+    /// The calls that were done, in order.
+    pub fn calls(&self) -> &[Call]
+        ensures { result.now ≡ self.now.0.calls }
+    {
+        self.calls.as_slice()
+    }
+
+    /// Whether no further call may be kept.
+    pub(crate) fn is_full(&self) -> bool
+        ensures { result ≡ is_seat_full self.now.0 }
+    {
+        self.calls.len() as u64 >= TICKET_LIMIT
+    }
+
+    /// Makes room for a call. The only error is out of memory.
+    pub(crate) fn room(&mut self) -> Result<(), NoMemory>
+        ensures same { self.new.0 ≡ self.old.0 }
+        ensures room { OnOk result (0 < self.new.1) }
+    {
+        self.calls.reserve(1)?;
+        Ok(())
+    }
+
+    /// Draws a ticket, and a node acts that is ready and that no limit refuses. There is room for the act and the call.
+    pub(crate) fn act(
+        &mut self,
+        word: &TicketWord,
+        node: &mut Node,
+        act: Act,
+        event: Event,
+    ) -> Reply
+        requires word { self.old.0.word_id ≡ word.now.word_id }
+        requires seat_room { 0 < self.old.1 }
+        requires free { is_seat_full self.old.0 ≡ false }
+        requires short { IsWithinLimits act }
+        requires ready { is_some (recorded_step node.old.0 act) ≡ true }
+        requires below { recorded_limit node.old.0 act ≡ None }
+        requires room { HasRoomFor node.old.1 node.old.0.state act }
+        ensures acted { NodeActed self.old.0 self.new.0 node.old.0 node.new.0 event act result }
+        ensures done { is_ready result ≡ true }
+    {
+        let ticket = word.draw(&mut self.pass);
+        let reply = node.act(ticket, Some(self.number), act);
+        let told = same_reply(&reply);
+        self.calls.push_reserved(Call {
+            ticket,
+            event,
+            reply: told,
+        });
+        reply
+    }
+
+    /// Draws a ticket, and something crosses a wire between two nodes that are ready for it, none of which has a full
+    /// trace. There is room for the entries and the call.
+    pub(crate) fn act_pair(
+        &mut self,
+        word: &TicketWord,
+        near: &mut Node,
+        far: &mut Node,
+        joint: Joint,
+        event: Event,
+    ) -> Reply
+        requires word { self.old.0.word_id ≡ word.now.word_id }
+        requires seat_room { 0 < self.old.1 }
+        requires free { is_seat_full self.old.0 ≡ false }
+        requires ready { is_some (pair_step joint near.old.0 far.old.0) ≡ true }
+        requires near_free { is_full near.old.0 ≡ false }
+        requires far_free { is_full far.old.0 ≡ false }
+        requires near_room { 0 < near.old.1.entries }
+        requires far_room { 0 < far.old.1.entries }
+        ensures acted { PairActed self.old.0 self.new.0 near.old.0 near.new.0 far.old.0 far.new.0 event joint result }
+        ensures done { is_ready result ≡ true }
+    {
+        let ticket = word.draw(&mut self.pass);
+        let reply = act_pair(near, far, joint, ticket, Some(self.number));
+        let told = same_reply(&reply);
+        self.calls.push_reserved(Call {
+            ticket,
+            event,
+            reply: told,
+        });
+        reply
+    }
+
+    /// The pass of the seat, and what the seat leaves.
+    pub(crate) fn into_parts(self) -> (Pass, SeatCalls)
+        ensures word { result.0.word_id ≡ self.0.word_id }
+        ensures single { result.0.view.numbers ≡ self.0.number ∷ [] }
+        ensures drawn { result.0.view.drawn ≡ tickets_of self.0.calls }
+        ensures kept { result.1 ≡ record { number = self.0.number; calls = self.0.calls } }
+    {
+        let Seat {
+            pass,
+            number,
+            calls,
+        } = self;
+        let kept = SeatCalls {
+            number,
+            calls: Items::new(calls),
+        };
+        (pass, kept)
+    }
+}
