@@ -7,6 +7,7 @@ use Rattle.c104_plan.specs.Plans.{IsPlan, Plan}
 use Rattle.c104_link.proofs.MadeSteps.{All-place}
 use Rattle.c104_net.proofs.RunOrigins.{IsKeptRun}
 use Rattle.c104_net.proofs.StandingRuns.{stands_quiet}
+use Rattle.c104_net.proofs.SureOrigins.{mapped}
 use Rattle.c104_run.specs.FinishedRecords.{FinishedRecord}
 use Rattle.c104_run.specs.Network.{network_of}
 use Rattle.c104_run.specs.QuietNets.{IsQuiet}
@@ -20,15 +21,9 @@ use Rattle.c104_switch.specs.Switch.{Input}
 use Rattle.c104_token.specs.Kinds.{plain_kind}
 use Rattle.c104_token.specs.declared.tokens.Token.{Token}
 use Rattle.c104_link.specs.declared.TheConstants.{TOKENS_OF_A_GRANT}
-use Rattle.std.proofs.Common.{All, List, Some, [], map, refl, slice_get, subst, suc, zero, ℕ, ◌∙◌, ◌∷◌, ◌≡◌, ◌≤◌}
+use Rattle.std.proofs.Common.{All, List, map, subst, ◌∙◌, ◌≤◌}
 use Rattle.std.proofs.lemmas.List.{length-map}
 use Rattle.c104_node.specs.declared.starts.NodeStart.TheVariants as start
-
--- what is at a place of a mapped list
-mapped : {X Y : Type 0} (g : X → Y) (xs : List X) (k : ℕ) (y : Y) → slice_get (map g xs) k ≡ Some y → (x : X) × (slice_get xs k ≡ Some x) × (g x ≡ y)
-mapped g [] k y is = absurd (cc)
-mapped g (x ∷ xs) zero y is = (x, refl, cc)
-mapped g (x ∷ xs) (suc k) y is = mapped g xs k y is
 
 module _ (A : Type 0) where
   start_is_started : (s : NodeStart) → IsStartedStart s → IsStartedNode {A = A} (start_node s)

@@ -16,7 +16,7 @@ use Rattle.c104_net.specs.Work.{header_held, highest_rank, input_work, level, li
 use Rattle.c104_regs.specs.declared.settings.Settings.{Settings}
 use Rattle.c104_switch.specs.Switch.{Input}
 use Rattle.c104_switch.specs.declared.phase.Phase.{Phase}
-use Rattle.c104_switch.specs.declared.phase.Phase.TheVariants.{Fresh, Head, Sinking, Stream, Want}
+use Rattle.c104_switch.specs.declared.phase.Phase.TheVariants.{Fresh}
 use Rattle.std.proofs.Common.{List, None, Option, Some, [], ap, arith, false, length, refl, suc, true, zero, ℕ, ⊎_elim, ◌*◌, ◌+◌, ◌-◌, ◌∷◌}
 use Rattle.std.proofs.Common.{◌≡◌, ◌≤◌}
 use Rattle.std.proofs.Math.Nat.{suc-mul, zero-mul}
@@ -36,17 +36,13 @@ times_more (suc n) a b less =
 
 module _ (plan : Plan) (rank high ahead most : SwitchPort → ℕ) (less : (p : SwitchPort) → rank p ≤ high p) (fewer : (p : SwitchPort) → ahead p ≤ most p) where
   ahead_more : (q : Option Port) → ahead_at plan rank ahead q ≤ ahead_at plan high most q
-  ahead_more None = omega arith
   ahead_more (Some (port.Switch s l)) = let here = fewer (port_of s l) in omega (arith, here)
-  ahead_more (Some (port.Terminal t)) = omega arith
+  ahead_more q = omega arith
 
   module _ {A : Type 0} where
     first_more : (s l : ℕ) (ph : Phase (List A)) → first_ahead plan rank ahead (ahead (port_of s l)) ph ≤ first_ahead plan high most (most (port_of s l)) ph
     first_more s l Fresh = let here = fewer (port_of s l) in omega (arith, here)
-    first_more s l (Head b) = omega arith
-    first_more s l (Want b g) = omega arith
-    first_more s l (Stream o) = omega arith
-    first_more s l Sinking = omega arith
+    first_more s l ph = omega arith
 
     input_more : (s l : ℕ) (p : Input A) → full_input plan rank ahead s l p ≤ full_input plan high most s l p
     input_more s l p =
@@ -93,17 +89,13 @@ module _ {X : Type 0} where
 
 module _ (plan : Plan) (rank ahead : SwitchPort → ℕ) (none : (p : SwitchPort) → ahead p ≡ 0) where
   none_at : (q : Option Port) → ahead_at plan rank ahead q ≡ 0
-  none_at None = refl
   none_at (Some (port.Switch s l)) = none (port_of s l)
-  none_at (Some (port.Terminal t)) = refl
+  none_at q = refl
 
   module _ {A : Type 0} where
     none_first : (s l : ℕ) (ph : Phase (List A)) → first_ahead plan rank ahead (ahead (port_of s l)) ph ≡ 0
     none_first s l Fresh = none (port_of s l)
-    none_first s l (Head b) = refl
-    none_first s l (Want b g) = refl
-    none_first s l (Stream o) = refl
-    none_first s l Sinking = refl
+    none_first s l ph = refl
 
     input_same : (s l : ℕ) (p : Input A) → full_input plan rank ahead s l p ≡ input_work plan rank s l p
     input_same s l p =

@@ -208,10 +208,6 @@ module _ (plan : Plan) (image : Image) (labelled : IsLabelled (routes_of plan im
       (cases_Bool so.delete_header)
 
   claimed_kept : (s i o : ℕ) (S : Switch Traced) (eS : slice_get nodes s ≡ Some (node.Switch S)) (free : is_owned S.inputs o ≡ false) (p : Input Traced) (ep : slice_get S.inputs i ≡ Some p) (y : Input Traced × List (Outgoing Traced)) (ph : Phase (List Traced)) → p.phase ≡ ph → input_claim S.settings p S.outputs o ph ≡ Some y → Holds (routes_of plan image) (world_of plan image (slice_set nodes s (node.Switch (changed S i y.0 y.1))))
-  claimed_kept s i o S eS free p ep y Fresh e f = absurd (cc)
-  claimed_kept s i o S eS free p ep y (Head b) e f = absurd (cc)
-  claimed_kept s i o S eS free p ep y (Stream o') e f = absurd (cc)
-  claimed_kept s i o S eS free p ep y Sinking e f = absurd (cc)
   claimed_kept s i o S eS free p ep y (Want b g) e f =
       required (is_in_group S.settings g o) _ y f (λ group f1.
       given (slice_get S.settings o) _ y f1 (λ so es f2.
@@ -235,6 +231,7 @@ module _ (plan : Plan) (image : Image) (labelled : IsLabelled (routes_of plan im
       kept_items : (b b' : Bool) (l v : List Traced) → b' ≡ b → (if b then l else l ++ v) ≡ l ++ (if b' then [] else v)
       kept_items true b' l v e = rw e (sym (append-nil l))
       kept_items false b' l v e = rw e refl
+  claimed_kept s i o S eS free p ep y ph e f = absurd (cc)
 
   pub claim_kept : (net' : Network Traced) (s i o : ℕ) (r : Reply) → named_step traced_kind (network_of plan nodes) (event.Claim s i o) ≡ Some (r, net') → Leaves plan image nodes net' (StillHolds plan image)
   claim_kept net' s i o r e =

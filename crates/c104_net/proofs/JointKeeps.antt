@@ -1,27 +1,62 @@
--- What each act at an end of a wire keeps is kept by what crosses it.
+-- What each act of an event of a round keeps of a node is kept by the event.
 use Rattle.c104_plan.specs.Plans.{Plan}
 use Rattle.c104_plan.specs.declared.ports.Port.{Port}
 use Rattle.c104_plan.specs.declared.ports.Port.TheVariants as port
 use Rattle.c104_link.proofs.MadeSteps.{from_place_made, given}
-use Rattle.c104_link.specs.Steps.{◌>>=◌}
 use Rattle.c104_node.specs.Acts.{done_by, node_act, nodes_act, plain_reply, token_by}
-use Rattle.c104_run.specs.EventActs.{acts_step, crossing_acts, port_place}
-use Rattle.c104_node.specs.PortActs.{far_act, joint_step, near_act, port_credit_in, port_enter}
-use Rattle.c104_run.specs.Network.{Network, network_of, told_step}
-use Rattle.c104_node.specs.Nodes.{Node, node_credit_in, node_credit_out, node_enter, node_leave}
+use Rattle.c104_plan.specs.Wiring.{peer}
+use Rattle.c104_event.specs.declared.events.Event.{Event}
+use Rattle.c104_event.specs.declared.events.Event.TheVariants as event
+use Rattle.c104_run.specs.EventActs.{acts_step, crossing_acts, event_acts, port_place}
+use Rattle.c104_node.specs.PortActs.{Acts, far_act, near_act}
+use Rattle.c104_run.specs.Network.{Network, network_of, network_step}
+use Rattle.c104_node.specs.Nodes.{Node, node_claim, node_credit_in, node_credit_out, node_drain, node_enter, node_input, node_leave}
+use Rattle.c104_node.specs.declared.acts.ActOf.{ActOf}
+use Rattle.c104_node.specs.declared.acts.ActOf.TheVariants as act
 use Rattle.c104_node.specs.declared.crossings.Crossing.{Crossing}
 use Rattle.c104_node.specs.declared.crossings.Crossing.TheVariants.{Grant, Token}
 use Rattle.c104_node.specs.declared.node.NodeOf.TheVariants as node
 use Rattle.c104_switch.specs.Actions.{Reply}
+use Rattle.c104_switch.specs.declared.actions.ActionOf.TheVariants as action
 use Rattle.c104_switch.specs.declared.actions.ReplyOf.{ReplyOf}
 use Rattle.c104_switch.specs.declared.actions.ReplyOf.TheVariants as reply
 use Rattle.c104_token.specs.Kinds.{Kind}
-use Rattle.std.proofs.Common.{List, None, Option, Some, refl, slice_get, slice_set, subst, ℕ, ◌≡◌}
+use Rattle.std.proofs.Common.{IfSome, List, None, Option, Some, length, refl, slice_get, slice_set, subst, ℕ, ◌-◌, ◌≡◌}
 
--- how a node is changed by the steps at an end
+-- an event of a round: no packet is sent, and no command is given
+abbrev pub IsOfRound : Event → Type 0
+IsOfRound (event.Send t p) = ⊥
+IsOfRound (event.Control s bytes) = ⊥
+IsOfRound e = Unit {0}
+
+-- an act of such an event
+abbrev IsPlainAct : {A : Type 0} → ActOf A → Type 0
+IsPlainAct (act.Step (action.Control bytes)) = ⊥
+IsPlainAct (act.Send packet) = ⊥
+IsPlainAct a = Unit {0}
+
+abbrev ArePlain : {A : Type 0} → Acts A → Type 0
+ArePlain (Acts.Alone k a) = IsPlainAct a
+ArePlain (Acts.Joint p q crossing) = Unit {0}
+
+module _ (A : Type 0) where
+  crossing_plain : (crossing : Crossing) (p : Port) (o : Option Port) → IfSome (crossing_acts {A = A} crossing p o) ArePlain
+  crossing_plain crossing p None = tt
+  crossing_plain crossing p (Some q) = tt
+
+  event_plain : (plan : Plan) (e : Event) → IsOfRound e → IfSome (event_acts {A = A} plan e) ArePlain
+  event_plain plan (event.Cross p) of = crossing_plain Token p (peer plan p)
+  event_plain plan (event.Credit p) of = crossing_plain Grant p (peer plan p)
+  event_plain plan (event.Send t packet) of = absurd of
+  event_plain plan (event.Control s bytes) of = absurd of
+  event_plain plan e of = tt
+
+-- how a node is changed by the steps of a round's events
 module _ {A : Type 0} (kind : Kind A) (Changed : Node A → Node A → Type 0)
     (leaves : (l : ℕ) (n : Node A) (r : A × Node A) → node_leave l n ≡ Some r → Changed n r.1) (enters : (x : A) (l : ℕ) (n m : Node A) → node_enter x l n ≡ Some m → Changed n m)
-    (grants : (l : ℕ) (n m : Node A) → node_credit_out l n ≡ Some m → Changed n m) (gains : (l : ℕ) (n m : Node A) → node_credit_in l n ≡ Some m → Changed n m) where
+    (grants : (l : ℕ) (n m : Node A) → node_credit_out l n ≡ Some m → Changed n m) (gains : (l : ℕ) (n m : Node A) → node_credit_in l n ≡ Some m → Changed n m)
+    (turns : (l word : ℕ) (n m : Node A) → node_input kind l word n ≡ Some m → Changed n m) (claims : (i o : ℕ) (n m : Node A) → node_claim i o n ≡ Some m → Changed n m)
+    (drains : (n : Node A) (r : A × Node A) → node_drain n ≡ Some r → Changed n r.1) where
   by_done : (n : Node A) (made : Option (Node A)) (r : ReplyOf A × Node A) → done_by made ≡ Some r → ((m : Node A) → made ≡ Some m → Changed n m) → Changed n r.1
   by_done n None r is keeps = absurd (cc)
   by_done n (Some m) r is keeps = let same : ◌≡◌ {A = ReplyOf A × Node A} (reply.Done, m) r = cc in subst (λ (z : ReplyOf A × Node A). Changed n z.1) same (keeps m refl)
@@ -30,51 +65,52 @@ module _ {A : Type 0} (kind : Kind A) (Changed : Node A → Node A → Type 0)
   by_token n None r is keeps = absurd (cc)
   by_token n (Some v) r is keeps = let same : ◌≡◌ {A = ReplyOf A × Node A} (reply.Token v.0, v.1) r = cc in subst (λ (z : ReplyOf A × Node A). Changed n z.1) same (keeps v refl)
 
-  near_keeps : (crossing : Crossing) (p : Port) (n : Node A) (r : ReplyOf A × Node A) → node_act kind 0 (near_act crossing p) n ≡ Some r → Changed n r.1
-  near_keeps Token (port.Switch s l) (node.Switch x) r is = by_token (node.Switch x) (node_leave l (node.Switch x)) r is (leaves l (node.Switch x))
-  near_keeps Token (port.Switch s l) (node.Terminal x) r is = absurd (cc)
-  near_keeps Token (port.Terminal t) (node.Switch x) r is = absurd (cc)
-  near_keeps Token (port.Terminal t) (node.Terminal x) r is = by_token (node.Terminal x) (node_leave 0 (node.Terminal x)) r is (leaves 0 (node.Terminal x))
-  near_keeps Grant (port.Switch s l) (node.Switch x) r is = by_done (node.Switch x) (node_credit_out l (node.Switch x)) r is (grants l (node.Switch x))
-  near_keeps Grant (port.Switch s l) (node.Terminal x) r is = absurd (cc)
-  near_keeps Grant (port.Terminal t) (node.Switch x) r is = absurd (cc)
-  near_keeps Grant (port.Terminal t) (node.Terminal x) r is = by_done (node.Terminal x) (node_credit_out 0 (node.Terminal x)) r is (grants 0 (node.Terminal x))
+  act_keeps : (number : ℕ) (a : ActOf A) → IsPlainAct a → (n : Node A) (r : ReplyOf A × Node A) → node_act kind number a n ≡ Some r → Changed n r.1
+  act_keeps number (act.Step (action.Enter l x)) plain (node.Switch s) r is = by_done (node.Switch s) (node_enter x l (node.Switch s)) r is (enters x l (node.Switch s))
+  act_keeps number (act.Step (action.Leave l)) plain (node.Switch s) r is = by_token (node.Switch s) (node_leave l (node.Switch s)) r is (leaves l (node.Switch s))
+  act_keeps number (act.Step (action.CreditOut l)) plain (node.Switch s) r is = by_done (node.Switch s) (node_credit_out l (node.Switch s)) r is (grants l (node.Switch s))
+  act_keeps number (act.Step (action.CreditIn l)) plain (node.Switch s) r is = by_done (node.Switch s) (node_credit_in l (node.Switch s)) r is (gains l (node.Switch s))
+  act_keeps number (act.Step (action.Input l word)) plain (node.Switch s) r is = by_done (node.Switch s) (node_input kind l word (node.Switch s)) r is (turns l word (node.Switch s))
+  act_keeps number (act.Step (action.Claim i o)) plain (node.Switch s) r is = by_done (node.Switch s) (node_claim i o (node.Switch s)) r is (claims i o (node.Switch s))
+  act_keeps number (act.Step (action.Control bytes)) plain n r is = absurd plain
+  act_keeps number (act.Send packet) plain n r is = absurd plain
+  act_keeps number act.Drain plain n r is = by_token n (node_drain n) r is (drains n)
+  act_keeps number act.Leave plain (node.Terminal t) r is = by_token (node.Terminal t) (node_leave 0 (node.Terminal t)) r is (leaves 0 (node.Terminal t))
+  act_keeps number (act.Enter x) plain (node.Terminal t) r is = by_done (node.Terminal t) (node_enter x 0 (node.Terminal t)) r is (enters x 0 (node.Terminal t))
+  act_keeps number act.CreditOut plain (node.Terminal t) r is = by_done (node.Terminal t) (node_credit_out 0 (node.Terminal t)) r is (grants 0 (node.Terminal t))
+  act_keeps number act.CreditIn plain (node.Terminal t) r is = by_done (node.Terminal t) (node_credit_in 0 (node.Terminal t)) r is (gains 0 (node.Terminal t))
+  act_keeps number a plain n r is = absurd (cc is)
 
-  enter_keeps : (x : A) (q : Port) (n : Node A) (r : ReplyOf A × Node A) → node_act kind 0 (port_enter x q) n ≡ Some r → Changed n r.1
-  enter_keeps x (port.Switch s l) (node.Switch y) r is = by_done (node.Switch y) (node_enter x l (node.Switch y)) r is (enters x l (node.Switch y))
-  enter_keeps x (port.Switch s l) (node.Terminal y) r is = absurd (cc)
-  enter_keeps x (port.Terminal t) (node.Switch y) r is = absurd (cc)
-  enter_keeps x (port.Terminal t) (node.Terminal y) r is = by_done (node.Terminal y) (node_enter x 0 (node.Terminal y)) r is (enters x 0 (node.Terminal y))
+  near_plain : (crossing : Crossing) (p : Port) → IsPlainAct {A = A} (near_act crossing p)
+  near_plain Token (port.Switch s l) = tt
+  near_plain Grant (port.Switch s l) = tt
+  near_plain crossing p = tt
 
-  gain_keeps : (q : Port) (n : Node A) (r : ReplyOf A × Node A) → node_act kind 0 (port_credit_in q) n ≡ Some r → Changed n r.1
-  gain_keeps (port.Switch s l) (node.Switch y) r is = by_done (node.Switch y) (node_credit_in l (node.Switch y)) r is (gains l (node.Switch y))
-  gain_keeps (port.Switch s l) (node.Terminal y) r is = absurd (cc)
-  gain_keeps (port.Terminal t) (node.Switch y) r is = absurd (cc)
-  gain_keeps (port.Terminal t) (node.Terminal y) r is = by_done (node.Terminal y) (node_credit_in 0 (node.Terminal y)) r is (gains 0 (node.Terminal y))
-
-  far_keeps : (q : Port) (told : ReplyOf A) (n : Node A) (r : ReplyOf A × Node A) → node_act kind 0 (far_act q told) n ≡ Some r → Changed n r.1
-  far_keeps q reply.Done n r is = gain_keeps q n r is
-  far_keeps q reply.NotReady n r is = gain_keeps q n r is
-  far_keeps q (reply.Token x) n r is = enter_keeps x q n r is
-  far_keeps q (reply.Control bytes) n r is = gain_keeps q n r is
+  far_plain : (q : Port) (told : ReplyOf A) → IsPlainAct (far_act q told)
+  far_plain (port.Switch s l) (reply.Token x) = tt
+  far_plain (port.Terminal t) (reply.Token x) = tt
+  far_plain q told = tt
 
   -- what such a change at a place keeps of all nodes
   module _ (Holds : List (Node A) → Type 0) (sets : (nodes : List (Node A)) (k : ℕ) (n m : Node A) → slice_get nodes k ≡ Some n → Changed n m → Holds nodes → Holds (slice_set nodes k m)) where
-    joint_keeps : (near far : ℕ) (p q : Port) (crossing : Crossing) (nodes : List (Node A)) (r : ReplyOf A × List (Node A)) → joint_step kind near far p q crossing nodes ≡ Some r → Holds nodes → Holds r.1
-    joint_keeps near far p q crossing nodes r is holds =
-        given (nodes_act kind nodes near 0 (near_act crossing p)) _ r is (λ v gone more.
-        given (nodes_act kind v.1 far 0 (far_act q v.0)) _ r more (λ w came last.
-        from_place_made nodes near (node_act kind 0 (near_act crossing p)) v gone (λ n y here made set.
-        from_place_made v.1 far (node_act kind 0 (far_act q v.0)) w came (λ m z there went put.
-        (let first : Holds v.1 = subst (λ (t : ReplyOf A × List (Node A)). Holds t.1) set (sets nodes near n y.1 here (near_keeps crossing p n y made) holds) in
-        let second : Holds w.1 = subst (λ (t : ReplyOf A × List (Node A)). Holds t.1) put (sets v.1 far m z.1 there (far_keeps q v.0 m z went) first) in
-        let same : ◌≡◌ {A = ReplyOf A × List (Node A)} (v.0, w.1) r = cc in
-        subst (λ (t : ReplyOf A × List (Node A)). Holds t.1) same second)))))
+    one_keeps : (nodes : List (Node A)) (k number : ℕ) (a : ActOf A) → IsPlainAct a → (r : ReplyOf A × List (Node A)) → nodes_act kind nodes k number a ≡ Some r → Holds nodes → Holds r.1
+    one_keeps nodes k number a plain r is holds =
+        from_place_made nodes k (node_act kind number a) r is (λ n y here made set. subst (λ (t : ReplyOf A × List (Node A)). Holds t.1) set (sets nodes k n y.1 here (act_keeps number a plain n y made) holds))
 
-    -- so of an event in which something crosses from a port
-    pub crossing_keeps : (plan : Plan) (nodes : List (Node A)) (crossing : Crossing) (p : Port) (o : Option Port) (r : Reply × Network A) → (crossing_acts crossing p o >>= (λ acts. told_step kind (network_of plan nodes) (acts_step kind plan nodes acts))) ≡ Some r → Holds nodes → Holds r.1.nodes
-    crossing_keeps plan nodes crossing p None r is holds = absurd (cc)
-    crossing_keeps plan nodes crossing p (Some q) r is holds =
-        given (joint_step kind (port_place plan p) (port_place plan q) p q crossing nodes) _ r is (λ v made last.
-        (let same : ◌≡◌ {A = Reply × Network A} (plain_reply kind v.0, network_of plan v.1) r = cc in
-        subst (λ (t : Reply × Network A). Holds t.1.nodes) same (joint_keeps (port_place plan p) (port_place plan q) p q crossing nodes v made holds)))
+    acts_keep : (plan : Plan) (nodes : List (Node A)) (acts : Acts A) → ArePlain acts → (r : ReplyOf A × List (Node A)) → acts_step kind plan nodes acts ≡ Some r → Holds nodes → Holds r.1
+    acts_keep plan nodes (Acts.Alone k a) plain r is holds = one_keeps nodes k (k - length plan.switches) a plain r is holds
+    acts_keep plan nodes (Acts.Joint p q crossing) plain r is holds =
+        given (nodes_act kind nodes (port_place plan p) 0 (near_act crossing p)) _ r is (λ v gone more.
+        given (nodes_act kind v.1 (port_place plan q) 0 (far_act q v.0)) _ r more (λ w came last.
+        (let same : ◌≡◌ {A = ReplyOf A × List (Node A)} (v.0, w.1) r = cc in
+        subst (λ (t : ReplyOf A × List (Node A)). Holds t.1) same
+        (one_keeps v.1 (port_place plan q) 0 (far_act q v.0) (far_plain q v.0) w came (one_keeps nodes (port_place plan p) 0 (near_act crossing p) (near_plain crossing p) v gone holds)))))
+
+    -- so an event of a round keeps it
+    pub round_keeps : (plan : Plan) (nodes : List (Node A)) (e : Event) → IsOfRound e → (r : Reply × Network A) → network_step kind (network_of plan nodes) e ≡ Some r → Holds nodes → Holds r.1.nodes
+    round_keeps plan nodes e of r is holds =
+        given (event_acts plan e) _ r is (λ acts known more.
+        given (acts_step kind plan nodes acts) _ r more (λ v made last.
+        (let plain : ArePlain acts = subst (λ (o : Option (Acts A)). IfSome o ArePlain) known (event_plain A plan e of) in
+        let same : ◌≡◌ {A = Reply × Network A} (plain_reply kind v.0, network_of plan v.1) r = cc in
+        subst (λ (t : Reply × Network A). Holds t.1.nodes) same (acts_keep plan nodes acts plain v made holds))))

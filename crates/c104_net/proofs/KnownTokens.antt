@@ -1,6 +1,6 @@
 -- In a run from a start whose traces are within their limit, each terminator that arrives tells its packet, and in numbers
 -- that its eight bytes have room for. So what is kept of it tells the same packet.
-use Rattle.std.proofs.Common.{◌≡◌, ◌∙◌, ◌≤◌, ◌<◌, ◌%◌, ◌++◌, ℕ, suc, zero, true, List, [], ◌∷◌, Some, None, Result, Ok, length, map, slice_get, refl, sym, ap, subst, arith}
+use Rattle.std.proofs.Common.{◌≡◌, ◌∙◌, ◌≤◌, ◌<◌, ◌%◌, ◌++◌, ℕ, suc, true, List, [], ◌∷◌, Some, None, Result, Ok, length, map, slice_get, refl, sym, ap, subst, arith}
 use Rattle.std.proofs.lemmas.Bool.{true≢false}
 use Rattle.std.proofs.lemmas.Option.{slice_get-map}
 use Rattle.std.specs.Option.{option_map}
@@ -40,7 +40,7 @@ use Rattle.c104_net.proofs.SentCounts.{bounded_on, counts, low_number, sent_coun
 use Rattle.c104_run.proofs.NodeMaps.{starts_same}
 use Rattle.c104_run.proofs.StepMaps.{apply_alike, IsSentAlike}
 use Rattle.c104_run.proofs.NoFaults.{node_there}
-use Rattle.c104_net.proofs.SureOrigins.{sure_sent}
+use Rattle.c104_net.proofs.SureOrigins.{mapped, sure_sent}
 
 -- a token with what is known of it
 abbrev pub Known : Type 0
@@ -93,12 +93,6 @@ sent_alike t n j x terminal number =
 
 -- what an event of such a run sends has small numbers
 alike : (net : Network Known) (e : Event) (r : Reply) (stamp : Stamp) (rest : List Deed) → length net.plan.terminals ≤ 65536 → event_fault net.plan e ≡ None → is_ready r ≡ true → IsBounded (counts (map (map_node known_of) net.nodes)) (event_deeds net.plan stamp e r ++ rest) → IsSentAlike known_of known_kind traced_kind plain_known random_known net e
-alike net (event.Cross p) r stamp rest few possible ready bound = tt
-alike net (event.Credit p) r stamp rest few possible ready bound = tt
-alike net (event.Input s l word) r stamp rest few possible ready bound = tt
-alike net (event.Claim s i o) r stamp rest few possible ready bound = tt
-alike net (event.Control s bytes) r stamp rest few possible ready bound = tt
-alike net (event.Drain t) r stamp rest few possible ready bound = tt
 alike net (event.Send t packet) r stamp rest few possible ready bound = λ T at j x.
     let inside : t < length net.plan.terminals = node_there _ (length net.plan.terminals) t possible in
     let there : slice_get (counts (map (map_node known_of) net.nodes)) (terminal_place net.plan t) ≡ Some (length T.sent) =
@@ -106,6 +100,7 @@ alike net (event.Send t packet) r stamp rest few possible ready bound = λ T at 
     ∙ ap (option_map sent_count) (slice_get-map (map_node known_of) net.nodes (terminal_place net.plan t) ∙ ap (option_map (map_node known_of)) at) in
     let low = low_number net.plan t packet stamp r (counts (map (map_node known_of) net.nodes)) rest (length T.sent) ready bound there in
     sent_alike t (length T.sent) j x (omega (arith, inside, few)) (omega (arith, low))
+alike net e r stamp rest few possible ready bound = tt
 
 -- a run whose entries are within their limit is one of tokens of which it is known
 known_run : (net : Network Known) (ended : Network Traced) (stamps : ℕ → Stamp) (n : ℕ) (events : List (Event × Reply)) → length net.plan.terminals ≤ 65536 → IsBounded (counts (map (map_node known_of) net.nodes)) (run_deeds net.plan stamps n events) → IsDoneRun traced_kind (map_network known_of net) events ended → (last : Network Known) × (map_network known_of last ≡ ended)
@@ -127,14 +122,10 @@ known_run net ended stamps n (e ∷ events) few bound is =
     (subst (λ n. IsDoneRun traced_kind n events ended) next is.3)
 
 all_sure : (l : List Known) → AreSure (map known_of l)
-all_sure [] k x e = absurd (let no : ⊥ = cc in no)
-all_sure (y ∷ l) zero x e = let d : y.0 ≡ x = cc in subst IsSure d y.1
-all_sure (y ∷ l) (suc k) x e = all_sure l k x e
+all_sure l k x e = let one = mapped known_of l k x e in subst IsSure one.2 one.0.1
 
 all_small : (l : List Known) (k : ℕ) (x : Traced) → slice_get (map known_of l) k ≡ Some x → IsSmall x
-all_small [] k x e = absurd (let no : ⊥ = cc in no)
-all_small (y ∷ l) zero x e = let d : y.0 ≡ x = cc in subst IsSmall d y.2
-all_small (y ∷ l) (suc k) x e = all_small l k x e
+all_small l k x e = let one = mapped known_of l k x e in subst IsSmall one.2 one.0.2
 
 -- the packets that the terminators at a terminal tell
 abbrev pub tagged_lists : Terminal TaggedToken → List Origin

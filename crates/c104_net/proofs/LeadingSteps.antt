@@ -9,15 +9,4 @@ use Rattle.c104_switch.specs.declared.actions.ActionOf.TheVariants as action
 -- whether an act leads is told by the act alone
 pub leads_any : (switches k : ℕ) (a : ActOf Token) → is_some (act_event switches k a) ≡ leads a
 leads_any switches k (act.Step (action.Enter l x)) = refl
-leads_any switches k (act.Step (action.Leave l)) = refl
-leads_any switches k (act.Step (action.CreditOut l)) = refl
-leads_any switches k (act.Step (action.CreditIn l)) = refl
-leads_any switches k (act.Step (action.Input l word)) = refl
-leads_any switches k (act.Step (action.Claim i o)) = refl
-leads_any switches k (act.Step (action.Control bytes)) = refl
-leads_any switches k (act.Send packet) = refl
-leads_any switches k act.Drain = refl
-leads_any switches k act.Leave = refl
-leads_any switches k (act.Enter x) = refl
-leads_any switches k act.CreditOut = refl
-leads_any switches k act.CreditIn = refl
+leads_any switches k a = refl

@@ -22,9 +22,8 @@ use Rattle.c104_node.proofs.NextTokens.{leave_some}
 -- a node is of the kind of a port
 abbrev pub Matches : {A : Type 0} → Port → Node A → Type 0
 Matches (port.Switch s l) (node.Switch S) = Unit {0}
-Matches (port.Switch s l) (node.Terminal T) = ⊥
-Matches (port.Terminal t) (node.Switch S) = ⊥
 Matches (port.Terminal t) (node.Terminal T) = Unit {0}
+Matches p n = ⊥
 
 module _ {A : Type 0} (plan : Plan) where
   -- what an event on terminals and buffers leaves as it is
@@ -97,13 +96,12 @@ module _ {A : Type 0} (plan : Plan) (nodes : List (Node A)) where
       let d : node.Switch T ≡ n' = cc in
       let came : b.items ≡ ins plan nodes (port.Switch s l) ++ x ∷ [] = enter_some x p.buffer b eb ∙ ap (λ z. z ++ x ∷ []) (sym (rw (e, ep) refl)) in
       subst (λ k. SameBut plan nodes (slice_set nodes s k) (at (ins plan nodes) (port.Switch s l) (ins plan nodes (port.Switch s l) ++ x ∷ [])) (outs plan nodes)) d (subst (λ v. SameBut plan nodes (slice_set nodes s (node.Switch T)) (at (ins plan nodes) (port.Switch s l) v) (outs plan nodes)) came (input_same plan nodes s S e l p (with_buffer p b) ep refl)))))))
-  enter_same (port.Switch s l) x (node.Terminal T) n' e m f = absurd m
-  enter_same (port.Terminal t) x (node.Switch S) n' e m f = absurd m
   enter_same (port.Terminal t) x (node.Terminal T) n' e m f =
       given (terminal_enter x T) _ n' f (λ T' f1 f2. given (incoming_accept x T.input) _ T' f1 (λ b eb g2.
       (let d : node.Terminal (with_input T b) ≡ n' = cc in
       let came : b.items ≡ ins plan nodes (port.Terminal t) ++ x ∷ [] = enter_some x T.input b eb ∙ ap (λ z. z ++ x ∷ []) (sym (rw e refl)) in
       subst (λ k. SameBut plan nodes (slice_set nodes (terminal_place plan t) k) (at (ins plan nodes) (port.Terminal t) (ins plan nodes (port.Terminal t) ++ x ∷ [])) (outs plan nodes)) d (subst (λ v. SameBut plan nodes (slice_set nodes (terminal_place plan t) (node.Terminal (with_input T b))) (at (ins plan nodes) (port.Terminal t) v) (outs plan nodes)) came (input_same_t plan nodes t T e b)))))
+  enter_same P x n n' e m f = absurd m
 
   pub leave_same : (P : Port) (n : Node A) (r : A × Node A) → slice_get nodes (end_of plan P).node ≡ Some n → Matches P n → node_leave (end_of plan P).link n ≡ Some r →
       (rest : List A) × (outs plan nodes P ≡ r.0 ∷ rest) × SameBut plan nodes (slice_set nodes (end_of plan P).node r.1) (ins plan nodes) (at (outs plan nodes) P rest)
@@ -115,8 +113,6 @@ module _ {A : Type 0} (plan : Plan) (nodes : List (Node A)) where
       let out : outs plan nodes (port.Switch s l) ≡ y.0 ∷ y.1.items = rw (e, eq) (leave_some q y ey) in
       let w : (outs plan nodes (port.Switch s l) ≡ r.0 ∷ y.1.items) × SameBut plan nodes (slice_set nodes s r.1) (ins plan nodes) (at (outs plan nodes) (port.Switch s l) y.1.items) = subst (λ (z : A × Node A). (outs plan nodes (port.Switch s l) ≡ z.0 ∷ y.1.items) × SameBut plan nodes (slice_set nodes s z.1) (ins plan nodes) (at (outs plan nodes) (port.Switch s l) y.1.items)) d (out, output_same plan nodes s S e l q y.1 eq) in
       (y.1.items, w.0, w.1)))))
-  leave_same (port.Switch s l) (node.Terminal T) r e m f = absurd m
-  leave_same (port.Terminal t) (node.Switch S) r e m f = absurd m
   leave_same (port.Terminal t) (node.Terminal T) r e m f =
       given (terminal_leave T) _ r f (λ v f1 f2. given (outgoing_emit T.output) _ v f1 (λ y ey g2.
       (let d1 : ◌≡◌ {A = A × Terminal A} (y.0, with_output T y.1) v = cc in
@@ -124,6 +120,7 @@ module _ {A : Type 0} (plan : Plan) (nodes : List (Node A)) where
       let out : outs plan nodes (port.Terminal t) ≡ y.0 ∷ y.1.items = rw e (leave_some T.output y ey) in
       let w : (outs plan nodes (port.Terminal t) ≡ r.0 ∷ y.1.items) × SameBut plan nodes (slice_set nodes (terminal_place plan t) r.1) (ins plan nodes) (at (outs plan nodes) (port.Terminal t) y.1.items) = subst (λ (z : A × Node A). (outs plan nodes (port.Terminal t) ≡ z.0 ∷ y.1.items) × SameBut plan nodes (slice_set nodes (terminal_place plan t) z.1) (ins plan nodes) (at (outs plan nodes) (port.Terminal t) y.1.items)) d (out, output_same_t plan nodes t T e y.1) in
       (y.1.items, w.0, w.1))))
+  leave_same P n r e m f = absurd m
 
   pub credit_out_same : (P : Port) (n n' : Node A) → slice_get nodes (end_of plan P).node ≡ Some n → Matches P n → node_credit_out (end_of plan P).link n ≡ Some n' → SameBut plan nodes (slice_set nodes (end_of plan P).node n') (ins plan nodes) (outs plan nodes)
   credit_out_same (port.Switch s l) (node.Switch S) n' e m f =
@@ -132,13 +129,12 @@ module _ {A : Type 0} (plan : Plan) (nodes : List (Node A)) where
       let d : node.Switch T ≡ n' = cc in
       let same : at (ins plan nodes) (port.Switch s l) b.items ≡ ins plan nodes = at_id (ins plan nodes) (port.Switch s l) b.items (grant_items p.buffer b eb ∙ sym (rw (e, ep) refl)) in
       subst (λ k. SameBut plan nodes (slice_set nodes s k) (ins plan nodes) (outs plan nodes)) d (subst (λ v. SameBut plan nodes (slice_set nodes s (node.Switch T)) v (outs plan nodes)) same (input_same plan nodes s S e l p (with_buffer p b) ep refl))))))))
-  credit_out_same (port.Switch s l) (node.Terminal T) n' e m f = absurd m
-  credit_out_same (port.Terminal t) (node.Switch S) n' e m f = absurd m
   credit_out_same (port.Terminal t) (node.Terminal T) n' e m f =
       given (terminal_credit_out T) _ n' f (λ T' f1 f2. given (incoming_grant T.input) _ T' f1 (λ b eb g2.
       (let d : node.Terminal (with_input T b) ≡ n' = cc in
       let same : at (ins plan nodes) (port.Terminal t) b.items ≡ ins plan nodes = at_id (ins plan nodes) (port.Terminal t) b.items (grant_items T.input b eb ∙ sym (rw e refl)) in
       subst (λ k. SameBut plan nodes (slice_set nodes (terminal_place plan t) k) (ins plan nodes) (outs plan nodes)) d (subst (λ v. SameBut plan nodes (slice_set nodes (terminal_place plan t) (node.Terminal (with_input T b))) v (outs plan nodes)) same (input_same_t plan nodes t T e b)))))
+  credit_out_same P n n' e m f = absurd m
 
   pub credit_in_same : (P : Port) (n n' : Node A) → slice_get nodes (end_of plan P).node ≡ Some n → Matches P n → node_credit_in (end_of plan P).link n ≡ Some n' → SameBut plan nodes (slice_set nodes (end_of plan P).node n') (ins plan nodes) (outs plan nodes)
   credit_in_same (port.Switch s l) (node.Switch S) n' e m f =
@@ -147,10 +143,9 @@ module _ {A : Type 0} (plan : Plan) (nodes : List (Node A)) where
       let d : node.Switch T ≡ n' = cc in
       let same : at (outs plan nodes) (port.Switch s l) q'.items ≡ outs plan nodes = at_id (outs plan nodes) (port.Switch s l) q'.items (credited_items q q' h1 ∙ sym (rw (e, eq) refl)) in
       subst (λ k. SameBut plan nodes (slice_set nodes s k) (ins plan nodes) (outs plan nodes)) d (subst (λ v. SameBut plan nodes (slice_set nodes s (node.Switch T)) (ins plan nodes) v) same (output_same plan nodes s S e l q q' eq))))))
-  credit_in_same (port.Switch s l) (node.Terminal T) n' e m f = absurd m
-  credit_in_same (port.Terminal t) (node.Switch S) n' e m f = absurd m
   credit_in_same (port.Terminal t) (node.Terminal T) n' e m f =
       given (terminal_credit_in T) _ n' f (λ T' f1 f2. given (outgoing_credited T.output) _ T' f1 (λ q eq g2.
       (let d : node.Terminal (with_output T q) ≡ n' = cc in
       let same : at (outs plan nodes) (port.Terminal t) q.items ≡ outs plan nodes = at_id (outs plan nodes) (port.Terminal t) q.items (credited_items T.output q eq ∙ sym (rw e refl)) in
       subst (λ k. SameBut plan nodes (slice_set nodes (terminal_place plan t) k) (ins plan nodes) (outs plan nodes)) d (subst (λ v. SameBut plan nodes (slice_set nodes (terminal_place plan t) (node.Terminal (with_output T q))) (ins plan nodes) v) same (output_same_t plan nodes t T e q)))))
+  credit_in_same P n n' e m f = absurd m

@@ -7,16 +7,20 @@ use Rattle.c104_plan.specs.Wiring.{peer}
 use Rattle.c104_plan.specs.declared.ports.Port.{Port}
 use Rattle.c104_run.proofs.BalancePlaces.{switches_first}
 use Rattle.c104_run.proofs.BalanceWires.{peer_back, switch_inside}
+use Rattle.c104_run.proofs.RecordSteps.{nodes_counted}
+use Rattle.c104_run.proofs.RunRecords.{in_place}
+use Rattle.c104_node.specs.Traces.{part}
 use Rattle.c104_net.proofs.LinkActs.{Matches}
 use Rattle.c104_net.proofs.PacketInvariant.{IsWired, beside}
 use Rattle.c104_run.specs.Balance.{AreInPlace}
 use Rattle.c104_node.specs.Nodes.{is_switch, Node}
 use Rattle.c104_run.specs.Ends.{end_of}
 use Rattle.c104_run.specs.Network.{terminal_place}
-use Rattle.std.proofs.Common.{List, None, Option, Some, [], ap, arith, false, length, map, refl, replicate, slice_get, subst, suc, sym, true, zero, ℕ, ◌++◌, ◌+◌, ◌<◌, ◌∙◌, ◌∷◌, ◌≡◌}
+use Rattle.std.proofs.Common.{List, Some, ap, arith, false, inl, inr, length, nat_lt, refl, slice_get, sym, ℕ, ◌<◌, ◌∙◌, ◌≡◌}
 use Rattle.std.proofs.lemmas.Bool.{true≢false}
+use Rattle.std.proofs.lemmas.Bool.Decides.{nat_tests}
+use Rattle.std.proofs.lemmas.Option.{slice_get_cases, slice_get_within}
 use Rattle.c104_node.specs.declared.node.NodeOf.TheVariants as node
-use Rattle.c104_plan.specs.declared.plans.Terminal as plans
 use Rattle.c104_plan.specs.declared.ports.Port.TheVariants as port
 
 module _ (plan : Plan) (is_plan : IsPlan plan) where
@@ -25,35 +29,20 @@ module _ (plan : Plan) (is_plan : IsPlan plan) where
     where
       no_self : (Q R : Port) (o : ℕ) → AreApart (beside Q o) R → is_port R Q ≡ false
       no_self (port.Switch s i) (port.Switch s' i') o h = is_port-ne (port.Switch s' i') (port.Switch s i) (λ e. h (sym (cc)))
-      no_self (port.Switch s i) (port.Terminal t) o h = refl
-      no_self (port.Terminal t) (port.Switch s i) o h = refl
       no_self (port.Terminal t) (port.Terminal u) o h = absurd h
+      no_self Q R o h = refl
 
 -- what stands after the switches is terminals
-last_false : {A : Type 0} (a b t : ℕ) (nodes : List (Node A)) (n : Node A) → map is_switch nodes ≡ replicate a true ++ replicate b false → slice_get nodes (a + t) ≡ Some n → (is_switch n ≡ false) × (t < b)
-last_false zero zero t [] n e f = absurd (cc)
-last_false zero zero t (m ∷ nodes) n e f = absurd (cc)
-last_false zero (suc b) t [] n e f = absurd (cc)
-last_false zero (suc b) zero (m ∷ nodes) n e f =
-    let f' : slice_get (m ∷ nodes) 0 ≡ Some n = f in
-    let d : m ≡ n = cc in
-    let k : is_switch m ≡ false = cc in
-    (ap is_switch (sym d) ∙ k, omega arith)
-last_false zero (suc b) (suc t) (m ∷ nodes) n e f =
-    let network_step : zero + suc t ≡ suc (zero + t) = omega arith in
-    let f' : slice_get (m ∷ nodes) (suc (zero + t)) ≡ Some n = subst (λ j. slice_get (m ∷ nodes) j ≡ Some n) network_step f in
-    let r = last_false zero b t nodes n (cc) f' in
-    let u = r.1 in
-    (r.0, omega arith)
-last_false (suc a) b t [] n e f = absurd (cc)
-last_false (suc a) b t (m ∷ nodes) n e f =
-    let network_step : suc a + t ≡ suc (a + t) = omega arith in
-    let f' : slice_get (m ∷ nodes) (suc (a + t)) ≡ Some n = subst (λ j. slice_get (m ∷ nodes) j ≡ Some n) network_step f in
-    last_false a b t nodes n (cc) f'
+last_false : {A : Type 0} (plan : Plan) (nodes : List (Node A)) (t : ℕ) (n : Node A) → AreInPlace plan nodes → slice_get nodes (terminal_place plan t) ≡ Some n → (is_switch n ≡ false) × (t < length plan.terminals)
+last_false plan nodes t n placed at =
+    let behind : nat_lt (terminal_place plan t) (length plan.switches) ≡ false = grind (arith, nat_tests) in
+    let counted = nodes_counted plan nodes placed in
+    let within = slice_get_within nodes (terminal_place plan t) n at in
+    (sym (ap (part false is_switch) at) ∙ in_place plan nodes placed (terminal_place plan t) ∙ behind, omega (arith, counted, within))
 
 module _ {A : Type 0} (plan : Plan) (is_plan : IsPlan plan) (nodes : List (Node A)) (placed : AreInPlace plan nodes) where
   matches_terminal : (t : ℕ) (n : Node A) → slice_get nodes (terminal_place plan t) ≡ Some n → Matches (port.Terminal t) n
-  matches_terminal t (node.Switch S) e = true≢false (last_false (length plan.switches) (length plan.terminals) t nodes (node.Switch S) placed e).0
+  matches_terminal t (node.Switch S) e = true≢false (last_false plan nodes t (node.Switch S) placed e).0
   matches_terminal t (node.Terminal T) e = tt
 
   matches_switch : (s l : ℕ) (n : Node A) → s < length plan.switches → slice_get nodes s ≡ Some n → Matches (port.Switch s l) n
@@ -67,13 +56,9 @@ module _ {A : Type 0} (plan : Plan) (is_plan : IsPlan plan) (nodes : List (Node 
 
   -- a terminal's node is one of a terminal of the plan, which has a wire to a switch
   pub host_of : (t : ℕ) (n : Node A) → slice_get nodes (terminal_place plan t) ≡ Some n → (s : ℕ) × (i : ℕ) × (peer plan (port.Terminal t) ≡ Some (port.Switch s i))
-  host_of t n e = by_terminal (slice_get plan.terminals t) refl
-    where
-      by_terminal : (o : Option plans.Terminal) → slice_get plan.terminals t ≡ o → (s : ℕ) × (i : ℕ) × (peer plan (port.Terminal t) ≡ Some (port.Switch s i))
-      by_terminal (Some x) k = (x.switch, x.link, (wiring plan is_plan).host t x k)
-      by_terminal None k = absurd (some_inside plan.terminals t (last_false (length plan.switches) (length plan.terminals) t nodes n placed e).1 k)
-        where
-          some_inside : (ts : List plans.Terminal) (j : ℕ) → j < length ts → slice_get ts j ≡ None → ⊥
-          some_inside [] j h z = omega arith
-          some_inside (y ∷ ts) zero h z = cc
-          some_inside (y ∷ ts) (suc j) h z = some_inside ts j (omega arith) z
+  host_of t n e =
+      let inside = (last_false plan nodes t n placed e).1 in
+      elim (slice_get_cases plan.terminals t).1 [
+        | inl found ↦ (found.0.switch, found.0.link, (wiring plan is_plan).host t found.0 found.2)
+        | inr past ↦ absurd (omega (arith, inside, past.0))
+      ]

@@ -1,26 +1,14 @@
 -- Events that lead from one network to another.
 use Rattle.c104_event.specs.declared.events.Event.{Event}
-use Rattle.c104_event.specs.declared.faults.EventFault.{EventFault}
-use Rattle.c104_event.specs.declared.faults.EventFault.TheVariants as fault
 use Rattle.c104_node.proofs.Waiting.{drop_there}
-use Rattle.c104_run.specs.Network.{AnswersEvent, Network}
+use Rattle.c104_run.specs.Network.{Network}
 use Rattle.c104_net.specs.Replays.{LeadTo}
 use Rattle.c104_net.specs.ToldEvents.{told_event}
-use Rattle.c104_node.specs.Traced.{traced_kind}
 use Rattle.c104_node.specs.declared.traced.Traced.{Traced}
 use Rattle.c104_net.specs.declared.leading.Lead.{Lead}
-use Rattle.c104_switch.specs.Actions.{Reply}
-use Rattle.std.proofs.Common.{Err, List, Ok, Result, Some, [], ap, arith, drop, inl, inr, map, refl, slice_get, subst, suc, sym, ℕ, ◌+◌, ◌∙◌, ◌∷◌, ◌≡◌}
+use Rattle.std.proofs.Common.{List, Some, [], arith, drop, map, slice_get, subst, suc, sym, ℕ, ◌+◌, ◌∷◌, ◌≡◌}
 
--- an event that is answered leads on
-pub one_led : (net next : Network Traced) (e : Event) (r : Reply) (told : Result Reply EventFault) → AnswersEvent traced_kind net e told next → told ≡ Ok r → LeadTo net (e ∷ []) next
-one_led net next e r told (inl due) is = (r, next, ap (λ (t : Result Reply EventFault). pair t next) (sym is) ∙ due, refl)
-  where
-    pair : Result Reply EventFault → Network Traced → Result Reply EventFault × Network Traced
-    pair t n = (t, n)
-one_led net next e r told (inr refused) is = absurd (let no : Ok r ≡ Err fault.NoMemory = sym is ∙ refused.0 in cc)
-
--- and so do others behind it
+-- an event that leads on, and others behind it
 pub led_on : (net next ended : Network Traced) (e : Event) (events : List Event) → LeadTo net (e ∷ []) next → LeadTo next events ended → LeadTo net (e ∷ events) ended
 led_on net next ended e events one rest = (one.0, one.1, one.2, subst (λ n. LeadTo n events ended) one.3 rest)
 

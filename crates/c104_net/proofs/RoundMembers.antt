@@ -1,9 +1,11 @@
--- Which events a round has.
+-- Which events a round has, and what holds of them all.
 use Rattle.c104_plan.specs.Plans.{IsPlan, Plan}
 use Rattle.c104_plan.specs.Wiring.{peer}
 use Rattle.c104_plan.specs.declared.ports.Port.{Port}
 use Rattle.c104_event.specs.declared.events.Event.{Event}
 use Rattle.c104_run.proofs.BalanceWires.{switch_inside, terminal_inside}
+use Rattle.c104_plan.proofs.RangeLists.{each_append, each_flat, each_range}
+use Rattle.c104_run.proofs.PartRuns.{single, singles}
 use Rattle.c104_run.proofs.RoundLists.{links_passed}
 use Rattle.c104_run.specs.Network.{Network}
 use Rattle.c104_run.specs.Rounds.{all_claims, all_drains, claims_of, is_wired, link_numbers, round, switch_claims, turn_at, wired_links}
@@ -11,10 +13,11 @@ use Rattle.c104_run.specs.Rounds.{wired_ports, wired_terminals}
 use Rattle.c104_run.specs.Standstill.{StandsStill, IsStill, IsUnready}
 use Rattle.c104_token.specs.Kinds.{Kind}
 use Rattle.std.specs.Prelude.{Contains}
-use Rattle.std.specs.List.{flat_map, range_with_len}
-use Rattle.std.proofs.Common.{Bool, List, Some, [], ap, arith, false, filter, if◌then◌else◌, inl, inr, is_some, length, map, refl, subst}
+use Rattle.std.specs.List.{AllByRecursion, flat_map, range_with_len}
+use Rattle.std.proofs.Common.{Bool, List, None, Option, Some, [], ap, arith, false, filter, if◌then◌else◌, inl, inr, is_some, length, map, refl, subst}
 use Rattle.std.proofs.Common.{suc, sym, true, zero, ℕ, ⊎_elim, ◌++◌, ◌+◌, ◌<◌, ◌∙◌, ◌∷◌, ◌≡◌, ◌≤◌, ◌≢◌, ◌⊎◌}
 use Rattle.std.proofs.lemmas.Bool.{cases_eq}
+use Rattle.std.proofs.lemmas.Grind.{flat_map-append}
 use Rattle.std.proofs.lemmas.List.Elements.{All-contains}
 use Rattle.c104_plan.specs.declared.ports.Port.TheVariants as port
 use Rattle.c104_event.specs.declared.events.Event.TheVariants as event
@@ -111,6 +114,48 @@ module _ (plan : Plan) (is_plan : IsPlan plan) where
   pub drain_in : (t : ℕ) → t < length plan.terminals → IsIn (event.Drain t) (round plan)
   drain_in t inside = in_right (event.Drain t) (credits ++ crosses ++ turns ++ claims) drains
       (in_map event.Drain t (range_with_len 0 (length plan.terminals)) (in_range 0 (length plan.terminals) t (omega arith) (omega (arith, inside))))
+
+-- what holds of each kind of event that a round has holds of all its events
+module _ (plan : Plan) (P : Event → Type 0) where
+  joined : (events_of : Port → List Event) (xs ys : List Port) → AllByRecursion P (flat_map events_of xs) → AllByRecursion P (flat_map events_of ys) → AllByRecursion P (flat_map events_of (xs ++ ys))
+  joined events_of xs ys a b = subst (AllByRecursion P) (sym (flat_map-append events_of xs ys)) (each_append P (flat_map events_of xs) (flat_map events_of ys) a b)
+
+  -- a part of a round, port by port
+  module _ (events_of : Port → List Event) (each : (p q : Port) → peer plan p ≡ Some q → AllByRecursion P (events_of p)) where
+    each_port : (ps : List Port) → AllByRecursion P (flat_map events_of (filter (is_wired plan) ps))
+    each_port [] = tt
+    each_port (p ∷ ps) = by_wire (peer plan p) refl (each_port ps)
+      where
+        by_wire : (o : Option Port) → peer plan p ≡ o → AllByRecursion P (flat_map events_of (filter (is_wired plan) ps)) → AllByRecursion P (flat_map events_of (if is_some o then p ∷ filter (is_wired plan) ps else filter (is_wired plan) ps))
+        by_wire None none rest = rest
+        by_wire (Some q) wire rest = each_append P (events_of p) (flat_map events_of (filter (is_wired plan) ps)) (each p q wire) rest
+
+    each_switch : (ss : List ℕ) → AllByRecursion P (flat_map events_of (flat_map (wired_links plan) ss))
+    each_switch [] = tt
+    each_switch (s ∷ ss) = joined events_of (wired_links plan s) (flat_map (wired_links plan) ss) (each_port (map (port.Switch s) link_numbers)) (each_switch ss)
+
+    each_wired : AllByRecursion P (flat_map events_of (wired_ports plan))
+    each_wired = joined events_of (flat_map (wired_links plan) (range_with_len 0 (length plan.switches))) (wired_terminals plan) (each_switch (range_with_len 0 (length plan.switches))) (each_port (map port.Terminal (range_with_len 0 (length plan.terminals))))
+
+  each_turn : ((s l : ℕ) (q : Port) → peer plan (port.Switch s l) ≡ Some q → P (event.Input s l 0)) → (p q : Port) → peer plan p ≡ Some q → AllByRecursion P (turn_at p)
+  each_turn of_turn (port.Switch s l) q wire = (of_turn s l q wire, tt)
+  each_turn of_turn (port.Terminal t) q wire = tt
+
+  pub each_of_round : ((p q : Port) → peer plan p ≡ Some q → P (event.Credit p)) → ((p q : Port) → peer plan p ≡ Some q → P (event.Cross p)) → ((s l : ℕ) (q : Port) → peer plan (port.Switch s l) ≡ Some q → P (event.Input s l 0)) →
+      ((s i o : ℕ) → s < length plan.switches → i < 32 → o < 32 → P (event.Claim s i o)) → ((t : ℕ) → t < length plan.terminals → P (event.Drain t)) → AllByRecursion P (round plan)
+  each_of_round of_credit of_cross of_turn of_claim of_drain =
+      let a : List Event = map event.Credit (wired_ports plan) in
+      let b : List Event = map event.Cross (wired_ports plan) in
+      let c : List Event = flat_map turn_at (wired_ports plan) in
+      let d : List Event = all_claims (length plan.switches) in
+      let e : List Event = all_drains (length plan.terminals) in
+      let each_credit : AllByRecursion P a = subst (AllByRecursion P) (singles event.Credit (wired_ports plan)) (each_wired (single event.Credit) (λ p q wire. (of_credit p q wire, tt))) in
+      let each_cross : AllByRecursion P b = subst (AllByRecursion P) (singles event.Cross (wired_ports plan)) (each_wired (single event.Cross) (λ p q wire. (of_cross p q wire, tt))) in
+      let each_claim : AllByRecursion P d = each_flat P switch_claims 0 (length plan.switches) (λ s inside.
+      subst (λ ns. AllByRecursion P (flat_map (claims_of s) ns)) (links_passed 32 refl) (each_flat P (claims_of s) 0 32 (λ i input.
+      subst (λ ns. AllByRecursion P (map (event.Claim s i) ns)) (links_passed 32 refl) (each_range P (event.Claim s i) 0 32 (λ o low output. of_claim s i o (omega (arith, inside)) (omega (arith, input)) (omega (arith, output))))))) in
+      let each_drain : AllByRecursion P e = each_range P event.Drain 0 (length plan.terminals) (λ t low inside. of_drain t (omega (arith, inside))) in
+      each_append P (a ++ b ++ c ++ d) e (each_append P (a ++ b ++ c) d (each_append P (a ++ b) c (each_append P a b each_credit each_cross) (each_wired turn_at (each_turn of_turn))) each_claim) each_drain
 
 -- what is so of each event of a round
 pub still_of : {A : Type 0} (kind : Kind A) (net : Network A) → IsPlan net.plan → StandsStill kind net → IsStill kind net

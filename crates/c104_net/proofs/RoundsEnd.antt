@@ -37,7 +37,7 @@ use Rattle.c104_switch.specs.Actions.{Reply}
 use Rattle.c104_switch.specs.Phases.{with_header}
 use Rattle.c104_switch.specs.Switch.{Input}
 use Rattle.c104_switch.specs.declared.phase.Phase.{Phase}
-use Rattle.c104_switch.specs.declared.phase.Phase.TheVariants.{Fresh, Head, Sinking, Stream, Want}
+use Rattle.c104_switch.specs.declared.phase.Phase.TheVariants.{Fresh, Head, Want}
 use Rattle.c104_token.specs.Kinds.{plain_kind}
 use Rattle.c104_token.specs.declared.tokens.Token.{Token}
 use Rattle.std.proofs.Common.{Err, List, Ok, Result, Some, [], ap, length, map, refl, subst, suc, sym, ℕ, ◌+◌, ◌-◌, ◌*◌, ◌<◌, ◌∙◌, ◌∷◌, ◌≡◌}
@@ -52,11 +52,9 @@ module _ {A B : Type 0} (f : A → B) where
   weigh_map a (x ∷ xs) = ap (λ n. a + n) (weigh_map a xs)
 
   held_map : (a : ℕ) (ph : Phase (List A)) → weigh a (header_held (with_header (map f) ph)) ≡ weigh a (header_held ph)
-  held_map a Fresh = refl
   held_map a (Head b) = weigh_map a b
   held_map a (Want b g) = weigh_map a b
-  held_map a (Stream o) = refl
-  held_map a Sinking = refl
+  held_map a ph = refl
 
   sum_map : {X Y : Type 0} (u : X → Y) (v : ℕ → Y → ℕ) (w : ℕ → X → ℕ) → ((j : ℕ) (x : X) → v j (u x) ≡ w j x) → (j : ℕ) (xs : List X) → sum_at v j (map u xs) ≡ sum_at w j xs
   sum_map u v w h j [] = refl
@@ -65,10 +63,7 @@ module _ {A B : Type 0} (f : A → B) where
   module _ (plan : Plan) (rank ahead : SwitchPort → ℕ) where
     first_map : (a : ℕ) (ph : Phase (List A)) → first_ahead plan rank ahead a (with_header (map f) ph) ≡ first_ahead plan rank ahead a ph
     first_map a Fresh = refl
-    first_map a (Head b) = refl
-    first_map a (Want b g) = refl
-    first_map a (Stream o) = refl
-    first_map a Sinking = refl
+    first_map a ph = refl
 
     incoming_map : (far a : ℕ) (b : Incoming A) → full_incoming plan rank ahead far a (map_incoming f b) ≡ full_incoming plan rank ahead far a b
     incoming_map far a b = rw (weigh_map (8 * far + 2 + a) b.items, length-map b.items f) refl

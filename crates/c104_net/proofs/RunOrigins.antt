@@ -142,14 +142,12 @@ abbrev pub terminal_origins : Terminal Traced → List Origin
 terminal_origins t = origins_in t.arrived
 
 origins_there : (found : Terminal Traced) (o : Option (Node Traced)) → ◌≡◌ {A = Option (List Traced)} (Some found.arrived) (o >>= node_arrived) → origins_in found.arrived ≡ origins_in (part [] arrived_tokens o)
-origins_there found None is = absurd (cc)
-origins_there found (Some (node.Switch s)) is = absurd (cc)
 origins_there found (Some (node.Terminal t)) is = let same : found.arrived ≡ t.arrived = cc in ap origins_in same
+origins_there found o is = absurd (cc)
 
 plain_node : (arrived : List Traced) (o : Option (Node Traced)) → ◌≡◌ {A = Option (List Traced)} (Some arrived) (o >>= node_arrived) → (option_map (map_node token_of) o >>= node_arrived) ≡ Some (map token_of (part [] arrived_tokens o))
-plain_node arrived None is = absurd (cc)
-plain_node arrived (Some (node.Switch s)) is = absurd (cc)
 plain_node arrived (Some (node.Terminal t)) is = refl
+plain_node arrived o is = absurd (cc)
 
 module _ (plan : Plan) (nodes : List (Node Traced)) (placed : AreInPlace plan nodes) where
   lists_counted : length (map terminal_origins (terminals_of nodes)) ≡ length plan.terminals

@@ -2,10 +2,8 @@
 -- number of a packet is lower than the most entries of a trace.
 use Rattle.std.proofs.Common.{◌≡◌, ◌∙◌, ◌≤◌, ◌+◌, ◌++◌, ℕ, suc, zero, Bool, true, false, All, List, [], ◌∷◌, Option, Some, None, if◌then◌else◌, inl, inr, length, length-append, map, nat_eq, option_map, slice_get, slice_set, refl, sym, ap, subst, arith}
 use Rattle.std.proofs.lemmas.Bool.{cases_eq}
-use Rattle.std.proofs.lemmas.Bool.Decides.{nat_tests}
 use Rattle.std.proofs.lemmas.List.{map-set}
 use Rattle.std.proofs.lemmas.Option.{slice_get-map}
-use Rattle.c104_token.specs.declared.tokens.Token.{Token}
 use Rattle.c104_token.specs.declared.packets.Packet.{Packet}
 use Rattle.c104_token.specs.Kinds.{Kind}
 use Rattle.c104_link.specs.Buffers as buffer
@@ -18,31 +16,26 @@ use Rattle.c104_switch.specs.Turns as turns
 use Rattle.c104_switch.specs.Claims as claims
 use Rattle.c104_switch.specs.Control as controls
 use Rattle.c104_plan.specs.Plans.{Plan}
-use Rattle.c104_plan.specs.Wiring.{peer}
-use Rattle.c104_plan.specs.declared.ports.Port.{Port}
 use Rattle.c104_event.specs.declared.events.Event.{Event}
 use Rattle.c104_event.specs.declared.events.Event.TheVariants as event
-use Rattle.c104_node.specs.declared.acts.ActOf.{ActOf}
 use Rattle.c104_node.specs.declared.acts.ActOf.TheVariants as act
 use Rattle.c104_node.specs.declared.stamps.Stamp.{Stamp}
 use Rattle.c104_node.specs.declared.acts.Entry.{Entry}
 use Rattle.c104_node.specs.declared.node.NodeOf.TheVariants.{Switch, Terminal}
 use Rattle.c104_node.specs.declared.starts.NodeStart.{NodeStart}
 use Rattle.c104_node.specs.declared.starts.NodeStart.TheVariants as start
-use Rattle.c104_run.specs.Network.{Network, network_of, network_step, terminal_place, told_step}
+use Rattle.c104_run.specs.Network.{Network, network_of, network_step, terminal_place}
 use Rattle.c104_run.specs.NetRecords.{IsWithinLimit}
-use Rattle.c104_node.specs.Nodes.{Node, node_claim, node_control, node_credit_in, node_credit_out, node_drain, node_enter, node_input, node_leave, node_send}
+use Rattle.c104_node.specs.Nodes.{Node, as_terminal, node_claim, node_control, node_credit_in, node_credit_out, node_drain, node_enter, node_input, node_leave, node_send}
 use Rattle.c104_run.specs.Runs.{at_node}
 use Rattle.c104_node.specs.Starts.{start_node}
 use Rattle.c104_node.specs.Terminals as terminal
-use Rattle.c104_node.specs.Traces.{entry_of, lone_deed, trace_limit, Deed}
+use Rattle.c104_node.specs.Traces.{trace_limit, Deed}
 use Rattle.c104_run.specs.EventDeeds.{event_deeds}
 use Rattle.c104_node.proofs.WireEnds.{get_set_other, get_set_same}
-use Rattle.c104_run.proofs.EventSteps.{claim_named, control_named, drain_named, input_named, send_named}
-use Rattle.c104_net.proofs.JointKeeps.{crossing_keeps}
-use Rattle.c104_run.specs.EventActs.{acts_step, crossing_acts}
-use Rattle.c104_node.specs.declared.crossings.Crossing.{Crossing}
-use Rattle.c104_node.specs.declared.crossings.Crossing.TheVariants as crossing
+use Rattle.c104_run.proofs.EventSteps.{control_named, send_named}
+use Rattle.c104_net.proofs.EventEntries.{lone_first}
+use Rattle.c104_net.proofs.JointKeeps.{IsOfRound, round_keeps}
 
 module _ {A : Type 0} where
   abbrev pub sent_count : Node A → ℕ
@@ -52,36 +45,40 @@ module _ {A : Type 0} where
   abbrev pub counts : List (Node A) → List ℕ
   counts nodes = map sent_count nodes
 
+  -- a terminal that has sent as much, and one of which a token comes
+  module _ {X : Type 0} (t : terminal.Terminal A) (f : X → terminal.Terminal A) (same : (x : X) → length (f x).sent ≡ length t.sent) where
+    made_same : (made : Option X) (m : Node A) → ((made >>= (λ x. Some (f x))) >>= as_terminal) ≡ Some m → sent_count m ≡ length t.sent
+    made_same None m is = cc
+    made_same (Some x) m is = let one : ◌≡◌ {A = Node A} (Terminal (f x)) m = cc in ap sent_count (sym one) ∙ same x
+
+    abbrev taken : (X → A) → X → Option (A × terminal.Terminal A)
+    taken g x = Some (g x, f x)
+
+    abbrev with_terminal : A × terminal.Terminal A → Option (A × Node A)
+    with_terminal v = Some (v.0, Terminal v.1)
+
+    yield_same : (g : X → A) (made : Option X) (r : A × Node A) → ((made >>= taken g) >>= with_terminal) ≡ Some r → sent_count r.1 ≡ length t.sent
+    yield_same g None r is = cc
+    yield_same g (Some x) r is = let one : ◌≡◌ {A = A × Node A} (g x, Terminal (f x)) r = cc in ap (λ (r : A × Node A). sent_count r.1) (sym one) ∙ same x
+
   -- each step of one node but Send keeps the number
   leave_keeps : (l : ℕ) (n : Node A) (r : A × Node A) → node_leave l n ≡ Some r → sent_count r.1 ≡ sent_count n
   leave_keeps l (Switch s) r is = given (switch.switch_leave s l) _ r is (λ v out last.
       let two : ◌≡◌ {A = A × Node A} (v.0, Switch v.1) r = cc in
       ap (λ (r : A × Node A). sent_count r.1) (sym two))
-  leave_keeps l (Terminal t) r is = given (terminal.terminal_leave t) _ r is (λ v out last. given (buffer.outgoing_emit t.output) _ v out (λ w left more.
-      let one : ◌≡◌ {A = A × terminal.Terminal A} (w.0, terminal.with_output t w.1) v = cc in
-      let two : ◌≡◌ {A = A × Node A} (v.0, Terminal v.1) r = cc in
-      ap (λ (r : A × Node A). sent_count r.1) (sym two) ∙ ap (λ (v : A × terminal.Terminal A). length v.1.sent) (sym one)))
+  leave_keeps l (Terminal t) r is = yield_same t (λ (w : A × buffer.Outgoing A). terminal.with_output t w.1) (λ w. refl) (λ w. w.0) (buffer.outgoing_emit t.output) r is
 
   enter_keeps : (x : A) (l : ℕ) (n m : Node A) → node_enter x l n ≡ Some m → sent_count m ≡ sent_count n
   enter_keeps x l (Switch s) m is = given (switch.switch_enter s l x) _ m is (λ s' made last. let two : ◌≡◌ {A = Node A} (Switch s') m = cc in ap sent_count (sym two))
-  enter_keeps x l (Terminal t) m is = given (terminal.terminal_enter x t) _ m is (λ t' made last. given (buffer.incoming_accept x t.input) _ t' made (λ b came more.
-      let one : terminal.with_input t b ≡ t' = cc in
-      let two : ◌≡◌ {A = Node A} (Terminal t') m = cc in
-      ap sent_count (sym two) ∙ ap (λ (t : terminal.Terminal A). length t.sent) (sym one)))
+  enter_keeps x l (Terminal t) m is = made_same t (terminal.with_input t) (λ b. refl) (buffer.incoming_accept x t.input) m is
 
   credit_out_keeps : (l : ℕ) (n m : Node A) → node_credit_out l n ≡ Some m → sent_count m ≡ sent_count n
   credit_out_keeps l (Switch s) m is = given (switch.switch_credit_out s l) _ m is (λ s' made last. let two : ◌≡◌ {A = Node A} (Switch s') m = cc in ap sent_count (sym two))
-  credit_out_keeps l (Terminal t) m is = given (terminal.terminal_credit_out t) _ m is (λ t' made last. given (buffer.incoming_grant t.input) _ t' made (λ b came more.
-      let one : terminal.with_input t b ≡ t' = cc in
-      let two : ◌≡◌ {A = Node A} (Terminal t') m = cc in
-      ap sent_count (sym two) ∙ ap (λ (t : terminal.Terminal A). length t.sent) (sym one)))
+  credit_out_keeps l (Terminal t) m is = made_same t (terminal.with_input t) (λ b. refl) (buffer.incoming_grant t.input) m is
 
   credit_in_keeps : (l : ℕ) (n m : Node A) → node_credit_in l n ≡ Some m → sent_count m ≡ sent_count n
   credit_in_keeps l (Switch s) m is = given (switch.switch_credit_in s l) _ m is (λ s' made last. let two : ◌≡◌ {A = Node A} (Switch s') m = cc in ap sent_count (sym two))
-  credit_in_keeps l (Terminal t) m is = given (terminal.terminal_credit_in t) _ m is (λ t' made last. given (buffer.outgoing_credited t.output) _ t' made (λ b came more.
-      let one : terminal.with_output t b ≡ t' = cc in
-      let two : ◌≡◌ {A = Node A} (Terminal t') m = cc in
-      ap sent_count (sym two) ∙ ap (λ (t : terminal.Terminal A). length t.sent) (sym one)))
+  credit_in_keeps l (Terminal t) m is = made_same t (terminal.with_output t) (λ b. refl) (buffer.outgoing_credited t.output) m is
 
   input_keeps : (kind : Kind A) (i word : ℕ) (n m : Node A) → node_input kind i word n ≡ Some m → sent_count m ≡ sent_count n
   input_keeps kind i word (Switch s) m is = given (turns.switch_input kind s i word) _ m is (λ s' made last. let two : ◌≡◌ {A = Node A} (Switch s') m = cc in ap sent_count (sym two))
@@ -99,11 +96,7 @@ module _ {A : Type 0} where
 
   drain_keeps : (n : Node A) (r : A × Node A) → node_drain n ≡ Some r → sent_count r.1 ≡ sent_count n
   drain_keeps (Switch s) r is = cc
-  drain_keeps (Terminal t) r is = given (terminal.terminal_drain t) _ r is (λ v came last. given (slice_get t.input.items 0) _ v came (λ x here more.
-      let arrived : terminal.Terminal A = record t { input = buffer.without_first t.input; arrived = t.arrived ++ x ∷ [] } in
-      let one : ◌≡◌ {A = A × terminal.Terminal A} (x, arrived) v = cc in
-      let two : ◌≡◌ {A = A × Node A} (v.0, Terminal v.1) r = cc in
-      ap (λ (r : A × Node A). sent_count r.1) (sym two) ∙ ap (λ (v : A × terminal.Terminal A). length v.1.sent) (sym one)))
+  drain_keeps (Terminal t) r is = yield_same t (λ (x : A). record t { input = buffer.without_first t.input; arrived = t.arrived ++ x ∷ [] }) (λ x. refl) (λ x. x) (slice_get t.input.items 0) r is
 
   send_adds : (kind : Kind A) (number : ℕ) (packet : Packet) (n m : Node A) → node_send kind number packet n ≡ Some m → sent_count m ≡ suc (sent_count n)
   send_adds kind number packet (Switch s) m is = cc
@@ -121,21 +114,13 @@ module _ {A : Type 0} where
       ap (λ c. c ∷ counts nodes) (keeps ∙ ap sent_count (sym same))
   set_counts (o ∷ nodes) (suc i) n m is keeps = ap (λ cs. sent_count o ∷ cs) (set_counts nodes i n m is keeps)
 
-  step_kept : (nodes : List (Node A)) (i : ℕ) (f : Node A → Option (Node A)) (after : List (Node A)) → step_at nodes i f ≡ Some after → ((n m : Node A) → f n ≡ Some m → sent_count m ≡ sent_count n) → counts after ≡ counts nodes
-  step_kept nodes i f after is keeps = at_place_made nodes i f after is (λ n m here made set. ap counts (sym set) ∙ set_counts nodes i n m here (keeps n m made))
-
   yield_kept : {Y : Type 0} (nodes : List (Node A)) (i : ℕ) (f : Node A → Option (Y × Node A)) (r : Y × List (Node A)) → yield_step_at nodes i f ≡ Some r → ((n : Node A) (y : Y × Node A) → f n ≡ Some y → sent_count y.1 ≡ sent_count n) → counts r.1 ≡ counts nodes
   yield_kept {Y} nodes i f r is keeps = from_place_made nodes i f r is (λ n y here made set. ap (λ (z : Y × List (Node A)). counts z.1) (sym set) ∙ set_counts nodes i n y.1 here (keeps n y made))
 
 -- what an event does to the numbers
 abbrev pub AddsSent : Plan → Event → List ℕ → List ℕ → Type 0
-AddsSent plan (event.Cross p) before after = after ≡ before
-AddsSent plan (event.Credit p) before after = after ≡ before
-AddsSent plan (event.Input s l word) before after = after ≡ before
-AddsSent plan (event.Claim s i o) before after = after ≡ before
-AddsSent plan (event.Control s bytes) before after = after ≡ before
 AddsSent plan (event.Send t packet) before after = (c : ℕ) × (slice_get before (terminal_place plan t) ≡ Some c) × (after ≡ slice_set before (terminal_place plan t) (suc c))
-AddsSent plan (event.Drain t) before after = after ≡ before
+AddsSent plan e before after = after ≡ before
 
 module _ {A : Type 0} (kind : Kind A) (plan : Plan) (nodes : List (Node A)) where
   by_last : (told : Reply) (after : List (Node A)) (r : Reply × Network A) (P : List ℕ → Type 0) → ◌≡◌ {A = Option (Reply × Network A)} (Some (told, network_of plan after)) (Some r) → P (counts after) → P (counts r.1.nodes)
@@ -143,18 +128,12 @@ module _ {A : Type 0} (kind : Kind A) (plan : Plan) (nodes : List (Node A)) wher
       let same : ◌≡◌ {A = Reply × Network A} (told, network_of plan after) r = cc in
       subst (λ (r : Reply × Network A). P (counts r.1.nodes)) same holds
 
-  crossing_counts : (c : Crossing) (p : Port) (r : Reply × Network A) → (crossing_acts c p (peer plan p) >>= (λ acts. told_step kind (network_of plan nodes) (acts_step kind plan nodes acts))) ≡ Some r → counts r.1.nodes ≡ counts nodes
-  crossing_counts c p r is =
-      crossing_keeps kind (λ n m. sent_count m ≡ sent_count n) leave_keeps enter_keeps credit_out_keeps credit_in_keeps (λ ns. counts ns ≡ counts nodes) (λ ns k n m here keeps same. set_counts ns k n m here keeps ∙ same)
-      plan nodes c p (peer plan p) r is refl
+  round_counts : (e : Event) → IsOfRound e → (r : Reply × Network A) → network_step kind (network_of plan nodes) e ≡ Some r → counts r.1.nodes ≡ counts nodes
+  round_counts e of r is =
+      round_keeps kind (λ n m. sent_count m ≡ sent_count n) leave_keeps enter_keeps credit_out_keeps credit_in_keeps (input_keeps kind) claim_keeps drain_keeps
+      (λ ns. counts ns ≡ counts nodes) (λ ns k n m here keeps same. set_counts ns k n m here keeps ∙ same) plan nodes e of r is refl
 
   pub step_counts : (e : Event) (r : Reply × Network A) → network_step kind (network_of plan nodes) e ≡ Some r → AddsSent plan e (counts nodes) (counts r.1.nodes)
-  step_counts (event.Cross p) r is = crossing_counts crossing.Token p r is
-  step_counts (event.Credit p) r is = crossing_counts crossing.Grant p r is
-  step_counts (event.Input s l word) r is = given (step_at nodes s (node_input kind l word)) _ r (input_named kind (network_of plan nodes) s l word ∙ is) (λ v made last.
-      by_last reply.Done v r (λ cs. cs ≡ counts nodes) last (step_kept nodes s (node_input kind l word) v made (input_keeps kind l word)))
-  step_counts (event.Claim s i o) r is = given (step_at nodes s (node_claim i o)) _ r (claim_named kind (network_of plan nodes) s i o ∙ is) (λ v made last.
-      by_last reply.Done v r (λ cs. cs ≡ counts nodes) last (step_kept nodes s (node_claim i o) v made (claim_keeps i o)))
   step_counts (event.Control s bytes) r is = given (yield_step_at nodes s (node_control bytes)) _ r (control_named kind (network_of plan nodes) s bytes ∙ is) (λ v made last.
       by_last (reply.Control v.0) v.1 r (λ cs. cs ≡ counts nodes) last (yield_kept nodes s (node_control bytes) v made (control_keeps bytes)))
   step_counts (event.Send t packet) r is = given (step_at nodes (terminal_place plan t) (node_send kind t packet)) _ r (send_named kind (network_of plan nodes) t packet ∙ is) (λ v made last.
@@ -166,8 +145,7 @@ module _ {A : Type 0} (kind : Kind A) (plan : Plan) (nodes : List (Node A)) wher
     where
       set_there : (k : ℕ) (m : Node A) → counts (slice_set nodes k m) ≡ slice_set (counts nodes) k (sent_count m)
       set_there k m = rw (map-set sent_count nodes k m) refl
-  step_counts (event.Drain t) r is = given (yield_step_at nodes (terminal_place plan t) node_drain) _ r (drain_named kind (network_of plan nodes) t ∙ is) (λ v made last.
-      by_last (reply.Token (kind.plain v.0)) v.1 r (λ cs. cs ≡ counts nodes) last (yield_kept nodes (terminal_place plan t) node_drain v made drain_keeps))
+  step_counts e r is = round_counts e tt r is
 
 -- as many packets as were sent, and as many entries as are to come, are within the limit of a trace
 abbrev pub IsBounded : List ℕ → List Deed → Type 0
@@ -181,11 +159,6 @@ at_more k (d ∷ ds) rest = by_place (at_more k ds rest) (nat_eq d.0 k)
     by_place less true = omega (arith, less)
     by_place less false = less
 
-lone_first : (stamp : Stamp) (k : ℕ) (a : ActOf Token) (r : Reply) (rest : List Deed) → is_ready r ≡ true → at_node k (lone_deed stamp k a r ++ rest) ≡ entry_of stamp a r ∷ at_node k rest
-lone_first stamp k a r rest ready =
-    let same : nat_eq k k ≡ true = grind (arith, nat_tests) in
-    ap (λ b. at_node k ((if b then (k, entry_of stamp a r) ∷ [] else []) ++ rest)) ready ∙ ap (λ b. if b then entry_of stamp a r ∷ at_node k rest else at_node k rest) same
-
 later : (cs after : List ℕ) (ds rest : List Deed) → after ≡ cs → IsBounded cs (ds ++ rest) → IsBounded after rest
 later cs after ds rest same bound = λ k c at. (let one = bound k c (ap (λ xs. slice_get xs k) (sym same) ∙ at) in let more = at_more k ds rest in omega (arith, one, more))
 
@@ -197,12 +170,6 @@ low_number plan t packet stamp r cs rest c ready bound at =
 
 -- an event that was done keeps them within the limit
 pub bounded_on : (plan : Plan) (e : Event) (stamp : Stamp) (r : Reply) (cs after : List ℕ) (rest : List Deed) → is_ready r ≡ true → AddsSent plan e cs after → IsBounded cs (event_deeds plan stamp e r ++ rest) → IsBounded after rest
-bounded_on plan (event.Cross p) stamp r cs after rest ready adds bound = later cs after _ rest adds bound
-bounded_on plan (event.Credit p) stamp r cs after rest ready adds bound = later cs after _ rest adds bound
-bounded_on plan (event.Input s l word) stamp r cs after rest ready adds bound = later cs after _ rest adds bound
-bounded_on plan (event.Claim s i o) stamp r cs after rest ready adds bound = later cs after _ rest adds bound
-bounded_on plan (event.Control s bytes) stamp r cs after rest ready adds bound = later cs after _ rest adds bound
-bounded_on plan (event.Drain t) stamp r cs after rest ready adds bound = later cs after _ rest adds bound
 bounded_on plan (event.Send t packet) stamp r cs after rest ready adds bound = λ k c at.
     elim (cases_eq (terminal_place plan t) k) [
       | inl same ↦ subst (λ (j : ℕ). c + length (at_node j rest) ≤ trace_limit) same (
@@ -217,13 +184,13 @@ bounded_on plan (event.Send t packet) stamp r cs after rest ready adds bound = �
           let more = at_more k (event_deeds plan stamp (event.Send t packet) r) rest in
           omega (arith, one, more))
     ]
+bounded_on plan e stamp r cs after rest ready adds bound = later cs after (event_deeds plan stamp e r) rest adds bound
 
 -- at a start nothing was sent
 none_sent : (A : Type 0) (starts : List NodeStart) (k c : ℕ) → slice_get (counts (map (start_node {A = A}) starts)) k ≡ Some c → c ≡ 0
-none_sent A [] k c is = cc
 none_sent A (start.Switch s ∷ starts) zero c is = cc
-none_sent A (start.Terminal t ∷ starts) zero c is = cc
 none_sent A (s ∷ starts) (suc k) c is = none_sent A starts k c is
+none_sent A starts k c is = cc
 
 pub bounded_first : (A : Type 0) (starts : List NodeStart) (traces : List (List Entry)) (deeds : List Deed) → ((k : ℕ) → slice_get traces k ≡ option_map (λ (n : Node A). at_node k deeds) (slice_get (map start_node starts) k)) → All IsWithinLimit traces → IsBounded (counts (map (start_node {A = A}) starts)) deeds
 bounded_first A starts traces deeds told within = λ k c at. by_start k c (slice_get (map (start_node {A = A}) starts) k) refl (sym (slice_get-map sent_count (map (start_node {A = A}) starts) k) ∙ at) (none_sent A starts k c at)

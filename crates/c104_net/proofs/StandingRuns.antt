@@ -19,6 +19,7 @@ use Rattle.c104_run.specs.Network.{Network, network_apply, network_of}
 use Rattle.c104_node.specs.Nodes.{Node}
 use Rattle.c104_node.specs.Quiet.{IsQuietNode}
 use Rattle.c104_run.specs.QuietNets.{IsQuiet}
+use Rattle.c104_run.specs.Rounds.{round}
 use Rattle.c104_run.specs.Runs.{IsDoneRun}
 use Rattle.c104_run.specs.Standstill.{IsStarted, IsStartedNode, StandsStill, IsStill, IsUnready}
 use Rattle.c104_net.specs.DeadlockFreedom.{IsAcyclicRun}
@@ -33,9 +34,8 @@ use Rattle.c104_token.specs.Kinds.{Kind, plain_kind}
 use Rattle.c104_token.specs.declared.tokens.Token.{Token}
 use Rattle.std.proofs.Common.{All, List, Ok, Result, [], ap, get_or, inl, map, option_map, refl, slice_get, subst, sym, ◌∙◌, ◌∷◌, ◌≡◌}
 use Rattle.std.proofs.lemmas.List.{length-map}
-use Rattle.std.proofs.lemmas.List.Elements.{All-map}
+use Rattle.std.proofs.lemmas.List.Elements.{All-map, All-weaker}
 use Rattle.std.proofs.lemmas.Option.{slice_get-map}
-use Rattle.c104_event.specs.declared.events.Event.TheVariants as event
 use Rattle.c104_node.specs.declared.node.NodeOf.TheVariants as node
 use Rattle.c104_run.proofs.NodeMaps.{quiet_map}
 
@@ -64,14 +64,8 @@ module _ (plan : Plan) (starts : List NodeStart) (nodes : List (Node Token)) (ev
       let back : (network_apply plain_kind (map_network token_of (network_of plan traced)) e).0 ≡ (network_apply traced_kind (network_of plan traced) e).0 = ap (λ (z : Result Reply EventFault × Network Token). z.0) (apply_map token_of traced_kind plain_kind (λ x. refl) (λ j b. refl) (λ t n j x. refl) (network_of plan traced) e) in
       sym back ∙ ap (λ ns. (network_apply plain_kind (network_of plan ns) e).0) plain ∙ is
 
-  still_traced : IsStill plain_kind (network_of plan nodes) → IsStill traced_kind (network_of plan traced)
-  still_traced s = record {
-    credits = λ p q wire. unready_traced (event.Credit p) (s.credits p q wire);
-    crosses = λ p q wire. unready_traced (event.Cross p) (s.crosses p q wire);
-    inputs = λ j l q wire. unready_traced (event.Input j l 0) (s.inputs j l q wire);
-    claims = λ j i o a b c. unready_traced (event.Claim j i o) (s.claims j i o a b c);
-    drains = λ t inside. unready_traced (event.Drain t) (s.drains t inside);
-  }
+  still_traced : StandsStill plain_kind (network_of plan nodes) → IsStill traced_kind (network_of plan traced)
+  still_traced still = still_of traced_kind (network_of plan traced) is_plan (All-weaker (IsUnready plain_kind (network_of plan nodes)) (IsUnready traced_kind (network_of plan traced)) unready_traced (round plan) still)
 
   pub started_traced : IsStarted (network_of plan nodes) → IsStarted (network_of plan traced)
   started_traced started k n is = started_map token_of n (started k (map_node token_of n) (ap (λ ns. slice_get ns k) (sym plain) ∙ slice_get-map (map_node token_of) traced k ∙ ap (option_map (map_node token_of)) is))
@@ -88,4 +82,4 @@ stands_quiet plan image starts events nodes is_plan is sent still =
     quiet_plain plan starts nodes events is_plan is.run found.0 found.1.plain
     (standstill image (network_of plan (map start_node starts)) (network_of plan found.0) events is_plan is.accepted is.acyclic (starts_are plan image starts is.set) found.1.run is.unchanged sent balance
     (started_traced plan starts nodes events is_plan is.run found.0 found.1.plain started)
-    (still_traced plan starts nodes events is_plan is.run found.0 found.1.plain (still_of plain_kind (network_of plan nodes) is_plan still)))
+    (still_traced plan starts nodes events is_plan is.run found.0 found.1.plain still))

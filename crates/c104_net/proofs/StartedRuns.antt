@@ -42,11 +42,6 @@ module _ {A : Type 0} where
 
 module _ {A : Type 0} (kind : Kind A) (plan : Plan) (nodes : List (Node A)) (started : AreStarted nodes) where
   step_started : (routes : Routes) (e : Event) (r : Reply) (net' : Network A) → MayHappen routes e r → network_step kind (network_of plan nodes) e ≡ Some (r, net') → IsStarted net'
-  step_started routes (event.Cross p) r net' may is = event_started kind plan nodes started (event.Cross p) r net' tt is
-  step_started routes (event.Credit p) r net' may is = event_started kind plan nodes started (event.Credit p) r net' tt is
-  step_started routes (event.Input s l word) r net' may is = event_started kind plan nodes started (event.Input s l word) r net' tt is
-  step_started routes (event.Claim s i o) r net' may is = event_started kind plan nodes started (event.Claim s i o) r net' tt is
-  step_started routes (event.Drain t) r net' may is = event_started kind plan nodes started (event.Drain t) r net' tt is
   step_started routes (event.Send t p) r net' may is = given (step_at nodes (terminal_place plan t) (node_send kind t p)) _ (r, net') (send_named kind (network_of plan nodes) t p ∙ is) (λ after ea e2.
       (let all = started_at nodes (terminal_place plan t) (node_send kind t p) after ea (send_started kind t p) started in
       let d : network_of plan after ≡ net' = (some_pair_parts reply.Done r (network_of plan after) net' e2).1 in subst IsStarted d all))
@@ -64,6 +59,7 @@ module _ {A : Type 0} (kind : Kind A) (plan : Plan) (nodes : List (Node A)) (sta
           let one : IsStartedNode (node.Switch done.1) = sides_started S done.1 same (started s (node.Switch S) en) in
           let dv : slice_set nodes s (node.Switch done.1) ≡ v.1 = ap (λ (w : List ℕ × Node A). slice_set nodes s w.1) dy ∙ ap (λ (w : List ℕ × List (Node A)). w.1) hv in
           subst IsStarted parts.1 (subst AreStarted dv (started_set nodes s (node.Switch done.1) started one))
+  step_started routes e r net' may is = event_started kind plan nodes started e r net' tt is
 
 -- each event of the run keeps it
 pub run_started : {A : Type 0} (kind : Kind A) (routes : Routes) (net ended : Network A) (events : List (Event × Reply)) → IsDoneRun kind net events ended → IsUnchanged routes events → IsStarted net → IsStarted ended

@@ -18,7 +18,8 @@ use Rattle.c104_net.proofs.PlanWires.{wired}
 use Rattle.c104_net.proofs.Promises.{IsSettled, IsStart, each, starts}
 use Rattle.c104_net.proofs.RunSteps.{header_cases, header_positive}
 use Rattle.c104_net.proofs.SentBytes.{AreBytesSent}
-use Rattle.c104_net.proofs.StillWires.{arrived, claimed, drained, own_group, stuck}
+use Rattle.c104_net.proofs.StillWires.{arrived, claimed, drained, stuck}
+use Rattle.c104_check.proofs.MisstepLemmas.{own_link}
 use Rattle.c104_run.specs.Balance.{IsSteady}
 use Rattle.c104_node.specs.Nodes.{is_switch, Node}
 use Rattle.c104_run.specs.Network.{Network, network_of, terminal_place}
@@ -58,11 +59,8 @@ below_total f (suc n) k h = ⊎_elim
 
 module _ {A : Type 0} where
   stream_or_not : (ph : Phase (List A)) (o : ℕ) → (ph ≡ Stream o) ⊎ (ph ≢ Stream o)
-  stream_or_not Fresh o = inr (λ e. absurd (cc))
-  stream_or_not (Head b) o = inr (λ e. absurd (cc))
-  stream_or_not (Want b g) o = inr (λ e. absurd (cc))
   stream_or_not (Stream p) o = ⊎_elim (λ (e : p ≡ o). inl (ap Stream e)) (λ (n : p ≢ o). inr (λ e. n (cc))) (cases_eq p o)
-  stream_or_not Sinking o = inr (λ e. absurd (cc))
+  stream_or_not ph o = inr (λ e. absurd (cc))
 
   abbrev phase_of : List (Input A) → ℕ → Phase (List A)
   phase_of inputs k = part Fresh (λ (p : Input A). p.phase) (slice_get inputs k)
@@ -122,8 +120,7 @@ module _ (routes : Routes) (wired : IsWired routes.peer) where
     fresh_of Q Fresh u e = refl
     fresh_of Q (Head b) u e = absurd (rw e at u.2)
     fresh_of Q (Want b l) u e = absurd (rw e at u.1)
-    fresh_of Q (Stream o) u e = absurd (rw e at u.0)
-    fresh_of Q Sinking u e = absurd (rw e at u.0)
+    fresh_of Q ph u e = absurd (rw e at u.0)
 
     -- and so does one without a wire
     no_wire : {X : Type 0} (Q : Port) → routes.peer Q ≡ None → (P : Port) × (routes.peer Q ≡ Some P) → X
@@ -174,9 +171,8 @@ module _ (plan : Plan) (image : Image) (is_plan : IsPlan plan) (labelled : IsLab
   owner_cases s o = by_node (slice_get nodes s) refl
     where
       by_node : (n : Option (Node Traced)) → slice_get nodes s ≡ n → ((k : ℕ) × (part Fresh (node_phase (port.Switch s k)) n ≡ Stream o)) ⊎ ((k : ℕ) → part Fresh (node_phase (port.Switch s k)) n ≢ Stream o)
-      by_node None e = inr (λ k f. absurd (cc))
       by_node (Some (node.Switch S)) e = streaming S.inputs o
-      by_node (Some (node.Terminal T)) e = inr (λ k f. absurd (cc))
+      by_node n e = inr (λ k f. absurd (cc))
 
   -- what streams on from an input goes on where the output is empty
   streams_on : (s k o : ℕ) (P Q : Port) → peer plan (port.Switch s k) ≡ Some P → peer plan (port.Switch s o) ≡ Some Q → phases plan nodes (port.Switch s k) ≡ Stream o → outs plan nodes (port.Switch s o) ≡ [] → ins plan nodes (port.Switch s k) ≡ []
@@ -274,7 +270,7 @@ module _ (plan : Plan) (image : Image) (is_plan : IsPlan plan) (labelled : IsLab
       wants : (b : List Traced) (o : ℕ) → phases plan nodes (port.Switch s l) ≡ Want b o → ⊥
       wants b o e =
           let u : Suits (routes_of plan image) (world_of plan image nodes).book good.holds.0 (port.Switch s l) (Want b o) = rw e at (good.holds.1.suits (port.Switch s l)) in
-          let own : group_at (routes_of plan image) (port.Switch s l) o o ≡ true = own_group (continues_at (settings_at (routes_of plan image) s)) o in
+          let own : group_at (routes_of plan image) (port.Switch s l) o o ≡ true = own_link (continues_at (settings_at (routes_of plan image) s)) o in
           let out = u.2 o own in
           let none = free_out o o out.0 u.4 own out.1 in
           let few : length b ≤ 8 = ⊎_elim (λ (h : (routes_of plan image).header ≡ 1). omega (arith, h, u.3)) (λ (h : (routes_of plan image).header ≡ 2). omega (arith, h, u.3)) (header_cases plan image) in

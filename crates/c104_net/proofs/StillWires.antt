@@ -1,5 +1,5 @@
 -- What each event of a round says that isn't ready, in a network whose switches are started.
-use Rattle.c104_crossbar.specs.Groups.{group_contains}
+use Rattle.c104_check.proofs.MisstepLemmas.{own_link}
 use Rattle.c104_plan.specs.Plans.{IsPlan, Plan}
 use Rattle.c104_plan.specs.Wiring.{peer}
 use Rattle.c104_plan.specs.declared.ports.Port.{Port}
@@ -29,27 +29,17 @@ use Rattle.c104_switch.specs.declared.unready.Unready.TheVariants.{NoLink, NotSt
 use Rattle.c104_switch.specs.declared.unready.Unready.TheVariants.{WantsOutput, OutputFull, WantsNothing, OutsideGroup, Owned}
 use Rattle.c104_switch.specs.declared.unready.Unready.TheVariants.{NoRoomForHeader}
 use Rattle.c104_token.specs.Kinds.{Kind}
-use Rattle.std.proofs.Common.{Bool, IfSome, IsSomeAnd, List, None, Option, Some, [], ap, arith, false, inl, inr, is_some, length, nat_le}
-use Rattle.std.proofs.Common.{refl, slice_get, subst, suc, sym, true, zero, ℕ, ⊎_elim, ◌+◌, ◌-◌, ◌<◌, ◌∙◌, ◌∷◌, ◌≡◌, ◌≤◌, ◌⊎◌}
+use Rattle.std.proofs.Common.{IfSome, IsSomeAnd, List, None, Option, Some, [], ap, arith, false, inl, inr, is_some, length}
+use Rattle.std.proofs.Common.{refl, slice_get, subst, sym, true, ℕ, ⊎_elim, ◌+◌, ◌<◌, ◌∙◌, ◌∷◌, ◌≡◌, ◌≤◌, ◌⊎◌}
 use Rattle.std.proofs.lemmas.Bool.{true≢false}
-use Rattle.std.proofs.lemmas.Bool.Decides.{nat_tests}
-use Rattle.std.proofs.lemmas.Option.{slice_get_within}
+use Rattle.std.proofs.lemmas.Option.{slice_get_cases, slice_get_within}
 use Rattle.c104_plan.specs.declared.ports.Port.TheVariants as port
 use Rattle.c104_event.specs.declared.events.Event.TheVariants as event
 use Rattle.c104_node.specs.declared.node.NodeOf.TheVariants as node
 use Rattle.c104_switch.specs.declared.actions.ActionOf.TheVariants as action
 
 pub element_at : {X : Type 0} (xs : List X) (k : ℕ) → k < length xs → (x : X) × (slice_get xs k ≡ Some x)
-element_at [] k h = absurd (omega (arith, h))
-element_at (x ∷ xs) zero h = (x, refl)
-element_at (x ∷ xs) (suc k) h = element_at xs k (omega (arith, h))
-
--- a link is in its own group
-pub own_group : (continues : ℕ → Bool) (g : ℕ) → group_contains continues g g ≡ true
-own_group continues g =
-    let same : nat_le g g ≡ true = grind (arith, nat_tests) in
-    let none : g - g ≡ 0 = omega arith in
-    rw (same, none) refl
+element_at xs k h = elim (slice_get_cases xs k).1 [ inl found ↦ (found.0, found.2) | inr past ↦ absurd (omega (arith, h, past.0)) ]
 
 -- what is said of a link that there is
 module _ {A : Type 0} (S : Switch A) (started : IsStartedSwitch S) where
@@ -107,7 +97,7 @@ module _ {A : Type 0} (S : Switch A) (started : IsStartedSwitch S) where
       let k : (b' : List A) × (p.phase ≡ Want b' g') × (is_in_group S.settings g' g ≡ false) = rw is_input at r in
       let e : Want b g ≡ Want k.0 g' = sym wants ∙ k.1 in
       let d : g ≡ g' = cc in
-      absurd (true≢false (sym (own_group (continues_at S.settings) g) ∙ ap (λ z. is_in_group S.settings z g) d ∙ k.2))
+      absurd (true≢false (sym (own_link (continues_at S.settings) g) ∙ ap (λ z. is_in_group S.settings z g) d ∙ k.2))
   no_claim i g b p q is_input is_output below wants none few (Owned j) r = by_owner (slice_get S.inputs j) refl (rw is_input at r)
     where
       by_owner : (o : Option (Input A)) → slice_get S.inputs j ≡ o → IsSomeAnd o (λ (owner : Input A). owner.phase ≡ Stream g) → (k : ℕ) × (owner : Input A) × (slice_get S.inputs k ≡ Some owner) × (owner.phase ≡ Stream g)

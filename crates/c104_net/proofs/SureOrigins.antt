@@ -51,15 +51,18 @@ byte_of_random j b = refl
 abbrev traced_of : Sure → Traced
 traced_of x = x.0
 
+-- what is at a place of a mapped list
+pub mapped : {X Y : Type 0} (g : X → Y) (xs : List X) (k : ℕ) (y : Y) → slice_get (map g xs) k ≡ Some y → (x : X) × (slice_get xs k ≡ Some x) × (g x ≡ y)
+mapped g [] k y is = absurd (cc)
+mapped g (x ∷ xs) zero y is = (x, refl, cc)
+mapped g (x ∷ xs) (suc k) y is = mapped g xs k y is
+
 all_sure : (l : List Sure) (k : ℕ) (x : Traced) → slice_get (map traced_of l) k ≡ Some x → IsSure x
-all_sure [] k x e = absurd (cc)
-all_sure (y ∷ l) zero x e = let d : y.0 ≡ x = cc in subst IsSure d y.1
-all_sure (y ∷ l) (suc k) x e = all_sure l k x e
+all_sure l k x e = let one = mapped traced_of l k x e in subst IsSure one.2 one.0.1
 
 sure_node : (o : Option (Node Sure)) (k : ℕ) (x : Traced) → slice_get (part [] arrived_tokens (option_map (map_node traced_of) o)) k ≡ Some x → IsSure x
-sure_node None k x e = absurd (cc)
-sure_node (Some (node.Switch S)) k x e = absurd (cc)
 sure_node (Some (node.Terminal T)) k x e = all_sure T.arrived k x e
+sure_node o k x e = absurd (cc)
 
 -- whatever was done since a start, accepted or not, each terminator that arrived tells its packet
 pub arrived_sure : (plan : Plan) (starts : List NodeStart) (events : List (Event × Reply)) (ended : Network Traced) → IsDoneRun traced_kind (network_of plan (map start_node starts)) events ended → (t k : ℕ) (x : Traced) → slice_get (arrived_at ended t) k ≡ Some x → IsSure x

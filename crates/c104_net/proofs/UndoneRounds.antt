@@ -1,21 +1,22 @@
 -- Where no event of a round is done the network stands still, or an inbox or a trace is full.
-use Rattle.c104_plan.proofs.RangeLists.{all_of_each, each_append, each_flat, each_range}
+use Rattle.c104_plan.proofs.RangeLists.{all_of_each}
 use Rattle.c104_plan.specs.Plans.{IsPlan, Plan}
 use Rattle.c104_plan.specs.Wiring.{peer}
 use Rattle.c104_plan.specs.declared.ports.Port.{Port}
 use Rattle.c104_event.specs.declared.events.Event.{Event}
 use Rattle.c104_event.specs.declared.faults.EventFault.{EventFault}
 use Rattle.c104_link.proofs.MadeSteps.{All-place}
-use Rattle.c104_run.proofs.BalanceWires.{switch_inside, terminal_inside}
-use Rattle.c104_run.proofs.PartRuns.{single, singles}
-use Rattle.c104_run.proofs.RoundLists.{links_passed}
+use Rattle.c104_plan.proofs.Wires.{wiring}
+use Rattle.c104_run.proofs.ActAttempts.{claim_possible, drain_possible, turn_possible}
+use Rattle.c104_run.proofs.IdleEvents.{wired_inside}
+use Rattle.c104_net.proofs.RoundMembers.{each_of_round}
 use Rattle.c104_run.proofs.RoundRuns.{Applied}
 use Rattle.c104_net.specs.DeadlockFreedom.{HasFullInbox, HasFullTrace, IsUndone, NothingDone}
 use Rattle.c104_run.specs.NetRecords.{NetRecord, is_done}
-use Rattle.c104_run.specs.Network.{Network, event_fault, event_limit, link_fault, network_apply, network_step, node_fault, outcome_if_possible, outcome_if_ready, outcome_within_limit, terminal_place, wire_fault, wired_fault}
+use Rattle.c104_run.specs.Network.{Network, event_fault, event_limit, network_apply, network_step, outcome_if_possible, outcome_if_ready, outcome_within_limit, terminal_place, wired_fault}
 use Rattle.c104_node.specs.Nodes.{Node, arrived_tokens}
 use Rattle.c104_run.specs.RecordedRuns.{record_apply, record_stage}
-use Rattle.c104_run.specs.Rounds.{all_claims, all_drains, claims_of, is_wired, link_numbers, round, switch_claims, turn_at, wired_links, wired_ports, wired_terminals}
+use Rattle.c104_run.specs.Rounds.{round}
 use Rattle.c104_run.specs.Stages.{stage_full}
 use Rattle.c104_run.specs.Standstill.{IsUnready, StandsStill}
 use Rattle.c104_run.specs.EventActs.{crossing_acts, event_acts, port_place}
@@ -31,11 +32,9 @@ use Rattle.c104_node.specs.declared.acts.Entry.{Entry}
 use Rattle.c104_switch.specs.Actions.{Action, Reply}
 use Rattle.c104_token.specs.Kinds.{plain_kind}
 use Rattle.c104_token.specs.declared.tokens.Token.{Token}
-use Rattle.std.specs.List.{AllByRecursion, flat_map, range_with_len}
+use Rattle.std.specs.List.{AllByRecursion}
 use Rattle.std.specs.Option.{option_map}
-use Rattle.std.proofs.Common.{Bool, Err, List, None, Ok, Option, Result, Some, [], ap, arith, false, filter, if◌then◌else◌, inl, inr, is_some, length, map, nat_lt, refl, slice_get, subst, suc, sym, true, unwrap_or, ℕ, ⊎_elim, ◌&&◌, ◌++◌, ◌<◌, ◌||◌, ◌∙◌, ◌∷◌, ◌≡◌, ◌⊎◌}
-use Rattle.std.proofs.lemmas.Grind.{flat_map-append}
-use Rattle.std.proofs.lemmas.Bool.Decides.{nat_tests}
+use Rattle.std.proofs.Common.{Bool, Err, List, None, Ok, Option, Result, Some, [], ap, false, if◌then◌else◌, inl, inr, length, map, nat_lt, refl, slice_get, suc, sym, true, unwrap_or, ℕ, ⊎_elim, ◌&&◌, ◌<◌, ◌||◌, ◌∙◌, ◌∷◌, ◌≡◌, ◌⊎◌}
 use Rattle.std.proofs.lemmas.Option.{slice_get-map}
 use Rattle.c104_plan.specs.declared.ports.Port.TheVariants as port
 use Rattle.c104_event.specs.declared.events.Event.TheVariants as event
@@ -89,11 +88,9 @@ module _ (net : NetRecord) where
   hindered e possible limited undone = by_full (stage_full true (record_stage net) e) refl (is_done (network_apply plain_kind net.network e).0) refl undone (λ f. limited f)
     where
       by_answer : (answer : Result Reply EventFault) → (network_apply plain_kind net.network e).0 ≡ answer → is_done answer ≡ false → ((f : EventFault) → answer ≡ Err f → HasFullInbox net) → Hindered e
-      by_answer (Ok reply.Done) is none limit = absurd (cc none)
       by_answer (Ok reply.NotReady) is none limit = inl is
-      by_answer (Ok (reply.Token x)) is none limit = absurd (cc none)
-      by_answer (Ok (reply.Control bytes)) is none limit = absurd (cc none)
       by_answer (Err f) is none limit = inr (inl (limit f refl))
+      by_answer answer is none limit = absurd (cc none)
 
       by_full : (full : Bool) → stage_full true (record_stage net) e ≡ full → (done : Bool) → is_done (network_apply plain_kind net.network e).0 ≡ done →
           is_done (if◌then◌else◌ {A = Due} (full && done) (Err fault.TraceFull, net.network) (network_apply plain_kind net.network e)).0 ≡ false →
@@ -104,17 +101,8 @@ module _ (net : NetRecord) where
 
   -- the events of a round are possible
   module _ (is_plan : IsPlan net.network.plan) where
-    below : (n k : ℕ) → k < n → (other : Option EventFault) → node_fault n k other ≡ other
-    below n k inside other = let test : nat_lt k n ≡ true = grind (arith, nat_tests, inside) in rw test refl
-
-    below_link : (l : ℕ) → l < 32 → (other : Option EventFault) → link_fault l other ≡ other
-    below_link l inside other = let test : nat_lt l 32 ≡ true = grind (arith, nat_tests, inside) in rw test refl
-
     wired_possible : (p q : Port) → peer plan p ≡ Some q → wired_fault plan p ≡ None
-    wired_possible (port.Switch s l) q wire =
-        let inside = switch_inside plan is_plan s l q wire in
-        below (length plan.switches) s (omega (arith, inside.0)) (link_fault l (wire_fault (peer plan (port.Switch s l)))) ∙ below_link l (omega (arith, inside.1)) (wire_fault (peer plan (port.Switch s l))) ∙ ap wire_fault wire
-    wired_possible (port.Terminal t) q wire = below (length plan.terminals) t (terminal_inside plan is_plan t q wire) (wire_fault (peer plan (port.Terminal t))) ∙ ap wire_fault wire
+    wired_possible p q wire = wired_inside plan p q ((wiring plan is_plan).inside p q wire) wire
 
     -- none has a limit but an arrival
     no_limit : {P : Type 0} (f : EventFault) → None ≡ Some f → P
@@ -137,15 +125,13 @@ module _ (net : NetRecord) where
     cross_may p q wire = hindered (event.Cross p) (wired_possible p q wire) (λ f is told. no_limit f (sym (none_limits crossing.Token p q wire) ∙ is))
 
     turn_may : (s l : ℕ) (q : Port) → peer plan (port.Switch s l) ≡ Some q → May (event.Input s l 0)
-    turn_may s l q wire =
-        let inside = switch_inside plan is_plan s l q wire in
-        hindered (event.Input s l 0) (below (length plan.switches) s (omega (arith, inside.0)) (link_fault l None) ∙ below_link l (omega (arith, inside.1)) None) (λ f is told. no_limit f (sym (step_unlimited (slice_get net.network.nodes s) (action.Input l 0)) ∙ is))
+    turn_may s l q wire = hindered (event.Input s l 0) (turn_possible plan s l 0 (wired_possible (port.Switch s l) q wire)) (λ f is told. no_limit f (sym (step_unlimited (slice_get net.network.nodes s) (action.Input l 0)) ∙ is))
 
     claim_may : (s i o : ℕ) → s < length plan.switches → i < 32 → o < 32 → May (event.Claim s i o)
-    claim_may s i o inside input output = hindered (event.Claim s i o) (below (length plan.switches) s inside (link_fault i (link_fault o None)) ∙ below_link i input (link_fault o None) ∙ below_link o output None) (λ f is told. no_limit f (sym (step_unlimited (slice_get net.network.nodes s) (action.Claim i o)) ∙ is))
+    claim_may s i o inside input output = hindered (event.Claim s i o) (claim_possible plan s i o inside input output) (λ f is told. no_limit f (sym (step_unlimited (slice_get net.network.nodes s) (action.Claim i o)) ∙ is))
 
     drain_may : (t : ℕ) → t < length plan.terminals → May (event.Drain t)
-    drain_may t inside = hindered (event.Drain t) (below (length plan.terminals) t inside None) (λ f is told. (t, told ∙ ap Err (full (slice_get net.network.nodes (terminal_place plan t)) f is)))
+    drain_may t inside = hindered (event.Drain t) (drain_possible plan t inside) (λ f is told. (t, told ∙ ap Err (full (slice_get net.network.nodes (terminal_place plan t)) f is)))
       where
         full : (o : Option (Node Token)) (f : EventFault) → act_limit o act.Drain ≡ Some f → f ≡ fault.InboxFull
         full None f is = absurd (let no : ⊥ = cc in no)
@@ -155,47 +141,8 @@ module _ (net : NetRecord) where
             by_test true is = absurd (let no : ⊥ = cc in no)
             by_test false is = cc
 
-    joined : (P : Event → Type 0) (events_of : Port → List Event) (xs ys : List Port) → AllByRecursion P (flat_map events_of xs) → AllByRecursion P (flat_map events_of ys) → AllByRecursion P (flat_map events_of (xs ++ ys))
-    joined P events_of xs ys a b = subst (AllByRecursion P) (sym (flat_map-append events_of xs ys)) (each_append P (flat_map events_of xs) (flat_map events_of ys) a b)
-
-    -- a part of a round, port by port
-    module _ (P : Event → Type 0) (events_of : Port → List Event) (each : (p q : Port) → peer plan p ≡ Some q → AllByRecursion P (events_of p)) where
-      each_port : (ps : List Port) → AllByRecursion P (flat_map events_of (filter (is_wired plan) ps))
-      each_port [] = tt
-      each_port (p ∷ ps) = by_wire (peer plan p) refl (each_port ps)
-        where
-          by_wire : (o : Option Port) → peer plan p ≡ o → AllByRecursion P (flat_map events_of (filter (is_wired plan) ps)) → AllByRecursion P (flat_map events_of (if is_some o then p ∷ filter (is_wired plan) ps else filter (is_wired plan) ps))
-          by_wire None none rest = rest
-          by_wire (Some q) wire rest = each_append P (events_of p) (flat_map events_of (filter (is_wired plan) ps)) (each p q wire) rest
-
-      each_switch : (ss : List ℕ) → AllByRecursion P (flat_map events_of (flat_map (wired_links plan) ss))
-      each_switch [] = tt
-      each_switch (s ∷ ss) = joined P events_of (wired_links plan s) (flat_map (wired_links plan) ss) (each_port (map (port.Switch s) link_numbers)) (each_switch ss)
-
-      each_wired : AllByRecursion P (flat_map events_of (wired_ports plan))
-      each_wired = joined P events_of (flat_map (wired_links plan) (range_with_len 0 (length plan.switches))) (wired_terminals plan) (each_switch (range_with_len 0 (length plan.switches))) (each_port (map port.Terminal (range_with_len 0 (length plan.terminals))))
-
-    of_turn : (p q : Port) → peer plan p ≡ Some q → AllByRecursion May (turn_at p)
-    of_turn (port.Switch s l) q wire = (turn_may s l q wire, tt)
-    of_turn (port.Terminal t) q wire = tt
-
-    each_claim : AllByRecursion May (all_claims (length plan.switches))
-    each_claim = each_flat May switch_claims 0 (length plan.switches) (λ s inside.
-        subst (λ ns. AllByRecursion May (flat_map (claims_of s) ns)) (links_passed 32 refl) (each_flat May (claims_of s) 0 32 (λ i input.
-        subst (λ ns. AllByRecursion May (map (event.Claim s i) ns)) (links_passed 32 refl) (each_range May (event.Claim s i) 0 32 (λ o low output. claim_may s i o (omega (arith, inside)) (omega (arith, input)) (omega (arith, output)))))))
-
     each_event : AllByRecursion May (round plan)
-    each_event =
-        let a : List Event = map event.Credit (wired_ports plan) in
-        let b : List Event = map event.Cross (wired_ports plan) in
-        let c : List Event = flat_map turn_at (wired_ports plan) in
-        let d : List Event = all_claims (length plan.switches) in
-        let e : List Event = all_drains (length plan.terminals) in
-        let credits : AllByRecursion May a = subst (AllByRecursion May) (singles event.Credit (wired_ports plan)) (each_wired May (single event.Credit) (λ p q wire. (credit_may p q wire, tt))) in
-        let crosses : AllByRecursion May b = subst (AllByRecursion May) (singles event.Cross (wired_ports plan)) (each_wired May (single event.Cross) (λ p q wire. (cross_may p q wire, tt))) in
-        let turns : AllByRecursion May c = each_wired May turn_at of_turn in
-        let drains : AllByRecursion May e = each_range May event.Drain 0 (length plan.terminals) (λ t low inside. drain_may t (omega (arith, inside))) in
-        each_append May (a ++ b ++ c ++ d) e (each_append May (a ++ b ++ c) d (each_append May (a ++ b) c (each_append May a b credits crosses) turns) each_claim) drains
+    each_event = each_of_round plan May credit_may cross_may turn_may claim_may drain_may
 
     -- all of them are unready, or something is full
     abbrev Found : List Event → Type 0
@@ -206,9 +153,9 @@ module _ (net : NetRecord) where
     found_in (e ∷ es) may undone = by_first (found_in es may.1 (λ i f at. undone (suc i) f at)) (may.0 (undone 0 e refl))
       where
         by_first : Found es → Hindered e → Found (e ∷ es)
-        by_first rest (inr full) = inr full
         by_first (inl rest) (inl first) = inl (first, rest)
         by_first (inr full) (inl first) = inr full
+        by_first rest (inr full) = inr full
 
     undone_found : NothingDone net → StandsStill plain_kind net.network ⊎ (HasFullInbox net ⊎ HasFullTrace net)
     undone_found none = ⊎_elim (λ (all : AllByRecursion (IsUnready plain_kind net.network) (round plan)). inl (all_of_each (IsUnready plain_kind net.network) (round plan) all)) (λ (full : HasFullInbox net ⊎ HasFullTrace net). inr full)

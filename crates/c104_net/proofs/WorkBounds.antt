@@ -17,8 +17,8 @@ use Rattle.c104_token.specs.Kinds.{Kind}
 use Rattle.c104_switch.specs.Rooms.{room_left}
 use Rattle.c104_switch.specs.Switch.{Input, Switch}
 use Rattle.c104_switch.specs.declared.phase.Phase.{Phase}
-use Rattle.c104_switch.specs.declared.phase.Phase.TheVariants.{Fresh, Head, Sinking, Stream, Want}
-use Rattle.std.proofs.Common.{List, None, Option, Some, [], ap, arith, inl, inr, length, map, min, refl, slice_get, subst, suc, sym, take}
+use Rattle.c104_switch.specs.declared.phase.Phase.TheVariants.{Head, Want}
+use Rattle.std.proofs.Common.{List, Option, Some, [], ap, arith, inl, inr, length, map, min, refl, slice_get, subst, suc, sym, take}
 use Rattle.std.proofs.Common.{zero, ℕ, ⊎_elim, ◌*◌, ◌+◌, ◌-◌, ◌<◌, ◌∙◌, ◌∷◌, ◌≡◌, ◌≤◌, ◌⊎◌}
 use Rattle.std.proofs.Math.Nat.{add-mul, min-eq_left, min-eq_right, suc-mul, zero-mul}
 use Rattle.std.proofs.lemmas.Bool.{cases_lt}
@@ -55,9 +55,8 @@ module _ {X : Type 0} where
 
 module _ (plan : Plan) (rank high : SwitchPort → ℕ) (less : (p : SwitchPort) → rank p ≤ high p) where
   pub level_more : (q : Option Port) → level plan rank q ≤ level plan high q
-  level_more None = omega arith
   level_more (Some (port.Switch s l)) = let here = less (port_of s l) in omega (arith, here)
-  level_more (Some (port.Terminal t)) = omega arith
+  level_more q = omega arith
 
   module _ {A : Type 0} where
     input_more : (s l : ℕ) (p : Input A) → input_work plan rank s l p ≤ input_work plan high s l p
@@ -101,9 +100,8 @@ module _ (most : ℕ) where
 
 module _ (plan : Plan) where
   level_most : (q : Option Port) → level plan (highest_rank plan) q ≤ 32 * length plan.switches + 1
-  level_most None = omega arith
   level_most (Some (port.Switch s l)) = omega arith
-  level_most (Some (port.Terminal t)) = omega arith
+  level_most q = omega arith
 
   abbrev top : ℕ
   top = most_weight plan
@@ -137,11 +135,9 @@ module _ (plan : Plan) where
 
 -- the length of a header is seen
 pub held_length : {A B : Type 0} (f : A → B) (phase : Phase (List A)) → length (header_held (with_header (map f) phase)) ≡ length (header_held phase)
-held_length f Fresh = refl
 held_length f (Head b) = length-map b f
 held_length f (Want b g) = length-map b f
-held_length f (Stream o) = refl
-held_length f Sinking = refl
+held_length f phase = refl
 
 le_cases : (a b : ℕ) → (a ≤ b) ⊎ (b ≤ a)
 le_cases a b = ⊎_elim (λ (h : a < b). inl (omega (arith, h))) (λ (h : b ≤ a). inr h) (cases_lt a b)

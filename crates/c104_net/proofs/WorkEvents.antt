@@ -6,12 +6,9 @@ use Rattle.c104_plan.specs.declared.ports.Port.{Port}
 use Rattle.c104_event.specs.declared.events.Event.{Event}
 use Rattle.c104_link.proofs.MadeSteps.{at_place_made, from_place_made, given, length-at_place, place_after_set, required, with_place_made}
 use Rattle.c104_link.specs.Buffers.{Incoming, Outgoing, incoming_accept, incoming_grant, outgoing_credited, outgoing_emit, outgoing_put, without_first}
-use Rattle.c104_link.specs.Steps.{◌>>=◌, joint_step_at, step_at, yield_step_at}
-use Rattle.c104_run.proofs.EventSteps.{by_name, claim_named, drain_named, input_named, named_step}
-use Rattle.c104_net.proofs.JointKeeps.{crossing_keeps}
-use Rattle.c104_run.specs.EventActs.{acts_step, crossing_acts}
-use Rattle.c104_node.specs.declared.crossings.Crossing.{Crossing}
-use Rattle.c104_node.specs.declared.crossings.Crossing.TheVariants as crossing
+use Rattle.c104_link.specs.Steps.{joint_step_at, step_at, yield_step_at}
+use Rattle.c104_run.proofs.EventSteps.{by_name, named_step}
+use Rattle.c104_net.proofs.JointKeeps.{IsOfRound, round_keeps}
 use Rattle.c104_run.proofs.BalanceWires.{peer_back}
 use Rattle.c104_net.proofs.LinkActs.{Matches, leave_same, credit_out_same}
 use Rattle.c104_node.proofs.NextTokens.{first_some}
@@ -20,7 +17,7 @@ use Rattle.c104_net.proofs.WorkSteps.{at_far, at_own, claim_work, credit_in_work
 use Rattle.c104_run.specs.Balance.{AreInPlace}
 use Rattle.c104_node.specs.Nodes.{is_switch, Node, node_claim, node_credit_in, node_credit_out, node_drain, node_enter, node_input, node_leave}
 use Rattle.c104_run.specs.Ends.{end_of}
-use Rattle.c104_run.specs.Network.{Network, network_of, network_step, terminal_place, told_step}
+use Rattle.c104_run.specs.Network.{Network, network_of, network_step, terminal_place}
 use Rattle.c104_run.specs.Standstill.{IsStarted, IsStartedNode, IsStartedSwitch}
 use Rattle.c104_node.specs.Terminals.{Terminal, terminal_credit_in, terminal_credit_out, terminal_drain, terminal_enter, terminal_leave}
 use Rattle.c104_node.proofs.NamedWires.{nodes_credit, nodes_cross}
@@ -46,16 +43,6 @@ use Rattle.c104_event.specs.declared.events.Event.TheVariants as event
 use Rattle.c104_node.specs.declared.node.NodeOf.TheVariants as node
 use Rattle.c104_plan.specs.declared.ports.Port.TheVariants as port
 use Rattle.c104_switch.specs.declared.actions.ReplyOf.TheVariants as reply
-
--- an event of a round
-abbrev pub IsOfRound : Event → Type 0
-IsOfRound (event.Cross p) = Unit {0}
-IsOfRound (event.Credit p) = Unit {0}
-IsOfRound (event.Input s l word) = Unit {0}
-IsOfRound (event.Claim s i o) = Unit {0}
-IsOfRound (event.Drain t) = Unit {0}
-IsOfRound (event.Send t p) = ⊥
-IsOfRound (event.Control s bytes) = ⊥
 
 -- what each way of a packet goes down, and what is counted in advance: at an input that puts random headers what one
 -- weighs, and one for the turn; at one that a switch is wired to nothing
@@ -173,8 +160,7 @@ module _ {A : Type 0} (kind : Kind A) (plan : Plan) (is_plan : IsPlan plan) (ran
   by_event (event.Input s i word) r net' of is = input_less s i word r net' is
   by_event (event.Claim s i o) r net' of is = claim_less s i o r net' is
   by_event (event.Drain t) r net' of is = drain_less t r net' is
-  by_event (event.Send t p) r net' of is = absurd of
-  by_event (event.Control s bytes) r net' of is = absurd of
+  by_event e r net' of is = absurd of
 
   -- each event of a round that is done leaves less
   pub event_less : (e : Event) (r : Reply) (net' : Network A) → IsOfRound e → network_step kind (network_of plan nodes) e ≡ Some (r, net') → Less net'
@@ -270,12 +256,9 @@ module _ {A : Type 0} where
   turn_keeps kind t word p qs x Sinking r e = let d : (input_after_token p (phase_after_token kind x Sinking) false false, qs) ≡ r = cc in subst (Keeps p qs) d (refl, refl)
 
   claim_keeps : (settings : List Settings) (p : Input A) (qs : List (Outgoing A)) (o : ℕ) (ph : Phase (List A)) (r : Input A × List (Outgoing A)) → input_claim settings p qs o ph ≡ Some r → Keeps p qs r
-  claim_keeps settings p qs o Fresh r e = absurd (cc)
-  claim_keeps settings p qs o (Head b) r e = absurd (cc)
-  claim_keeps settings p qs o (Stream q) r e = absurd (cc)
-  claim_keeps settings p qs o Sinking r e = absurd (cc)
   claim_keeps settings p qs o (Want b g) r e = required (is_in_group settings g o) _ r e (λ group f0. given (slice_get settings o) _ r f0 (λ t et f1. given (step_at qs o (put_header t b)) _ r f1 (λ rs f2 f3.
       (let d : (streaming_input p o, rs) ≡ r = cc in subst (Keeps p qs) d (refl, length-at_place qs o (put_header t b) rs f2)))))
+  claim_keeps settings p qs o ph r e = absurd (cc)
 
   input_started : (kind : Kind A) (i word : ℕ) (n m : Node A) → node_input kind i word n ≡ Some m → IsStartedNode n → IsStartedNode m
   input_started kind i word (node.Terminal T) m e a = absurd (cc)
@@ -313,24 +296,9 @@ module _ {A : Type 0} where
   pub started_at : (nodes : List (Node A)) (k : ℕ) (f : Node A → Option (Node A)) (after : List (Node A)) → step_at nodes k f ≡ Some after → ((n m : Node A) → f n ≡ Some m → IsStartedNode n → IsStartedNode m) → AreStarted nodes → AreStarted after
   started_at nodes k f after e keeps all = at_place_made nodes k f after e (λ n m en em hv. subst AreStarted hv (started_set nodes k m all (keeps n m em (all k n en))))
 
-  started_from : (nodes : List (Node A)) (k : ℕ) (f : Node A → Option (A × Node A)) (v : A × List (Node A)) → yield_step_at nodes k f ≡ Some v → ((n : Node A) (r : A × Node A) → f n ≡ Some r → IsStartedNode n → IsStartedNode r.1) → AreStarted nodes → AreStarted v.1
-  started_from nodes k f v e keeps all = from_place_made nodes k f v e (λ n y en ey hv. subst (λ (z : A × List (Node A)). AreStarted z.1) hv (started_set nodes k y.1 all (keeps n y ey (all k n en))))
-
 module _ {A : Type 0} (kind : Kind A) (plan : Plan) (nodes : List (Node A)) (started : AreStarted nodes) where
-  started_left : (told r : Reply) (after : List (Node A)) (net' : Network A) → ◌≡◌ {A = Option (Reply × Network A)} (Some (told, network_of plan after)) (Some (r, net')) → AreStarted after → IsStarted net'
-  started_left told r after net' e all = let d : network_of plan after ≡ net' = (some_pair_parts told r (network_of plan after) net' e).1 in subst IsStarted d all
-
-  crossing_started : (c : Crossing) (P : Port) (r : Reply × Network A) → (crossing_acts c P (peer plan P) >>= (λ acts. told_step kind (network_of plan nodes) (acts_step kind plan nodes acts))) ≡ Some r → IsStarted r.1
-  crossing_started c P r e =
-      crossing_keeps kind (λ n m. IsStartedNode n → IsStartedNode m) leave_started enter_started credit_out_started credit_in_started AreStarted (λ ns k n m here keeps all. started_set ns k m all (keeps (all k n here)))
-      plan nodes c P (peer plan P) r e started
-
   -- each event of a round keeps each node started
   pub event_started : (e : Event) (r : Reply) (net' : Network A) → IsOfRound e → network_step kind (network_of plan nodes) e ≡ Some (r, net') → IsStarted net'
-  event_started (event.Cross P) r net' of e = crossing_started crossing.Token P (r, net') e
-  event_started (event.Credit P) r net' of e = crossing_started crossing.Grant P (r, net') e
-  event_started (event.Input s i word) r net' of e = given (step_at nodes s (node_input kind i word)) _ (r, net') (input_named kind (network_of plan nodes) s i word ∙ e) (λ after ea e2. started_left reply.Done r after net' e2 (started_at nodes s (node_input kind i word) after ea (input_started kind i word) started))
-  event_started (event.Claim s i o) r net' of e = given (step_at nodes s (node_claim i o)) _ (r, net') (claim_named kind (network_of plan nodes) s i o ∙ e) (λ after ea e2. started_left reply.Done r after net' e2 (started_at nodes s (node_claim i o) after ea (claim_started i o) started))
-  event_started (event.Drain t) r net' of e = given (yield_step_at nodes (terminal_place plan t) node_drain) _ (r, net') (drain_named kind (network_of plan nodes) t ∙ e) (λ v ev e2. started_left (reply.Token (kind.plain v.0)) r v.1 net' e2 (started_from nodes (terminal_place plan t) node_drain v ev drain_started started))
-  event_started (event.Send t p) r net' of e = absurd of
-  event_started (event.Control s bytes) r net' of e = absurd of
+  event_started e r net' of is =
+      round_keeps kind (λ n m. IsStartedNode n → IsStartedNode m) leave_started enter_started credit_out_started credit_in_started (input_started kind) claim_started drain_started
+      AreStarted (λ ns k n m here keeps all. started_set ns k m all (keeps (all k n here))) plan nodes e of (r, net') is started

@@ -2,7 +2,7 @@
 use Rattle.c104_check.specs.Routes.{IsRandomized, Routes, link_settings, routes_of}
 use Rattle.c104_check.specs.Walks.{port_of}
 use Rattle.c104_check.specs.declared.ports.SwitchPort.{SwitchPort}
-use Rattle.c104_plan.proofs.RangeLists.{all_of_each, each_append}
+use Rattle.c104_plan.proofs.RangeLists.{all_of_each}
 use Rattle.c104_plan.specs.PlanImage.{Image}
 use Rattle.c104_plan.specs.Plans.{IsPlan, Plan}
 use Rattle.c104_plan.specs.Wiring.{peer}
@@ -16,19 +16,20 @@ use Rattle.c104_net.proofs.NodeViews.{phases}
 use Rattle.c104_net.proofs.PacketInvariant.{IsChosen, IsLabelled, Suits, group_at}
 use Rattle.c104_net.proofs.PlanWires.{wired}
 use Rattle.c104_net.proofs.Promises.{IsSettled, one, set_is}
-use Rattle.c104_net.proofs.RoundMembers.{still_of}
+use Rattle.c104_net.proofs.RoundMembers.{each_of_round, still_of}
 use Rattle.c104_run.proofs.RoundRuns.{run_append, run_from, undone_leaves}
 use Rattle.c104_net.proofs.RunSteps.{done_step_is}
 use Rattle.c104_net.proofs.SentBytes.{SendsBytes}
 use Rattle.c104_net.proofs.StillPorts.{all_quiet, depends_on}
-use Rattle.c104_net.proofs.WorkEvents.{AreStarted, AreFalling, IsOfRound, event_started, event_less}
+use Rattle.c104_net.proofs.JointKeeps.{IsOfRound}
+use Rattle.c104_net.proofs.WorkEvents.{AreStarted, AreFalling, event_started, event_less}
 use Rattle.c104_net.proofs.WorkSteps.{at_far, far_of, own}
 use Rattle.c104_run.specs.Balance.{IsSteady}
 use Rattle.c104_run.specs.EventRuns.{Outcome, run_events, unless_fault}
 use Rattle.c104_run.specs.Network.{Network, network_apply, network_of, network_step}
 use Rattle.c104_node.specs.Nodes.{Node}
 use Rattle.c104_run.specs.QuietNets.{IsQuiet}
-use Rattle.c104_run.specs.Rounds.{all_claims, all_drains, claims_of, link_numbers, round, rounds, switch_claims, turn_at, wired_ports}
+use Rattle.c104_run.specs.Rounds.{round, rounds}
 use Rattle.c104_run.specs.Standstill.{IsStarted, IsUnready}
 use Rattle.c104_check.specs.ChannelDependencies.{IsRanking}
 use Rattle.c104_node.specs.Traced.{traced_kind}
@@ -41,8 +42,8 @@ use Rattle.c104_switch.specs.Actions.{Reply, is_ready}
 use Rattle.c104_switch.specs.Group.{is_in_group}
 use Rattle.c104_switch.specs.Switch.{Input, Switch}
 use Rattle.c104_switch.specs.declared.phase.Phase.TheVariants.{Stream, Want}
-use Rattle.std.specs.List.{AllByRecursion, flat_map, range_with_len}
-use Rattle.std.proofs.Common.{Bool, Err, List, None, Ok, Option, Result, Some, [], ap, arith, false, inl, inr, length, map, refl, slice_get, subst, suc, sym, true, zero, ℕ, ⊎_elim, ◌*◌, ◌++◌, ◌+◌, ◌<◌, ◌∙◌, ◌∷◌, ◌≡◌, ◌≤◌, ◌⊎◌}
+use Rattle.std.specs.List.{AllByRecursion}
+use Rattle.std.proofs.Common.{Bool, Err, List, None, Ok, Option, Result, Some, [], ap, arith, false, inl, inr, length, refl, slice_get, subst, suc, sym, true, zero, ℕ, ⊎_elim, ◌*◌, ◌+◌, ◌<◌, ◌∙◌, ◌∷◌, ◌≡◌, ◌≤◌, ◌⊎◌}
 use Rattle.std.proofs.lemmas.Bool.{cases_Bool}
 use Rattle.c104_event.specs.declared.events.Event.TheVariants as event
 use Rattle.c104_node.specs.declared.node.NodeOf.TheVariants as node
@@ -50,56 +51,21 @@ use Rattle.c104_plan.specs.declared.ports.Port.TheVariants as port
 use Rattle.c104_switch.specs.declared.actions.ReplyOf.TheVariants as reply
 
 -- all events of a round are events of a round
-module _ {X Y : Type 0} (P : Y → Type 0) where
-  each_map : (f : X → Y) → ((x : X) → P (f x)) → (xs : List X) → AllByRecursion P (map f xs)
-  each_map f h [] = tt
-  each_map f h (x ∷ xs) = (h x, each_map f h xs)
-
-  each_flat : (f : X → List Y) → ((x : X) → AllByRecursion P (f x)) → (xs : List X) → AllByRecursion P (flat_map f xs)
-  each_flat f h [] = tt
-  each_flat f h (x ∷ xs) = each_append P (f x) (flat_map f xs) (h x) (each_flat f h xs)
-
-turns_of : (p : Port) → AllByRecursion IsOfRound (turn_at p)
-turns_of (port.Switch s l) = (tt, tt)
-turns_of (port.Terminal t) = tt
-
 of_round : (plan : Plan) → AllByRecursion IsOfRound (round plan)
-of_round plan =
-    let credits = each_map IsOfRound event.Credit (λ p. tt) (wired_ports plan) in
-    let crosses = each_map IsOfRound event.Cross (λ p. tt) (wired_ports plan) in
-    let turns = each_flat IsOfRound turn_at turns_of (wired_ports plan) in
-    let claims = each_flat IsOfRound switch_claims (λ s. each_flat IsOfRound (claims_of s) (λ i. each_map IsOfRound (event.Claim s i) (λ o. tt) link_numbers) link_numbers) (range_with_len 0 (length plan.switches)) in
-    let drains = each_map IsOfRound event.Drain (λ t. tt) (range_with_len 0 (length plan.terminals)) in
-    let a : List Event = map event.Credit (wired_ports plan) in
-    let b : List Event = map event.Cross (wired_ports plan) in
-    let c : List Event = flat_map turn_at (wired_ports plan) in
-    let d : List Event = all_claims (length plan.switches) in
-    let e : List Event = all_drains (length plan.terminals) in
-    each_append IsOfRound (a ++ b ++ c ++ d) e (each_append IsOfRound (a ++ b ++ c) d (each_append IsOfRound (a ++ b) c (each_append IsOfRound a b credits crosses) turns) claims) drains
+of_round plan = each_of_round plan IsOfRound (λ p q wire. tt) (λ p q wire. tt) (λ s l q wire. tt) (λ s i o inside input output. tt) (λ t inside. tt)
 
 may_happen : (routes : Routes) (e : Event) (r : Reply) → IsOfRound e → MayHappen routes e r
-may_happen routes (event.Cross p) r of = tt
-may_happen routes (event.Credit p) r of = tt
-may_happen routes (event.Input s l word) r of = tt
-may_happen routes (event.Claim s i o) r of = tt
-may_happen routes (event.Drain t) r of = tt
 may_happen routes (event.Send t p) r of = absurd of
 may_happen routes (event.Control s bytes) r of = absurd of
+may_happen routes e r of = tt
 
 sends_none : (e : Event) → IsOfRound e → SendsBytes e
-sends_none (event.Cross p) of = tt
-sends_none (event.Credit p) of = tt
-sends_none (event.Input s l word) of = tt
-sends_none (event.Claim s i o) of = tt
-sends_none (event.Drain t) of = tt
 sends_none (event.Send t p) of = absurd of
-sends_none (event.Control s bytes) of = absurd of
+sends_none e of = tt
 
 not_ready : (r : Reply) → is_ready r ≡ false → r ≡ reply.NotReady
-not_ready reply.Done is = absurd (cc is)
 not_ready reply.NotReady is = refl
-not_ready (reply.Token x) is = absurd (cc is)
-not_ready (reply.Control bytes) is = absurd (cc is)
+not_ready r is = absurd (cc is)
 
 module _ (plan : Plan) (image : Image) (is_plan : IsPlan plan) (labelled : IsLabelled (routes_of plan image)) (rank : SwitchPort → ℕ) (falls : IsRanking (routes_of plan image) rank) where
   goes_down : (s i l o : ℕ) (R : Port) → IsChosen (routes_of plan image) (port.Switch s i) l → group_at (routes_of plan image) (port.Switch s i) l o ≡ true → peer plan (port.Switch s o) ≡ Some R → far_of plan rank (port.Switch s o) + 1 ≤ own plan rank (port.Switch s i)

@@ -5,7 +5,7 @@ use Rattle.c104_plan.specs.declared.ports.Port.{Port}
 use Rattle.c104_check.specs.declared.ports.SwitchPort.{SwitchPort}
 use Rattle.c104_interval.specs.Selection.{select}
 use Rattle.c104_interval.specs.declared.intervals.Select.{Select}
-use Rattle.c104_interval.specs.declared.intervals.Select.TheVariants.{Discard, Link, Sink}
+use Rattle.c104_interval.specs.declared.intervals.Select.TheVariants.{Link}
 use Rattle.c104_link.proofs.MadeSteps.{at_place_made, from_place_made, given, required}
 use Rattle.c104_link.specs.Buffers.{Incoming, Outgoing, incoming_accept, incoming_grant, outgoing_credited, outgoing_emit, outgoing_put, outgoing_put_all, without_first}
 use Rattle.c104_link.specs.Steps.{step_at, yield_step_at}
@@ -123,13 +123,12 @@ module _ {A : Type 0} (plan : Plan) (rank ahead : SwitchPort → ℕ) where
       let one = accept_work (own plan rank (port.Switch s l)) (at_own plan rank ahead (port.Switch s l)) x p.buffer b eb in
       let all = input_set s S l p (with_buffer p b) ep in
       subst (λ z. full_node plan rank ahead s z ≡ full_node plan rank ahead s (node.Switch S) + (8 * own plan rank (port.Switch s l) + 2 + at_own plan rank ahead (port.Switch s l))) d (omega (arith, one, all)))))))
-  enter_work (port.Switch s l) x (node.Terminal T) m k e = absurd k
-  enter_work (port.Terminal t) x (node.Switch S) m k e = absurd k
   enter_work (port.Terminal t) x (node.Terminal T) m k e =
       given (terminal_enter x T) _ m e (λ T' f1 f2. given (incoming_accept x T.input) _ T' f1 (λ b eb g2.
       (let d : node.Terminal (with_input T b) ≡ m = cc in
       let one = accept_work 0 0 x T.input b eb in
       subst (λ z. full_node plan rank ahead (terminal_place plan t) z ≡ full_node plan rank ahead (terminal_place plan t) (node.Terminal T) + 2) d (omega (arith, one)))))
+  enter_work P x n m k e = absurd k
 
   pub leave_work : (P : Port) (n : Node A) (r : A × Node A) → Matches P n → node_leave (end_of plan P).link n ≡ Some r → full_node plan rank ahead (end_of plan P).node r.1 + (8 * far_of plan rank P + 4 + at_far plan rank ahead P) ≡ full_node plan rank ahead (end_of plan P).node n
   leave_work (port.Switch s l) (node.Switch S) r k e =
@@ -139,8 +138,6 @@ module _ {A : Type 0} (plan : Plan) (rank ahead : SwitchPort → ℕ) where
       let one = emit_work (far_of plan rank (port.Switch s l)) (at_far plan rank ahead (port.Switch s l)) q y ey in
       let all = output_set s S l q y.1 eq in
       subst (λ (z : A × Node A). full_node plan rank ahead s z.1 + (8 * far_of plan rank (port.Switch s l) + 4 + at_far plan rank ahead (port.Switch s l)) ≡ full_node plan rank ahead s (node.Switch S)) d (omega (arith, one, all))))))
-  leave_work (port.Switch s l) (node.Terminal T) r k e = absurd k
-  leave_work (port.Terminal t) (node.Switch S) r k e = absurd k
   leave_work (port.Terminal t) (node.Terminal T) r k e =
       given (terminal_leave T) _ r e (λ v f1 f2. given (outgoing_emit T.output) _ v f1 (λ y ey g2.
       (let d1 : ◌≡◌ {A = A × Terminal A} (y.0, with_output T y.1) v = cc in
@@ -150,6 +147,7 @@ module _ {A : Type 0} (plan : Plan) (rank ahead : SwitchPort → ℕ) where
       let ahead_is : ahead_at plan rank ahead (peer plan (port.Terminal (terminal_place plan t - length plan.switches))) ≡ at_far plan rank ahead (port.Terminal t) = ap (λ n. ahead_at plan rank ahead (peer plan (port.Terminal n))) (terminal_number plan t) in
       let one = emit_work far (ahead_at plan rank ahead (peer plan (port.Terminal (terminal_place plan t - length plan.switches)))) T.output y ey in
       subst (λ (z : A × Node A). full_node plan rank ahead (terminal_place plan t) z.1 + (8 * far_of plan rank (port.Terminal t) + 4 + at_far plan rank ahead (port.Terminal t)) ≡ full_node plan rank ahead (terminal_place plan t) (node.Terminal T)) d (omega (arith, one, same, ahead_is)))))
+  leave_work P n r k e = absurd k
 
   pub credit_out_work : (P : Port) (n m : Node A) → Matches P n → node_credit_out (end_of plan P).link n ≡ Some m → full_node plan rank ahead (end_of plan P).node m + 8 ≡ full_node plan rank ahead (end_of plan P).node n
   credit_out_work (port.Switch s l) (node.Switch S) m k e =
@@ -158,13 +156,12 @@ module _ {A : Type 0} (plan : Plan) (rank ahead : SwitchPort → ℕ) where
       let one = grant_work (own plan rank (port.Switch s l)) (at_own plan rank ahead (port.Switch s l)) p.buffer b eb in
       let all = input_set s S l p (with_buffer p b) ep in
       subst (λ z. full_node plan rank ahead s z + 8 ≡ full_node plan rank ahead s (node.Switch S)) d (omega (arith, one, all))))))))
-  credit_out_work (port.Switch s l) (node.Terminal T) m k e = absurd k
-  credit_out_work (port.Terminal t) (node.Switch S) m k e = absurd k
   credit_out_work (port.Terminal t) (node.Terminal T) m k e =
       given (terminal_credit_out T) _ m e (λ T' f1 f2. given (incoming_grant T.input) _ T' f1 (λ b eb g2.
       (let d : node.Terminal (with_input T b) ≡ m = cc in
       let one = grant_work 0 0 T.input b eb in
       subst (λ z. full_node plan rank ahead (terminal_place plan t) z + 8 ≡ full_node plan rank ahead (terminal_place plan t) (node.Terminal T)) d (omega (arith, one)))))
+  credit_out_work P n m k e = absurd k
 
   pub credit_in_work : (P : Port) (n m : Node A) → Matches P n → node_credit_in (end_of plan P).link n ≡ Some m → full_node plan rank ahead (end_of plan P).node m ≡ full_node plan rank ahead (end_of plan P).node n
   credit_in_work (port.Switch s l) (node.Switch S) m k e =
@@ -173,13 +170,12 @@ module _ {A : Type 0} (plan : Plan) (rank ahead : SwitchPort → ℕ) where
       let one = credited_work (far_of plan rank (port.Switch s l)) (at_far plan rank ahead (port.Switch s l)) q q' h1 in
       let all = output_set s S l q q' eq in
       subst (λ z. full_node plan rank ahead s z ≡ full_node plan rank ahead s (node.Switch S)) d (omega (arith, one, all))))))
-  credit_in_work (port.Switch s l) (node.Terminal T) m k e = absurd k
-  credit_in_work (port.Terminal t) (node.Switch S) m k e = absurd k
   credit_in_work (port.Terminal t) (node.Terminal T) m k e =
       given (terminal_credit_in T) _ m e (λ T' f1 f2. given (outgoing_credited T.output) _ T' f1 (λ q eq g2.
       (let d : node.Terminal (with_output T q) ≡ m = cc in
       let one = credited_work (level plan rank (peer plan (port.Terminal (terminal_place plan t - length plan.switches)))) (ahead_at plan rank ahead (peer plan (port.Terminal (terminal_place plan t - length plan.switches)))) T.output q eq in
       subst (λ z. full_node plan rank ahead (terminal_place plan t) z ≡ full_node plan rank ahead (terminal_place plan t) (node.Terminal T)) d (omega (arith, one)))))
+  credit_in_work P n m k e = absurd k
 
   pub drain_work : (k : ℕ) (n : Node A) (r : A × Node A) → node_drain n ≡ Some r → full_node plan rank ahead k r.1 + 1 ≤ full_node plan rank ahead k n
   drain_work k (node.Switch S) r e = absurd (cc)
@@ -203,22 +199,22 @@ module _ {A : Type 0} (plan : Plan) (rank ahead : SwitchPort → ℕ) where
 
     waits_low : (ph : Phase (List A)) → waits ph ≤ a
     waits_low Fresh = omega arith
-    waits_low (Head b) = omega arith
-    waits_low (Want b g) = omega arith
-    waits_low (Stream o) = omega arith
-    waits_low Sinking = omega arith
+    waits_low ph = omega arith
+
+    held_decided : (c : ℕ) (b : List A) (sel : Select) → weigh c (header_held (decided_phase b sel)) ≤ weigh c b
+    held_decided c b (Link g) = omega arith
+    held_decided c b sel = omega arith
+
+    waits_decided : (b : List A) (sel : Select) → waits (decided_phase b sel) ≡ 0
+    waits_decided b (Link g) = refl
+    waits_decided b sel = refl
 
     -- what is kept of a header after one more token of it
     held_after : (c : ℕ) (t : Settings) (b : List A) → weigh c (header_held (phase_after_header kind t b).0) ≤ weigh c b
     held_after c t b = ⊎_elim
-        (λ (h : nat_le (header_length t) (length b) ≡ true). rw h (decided (select t.table (header_value kind b))))
+        (λ (h : nat_le (header_length t) (length b) ≡ true). rw h (held_decided c b (select t.table (header_value kind b))))
         (λ (h : nat_le (header_length t) (length b) ≡ false). rw h (omega arith))
         (cases_Bool (nat_le (header_length t) (length b)))
-      where
-        decided : (sel : Select) → weigh c (header_held (decided_phase b sel)) ≤ weigh c b
-        decided (Link g) = omega arith
-        decided Discard = omega arith
-        decided Sink = omega arith
 
     -- an input after its first token, in any phase that holds no more than this
     used_work : (p : Input A) (x : A) (phase : Phase (List A)) (sunk short : Bool) → p.buffer.items ≡ x ∷ drop 1 p.buffer.items → full_input plan rank ahead s i (input_after_token p phase sunk short) + (8 * far + 2 + a) + weigh (8 * far) (header_held p.phase) + waits p.phase ≤ full_input plan rank ahead s i p + 1 + weigh (8 * far) (header_held phase) + waits phase
@@ -237,16 +233,6 @@ module _ {A : Type 0} (plan : Plan) (rank ahead : SwitchPort → ℕ) where
         (cases_Bool (is_end (kind.plain x)))
 
     -- a random header that is put, paid by what was counted for it
-    held_decided : (c : ℕ) (b : List A) (sel : Select) → weigh c (header_held (decided_phase b sel)) ≤ weigh c b
-    held_decided c b (Link g) = omega arith
-    held_decided c b Discard = omega arith
-    held_decided c b Sink = omega arith
-
-    waits_decided : (b : List A) (sel : Select) → waits (decided_phase b sel) ≡ 0
-    waits_decided b (Link g) = refl
-    waits_decided b Discard = refl
-    waits_decided b Sink = refl
-
     random_long : (t : Settings) (word : ℕ) → length (random_header kind t word) ≡ header_length t
     random_long t word = ⊎_elim (λ (h : t.two_byte ≡ true). rw h refl) (λ (h : t.two_byte ≡ false). rw h refl) (cases_Bool t.two_byte)
 
@@ -306,10 +292,6 @@ module _ {A : Type 0} (plan : Plan) (rank ahead : SwitchPort → ℕ) where
         subst (IsLess p S.outputs) d (omega (arith, one, held, waits_low (phase_after_token kind x Sinking)))
 
     pub claim_work : (S : Switch A) (o : ℕ) (p : Input A) (r : Input A × List (Outgoing A)) (ph : Phase (List A)) → ((b : List A) (g : ℕ) → ph ≡ Want b g → is_in_group S.settings g o ≡ true → (0 < length b) × (far_of plan rank (port.Switch s o) + 1 ≤ far) × (at_far plan rank ahead (port.Switch s o) ≡ 0)) → p.phase ≡ ph → input_claim S.settings p S.outputs o ph ≡ Some r → IsLess p S.outputs r
-    claim_work S o p r Fresh falls is e = absurd (cc)
-    claim_work S o p r (Head b) falls is e = absurd (cc)
-    claim_work S o p r (Stream q) falls is e = absurd (cc)
-    claim_work S o p r Sinking falls is e = absurd (cc)
     claim_work S o p r (Want b g) falls is e = required (is_in_group S.settings g o) _ r e (λ group f0. given (slice_get S.settings o) _ r f0 (λ t et f1. given (step_at S.outputs o (put_header t b)) _ r f1 (λ rs f2 f3. at_place_made S.outputs o (put_header t b) rs f2 (λ q q' eq put d1.
         (let d : (streaming_input p o, slice_set S.outputs o q') ≡ r = cc in
         let know = falls b g refl group in
@@ -327,3 +309,4 @@ module _ {A : Type 0} (plan : Plan) (rank ahead : SwitchPort → ℕ) where
             let heavy = weigh-append (8 * far_of plan rank (port.Switch s o) + 4 + at_far plan rank ahead (port.Switch s o)) q.items b in
             subst (λ z. full_link plan rank ahead s o z ≤ full_link plan rank ahead s o q + weigh (8 * far_of plan rank (port.Switch s o) + 4 + at_far plan rank ahead (port.Switch s o)) b) came (omega (arith, heavy))))))
             (cases_Bool t.delete_header)
+    claim_work S o p r ph falls is e = absurd (cc)

@@ -44,7 +44,7 @@ use Rattle.c104_node.specs.Starts.{start_node, start_of}
 use Rattle.c104_node.specs.Terminals.{Terminal, terminal_credit_in, terminal_credit_out, terminal_drain, terminal_enter, terminal_leave}
 use Rattle.c104_node.specs.Terminals.{terminal_send, with_input, with_output}
 
--- the input buffers of a node have room for so many tokens
+-- each input buffer of a node has room for this number of tokens
 abbrev pub IsSized : ℕ → Node Token → Type 0
 IsSized cap (node.Switch s) = All (λ (p : Input Token). p.buffer.cap ≡ cap) s.inputs
 IsSized cap (node.Terminal t) = t.input.cap ≡ cap

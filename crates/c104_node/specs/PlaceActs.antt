@@ -59,7 +59,8 @@ module _ {A : Type 0} (kind : Kind A) (keeps : Bool) where
   ActEndsAt place number stamp a olds (Err e) news = (news ≡ olds) × (wants_memory a ≡ true)
 
   -- all places after an act of the node at one
-  abbrev pub AloneDone : ℕ → ℕ → Stamp → ActOf A → List (Shown A) → Result (ReplyOf A) EventFault → List (Shown A) → Type 0
+  abbrev pub AloneDone : ℕ → ℕ → Stamp → ActOf A → List (Shown A) → Result (ReplyOf A) EventFault → List (Shown A)
+      → Type 0
   AloneDone place number stamp a olds answer news =
       AreDone keeps (act_limit (slice_get (states olds) place) a) (nodes_act kind (states olds) place number a)
       (full_at (fulls olds) place) (λ told. lone_deed stamp place (plain_act kind a) (plain_reply kind told)) olds answer news

@@ -33,44 +33,28 @@ module _ {A : Type 0} (kind : Kind A) where
   plain_acts (Acts.Joint p q crossing) = Acts.Joint p q crossing
 
   -- those of an event have none but these
+  crossing_plain : (crossing : Crossing) (p : Port) (o : Option Port) → crossing_acts crossing p o ≡ option_map plain_acts (crossing_acts crossing p o)
+  crossing_plain crossing p None = refl
+  crossing_plain crossing p (Some q) = refl
+
   acts_plain : (plan : Plan) (e : Event) → event_acts plan e ≡ option_map plain_acts (event_acts plan e)
-  acts_plain plan (event.Cross p) = by_peer (peer plan p)
-    where
-      by_peer : (o : Option Port) → crossing_acts Token p o ≡ option_map plain_acts (crossing_acts Token p o)
-      by_peer None = refl
-      by_peer (Some q) = refl
-  acts_plain plan (event.Credit p) = by_peer (peer plan p)
-    where
-      by_peer : (o : Option Port) → crossing_acts Grant p o ≡ option_map plain_acts (crossing_acts Grant p o)
-      by_peer None = refl
-      by_peer (Some q) = refl
-  acts_plain plan (event.Input s l word) = refl
-  acts_plain plan (event.Claim s i o) = refl
-  acts_plain plan (event.Control s bytes) = refl
-  acts_plain plan (event.Send t packet) = refl
-  acts_plain plan (event.Drain t) = refl
+  acts_plain plan (event.Cross p) = crossing_plain Token p (peer plan p)
+  acts_plain plan (event.Credit p) = crossing_plain Grant p (peer plan p)
+  acts_plain plan e = refl
 
   near_plain : (crossing : Crossing) (p : Port) → near_act crossing p ≡ plain_act kind (near_act crossing p)
   near_plain Token (port.Switch s l) = refl
-  near_plain Token (port.Terminal t) = refl
   near_plain Grant (port.Switch s l) = refl
-  near_plain Grant (port.Terminal t) = refl
+  near_plain crossing p = refl
 
   far_plain : (q : Port) (r : ReplyOf A) → far_act q (plain_reply kind r) ≡ plain_act kind (far_act q r)
-  far_plain (port.Switch s l) reply.Done = refl
-  far_plain (port.Switch s l) reply.NotReady = refl
   far_plain (port.Switch s l) (reply.Token x) = refl
-  far_plain (port.Switch s l) (reply.Control bytes) = refl
-  far_plain (port.Terminal t) reply.Done = refl
-  far_plain (port.Terminal t) reply.NotReady = refl
   far_plain (port.Terminal t) (reply.Token x) = refl
-  far_plain (port.Terminal t) (reply.Control bytes) = refl
+  far_plain q r = refl
 
   ready_plain : (r : ReplyOf A) → is_ready (plain_reply kind r) ≡ is_ready r
-  ready_plain reply.Done = refl
   ready_plain reply.NotReady = refl
-  ready_plain (reply.Token x) = refl
-  ready_plain (reply.Control bytes) = refl
+  ready_plain r = refl
 
   -- what is kept of acts
   deeds_plain : (plan : Plan) (stamp : Stamp) (acts : Acts A) (r : ReplyOf A) → acts_deeds plan stamp (plain_acts acts) (plain_reply kind r) ≡ acts_kept kind plan stamp acts r

@@ -40,21 +40,16 @@ module _ {A : Type 0} (kind : Kind A) where
 
 -- what crosses a wire in an event crosses that of its port
 pub joint_wired : {A : Type 0} (plan : Plan) (e : Event) (p q : Port) (crossing : Crossing) → ◌≡◌ {A = Option (Acts A)} (event_acts plan e) (Some (Acts.Joint p q crossing)) → peer plan p ≡ Some q
-joint_wired {A} plan (event.Cross o) p q crossing is = by_peer (peer plan o) refl is
+joint_wired {A} plan e p q crossing is = by_event e is
   where
-    by_peer : (other : Option Port) → peer plan o ≡ other → ◌≡◌ {A = Option (Acts A)} (crossing_acts Token o other) (Some (Acts.Joint p q crossing)) → peer plan p ≡ Some q
-    by_peer None wired is = absurd (cc)
-    by_peer (Some r) wired is = let near : o ≡ p = cc in let far : r ≡ q = cc in sym (ap (peer plan) near) ∙ wired ∙ ap Some far
-joint_wired {A} plan (event.Credit o) p q crossing is = by_peer (peer plan o) refl is
-  where
-    by_peer : (other : Option Port) → peer plan o ≡ other → ◌≡◌ {A = Option (Acts A)} (crossing_acts Grant o other) (Some (Acts.Joint p q crossing)) → peer plan p ≡ Some q
-    by_peer None wired is = absurd (cc)
-    by_peer (Some r) wired is = let near : o ≡ p = cc in let far : r ≡ q = cc in sym (ap (peer plan) near) ∙ wired ∙ ap Some far
-joint_wired plan (event.Input s l word) p q crossing is = absurd (cc)
-joint_wired plan (event.Claim s i o) p q crossing is = absurd (cc)
-joint_wired plan (event.Control s bytes) p q crossing is = absurd (cc)
-joint_wired plan (event.Send t packet) p q crossing is = absurd (cc)
-joint_wired plan (event.Drain t) p q crossing is = absurd (cc)
+    by_peer : (c : Crossing) (o : Port) (other : Option Port) → peer plan o ≡ other → ◌≡◌ {A = Option (Acts A)} (crossing_acts c o other) (Some (Acts.Joint p q crossing)) → peer plan p ≡ Some q
+    by_peer c o None wired is = absurd (cc)
+    by_peer c o (Some r) wired is = let near : o ≡ p = cc in let far : r ≡ q = cc in sym (ap (peer plan) near) ∙ wired ∙ ap Some far
+
+    by_event : (e : Event) → ◌≡◌ {A = Option (Acts A)} (event_acts plan e) (Some (Acts.Joint p q crossing)) → peer plan p ≡ Some q
+    by_event (event.Cross o) is = by_peer Token o (peer plan o) refl is
+    by_event (event.Credit o) is = by_peer Grant o (peer plan o) refl is
+    by_event e is = absurd (cc)
 
 -- where the near end isn't ready, nothing crosses
 module _ {A : Type 0} (kind : Kind A) where

@@ -1,13 +1,16 @@
 -- What a change at one place of a list says of a number that is read at the places.
-use Rattle.std.proofs.Common.{◌≡◌, ◌≢◌, ◌<◌, ◌+◌, ◌-◌, ◌++◌, ℕ, zero, suc, true, false, inl, inr, List, [], ◌∷◌, Option, Some, length, map, replicate, slice_get, slice_set, refl, sym, ◌∙◌, ap, subst, arith}
+use Rattle.std.proofs.Common.{◌≡◌, ◌≢◌, ◌<◌, ◌+◌, ◌-◌, ℕ, zero, suc, true, false, nat_lt, inl, inr, List, [], ◌∷◌, Option, Some, length, map, slice_get, slice_set, refl, sym, ◌∙◌, ap, subst, arith}
 use Rattle.std.proofs.lemmas.Bool.{cases_eq}
+use Rattle.std.proofs.lemmas.Bool.Decides.{nat_tests}
 use Rattle.c104_link.specs.Steps.{◌>>=◌}
 use Rattle.c104_node.specs.declared.ends.End.{End}
 use Rattle.c104_node.specs.Nodes.{Node, is_switch}
 use Rattle.c104_plan.specs.Plans.{Plan}
 use Rattle.c104_run.specs.Balance.{credit_of, granted_of, AreInPlace}
 use Rattle.c104_node.proofs.WireEnds.{get_set_same, get_set_other}
+use Rattle.c104_node.specs.Traces.{part}
 use Rattle.c104_run.proofs.BalanceWires.{AreApart}
+use Rattle.c104_run.proofs.RunRecords.{in_place}
 
 -- a number that changes, where there is one
 abbrev pub changed : (ℕ → ℕ) → Option ℕ → Option ℕ
@@ -53,20 +56,11 @@ read_at reading nodes end = slice_get nodes end.node >>= reading end.link
 abbrev pub AreSwitches : {A : Type 0} → ℕ → List (Node A) → Type 0
 AreSwitches {A} count nodes = (place : ℕ) (n : Node A) → place < count → slice_get nodes place ≡ Some n → is_switch n ≡ true
 
-first_true : {A : Type 0} (a b : ℕ) (nodes : List (Node A)) → map is_switch nodes ≡ replicate a true ++ replicate b false → AreSwitches a nodes
-first_true zero b nodes are place n inside at = absurd (omega arith)
-first_true (suc a) b [] are place n inside at = cc
-first_true (suc a) b (m ∷ nodes) are zero n inside at =
-    let same : m ≡ n = cc in
-    let kind : is_switch m ≡ true = cc in
-    ap is_switch (sym same) ∙ kind
-first_true (suc a) b (m ∷ nodes) are (suc place) n inside at =
-    let rest : map is_switch nodes ≡ replicate a true ++ replicate b false = cc in
-    first_true a b nodes rest place n (omega arith) at
-
 -- nodes that are in place have their switches first
 pub switches_first : {A : Type 0} (plan : Plan) (nodes : List (Node A)) → AreInPlace plan nodes → AreSwitches (length plan.switches) nodes
-switches_first plan nodes = first_true (length plan.switches) (length plan.terminals) nodes
+switches_first plan nodes are place n inside at =
+    let first : nat_lt place (length plan.switches) ≡ true = grind (arith, nat_tests, inside) in
+    sym (ap (part false is_switch) at) ∙ in_place plan nodes are place ∙ first
 
 -- a step of one node over one link: one number is kept at every link, and one changes at this one
 pub record Acts {A : Type 0} (kept moved : Reading A) (change : ℕ → ℕ) (l : ℕ) (n m : Node A) : Type 0 where

@@ -88,12 +88,9 @@ module _ {A : Type 0} where
 
   -- a claim
   pub claimed_keeps : (settings : _) (p : Input A) (qs : List (Outgoing A)) (o : ℕ) (phase : Phase (List A)) (r : Input A × List (Outgoing A)) → input_claim settings p qs o phase ≡ Some r → KeepsSides p qs r.0 r.1
-  claimed_keeps settings p qs o Fresh r is = cc
-  claimed_keeps settings p qs o (Head b) r is = cc
   claimed_keeps settings p qs o (Want b g) r is = required (is_in_group settings g o) _ r is (λ joined more. given (slice_get settings o) _ r more (λ t own most. given (step_at qs o (put_header t b)) _ r most (λ rs made last.
       keeps_made p qs (streaming_input p o) rs r last refl (outputs_keep qs o (put_header t b) rs made (put_header_keeps t b)))))
-  claimed_keeps settings p qs o (Stream q) r is = cc
-  claimed_keeps settings p qs o Sinking r is = cc
+  claimed_keeps settings p qs o phase r is = cc
 
   -- an input that is one of two that granted the same
   granted_either : (n : ℕ) (b : Bool) (p q : Input A) → p.buffer.granted ≡ n → q.buffer.granted ≡ n → (if b then p else q).buffer.granted ≡ n

@@ -16,17 +16,15 @@ HasRoom traces k = (trace : List Entry) × (slice_get traces k ≡ Some trace) �
 
 -- the entries of an event, each with room for it: one entry, or one at each of two nodes
 abbrev pub HaveRoom : List (List Entry) → List Deed → Type 0
-HaveRoom traces [] = ⊥
 HaveRoom traces (d ∷ []) = HasRoom traces d.0
 HaveRoom traces (d ∷ e ∷ []) = HasRoom traces d.0 × HasRoom traces e.0 × (d.0 ≢ e.0)
-HaveRoom traces (d ∷ e ∷ f ∷ deeds) = ⊥
+HaveRoom traces deeds = ⊥
 
 -- lists that have elements at the same places are equally long
 pub lengths_same : {X Y : Type 0} (xs : List X) (ys : List Y) (f : ℕ → Y → X) → ((k : ℕ) → slice_get xs k ≡ option_map (f k) (slice_get ys k)) → length xs ≡ length ys
 lengths_same [] [] f same = refl
-lengths_same [] (y ∷ ys) f same = let first = same 0 in cc
-lengths_same (x ∷ xs) [] f same = let first = same 0 in cc
 lengths_same (x ∷ xs) (y ∷ ys) f same = ap suc (lengths_same xs ys (λ k. f (suc k)) (λ k. same (suc k)))
+lengths_same xs ys f same = let first = same 0 in cc
 
 -- a trace that isn't full, at the place of a node
 pub room_there : {X : Type 0} (nodes : List X) (traces : List (List Entry)) (k : ℕ) (n : X) → length traces ≡ length nodes → slice_get nodes k ≡ Some n → full_at (map is_trace_full traces) k ≡ false → HasRoom traces k
@@ -63,19 +61,17 @@ module _ (traces : List (List Entry)) (k : ℕ) (e : Entry) (room : HasRoom trac
 
 -- the same of the entries of one event
 pub all_more : (traces : List (List Entry)) (deeds : List Deed) → HaveRoom traces deeds → total_entries traces + 1 ≤ total_entries (noted_all true traces deeds)
-all_more traces [] room = absurd room
 all_more traces (d ∷ []) room = let one = noted_more traces d.0 d.1 room in omega (arith, one)
 all_more traces (d ∷ e ∷ []) room =
     let first = noted_more traces d.0 d.1 room.0 in
     let second = noted_more (noted_at true traces d.0 d.1) e.0 e.1 (room_elsewhere traces d.0 d.1 room.0 e.0 room.1 room.2) in
     omega (arith, first, second)
-all_more traces (d ∷ e ∷ f ∷ deeds) room = absurd room
+all_more traces deeds room = absurd room
 
 pub all_within : (traces : List (List Entry)) (deeds : List Deed) → HaveRoom traces deeds → All IsWithinLimit traces → All IsWithinLimit (noted_all true traces deeds)
-all_within traces [] room all = absurd room
 all_within traces (d ∷ []) room all = noted_within traces d.0 d.1 room all
 all_within traces (d ∷ e ∷ []) room all = noted_within (noted_at true traces d.0 d.1) e.0 e.1 (room_elsewhere traces d.0 d.1 room.0 e.0 room.1 room.2) (noted_within traces d.0 d.1 room.0 all)
-all_within traces (d ∷ e ∷ f ∷ deeds) room all = absurd room
+all_within traces deeds room all = absurd room
 
 -- how many entries there can be
 pub total_below : (traces : List (List Entry)) → All IsWithinLimit traces → total_entries traces ≤ length traces * trace_limit

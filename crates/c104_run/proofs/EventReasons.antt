@@ -93,10 +93,9 @@ module _ {A : Type 0} where
         (said_at net.nodes s (node_input_why l) (IsInputReason l word) (input_says l word))
     says (event.Claim s i o) = carried (claim_reason s i o) (IsSaid (IsNodeClaimReason i o) (slice_get net.nodes s)) (IsEventReason net (event.Claim s i o)) (λ u said. (refl, said)) (why_at net.nodes s (node_claim_why i o))
         (said_at net.nodes s (node_claim_why i o) (IsNodeClaimReason i o) (claim_says i o))
-    says (event.Control s bytes) = tt
-    says (event.Send t packet) = tt
     says (event.Drain t) = carried (λ u. record { port = port.Terminal t; unready = u }) (IsSaid IsDrainReason (slice_get net.nodes (terminal_place net.plan t))) (IsEventReason net (event.Drain t)) (λ u said. (refl, said)) (why_at net.nodes (terminal_place net.plan t) node_drain_why)
         (said_at net.nodes (terminal_place net.plan t) node_drain_why IsDrainReason drain_says)
+    says e = tt
 
     pub event_reason_holds : (e : Event) → IfSome (network_why net e) (IsEventReason net e)
     event_reason_holds e = by_fault (event_fault net.plan e)

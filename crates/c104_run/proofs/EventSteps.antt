@@ -4,6 +4,7 @@ use Rattle.c104_plan.specs.Plans.{IsPlan, Plan}
 use Rattle.c104_plan.specs.Wiring.{peer}
 use Rattle.c104_plan.specs.declared.ports.Port.{Port}
 use Rattle.c104_event.specs.declared.events.Event.{Event}
+use Rattle.c104_link.proofs.MadeSteps.{at_place_made, from_place_made}
 use Rattle.c104_link.specs.Steps.{◌>>=◌, step_at, yield_step_at}
 use Rattle.c104_run.proofs.BalanceWires.{nodes_apart, peer_back, switch_inside}
 use Rattle.c104_node.proofs.WireEnds.{get_set_other}
@@ -66,41 +67,64 @@ abbrev is_switch_port : Port → Bool
 is_switch_port (port.Switch s l) = true
 is_switch_port (port.Terminal t) = false
 
+-- an act at a place, as the step that its name says
+module _ {A : Type 0} (nodes : List (Node A)) (k : ℕ) (act_of : Node A → Option (ReplyOf A × Node A)) where
+  abbrev put_reply : ReplyOf A × Node A → Option (ReplyOf A × List (Node A))
+  put_reply y = Some (y.0, slice_set nodes k y.1)
+
+  done_at : (f : Node A → Option (Node A)) → ((n : Node A) → slice_get nodes k ≡ Some n → act_of n ≡ done_by (f n)) → yield_step_at nodes k act_of ≡ done_by (step_at nodes k f)
+  done_at f same = by_node (slice_get nodes k) refl
+    where
+      by_made : (made : Option (Node A)) → (done_by {A = A} made >>= put_reply) ≡ done_by {A = A} (made >>= (λ y. Some (slice_set nodes k y)))
+      by_made None = refl
+      by_made (Some m) = refl
+
+      by_node : (o : Option (Node A)) → slice_get nodes k ≡ o → (o >>= (λ x. act_of x >>= put_reply)) ≡ done_by {A = A} (o >>= (λ x. f x >>= (λ y. Some (slice_set nodes k y))))
+      by_node None at = refl
+      by_node (Some n) at = ap (λ (made : Option (ReplyOf A × Node A)). made >>= put_reply) (same n at) ∙ by_made (f n)
+
+  -- the same, where a token or a reply to a command comes of it
+  module _ {Y : Type 0} (answer : Y → ReplyOf A) where
+    abbrev answered : {S : Type 0} → Option (Y × S) → Option (ReplyOf A × S)
+    answered made = made >>= (λ r. Some (answer r.0, r.1))
+
+    abbrev put_yield : Y × Node A → Option (Y × List (Node A))
+    put_yield y = Some (y.0, slice_set nodes k y.1)
+
+    yield_at : (f : Node A → Option (Y × Node A)) → ((n : Node A) → slice_get nodes k ≡ Some n → act_of n ≡ answered (f n)) → yield_step_at nodes k act_of ≡ answered (yield_step_at nodes k f)
+    yield_at f same = by_node (slice_get nodes k) refl
+      where
+        by_made : (made : Option (Y × Node A)) → (answered made >>= put_reply) ≡ answered (made >>= put_yield)
+        by_made None = refl
+        by_made (Some m) = refl
+
+        by_node : (o : Option (Node A)) → slice_get nodes k ≡ o → (o >>= (λ x. act_of x >>= put_reply)) ≡ answered (o >>= (λ x. f x >>= put_yield))
+        by_node None at = refl
+        by_node (Some n) at = ap (λ (made : Option (ReplyOf A × Node A)). made >>= put_reply) (same n at) ∙ by_made (f n)
+
 module _ {A : Type 0} (kind : Kind A) where
-  -- one act at a place, as the step that its name says
+  -- what comes of a step, as it is told
+  token_told : (net : Network A) (made : Option (A × List (Node A))) → token_step kind net made ≡ told_step kind net (token_by made)
+  token_told net None = refl
+  token_told net (Some r) = refl
+
+  done_told : (net : Network A) (made : Option (List (Node A))) → done_step kind net made ≡ told_step kind net (done_by {A = A} made)
+  done_told net None = refl
+  done_told net (Some r) = refl
+
+  control_told : (net : Network A) (made : Option (List ℕ × List (Node A))) → control_step kind net made ≡ told_step kind net (control_by {A = A} made)
+  control_told net None = refl
+  control_told net (Some r) = refl
+
   module _ (net : Network A) (k number : ℕ) (a : ActOf A) where
     done_alone : (f : Node A → Option (Node A)) → ((n : Node A) → node_act kind number a n ≡ done_by (f n)) → done_step kind net (step_at net.nodes k f) ≡ told_step kind net (nodes_act kind net.nodes k number a)
-    done_alone f same = by_node (slice_get net.nodes k)
-      where
-        by_made : (n : Node A) (made : Option (Node A)) → done_step kind net (made >>= (λ y. Some (slice_set net.nodes k y))) ≡ told_step kind net (done_by made >>= (λ y. Some (y.0, slice_set net.nodes k y.1)))
-        by_made n None = refl
-        by_made n (Some m) = refl
-
-        by_node : (o : Option (Node A)) → done_step kind net (o >>= (λ x. f x >>= (λ y. Some (slice_set net.nodes k y)))) ≡ told_step kind net (o >>= (λ x. node_act kind number a x >>= (λ y. Some (y.0, slice_set net.nodes k y.1))))
-        by_node None = refl
-        by_node (Some n) = by_made n (f n) ∙ ap (λ (made : Option (ReplyOf A × Node A)). told_step kind net (made >>= (λ y. Some (y.0, slice_set net.nodes k y.1)))) (sym (same n))
+    done_alone f same = done_told net (step_at net.nodes k f) ∙ ap (told_step kind net) (sym (done_at net.nodes k (node_act kind number a) f (λ n at. same n)))
 
     token_alone : (f : Node A → Option (A × Node A)) → ((n : Node A) → node_act kind number a n ≡ token_by (f n)) → token_step kind net (yield_step_at net.nodes k f) ≡ told_step kind net (nodes_act kind net.nodes k number a)
-    token_alone f same = by_node (slice_get net.nodes k)
-      where
-        by_made : (n : Node A) (made : Option (A × Node A)) → token_step kind net (made >>= (λ y. Some (y.0, slice_set net.nodes k y.1))) ≡ told_step kind net (token_by made >>= (λ y. Some (y.0, slice_set net.nodes k y.1)))
-        by_made n None = refl
-        by_made n (Some m) = refl
-
-        by_node : (o : Option (Node A)) → token_step kind net (o >>= (λ x. f x >>= (λ y. Some (y.0, slice_set net.nodes k y.1)))) ≡ told_step kind net (o >>= (λ x. node_act kind number a x >>= (λ y. Some (y.0, slice_set net.nodes k y.1))))
-        by_node None = refl
-        by_node (Some n) = by_made n (f n) ∙ ap (λ (made : Option (ReplyOf A × Node A)). told_step kind net (made >>= (λ y. Some (y.0, slice_set net.nodes k y.1)))) (sym (same n))
+    token_alone f same = token_told net (yield_step_at net.nodes k f) ∙ ap (told_step kind net) (sym (yield_at net.nodes k (node_act kind number a) reply.Token f (λ n at. same n)))
 
     control_alone : (f : Node A → Option (List ℕ × Node A)) → ((n : Node A) → node_act kind number a n ≡ control_by (f n)) → control_step kind net (yield_step_at net.nodes k f) ≡ told_step kind net (nodes_act kind net.nodes k number a)
-    control_alone f same = by_node (slice_get net.nodes k)
-      where
-        by_made : (n : Node A) (made : Option (List ℕ × Node A)) → control_step kind net (made >>= (λ y. Some (y.0, slice_set net.nodes k y.1))) ≡ told_step kind net (control_by made >>= (λ y. Some (y.0, slice_set net.nodes k y.1)))
-        by_made n None = refl
-        by_made n (Some m) = refl
-
-        by_node : (o : Option (Node A)) → control_step kind net (o >>= (λ x. f x >>= (λ y. Some (y.0, slice_set net.nodes k y.1)))) ≡ told_step kind net (o >>= (λ x. node_act kind number a x >>= (λ y. Some (y.0, slice_set net.nodes k y.1))))
-        by_node None = refl
-        by_node (Some n) = by_made n (f n) ∙ ap (λ (made : Option (ReplyOf A × Node A)). told_step kind net (made >>= (λ y. Some (y.0, slice_set net.nodes k y.1)))) (sym (same n))
+    control_alone f same = control_told net (yield_step_at net.nodes k f) ∙ ap (told_step kind net) (sym (yield_at net.nodes k (node_act kind number a) reply.Control f (λ n at. same n)))
 
   input_act : (l word number : ℕ) (n : Node A) → node_act kind number (act.Step (action.Input l word)) n ≡ done_by (node_input kind l word n)
   input_act l word number (node.Switch s) = refl
@@ -118,27 +142,23 @@ module _ {A : Type 0} (kind : Kind A) where
   module _ (plan : Plan) where
     leave_is : (p : Port) (n : Node A) → is_switch n ≡ is_switch_port p → node_act kind 0 (port_leave p) n ≡ token_by (node_leave (end_of plan p).link n)
     leave_is (port.Switch s l) (node.Switch x) fits = refl
-    leave_is (port.Switch s l) (node.Terminal x) fits = absurd (cc)
-    leave_is (port.Terminal t) (node.Switch x) fits = absurd (cc)
     leave_is (port.Terminal t) (node.Terminal x) fits = refl
+    leave_is p n fits = absurd (cc fits)
 
     enter_is : (p : Port) (x : A) (n : Node A) → is_switch n ≡ is_switch_port p → node_act kind 0 (port_enter x p) n ≡ done_by (node_enter x (end_of plan p).link n)
     enter_is (port.Switch s l) x (node.Switch y) fits = refl
-    enter_is (port.Switch s l) x (node.Terminal y) fits = absurd (cc)
-    enter_is (port.Terminal t) x (node.Switch y) fits = absurd (cc)
     enter_is (port.Terminal t) x (node.Terminal y) fits = refl
+    enter_is p x n fits = absurd (cc fits)
 
     credit_out_is : (p : Port) (n : Node A) → is_switch n ≡ is_switch_port p → node_act kind 0 (port_credit_out p) n ≡ done_by (node_credit_out (end_of plan p).link n)
     credit_out_is (port.Switch s l) (node.Switch y) fits = refl
-    credit_out_is (port.Switch s l) (node.Terminal y) fits = absurd (cc)
-    credit_out_is (port.Terminal t) (node.Switch y) fits = absurd (cc)
     credit_out_is (port.Terminal t) (node.Terminal y) fits = refl
+    credit_out_is p n fits = absurd (cc fits)
 
     credit_in_is : (p : Port) (n : Node A) → is_switch n ≡ is_switch_port p → node_act kind 0 (port_credit_in p) n ≡ done_by (node_credit_in (end_of plan p).link n)
     credit_in_is (port.Switch s l) (node.Switch y) fits = refl
-    credit_in_is (port.Switch s l) (node.Terminal y) fits = absurd (cc)
-    credit_in_is (port.Terminal t) (node.Switch y) fits = absurd (cc)
     credit_in_is (port.Terminal t) (node.Terminal y) fits = refl
+    credit_in_is p n fits = absurd (cc fits)
 
   module _ (plan : Plan) (is_plan : IsPlan plan) (nodes : List (Node A)) (placed : AreInPlace plan nodes) where
     -- the node at a wired port is of the port's kind
@@ -149,87 +169,55 @@ module _ {A : Type 0} (kind : Kind A) where
         by_port (port.Switch s l) q wired = let inside : s < length plan.switches = (switch_inside plan is_plan s l q wired).0 in grind (arith, nat_tests)
         by_port (port.Terminal t) q wired = grind (arith, nat_tests)
 
+    -- what the act at the far end leaves is answered as at the near one
+    abbrev answer_as : ReplyOf A → ReplyOf A × List (Node A) → Option (ReplyOf A × List (Node A))
+    answer_as r s = Some (r, s.1)
+
     abbrev after_near : Port → Port → ReplyOf A × List (Node A) → Option (ReplyOf A × List (Node A))
-    after_near p q r = nodes_act kind r.1 (port_place plan q) 0 (far_act q r.0) >>= (λ s. Some (r.0, s.1))
-
-    abbrev set_at : {Y : Type 0} → List (Node A) → Port → Y × Node A → Option (Y × List (Node A))
-    set_at ns p y = Some (y.0, slice_set ns (port_place plan p) y.1)
-
-    abbrev put_at : List (Node A) → Port → Node A → Option (List (Node A))
-    put_at ns p y = Some (slice_set ns (port_place plan p) y)
-
-    abbrev done_near : Port → Node A → ReplyOf A × List (Node A)
-    done_near p m = (reply.Done, slice_set nodes (port_place plan p) m)
-
-    abbrev token_near : Port → A → Node A → ReplyOf A × List (Node A)
-    token_near p x m = (reply.Token x, slice_set nodes (port_place plan p) m)
+    after_near p q r = nodes_act kind r.1 (port_place plan q) 0 (far_act q r.0) >>= answer_as r.0
 
     abbrev with_token : A → List (Node A) → Option (A × List (Node A))
     with_token x ns = Some (x, ns)
 
     module _ (p q : Port) (wired : peer plan p ≡ Some q) where
-      -- the node at the far end is as it was
-      far_same : (m : Node A) → slice_get (slice_set nodes (port_place plan p) m) (port_place plan q) ≡ slice_get nodes (port_place plan q)
-      far_same m = get_set_other nodes (port_place plan p) (port_place plan q) m (nodes_apart plan is_plan p q wired)
+      -- the node at the far end is as it was, and of its port's kind
+      far_fits : (m n : Node A) → slice_get (slice_set nodes (port_place plan p) m) (port_place plan q) ≡ Some n → is_switch n ≡ is_switch_port q
+      far_fits m n at = fits_there q p n (peer_back plan is_plan p q wired) (sym (get_set_other nodes (port_place plan p) (port_place plan q) m (nodes_apart plan is_plan p q wired)) ∙ at)
 
       -- a crossing, as the steps at both ends
       cross_is : acts_step kind plan nodes (Acts.Joint p q Token) ≡ token_by (nodes_cross nodes (end_of plan p) (end_of plan q))
-      cross_is = by_near (slice_get nodes (port_place plan p)) refl
+      cross_is =
+          ap (λ (made : Option (ReplyOf A × List (Node A))). made >>= after_near p q) (yield_at nodes (port_place plan p) (node_act kind 0 (port_leave p)) reply.Token (node_leave (end_of plan p).link) (λ n at. leave_is plan p n (fits_there p q n wired at)))
+          ∙ by_left (yield_step_at nodes (port_place plan p) (node_leave (end_of plan p).link)) refl
         where
-          by_far : (x : A) (m : Node A) (o : Option (Node A)) → slice_get (slice_set nodes (port_place plan p) m) (port_place plan q) ≡ o →
-              after_near p q (token_near p x m) ≡ token_by (step_at (slice_set nodes (port_place plan p) m) (port_place plan q) (node_enter x (end_of plan q).link) >>= with_token x)
-          by_far x m None at = rw at refl
-          by_far x m (Some n) at = rw (at, enter_is plan q x n (fits_there q p n (peer_back plan is_plan p q wired) (sym (far_same m) ∙ at))) (by_made (node_enter x (end_of plan q).link n))
-            where
-              by_made : (made : Option (Node A)) →
-                  ((done_by {A = A} made >>= set_at (slice_set nodes (port_place plan p) m) q) >>= (λ (s : ReplyOf A × List (Node A)). Some (reply.Token x, s.1)))
-                  ≡ token_by ((made >>= put_at (slice_set nodes (port_place plan p) m) q) >>= with_token x)
-              by_made None = refl
-              by_made (Some y) = refl
+          by_made : (x : A) (made : Option (List (Node A))) → (done_by {A = A} made >>= answer_as (reply.Token x)) ≡ token_by (made >>= with_token x)
+          by_made x None = refl
+          by_made x (Some ns) = refl
 
-          by_left : (made : Option (A × Node A)) →
-              ((token_by made >>= set_at nodes p) >>= after_near p q)
-              ≡ token_by ((made >>= set_at nodes p) >>= (λ (r : A × List (Node A)). step_at r.1 (port_place plan q) (node_enter r.0 (end_of plan q).link) >>= with_token r.0))
-          by_left None = refl
-          by_left (Some m) = by_far m.0 m.1 (slice_get (slice_set nodes (port_place plan p) m.1) (port_place plan q)) refl
-
-          by_near : (o : Option (Node A)) → slice_get nodes (port_place plan p) ≡ o → acts_step kind plan nodes (Acts.Joint p q Token) ≡ token_by (nodes_cross nodes (end_of plan p) (end_of plan q))
-          by_near None at = rw at refl
-          by_near (Some n) at = rw (at, leave_is plan p n (fits_there p q n wired at)) (by_left (node_leave (end_of plan p).link n))
+          by_left : (o : Option (A × List (Node A))) → yield_step_at nodes (port_place plan p) (node_leave (end_of plan p).link) ≡ o → (token_by o >>= after_near p q) ≡ token_by (o >>= (λ (r : A × List (Node A)). step_at r.1 (port_place plan q) (node_enter r.0 (end_of plan q).link) >>= with_token r.0))
+          by_left None left = refl
+          by_left (Some r) left = from_place_made nodes (port_place plan p) (node_leave (end_of plan p).link) r left (λ n y here made set.
+              (let after : slice_set nodes (port_place plan p) y.1 ≡ r.1 = ap (λ (z : A × List (Node A)). z.1) set in
+              ap (λ (made : Option (ReplyOf A × List (Node A))). made >>= answer_as (reply.Token r.0)) (done_at r.1 (port_place plan q) (node_act kind 0 (port_enter r.0 q)) (node_enter r.0 (end_of plan q).link)
+              (λ m at. enter_is plan q r.0 m (far_fits y.1 m (ap (λ ns. slice_get ns (port_place plan q)) after ∙ at))))
+              ∙ by_made r.0 (step_at r.1 (port_place plan q) (node_enter r.0 (end_of plan q).link))))
 
       -- and so a grant
       credit_is : acts_step kind plan nodes (Acts.Joint p q Grant) ≡ done_by {A = A} (nodes_credit nodes (end_of plan p) (end_of plan q))
-      credit_is = by_near (slice_get nodes (port_place plan p)) refl
+      credit_is =
+          ap (λ (made : Option (ReplyOf A × List (Node A))). made >>= after_near p q) (done_at nodes (port_place plan p) (node_act kind 0 (port_credit_out p)) (node_credit_out (end_of plan p).link) (λ n at. credit_out_is plan p n (fits_there p q n wired at)))
+          ∙ by_out (step_at nodes (port_place plan p) (node_credit_out (end_of plan p).link)) refl
         where
-          by_far : (m : Node A) (o : Option (Node A)) → slice_get (slice_set nodes (port_place plan p) m) (port_place plan q) ≡ o →
-              after_near p q (done_near p m) ≡ done_by {A = A} (step_at (slice_set nodes (port_place plan p) m) (port_place plan q) (node_credit_in (end_of plan q).link))
-          by_far m None at = rw at refl
-          by_far m (Some n) at = rw (at, credit_in_is plan q n (fits_there q p n (peer_back plan is_plan p q wired) (sym (far_same m) ∙ at))) (by_made (node_credit_in (end_of plan q).link n))
-            where
-              by_made : (made : Option (Node A)) →
-                  ((done_by {A = A} made >>= set_at (slice_set nodes (port_place plan p) m) q) >>= (λ (s : ReplyOf A × List (Node A)). Some (reply.Done, s.1)))
-                  ≡ done_by {A = A} (made >>= put_at (slice_set nodes (port_place plan p) m) q)
-              by_made None = refl
-              by_made (Some y) = refl
+          by_made : (made : Option (List (Node A))) → (done_by {A = A} made >>= answer_as reply.Done) ≡ done_by {A = A} made
+          by_made None = refl
+          by_made (Some ns) = refl
 
-          by_out : (made : Option (Node A)) →
-              ((done_by {A = A} made >>= set_at nodes p) >>= after_near p q)
-              ≡ done_by {A = A} ((made >>= put_at nodes p) >>= (λ granted. step_at granted (port_place plan q) (node_credit_in (end_of plan q).link)))
-          by_out None = refl
-          by_out (Some m) = by_far m (slice_get (slice_set nodes (port_place plan p) m) (port_place plan q)) refl
-
-          by_near : (o : Option (Node A)) → slice_get nodes (port_place plan p) ≡ o → acts_step kind plan nodes (Acts.Joint p q Grant) ≡ done_by {A = A} (nodes_credit nodes (end_of plan p) (end_of plan q))
-          by_near None at = rw at refl
-          by_near (Some n) at = rw (at, credit_out_is plan p n (fits_there p q n wired at)) (by_out (node_credit_out (end_of plan p).link n))
-
-  -- what comes of a token or of a mere step, as it is told
-  token_told : (net : Network A) (made : Option (A × List (Node A))) → token_step kind net made ≡ told_step kind net (token_by made)
-  token_told net None = refl
-  token_told net (Some r) = refl
-
-  done_told : (net : Network A) (made : Option (List (Node A))) → done_step kind net made ≡ told_step kind net (done_by {A = A} made)
-  done_told net None = refl
-  done_told net (Some r) = refl
+          by_out : (o : Option (List (Node A))) → step_at nodes (port_place plan p) (node_credit_out (end_of plan p).link) ≡ o → (done_by {A = A} o >>= after_near p q) ≡ done_by {A = A} (o >>= (λ granted. step_at granted (port_place plan q) (node_credit_in (end_of plan q).link)))
+          by_out None out = refl
+          by_out (Some granted) out = at_place_made nodes (port_place plan p) (node_credit_out (end_of plan p).link) granted out (λ n y here made set.
+              ap (λ (made : Option (ReplyOf A × List (Node A))). made >>= answer_as reply.Done) (done_at granted (port_place plan q) (node_act kind 0 (port_credit_in q)) (node_credit_in (end_of plan q).link)
+              (λ m at. credit_in_is plan q m (far_fits y m (ap (λ ns. slice_get ns (port_place plan q)) set ∙ at))))
+              ∙ by_made (step_at granted (port_place plan q) (node_credit_in (end_of plan q).link)))
 
   -- what an event of one node answers and leaves needs no more
   pub input_named : (net : Network A) (s l word : ℕ) → done_step kind net (step_at net.nodes s (node_input kind l word)) ≡ network_step kind net (event.Input s l word)

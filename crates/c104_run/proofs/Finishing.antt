@@ -37,13 +37,9 @@ module _ {A : Type 0} where
   -- how many terminals there are
   count_terminals : (a b : ℕ) (nodes : List (Node A)) → map is_switch nodes ≡ replicate a true ++ replicate b false → length (terminals_of nodes) ≡ b
   count_terminals zero zero [] are = refl
-  count_terminals zero (suc b) [] are = cc
-  count_terminals (suc a) b [] are = cc
-  count_terminals zero zero (n ∷ nodes) are = cc
-  count_terminals zero (suc b) (Switch s ∷ nodes) are = cc
   count_terminals zero (suc b) (Terminal t ∷ nodes) are = ap suc (count_terminals zero b nodes (let rest : map is_switch nodes ≡ replicate b false = cc in rest))
   count_terminals (suc a) b (Switch s ∷ nodes) are = count_terminals a b nodes (let rest : map is_switch nodes ≡ replicate a true ++ replicate b false = cc in rest)
-  count_terminals (suc a) b (Terminal t ∷ nodes) are = cc
+  count_terminals a b nodes are = cc
 
   -- what had arrived there
   abbrev arrived_from : Option (terminal.Terminal A) → Option (List A)
@@ -51,10 +47,9 @@ module _ {A : Type 0} where
 
   among_terminals : (b : ℕ) (nodes : List (Node A)) → map is_switch nodes ≡ replicate b false → (t : ℕ) → arrived_from (slice_get (terminals_of nodes) t) ≡ (slice_get nodes t >>= node_arrived)
   among_terminals b [] are t = refl
-  among_terminals zero (n ∷ nodes) are t = cc
-  among_terminals (suc b) (Switch s ∷ nodes) are t = cc
   among_terminals (suc b) (Terminal x ∷ nodes) are zero = refl
   among_terminals (suc b) (Terminal x ∷ nodes) are (suc t) = among_terminals b nodes (let rest : map is_switch nodes ≡ replicate b false = cc in rest) t
+  among_terminals b nodes are t = cc
 
   among_nodes : (a b : ℕ) (nodes : List (Node A)) → map is_switch nodes ≡ replicate a true ++ replicate b false → (t : ℕ) → arrived_from (slice_get (terminals_of nodes) t) ≡ (slice_get nodes (a + t) >>= node_arrived)
   among_nodes zero b nodes are t = among_terminals b nodes are t ∙ ap (λ k. slice_get nodes k >>= node_arrived) (let same : t ≡ 0 + t = omega arith in same)

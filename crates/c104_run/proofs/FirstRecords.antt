@@ -80,8 +80,6 @@ module _ {A P : Type 0} (v : Reading A P) where
   shown_first : (list : List P) (nodes : List (Node Token)) → map (shown_by v) list ≡ map first_record nodes →
       (map v.plain list ≡ nodes) × (map start_node (map v.start list) ≡ nodes) × (map (read_trace v) list ≡ map no_entries nodes)
   shown_first [] [] is = (refl, refl, refl)
-  shown_first [] (m ∷ nodes) is = cc
-  shown_first (n ∷ list) [] is = cc
   shown_first (n ∷ list) (m ∷ nodes) is =
       let first : shown_by v n ≡ first_record m = cc in
       let rest : map (shown_by v) list ≡ map first_record nodes = cc in
@@ -90,6 +88,7 @@ module _ {A P : Type 0} (v : Reading A P) where
         ap (λ x. x ∷ map start_node (map v.start list)) (ap (λ (s : Shown). s.1) first) ∙ ap (λ xs. m ∷ xs) others.1,
         ap (λ x. x ∷ map (read_trace v) list) (ap (λ (s : Shown). s.2) first) ∙ ap (λ xs. [] ∷ xs) others.2,
       )
+  shown_first list nodes is = cc
 
   module _ (plan wires : Plan) (nodes : List (Node Token)) (list : List P) (same : wires ≡ plan) (shown : map (shown_by v) list ≡ map first_record nodes) where
     -- a network of them keeps what such a network keeps

@@ -6,7 +6,7 @@ use Rattle.c104_node.specs.MappedNodes.{map_input, map_node, map_outgoing}
 use Rattle.c104_switch.specs.Phases.{with_header}
 use Rattle.c104_switch.specs.Switch.{Input, Switch}
 use Rattle.c104_switch.specs.declared.phase.Phase.{Phase}
-use Rattle.c104_switch.specs.declared.phase.Phase.TheVariants.{Fresh, Head, Sinking, Stream, Want}
+use Rattle.c104_switch.specs.declared.phase.Phase.TheVariants.{Fresh}
 use Rattle.std.proofs.Common.{All, List, [], map, refl, ◌∷◌, ◌≡◌, ap, false, true, get_or}
 use Rattle.std.proofs.lemmas.List.Elements.{All-cons, All-head, All-nil, All-tail, All-map}
 use Rattle.c104_node.specs.declared.node.NodeOf.TheVariants as node
@@ -29,10 +29,7 @@ all_back f P Q back (x ∷ xs) all = All-cons P x xs (back x (All-head Q (f x) (
 module _ {A B : Type 0} (f : A → B) where
   fresh_back : (p : Phase (List A)) → with_header (map f) p ≡ Fresh → p ≡ Fresh
   fresh_back Fresh is = refl
-  fresh_back (Head b) is = absurd (cc)
-  fresh_back (Want b g) is = absurd (cc)
-  fresh_back (Stream o) is = absurd (cc)
-  fresh_back Sinking is = absurd (cc)
+  fresh_back p is = absurd (cc)
 
   input_back : (p : Input A) → IsQuietInput (map_input f p) → IsQuietInput p
   input_back p (none, fresh) = (map_none f p.buffer.items none, fresh_back p.phase fresh)

@@ -187,14 +187,12 @@ module _ (plan : Plan) (k : ℕ) where
 
   -- what a part of a round has at them
   part_here : (part : PortPart) (p : Port) → filter leads (port_events part p) ≡ (if is_here p then port_events part p else [])
-  part_here Credit p = refl
-  part_here Cross p = refl
-  part_here Turn (port.Switch s l) = refl
   part_here Turn (port.Terminal t) = by_test (nat_eq (switches + t) k)
     where
       by_test : (b : Bool) → ◌≡◌ {A = List Event} [] (if b then [] else [])
       by_test true = refl
       by_test false = refl
+  part_here part p = refl
 
   part_events : (part : PortPart) → filter leads (flat_map (port_events part) (wired_ports plan)) ≡ flat_map (port_events part) (node_ports plan k)
   part_events part = filter_flat leads (port_events part) is_here (part_here part) (wired_ports plan) ∙ ap (flat_map (port_events part)) ports_are

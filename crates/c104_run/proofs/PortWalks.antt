@@ -94,9 +94,8 @@ passed_link kind keeps s part k l among linked wired unready = by_wire (is_wired
 
 -- what was found is ready, as the near end of its wire
 pub near_ready : {A : Type 0} (kind : Kind A) (plan : Plan) (part : PortPart) (nodes : List (Node A)) (s l : ℕ) → IsFoundReady part (is_ready_at kind part nodes s l) → IsNearReady kind part nodes (port_place plan (port.Switch s l)) (port.Switch s l)
-near_ready kind plan Credit nodes s l is = is
-near_ready kind plan Cross nodes s l is = is
 near_ready kind plan Turn nodes s l is = tt
+near_ready kind plan part nodes s l is = is
 
 -- what is before a link that was found, or before the end, is a link
 pub below_links : (l : ℕ) (found : Option ℕ) → IfSome found (λ i. i < 32) → l < unwrap_or found 32 → l < 32

@@ -1,5 +1,5 @@
 -- A run that begins keeps the balance.
-use Rattle.std.proofs.Common.{◌≡◌, ◌∙◌, ℕ, true, false, List, [], ◌∷◌, Option, Some, None, map, slice_get, option_map, refl, ap}
+use Rattle.std.proofs.Common.{◌≡◌, ◌∙◌, ℕ, true, false, List, [], ◌∷◌, Option, Some, map, slice_get, option_map, refl, ap}
 use Rattle.std.proofs.lemmas.Option.{slice_get-map}
 use Rattle.c104_node.specs.Nodes.{Node, is_switch}
 use Rattle.c104_link.specs.Steps.{◌>>=◌}
@@ -14,14 +14,12 @@ use Rattle.c104_run.specs.QuietNets.{network_begin}
 -- what a node forgets is nothing of its links
 module _ {A : Type 0} where
   credit_kept : (l : ℕ) (o : Option (Node A)) → (option_map node_begin o >>= credit_of l) ≡ (o >>= credit_of l)
-  credit_kept l None = refl
   credit_kept l (Some (Switch s)) = refl
-  credit_kept l (Some (Terminal t)) = refl
+  credit_kept l o = refl
 
   granted_kept : (l : ℕ) (o : Option (Node A)) → (option_map node_begin o >>= granted_of l) ≡ (o >>= granted_of l)
-  granted_kept l None = refl
   granted_kept l (Some (Switch s)) = refl
-  granted_kept l (Some (Terminal t)) = refl
+  granted_kept l o = refl
 
   kinds_kept : (nodes : List (Node A)) → map is_switch (map node_begin nodes) ≡ map is_switch nodes
   kinds_kept [] = refl

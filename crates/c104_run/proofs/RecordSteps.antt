@@ -1,6 +1,5 @@
 -- An event, done or not, keeps what the type of a network with its record keeps.
-use Rattle.std.proofs.Common.{◌≡◌, ◌∙◌, ◌+◌, ◌-◌, ◌++◌, ◌≤◌, ℕ, All, Bool, true, false, List, [], ◌∷◌, Option, Some, None, Result, Ok, Err, length, length-append, map, replicate, slice_get, inl, inr, refl, sym, ap, subst, arith}
-use Rattle.std.proofs.lemmas.List.{length-map, length-replicate}
+use Rattle.std.proofs.Common.{◌≡◌, ◌∙◌, ◌+◌, ◌-◌, ◌++◌, ◌≤◌, ℕ, All, Bool, true, false, List, [], ◌∷◌, Option, Some, None, Result, Ok, Err, length, map, slice_get, inl, inr, refl, sym, ap, subst, arith}
 use Rattle.c104_token.specs.declared.tokens.Token.{Token}
 use Rattle.c104_token.specs.Kinds.{Kind, plain_kind}
 use Rattle.c104_link.proofs.MadeSteps.{given, from_place_made}
@@ -14,7 +13,7 @@ use Rattle.c104_event.specs.declared.faults.EventFault.{EventFault}
 use Rattle.c104_node.specs.declared.stamps.Stamp.{Stamp}
 use Rattle.c104_node.specs.declared.acts.Entry.{Entry}
 use Rattle.c104_run.specs.Balance.{credit_of, granted_of, AreInPlace, IsSteady}
-use Rattle.c104_node.specs.Nodes.{is_switch, Node}
+use Rattle.c104_node.specs.Nodes.{Node}
 use Rattle.c104_run.specs.Ends.{end_of}
 use Rattle.c104_run.proofs.ActSteps.{joint_wired}
 use Rattle.c104_node.specs.Acts.{node_act}
@@ -29,15 +28,14 @@ use Rattle.c104_run.specs.NetRecords.{is_done, ticket_after, total_entries, IsNe
 use Rattle.c104_run.proofs.BalanceEvents.{applied_with}
 use Rattle.c104_run.proofs.BalanceWires.{nodes_apart}
 use Rattle.c104_run.proofs.EntryCounts.{all_more, all_within, lengths_same, room_there, total_below, HasRoom, HaveRoom}
-use Rattle.c104_run.proofs.RunRecords.{record_on, seatless_order}
-use Rattle.c104_run.proofs.UndoneEvents.{undone_deeds, undone_stays}
+use Rattle.c104_run.proofs.RunRecords.{counted, record_on, seatless_order}
+use Rattle.c104_run.proofs.RoundRuns.{undone_stays}
+use Rattle.c104_run.proofs.UndoneEvents.{undone_deeds}
 use Rattle.c104_run.proofs.PartRuns.{neither}
 
 -- how many nodes there are
 pub nodes_counted : {A : Type 0} (plan : Plan) (nodes : List (Node A)) → AreInPlace plan nodes → length nodes ≡ length plan.switches + length plan.terminals
-nodes_counted plan nodes are =
-    sym (length-map nodes is_switch) ∙ ap (length {A = Bool}) are ∙ length-append (replicate (length plan.switches) true) (replicate (length plan.terminals) false)
-    ∙ (let a = length-replicate (length plan.switches) true in let b = length-replicate (length plan.terminals) false in omega (arith, a, b))
+nodes_counted plan nodes = counted (length plan.switches) (length plan.terminals) nodes
 
 module _ {A : Type 0} (kind : Kind A) (net after : Network A) (r : Reply) where
   abbrev Answered : Type 0
@@ -152,7 +150,7 @@ module _ (old new : NetRecord) (is_plan : IsPlan old.network.plan) (same_plan : 
 
   undone_kept : (answer : Result Reply EventFault) → is_done answer ≡ false → RecordsEvent old e answer new → IsNetRecord new
   undone_kept answer undone is =
-      let network : new.network ≡ old.network = undone_stays old.network new.network full e answer undone is.answers in
+      let network : new.network ≡ old.network = undone_stays plain_kind old.network e new.network full answer undone is.answers in
       let traces : new.traces ≡ old.traces = is.traces ∙ ap (noted_all true old.traces) (undone_deeds plan (seatless old.count) e answer undone) in
       let count : new.count ≡ old.count = is.count ∙ ap (ticket_after old.count) undone in
       subst IsNetRecord (sym (same_record new old network is.starts traces count)) before

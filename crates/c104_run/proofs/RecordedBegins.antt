@@ -41,9 +41,8 @@ all_on f P Q on (x ∷ xs) all = All-cons Q (f x) (map f xs) (on x (All-head P x
 module _ {A : Type 0} (f : A → Token) where
   -- a start reads no token
   links_plain : (ps : List (Input A)) (qs : List (Outgoing A)) → link_starts (map (map_input f) ps) (map (map_outgoing f) qs) ≡ link_starts ps qs
-  links_plain [] qs = refl
-  links_plain (p ∷ ps) [] = refl
   links_plain (p ∷ ps) (q ∷ qs) = ap (λ ls. record { cap = p.buffer.cap; granted = p.buffer.granted; credit = q.credit; sunk = p.sunk; short = p.short } ∷ ls) (links_plain ps qs)
+  links_plain ps qs = refl
 
   -- nor does what a run forgets
   start_begun : (n : Node A) → start_of n ≡ start_of (node_begin (map_node f n))

@@ -30,12 +30,11 @@ map_same f g same (x ∷ xs) = ap (λ y. y ∷ map f xs) (same x) ∙ ap (λ ys.
 
 somes_same : (xs ys : List NodeStart) → map Some xs ≡ map Some ys → xs ≡ ys
 somes_same [] [] is = refl
-somes_same [] (y ∷ ys) is = cc
-somes_same (x ∷ xs) [] is = cc
 somes_same (x ∷ xs) (y ∷ ys) is =
     let first : x ≡ y = cc in
     let rest : map Some xs ≡ map Some ys = cc in
     ap (λ z. z ∷ xs) first ∙ ap (λ zs. y ∷ zs) (somes_same xs ys rest)
+somes_same xs ys is = cc
 
 abbrev record_of : Network Token → List NodeStart → List (List Entry) → ℕ → NetRecord
 record_of network starts traces count = record { network = network; starts = starts; traces = traces; count = count }

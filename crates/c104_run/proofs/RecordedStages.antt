@@ -1,5 +1,5 @@
 -- Events over any kind of token, as they are seen over plain tokens; and what they keep of a run.
-use Rattle.std.proofs.Common.{◌≡◌, ◌∙◌, ◌+◌, ◌&&◌, ◌++◌, Bool, true, false, List, [], ◌∷◌, Option, Some, None, Result, Ok, Err, if◌then◌else◌, map, inl, refl, sym, ap, subst}
+use Rattle.std.proofs.Common.{◌≡◌, ◌∙◌, ◌+◌, ◌&&◌, ◌++◌, Bool, true, false, List, [], ◌∷◌, Some, Result, Ok, Err, if◌then◌else◌, map, inl, refl, sym, ap, subst}
 use Rattle.c104_token.specs.declared.tokens.Token.{Token}
 use Rattle.c104_token.specs.declared.tokens.Token.TheVariants.{Byte}
 use Rattle.c104_token.specs.Kinds.{Kind, plain_kind}
@@ -10,7 +10,7 @@ use Rattle.c104_event.specs.declared.faults.EventFault.{EventFault}
 use Rattle.c104_event.specs.declared.faults.EventFault.TheVariants as fault
 use Rattle.c104_node.specs.declared.starts.NodeStart.{NodeStart}
 use Rattle.c104_run.specs.Balance.{AreInPlace}
-use Rattle.c104_run.specs.Network.{Network, network_apply, network_of, network_step, event_fault, event_limit, outcome_if_possible, outcome_if_ready, outcome_within_limit}
+use Rattle.c104_run.specs.Network.{Network, network_apply, network_of}
 use Rattle.c104_run.specs.NetRecords.{is_done, ticket_after, IsNetRecord, NetRecord}
 use Rattle.c104_node.specs.Nodes.{Node}
 use Rattle.c104_node.specs.Places.{base_start}
@@ -25,28 +25,11 @@ use Rattle.c104_run.specs.EventDeeds.{event_deeds}
 use Rattle.c104_run.proofs.RecordedRuns.{record_kept, record_plan}
 use Rattle.c104_run.proofs.RecordSteps.{ticket_left}
 use Rattle.c104_run.proofs.RoundJoins.{apply_plan}
-use Rattle.c104_run.proofs.RoundRuns.{is_told, step_replies, Applied}
+use Rattle.c104_run.proofs.RoundRuns.{Applied, undone_left}
 use Rattle.c104_run.proofs.NodeMaps.{kinds_plain}
 use Rattle.c104_run.proofs.RunRecords.{record_on, seatless_order}
 use Rattle.c104_run.proofs.StepMaps.{apply_map}
 use Rattle.c104_run.proofs.UndoneEvents.{undone_deeds}
-
--- an event that isn't done leaves the network as it was
-module _ {A : Type 0} (kind : Kind A) (net : Network A) (e : Event) where
-  limit_leaves : (limit : Option EventFault) (r : Reply × Network A) → network_step kind net e ≡ Some r → is_done (outcome_within_limit kind net limit r).0 ≡ false → (outcome_within_limit kind net limit r).1 ≡ net
-  limit_leaves None r made undone = let told : is_ready r.0 ≡ true = is_told r.0 (step_replies kind net e r made) in let no : true ≡ false = sym told ∙ undone in cc
-  limit_leaves (Some f) r made undone = refl
-
-  ready_leaves : (made : Option (Reply × Network A)) → network_step kind net e ≡ made → is_done (outcome_if_ready kind net e made).0 ≡ false → (outcome_if_ready kind net e made).1 ≡ net
-  ready_leaves None at undone = refl
-  ready_leaves (Some r) at undone = limit_leaves (event_limit net e) r at undone
-
-  there_leaves : (fault : Option EventFault) → is_done (outcome_if_possible kind net e fault).0 ≡ false → (outcome_if_possible kind net e fault).1 ≡ net
-  there_leaves None undone = ready_leaves (network_step kind net e) refl undone
-  there_leaves (Some f) undone = refl
-
-  pub undone_left : is_done (network_apply kind net e).0 ≡ false → (network_apply kind net e).1 ≡ net
-  undone_left undone = there_leaves (event_fault net.plan e) undone
 
 module _ {A : Type 0} (kind : Kind A) where
   -- the network over plain tokens

@@ -14,7 +14,7 @@ use Rattle.c104_switch.specs.declared.phase.Phase.{Phase}
 use Rattle.c104_switch.specs.Reasons.{emit_why, grant_why, has_room, phase_why, turn_why, unless, wanted_why, why_at}
 use Rattle.c104_switch.specs.Switch.{Input}
 use Rattle.c104_switch.specs.Views.{owner_from, phase_view, sides_view}
-use Rattle.c104_switch.specs.declared.phase.Phase.TheVariants.{Fresh, Head, Sinking, Stream, Want}
+use Rattle.c104_switch.specs.declared.phase.Phase.TheVariants.{Head, Stream, Want}
 use Rattle.c104_switch.specs.declared.unready.Unready.{Unready}
 use Rattle.c104_switch.specs.declared.unready.Unready.TheVariants.{NoLink, NoToken, NotStarted}
 use Rattle.c104_plan.specs.Wiring.{peer}
@@ -55,11 +55,9 @@ module _ {A : Type 0} (kind : Kind A) where
   network_peek_plain net s a = ap (λ o. if nat_lt s (length net.plan.switches) then o else None) (there_plain (node_peek a) (node_peek a) (peek_plain a) net.nodes s)
 
   phase_plain : (ph : Phase (List A)) → phase_view plain_kind (map_phase kind.plain ph) ≡ phase_view kind ph
-  phase_plain Fresh = refl
   phase_plain (Head b) = ap Head (map_twice byte_of kind.plain b)
   phase_plain (Want b g) = ap (λ (h : List ℕ). Want h g) (map_twice byte_of kind.plain b)
-  phase_plain (Stream o) = refl
-  phase_plain Sinking = refl
+  phase_plain ph = refl
 
   sides_plain : (inputs : List (Input A)) (l : ℕ) (p : Input A) (q : Outgoing A) → sides_view plain_kind (map (map_input kind.plain) inputs) l (map_input kind.plain p) (map_outgoing kind.plain q) ≡ sides_view kind inputs l p q
   sides_plain inputs l p q = rw (length-map p.buffer.items kind.plain, length-map q.items kind.plain, owner_map kind.plain 0 inputs l, phase_plain p.phase) refl
@@ -122,18 +120,12 @@ module _ {A : Type 0} (kind : Kind A) where
   turn_plain qs p = rw (length-map p.buffer.items kind.plain) (ap (λ w. unless (nat_lt 0 (length p.buffer.items)) NoToken w) (by_phase p.phase))
     where
       by_phase : (ph : Phase (List A)) → phase_why (map (map_outgoing kind.plain) qs) (map_phase kind.plain ph) ≡ phase_why qs ph
-      by_phase Fresh = refl
-      by_phase (Head b) = refl
-      by_phase (Want b g) = refl
       by_phase (Stream o) = rw (room_plain qs o) refl
-      by_phase Sinking = refl
+      by_phase ph = refl
 
   wanted_plain : (settings : List Settings) (o : ℕ) (owner : Option ℕ) (t : Settings) (q : Outgoing A) (ph : Phase (List A)) → wanted_why settings o owner t (map_outgoing kind.plain q) (map_phase kind.plain ph) ≡ wanted_why settings o owner t q ph
-  wanted_plain settings o owner t q Fresh = refl
-  wanted_plain settings o owner t q (Head b) = refl
   wanted_plain settings o owner t q (Want b g) = rw (length-map q.items kind.plain, length-map b kind.plain) refl
-  wanted_plain settings o owner t q (Stream d) = refl
-  wanted_plain settings o owner t q Sinking = refl
+  wanted_plain settings o owner t q ph = refl
 
   enter_node : (l : ℕ) (n : Node A) → node_enter_why l (map_node kind.plain n) ≡ node_enter_why l n
   enter_node l (node.Switch s) = why_plain (map_input kind.plain) _ _ (λ p. refl) s.inputs l
@@ -188,9 +180,8 @@ module _ {A : Type 0} (kind : Kind A) where
     event_plain (event.Credit p) = wire_plain p (peer net.plan p) node_credit_out_why node_credit_in_why node_credit_out_why node_credit_in_why credit_out_node credit_in_node
     event_plain (event.Input s l word) = ap (port_reason (port.Switch s l)) (at_plain (node_input_why l) (node_input_why l) (input_node l) s)
     event_plain (event.Claim s i o) = ap (option_map (claim_reason s i o)) (at_plain (node_claim_why i o) (node_claim_why i o) (claim_node i o) s)
-    event_plain (event.Control s bytes) = refl
-    event_plain (event.Send t packet) = refl
     event_plain (event.Drain t) = ap (port_reason (port.Terminal t)) (at_plain node_drain_why node_drain_why drain_node (terminal_place net.plan t))
+    event_plain e = refl
 
     pub network_why_plain : (e : Event) → network_why (plain_network kind net) e ≡ network_why net e
     network_why_plain e = ap (unless_refused (event_fault net.plan e)) (event_plain e)

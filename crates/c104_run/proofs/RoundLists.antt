@@ -1,10 +1,8 @@
 -- Lists that a loop over numbers makes: what each further number adds.
-use Rattle.std.proofs.Common.{ℕ, ◌≡◌, ◌+◌, ◌<◌, Bool, List, [], ◌∷◌, ◌++◌, filter, get_or, length, map, take, sym, ap, ◌∙◌}
-use Rattle.std.proofs.Common.{append_assoc, append-nil}
-use Rattle.std.specs.List.{flat_map, range_with_len}
+use Rattle.std.proofs.Common.{ℕ, ◌≡◌, ◌+◌, ◌<◌, Bool, List, [], ◌∷◌, ◌++◌, filter, get_or, length, map, take, sym, ap, ◌∙◌, append_assoc}
+use Rattle.std.specs.List.{range_with_len}
 use Rattle.std.proofs.lemmas.List.{map-append, take_more}
 use Rattle.std.proofs.lemmas.List.Elements.{filter-append}
-use Rattle.std.proofs.lemmas.Grind.{flat_map-append}
 use Rattle.c104_run.specs.Rounds.{link_numbers}
 use Rattle.c104_node.proofs.Ranges.{range_more}
 
@@ -14,12 +12,7 @@ map_next f n before so_far next so grown =
     grown ∙ ap (λ xs. xs ++ f n ∷ []) so ∙ append_assoc before (map f (range_with_len 0 n)) (f n ∷ [])
     ∙ ap (λ xs. before ++ xs) (sym (ap (map f) (range_more n) ∙ map-append f (range_with_len 0 n) (n ∷ [])))
 
--- the same of a list that is made of each, and of what passes a test
-pub flat_next : {X : Type 0} (f : ℕ → List X) (n : ℕ) (before so_far next : List X) → so_far ≡ before ++ flat_map f (range_with_len 0 n) → next ≡ so_far ++ f n → next ≡ before ++ flat_map f (range_with_len 0 (n + 1))
-flat_next f n before so_far next so grown =
-    grown ∙ ap (λ xs. xs ++ f n) so ∙ append_assoc before (flat_map f (range_with_len 0 n)) (f n)
-    ∙ ap (λ xs. before ++ xs) (sym (ap (flat_map f) (range_more n) ∙ flat_map-append f (range_with_len 0 n) (n ∷ []) ∙ ap (λ xs. flat_map f (range_with_len 0 n) ++ xs) (append-nil (f n))))
-
+-- the same of a list that is made of what passes a test
 pub kept_next : {X : Type 0} (test : X → Bool) (f : ℕ → X) (n : ℕ) (before so_far next : List X) → so_far ≡ before ++ filter test (map f (range_with_len 0 n)) → next ≡ so_far ++ filter test (f n ∷ []) → next ≡ before ++ filter test (map f (range_with_len 0 (n + 1)))
 kept_next test f n before so_far next so grown =
     grown ∙ ap (λ xs. xs ++ filter test (f n ∷ [])) so ∙ append_assoc before (filter test (map f (range_with_len 0 n))) (filter test (f n ∷ []))

@@ -1,6 +1,6 @@
 -- A run that stops at the first fault, by a prefix of its events, and what it keeps; and what leaves a
 -- network as it was.
-use Rattle.std.proofs.Common.{true, false, ◌≡◌, List, [], ◌∷◌, ◌++◌, Result, Ok, Err, Option, Some, None, refl, sym, ap}
+use Rattle.std.proofs.Common.{Bool, true, false, ◌≡◌, List, [], ◌∷◌, ◌++◌, Result, Ok, Err, Option, Some, None, refl, sym, ap}
 use Rattle.std.proofs.Common.{◌∙◌, subst, inl, inr}
 use Rattle.c104_token.specs.Kinds.{Kind}
 use Rattle.c104_switch.specs.Actions.{Reply}
@@ -13,7 +13,7 @@ use Rattle.c104_event.specs.declared.faults.EventFault.TheVariants as fault
 use Rattle.c104_run.proofs.ActSteps.{step_ready}
 use Rattle.c104_node.specs.Acts.{plain_reply}
 use Rattle.c104_run.specs.EventActs.{acts_step, event_acts}
-use Rattle.c104_run.specs.Network.{AnswersEvent, Network, event_fault, event_limit, network_apply, network_step, outcome_if_possible}
+use Rattle.c104_run.specs.Network.{AnswersEvent, AnswersWith, Network, event_fault, event_limit, network_apply, network_step, outcome_if_possible}
 use Rattle.c104_run.specs.Network.{outcome_if_ready, outcome_within_limit, with_nodes}
 use Rattle.c104_run.specs.NetRecords.{is_done}
 use Rattle.c104_run.specs.EventRuns.{run_events, unless_fault, Answers, EventsEnd, Outcome}
@@ -21,10 +21,8 @@ use Rattle.c104_switch.specs.Actions.{is_ready}
 
 -- what isn't NotReady is done
 pub is_told : (r : Reply) → (r ≡ reply.NotReady → ⊥) → is_ready r ≡ true
-is_told reply.Done other = refl
 is_told reply.NotReady other = absurd (other refl)
-is_told (reply.Token x) other = refl
-is_told (reply.Control bytes) other = refl
+is_told r other = refl
 
 -- what one event comes to
 abbrev pub Applied : Type 0 → Type 0
@@ -127,42 +125,33 @@ module _ {A : Type 0} (kind : Kind A) where
   -- what is told of a reply that is one
   plain_replies : (r : ReplyOf A) → is_ready r ≡ true → plain_reply kind r ≡ reply.NotReady → ⊥
   plain_replies reply.Done ready unready = cc
-  plain_replies reply.NotReady ready unready = cc
-  plain_replies (reply.Token x) ready unready = cc
-  plain_replies (reply.Control bytes) ready unready = cc
+  plain_replies r ready unready = cc
 
   pub step_replies : (net : Network A) (e : Event) → Replies (network_step kind net e)
   step_replies net e r is unready = given (event_acts net.plan e) _ r is (λ acts known more. given (acts_step kind net.plan net.nodes acts) _ r more (λ made stepped last.
       (let told : plain_reply kind made.0 ≡ r.0 = (let both : ◌≡◌ {A = Reply × Network A} (plain_reply kind made.0, with_nodes net made.1) r = cc in ap (λ (s : Reply × Network A). s.0) both) in
       plain_replies made.0 (step_ready kind net.plan net.nodes acts made stepped) (told ∙ unready))))
 
-  -- an event that isn't ready changes nothing
-  abbrev Answered : Type 0
-  Answered = Result Reply EventFault × Network A
+  -- an event that isn't done leaves the network as it was
+  module _ (net : Network A) (e : Event) where
+    limit_leaves : (limit : Option EventFault) (r : Reply × Network A) → network_step kind net e ≡ Some r → is_done (outcome_within_limit kind net limit r).0 ≡ false → (outcome_within_limit kind net limit r).1 ≡ net
+    limit_leaves None r made undone = let told : is_ready r.0 ≡ true = is_told r.0 (step_replies net e r made) in let no : true ≡ false = sym told ∙ undone in cc
+    limit_leaves (Some f) r made undone = refl
 
-  same_answer : (r s : Answered) → r ≡ s → r.0 ≡ s.0
-  same_answer r s same = ap (λ (t : Answered). t.0) same
+    ready_leaves : (made : Option (Reply × Network A)) → network_step kind net e ≡ made → is_done (outcome_if_ready kind net e made).0 ≡ false → (outcome_if_ready kind net e made).1 ≡ net
+    ready_leaves None at undone = refl
+    ready_leaves (Some r) at undone = limit_leaves (event_limit net e) r at undone
 
-  same_network : (r s : Answered) → r ≡ s → r.1 ≡ s.1
-  same_network r s same = ap (λ (t : Answered). t.1) same
+    there_leaves : (fault : Option EventFault) → is_done (outcome_if_possible kind net e fault).0 ≡ false → (outcome_if_possible kind net e fault).1 ≡ net
+    there_leaves None undone = ready_leaves (network_step kind net e) refl undone
+    there_leaves (Some f) undone = refl
 
-  limit_stays : (net after : Network A) (limit : Option EventFault) (r : Reply × Network A) → (r.0 ≡ reply.NotReady → ⊥) → ◌≡◌ {A = Answered} (Ok reply.NotReady, after) (outcome_within_limit kind net limit r) → after ≡ net
-  limit_stays net after None r replies was = let ok : Ok reply.NotReady ≡ Ok r.0 = same_answer _ _ was in let unready : r.0 ≡ reply.NotReady = cc in absurd (replies unready)
-  limit_stays net after (Some f) r replies was = same_network _ _ was
+    pub undone_left : is_done (network_apply kind net e).0 ≡ false → (network_apply kind net e).1 ≡ net
+    undone_left undone = there_leaves (event_fault net.plan e) undone
 
-  ready_stays : (net after : Network A) (e : Event) (made : Option (Reply × Network A)) → Replies made → ◌≡◌ {A = Answered} (Ok reply.NotReady, after) (outcome_if_ready kind net e made) → after ≡ net
-  ready_stays net after e None replies was = same_network _ _ was
-  ready_stays net after e (Some r) replies was = limit_stays net after (event_limit net e) r (replies r refl) was
-
-  there_stays : (net after : Network A) (e : Event) (f : Option EventFault) → ◌≡◌ {A = Answered} (Ok reply.NotReady, after) (outcome_if_possible kind net e f) → after ≡ net
-  there_stays net after e None was = ready_stays net after e (network_step kind net e) (step_replies net e) was
-  there_stays net after e (Some f) was = same_network _ _ was
-
-  pub unready_stays : (net after : Network A) (e : Event) → ◌≡◌ {A = Result Reply EventFault × Network A} (Ok reply.NotReady, after) (network_apply kind net e) → after ≡ net
-  unready_stays net after e was = there_stays net after e (event_fault net.plan e) was
+    pub undone_stays : (after : Network A) (full : Bool) (answer : Result Reply EventFault) → is_done answer ≡ false → AnswersWith kind full net e answer after → after ≡ net
+    undone_stays after full answer undone (inl due) = ap (λ (t : Applied (Network A)). t.1) due ∙ undone_left (ap (λ (t : Applied (Network A)). is_done t.0) (sym due) ∙ undone)
+    undone_stays after full answer undone (inr refused) = refused.2
 
   pub undone_leaves : (mid after : Network A) (e : Event) (r : Reply) → is_ready r ≡ false → AnswersEvent kind mid e (Ok r) after → after ≡ mid
-  undone_leaves mid after e reply.NotReady undone answer = elim answer [ inl due ↦ unready_stays mid after e due | inr refused ↦ refused.2 ]
-  undone_leaves mid after e reply.Done undone answer = cc
-  undone_leaves mid after e (reply.Token x) undone answer = cc
-  undone_leaves mid after e (reply.Control bytes) undone answer = cc
+  undone_leaves mid after e r undone answer = undone_stays mid e after false (Ok r) undone answer

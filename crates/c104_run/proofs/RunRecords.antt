@@ -1,6 +1,7 @@
 -- What traces tell of a run goes on by an event that was done.
 use Rattle.std.proofs.Common.{◌≡◌, ◌∙◌, ◌+◌, ◌<◌, ◌++◌, ℕ, zero, suc, Bool, true, false, List, [], ◌∷◌, Option, Some, None, Result, Ok, append_assoc, append-nil, if◌then◌else◌, length, length-append, map, nat_eq, nat_lt, replicate, slice_get, inl, inr, refl, sym, ap, subst, arith}
 use Rattle.std.proofs.lemmas.Bool.Decides.{nat_tests}
+use Rattle.std.proofs.lemmas.List.{length-map, length-replicate}
 use Rattle.std.specs.Option.{option_map}
 use Rattle.c104_token.specs.Kinds.{Kind}
 use Rattle.c104_switch.specs.Actions.{Reply, is_ready}
@@ -28,17 +29,19 @@ abbrev pub is_switch_place : Plan → ℕ → Bool
 is_switch_place plan k = nat_lt k (length plan.switches)
 
 -- where each node stands at its place, the plan tells which are switches
-by_counts : {A : Type 0} (a b : ℕ) (nodes : List (Node A)) → map is_switch nodes ≡ replicate a true ++ replicate b false → (k : ℕ) → is_switch_at nodes k ≡ nat_lt k a
+pub by_counts : {A : Type 0} (a b : ℕ) (nodes : List (Node A)) → map is_switch nodes ≡ replicate a true ++ replicate b false → (k : ℕ) → is_switch_at nodes k ≡ nat_lt k a
 by_counts zero zero [] are k = grind (arith, nat_tests)
-by_counts zero (suc b) [] are k = cc
-by_counts (suc a) b [] are k = cc
-by_counts zero zero (n ∷ nodes) are k = cc
-by_counts zero (suc b) (Switch s ∷ nodes) are k = cc
 by_counts zero (suc b) (Terminal t ∷ nodes) are zero = grind (arith, nat_tests)
 by_counts zero (suc b) (Terminal t ∷ nodes) are (suc k) = by_counts zero b nodes (let rest : map is_switch nodes ≡ replicate b false = cc in rest) k ∙ (let none : nat_lt k 0 ≡ nat_lt (suc k) 0 = grind (arith, nat_tests) in none)
 by_counts (suc a) b (Switch s ∷ nodes) are zero = grind (arith, nat_tests)
 by_counts (suc a) b (Switch s ∷ nodes) are (suc k) = by_counts a b nodes (let rest : map is_switch nodes ≡ replicate a true ++ replicate b false = cc in rest) k ∙ (let same : nat_lt k a ≡ nat_lt (suc k) (suc a) = grind (arith, nat_tests) in same)
-by_counts (suc a) b (Terminal t ∷ nodes) are k = cc
+by_counts a b nodes are k = cc
+
+-- and how many nodes there are
+pub counted : {A : Type 0} (a b : ℕ) (nodes : List (Node A)) → map is_switch nodes ≡ replicate a true ++ replicate b false → length nodes ≡ a + b
+counted a b nodes are =
+    sym (length-map nodes is_switch) ∙ ap (length {A = Bool}) are ∙ length-append (replicate a true) (replicate b false)
+    ∙ (let one = length-replicate a true in let two = length-replicate b false in omega (arith, one, two))
 
 pub in_place : {A : Type 0} (plan : Plan) (nodes : List (Node A)) → AreInPlace plan nodes → (k : ℕ) → is_switch_at nodes k ≡ is_switch_place plan k
 in_place plan nodes are k = by_counts (length plan.switches) (length plan.terminals) nodes are k

@@ -9,6 +9,5 @@ module _ {S : Type 0} (apply : S → Event → Result Reply EventFault × S) whe
   pub run_on : (s mid after : S) (events : List Event) (answers : List (Result Reply EventFault)) (e : Event) (a : Result Reply EventFault) →
       AnswersAll apply s events answers mid → Answers apply mid e a after → AnswersAll apply s (events ++ e ∷ []) (answers ++ a ∷ []) after
   run_on s mid after [] [] e a run more = (after, subst (λ n. Answers apply n e a after) run more, refl)
-  run_on s mid after [] (b ∷ answers) e a run more = absurd run
-  run_on s mid after (d ∷ events) [] e a run more = absurd run
   run_on s mid after (d ∷ events) (b ∷ answers) e a run more = (run.0, run.1, run_on run.0 mid after events answers e a run.2 more)
+  run_on s mid after events answers e a run more = absurd run

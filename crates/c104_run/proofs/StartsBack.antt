@@ -1,18 +1,13 @@
 -- A start is where a node at it stands.
 use Rattle.std.proofs.Common.{◌≡◌, ◌∙◌, List, [], ◌∷◌, map, refl, ap, sym}
-use Rattle.c104_switch.specs.declared.link_start.LinkStart.{LinkStart}
-use Rattle.c104_switch.specs.Starts.{link_starts, start_input, start_output}
+use Rattle.c104_node.proofs.StartCopies.{switch_back}
 use Rattle.c104_token.specs.declared.tokens.Token.{Token}
 use Rattle.c104_node.specs.declared.starts.NodeStart.{NodeStart}
 use Rattle.c104_node.specs.declared.starts.NodeStart.TheVariants as start
 use Rattle.c104_node.specs.Starts.{start_node, start_of}
 
-links_back : (links : List LinkStart) → link_starts {A = Token} (map start_input links) (map start_output links) ≡ links
-links_back [] = refl
-links_back (l ∷ links) = ap (λ ls. l ∷ ls) (links_back links)
-
 start_back : (s : NodeStart) → s ≡ start_of (start_node {A = Token} s)
-start_back (start.Switch s) = sym (ap (λ ls. start.Switch (record s { links = ls })) (links_back s.links))
+start_back (start.Switch s) = sym (ap start.Switch (switch_back s))
 start_back (start.Terminal t) = refl
 
 pub starts_back : (starts : List NodeStart) → starts ≡ map start_of (map (start_node {A = Token}) starts)

@@ -31,7 +31,7 @@ use Rattle.c104_token.specs.Packets.{packet_tokens}
 use Rattle.c104_token.specs.declared.packets.Packet.{Packet}
 use Rattle.c104_token.specs.declared.tokens.Token.{Token as PlainToken}
 use Rattle.c104_token.specs.declared.tokens.Token.TheVariants.{Byte}
-use Rattle.std.proofs.Common.{arith, List, None, Ok, Option, Result, Some, [], ap, length, map, option_map, refl, slice_get, slice_set, subst, suc, sym, ℕ, ◌-◌, ◌∙◌, ◌∷◌, ◌≡◌}
+use Rattle.std.proofs.Common.{arith, IfSome, List, None, Ok, Option, Result, Some, [], ap, length, map, option_map, refl, slice_get, slice_set, subst, suc, sym, ℕ, ◌-◌, ◌∙◌, ◌∷◌, ◌≡◌}
 use Rattle.std.proofs.lemmas.List.{length-map, map-append, map-set}
 use Rattle.std.proofs.lemmas.Option.{slice_get-map}
 use Rattle.c104_event.specs.declared.events.Event.TheVariants as event
@@ -100,13 +100,8 @@ module _ {A B : Type 0} (f : A → B) (from : Kind A) (to : Kind B) (plain_is : 
 
   -- what an act sends is the same, mapped
   abbrev IsSentBy : ℕ → Option (Node A) → ActOf A → Type 0
-  IsSentBy number o (act.Step a) = Unit {0}
   IsSentBy number o (act.Send packet) = IsSentHere number o
-  IsSentBy number o act.Drain = Unit {0}
-  IsSentBy number o act.Leave = Unit {0}
-  IsSentBy number o (act.Enter x) = Unit {0}
-  IsSentBy number o act.CreditOut = Unit {0}
-  IsSentBy number o act.CreditIn = Unit {0}
+  IsSentBy number o a = Unit {0}
 
   -- an act of a node
   act_map : (number : ℕ) (a : ActOf A) (n : Node A) → IsSentBy number (Some n) a → node_act to number (map_act a) (map_node f n) ≡ option_map map_made (node_act from number a n)
@@ -117,49 +112,33 @@ module _ {A B : Type 0} (f : A → B) (from : Kind A) (to : Kind B) (plain_is : 
   act_map number (act.Step (action.Input l word)) (node.Switch S) alike = done_map _ _ (input_node_map f from to plain_is random_is l word (node.Switch S))
   act_map number (act.Step (action.Claim i o)) (node.Switch S) alike = done_map _ _ (claim_node_map f from to plain_is random_is i o (node.Switch S))
   act_map number (act.Step (action.Control bytes)) (node.Switch S) alike = replied_map (node_control bytes (node.Switch S)) (node_control bytes (map_node f (node.Switch S))) (control_node_map f bytes (node.Switch S))
-  act_map number (act.Step a) (node.Terminal T) alike = refl
   act_map number (act.Send packet) n alike = done_map _ _ (send_map number packet n alike)
   act_map number act.Drain n alike = moved_map _ _ (drain_node_map f n)
-  act_map number act.Leave (node.Switch S) alike = refl
   act_map number act.Leave (node.Terminal T) alike = moved_map _ _ (leave_node_map f 0 (node.Terminal T))
-  act_map number (act.Enter x) (node.Switch S) alike = refl
   act_map number (act.Enter x) (node.Terminal T) alike = done_map _ _ (enter_node_map f x 0 (node.Terminal T))
-  act_map number act.CreditOut (node.Switch S) alike = refl
   act_map number act.CreditOut (node.Terminal T) alike = done_map _ _ (credit_out_node_map f 0 (node.Terminal T))
-  act_map number act.CreditIn (node.Switch S) alike = refl
   act_map number act.CreditIn (node.Terminal T) alike = done_map _ _ (credit_in_node_map f 0 (node.Terminal T))
+  act_map number a n alike = refl
 
   near_map : (crossing : Crossing) (p : Port) → near_act crossing p ≡ map_act (near_act crossing p)
   near_map Token (port.Switch s l) = refl
-  near_map Token (port.Terminal t) = refl
   near_map Grant (port.Switch s l) = refl
-  near_map Grant (port.Terminal t) = refl
+  near_map crossing p = refl
 
   far_map : (q : Port) (r : ReplyOf A) → far_act q (map_reply r) ≡ map_act (far_act q r)
-  far_map (port.Switch s l) reply.Done = refl
-  far_map (port.Switch s l) reply.NotReady = refl
   far_map (port.Switch s l) (reply.Token x) = refl
-  far_map (port.Switch s l) (reply.Control bytes) = refl
-  far_map (port.Terminal t) reply.Done = refl
-  far_map (port.Terminal t) reply.NotReady = refl
   far_map (port.Terminal t) (reply.Token x) = refl
-  far_map (port.Terminal t) (reply.Control bytes) = refl
+  far_map q r = refl
 
   near_alike : (crossing : Crossing) (p : Port) (o : Option (Node A)) → IsSentBy 0 o (near_act crossing p)
   near_alike Token (port.Switch s l) o = tt
-  near_alike Token (port.Terminal t) o = tt
   near_alike Grant (port.Switch s l) o = tt
-  near_alike Grant (port.Terminal t) o = tt
+  near_alike crossing p o = tt
 
   far_alike : (q : Port) (r : ReplyOf A) (o : Option (Node A)) → IsSentBy 0 o (far_act q r)
-  far_alike (port.Switch s l) reply.Done o = tt
-  far_alike (port.Switch s l) reply.NotReady o = tt
   far_alike (port.Switch s l) (reply.Token x) o = tt
-  far_alike (port.Switch s l) (reply.Control bytes) o = tt
-  far_alike (port.Terminal t) reply.Done o = tt
-  far_alike (port.Terminal t) reply.NotReady o = tt
   far_alike (port.Terminal t) (reply.Token x) o = tt
-  far_alike (port.Terminal t) (reply.Control bytes) o = tt
+  far_alike q r o = tt
 
   abbrev set_at : {C : Type 0} → List (Node C) → ℕ → ReplyOf C × Node C → Option (ReplyOf C × List (Node C))
   set_at nodes k y = Some (y.0, slice_set nodes k y.1)
@@ -191,28 +170,18 @@ module _ {A B : Type 0} (f : A → B) (from : Kind A) (to : Kind B) (plain_is : 
       bind_both map_all map_all (nodes_act from r.1 (port_place plan q) 0 (far_act q r.0)) _ _ _ (nodes_map r.1 (port_place plan q) 0 (far_act q r.0) (far_act q (map_reply r.0)) (far_map q r.0) (far_alike q r.0 (slice_get r.1 (port_place plan q)))) (λ s. refl))
 
   -- the acts of an event
+  crossing_map : (crossing : Crossing) (p : Port) (o : Option Port) → crossing_acts crossing p o ≡ option_map map_acts (crossing_acts crossing p o)
+  crossing_map crossing p None = refl
+  crossing_map crossing p (Some q) = refl
+
   events_map : (plan : Plan) (e : Event) → event_acts plan e ≡ option_map map_acts (event_acts plan e)
-  events_map plan (event.Cross p) = by_peer (peer plan p)
-    where
-      by_peer : (o : Option Port) → crossing_acts Token p o ≡ option_map map_acts (crossing_acts Token p o)
-      by_peer None = refl
-      by_peer (Some q) = refl
-  events_map plan (event.Credit p) = by_peer (peer plan p)
-    where
-      by_peer : (o : Option Port) → crossing_acts Grant p o ≡ option_map map_acts (crossing_acts Grant p o)
-      by_peer None = refl
-      by_peer (Some q) = refl
-  events_map plan (event.Input s l word) = refl
-  events_map plan (event.Claim s i o) = refl
-  events_map plan (event.Control s bytes) = refl
-  events_map plan (event.Send t packet) = refl
-  events_map plan (event.Drain t) = refl
+  events_map plan (event.Cross p) = crossing_map Token p (peer plan p)
+  events_map plan (event.Credit p) = crossing_map Grant p (peer plan p)
+  events_map plan e = refl
 
   plain_map : (r : ReplyOf A) → plain_reply to (map_reply r) ≡ plain_reply from r
-  plain_map reply.Done = refl
-  plain_map reply.NotReady = refl
   plain_map (reply.Token x) = ap reply.Token (plain_is x)
-  plain_map (reply.Control bytes) = refl
+  plain_map r = refl
 
   abbrev told_so : Network A → List (Node A) → Reply → Reply × Network B
   told_so net nodes r = (r, map_network f (with_nodes net nodes))
@@ -233,22 +202,16 @@ module _ {A B : Type 0} (f : A → B) (from : Kind A) (to : Kind B) (plain_is : 
   arrived_map (node.Terminal T) = refl
 
   act_limit_map : (o : Option (Node A)) (a : ActOf A) → act_limit (option_map (map_node f) o) (map_act a) ≡ act_limit o a
-  act_limit_map None a = refl
-  act_limit_map (Some n) (act.Step a) = refl
   act_limit_map (Some n) (act.Send packet) = rw (waiting_map n) refl
   act_limit_map (Some n) act.Drain = rw (arrived_map n, length-map (arrived_tokens n) f) refl
-  act_limit_map (Some n) act.Leave = refl
-  act_limit_map (Some n) (act.Enter x) = refl
-  act_limit_map (Some n) act.CreditOut = refl
-  act_limit_map (Some n) act.CreditIn = refl
+  act_limit_map o a = refl
 
   pub limit_map : (net : Network A) (e : Event) → event_limit (map_network f net) e ≡ event_limit net e
   limit_map net e = ap (λ o. o >>= acts_limit (map (map_node f) net.nodes)) (events_map net.plan e) ∙ by_acts (event_acts net.plan e)
     where
       by_acts : (o : Option (Acts A)) → (option_map map_acts o >>= acts_limit (map (map_node f) net.nodes)) ≡ (o >>= acts_limit net.nodes)
-      by_acts None = refl
       by_acts (Some (Acts.Alone k a)) = ap (λ m. act_limit m (map_act a)) (slice_get-map (map_node f) net.nodes k) ∙ act_limit_map (slice_get net.nodes k) a
-      by_acts (Some (Acts.Joint p q crossing)) = refl
+      by_acts o = refl
 
   abbrev pub map_answer : Result Reply EventFault × Network A → Result Reply EventFault × Network B
   map_answer r = (r.0, map_network f r.1)
@@ -263,48 +226,32 @@ module _ {A B : Type 0} (f : A → B) (from : Kind A) (to : Kind B) (plain_is : 
 
   -- what an event sends is the same, mapped, from where the terminal stands
   abbrev pub IsSentAlike : Network A → Event → Type 0
-  IsSentAlike net (event.Cross p) = Unit {0}
-  IsSentAlike net (event.Credit p) = Unit {0}
-  IsSentAlike net (event.Input s l word) = Unit {0}
-  IsSentAlike net (event.Claim s i o) = Unit {0}
-  IsSentAlike net (event.Control s bytes) = Unit {0}
   IsSentAlike net (event.Send t p) = IsSentHere t (slice_get net.nodes (terminal_place net.plan t))
-  IsSentAlike net (event.Drain t) = Unit {0}
+  IsSentAlike net e = Unit {0}
 
   -- the acts of such an event
-  acts_alike : (net : Network A) (e : Event) → IsSentAlike net e → (acts : Acts A) → event_acts net.plan e ≡ Some acts → AreSentAlike net.plan net.nodes acts
-  acts_alike net (event.Cross p) alike acts known = by_peer (peer net.plan p) known
-    where
-      by_peer : (o : Option Port) → crossing_acts Token p o ≡ Some acts → AreSentAlike net.plan net.nodes acts
-      by_peer None is = absurd (cc)
-      by_peer (Some q) is = let same : Acts.Joint p q Token ≡ acts = cc in subst (AreSentAlike net.plan net.nodes) same tt
-  acts_alike net (event.Credit p) alike acts known = by_peer (peer net.plan p) known
-    where
-      by_peer : (o : Option Port) → crossing_acts Grant p o ≡ Some acts → AreSentAlike net.plan net.nodes acts
-      by_peer None is = absurd (cc)
-      by_peer (Some q) is = let same : Acts.Joint p q Grant ≡ acts = cc in subst (AreSentAlike net.plan net.nodes) same tt
-  acts_alike net (event.Input s l word) alike acts known = let same : Acts.Alone s (act.Step (action.Input l word)) ≡ acts = cc in subst (AreSentAlike net.plan net.nodes) same tt
-  acts_alike net (event.Claim s i o) alike acts known = let same : Acts.Alone s (act.Step (action.Claim i o)) ≡ acts = cc in subst (AreSentAlike net.plan net.nodes) same tt
-  acts_alike net (event.Control s bytes) alike acts known = let same : Acts.Alone s (act.Step (action.Control bytes)) ≡ acts = cc in subst (AreSentAlike net.plan net.nodes) same tt
-  acts_alike net (event.Send t p) alike acts known =
-      let same : Acts.Alone (terminal_place net.plan t) (act.Send p) ≡ acts = cc in
+  abbrev IsAlike : Network A → Option (Acts A) → Type 0
+  IsAlike net o = IfSome o (AreSentAlike net.plan net.nodes)
+
+  crossing_alike : (net : Network A) (crossing : Crossing) (p : Port) (o : Option Port) → IsAlike net (crossing_acts crossing p o)
+  crossing_alike net crossing p None = tt
+  crossing_alike net crossing p (Some q) = tt
+
+  acts_alike : (net : Network A) (e : Event) → IsSentAlike net e → IsAlike net (event_acts net.plan e)
+  acts_alike net (event.Cross p) alike = crossing_alike net Token p (peer net.plan p)
+  acts_alike net (event.Credit p) alike = crossing_alike net Grant p (peer net.plan p)
+  acts_alike net (event.Send t p) alike =
       let number : t ≡ terminal_place net.plan t - length net.plan.switches = omega arith in
-      subst (AreSentAlike net.plan net.nodes) same (subst (λ k. IsSentHere k (slice_get net.nodes (terminal_place net.plan t))) number alike)
-  acts_alike net (event.Drain t) alike acts known = let same : Acts.Alone (terminal_place net.plan t) act.Drain ≡ acts = cc in subst (AreSentAlike net.plan net.nodes) same tt
+      subst (λ k. IsSentHere k (slice_get net.nodes (terminal_place net.plan t))) number alike
+  acts_alike net e alike = tt
 
   -- a step of the one is a step of the other, with the same reply, where what it sends is the same
   step_alike : (net : Network A) (e : Event) → IsSentAlike net e → network_step to (map_network f net) e ≡ option_map map_done (network_step from net e)
-  step_alike net e alike = by_acts (event_acts net.plan e) refl
+  step_alike net e alike = ap (λ (m : Option (Acts B)). m >>= step_from to (map_network f net)) (events_map net.plan e) ∙ by_acts (event_acts net.plan e) (acts_alike net e alike)
     where
-      by_acts : (o : Option (Acts A)) → event_acts net.plan e ≡ o → network_step to (map_network f net) e ≡ option_map map_done (network_step from net e)
-      by_acts o known =
-          ap (λ (m : Option (Acts B)). m >>= step_from to (map_network f net)) (events_map net.plan e ∙ ap (option_map map_acts) known)
-          ∙ by_known o known
-          ∙ ap (λ (m : Option (Acts A)). option_map map_done (m >>= step_from from net)) (sym known)
-        where
-          by_known : (o : Option (Acts A)) → event_acts net.plan e ≡ o → (option_map map_acts o >>= step_from to (map_network f net)) ≡ option_map map_done (o >>= step_from from net)
-          by_known None known = refl
-          by_known (Some acts) known = ap (told_step to (map_network f net)) (acts_map net.plan net.nodes acts (acts_alike net e alike acts known)) ∙ told_map net (acts_step from net.plan net.nodes acts)
+      by_acts : (o : Option (Acts A)) → IsAlike net o → (option_map map_acts o >>= step_from to (map_network f net)) ≡ option_map map_done (o >>= step_from from net)
+      by_acts None alike = refl
+      by_acts (Some acts) alike = ap (told_step to (map_network f net)) (acts_map net.plan net.nodes acts alike) ∙ told_map net (acts_step from net.plan net.nodes acts)
 
   there_alike : (net : Network A) (e : Event) → IsSentAlike net e → (o : Option EventFault) → ◌≡◌ {A = Result Reply EventFault × Network B} (outcome_if_possible to (map_network f net) e o) (map_answer (outcome_if_possible from net e o))
   there_alike net e alike None = ap (outcome_if_ready to (map_network f net) e) (step_alike net e alike) ∙ ready_map net e (network_step from net e)
@@ -317,13 +264,8 @@ module _ {A B : Type 0} (f : A → B) (from : Kind A) (to : Kind B) (plain_is : 
   -- what is told of all that may be sent
   module _ (sent_is : (t n j : ℕ) (x : PlainToken) → to.sent t n j x ≡ f (from.sent t n j x)) where
     all_alike : (net : Network A) (e : Event) → IsSentAlike net e
-    all_alike net (event.Cross p) = tt
-    all_alike net (event.Credit p) = tt
-    all_alike net (event.Input s l word) = tt
-    all_alike net (event.Claim s i o) = tt
-    all_alike net (event.Control s bytes) = tt
     all_alike net (event.Send t p) = λ T at j x. sent_is t (length T.sent) j x
-    all_alike net (event.Drain t) = tt
+    all_alike net e = tt
 
     -- a step of the one is a step of the other, with the same reply
     pub step_map : (net : Network A) (e : Event) → network_step to (map_network f net) e ≡ option_map map_done (network_step from net e)

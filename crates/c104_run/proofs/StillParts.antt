@@ -13,14 +13,13 @@ use Rattle.c104_run.specs.Balance.{IsSteady}
 use Rattle.c104_run.specs.Network.{Network, network_apply}
 use Rattle.c104_run.specs.RoundParts.{port_events}
 use Rattle.c104_run.specs.Reasons.{is_unready}
-use Rattle.c104_run.specs.Rounds.{all_claims, all_drains, claims_of, link_numbers, round, switch_claims, turn_at, wired_links, wired_ports, wired_terminals}
+use Rattle.c104_run.specs.Rounds.{all_drains, claims_of, link_numbers, round, switch_claims, wired_links, wired_terminals}
 use Rattle.c104_run.specs.Standstill.{IsUnready, StandsStill, has_reason, have_reasons}
 use Rattle.c104_node.specs.declared.port_part.PortPart.{PortPart}
-use Rattle.c104_node.specs.declared.port_part.PortPart.TheVariants.{Credit, Cross, Turn}
 use Rattle.c104_switch.specs.Actions.{Reply}
 use Rattle.c104_token.specs.Kinds.{Kind}
 use Rattle.std.specs.List.{AllByRecursion, flat_map, list_all, range_with_len}
-use Rattle.std.proofs.Common.{Bool, Err, List, Ok, Result, Some, [], ap, arith, false, length, map, refl, slice_get, suc, sym, true, ℕ, ◌&&◌, ◌++◌, ◌+◌, ◌-◌, ◌<◌, ◌∙◌, ◌∷◌, ◌≡◌, ◌≤◌}
+use Rattle.std.proofs.Common.{Bool, List, Ok, Result, Some, [], ap, arith, false, length, refl, slice_get, suc, sym, true, ℕ, ◌&&◌, ◌+◌, ◌-◌, ◌<◌, ◌∙◌, ◌∷◌, ◌≡◌, ◌≤◌}
 use Rattle.std.proofs.lemmas.List.Folds.{list_all-append}
 use Rattle.c104_plan.specs.declared.ports.Port.TheVariants as port
 use Rattle.c104_event.specs.declared.events.Event.TheVariants as event
@@ -78,39 +77,11 @@ module _ (p : Event → Bool) where
   pub of_drains : (n : ℕ) → tested (single event.Drain) n ≡ list_all p (all_drains n)
   of_drains n = ap (list_all p) (singles event.Drain (range_with_len 0 n))
 
-  -- the parts of all ports, and of a round
-  abbrev pub ports : Plan → PortPart → Bool
-  ports plan part = list_all p (flat_map (port_events part) (wired_ports plan))
-
-  pub of_round : (plan : Plan) → list_all p (round plan) ≡ (ports plan Credit && (ports plan Cross && (ports plan Turn && (list_all p (all_claims (length plan.switches)) && list_all p (all_drains (length plan.terminals))))))
-  of_round plan =
-      let a : List Event = map event.Credit (wired_ports plan) in
-      let b : List Event = map event.Cross (wired_ports plan) in
-      let c : List Event = flat_map turn_at (wired_ports plan) in
-      let d : List Event = all_claims (length plan.switches) in
-      let e : List Event = all_drains (length plan.terminals) in
-      list_all-append p (a ++ b ++ c ++ d) e ∙ ap (λ x. x && list_all p e) (list_all-append p (a ++ b ++ c) d ∙ ap (λ x. x && list_all p d) (list_all-append p (a ++ b) c ∙ ap (λ x. x && list_all p c) (list_all-append p a b)))
-      ∙ regroup (list_all p a) (list_all p b) (list_all p c) (list_all p d) (list_all p e)
-      ∙ ap (λ x. x && (list_all p b && (list_all p c && (list_all p d && list_all p e)))) (ap (list_all p) (sym (singles event.Credit (wired_ports plan))))
-      ∙ ap (λ x. ports plan Credit && (x && (list_all p c && (list_all p d && list_all p e)))) (ap (list_all p) (sym (singles event.Cross (wired_ports plan))))
-    where
-      regroup : (a b c d e : Bool) → ((((a && b) && c) && d) && e) ≡ (a && (b && (c && (d && e))))
-      regroup true b c d e = regroup_three b c d e
-        where
-          regroup_three : (b c d e : Bool) → (((b && c) && d) && e) ≡ (b && (c && (d && e)))
-          regroup_three true true d e = refl
-          regroup_three true false d e = refl
-          regroup_three false c d e = refl
-      regroup false b c d e = refl
-
 -- a network stands still exactly where each event of a round has a reason
 module _ {A : Type 0} (kind : Kind A) (net : Network A) (is_plan : IsPlan net.plan) (steady : IsSteady net) where
   unready_is : (answer : Result Reply EventFault) → is_unready answer ≡ true → answer ≡ Ok reply.NotReady
-  unready_is (Ok reply.Done) is = absurd (cc is)
   unready_is (Ok reply.NotReady) is = refl
-  unready_is (Ok (reply.Token x)) is = absurd (cc is)
-  unready_is (Ok (reply.Control bytes)) is = absurd (cc is)
-  unready_is (Err f) is = absurd (cc is)
+  unready_is answer is = absurd (cc is)
 
   reason_unready : (e : Event) → has_reason net e ≡ true → IsUnready kind net e
   reason_unready e is = unready_is (network_apply kind net e).0 (sym (unready_answered kind net is_plan steady e) ∙ is)

@@ -5,7 +5,7 @@ use Rattle.c104_control.specs.declared.commands.Command.{Command}
 use Rattle.c104_control.specs.declared.faults.CommandFault.{CommandFault}
 use Rattle.c104_control.specs.declared.replies.Answer.{Answer}
 use Rattle.c104_interval.specs.declared.intervals.Select.{Select}
-use Rattle.c104_interval.specs.declared.intervals.Select.TheVariants.{Discard, Link, Sink}
+use Rattle.c104_interval.specs.declared.intervals.Select.TheVariants.{Link}
 use Rattle.c104_link.specs.Buffers.{Outgoing, outgoing_clear}
 use Rattle.c104_run.proofs.TokenMaps.{if_map, map_phase}
 use Rattle.c104_node.specs.Nodes.{Node, node_control}
@@ -19,8 +19,8 @@ use Rattle.c104_switch.specs.Phases.{is_stream}
 use Rattle.c104_switch.specs.Switch.{Input, Switch, is_owned}
 use Rattle.c104_switch.specs.Views.{owner_from}
 use Rattle.c104_switch.specs.declared.phase.Phase.{Phase}
-use Rattle.c104_switch.specs.declared.phase.Phase.TheVariants.{Fresh, Head, Sinking, Stream, Want}
-use Rattle.std.proofs.Common.{Err, List, None, Ok, Option, Result, Some, [], ap, map, option_map, refl, slice_get, suc, zero, ℕ, ◌∷◌, ◌≡◌}
+use Rattle.c104_switch.specs.declared.phase.Phase.TheVariants.{Fresh}
+use Rattle.std.proofs.Common.{Err, List, Ok, Option, Result, Some, [], ap, map, option_map, refl, slice_get, suc, zero, ℕ, ◌∷◌, ◌≡◌}
 use Rattle.std.proofs.lemmas.List.{length-map}
 use Rattle.std.proofs.lemmas.Option.{slice_get-map}
 use Rattle.c104_control.specs.declared.commands.Command.TheVariants as command
@@ -29,10 +29,7 @@ use Rattle.c104_node.specs.declared.node.NodeOf.TheVariants as node
 module _ {A B : Type 0} (f : A → B) where
   pub streams_map : (o : ℕ) (ph : Phase (List A)) → is_stream o (map_phase f ph) ≡ is_stream o ph
   streams_map o Fresh = refl
-  streams_map o (Head b) = refl
-  streams_map o (Want b g) = refl
-  streams_map o (Stream p) = refl
-  streams_map o Sinking = refl
+  streams_map o ph = refl
 
   pub owned_map : (inputs : List (Input A)) (o : ℕ) → is_owned (map (map_input f) inputs) o ≡ is_owned inputs o
   owned_map [] o = refl
@@ -40,16 +37,12 @@ module _ {A B : Type 0} (f : A → B) where
 
   pub decided_map : (b : List A) (sel : Select) → decided_phase (map f b) sel ≡ map_phase f (decided_phase b sel)
   decided_map b (Link g) = refl
-  decided_map b Discard = refl
-  decided_map b Sink = refl
+  decided_map b sel = refl
 
   -- what a switch tells of itself
   pub busy_map : (ph : Phase (List A)) → is_busy (map_phase f ph) ≡ is_busy ph
   busy_map Fresh = refl
-  busy_map (Head b) = refl
-  busy_map (Want b g) = refl
-  busy_map (Stream o) = refl
-  busy_map Sinking = refl
+  busy_map ph = refl
 
   pub owner_map : (n : ℕ) (inputs : List (Input A)) (o : ℕ) → owner_from n (map (map_input f) inputs) o ≡ owner_from n inputs o
   owner_map n [] o = refl
@@ -59,9 +52,8 @@ module _ {A B : Type 0} (f : A → B) where
   status_map inputs l p q = rw (length-map p.buffer.items f, length-map q.items f, owner_map 0 inputs l, busy_map p.phase, owned_map inputs l) refl
 
   pub sides_map : (inputs : List (Input A)) (l : ℕ) (p : Option (Input A)) (q : Option (Outgoing A)) → sides_status (map (map_input f) inputs) l (option_map (map_input f) p) (option_map (map_outgoing f) q) ≡ sides_status inputs l p q
-  sides_map inputs l None q = refl
-  sides_map inputs l (Some p) None = refl
   sides_map inputs l (Some p) (Some q) = status_map inputs l p q
+  sides_map inputs l p q = refl
 
   pub link_map : (S : Switch A) (l : ℕ) → link_status (map_switch f S) l ≡ link_status S l
   unfolding link_status

@@ -80,12 +80,9 @@ module _ {A B : Type 0} (f : A → B) (from : Kind A) (to : Kind B) (plain_is : 
   put_header_map s b q = if_map (option_map (map_outgoing f)) s.delete_header s.delete_header _ _ _ _ refl refl (put_all_map f b q)
 
   claimed_map : (settings : List Settings) (p : Input A) (qs : List (Outgoing A)) (o : ℕ) (ph : Phase (List A)) → input_claim settings (map_input f p) (map (map_outgoing f) qs) o (map_phase f ph) ≡ option_map map_sides (input_claim settings p qs o ph)
-  claimed_map settings p qs o Fresh = refl
-  claimed_map settings p qs o (Head b) = refl
   claimed_map settings p qs o (Want b g) = require_map map_sides (is_in_group settings g o) _ _ (bind_same map_sides (slice_get settings o) _ _ (λ t.
       bind_both (map (map_outgoing f)) map_sides (step_at qs o (put_header t b)) _ _ _ (place_map (map_outgoing f) qs o (put_header t b) (put_header t (map f b)) (put_header_map t b)) (λ rs. refl)))
-  claimed_map settings p qs o (Stream q) = refl
-  claimed_map settings p qs o Sinking = refl
+  claimed_map settings p qs o ph = refl
 
   claim_map : (i o : ℕ) (S : Switch A) → switch_claim (map_switch f S) i o ≡ option_map (map_switch f) (switch_claim S i o)
   claim_map i o S = require_map (map_switch f) S.started _ _ (bind_both (λ (z : List (Input A) × List (Outgoing A)). (map (map_input f) z.0, map (map_outgoing f) z.1)) (map_switch f) (inputs_claim S.settings S.inputs S.outputs i o) _ _ _ (claimed_at_map S.settings S.inputs S.outputs i o) (λ r. refl))

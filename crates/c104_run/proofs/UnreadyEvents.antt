@@ -1,5 +1,5 @@
 -- An event of a network has a reason exactly where it is answered with NotReady.
-use Rattle.std.proofs.Common.{◌≡◌, ◌<◌, ◌+◌, ◌++◌, ◌∙◌, ℕ, zero, suc, nat_le, not, Bool, true, false, List, [], ◌∷◌, Option, Some, None, Ok, map, replicate, length, slice_get, is_some, is_none, if◌then◌else◌, refl, sym, ap, arith}
+use Rattle.std.proofs.Common.{◌≡◌, ◌<◌, ◌+◌, ◌++◌, ◌∙◌, ℕ, inl, inr, nat_le, nat_lt, not, Bool, true, false, List, Option, Some, None, Ok, map, replicate, length, slice_get, is_some, is_none, if◌then◌else◌, refl, sym, ap, arith}
 use Rattle.std.specs.Option.{option_map}
 use Rattle.c104_token.specs.declared.packets.Packet.{Packet}
 use Rattle.c104_token.specs.declared.text.TheConstants.{MAX_PACKET_BYTES}
@@ -28,34 +28,33 @@ use Rattle.c104_run.specs.Reasons.{claim_reason, event_why, unless_refused, netw
 use Rattle.c104_node.specs.NodeReasons.{node_input_why, node_claim_why, node_drain_why}
 use Rattle.c104_run.proofs.UnreadyNodes.{input_here, claim_here, drain_here, step_ready, yield_ready, cross_ready, credit_ready}
 use Rattle.c104_run.proofs.NoFaults.{node_there, past_link, past_node}
+use Rattle.c104_run.proofs.RunRecords.{by_counts, counted}
+use Rattle.c104_node.specs.Traces.{part}
+use Rattle.std.proofs.lemmas.Bool.Decides.{nat_tests}
+use Rattle.std.proofs.lemmas.Option.{slice_get_cases}
 
 -- a switch stands at the first places, and a terminal at those behind them
 module _ {A : Type 0} where
   abbrev pub StandsAt : List (Node A) → ℕ → Bool → Type 0
   StandsAt nodes place switches = (n : Node A) × (slice_get nodes place ≡ Some n) × (is_switch n ≡ switches)
 
+  stands : (nodes : List (Node A)) (place : ℕ) (switches : Bool) → place < length nodes → part false is_switch (slice_get nodes place) ≡ switches → StandsAt nodes place switches
+  stands nodes place switches inside is = elim (slice_get_cases nodes place).1 [
+    | inl found ↦ (found.0, found.2, sym (ap (part false is_switch) found.2) ∙ is)
+    | inr past ↦ absurd (omega (arith, inside, past.0))
+  ]
+
   pub switch_there : (a b : ℕ) (nodes : List (Node A)) → map is_switch nodes ≡ replicate a true ++ replicate b false → (place : ℕ) → place < a → StandsAt nodes place true
-  switch_there zero b nodes are place inside = absurd (omega (arith, inside))
-  switch_there (suc a) b [] are place inside = cc
-  switch_there (suc a) b (m ∷ nodes) are zero inside = (m, refl, cc)
-  switch_there (suc a) b (m ∷ nodes) are (suc place) inside =
-      let rest : map is_switch nodes ≡ replicate a true ++ replicate b false = cc in
-      switch_there a b nodes rest place (omega (arith, inside))
+  switch_there a b nodes are place inside =
+      let count = counted a b nodes are in
+      let first : nat_lt place a ≡ true = grind (arith, nat_tests, inside) in
+      stands nodes place true (omega (arith, count, inside)) (by_counts a b nodes are place ∙ first)
 
   pub terminal_there : (a b : ℕ) (nodes : List (Node A)) → map is_switch nodes ≡ replicate a true ++ replicate b false → (t place : ℕ) → place ≡ a + t → t < b → StandsAt nodes place false
-  terminal_there zero zero nodes are t place is inside = absurd (omega (arith, inside))
-  terminal_there zero (suc b) [] are t place is inside = cc
-  terminal_there zero (suc b) (m ∷ nodes) are zero zero is inside = (m, refl, cc)
-  terminal_there zero (suc b) (m ∷ nodes) are zero (suc place) is inside = absurd (omega (arith, is))
-  terminal_there zero (suc b) (m ∷ nodes) are (suc t) zero is inside = absurd (omega (arith, is))
-  terminal_there zero (suc b) (m ∷ nodes) are (suc t) (suc place) is inside =
-      let rest : map is_switch nodes ≡ replicate 0 true ++ replicate b false = cc in
-      terminal_there zero b nodes rest t place (omega (arith, is)) (omega (arith, inside))
-  terminal_there (suc a) b [] are t place is inside = cc
-  terminal_there (suc a) b (m ∷ nodes) are t zero is inside = absurd (omega (arith, is))
-  terminal_there (suc a) b (m ∷ nodes) are t (suc place) is inside =
-      let rest : map is_switch nodes ≡ replicate a true ++ replicate b false = cc in
-      terminal_there a b nodes rest t place (omega (arith, is)) inside
+  terminal_there a b nodes are t place is inside =
+      let count = counted a b nodes are in
+      let behind : nat_lt place a ≡ false = grind (arith, nat_tests, is) in
+      stands nodes place false (omega (arith, count, is, inside)) (by_counts a b nodes are place ∙ behind)
 
 -- what a fault that there isn't says
 wired : (plan : Plan) (p : Port) (other : Option Port) → peer plan p ≡ other → wired_fault plan p ≡ None → wire_fault other ≡ None

@@ -42,14 +42,10 @@ module _ (plan : Plan) (is_plan : IsPlan plan) where
   near_wired Grant (port.Terminal t) q wired stamp r = λ l is. (let link : 0 ≡ l = cc in (port.Terminal t, q, ap (λ (x : ℕ). record { node = length plan.switches + t; link = x }) link, wired))
 
   far_link : (told : Reply) (q : Port) → act_link (far_act q told) ≡ Some (end_of plan q).link
-  far_link reply.Done (port.Switch s l) = refl
-  far_link reply.Done (port.Terminal t) = refl
-  far_link reply.NotReady (port.Switch s l) = refl
-  far_link reply.NotReady (port.Terminal t) = refl
   far_link (reply.Token x) (port.Switch s l) = refl
   far_link (reply.Token x) (port.Terminal t) = refl
-  far_link (reply.Control bytes) (port.Switch s l) = refl
-  far_link (reply.Control bytes) (port.Terminal t) = refl
+  far_link r (port.Switch s l) = refl
+  far_link r (port.Terminal t) = refl
 
   far_wired : (told : Reply) (q p : Port) → peer plan q ≡ Some p → (stamp : Stamp) (r : Reply) → IsWiredAct plan (port_place plan q) (entry_of stamp (far_act q told) r)
   far_wired told q p wired stamp r = λ l is. (let both : Some (end_of plan q).link ≡ Some l = sym (far_link told q) ∙ is in let link : (end_of plan q).link ≡ l = cc in (q, p, ap (λ (x : ℕ). record { node = (end_of plan q).node; link = x }) link, wired))
@@ -82,11 +78,7 @@ module _ (plan : Plan) (is_plan : IsPlan plan) where
   event_wired : (stamp : Stamp) (e : Event) (r : Reply) → AreWired (event_deeds plan stamp e r)
   event_wired stamp (event.Cross p) r = joint_wired_deeds stamp Token p r (peer plan p) refl
   event_wired stamp (event.Credit p) r = joint_wired_deeds stamp Grant p r (peer plan p) refl
-  event_wired stamp (event.Input s l word) r = lone_wired stamp s _ r refl
-  event_wired stamp (event.Claim s i o) r = lone_wired stamp s _ r refl
-  event_wired stamp (event.Control s bytes) r = lone_wired stamp s _ r refl
-  event_wired stamp (event.Send t packet) r = lone_wired stamp _ _ r refl
-  event_wired stamp (event.Drain t) r = lone_wired stamp _ _ r refl
+  event_wired stamp e r = lone_wired stamp _ _ r refl
 
   -- those of a run, and the part of a node of them
   run_wired : (stamps : ℕ → Stamp) (n : ℕ) (events : List (Event × Reply)) → AreWired (run_deeds plan stamps n events)

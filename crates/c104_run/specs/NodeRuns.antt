@@ -23,7 +23,7 @@ IsKeptNode n = IsRecorded n.0
 abbrev pub starting_nodes : List (NodeRecord × NodeRoom) → List (Node Token)
 starting_nodes nodes = map start_node (map node_start nodes)
 
--- the traces of nodes tell a run of so many events in a network of a plan: some list of them leads from where the nodes
+-- the traces of nodes tell a run of `count` events in a network of a plan: some list of them leads from where the nodes
 -- started to where they stand, and the trace of each node is its part of the events' entries. At the start each node is
 -- at its place, and credit was granted at both ends of each wire alike.
 pub record TellRun (plan : Plan) (nodes : List (NodeRecord × NodeRoom)) (count : ℕ) : Type 0 where
@@ -32,6 +32,6 @@ pub record TellRun (plan : Plan) (nodes : List (NodeRecord × NodeRoom)) (count 
   pub told : IsRunRecord plain_kind plan stamps (starting_nodes nodes) (map node_state nodes) (map node_trace nodes) count events
   pub started : IsSteady {A = Token} (network_of plan (starting_nodes nodes))
 
--- what is left of the nodes of a network of a plan in which so many events were done
+-- what is left of the nodes of a network of a plan in which this number of events was done
 abbrev pub nodes_run : Plan → List (NodeRecord × NodeRoom) → ℕ → FinishedRecord
 nodes_run plan nodes count = record_finish (net_record plan nodes count)

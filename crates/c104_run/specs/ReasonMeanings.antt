@@ -61,8 +61,8 @@ abbrev pub IsSaidAt : {A : Type 0} → Network A → (ℕ → Node A → Unready
 IsSaidAt net Says p reason = IsSaid (Says (end_of net.plan p).link) (slice_get net.nodes (end_of net.plan p).node) reason
 
 -- of the wire at a port, this is said at that port, or at the other end
-abbrev pub IsWireReason : {A : Type 0} → Network A → Port → (ℕ → Node A → Unready → Type 0) → (ℕ → Node A → Unready → Type 0) →
-    Reason → Type 0
+abbrev pub IsWireReason : {A : Type 0} → Network A → Port → (ℕ → Node A → Unready → Type 0) →
+    (ℕ → Node A → Unready → Type 0) → Reason → Type 0
 IsWireReason net p Near Far r =
     ((r.port ≡ p) × IsSaidAt net Near r.port r.unready)
     ⊎ ((peer net.plan p ≡ Some r.port) × IsSaidAt net Far r.port r.unready)

@@ -32,7 +32,8 @@ stage_of plan shown count = record {
 }
 
 -- an event that would be done is refused, with nothing changed, where a trace that would grow is full
-abbrev pub unless_full : {A : Type 0} → Bool → Network A → Result Reply EventFault × Network A → Result Reply EventFault × Network A
+abbrev pub unless_full : {A : Type 0} → Bool → Network A → Result Reply EventFault × Network A →
+    Result Reply EventFault × Network A
 unless_full full net due = if full && is_done due.0 then (Err fault.TraceFull, net) else due
 
 module _ {A : Type 0} (keeps : Bool) where

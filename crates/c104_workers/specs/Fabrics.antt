@@ -61,7 +61,7 @@ first_seats word_id terms =
 abbrev pub seat_view : SeatView × ℕ → SeatView
 seat_view s = s.0
 
--- what the first pass knows after so many seats were made
+-- what the first pass knows after this number of seats was made
 abbrev pub first_view_after : Terms → ℕ → View
 first_view_after terms made = record (first_view terms) { made = made }
 
@@ -83,7 +83,7 @@ all_tickets (s ∷ seats) = tickets_of s.0.calls ++ all_tickets seats
 abbrev pub calls_of : SeatView × ℕ → SeatCalls
 calls_of s = record { number = s.0.number; calls = s.0.calls }
 
--- whether a fabric may have so many seats, and why there is none
+-- whether a fabric may have this number of seats, and why there is none
 abbrev pub IsSeatCount : ℕ → Type 0
 IsSeatCount seats = (1 ≤ seats) × (seats ≤ SEAT_LIMIT)
 

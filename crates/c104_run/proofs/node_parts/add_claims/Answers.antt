@@ -1,7 +1,8 @@
 use Rattle.std.proofs.Common.{◌∙◌, ◌++◌, List, ap, arith, ℕ}
 use Rattle.std.specs.List.{flat_map}
 use Rattle.c104_run.specs.Rounds.{claims_of}
-use Rattle.c104_run.proofs.RoundLists.{flat_next, links_passed}
+use Rattle.c104_plan.proofs.RangeLists.{flat_next}
+use Rattle.c104_run.proofs.RoundLists.{links_passed}
 use Rattle.c104_run.proofs.node_parts.add_claims.Goals as goal
 
 pub loop-input-preserved : goal.loop-input-preserved
