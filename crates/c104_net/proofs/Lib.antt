@@ -29,6 +29,7 @@ pub mod OriginPieces
 pub mod NamedOrigins
 pub mod LeadingSteps
 pub mod StableSorts
+pub mod SortedLeads
 pub mod GatheredLeads
 pub mod ReplayedRuns
 pub mod MergedEvents

@@ -26,6 +26,10 @@ abbrev pub lead_event : ℕ → List (List Entry) → Lead → ℕ × Event
 lead_event switches traces x =
     (x.ticket, entry_event switches x.place (slice_get (unwrap_or (slice_get traces x.place) []) x.at))
 
+-- an entry that leads, with its ticket
+abbrev pub with_ticket : Lead → ℕ × Lead
+with_ticket x = (x.ticket, x)
+
 -- events lead from one network to another: each was answered in turn, and none was refused
 abbrev pub LeadTo : Network Traced → List Event → Network Traced → Type 0
 LeadTo net [] ended = ended ≡ net

@@ -1,11 +1,11 @@
 //! The events of a run, found again from the entries of its nodes in the order of tickets.
 //!
 //! Each event is told by the entry that leads in it. Those entries are gathered, one node after the other, and sorted by
-//! ticket (`sorted_leads`); then each tells its event (`event_of`).
+//! ticket (`sorted_leads`, by `sort_leads`); then each tells its event (`event_of`).
 ghost use Rattle.std.specs.Prelude.{◌≡◌, ◌++◌, ℕ, List, Some, map, slice_get, IfOk, OnOk};
 ghost use Rattle.c104_net.specs.Leading.{act_event, action_event, led_events, leads};
 ghost use Rattle.c104_net.specs.Merges.{by_ticket};
-ghost use Rattle.c104_net.specs.Replays.{lead_event};
+ghost use Rattle.c104_net.specs.Replays.{lead_event, with_ticket};
 ghost use Rattle.c104_net.specs.ToldEvents.{told_by, told_event};
 ghost use Rattle.c104_node.specs.declared.acts.Entry.{Entry as TheEntry};
 
@@ -136,6 +136,14 @@ pub fn sorted_leads(alloc: Global, traces: &[Items<Entry>]) -> Result<Vec<Lead>,
         map (lead_event switches traces.now) leads.items ≡ by_ticket (told_by switches 0 traces.now)) }
 {
     let mut leads = all_leads(alloc, traces)?;
-    leads.sort_by_key(|lead| lead.ticket)?;
+    sort_leads(&mut leads)?;
     Ok(leads)
+}
+
+/// Sorts entries that lead by ticket; those of one ticket stay in their order. The only error is out of memory.
+pub fn sort_leads(leads: &mut Vec<Lead>) -> Result<(), NoMemory>
+    ensures { OnOk result (map with_ticket leads.new.items ≡ by_ticket (map with_ticket leads.old.items)) }
+{
+    leads.sort_by_key(|lead| lead.ticket)?;
+    Ok(())
 }

@@ -3,6 +3,7 @@
 //! Networks and runs are those of `c104_run`, and their nodes those of `c104_node`; this crate re-exports what users
 //! of a network need of both. Its own are the theorems, which know the check of labels.
 //!
+//! `sort_leads` and `event_of` find the events of a run again from the entries that lead in them, each a `Lead`.
 //! `Origins` tells which packet each received packet was: of a `Run`, which is replayed over tokens that tell where
 //! they came from, and of a `TracedNet`, whose tokens tell it as they arrive. `NoDeadlock` says that a network without
 //! a cycle of channel dependencies has no deadlock, and `LeftWork` how many rounds are enough.
@@ -27,6 +28,7 @@ pub use c104_run::{
     Watch, round_part,
 };
 pub use deadlock::NoDeadlock;
+pub use leading::{Lead, event_of, sort_leads};
 pub use run_origins::Origins;
 pub use traced_origins::WaitingTokens;
 pub use work::LeftWork;

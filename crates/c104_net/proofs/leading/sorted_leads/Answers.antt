@@ -1,6 +1,5 @@
-use Rattle.std.proofs.Common.{ap, refl, rules, ◌∙◌}
-use Rattle.std.proofs.lemmas.List.Sorted.{IsNonDecreasingBy-from_sort_by_key, answers_always}
-use Rattle.c104_net.proofs.StableSorts.{stable_is}
+use Rattle.std.proofs.Common.{ap, ◌∙◌}
+use Rattle.c104_net.proofs.SortedLeads.{sorted_told}
 use Rattle.c104_net.specs.Merges.{by_ticket}
 use Rattle.c104_net.specs.Replays.{lead_event}
 use Rattle.c104_net.specs.declared.leading.Lead.{Lead}
@@ -8,7 +7,5 @@ use Rattle.c104_net.proofs.leading.sorted_leads.Goals as goal
 
 pub returns : goal.returns
 returns c switches =
-    stable_is (lead_event switches c.args.traces.now) (λ t. record { ticket = t; place = 0; at = 0 }) (λ t. refl) c.in_ok-leads.leads.items c.sort_by_key.new.self.items
-    (IsNonDecreasingBy-from_sort_by_key (λ (lead : Lead). lead.ticket) _ c.in_ok-sort_by_key.ensures.sorted (λ a r q k. search rules))
-    (c.sort_by_key.ensures.stable (λ (lead : Lead). lead.ticket) (answers_always _ _ _ (λ f a r g h. search rules)))
+    sorted_told (λ (x : Lead). (lead_event switches c.args.traces.now x).1) c.in_ok-leads.leads.items c.sort_leads.new.leads.items c.in_ok-sort_leads.ensures
     ∙ ap by_ticket (c.in_ok-leads.ensures switches)
