@@ -4,3 +4,4 @@ pub mod NamedPackets
 pub mod NotRandom
 pub mod DeliveredRuns
 pub mod FoundPackets
+pub mod PortCalls

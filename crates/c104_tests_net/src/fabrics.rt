@@ -3,27 +3,36 @@ ghost use Rattle.std.specs.Prelude.{◌≡◌, IfOk};
 ghost use Rattle.std.specs.Thread.{IsSync};
 ghost use Rattle.c104_workers.specs.Fabrics.{AreSeatsOf};
 
-use crate::calls::{packet_of, placed_network};
+use crate::calls::{described_image, drop_run, new_network, packet_of, placed_network};
 use c104_control::ControlBytes;
 use c104_event::{Event, EventFault, Port};
+use c104_net::Net;
+use c104_plan::Image;
 use c104_switch::Reply;
 use c104_token::{Packet, Token};
-use c104_tools::ControlPort;
-use c104_workers::{Fabric, FabricPort, Gathered, Seat};
+use c104_tools::{ControlPort, load, verify};
+use c104_workers::{AuditFault, Fabric, FabricPort, Gathered, Seat};
 use std::alloc::Global;
 use std::sync::Wait;
 use std::test::Fail;
 use std::thread::{Threads, join};
 
 /// Two terminals on one switch, with a row to each.
-const PLAN: &[u8] = b"switch A\nterminal a A.0\nterminal b A.1\n\
+pub const PLAN: &[u8] = b"switch A\nterminal a A.0\nterminal b A.1\n\
     row A.0 1 0\nrow A.0 2 1\nrow A.1 1 0\nrow A.1 2 1\n";
 
 /// A fabric of the plan with the settings of its lines, and its seats.
-fn fabric_of(alloc: Global, seats: usize) -> Result<(Fabric, Vec<Seat>), Fail>
+pub fn fabric_of(alloc: Global, seats: usize) -> Result<(Fabric, Vec<Seat>), Fail>
     ensures { IfOk result (λ made. AreSeatsOf made.0.word_id made.1.items) }
 {
     let net = placed_network(alloc, PLAN)?;
+    seated(alloc, net, seats)
+}
+
+/// A fabric of a network, and its seats.
+pub fn seated(alloc: Global, net: Net, seats: usize) -> Result<(Fabric, Vec<Seat>), Fail>
+    ensures { IfOk result (λ made. AreSeatsOf made.0.word_id made.1.items) }
+{
     match Fabric::new(alloc, net, seats) {
         Ok(made) => Ok(made),
         Err((net, fault)) => {
@@ -42,9 +51,22 @@ fn packets_by_two_threads(rt: HostRuntime) -> Result<(), Fail> {
     let (fabric, seats) = fabric_of(rt.alloc(), 2)?;
     let gathered = run_two(&rt, rt.alloc(), fabric, seats, (one, two));
     let counts = counts_of(&gathered);
+    let fault = audit_fault(rt.alloc(), &gathered);
     gathered.retire();
     assert!(rt; counts == (16, 16, 24));
+    assert!(rt; fault == None);
     Ok(())
+}
+
+/// Why the audit of what a fabric left answers no run, if it doesn't.
+pub fn audit_fault(alloc: Global, gathered: &Gathered) -> Option<AuditFault> {
+    match gathered.audit(alloc) {
+        Ok(run) => {
+            drop_run(run);
+            None
+        }
+        Err(fault) => Some(fault),
+    }
 }
 
 /// How many calls the first two seats have, and how many entries the switch.
@@ -238,4 +260,56 @@ fn command_by<R: Wait>(
 {
     let mut port = FabricPort { rt, fabric, seat };
     port.command(0, bytes)
+}
+
+/// A seat loads an image into a switch that wasn't started: that is then what the switch holds, and each command is a
+/// call of the seat and an entry of the switch.
+#[test]
+fn image_loaded_by_a_seat(rt: HostRuntime) -> Result<(), Fail> {
+    let image = described_image(rt.alloc(), PLAN)?;
+    let net = new_network(rt.alloc(), PLAN)?;
+    let (fabric, seats) = seated(rt.alloc(), net, 1)?;
+    let (loaded, gathered) = load_and_close(&rt, rt.alloc(), fabric, seats, &image);
+    let (calls, _, entries) = counts_of(&gathered);
+    gathered.retire();
+    assert!(rt; loaded && calls == entries);
+    Ok(())
+}
+
+/// The last seat loads an image and compares it, and then the fabric ends with it.
+fn load_and_close<R: Wait>(
+    rt: &R,
+    alloc: Global,
+    fabric: Fabric,
+    mut seats: Vec<Seat>,
+    image: &Image,
+) -> (bool, Gathered)
+    requires { AreSeatsOf fabric.word_id seats.items }
+{
+    let Some(mut seat) = seats.pop() else {
+        return (false, fabric.close(seats));
+    };
+    let loaded = load_by(rt, &fabric, &mut seat, image);
+    let verified = verify_by(rt, &fabric, &mut seat, image);
+    let mut seats = Vec::new(alloc);
+    let _kept = seats.push(seat);
+    (loaded && verified, fabric.close(seats))
+}
+
+/// Whether a seat loads an image.
+fn load_by<R: Wait>(rt: &R, fabric: &Fabric, seat: &mut Seat, image: &Image) -> bool
+    requires { seat.old.0.word_id ≡ fabric.now.word_id }
+    ensures { seat.new.0.word_id ≡ fabric.now.word_id }
+{
+    let mut port = FabricPort { rt, fabric, seat };
+    load(&mut port, image).is_ok()
+}
+
+/// Whether the switches hold an image, by what a seat reads.
+fn verify_by<R: Wait>(rt: &R, fabric: &Fabric, seat: &mut Seat, image: &Image) -> bool
+    requires { seat.old.0.word_id ≡ fabric.now.word_id }
+    ensures { seat.new.0.word_id ≡ fabric.now.word_id }
+{
+    let mut port = FabricPort { rt, fabric, seat };
+    verify(&mut port, image).is_ok()
 }

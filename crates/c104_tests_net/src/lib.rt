@@ -9,17 +9,23 @@
 #![tactic(auto)]
 
 #[cfg(test)]
+mod audit_lists;
+#[cfg(test)]
 mod calls;
 #[cfg(test)]
 mod crossings;
 #[cfg(test)]
 mod deadlock;
 #[cfg(test)]
+mod fabric_faults;
+#[cfg(test)]
 mod fabrics;
 #[cfg(test)]
 mod faults;
 #[cfg(test)]
 mod found_packets;
+#[cfg(test)]
+mod made_lists;
 #[cfg(test)]
 mod named_packets;
 #[cfg(test)]
@@ -38,3 +44,5 @@ mod reasons;
 mod tools;
 #[cfg(test)]
 mod traces;
+#[cfg(test)]
+mod workers;

@@ -1,6 +1,6 @@
 -- The places of an event's nodes are the network's, the lower first.
 use Rattle.c104_plan.specs.Plans.{IsPlan, Plan}
-use Rattle.c104_plan.specs.Wiring.{IsPlanPort, IsWiring, peer}
+use Rattle.c104_plan.specs.Wiring.{IsPlanPort, peer}
 use Rattle.c104_plan.specs.declared.ports.Port.{Port}
 use Rattle.c104_plan.specs.declared.ports.Port.TheVariants as port
 use Rattle.c104_plan.proofs.Wires.{wiring}
@@ -19,7 +19,7 @@ use Rattle.c104_run.specs.declared.asked.Asked.{Asked}
 use Rattle.c104_run.specs.declared.asked.Asked.TheVariants as asked
 use Rattle.c104_run.proofs.NoFaults.{node_there}
 use Rattle.c104_token.specs.declared.tokens.Token.{Token}
-use Rattle.c104_workers.specs.LentCalls.{AreBelow, AreLentFor, acts_places, asked_places, event_places}
+use Rattle.c104_workers.specs.LentCalls.{AreBelow, AreLentFor, asked_places, event_places}
 use Rattle.std.proofs.Common.{Bool, None, Option, Some, arith, false, length, nat_lt, refl, subst, sym, true, ℕ, ◌+◌, ◌<◌, ◌≡◌, ◌≢◌}
 use Rattle.std.proofs.lemmas.Bool.Decides.{nat_tests}
 use Rattle.std.specs.Prelude.{if◌then◌else◌}

@@ -1,7 +1,8 @@
 -- Seats that are taken in from the last one on.
 use Rattle.c104_tickets.specs.Tickets.{TableId, count_of}
 use Rattle.c104_tickets.specs.declared.views.Terms.{Terms}
-use Rattle.c104_workers.specs.Calls.{SeatView, tickets_of}
+use Rattle.c104_workers.specs.Calls.{SeatView}
+use Rattle.c104_audit.specs.Calls.{tickets_of}
 use Rattle.c104_workers.specs.Fabrics.{AreSeatsOf, IsSeatOf, all_tickets, calls_of, first_seat, first_seats, seat_view}
 use Rattle.c104_workers.specs.declared.calls.SeatCalls.{SeatCalls}
 use Rattle.std.specs.List.{range_with_len}

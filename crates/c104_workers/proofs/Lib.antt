@@ -4,3 +4,5 @@ pub mod SeatGrowth
 pub mod GatheredSeats
 pub mod PortCommands
 pub mod PortRuns
+pub mod SeatWork
+pub mod AuditedLeft

@@ -1,23 +1,22 @@
 -- The commands of a seat grow by the one that a call is of.
-use Rattle.c104_event.specs.declared.events.Event.{Event}
 use Rattle.c104_event.specs.declared.events.Event.TheVariants as event
 use Rattle.c104_event.specs.declared.faults.EventFault.{EventFault}
 use Rattle.c104_event.specs.declared.faults.EventFault.TheVariants as fault
 use Rattle.c104_run.specs.Network.{event_fault}
 use Rattle.c104_run.proofs.NoFaults.{node_there}
-use Rattle.c104_switch.specs.Actions.{Reply}
 use Rattle.c104_switch.specs.declared.actions.ReplyOf.TheVariants as reply
+use Rattle.c104_tools.specs.Outcomes.{Given}
 use Rattle.c104_tools.specs.Ports.{command_asked}
-use Rattle.c104_tools.specs.declared.ports.Asked.{Asked}
-use Rattle.c104_workers.specs.Calls.{SeatView, call_of}
+use Rattle.c104_workers.specs.Calls.{SeatView}
+use Rattle.c104_audit.specs.Calls.{call_of}
 use Rattle.c104_workers.specs.Fabrics.{FabricView}
-use Rattle.c104_workers.specs.SeatCommands.{IsFabricUnanswered, seat_commands, told_command}
+use Rattle.c104_workers.specs.SeatCommands.{IsFabricUnanswered, IsOneCall, seat_commands, told_command}
 use Rattle.c104_workers.specs.SeatGrowth.{FaultsAs, GrewBy, IsLaterFault}
-use Rattle.c104_workers.specs.declared.calls.Call.{Call}
-use Rattle.std.proofs.Common.{Bool, Err, List, None, Option, Some, [], ap, false, length, refl, subst, sym, true, ℕ}
+use Rattle.c104_audit.specs.declared.calls.Call.{Call}
+use Rattle.std.proofs.Common.{Bool, Err, List, None, Ok, Option, Some, [], ap, false, length, refl, subst, sym, true, ℕ}
 use Rattle.std.proofs.Common.{◌++◌, ◌<◌, ◌∙◌, ◌∷◌, ◌≡◌}
 use Rattle.std.proofs.lemmas.List.{append-nil, append_assoc}
-use Rattle.std.specs.Prelude.{if◌then◌else◌}
+use Rattle.std.specs.Prelude.{MatchResult, if◌then◌else◌}
 
 commands_last : (calls : List Call) (c : Call) → seat_commands (calls ++ c ∷ []) ≡ seat_commands calls ++ told_command c.event c.reply
 commands_last [] c = append-nil (told_command c.event c.reply)
@@ -26,6 +25,11 @@ commands_last (d ∷ calls) c = ap (λ xs. told_command d.event d.reply ++ xs) (
 module _ (old new : SeatView) (s : ℕ) (bytes : List ℕ) where
   pub commands_grew : (told : List ℕ) → GrewBy old new (event.Control s bytes) (reply.Control told) → seat_commands new.calls ≡ seat_commands old.calls ++ command_asked s bytes told ∷ []
   commands_grew told by = ap (λ (t : SeatView). seat_commands t.calls) by.listed ∙ commands_last old.calls (call_of (event.Control s bytes) by.ticket (reply.Control told))
+
+  -- and by none where no reply is given
+  pub commands_by : (given : Given) → IsOneCall old new s bytes given → MatchResult given (λ told. seat_commands new.calls ≡ seat_commands old.calls ++ command_asked s bytes told ∷ []) (λ f. seat_commands new.calls ≡ seat_commands old.calls)
+  commands_by (Ok told) by = commands_grew told by
+  commands_by (Err f) same = ap (λ (t : SeatView). seat_commands t.calls) same
 
 -- which faults a command is answered
 pub left_unanswered : (fabric : FabricView) (s : ℕ) (bytes : List ℕ) (f : EventFault) → FaultsAs (event_fault fabric.handed.plan (event.Control s bytes)) (event.Control s bytes) (Err f) → IsFabricUnanswered fabric s f

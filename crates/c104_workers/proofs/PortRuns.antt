@@ -3,8 +3,7 @@
 use Rattle.c104_tools.specs.Outcomes.{ComesTo, Given, GoesOn, Judge, step_result}
 use Rattle.c104_tools.specs.Steps.{Step}
 use Rattle.c104_tools.specs.declared.faults.LoadFault.{LoadFault}
-use Rattle.c104_workers.specs.Calls.{IsSameSeat, SeatView}
-use Rattle.std.proofs.Common.{Err, List, Ok, Result, [], refl, subst, sym, ℕ, ◌∙◌, ◌∷◌, ◌≡◌}
+use Rattle.std.proofs.Common.{Err, List, Ok, Result, [], subst, sym, ℕ, ◌∷◌}
 
 module _ {P : Type 0} (due : P → ℕ → List ℕ → Given → P → Type 0) (Keeps : P → P → Type 0) (at_once : (p : P) → Keeps p p) (on : (p q r : P) → Keeps p q → Keeps q r → Keeps p r) (each : (p q : P) (s : ℕ) (bytes : List ℕ) (given : Given) → due p s bytes given q → Keeps p q) where
   pub all_keep : (judge : Judge) (steps : List Step) (p q : P) (result : Result (List ℕ) LoadFault) → ComesTo due judge p steps result q → Keeps p q
@@ -14,14 +13,3 @@ module _ {P : Type 0} (due : P → ℕ → List ℕ → Given → P → Type 0) 
       by_result : ((rest : Result (List ℕ) LoadFault) → ComesTo due judge came.1 steps rest q → Keeps came.1 q) → (r : Result ℕ LoadFault) → GoesOn r came.1 result q (λ s rest. ComesTo due judge s steps rest q) → Keeps came.1 q
       by_result further (Ok v) goes = further goes.0 goes.2
       by_result further (Err f) goes = subst (Keeps came.1) (sym goes.1) (at_once came.1)
-
--- a seat is the same as itself, and as one that is the same as that
-pub same_self : (s : SeatView) → IsSameSeat s s
-same_self s = record { word_id = refl; terms = refl; number = refl }
-
-pub same_on : (s t u : SeatView) → IsSameSeat s t → IsSameSeat t u → IsSameSeat s u
-same_on s t u first second = record {
-  word_id = second.word_id ∙ first.word_id;
-  terms = second.terms ∙ first.terms;
-  number = second.number ∙ first.number;
-}

@@ -17,7 +17,7 @@ use Rattle.c104_workers.specs.LentCalls.{CallsNode, CallsOne, CallsPair, CallsPa
 use Rattle.c104_workers.specs.LentCalls.{NodeActed, PairActed, SameNode, SamePair, joint_of, node_limit, pair_limit}
 use Rattle.c104_workers.specs.SeatGrowth.{FaultsAs, Grew, GrewBy, IsLaterFault}
 use Rattle.c104_workers.proofs.EventReplies.{AreLater, act_later, alone_suits, pair_suits}
-use Rattle.std.proofs.Common.{Bool, Err, None, Ok, Option, Result, Some, ap, false, nat_lt, refl, subst, sym, true, ℕ, ◌≡◌, ◌||◌}
+use Rattle.std.proofs.Common.{Bool, Err, None, Ok, Option, Result, Some, ap, false, nat_lt, refl, subst, sym, true, ℕ, ◌∙◌, ◌≡◌, ◌||◌}
 
 -- what is known of a seat after a call
 pub record Follows (old new : SeatView) (e : Event) (answer : Result Reply EventFault) : Type 0 where
@@ -105,4 +105,15 @@ same_seat old new e (Err f) same = record {
   word_id = ap (λ (s : SeatView). s.word_id) same;
   terms = ap (λ (s : SeatView). s.terms) same;
   number = ap (λ (s : SeatView). s.number) same;
+}
+
+-- a seat is the same as itself, and as one that is the same as that
+pub same_self : (s : SeatView) → IsSameSeat s s
+same_self s = record { word_id = refl; terms = refl; number = refl }
+
+pub same_on : (s t u : SeatView) → IsSameSeat s t → IsSameSeat t u → IsSameSeat s u
+same_on s t u first second = record {
+  word_id = second.word_id ∙ first.word_id;
+  terms = second.terms ∙ first.terms;
+  number = second.number ∙ first.number;
 }

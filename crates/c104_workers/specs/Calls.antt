@@ -1,30 +1,23 @@
 -- Seats: each keeps the calls that were done through it, in the order of their tickets.
-use Rattle.std.specs.Prelude.{ℕ, ◌≡◌, ◌≤◌, ◌++◌, Bool, List, [], ◌∷◌, Some, length, map, nat_le}
+use Rattle.std.specs.Prelude.{ℕ, ◌≡◌, ◌≤◌, ◌++◌, Bool, List, [], ◌∷◌, Option, Some, length, nat_le}
 use Rattle.c104_event.specs.declared.events.Event.{Event}
+use Rattle.c104_event.specs.declared.faults.EventFault.{EventFault}
 use Rattle.c104_node.specs.declared.stamps.Stamp.{Stamp}
 use Rattle.c104_switch.specs.Actions.{Reply}
 use Rattle.c104_tickets.specs.Tickets.{PassValue, TableId}
 use Rattle.c104_tickets.specs.declared.TheConstants.{TICKET_LIMIT}
 use Rattle.c104_tickets.specs.declared.views.Terms.{Terms}
-use Rattle.c104_workers.specs.declared.calls.Call.{Call}
+use Rattle.c104_audit.specs.Calls.{call_of, tickets_of}
+use Rattle.c104_audit.specs.declared.calls.Call.{Call}
 
--- a seat as it is seen: from which word of tickets it draws and what that was told, its number, and its calls
+-- a seat as it is seen: from which word of tickets it draws and what that was told, its number, its calls, and why the last
+-- worker stopped that used it
 pub record SeatView : Type 0 where
   pub word_id : TableId
   pub terms : Terms
   pub number : ℕ
   pub calls : List Call
-
--- the tickets of calls, in order
-abbrev pub call_ticket : Call → ℕ
-call_ticket c = c.ticket
-
-abbrev pub tickets_of : List Call → List ℕ
-tickets_of calls = map call_ticket calls
-
--- a call of an event that drew this ticket and was answered so
-abbrev pub call_of : Event → ℕ → Reply → Call
-call_of e ticket r = record { ticket = ticket; event = e; reply = r }
+  pub stopped : Option EventFault
 
 -- a seat after a call
 abbrev pub after_call : SeatView → Event → ℕ → Reply → SeatView

@@ -1,27 +1,28 @@
 -- Fabrics: the plan, the word of tickets, and what the nodes had done when the fabric was made; and what a fabric leaves.
-use Rattle.std.specs.Prelude.{ℕ, ◌≡◌, ◌+◌, ◌-◌, ◌≤◌, ◌&&◌, ◌++◌, List, [], ◌∷◌, if◌then◌else◌, length, map, nat_le}
+use Rattle.std.specs.Prelude.{ℕ, ◌≡◌, ◌+◌, ◌-◌, ◌≤◌, ◌&&◌, ◌++◌, List, [], ◌∷◌, None, if◌then◌else◌, length, map, nat_le}
 use Rattle.std.specs.List.{range_with_len}
 use Rattle.c104_plan.specs.Plans.{Plan}
 use Rattle.c104_node.specs.Records.{NodeRecord, NodeRoom}
-use Rattle.c104_node.specs.StartNumbers.{start_numbers}
 use Rattle.c104_node.specs.declared.acts.Entry.{Entry}
+use Rattle.c104_node.specs.declared.starts.NodeStart.{NodeStart}
 use Rattle.c104_run.specs.NetRecords.{IsNetRecord, NetRecord}
 use Rattle.c104_run.specs.NetParts.{node_count}
 use Rattle.c104_tickets.specs.Tickets.{TableId, first_view}
 use Rattle.c104_tickets.specs.declared.TheConstants.{SEAT_LIMIT}
 use Rattle.c104_tickets.specs.declared.views.Terms.{Terms}
 use Rattle.c104_tickets.specs.declared.views.View.{View}
-use Rattle.c104_workers.specs.Calls.{SeatView, tickets_of}
+use Rattle.c104_workers.specs.Calls.{SeatView}
+use Rattle.c104_audit.specs.Calls.{tickets_of}
 use Rattle.c104_workers.specs.declared.calls.SeatCalls.{SeatCalls}
 use Rattle.c104_workers.specs.declared.making.FabricFault.{FabricFault}
 use Rattle.c104_workers.specs.declared.making.FabricFault.TheVariants as fault
 
--- what is known of the network of a fabric: its plan, how many events it had done, where its nodes started, as numbers,
--- and what they had done since
+-- what is known of the network of a fabric: its plan, how many events it had done, where its nodes started, and what they
+-- had done since
 pub record Handed : Type 0 where
   pub plan : Plan
   pub count : ℕ
-  pub starts : List (List ℕ)
+  pub starts : List NodeStart
   pub before : List (List Entry)
 
 -- what is so known of a network with its record
@@ -29,7 +30,7 @@ abbrev pub handed_of : NetRecord → Handed
 handed_of r = record {
   plan = r.network.plan;
   count = r.count;
-  starts = map start_numbers r.starts;
+  starts = r.starts;
   before = r.traces;
 }
 
@@ -51,7 +52,8 @@ terms_of count seats = record { first = count; seats = seats }
 
 -- a seat of a fabric at first, with no call yet
 abbrev pub first_seat : TableId → Terms → ℕ → SeatView
-first_seat word_id terms number = record { word_id = word_id; terms = terms; number = number; calls = [] }
+first_seat word_id terms number =
+    record { word_id = word_id; terms = terms; number = number; calls = []; stopped = None }
 
 -- the seats of a fabric at first, by their numbers from 0 on
 abbrev pub first_seats : TableId → Terms → List SeatView

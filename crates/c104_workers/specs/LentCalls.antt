@@ -20,7 +20,8 @@ use Rattle.c104_run.specs.declared.asked.Asked.TheVariants as asked
 use Rattle.c104_switch.specs.Actions.{Reply, is_ready}
 use Rattle.c104_switch.specs.declared.actions.ReplyOf.TheVariants as reply
 use Rattle.c104_token.specs.declared.tokens.Token.{Token}
-use Rattle.c104_workers.specs.Calls.{SeatView, after_call, is_seat_full, seat_stamp, tickets_of}
+use Rattle.c104_workers.specs.Calls.{SeatView, after_call, is_seat_full, seat_stamp}
+use Rattle.c104_audit.specs.Calls.{tickets_of}
 
 -- the ticket of a call: it is above all that the seat drew before, and no network before the fabric had it
 pub record IsFresh (s : SeatView) (ticket : ℕ) : Type 0 where

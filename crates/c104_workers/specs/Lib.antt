@@ -3,3 +3,5 @@ pub mod LentCalls
 pub mod SeatGrowth
 pub mod Fabrics
 pub mod SeatCommands
+pub mod Working
+pub mod Audited

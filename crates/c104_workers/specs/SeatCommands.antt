@@ -1,5 +1,5 @@
 -- The control commands that were done through a seat.
-use Rattle.std.specs.Prelude.{ℕ, ◌≡◌, ◌<◌, ◌++◌, List, [], ◌∷◌, Result, Ok, Err, length}
+use Rattle.std.specs.Prelude.{ℕ, ◌≡◌, ◌<◌, ◌++◌, List, [], ◌∷◌, Ok, Err, length}
 use Rattle.c104_event.specs.declared.events.Event.{Event}
 use Rattle.c104_event.specs.declared.events.Event.TheVariants as event
 use Rattle.c104_event.specs.declared.faults.EventFault.{EventFault}
@@ -12,20 +12,12 @@ use Rattle.c104_tools.specs.declared.ports.Asked.{Asked}
 use Rattle.c104_workers.specs.Calls.{IsSameSeat, SeatView}
 use Rattle.c104_workers.specs.Fabrics.{FabricView}
 use Rattle.c104_workers.specs.SeatGrowth.{GrewBy}
-use Rattle.c104_workers.specs.declared.calls.Call.{Call}
+use Rattle.c104_audit.specs.declared.calls.Call.{Call}
 
 -- the command, with its reply, that a switch was asked by an event that was answered so; none of any other event
 abbrev pub told_command : Event → Reply → List Asked
-told_command (event.Cross p) r = []
-told_command (event.Credit p) r = []
-told_command (event.Input s l word) r = []
-told_command (event.Claim s i o) r = []
 told_command (event.Control s bytes) (reply.Control told) = command_asked s bytes told ∷ []
-told_command (event.Control s bytes) reply.Done = []
-told_command (event.Control s bytes) reply.NotReady = []
-told_command (event.Control s bytes) (reply.Token x) = []
-told_command (event.Send t packet) r = []
-told_command (event.Drain t) r = []
+told_command e r = []
 
 -- the commands of calls, in order
 abbrev pub seat_commands : List Call → List Asked
@@ -36,13 +28,9 @@ seat_commands (c ∷ calls) = told_command c.event c.reply ++ seat_commands call
 -- the switch or the seat's list is full, or memory has run out
 abbrev pub IsFabricUnanswered : FabricView → ℕ → EventFault → Type 0
 IsFabricUnanswered fabric switch fault.NoNode = Unit {0}
-IsFabricUnanswered fabric switch fault.NoLink = ⊥
-IsFabricUnanswered fabric switch fault.NotWired = ⊥
-IsFabricUnanswered fabric switch fault.TooLong = ⊥
-IsFabricUnanswered fabric switch fault.OutboxFull = ⊥
-IsFabricUnanswered fabric switch fault.InboxFull = ⊥
 IsFabricUnanswered fabric switch fault.TraceFull = switch < length fabric.handed.plan.switches
 IsFabricUnanswered fabric switch fault.NoMemory = switch < length fabric.handed.plan.switches
+IsFabricUnanswered fabric switch f = ⊥
 
 -- what a command of a switch does to a seat: its list grew by exactly the call of that command, with the reply that is
 -- given; or no reply is given, and the seat is as it was

@@ -12,31 +12,22 @@ use Rattle.c104_workers.specs.LentCalls.{IfDone, IsFresh}
 -- the reply is that something was done, a token, or a switch's reply to a command
 abbrev pub IsDoneReply : Reply → Type 0
 IsDoneReply reply.Done = Unit {0}
-IsDoneReply reply.NotReady = ⊥
-IsDoneReply (reply.Token x) = ⊥
-IsDoneReply (reply.Control bytes) = ⊥
+IsDoneReply r = ⊥
 
 abbrev pub IsTokenReply : Reply → Type 0
-IsTokenReply reply.Done = ⊥
-IsTokenReply reply.NotReady = ⊥
 IsTokenReply (reply.Token x) = Unit {0}
-IsTokenReply (reply.Control bytes) = ⊥
+IsTokenReply r = ⊥
 
 abbrev pub IsCommandReply : Reply → Type 0
-IsCommandReply reply.Done = ⊥
-IsCommandReply reply.NotReady = ⊥
-IsCommandReply (reply.Token x) = ⊥
 IsCommandReply (reply.Control bytes) = Unit {0}
+IsCommandReply r = ⊥
 
 -- what an event that was done is answered
 abbrev pub IsReplyTo : Event → Reply → Type 0
 IsReplyTo (event.Cross p) r = IsTokenReply r
-IsReplyTo (event.Credit p) r = IsDoneReply r
-IsReplyTo (event.Input s l word) r = IsDoneReply r
-IsReplyTo (event.Claim s i o) r = IsDoneReply r
-IsReplyTo (event.Control s bytes) r = IsCommandReply r
-IsReplyTo (event.Send t packet) r = IsDoneReply r
 IsReplyTo (event.Drain t) r = IsTokenReply r
+IsReplyTo (event.Control s bytes) r = IsCommandReply r
+IsReplyTo e r = IsDoneReply r
 
 -- a seat's list grew by one call, of this event and with this reply, whose ticket was drawn for it
 pub record GrewBy (old new : SeatView) (e : Event) (r : Reply) : Type 0 where
@@ -52,34 +43,21 @@ Grew old new e (Err f) = new ≡ old
 
 -- whether an event is that a terminal sends a packet, or that a token arrives
 abbrev pub is_send : Event → Bool
-is_send (event.Cross p) = false
-is_send (event.Credit p) = false
-is_send (event.Input s l word) = false
-is_send (event.Claim s i o) = false
-is_send (event.Control s bytes) = false
 is_send (event.Send t packet) = true
-is_send (event.Drain t) = false
+is_send e = false
 
 abbrev pub is_drain : Event → Bool
-is_drain (event.Cross p) = false
-is_drain (event.Credit p) = false
-is_drain (event.Input s l word) = false
-is_drain (event.Claim s i o) = false
-is_drain (event.Control s bytes) = false
-is_drain (event.Send t packet) = false
 is_drain (event.Drain t) = true
+is_drain e = false
 
 -- a fault of an event that can happen: a terminal's list is full that the event adds to, or a trace or the seat's list
 -- is, or memory has run out
 abbrev pub IsLaterFault : Event → EventFault → Type 0
-IsLaterFault e fault.NoNode = ⊥
-IsLaterFault e fault.NoLink = ⊥
-IsLaterFault e fault.NotWired = ⊥
-IsLaterFault e fault.TooLong = ⊥
 IsLaterFault e fault.OutboxFull = is_send e ≡ true
 IsLaterFault e fault.InboxFull = is_drain e ≡ true
 IsLaterFault e fault.TraceFull = Unit {0}
 IsLaterFault e fault.NoMemory = Unit {0}
+IsLaterFault e f = ⊥
 
 -- where an event can't happen, its fault is answered; else no other fault than these
 abbrev pub FaultsAs : Option EventFault → Event → Result Reply EventFault → Type 0

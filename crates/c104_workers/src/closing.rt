@@ -8,7 +8,7 @@ ghost use Rattle.c104_workers.specs.Fabrics.{AreSeatsOf, IsLeft, all_tickets, ca
 use crate::calls::SeatCalls;
 use crate::fabric::Fabric;
 use crate::seats::Seat;
-use c104_node::{Entry, Node};
+use c104_node::{Entry, Node, NodeStart};
 use c104_plan::Plan;
 use c104_run::Wires;
 use c104_tickets::TicketWord;
@@ -23,13 +23,13 @@ use std::sync::Mutex;
 pub struct Gathered {
     wires: Wires,
     // How many events the network had done: the first ticket.
-    first: u64,
+    pub(crate) first: u64,
     // The ticket after the last.
     next: u64,
     nodes: Vec<Node>,
     seats: Vec<SeatCalls>,
-    starts: Vec<Items<u32>>,
-    before: Vec<Items<Entry>>,
+    pub(crate) starts: Vec<NodeStart>,
+    pub(crate) before: Vec<Items<Entry>>,
 }
 
 impl Model for Gathered {

@@ -10,10 +10,11 @@ ghost use Rattle.c104_workers.specs.LentCalls.{AreBelow, AreLentFor, CallsLent, 
 ghost use Rattle.c104_workers.specs.SeatGrowth.{FaultsAs, Grew};
 
 use crate::calls::SeatCalls;
+use crate::gates::{Gate, OpenGate};
 use crate::lent_calls::{call_node, call_pair, call_send};
 use crate::seats::Seat;
 use c104_event::{Event, EventFault};
-use c104_node::{Entry, Node};
+use c104_node::{Entry, Node, NodeStart};
 use c104_plan::Plan;
 use c104_run::{Asked, Wires, acts_of};
 use c104_switch::Reply;
@@ -31,8 +32,8 @@ pub struct Fabric {
     // Room for the nodes at the end, and for what each seat leaves, so that `close` takes no memory.
     pub(crate) nodes: Vec<Node>,
     pub(crate) lists: Vec<SeatCalls>,
-    // Where each node had started when the fabric was made, as numbers, and what it had done since.
-    pub(crate) starts: Vec<Items<u32>>,
+    // Where each node had started when the fabric was made, and what it had done since.
+    pub(crate) starts: Vec<NodeStart>,
     pub(crate) before: Vec<Items<Entry>>,
 }
 
@@ -70,6 +71,13 @@ impl Fabric {
         let _starts = self.starts.as_slice();
         let _before = self.before.as_slice();
         self.wires.plan()
+    }
+
+    /// How many nodes there are.
+    pub(crate) fn node_count(&self) -> usize
+        ensures { result ≡ node_count self.now.handed.plan }
+    {
+        self.locks.len()
     }
 
     /// The places of an event's nodes, the lower first: one, or the two at the ends of a wire. NoNode, NoLink, NotWired or
@@ -176,16 +184,53 @@ impl Fabric {
         ensures grew { Grew seat.old.0 seat.new.0 event.now result }
         ensures same { IsSameSeat seat.old.0 seat.new.0 }
     {
+        self.apply_by_worker(rt, seat, event, &OpenGate, 0)
+    }
+
+    /// The same for a worker, which asks a gate while the nodes are locked.
+    pub(crate) fn apply_by_worker<R: Wait, G: Gate>(
+        &self,
+        rt: &R,
+        seat: &mut Seat,
+        event: &Event,
+        gate: &G,
+        worker: usize,
+    ) -> Result<Reply, EventFault>
+        requires word { seat.old.0.word_id ≡ self.now.word_id }
+        ensures fault { FaultsAs (event_fault self.now.handed.plan event.now) event.now result }
+        ensures grew { Grew seat.old.0 seat.new.0 event.now result }
+        ensures same { IsSameSeat seat.old.0 seat.new.0 }
+    {
         let (lower, higher) = self.place(event)?;
         let mut first = self.locks[lower].lock(rt);
         match higher {
-            None => self.apply_to_one(seat, event, &mut first),
+            None => {
+                gate.inside(worker, lower);
+                self.apply_to_one(seat, event, &mut first)
+            }
             Some(higher) => {
                 let mut second = self.locks[higher].lock(rt);
+                gate.inside(worker, lower);
                 self.apply_to_two(seat, event, &mut first, &mut second)
             }
         }
     }
+
+    /// Whether all nodes are quiet, each when it is asked: no token stands there, and no packet is under way. It locks
+    /// one node after the other, so while others do events that may no longer be so when it answers.
+    pub fn quiet<R: Wait>(&self, rt: &R) -> bool {
+        for lock in &self.locks {
+            if !is_quiet(rt, lock) {
+                return false;
+            }
+        }
+        true
+    }
+}
+
+/// Whether the node behind a lock is quiet.
+fn is_quiet<R: Wait>(rt: &R, lock: &Mutex<Node>) -> bool {
+    lock.lock(rt).quiet()
 }
 
 /// The places of what an event asks, the lower first.

@@ -5,8 +5,8 @@ ghost use Rattle.c104_node.specs.declared.acts.ActOf.TheVariants as act;
 ghost use Rattle.c104_token.specs.declared.tokens.Token.{Token as TheToken};
 ghost use Rattle.c104_workers.specs.LentCalls.{CallsNode, CallsPair};
 
-use crate::calls::copy_event;
 use crate::seats::Seat;
+use c104_audit::copy_event;
 use c104_event::{Event, EventFault};
 use c104_node::{Act, ActOf, Joint, Node, SentPacket, ready_pair};
 use c104_switch::{Reply, ReplyOf};

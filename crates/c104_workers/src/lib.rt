@@ -6,23 +6,31 @@
 //! the order of all events.
 //!
 //! [`Fabric::apply_held`] does an event on nodes that are lent to it, and [`Fabric::apply`] takes their locks for it, the
-//! lower first. [`FabricPort`] takes control commands through a seat. [`Fabric::close`] ends a fabric and gives what it
-//! leaves, [`Gathered`]: the nodes, and the calls of each seat.
+//! lower first. [`run_workers`] does rounds by several threads, each of which asks a [`Gate`] on its way. [`FabricPort`]
+//! takes control commands through a seat. [`Fabric::close`] ends a fabric and gives what it leaves, [`Gathered`]: the
+//! nodes, and the calls of each seat. [`Gathered::audit`] judges whether these are what one run leaves, in which the
+//! seats' calls stand and nothing else, and gives this run; [`audit_lists`] judges any [`Lists`] in the same way.
 //!
 //! A fabric and what it leaves can't be dropped, since switches hold claims.
 #![tactic(auto)]
 
+mod auditing;
 mod calls;
 mod closing;
 mod fabric;
+mod gates;
 mod lent_calls;
 mod making;
 mod ports;
 mod seats;
+mod workers;
 
-pub use calls::{Call, SeatCalls};
+pub use c104_audit::{AuditFault, Call, Lists, NodeShape, audit_lists};
+pub use calls::SeatCalls;
 pub use closing::Gathered;
 pub use fabric::Fabric;
+pub use gates::{Gate, OpenGate};
 pub use making::FabricFault;
 pub use ports::FabricPort;
 pub use seats::Seat;
+pub use workers::{RunFault, run_workers};

@@ -1,7 +1,6 @@
 //! A fabric of a network, with its seats.
 ghost use Rattle.std.specs.Prelude.{◌≡◌, ◌≤◌, [], length, map, IfOk, MatchResult};
 ghost use Rattle.std.specs.Vec.{vec_capacity};
-ghost use Rattle.c104_node.specs.StartNumbers.{start_numbers};
 ghost use Rattle.c104_node.specs.Records.{node_start, node_trace};
 ghost use Rattle.c104_tickets.specs.Tickets.{first_view};
 ghost use Rattle.c104_tickets.specs.declared.TheConstants.{FIRST_LIMIT, SEAT_LIMIT};
@@ -10,7 +9,7 @@ ghost use Rattle.c104_workers.specs.Fabrics.{AreSeatsOf, IsSeatCount, fabric_fau
 use crate::calls::SeatCalls;
 use crate::fabric::Fabric;
 use crate::seats::Seat;
-use c104_node::{Entry, Node};
+use c104_node::{Entry, Node, NodeStart};
 use c104_run::Net;
 use c104_tickets::{Pass, SEAT_LIMIT, Terms, TicketWord};
 use c104_token::{Items, NoMemory as OutOfMemory};
@@ -40,10 +39,10 @@ struct Room {
     copies: Copies,
 }
 
-/// Where nodes started, as numbers, and what they did since.
+/// Where nodes started, and what they did since.
 #[derive(Drop)]
 struct Copies {
-    starts: Vec<Items<u32>>,
+    starts: Vec<NodeStart>,
     before: Vec<Items<Entry>>,
 }
 
@@ -94,7 +93,7 @@ fn made_of(alloc: Global, net: Net, room: Room) -> (Fabric, Vec<Seat>)
     requires locks { (room.locks.items ≡ []) × (length net.starts ≤ vec_capacity room.locks) }
     requires lists { (room.lists.items ≡ []) × (room.terms.seats ≤ vec_capacity room.lists) }
     requires seats { (room.seats.items ≡ []) × (room.terms.seats ≤ vec_capacity room.seats) }
-    requires starts { room.copies.starts.items ≡ map start_numbers net.starts }
+    requires starts { room.copies.starts.items ≡ net.starts }
     requires before { room.copies.before.items ≡ net.traces }
     ensures handed { result.0.handed ≡ handed_of net }
     ensures word { (result.0.word_id ≡ room.word.word_id) × (result.0.terms ≡ room.terms) }
@@ -137,7 +136,7 @@ fn room_for(alloc: Global, net: &Net, terms: Terms) -> Result<Room, OutOfMemory>
     ensures locks { IfOk result (λ room. (room.locks.items ≡ []) × (length net.now.starts ≤ vec_capacity room.locks)) }
     ensures lists { IfOk result (λ room. (room.lists.items ≡ []) × (terms.seats ≤ vec_capacity room.lists)) }
     ensures room { IfOk result (λ room. (room.seats.items ≡ []) × (terms.seats ≤ vec_capacity room.seats)) }
-    ensures starts { IfOk result (λ room. room.copies.starts.items ≡ map start_numbers net.now.starts) }
+    ensures starts { IfOk result (λ room. room.copies.starts.items ≡ net.now.starts) }
     ensures before { IfOk result (λ room. room.copies.before.items ≡ net.now.traces) }
 {
     let nodes = net.places();
@@ -161,7 +160,7 @@ fn room_for(alloc: Global, net: &Net, terms: Terms) -> Result<Room, OutOfMemory>
 
 /// Where each node started, and what it did since. The only error is out of memory.
 fn copies_of(alloc: Global, nodes: &[Node]) -> Result<Copies, OutOfMemory>
-    ensures starts { IfOk result (λ copies. copies.starts.items ≡ map start_numbers (map node_start nodes.now)) }
+    ensures starts { IfOk result (λ copies. copies.starts.items ≡ map node_start nodes.now) }
     ensures before { IfOk result (λ copies. copies.before.items ≡ map node_trace nodes.now) }
 {
     let starts = starts_of(alloc, nodes)?;
@@ -169,20 +168,20 @@ fn copies_of(alloc: Global, nodes: &[Node]) -> Result<Copies, OutOfMemory>
     Ok(Copies { starts, before })
 }
 
-/// Where each node started, as numbers. The only error is out of memory.
-fn starts_of(alloc: Global, nodes: &[Node]) -> Result<Vec<Items<u32>>, OutOfMemory>
-    ensures { IfOk result (λ list. list.items ≡ map start_numbers (map node_start nodes.now)) }
+/// A copy of where each node started. The only error is out of memory.
+pub(crate) fn starts_of(alloc: Global, nodes: &[Node]) -> Result<Vec<NodeStart>, OutOfMemory>
+    ensures { IfOk result (λ list. list.items ≡ map node_start nodes.now) }
 {
     let mut list = Vec::with_capacity(alloc, nodes.len())?;
     for node in nodes {
-        let numbers = node.copy_start(alloc)?;
-        list.push(Items::new(numbers))?;
+        let copy = node.start().copy(alloc)?;
+        list.push(copy)?;
     }
     Ok(list)
 }
 
 /// A copy of what each node did since its start. The only error is out of memory.
-fn traces_of(alloc: Global, nodes: &[Node]) -> Result<Vec<Items<Entry>>, OutOfMemory>
+pub(crate) fn traces_of(alloc: Global, nodes: &[Node]) -> Result<Vec<Items<Entry>>, OutOfMemory>
     ensures { IfOk result (λ list. list.items ≡ map node_trace nodes.now) }
 {
     let mut list = Vec::with_capacity(alloc, nodes.len())?;

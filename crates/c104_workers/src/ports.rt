@@ -1,5 +1,7 @@
 //! A fabric takes control commands through a seat.
-ghost use Rattle.std.specs.Prelude.{◌≡◌};
+ghost use Rattle.std.specs.Prelude.{◌≡◌, MatchResult};
+ghost use Rattle.c104_workers.specs.Calls.{IsSameSeat};
+ghost use Rattle.c104_workers.specs.SeatCommands.{IsFabricUnanswered, IsOneCall};
 
 use crate::fabric::Fabric;
 use crate::seats::Seat;
@@ -43,11 +45,29 @@ impl<R: Wait> ControlPort for FabricPort<'_, R> {
     }
 
     fn command(&mut self, switch: usize, bytes: &ControlBytes) -> Result<ControlBytes, EventFault> {
+        self.fabric.command(self.rt, self.seat, switch, bytes)
+    }
+}
+
+impl Fabric {
+    /// A switch takes a control command through a seat, in one event. NoNode where it isn't ready for one.
+    fn command<R: Wait>(
+        &self,
+        rt: &R,
+        seat: &mut Seat,
+        switch: usize,
+        bytes: &ControlBytes,
+    ) -> Result<ControlBytes, EventFault>
+        requires word { seat.old.0.word_id ≡ self.now.word_id }
+        ensures called { IsOneCall seat.old.0 seat.new.0 switch bytes.now result }
+        ensures same { IsSameSeat seat.old.0 seat.new.0 }
+        ensures fault { MatchResult result (λ _. Unit {0}) (λ f. IsFabricUnanswered self.now switch f) }
+    {
         let event = Event::Control {
             switch,
             bytes: ControlBytes::new(bytes.as_slice()),
         };
-        let answer = self.fabric.apply(self.rt, self.seat, &event)?;
+        let answer = self.apply(rt, seat, &event)?;
         match answer {
             ReplyOf::Control(reply) => Ok(reply),
             ReplyOf::NotReady => Err(EventFault::NoNode),

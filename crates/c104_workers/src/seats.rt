@@ -1,13 +1,17 @@
 //! A seat: through it events are done, and it keeps a call of each.
-ghost use Rattle.std.specs.Prelude.{◌≡◌, ◌<◌, ◌∷◌, None, [], true, false, is_some, OnOk};
+ghost use Rattle.std.specs.Prelude.{◌≡◌, ◌<◌, ◌++◌, ◌∷◌, None, [], true, false, is_some, length, OnOk};
+ghost use Rattle.std.specs.Vec.{vec_capacity};
 ghost use Rattle.c104_node.specs.Acts.{IsWithinLimits};
 ghost use Rattle.c104_node.specs.Records.{HasRoomFor, is_full, recorded_limit, pair_step, recorded_step};
 ghost use Rattle.c104_switch.specs.Actions.{is_ready};
-ghost use Rattle.c104_workers.specs.Calls.{is_seat_full, tickets_of};
+ghost use Rattle.c104_audit.specs.Calls.{call_of, tickets_of};
+ghost use Rattle.c104_workers.specs.Calls.{is_seat_full};
+ghost use Rattle.c104_workers.specs.Fabrics.{first_seat};
 ghost use Rattle.c104_workers.specs.LentCalls.{NodeActed, PairActed};
 
-use crate::calls::{Call, SeatCalls};
-use c104_event::Event;
+use crate::calls::SeatCalls;
+use c104_audit::Call;
+use c104_event::{Event, EventFault};
 use c104_node::{Act, Joint, Node, act_pair, same_reply};
 use c104_switch::Reply;
 use c104_tickets::{Pass, TICKET_LIMIT, TicketWord};
@@ -21,6 +25,8 @@ pub struct Seat {
     pass: Pass,
     number: u8,
     calls: Vec<Call>,
+    // Why the last worker stopped that used the seat, if it did.
+    stopped: Option<EventFault>,
 }
 
 impl Model for Seat {
@@ -32,7 +38,13 @@ impl Model for Seat {
     ghost Value = { SeatView × ℕ };
 
     ghost view = { λ s. (
-      record { word_id = s.pass.word_id; terms = s.pass.view.terms; number = s.number; calls = s.calls.items },
+      record {
+        word_id = s.pass.word_id;
+        terms = s.pass.view.terms;
+        number = s.number;
+        calls = s.calls.items;
+        stopped = s.stopped;
+      },
       vec_capacity s.calls - vec_len s.calls,
     ) };
 
@@ -44,12 +56,13 @@ impl Seat {
     pub(crate) fn new(alloc: Global, pass: Pass, number: u8) -> Self
         requires single { pass.view.numbers ≡ number ∷ [] }
         requires fresh { pass.view.drawn ≡ [] }
-        ensures { result.0 ≡ record { word_id = pass.word_id; terms = pass.view.terms; number = number; calls = [] } }
+        ensures { result.0 ≡ first_seat pass.word_id pass.view.terms number }
     {
         Seat {
             pass,
             number,
             calls: Vec::new(alloc),
+            stopped: None,
         }
     }
 
@@ -65,6 +78,21 @@ impl Seat {
         ensures { result.now ≡ self.now.0.calls }
     {
         self.calls.as_slice()
+    }
+
+    /// The event's fault at which the last worker stopped that used the seat. None if it did all its turns, or there was
+    /// none.
+    pub(crate) fn stopped(&self) -> Option<EventFault>
+        ensures { result ≡ self.now.0.stopped }
+    {
+        self.stopped
+    }
+
+    /// Keeps where a worker stopped.
+    pub(crate) fn stop(&mut self, stopped: Option<EventFault>)
+        ensures { self.new.0 ≡ record self.old.0 { stopped = stopped } }
+    {
+        self.stopped = stopped;
     }
 
     /// Whether no further call may be kept.
@@ -103,12 +131,7 @@ impl Seat {
     {
         let ticket = word.draw(&mut self.pass);
         let reply = node.act(ticket, Some(self.number), act);
-        let told = same_reply(&reply);
-        self.calls.push_reserved(Call {
-            ticket,
-            event,
-            reply: told,
-        });
+        keep_call(&mut self.calls, ticket, event, &reply);
         reply
     }
 
@@ -135,12 +158,7 @@ impl Seat {
     {
         let ticket = word.draw(&mut self.pass);
         let reply = act_pair(near, far, joint, ticket, Some(self.number));
-        let told = same_reply(&reply);
-        self.calls.push_reserved(Call {
-            ticket,
-            event,
-            reply: told,
-        });
+        keep_call(&mut self.calls, ticket, event, &reply);
         reply
     }
 
@@ -155,6 +173,7 @@ impl Seat {
             pass,
             number,
             calls,
+            stopped: _,
         } = self;
         let kept = SeatCalls {
             number,
@@ -162,4 +181,17 @@ impl Seat {
         };
         (pass, kept)
     }
+}
+
+/// A call joins a list with room for it.
+fn keep_call(calls: &mut Vec<Call>, ticket: u64, event: Event, reply: &Reply)
+    requires room { length calls.old.items < vec_capacity calls.old }
+    ensures { calls.new.items ≡ calls.old.items ++ call_of event ticket reply.now ∷ [] }
+{
+    let reply = same_reply(reply);
+    calls.push_reserved(Call {
+        ticket,
+        event,
+        reply,
+    });
 }

@@ -1,8 +1,7 @@
-use Rattle.std.proofs.Common.{List, [], ap, arith, length, map, refl, reverse, subst, sym, ℕ, ◌++◌, ◌+◌, ◌∙◌, ◌∷◌, ◌≡◌, ◌≤◌}
+use Rattle.std.proofs.Common.{[], ap, arith, length, map, refl, reverse, subst, sym, ℕ, ◌++◌, ◌+◌, ◌∙◌, ◌∷◌, ◌≡◌, ◌≤◌}
 use Rattle.std.proofs.lemmas.List.{length-append}
 use Rattle.c104_tickets.specs.Tickets.{count_of, one_within}
 use Rattle.c104_tickets.specs.declared.views.View.{View}
-use Rattle.c104_workers.specs.Calls.{SeatView, tickets_of}
 use Rattle.c104_workers.specs.Fabrics.{AreSeatsOf, all_tickets, calls_of}
 use Rattle.c104_workers.proofs.GatheredSeats.{count_append, kept_last, no_tickets, seats_before, tickets_last}
 use Rattle.c104_workers.proofs.closing.gather.Goals as goal

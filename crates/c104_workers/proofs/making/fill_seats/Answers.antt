@@ -1,10 +1,10 @@
-use Rattle.std.proofs.Common.{List, [], ap, arith, length, map, rules, subst, sym, ℕ, ◌++◌, ◌+◌, ◌∙◌, ◌∷◌, ◌≡◌}
+use Rattle.std.proofs.Common.{[], ap, arith, length, map, rules, ℕ, ◌++◌, ◌+◌, ◌∙◌, ◌∷◌, ◌≡◌}
 use Rattle.std.proofs.lemmas.List.{length-append, map-append}
 use Rattle.c104_run.proofs.RoundLists.{map_next}
 use Rattle.c104_tickets.specs.Tickets.{after_split, new_seat}
 use Rattle.c104_tickets.specs.declared.views.View.{View}
 use Rattle.c104_workers.specs.Calls.{SeatView}
-use Rattle.c104_workers.specs.Fabrics.{first_seat, first_seats, first_view_after, seat_view}
+use Rattle.c104_workers.specs.Fabrics.{first_seat, first_seats, seat_view}
 use Rattle.c104_workers.proofs.GatheredSeats.{first_own}
 use Rattle.c104_workers.proofs.making.fill_seats.Goals as goal
 
@@ -13,8 +13,8 @@ loop-made-preserved c =
     let seat : ℕ → SeatView = λ k. first_seat c.args.word.now.word_id c.args.terms (k + 1) in
     let made : c.split-other.result.view ≡ _ = c.split-other.ensures.made.1 ∙ ap new_seat c.loop-made.invariant.view in
     let seen : c.new.result.0 ≡ seat c.loop-made.made = c.new.ensures
-    ∙ ap (λ t. record { word_id = t; terms = c.split-other.result.view.terms; number = c.loop-made.made + 1; calls = [] }) (c.split-other.ensures.made.0 ∙ c.loop-made.invariant.word)
-    ∙ ap (λ (v : View). record { word_id = c.args.word.now.word_id; terms = v.terms; number = c.loop-made.made + 1; calls = [] }) made in
+    ∙ ap (λ t. first_seat t c.split-other.result.view.terms (c.loop-made.made + 1)) (c.split-other.ensures.made.0 ∙ c.loop-made.invariant.word)
+    ∙ ap (λ (v : View). first_seat c.args.word.now.word_id v.terms (c.loop-made.made + 1)) made in
     let grown : map seat_view c.push_reserved.new.self.items ≡ map seat_view c.loop-made.list.items ++ seat c.loop-made.made ∷ [] =
     ap (map seat_view) c.push_reserved.ensures.items ∙ map-append seat_view c.loop-made.list.items (c.new.result ∷ []) ∙ ap (λ s. map seat_view c.loop-made.list.items ++ s ∷ []) seen in
     record {

@@ -1,7 +1,7 @@
 use Rattle.std.proofs.Common.{refl}
 use Rattle.c104_run.specs.EventActs.{event_acts}
 use Rattle.c104_workers.proofs.SeatGrowth.{one_follows, same_seat, two_follow}
-use Rattle.c104_workers.proofs.fabric.Fabric.apply.Goals as goal
+use Rattle.c104_workers.proofs.fabric.Fabric.apply_by_worker.Goals as goal
 
 -- an event of one node
 pub returns-in-None-clause-fault : goal.returns-in-None-clause-fault

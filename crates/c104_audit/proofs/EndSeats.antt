@@ -1,0 +1,105 @@
+-- The first seat that entries at two ends carry unlike.
+use Rattle.c104_audit.proofs.FirstFailures.{below_all, below_next, first_both, first_same, lower_again, none_there}
+use Rattle.c104_audit.specs.Audits.{AgreeOneByOne, CarryAtEnds, carries, is_number, passing_at}
+use Rattle.c104_audit.specs.Firsts.{IsFirst, lower_of}
+use Rattle.c104_audit.specs.Tests.{CarryAtAllEnds, CarryAtEndsTo, HasNext, IsOddBy, odd_of, odd_seat}
+use Rattle.c104_audit.specs.declared.lists.Lists.{Lists}
+use Rattle.c104_node.specs.declared.acts.Entry.{Entry}
+use Rattle.c104_plan.specs.declared.ports.Wire.{Wire}
+use Rattle.std.proofs.Common.{Bool, List, None, Option, Some, [], ap, arith, false, if◌then◌else◌, length, map, nat_eq, nat_le, refl, slice_get, subst, sym, true, ℕ, ◌+◌, ◌<◌, ◌∙◌, ◌∷◌, ◌≡◌, ◌≤◌}
+use Rattle.std.proofs.lemmas.Bool.Decides.{nat_tests}
+
+itself : (s : ℕ) → nat_eq s s ≡ true
+itself s = grind (arith, nat_tests)
+
+below : (j s : ℕ) → j < s → nat_eq j s ≡ false
+below j s less = grind (arith, nat_tests)
+
+-- of two seats the lower one differs first, if they differ
+odd_first : (a b : Option ℕ) → IsFirst (λ s. is_number s a ≡ is_number s b) (odd_seat a b)
+odd_first None None = λ s. refl
+odd_first None (Some t) = record { lower = λ j less. sym (below j t less); fails = λ is. (let never : false ≡ true = is ∙ itself t in cc) }
+odd_first (Some s) None = record { lower = λ j less. below j s less; fails = λ is. (let never : true ≡ false = sym (itself s) ∙ is in cc) }
+odd_first (Some s) (Some t) = by_same (nat_eq s t) refl
+  where
+    by_order : nat_eq s t ≡ false → (b : Bool) → nat_le s t ≡ b → IsFirst (λ i. nat_eq i s ≡ nat_eq i t) (if b then Some s else Some t)
+    by_order differ true less = record {
+      lower = λ j under. below j s under ∙ sym (let past : nat_eq j t ≡ false = grind (arith, nat_tests) in past);
+      fails = λ is. (let never : true ≡ false = sym (itself s) ∙ is ∙ differ in cc);
+    }
+    by_order differ false less = record {
+      lower = λ j under. (let past : nat_eq j s ≡ false = grind (arith, nat_tests) in past) ∙ sym (below j t under);
+      fails = λ is. (let other : nat_eq t s ≡ false = grind (arith, nat_tests) in let never : false ≡ true = sym other ∙ is ∙ itself t in cc);
+    }
+
+    by_same : (b : Bool) → nat_eq s t ≡ b → IsFirst (λ i. nat_eq i s ≡ nat_eq i t) (if b then None else lower_of (Some s) (Some t))
+    by_same true is = let same : s ≡ t = grind (arith, nat_tests) in λ i. ap (nat_eq i) same
+    by_same false is = by_order is (nat_le s t) refl
+
+-- and so one by one
+pub odds_first : (es others : List Entry) → AgreeOneByOne es others → IsFirst (λ s. map (carries s) es ≡ map (carries s) others) (odd_of es others)
+odds_first [] [] agree = λ s. refl
+odds_first [] (d ∷ others) agree = absurd agree
+odds_first (e ∷ es) [] agree = absurd agree
+odds_first (e ∷ es) (d ∷ others) agree =
+    first_same (λ s. (is_number s e.seat ≡ is_number s d.seat) × (map (carries s) es ≡ map (carries s) others)) (λ s. map (carries s) (e ∷ es) ≡ map (carries s) (d ∷ others)) (odd_of (e ∷ es) (d ∷ others))
+    (λ s both. ap (λ b. b ∷ map (carries s) es) both.0 ∙ ap (λ bs. is_number s d.seat ∷ bs) both.1)
+    (λ s is. (cc, cc))
+    (first_both _ _ (odd_seat e.seat d.seat) (odd_of es others) (odd_first e.seat d.seat) (odds_first es others agree.1))
+
+-- what a loop has found so far, and what is left to it
+pub record AreOddsLeft (all others ps qs : List Entry) (first : Option ℕ) : Type 0 where
+  pub agree : AgreeOneByOne ps qs
+  pub odd : lower_of first (odd_of ps qs) ≡ odd_of all others
+
+pub odds_all : (all others : List Entry) → AgreeOneByOne all others → AreOddsLeft all others all others None
+odds_all all others agree = record { agree = agree; odd = refl }
+
+pub odds_over : (all others ps qs rest : List Entry) (first : Option ℕ) → ps ≡ rest → AreOddsLeft all others ps qs first → AreOddsLeft all others rest qs first
+odds_over all others ps qs rest first is left = subst (λ zs. AreOddsLeft all others zs qs first) is left
+
+-- what passes at the one end has another half at the other
+pub next_there : (all others ps qs rest : List Entry) (x : Entry) (first : Option ℕ) → ps ≡ x ∷ rest → AreOddsLeft all others ps qs first → HasNext qs
+next_there all others ps qs rest x first is left = by_others qs (subst (λ zs. AgreeOneByOne zs qs) is left.agree)
+  where
+    by_others : (zs : List Entry) → AgreeOneByOne (x ∷ rest) zs → HasNext zs
+    by_others [] agree = absurd agree
+    by_others (y ∷ ys) agree = (y, ys, refl)
+
+pub odds_next : (all others ps qs rest more : List Entry) (x : Entry) (first odd : Option ℕ) → ps ≡ x ∷ rest → IsOddBy x odd qs more → AreOddsLeft all others ps qs first → AreOddsLeft all others rest more (lower_of first odd)
+odds_next all others ps qs rest more x first odd is found left = record {
+  agree = both.agree.1;
+  odd = ap (λ o. lower_of (lower_of first o) (odd_of rest more)) found.2 ∙ lower_again first (odd_seat x.seat found.0.seat) (odd_of rest more) ∙ both.odd;
+}
+  where
+    both : AreOddsLeft all others (x ∷ rest) (found.0 ∷ more) first
+    both = subst (λ zs. AreOddsLeft all others (x ∷ rest) zs first) found.1 (subst (λ zs. AreOddsLeft all others zs qs first) is left)
+
+none_last : (o : Option ℕ) → lower_of o None ≡ o
+none_last None = refl
+none_last (Some s) = refl
+
+pub odds_end : (all others ps qs : List Entry) (first : Option ℕ) → ps ≡ [] → AreOddsLeft all others ps qs first → first ≡ odd_of all others
+odds_end all others ps qs first is left = sym (none_last first) ∙ (subst (λ zs. AreOddsLeft all others zs qs first) is left).odd
+
+-- the entries at the two ends of a wire carry the number of a seat alike
+abbrev AreAlike : Lists → Wire → ℕ → Type 0
+AreAlike lists w s = map (carries s) (passing_at lists.switches lists.traces w.here) ≡ map (carries s) (passing_at lists.switches lists.traces w.there)
+
+-- one more wire
+pub wire_next : (lists : Lists) (n : ℕ) (w : Wire) (first odd : Option ℕ) → slice_get lists.wires n ≡ Some w →
+    AgreeOneByOne (passing_at lists.switches lists.traces w.here) (passing_at lists.switches lists.traces w.there) →
+    odd ≡ odd_of (passing_at lists.switches lists.traces w.here) (passing_at lists.switches lists.traces w.there) →
+    IsFirst (CarryAtEndsTo lists n) first → IsFirst (CarryAtEndsTo lists (n + 1)) (lower_of first odd)
+wire_next lists n w first odd at agree is before =
+    first_same (λ s. CarryAtEndsTo lists n s × AreAlike lists w s) (CarryAtEndsTo lists (n + 1)) (lower_of first odd)
+    (λ s both. below_next (CarryAtEnds lists s) n both.0 (λ v there. (let same : w ≡ v = (let one : Some w ≡ Some v = sym at ∙ there in cc) in subst (λ (v : Wire). AreAlike lists v s) same both.1)))
+    (λ s all. (λ i less. all i (omega (arith, less)), all n (omega arith) w at))
+    (first_both (CarryAtEndsTo lists n) (AreAlike lists w) first odd before (subst (IsFirst (AreAlike lists w)) (sym is) (odds_first _ _ agree)))
+
+-- and all
+pub wires_end : (lists : Lists) (n : ℕ) (first : Option ℕ) → length lists.wires ≤ n → IsFirst (CarryAtEndsTo lists n) first → IsFirst (CarryAtAllEnds lists) first
+wires_end lists n first end is =
+    first_same (CarryAtEndsTo lists n) (CarryAtAllEnds lists) first
+    (λ s to. below_all (CarryAtEnds lists s) n to (λ k past. none_there (λ w. AreAlike lists w s) lists.wires k (omega (arith, end, past))))
+    (λ s all i less. all i) is

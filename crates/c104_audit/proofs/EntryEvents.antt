@@ -1,0 +1,174 @@
+-- What an entry that leads tells: an act of its node alone, or what crosses the wire at one of its links.
+use Rattle.c104_audit.proofs.WideNodes.{IsWide, claim_there, input_there}
+use Rattle.c104_audit.specs.Audits.{entry_event, is_link_wired, is_of_kind}
+use Rattle.c104_event.specs.declared.events.Event.TheVariants as event
+use Rattle.c104_event.specs.declared.events.Event.{Event}
+use Rattle.c104_net.specs.Leading.{act_event}
+use Rattle.c104_node.specs.ActLinks.{on_links}
+use Rattle.c104_node.specs.Acts.{IsWithinLimits, node_act}
+use Rattle.c104_node.specs.Nodes.{Node}
+use Rattle.c104_node.specs.PortActs.{Acts, near_act}
+use Rattle.c104_node.specs.declared.acts.ActOf.TheVariants as act
+use Rattle.c104_node.specs.declared.acts.ActOf.{ActOf}
+use Rattle.c104_node.specs.declared.crossings.Crossing.TheVariants.{Grant, Token as TokenCrossing}
+use Rattle.c104_node.specs.declared.crossings.Crossing.{Crossing}
+use Rattle.c104_plan.specs.Plans.{Plan}
+use Rattle.c104_plan.specs.Wiring.{peer, wires}
+use Rattle.c104_plan.specs.declared.ports.Port.TheVariants as port
+use Rattle.c104_plan.specs.declared.ports.Port.{Port}
+use Rattle.c104_regs.specs.declared.registers.TheConstants.{LINKS}
+use Rattle.c104_run.specs.EventActs.{event_acts, port_place}
+use Rattle.c104_run.specs.EventPlaces.{event_place}
+use Rattle.c104_run.specs.Network.{event_fault, terminal_place}
+use Rattle.c104_switch.specs.Actions.{Reply}
+use Rattle.c104_switch.specs.declared.actions.ActionOf.TheVariants as action
+use Rattle.c104_token.specs.Kinds.{plain_kind}
+use Rattle.c104_token.specs.declared.text.TheConstants.{MAX_PACKET_BYTES}
+use Rattle.c104_token.specs.declared.tokens.Token.{Token}
+use Rattle.std.proofs.Common.{Bool, None, Option, Some, ap, arith, false, inl, inr, is_some, length, nat_le, nat_lt, not, refl, sym, true, ℕ, ◌+◌, ◌-◌, ◌<◌, ◌∙◌, ◌≡◌, ◌≤◌, ◌⊎◌}
+use Rattle.std.proofs.lemmas.Bool.Decides.{nat_tests}
+
+-- the event in which something crosses from a port
+abbrev pub crossing_event : Crossing → Port → Event
+crossing_event TokenCrossing p = event.Cross p
+crossing_event Grant p = event.Credit p
+
+module _ (plan : Plan) where
+  -- whether a link of the node at a place has a wire
+  abbrev pub is_wired_link : ℕ → ℕ → Bool
+  is_wired_link k l = is_link_wired (length plan.switches) (wires plan) k l
+
+  -- the event of an act of the node at a place, if the act leads
+  abbrev pub plan_event : ℕ → ActOf Token → Option Event
+  plan_event k a = entry_event (length plan.switches) (wires plan) k a
+
+  -- an act that is an event by itself
+  pub record LeadsAlone (k : ℕ) (a : ActOf Token) : Type 0 where
+    pub event : Event
+    pub told : plan_event k a ≡ Some event
+    pub acts : ◌≡◌ {A = Option (Acts Token)} (event_acts plan event) (Some (Acts.Alone k a))
+    pub place : event_place plan event ≡ k
+    -- where a node did it, no fault refuses the event
+    pub possible : k < length plan.switches + length plan.terminals → (n : Node Token) (r : Reply × Node Token) → IsWide n → IsWithinLimits a → node_act plain_kind 0 a n ≡ Some r → event_fault plan event ≡ None
+
+  -- an act of which the other half is at the other end of a wire
+  pub record LeadsJoint (k : ℕ) (a : ActOf Token) : Type 0 where
+    pub near : Port
+    pub far : Port
+    pub crossing : Crossing
+    pub wired : peer plan near ≡ Some far
+    pub place : port_place plan near ≡ k
+    pub is : a ≡ near_act crossing near
+    pub told : plan_event k a ≡ Some (crossing_event crossing near)
+
+  -- an act that stands for an event is of its node's kind, and over no link without a wire
+  pub record StandsFor (k : ℕ) (a : ActOf Token) : Type 0 where
+    pub kind : is_of_kind (nat_lt k (length plan.switches)) a ≡ true
+    pub linked : on_links (is_wired_link k) a ≡ true
+    pub told : plan_event k a ≡ act_event (length plan.switches) k a
+
+  pub stands_for : (k : ℕ) (a : ActOf Token) → is_some (plan_event k a) ≡ true → StandsFor k a
+  stands_for k a leads = by_tests (is_of_kind (nat_lt k (length plan.switches)) a) refl (on_links (is_wired_link k) a) refl
+    where
+      by_tests : (b : Bool) → is_of_kind (nat_lt k (length plan.switches)) a ≡ b → (c : Bool) → on_links (is_wired_link k) a ≡ c → StandsFor k a
+      by_tests true kind true linked = record { kind = kind; linked = linked; told = rw (kind, linked) refl }
+      by_tests true kind false linked = absurd (let none : plan_event k a ≡ None = rw (kind, linked) refl in let no : false ≡ true = sym (ap is_some none) ∙ leads in cc)
+      by_tests false kind c linked = absurd (let none : plan_event k a ≡ None = rw kind refl in let no : false ≡ true = sym (ap is_some none) ∙ leads in cc)
+
+  no_switch : (b : Bool) → not b ≡ true → b ≡ false
+  no_switch true is = absurd (cc)
+  no_switch false is = refl
+
+  pub terminal_there : (k : ℕ) → not (nat_lt k (length plan.switches)) ≡ true → (nat_lt k (length plan.switches) ≡ false) × (terminal_place plan (k - length plan.switches) ≡ k)
+  terminal_there k is = let past : nat_lt k (length plan.switches) ≡ false = no_switch (nat_lt k (length plan.switches)) is in (past, grind (arith, nat_tests))
+
+  below : (k count : ℕ) → k < count → nat_lt k count ≡ true
+  below k count less = grind (arith, nat_tests)
+
+  terminal_inside : (k : ℕ) → terminal_place plan (k - length plan.switches) ≡ k → k < length plan.switches + length plan.terminals → nat_lt (k - length plan.switches) (length plan.terminals) ≡ true
+  terminal_inside k at inside = below (k - length plan.switches) (length plan.terminals) (omega (arith, at, inside))
+
+  short_enough : (n : ℕ) → n ≤ MAX_PACKET_BYTES → nat_le n MAX_PACKET_BYTES ≡ true
+  short_enough n short = grind (arith, nat_tests)
+
+  -- where a port has a wire, it has another end
+  joint : (k : ℕ) (a : ActOf Token) (crossing : Crossing) (p : Port) → a ≡ near_act crossing p → port_place plan p ≡ k → plan_event k a ≡ Some (crossing_event crossing p) → is_some (peer plan p) ≡ true → LeadsAlone k a ⊎ LeadsJoint k a
+  joint k a crossing p is place told wired = by_peer (peer plan p) refl wired
+    where
+      by_peer : (o : Option Port) → peer plan p ≡ o → is_some o ≡ true → LeadsAlone k a ⊎ LeadsJoint k a
+      by_peer None at some = absurd (cc)
+      by_peer (Some q) at some = inr (record { near = p; far = q; crossing = crossing; wired = at; place = place; is = is; told = told })
+
+  pub switch_wired : (k l : ℕ) → nat_lt k (length plan.switches) ≡ true → is_wired_link k l ≡ true → is_some (peer plan (port.Switch k l)) ≡ true
+  switch_wired k l here is = sym (rw here refl) ∙ is
+
+  pub terminal_wired : (k : ℕ) → nat_lt k (length plan.switches) ≡ false → is_wired_link k 0 ≡ true → is_some (peer plan (port.Terminal (k - length plan.switches))) ≡ true
+  terminal_wired k past is = sym (rw past refl) ∙ is
+
+  -- an act that leads in no event leads in none
+  leads_none : (k : ℕ) (a : ActOf Token) → act_event (length plan.switches) k a ≡ None → is_some (plan_event k a) ≡ true → ⊥
+  leads_none k a none leads = let no : false ≡ true = sym (ap is_some ((stands_for k a leads).told ∙ none)) ∙ leads in cc
+
+  -- an act that leads is an event by itself, or it is what crosses the wire at a port of its node
+  pub lead_cases : (k : ℕ) (a : ActOf Token) → is_some (plan_event k a) ≡ true → LeadsAlone k a ⊎ LeadsJoint k a
+  lead_cases k (act.Step (action.Enter l x)) leads = absurd (leads_none k (act.Step (action.Enter l x)) refl leads)
+  lead_cases k (act.Step (action.Leave l)) leads = let s = stands_for k (act.Step (action.Leave l)) leads in joint k (act.Step (action.Leave l)) TokenCrossing (port.Switch k l) refl refl s.told (switch_wired k l s.kind s.linked)
+  lead_cases k (act.Step (action.CreditOut l)) leads = let s = stands_for k (act.Step (action.CreditOut l)) leads in joint k (act.Step (action.CreditOut l)) Grant (port.Switch k l) refl refl s.told (switch_wired k l s.kind s.linked)
+  lead_cases k (act.Step (action.CreditIn l)) leads = absurd (leads_none k (act.Step (action.CreditIn l)) refl leads)
+  lead_cases k (act.Step (action.Input l word)) leads =
+      let s = stands_for k (act.Step (action.Input l word)) leads in
+      inl (record {
+        event = event.Input k l word;
+        told = s.told;
+        acts = refl;
+        place = refl;
+        possible = λ inside n r wide short made. rw (s.kind, below l LINKS (input_there 0 n l word r wide made)) refl;
+      })
+  lead_cases k (act.Step (action.Claim i o)) leads =
+      let s = stands_for k (act.Step (action.Claim i o)) leads in
+      inl (record {
+        event = event.Claim k i o;
+        told = s.told;
+        acts = refl;
+        place = refl;
+        possible = λ inside n r wide short made. let there = claim_there 0 n i o r wide made in rw (s.kind, below i LINKS there.0, below o LINKS there.1) refl;
+      })
+  lead_cases k (act.Step (action.Control bytes)) leads =
+      let s = stands_for k (act.Step (action.Control bytes)) leads in
+      inl (record {
+        event = event.Control k bytes;
+        told = s.told;
+        acts = refl;
+        place = refl;
+        possible = λ inside n r wide short made. rw s.kind refl;
+      })
+  lead_cases k (act.Send packet) leads =
+      let s = stands_for k (act.Send packet) leads in
+      let at = (terminal_there k s.kind).1 in
+      inl (record {
+        event = event.Send (k - length plan.switches) packet;
+        told = s.told;
+        acts = ap (λ j. Some (Acts.Alone j (act.Send packet))) at;
+        place = at;
+        possible = λ inside n r wide short made. rw (terminal_inside k at inside, short_enough (length packet.bytes) short.0) refl;
+      })
+  lead_cases k act.Drain leads =
+      let s = stands_for k act.Drain leads in
+      let at = (terminal_there k s.kind).1 in
+      inl (record {
+        event = event.Drain (k - length plan.switches);
+        told = s.told;
+        acts = ap (λ j. Some (Acts.Alone j act.Drain)) at;
+        place = at;
+        possible = λ inside n r wide short made. rw (terminal_inside k at inside) refl;
+      })
+  lead_cases k act.Leave leads =
+      let s = stands_for k act.Leave leads in
+      let there = terminal_there k s.kind in
+      joint k act.Leave TokenCrossing (port.Terminal (k - length plan.switches)) refl there.1 s.told (terminal_wired k there.0 s.linked)
+  lead_cases k (act.Enter x) leads = absurd (leads_none k (act.Enter x) refl leads)
+  lead_cases k act.CreditOut leads =
+      let s = stands_for k act.CreditOut leads in
+      let there = terminal_there k s.kind in
+      joint k act.CreditOut Grant (port.Terminal (k - length plan.switches)) refl there.1 s.told (terminal_wired k there.0 s.linked)
+  lead_cases k act.CreditIn leads = absurd (leads_none k act.CreditIn refl leads)

@@ -1,0 +1,36 @@
+-- Whether what passes at two ends agrees, as a loop goes through it.
+use Rattle.c104_audit.specs.Audits.{AgreeOneByOne}
+use Rattle.c104_audit.specs.Tests.{HasHalf, HasNoHalf}
+use Rattle.c104_node.specs.declared.acts.Entry.{Entry}
+use Rattle.std.proofs.Common.{IsTrue, List, [], false, refl, subst, true, ◌∷◌, ◌≡◌, ◌↔◌}
+
+-- lists agree where they agree behind two halves
+pub agree_next : (All : Type 0) (ps qs rest others : List Entry) (x : Entry) → ps ≡ x ∷ rest → HasHalf x qs others → (AgreeOneByOne ps qs ↔ All) → (AgreeOneByOne rest others ↔ All)
+agree_next All ps qs rest others x first half same =
+    let both : AgreeOneByOne (x ∷ rest) (half.0 ∷ others) ↔ All = subst (λ zs. AgreeOneByOne (x ∷ rest) zs ↔ All) half.1 (subst (λ zs. AgreeOneByOne zs qs ↔ All) first same) in
+    (λ agree. both.0 (half.2, agree), λ all. (both.1 all).1)
+
+pub agree_over : (All : Type 0) (ps qs rest : List Entry) → ps ≡ rest → (AgreeOneByOne ps qs ↔ All) → (AgreeOneByOne rest qs ↔ All)
+agree_over All ps qs rest first same = subst (λ zs. AgreeOneByOne zs qs ↔ All) first same
+
+never : {A : Type 0} → IsTrue false → A
+never is = absurd (let not_so : false ≡ true = is in cc)
+
+-- and they don't where the next has no half
+pub no_half : (All : Type 0) (ps qs rest : List Entry) (x : Entry) → ps ≡ x ∷ rest → HasNoHalf x qs → (AgreeOneByOne ps qs ↔ All) → IsTrue false ↔ All
+no_half All ps qs rest x first none same = (λ is. never is, λ all. absurd (by_others qs none (subst (λ zs. AgreeOneByOne zs qs) first (same.1 all))))
+  where
+    by_others : (zs : List Entry) → HasNoHalf x zs → AgreeOneByOne (x ∷ rest) zs → ⊥
+    by_others [] none agree = agree
+    by_others (y ∷ ys) none agree = none y ys refl agree.0
+
+-- at the end of the one the other must have ended
+pub agree_ends : (All : Type 0) (ps qs : List Entry) → ps ≡ [] → qs ≡ [] → (AgreeOneByOne ps qs ↔ All) → IsTrue true ↔ All
+agree_ends All ps qs first second same =
+    let both : AgreeOneByOne [] [] ↔ All = subst (λ zs. AgreeOneByOne [] zs ↔ All) second (subst (λ zs. AgreeOneByOne zs qs ↔ All) first same) in
+    (λ is. both.0 tt, λ all. refl)
+
+pub one_more : (All : Type 0) (ps qs others : List Entry) (y : Entry) → ps ≡ [] → qs ≡ y ∷ others → (AgreeOneByOne ps qs ↔ All) → IsTrue false ↔ All
+one_more All ps qs others y first second same =
+    let both : AgreeOneByOne [] (y ∷ others) ↔ All = subst (λ zs. AgreeOneByOne [] zs ↔ All) second (subst (λ zs. AgreeOneByOne zs qs ↔ All) first same) in
+    (λ is. never is, λ all. absurd (both.1 all))

@@ -1,0 +1,38 @@
+-- Whether tickets rise, as a loop tells it.
+use Rattle.c104_audit.proofs.Merging.{each_in, in_each}
+use Rattle.c104_audit.specs.Leads.{AreRising}
+use Rattle.std.specs.List.{AllByRecursion}
+use Rattle.c104_audit.specs.Tests.{is_later, rises_after}
+use Rattle.c104_node.specs.declared.acts.Entry.{Entry}
+use Rattle.std.proofs.Common.{Bool, IsTrue, List, None, Option, Some, [], arith, false, nat_lt, refl, sym, true, ℕ, ◌<◌, ◌↔◌, ◌∙◌, ◌∷◌, ◌≡◌}
+use Rattle.std.proofs.lemmas.Bool.{and_parts}
+use Rattle.std.proofs.lemmas.Bool.Decides.{nat_tests}
+
+later_all : (t : ℕ) (es : List Entry) → rises_after (Some t) es ≡ true → AllByRecursion (λ (e : Entry). t < e.ticket) es
+later_all t [] is = tt
+later_all t (e ∷ es) is =
+    let two = and_parts (nat_lt t e.ticket) (rises_after (Some e.ticket) es) is in
+    let test = two.0 in
+    let first : t < e.ticket = grind (arith, nat_tests) in
+    let rest = later_all e.ticket es two.1 in
+    (first, in_each (λ (d : Entry). t < d.ticket) es (λ d has. let further = each_in (λ (d : Entry). e.ticket < d.ticket) d es rest has in omega (arith, first, further)))
+
+rising_from : (last : Option ℕ) (es : List Entry) → rises_after last es ≡ true → AreRising (λ (e : Entry). e.ticket) es
+rising_from last [] is = tt
+rising_from last (e ∷ es) is = let two = and_parts (is_later last e.ticket) (rises_after (Some e.ticket) es) is in (later_all e.ticket es two.1, rising_from (Some e.ticket) es two.1)
+
+from_rising : (t : ℕ) (es : List Entry) → AllByRecursion (λ (e : Entry). t < e.ticket) es → AreRising (λ (e : Entry). e.ticket) es → rises_after (Some t) es ≡ true
+from_rising t [] above rising = refl
+from_rising t (e ∷ es) above rising =
+    let first = above.0 in
+    let test : nat_lt t e.ticket ≡ true = grind (arith, nat_tests) in
+    rw (test, from_rising e.ticket es rising.0 rising.1) refl
+
+rises_all : (es : List Entry) → AreRising (λ (e : Entry). e.ticket) es → rises_after None es ≡ true
+rises_all [] rising = refl
+rises_all (e ∷ es) rising = from_rising e.ticket es rising.0 rising.1
+
+-- the loop answers whether the tickets rise
+pub rises_is : (es : List Entry) (b : Bool) → b ≡ rises_after None es → IsTrue b ↔ AreRising (λ (e : Entry). e.ticket) es
+rises_is es true is = (λ yes. rising_from None es (sym is), λ rising. refl)
+rises_is es false is = (λ no. absurd (let never : false ≡ true = no in cc), λ rising. is ∙ rises_all es rising)

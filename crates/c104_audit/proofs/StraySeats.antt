@@ -1,0 +1,79 @@
+-- The first seat past all lists that entries carry which lead.
+use Rattle.c104_audit.proofs.CalledLeads.{leads_named}
+use Rattle.c104_audit.proofs.FirstFailures.{first_both, first_same, lower_again}
+use Rattle.c104_audit.proofs.KeptElements.{drop_next}
+use Rattle.c104_audit.proofs.Merging.{in_each}
+use Rattle.c104_audit.specs.Audits.{carries, is_number, led_call, led_event, lists_leads}
+use Rattle.c104_audit.specs.Calls.{call_of}
+use Rattle.c104_audit.specs.Firsts.{IsFirst, lower_of}
+use Rattle.c104_audit.specs.Leads.{Lead}
+use Rattle.std.specs.List.{AllByRecursion}
+use Rattle.c104_audit.specs.Tests.{HasNoStray, calls_told, lead_in, lead_seat, past_seat, strays}
+use Rattle.c104_audit.specs.declared.calls.Call.{Call}
+use Rattle.c104_audit.specs.declared.lists.Lists.{Lists}
+use Rattle.c104_net.specs.declared.leading.Lead.{Lead as Leading}
+use Rattle.c104_event.specs.declared.events.Event.{Event}
+use Rattle.c104_node.specs.declared.acts.Entry.{Entry}
+use Rattle.std.proofs.Common.{Bool, List, None, Option, Some, [], ap, arith, drop, false, if◌then◌else◌, is_some, map, nat_eq, nat_le, refl, slice_get, subst, sym, true, ℕ, ◌++◌, ◌+◌, ◌∙◌, ◌∷◌, ◌≡◌, ◌≤◌}
+use Rattle.std.proofs.lemmas.Bool.Decides.{nat_tests}
+use Rattle.std.specs.Option.{option_map, option_to_list}
+
+past_first : (count : ℕ) (o : Option ℕ) → IsFirst (λ s. count ≤ s → is_number s o ≡ false) (past_seat count o)
+past_first count None = λ s past. refl
+past_first count (Some t) = by_test (nat_le count t) refl
+  where
+    by_test : (b : Bool) → nat_le count t ≡ b → IsFirst (λ s. count ≤ s → nat_eq s t ≡ false) (if b then Some t else None)
+    by_test true is = record {
+      lower = λ j below past. grind (arith, nat_tests);
+      fails = λ none. (let inside : count ≤ t = grind (arith, nat_tests) in let own : nat_eq t t ≡ true = grind (arith, nat_tests) in let never : true ≡ false = sym own ∙ none inside in cc);
+    }
+    by_test false is = λ s past. grind (arith, nat_tests)
+
+module _ (lists : Lists) (count : ℕ) where
+  abbrev Named : ℕ × Lead Entry → Type 0
+  Named m = is_some (led_event lists.switches lists.wires m) ≡ true
+
+  none_of : (s : ℕ) (m : ℕ × Lead Entry) (ms : List (ℕ × Lead Entry)) → carries s m.1.entry ≡ false → calls_told lists s (m ∷ ms) ≡ calls_told lists s ms
+  none_of s m ms other = ap (λ b. (if b then option_to_list (led_call lists.switches lists.wires m) else []) ++ calls_told lists s ms) other
+
+  some_of : (s : ℕ) (m : ℕ × Lead Entry) (ms : List (ℕ × Lead Entry)) → Named m → calls_told lists s (m ∷ ms) ≡ [] → carries s m.1.entry ≡ false
+  some_of s m ms named none = by_seat (carries s m.1.entry) refl
+    where
+      by_event : (o : Option Event) → is_some o ≡ true → option_to_list (option_map (λ e. call_of e m.1.entry.ticket m.1.entry.reply) o) ++ calls_told lists s ms ≡ [] → ⊥
+      by_event None named is = cc
+      by_event (Some e) named is = cc
+
+      by_call : (o : Option Call) → is_some o ≡ true → option_to_list o ++ calls_told lists s ms ≡ [] → ⊥
+      by_call None named is = cc
+      by_call (Some c) named is = cc
+
+      has_call : (o : Option Event) → led_event lists.switches lists.wires m ≡ o → is_some o ≡ true → is_some (led_call lists.switches lists.wires m) ≡ true
+      has_call None is named = absurd (cc)
+      has_call (Some e) is named = rw is refl
+
+      by_seat : (b : Bool) → carries s m.1.entry ≡ b → carries s m.1.entry ≡ false
+      by_seat false is = is
+      by_seat true is = absurd (by_call (led_call lists.switches lists.wires m) (has_call (led_event lists.switches lists.wires m) refl named) (sym (ap (λ b. (if b then option_to_list (led_call lists.switches lists.wires m) else []) ++ calls_told lists s ms) is) ∙ none))
+
+  strays_of : (ms : List (ℕ × Lead Entry)) → AllByRecursion Named ms → IsFirst (λ s. count ≤ s → calls_told lists s ms ≡ []) (strays count ms)
+  strays_of [] named = λ s past. refl
+  strays_of (m ∷ ms) named =
+      first_same (λ s. (count ≤ s → carries s m.1.entry ≡ false) × (count ≤ s → calls_told lists s ms ≡ [])) (λ s. count ≤ s → calls_told lists s (m ∷ ms) ≡ []) (strays count (m ∷ ms))
+      (λ s both past. none_of s m ms (both.0 past) ∙ both.1 past)
+      (λ s is. (λ past. some_of s m ms named.0 (is past), λ past. sym (none_of s m ms (some_of s m ms named.0 (is past))) ∙ is past))
+      (first_both _ _ (past_seat count m.1.entry.seat) (strays count ms) (past_first count m.1.entry.seat) (strays_of ms named.1))
+
+pub strays_first : (lists : Lists) (count : ℕ) (o : Option ℕ) → o ≡ strays count (lists_leads lists) → IsFirst (HasNoStray lists count) o
+strays_first lists count o is = subst (IsFirst (HasNoStray lists count)) (sym is) (strays_of lists count (lists_leads lists) (in_each (Named lists count) (lists_leads lists) (leads_named lists)))
+
+-- the first of what is left
+abbrev Rest : Lists → ℕ → List Leading → ℕ → Option ℕ
+Rest lists count leads j = strays count (map (lead_in lists.traces) (drop j leads))
+
+-- one more that leads
+pub strays_next : (lists : Lists) (count : ℕ) (leads : List Leading) (i : ℕ) (l : Leading) (first odd all : Option ℕ) → slice_get leads i ≡ Some l → odd ≡ past_seat count (lead_seat lists l) →
+    lower_of first (strays count (map (lead_in lists.traces) (drop i leads))) ≡ all → lower_of (lower_of first odd) (strays count (map (lead_in lists.traces) (drop (i + 1) leads))) ≡ all
+strays_next lists count leads i l first odd all at is before =
+    ap (λ o. lower_of (lower_of first o) (Rest lists count leads (i + 1))) is
+    ∙ lower_again first (past_seat count (lead_seat lists l)) (Rest lists count leads (i + 1))
+    ∙ ap (λ ls. lower_of first (strays count (map (lead_in lists.traces) ls))) (sym (drop_next leads i l at)) ∙ before

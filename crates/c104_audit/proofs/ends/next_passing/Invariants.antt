@@ -1,0 +1,7 @@
+use Rattle.std.proofs.Common.{◌≡◌, drop}
+use Rattle.c104_audit.specs.Tests.{passing}
+use Rattle.c104_audit.proofs.ends.next_passing.Given as goal
+
+-- no entry so far passes there
+abbrev pub invariant-loop-at : goal.invariant-loop-at
+invariant-loop-at l = passing l.switches l.end (drop l.from l.trace) ≡ passing l.switches l.end (drop l.at l.trace)

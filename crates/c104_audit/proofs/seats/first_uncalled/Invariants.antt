@@ -1,0 +1,6 @@
+use Rattle.c104_audit.specs.Tests.{AreCalledBelow}
+use Rattle.c104_audit.proofs.seats.first_uncalled.Given as goal
+
+-- the seats so far are called so
+abbrev pub invariant-loop-seat : goal.invariant-loop-seat
+invariant-loop-seat l = AreCalledBelow l.lists l.seat

@@ -1,0 +1,7 @@
+use Rattle.std.proofs.Common.{◌≡◌, drop, is_some}
+use Rattle.c104_plan.specs.Ports.{other_end}
+use Rattle.c104_audit.proofs.wired.has_wire.Given as goal
+
+-- what is left has the port where all do
+abbrev pub invariant-loop-wire : goal.invariant-loop-wire
+invariant-loop-wire l = is_some (other_end (drop l.wire-index l.wires) l.port) ≡ is_some (other_end l.wires l.port)

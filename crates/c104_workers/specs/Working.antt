@@ -1,0 +1,38 @@
+-- Workers: threads that do the parts of rounds, each through a seat. Of n workers number i has the nodes k with k mod n ≡ i.
+use Rattle.std.specs.Prelude.{ℕ, ◌≡◌, ◌%◌, ◌<◌, ◌++◌, All, Contains, List, Some, None, Result, Ok, Err, length, slice_index_or, take}
+use Rattle.c104_plan.specs.Plans.{Plan}
+use Rattle.c104_event.specs.declared.events.Event.{Event}
+use Rattle.c104_event.specs.declared.faults.EventFault.{EventFault}
+use Rattle.c104_run.specs.NodeParts.{round_part}
+use Rattle.c104_workers.specs.Calls.{IsSameSeat, SeatView}
+use Rattle.c104_audit.specs.declared.calls.Call.{Call}
+use Rattle.c104_workers.specs.declared.workers.RunFault.{RunFault}
+use Rattle.c104_workers.specs.declared.workers.RunFault.TheVariants as run
+
+-- an event is in the part that a round has for a node of worker i, of n workers
+pub record IsOwnEvent (plan : Plan) (n i : ℕ) (e : Event) : Type 0 where
+  pub node : ℕ
+  pub own : node % n ≡ i
+  pub part : Contains (round_part plan node) e
+
+-- what worker i of n did to its seat: it is the seat that it was, and its list grew by calls of such events, or of none
+pub record HasWorked (plan : Plan) (n i : ℕ) (old new : SeatView) : Type 0 where
+  pub same : IsSameSeat old new
+  pub more : List Call
+  pub listed : new.calls ≡ old.calls ++ more
+  pub own : All (λ c. IsOwnEvent plan n i c.event) more
+
+-- the worker of a seat did all its turns
+abbrev pub WentOn : SeatView × ℕ → Type 0
+WentOn s = s.0.stopped ≡ None
+
+-- worker i is the first that stopped, for this fault
+pub record StoppedFirst (seats : List (SeatView × ℕ)) (i : ℕ) (f : EventFault) : Type 0 where
+  pub inside : i < length seats
+  pub stopped : (d : SeatView × ℕ) → (slice_index_or seats i d).0.stopped ≡ Some f
+  pub before : All WentOn (take i seats)
+
+-- what is answered when all workers have ended
+abbrev pub EndsAs : List (SeatView × ℕ) → Result (Unit {0}) RunFault → Type 0
+EndsAs seats (Ok done) = All WentOn seats
+EndsAs seats (Err (run.Event i f)) = StoppedFirst seats i f

@@ -1,0 +1,148 @@
+//! Workers: threads that do the parts of rounds, each through a seat of its own.
+ghost use Rattle.std.specs.Prelude.{◌≡◌, ◌<◌, ◌≤◌, All, ℕ, IfOk, length, slice_index_or};
+ghost use Rattle.c104_workers.specs.Calls.{SeatView};
+ghost use Rattle.c104_workers.specs.Fabrics.{AreSeatsOf};
+ghost use Rattle.c104_workers.specs.Working.{EndsAs, HasWorked, IsOwnEvent};
+
+use crate::fabric::Fabric;
+use crate::gates::Gate;
+use crate::seats::Seat;
+use c104_event::{Event, EventFault};
+use c104_run::round_part;
+use c104_token::NoMemory;
+use std::alloc::Global;
+use std::sync::Wait;
+use std::thread::{Threads, for_each_mut};
+use thiserror::Error;
+
+/// Why workers didn't do all their turns.
+#[derive(Clone, Copy, Debug, PartialEq, Eq, Error)]
+pub enum RunFault {
+    /// The worker of this number stopped at an event that was refused for this, or for want of memory before its first
+    /// turn. It is the lowest of those that stopped.
+    #[error("worker {0} stopped: {1}")]
+    Event(usize, EventFault),
+}
+
+/// Does turns on a fabric by workers, each in a thread of its own: worker 0 through the first of these seats, and so on.
+/// Where no thread can be made, the workers run one after another. Of n workers number i has the nodes k with
+/// k mod n = i. In a turn it does the part that a round has for each of these nodes, by their numbers, and asks the gate
+/// before it and inside each event. It stops at its first event that is refused; an event that isn't ready is none.
+///
+/// There is at least one seat. What was done stays done.
+pub fn run_workers<R: Threads + Wait + Sync, G: Gate + Sync>(
+    alloc: Global,
+    rt: &R,
+    fabric: &Fabric,
+    seats: &mut [Seat],
+    gate: &G,
+    turns: u64,
+) -> Result<(), RunFault>
+    requires some { 1 ≤ length seats.old }
+    requires own { AreSeatsOf fabric.now.word_id seats.old }
+    ensures own { AreSeatsOf fabric.now.word_id seats.new }
+    ensures worked { (i : ℕ) (d : SeatView × ℕ) → i < length seats.old → HasWorked fabric.now.handed.plan (length seats.old) i
+        (slice_index_or seats.old i d).0 (slice_index_or seats.new i d).0 }
+    ensures end { EndsAs seats.new result }
+{
+    let count = seats.len();
+    for_each_mut(
+        rt,
+        seats,
+        count,
+        &|number: usize, seat: &mut Seat|
+            requires { (1 ≤ count) × (seat.now.0.word_id ≡ fabric.now.word_id) }
+            ensures { HasWorked fabric.entry.now.handed.plan count number seat.entry.now.0 seat.exit.now.0 }
+        {
+            let worker = Worker {
+                rt,
+                fabric,
+                gate,
+                number,
+                count,
+            };
+            worker.work(alloc, seat, turns);
+        },
+    );
+    end_of(seats)
+}
+
+/// Why workers stopped, each of which used one of these seats.
+fn end_of(seats: &[Seat]) -> Result<(), RunFault>
+    ensures { EndsAs seats.now result }
+{
+    for number in 0..seats.len() {
+        if let Some(fault) = seats[number].stopped() {
+            return Err(RunFault::Event(number, fault));
+        }
+    }
+    Ok(())
+}
+
+/// One of several workers.
+#[derive(Drop)]
+struct Worker<'a, R: Wait, G: Gate> {
+    rt: &'a R,
+    fabric: &'a Fabric,
+    gate: &'a G,
+    number: usize,
+    // How many there are.
+    count: usize,
+}
+
+impl<R: Wait, G: Gate> Worker<'_, R, G> {
+    /// Does turns through a seat, which keeps why the worker stopped.
+    fn work(&self, alloc: Global, seat: &mut Seat, turns: u64)
+        requires some { 1 ≤ self.now.count }
+        requires word { seat.old.0.word_id ≡ self.now.fabric.now.word_id }
+        ensures { HasWorked self.now.fabric.now.handed.plan self.now.count self.now.number seat.old.0 seat.new.0 }
+    {
+        let end = self.do_turns(alloc, seat, turns);
+        seat.stop(end.err());
+    }
+
+    /// Does turns, up to the first event that is refused.
+    fn do_turns(&self, alloc: Global, seat: &mut Seat, turns: u64) -> Result<(), EventFault>
+        requires some { 1 ≤ self.now.count }
+        requires word { seat.old.0.word_id ≡ self.now.fabric.now.word_id }
+        ensures { HasWorked self.now.fabric.now.handed.plan self.now.count self.now.number seat.old.0 seat.new.0 }
+    {
+        let events = self.own_events(alloc)?;
+        for turn in 0..turns {
+            self.gate.before(self.number, turn);
+            self.do_turn(seat, &events)?;
+        }
+        Ok(())
+    }
+
+    /// Does events of the worker's own, up to the first that is refused.
+    fn do_turn(&self, seat: &mut Seat, events: &[Event]) -> Result<(), EventFault>
+        requires word { seat.old.0.word_id ≡ self.now.fabric.now.word_id }
+        requires own { All (IsOwnEvent self.now.fabric.now.handed.plan self.now.count self.now.number) events.now }
+        ensures { HasWorked self.now.fabric.now.handed.plan self.now.count self.now.number seat.old.0 seat.new.0 }
+    {
+        for event in events {
+            self.fabric
+                .apply_by_worker(self.rt, seat, event, self.gate, self.number)?;
+        }
+        Ok(())
+    }
+
+    /// The events of a turn: the parts that a round has for the worker's nodes, one after another. The only error is out
+    /// of memory.
+    fn own_events(&self, alloc: Global) -> Result<Vec<Event>, NoMemory>
+        requires some { 1 ≤ self.now.count }
+        ensures { IfOk result (λ events.
+            All (IsOwnEvent self.now.fabric.now.handed.plan self.now.count self.now.number) events.items) }
+    {
+        let plan = self.fabric.plan();
+        let mut events = Vec::new(alloc);
+        for node in 0..self.fabric.node_count() {
+            if node % self.count == self.number {
+                let mut part = round_part(alloc, plan, node)?;
+                events.append(&mut part)?;
+            }
+        }
+        Ok(events)
+    }
+}
