@@ -3,6 +3,7 @@
 use crate::help;
 use crate::sources::STANDARD_INPUT;
 use crate::subcommands::{Row, SUBCOMMANDS, Subcommand, Takes};
+use c104_commands::MAX_WORKERS;
 use clap::{Arg, ArgAction, ArgMatches, Command, Error, value_parser};
 use std::alloc::{AllocError, Global};
 
@@ -49,6 +50,8 @@ pub struct Order<'a> {
     pub all: bool,
     /// Whether labels are shown as a description by `row` lines.
     pub rows: bool,
+    /// How many workers a storm has, 1 to 64.
+    pub workers: u8,
 }
 
 impl<'a> Order<'a> {
@@ -61,6 +64,7 @@ impl<'a> Order<'a> {
         cycles: false,
         all: false,
         rows: false,
+        workers: DEFAULT_WORKERS,
     };
 
     /// The order of words that were matched.
@@ -79,6 +83,7 @@ impl<'a> Order<'a> {
             cycles: given.get_flag(CYCLES),
             all: given.get_flag(ALL),
             rows: given.get_flag(ROWS),
+            workers: workers_of(given.get_one(WORKERS)),
         }
     }
 
@@ -90,6 +95,16 @@ impl<'a> Order<'a> {
             Some(script) => script,
             None => STANDARD_INPUT,
         }
+    }
+}
+
+/// How many workers a storm has that asks for so many.
+fn workers_of(asked: Option<u8>) -> u8
+    ensures { (1 ≤ result) × (result ≤ 64) }
+{
+    match asked {
+        Some(count) if (1..=MAX_WORKERS).contains(&count) => count,
+        _ => DEFAULT_WORKERS,
     }
 }
 
@@ -137,6 +152,13 @@ const ROWS: &str = "rows";
 
 const ROWS_HELP: &str = "Print a description with the labels as row lines";
 
+/// The option of a storm's workers.
+const WORKERS: &str = "workers";
+
+const WORKERS_HELP: &str = "How many threads carry the packets, 1 to 64, by default 2";
+
+const DEFAULT_WORKERS: u8 = 2;
+
 const DESCRIPTION_HELP: &str = "The description: a file, or - for standard input";
 
 /// All that the program takes. The only error is out of memory.
@@ -176,6 +198,7 @@ fn subcommand<'a>(alloc: Global, row: Row) -> Result<Command<'a>, AllocError> {
     let named = command(alloc, row.name, row.about, row.teaching);
     match row.takes {
         Takes::Files => with_files(alloc, named),
+        Takes::Workers => with_workers(alloc, named),
         Takes::Description => with_description(alloc, named),
         Takes::All => with_description(alloc, named)?.arg(flag(alloc, ALL, ALL_HELP)),
         Takes::Rows => with_description(alloc, named)?.arg(flag(alloc, ROWS, ROWS_HELP)),
@@ -187,6 +210,13 @@ fn subcommand<'a>(alloc: Global, row: Row) -> Result<Command<'a>, AllocError> {
 fn with_files<'a>(alloc: Global, named: Command<'a>) -> Result<Command<'a>, AllocError> {
     let description = description_argument(alloc).requires_arg(SCRIPT)?;
     named.arg(description)?.arg(script_argument(alloc))
+}
+
+/// `DESC SCRIPT [--workers N]`.
+fn with_workers<'a>(alloc: Global, named: Command<'a>) -> Result<Command<'a>, AllocError> {
+    with_description(alloc, named)?
+        .arg(script_argument(alloc).required(true))?
+        .arg(workers_option(alloc))
 }
 
 /// `DESC`.
@@ -230,6 +260,15 @@ fn description_argument<'a>(alloc: Global) -> Arg<'a> {
 /// `SCRIPT`.
 fn script_argument<'a>(alloc: Global) -> Arg<'a> {
     Arg::new(alloc, SCRIPT).help("The script: a file, or - for standard input")
+}
+
+/// `--workers N`.
+fn workers_option<'a>(alloc: Global) -> Arg<'a> {
+    Arg::new(alloc, WORKERS)
+        .long(WORKERS)
+        .value_name("N")
+        .value_parser(value_parser!(u8).range(1..=64))
+        .help(WORKERS_HELP)
 }
 
 /// `--header N`.

@@ -22,6 +22,7 @@ Examples:
   c104 run network.txt events.txt     a description and a script from two files
   c104 < examples/first-network.txt   both in one text
   c104 debug network.txt              a description from a file, and a script as you type it
+  c104 storm network.txt sends.txt    its packets carried by threads
   c104 check network.txt              whether its packets can go astray
   c104 cycles network.txt             whether they can wait for one another forever
   c104 label network.txt              which labels and registers it gives
@@ -30,12 +31,13 @@ Examples:
 
 Under --explain, standard error explains what is wrong with a line or with labels, why
 an event isn't ready, who waits for whom where nothing moves, and what wasn't
-delivered. This is the default on a terminal, where long `rounds` also report progress.
-Standard output is the same.
+delivered. This is the default on a terminal, where long `rounds` and storms also report
+progress. Standard output is the same.
 
 Exit status:
   0  done, even if an event was refused
-  1  the description, its labels or a line of the script was refused, or a cycle was found
+  1  the description, its labels, a line of the script or a storm was refused, or a
+     cycle was found
   2  the command line is wrong
   3  a file can't be opened or read, or the output can't be written
   4  out of memory";
@@ -56,6 +58,20 @@ The end of input, Ctrl-D, ends the script; `quit` and `exit` say so, and don't c
 the exit status.
 
 Lines can be edited and called back under rlwrap: `rlwrap c104 debug DESC`.";
+
+/// Of `storm`.
+pub const STORM: &str =
+    "The script has `send` lines alone, which are answered as by run. Then N threads, 2 unless
+said, do all the rest: each does the parts of rounds that its switches and terminals
+have, until no token is left anywhere. The order of what they do differs from storm to
+storm, but the events that they did, by their tickets, have to be one run of the
+network: that is audited. Prints `audit ok` and then each packet that arrived, sorted
+by the terminal where it arrived, the one that sent it, and its number there; or, with
+exit status 1, `not quiet` where tokens are left that go nowhere, `worker` with its
+number and the fault at which it stopped, or `audit` with what is wrong.
+
+On a terminal, or under --explain, standard error says who waits for whom, and what
+wasn't delivered.";
 
 /// Of `check`.
 pub const CHECK: &str =

@@ -16,7 +16,7 @@ mod typed;
 
 pub use c104_commands::{
     Marks, Status, check_command, cycles_command, debug_command, draw_command, label_command,
-    label_rows_command, run, run_text,
+    label_rows_command, run, run_text, storm_command,
 };
 use c104_describe::read_description;
 use c104_mistakes::{About, Messages};
@@ -28,6 +28,8 @@ use sources::{STANDARD_INPUT, Source, Watched};
 use std::fs::File;
 use std::io::{Input, IsTerminal, Read};
 use std::process::ExitCode;
+use std::sync::Wait;
+use std::thread::Threads;
 use std::{env, io};
 use subcommands::Subcommand;
 use told::{Told, tell_of_words};
@@ -48,7 +50,7 @@ const AWAITED: &str =
 
 fn main(rt: HostRuntime) -> ExitCode {
     match command_words(&rt) {
-        Ok(words) => do_words(&rt, words.as_slice()),
+        Ok(words) => do_words(&rt, &rt, words.as_slice()),
         Err(error) if error.kind() == io::ErrorKind::OutOfMemory => {
             finish(&rt, Status::NoMemory, Order::PLAIN)
         }
@@ -66,11 +68,11 @@ fn command_words(rt: &HostRuntime) -> io::Result<Vec<String>> {
 }
 
 /// Does what the words ask for, or says what is wrong with them. Help and the version are no fault.
-fn do_words(rt: &HostRuntime, words: &[String]) -> ExitCode {
+fn do_words<H: Threads + Wait + Sync>(rt: &HostRuntime, threads: &H, words: &[String]) -> ExitCode {
     let error = match Words::read(rt.alloc(), words) {
         Ok(words) => {
             let mut told = Told::new(rt, words.order, words.explain);
-            let status = do_order(rt, words.order, &mut told);
+            let status = do_order(rt, threads, words.order, &mut told);
             if told.has_wrong_word() {
                 return ExitCode::from(WRONG_USAGE);
             }
@@ -100,13 +102,19 @@ fn do_words(rt: &HostRuntime, words: &[String]) -> ExitCode {
 }
 
 /// Does an order, and tells what people are to be told.
-fn do_order(rt: &HostRuntime, order: Order<'_>, told: &mut Told<'_>) -> Status {
+fn do_order<H: Threads + Wait + Sync>(
+    rt: &HostRuntime,
+    threads: &H,
+    order: Order<'_>,
+    told: &mut Told<'_>,
+) -> Status {
     match order.subcommand {
         Subcommand::Run => match order.script {
             Some(script) => run_files(rt, order.description, script, told),
             None => run_one_text(rt, told),
         },
         Subcommand::Debug => debug_file(rt, order.description, told),
+        Subcommand::Storm => storm_files(rt, threads, order, told),
         Subcommand::Check => check_file(rt, order.description, told),
         Subcommand::Cycles => search_file(rt, order.description, order.all, told),
         Subcommand::Label => label_file(rt, order, told),
@@ -150,22 +158,65 @@ fn is_closed(rt: &HostRuntime, path: &str, told: &mut Told<'_>) -> bool {
     }
 }
 
-/// Runs two files. Both are opened, the description's first, before anything is read.
-fn run_files(rt: &HostRuntime, description: &str, script: &str, told: &mut Told<'_>) -> Status {
+/// Opens a description and a script, the description first, before anything is read. The error is how the command ends.
+fn open_both(
+    rt: &HostRuntime,
+    description: &str,
+    script: &str,
+    told: &mut Told<'_>,
+) -> Result<(HostSource, HostSource), Status> {
     if is_closed(rt, description, told) {
-        return Status::CannotRead(0);
+        return Err(Status::CannotRead(0));
     }
     if is_closed(rt, script, told) {
-        return Status::CannotRead(1);
+        return Err(Status::CannotRead(1));
     }
-    let Some(mut description) = open_path(rt, description, told) else {
-        return Status::CannotRead(0);
+    let Some(description) = open_path(rt, description, told) else {
+        return Err(Status::CannotRead(0));
     };
-    let Some(mut script) = open_path(rt, script, told) else {
-        return Status::CannotRead(1);
+    let Some(script) = open_path(rt, script, told) else {
+        return Err(Status::CannotRead(1));
+    };
+    Ok((description, script))
+}
+
+/// Runs two files.
+fn run_files(rt: &HostRuntime, description: &str, script: &str, told: &mut Told<'_>) -> Status {
+    let (mut description, mut script) = match open_both(rt, description, script, told) {
+        Ok(sources) => sources,
+        Err(status) => return status,
     };
     let status = run(
         rt.alloc(),
+        &mut description,
+        &mut script,
+        &mut io::writer(rt),
+        told,
+    );
+    told.note_fault(description.fault().or(script.fault()));
+    status
+}
+
+/// Lets a storm go over the network of a description's file, by the threads that a handle gives.
+fn storm_files<H: Threads + Wait + Sync>(
+    rt: &HostRuntime,
+    threads: &H,
+    order: Order<'_>,
+    told: &mut Told<'_>,
+) -> Status {
+    let (mut description, mut script) = match open_both(
+        rt,
+        order.description,
+        order.path(1),
+        told,
+    ) {
+        Ok(sources) => sources,
+        Err(status) => return status,
+    };
+    let status = storm_command(
+        rt.alloc(),
+        threads,
+        order.workers,
         &mut description,
         &mut script,
         &mut io::writer(rt),

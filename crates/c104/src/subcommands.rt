@@ -9,6 +9,8 @@ pub enum Subcommand {
     Run,
     /// The same, whose script comes line by line from standard input.
     Debug,
+    /// A storm: a script's packets, carried by worker threads.
+    Storm,
     /// A check of a description's labels.
     Check,
     /// The search for a cycle of channel dependencies.
@@ -24,6 +26,8 @@ pub enum Subcommand {
 pub enum Takes {
     /// `[DESC SCRIPT]`: neither of the two stands without the other.
     Files,
+    /// `DESC SCRIPT [--workers N]`.
+    Workers,
     /// `DESC`.
     Description,
     /// `DESC [--all]`.
@@ -50,7 +54,7 @@ pub struct Row {
 }
 
 /// The subcommands, in the order of help.
-pub const SUBCOMMANDS: [Row; 6] = [
+pub const SUBCOMMANDS: [Row; 7] = [
     Row {
         subcommand: Subcommand::Run,
         name: "run",
@@ -64,6 +68,13 @@ pub const SUBCOMMANDS: [Row; 6] = [
         about: "Runs a script that is typed, or that a program sends, line by line",
         teaching: help::DEBUG,
         takes: Takes::Description,
+    },
+    Row {
+        subcommand: Subcommand::Storm,
+        name: "storm",
+        about: "Lets worker threads carry the packets that a script sends, and audits their run",
+        teaching: help::STORM,
+        takes: Takes::Workers,
     },
     Row {
         subcommand: Subcommand::Check,

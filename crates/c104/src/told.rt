@@ -165,8 +165,12 @@ impl Messages for Told<'_> {
             return;
         }
         self.going = begun(self.rt, line);
-        if let Ok(message) = format!(in self.rt.alloc(); "{done} of {count} rounds are done") {
-            self.tell(About::ScriptLine(line), message.as_str());
+        let (about, what) = match line {
+            0 => (About::Run, "turns"),
+            line => (About::ScriptLine(line), "rounds"),
+        };
+        if let Ok(message) = format!(in self.rt.alloc(); "{done} of {count} {what} are done") {
+            self.tell(about, message.as_str());
         }
     }
 }

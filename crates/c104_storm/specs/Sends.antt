@@ -1,0 +1,57 @@
+-- What the lines of a storm's script ask, and what a network answers: those of a script that begin with `send`.
+use Rattle.std.specs.Prelude.{ℕ, ◌&&◌, Bool, false, List, bytes_eq, codes, length, nat_le, not, slice_get, if◌then◌else◌, Option, Some, None, Result, Ok, Err}
+use Rattle.c104_switch.specs.Actions.{Reply}
+use Rattle.c104_event.specs.declared.events.Event.{Event}
+use Rattle.c104_event.specs.declared.faults.EventFault.{EventFault}
+use Rattle.c104_plan.specs.Plans.{Plan}
+use Rattle.c104_plan.specs.TextCut.{uncommented_line, line_words}
+use Rattle.c104_run.specs.NetRecords.{NetRecord}
+use Rattle.c104_run.specs.RecordedRuns.{record_apply}
+use Rattle.c104_script.specs.Script.{most_line, read_script_line}
+use Rattle.c104_script.specs.declared.answers.Answer.{Answer}
+use Rattle.c104_script.specs.declared.answers.Answer.TheVariants.{Replied, Refused, Faulty}
+use Rattle.c104_script.specs.declared.faults.LineFault.{LineFault}
+use Rattle.c104_script.specs.declared.faults.LineFault.TheVariants as fault
+use Rattle.c104_script.specs.declared.places.Request.{Request}
+use Rattle.c104_script.specs.declared.places.Request.TheVariants as ask
+
+-- a first word that isn't `send`
+abbrev pub is_another : Option (List ℕ) → Bool
+is_another None = false
+is_another (Some word) = not (bytes_eq word (codes "send"))
+
+-- a line has words, and begins with another than `send`
+abbrev pub begins_otherwise : List ℕ → Bool
+begins_otherwise line = is_another (slice_get (line_words (uncommented_line line)) 0)
+
+-- what a line asks, or what is wrong with it: an unknown word where it begins otherwise, unless it is too long
+abbrev pub read_send_line : Plan → List ℕ → Result (Option Request) LineFault
+read_send_line plan line =
+    if nat_le (length line) most_line && begins_otherwise line then Err fault.UnknownWord
+    else read_script_line plan line
+
+-- what answers an event
+abbrev pub event_answer : Result Reply EventFault → Answer
+event_answer (Ok reply) = Replied reply
+event_answer (Err kind) = Refused kind
+
+-- what answers an event that is asked, and the network after it
+abbrev pub event_outcome : NetRecord → Event → Answer × NetRecord
+event_outcome net event = let r = record_apply net event in (event_answer r.0, r.1)
+
+-- what answers a request, and the network after it: only an event may be asked
+abbrev pub request_answer : NetRecord → Request → Answer × NetRecord
+request_answer net (ask.Asked event) = event_outcome net event
+request_answer net (ask.Rounds count) = (Faulty fault.UnknownWord, net)
+request_answer net (ask.Probed it) = (Faulty fault.UnknownWord, net)
+request_answer net (ask.Refused kind) = (Refused kind, net)
+
+-- the same of a line that was read so: it has no answer where it has no words
+abbrev pub answer_of_read : NetRecord → Result (Option Request) LineFault → Option Answer × NetRecord
+answer_of_read net (Ok None) = (None, net)
+answer_of_read net (Ok (Some request)) = let r = request_answer net request in (Some r.0, r.1)
+answer_of_read net (Err kind) = (Some (Faulty kind), net)
+
+-- what answers a line, and the network after it
+abbrev pub send_answer : NetRecord → List ℕ → Option Answer × NetRecord
+send_answer net line = answer_of_read net (read_send_line net.network.plan line)

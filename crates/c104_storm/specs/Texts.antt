@@ -1,0 +1,38 @@
+-- What a storm prints at its end.
+use Rattle.std.specs.Prelude.{ℕ, List, [], ◌++◌, codes}
+use Rattle.std.specs.Fmt.{decimal}
+use Rattle.c104_token.specs.Text.{packet_text}
+use Rattle.c104_token.specs.declared.packets.Packet.{Packet}
+use Rattle.c104_plan.specs.Plans.{Plan}
+use Rattle.c104_plan.specs.PortTexts.{terminal_name}
+use Rattle.c104_event.specs.EventFaults.{event_fault_name, event_fault_number}
+use Rattle.c104_event.specs.declared.faults.EventFault.{EventFault}
+use Rattle.c104_audit.specs.declared.faults.AuditFault.{AuditFault}
+use Rattle.c104_audit.specs.declared.faults.AuditFault.TheVariants as audit
+
+-- the line of a storm whose tokens go nowhere
+abbrev pub not_quiet_line : List ℕ
+not_quiet_line = codes "not quiet\n"
+
+-- the line of a worker that stopped, by its number and its fault
+abbrev pub stop_line : ℕ → EventFault → List ℕ
+stop_line worker kind =
+    codes "worker " ++ (decimal worker ++ (codes " " ++ (decimal (event_fault_number kind) ++ (codes " " ++ (event_fault_name kind ++ codes "\n")))))
+
+-- words, and the number of a node, a wire or a seat
+abbrev pub numbered_line : List ℕ → ℕ → List ℕ
+numbered_line words number = words ++ (decimal number ++ codes "\n")
+
+-- the line of an audit that finds no run. Where it is out of memory there is none
+abbrev pub audit_line : AuditFault → List ℕ
+audit_line (audit.Shape node) = numbered_line (codes "audit 1 Shape ") node
+audit_line (audit.Order node) = numbered_line (codes "audit 2 Order ") node
+audit_line (audit.Ends wire) = numbered_line (codes "audit 3 Ends ") wire
+audit_line (audit.Calls seat) = numbered_line (codes "audit 4 Calls ") seat
+audit_line (audit.Before node) = numbered_line (codes "audit 5 Before ") node
+audit_line audit.NoMemory = []
+
+-- the line of a packet that arrived at a terminal, by its sender and its number there
+abbrev pub arrival_line : Plan → ℕ → Packet → ℕ → ℕ → List ℕ
+arrival_line plan terminal packet sender number =
+    terminal_name plan terminal ++ (codes ": " ++ (packet_text packet ++ (codes " from " ++ (terminal_name plan sender ++ (codes " " ++ (decimal number ++ codes "\n"))))))

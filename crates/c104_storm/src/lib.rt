@@ -1,0 +1,21 @@
+//! Storms: packets are sent into a network, worker threads bring them where they go, and the run is audited.
+//!
+//! A storm begins as a run does, on the network of a plan with its labels. The `send` lines of a script are answered as
+//! they are read (`answer_sends`); then the network's nodes are put behind locks, and workers do turns until all is quiet
+//! (`work`). When the threads have ended, the audit judges what they left, and of the run that it finds the packets that
+//! arrived are told, sorted (`sorted_summary`). `storm_plan` does all of it.
+//!
+//! What people are told beside it needs a network whose tokens tell where they came from: it is made only where someone
+//! reads the messages, and does once more what the workers have done (`replay`).
+#![tactic(auto)]
+
+mod endings;
+mod packets;
+mod reading;
+mod replaying;
+mod sends;
+mod storms;
+mod telling;
+mod working;
+
+pub use storms::{MAX_WORKERS, storm_plan};

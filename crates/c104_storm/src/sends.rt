@@ -1,0 +1,73 @@
+//! What a line of a storm's script asks, and what a network answers.
+ghost use Rattle.std.specs.Prelude.{◌≡◌, IfOk, Option};
+ghost use Rattle.c104_run.specs.NetRecords.{NetRecord as TheNet};
+ghost use Rattle.c104_script.specs.Script.{GivesLineOrNoMemory};
+ghost use Rattle.c104_script.specs.declared.answers.Answer.{Answer as TheAnswer};
+ghost use Rattle.c104_storm.specs.Sends.{begins_otherwise, event_outcome, read_send_line, send_answer};
+
+use c104_event::{Event, EventFault};
+use c104_net::Net;
+use c104_plan::{Plan, first_word, uncommented};
+use c104_script::{Answer, LineFault, MAX_LINE, Request, read_line};
+use c104_token::NoMemory;
+use std::alloc::Global;
+
+/// Sends the packet of a line, and gives what answers the line: as in a script, but any line that doesn't begin with
+/// `send` has an unknown word. None where the line has no words. The only error is out of memory.
+pub(crate) fn answer_send(
+    alloc: Global,
+    net: &mut Net,
+    line: &[u8],
+) -> Result<Option<Answer>, NoMemory>
+    ensures answered { IfOk result (λ answer. ◌≡◌ {A = Option TheAnswer × TheNet}
+        (answer, net.new) (send_answer net.old line.now)) }
+{
+    let request = match read_send(alloc, net.plan(), line) {
+        Ok(request) => request,
+        Err(LineFault::NoMemory) => return Err(NoMemory),
+        Err(fault) => return Ok(Some(Answer::Faulty(fault))),
+    };
+    match request {
+        None => Ok(None),
+        Some(Request::Asked(event)) => {
+            let answer = answer_event(net, &event)?;
+            Ok(Some(answer))
+        }
+        Some(Request::Refused(fault)) => Ok(Some(Answer::Refused(fault))),
+        Some(Request::Rounds(_)) => Ok(Some(Answer::Faulty(LineFault::UnknownWord))),
+        Some(Request::Probed(_)) => Ok(Some(Answer::Faulty(LineFault::UnknownWord))),
+    }
+}
+
+/// Does an event, and gives what answers it. The only error is out of memory.
+fn answer_event(net: &mut Net, event: &Event) -> Result<Answer, NoMemory>
+    ensures { IfOk result (λ answer. ◌≡◌ {A = TheAnswer × TheNet}
+        (answer, net.new) (event_outcome net.old event.now)) }
+{
+    match net.apply(event) {
+        Ok(reply) => Ok(Answer::Replied(reply)),
+        Err(EventFault::NoMemory) => Err(NoMemory),
+        Err(fault) => Ok(Answer::Refused(fault)),
+    }
+}
+
+/// What a line asks of a network of this plan. A line that begins otherwise than with `send` has an unknown word.
+/// NoMemory may come in place of any answer.
+fn read_send(alloc: Global, plan: &Plan, line: &[u8]) -> Result<Option<Request>, LineFault>
+    ensures { GivesLineOrNoMemory result (read_send_line plan.now line.now) }
+{
+    if line.len() <= MAX_LINE && begins_otherwise(line) {
+        return Err(LineFault::UnknownWord);
+    }
+    read_line(alloc, plan, line)
+}
+
+/// Whether a line has words, and begins with another than `send`.
+fn begins_otherwise(line: &[u8]) -> bool
+    ensures { result ≡ begins_otherwise line.now }
+{
+    match first_word(uncommented(line)) {
+        Some(word) => word != b"send".as_slice(),
+        None => false,
+    }
+}

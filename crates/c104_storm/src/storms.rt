@@ -1,0 +1,108 @@
+//! A storm, on the network of a plan.
+ghost use Rattle.std.specs.Prelude.{◌≤◌, length};
+ghost use Rattle.c104_plan.specs.PlanImage.{Fits};
+ghost use Rattle.c104_storm.specs.Storms.{Grew};
+ghost use Rattle.c104_workers.specs.Fabrics.{AreSeatsOf};
+
+use crate::endings::write_end;
+use crate::reading::{Sent, answer_sends};
+use crate::telling::explain_end;
+use crate::working::work;
+use c104_mistakes::Messages;
+use c104_net::Net;
+use c104_plan::{Image, Plan};
+use c104_stream::Halt;
+use c104_workers::{Fabric, Seat};
+use std::alloc::Global;
+use std::io::{Read, Write};
+use std::sync::Wait;
+use std::thread::Threads;
+
+/// The most workers.
+pub const MAX_WORKERS: u8 = 64;
+
+/// Lets a storm go over the network of a plan, started with an image that fits it: the lines of a script are answered as
+/// they are read, whose packets are sent; then workers, each in a thread of its own, do turns until all is quiet. At the
+/// end is written what the audit says, and the packets that arrived. Says whether anything was refused: the script, for
+/// its length or for one of its lines, or the storm, which isn't quiet, whose worker stopped or whose audit finds no run.
+///
+/// Where no thread can be made, the workers do their turns one after another.
+#[tactic(auto, using(crate::proofs::Growing::grew_then, crate::proofs::Growing::grew_none))]
+pub fn storm_plan<R: Threads + Wait + Sync, S: Read, W: Write, M: Messages>(
+    alloc: Global,
+    rt: &R,
+    workers: u8,
+    plan: &Plan,
+    image: &Image,
+    script: &mut S,
+    writer: &mut W,
+    messages: &mut M,
+) -> Result<bool, Halt>
+    requires fits { Fits image.now plan.now }
+    requires some { (1 ≤ workers) × (workers ≤ MAX_WORKERS) }
+    ensures { Grew (W.contents writer.old) (W.contents writer.new) }
+{
+    let Ok(mut net) = Net::placed(alloc, plan, image) else {
+        return Err(Halt::NoMemory);
+    };
+    match answer_sends(alloc, &mut net, script, writer, messages) {
+        Ok(sent) => storm_net(alloc, rt, workers, net, image, sent, writer, messages),
+        Err(halt) => {
+            net.retire();
+            Err(halt)
+        }
+    }
+}
+
+/// The same of a network into which a script's packets were sent.
+#[tactic(auto, using(crate::proofs::SomeSeats::some_seats))]
+fn storm_net<R: Threads + Wait + Sync, W: Write, M: Messages>(
+    alloc: Global,
+    rt: &R,
+    workers: u8,
+    net: Net,
+    image: &Image,
+    sent: Sent,
+    writer: &mut W,
+    messages: &mut M,
+) -> Result<bool, Halt>
+    requires some { (1 ≤ workers) × (workers ≤ MAX_WORKERS) }
+    ensures { Grew (W.contents writer.old) (W.contents writer.new) }
+{
+    match Fabric::new(alloc, net, usize::from(workers)) {
+        Ok((fabric, seats)) => {
+            storm_fabric(alloc, rt, fabric, seats, image, sent, writer, messages)
+        }
+        Err((net, _)) => {
+            // The number of seats is one that there may be, so that there was no memory.
+            net.retire();
+            Err(Halt::NoMemory)
+        }
+    }
+}
+
+/// The same of a fabric, by workers that use its seats.
+fn storm_fabric<R: Threads + Wait + Sync, W: Write, M: Messages>(
+    alloc: Global,
+    rt: &R,
+    fabric: Fabric,
+    seats: Vec<Seat>,
+    image: &Image,
+    sent: Sent,
+    writer: &mut W,
+    messages: &mut M,
+) -> Result<bool, Halt>
+    requires some { 1 ≤ length seats.items }
+    requires own { AreSeatsOf fabric.word_id seats.items }
+    ensures { Grew (W.contents writer.old) (W.contents writer.new) }
+{
+    let mut seats = seats;
+    let worked = work(alloc, rt, &fabric, seats.as_mut_slice(), messages);
+    let gathered = fabric.close(seats);
+    let written = write_end(alloc, &gathered, sent, worked, writer);
+    if written.is_ok() {
+        explain_end(alloc, image, &gathered, sent, worked, messages);
+    }
+    gathered.retire();
+    written
+}
