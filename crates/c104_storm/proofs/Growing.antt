@@ -2,7 +2,7 @@
 use Rattle.std.proofs.Common.{ℕ, List, [], ◌++◌, Option}
 use Rattle.std.specs.Io.KnownBytes.{Appends}
 use Rattle.std.proofs.KnownBytes.{Appends-nil, Appends-trans}
-use Rattle.c104_stream.specs.Writing.{AppendsAndKeeps, AppendsPrefix}
+use Rattle.c104_stream.specs.Writing.{AppendsPrefix}
 use Rattle.c104_storm.specs.Storms.{Grew}
 
 pub grew_none : (held : Option (List ℕ)) → Grew held held
@@ -19,6 +19,3 @@ grew_text held holds text wrote = record { written = text; grew = wrote }
 
 pub grew_prefix : (held holds : Option (List ℕ)) (text : List ℕ) → AppendsPrefix held holds text → Grew held holds
 grew_prefix held holds text front = record { written = front.written; grew = front.grew }
-
-pub grew_kept : (held holds : Option (List ℕ)) (keeps text : List ℕ) → AppendsAndKeeps held holds keeps text → Grew held holds
-grew_kept held holds keeps text was = record { written = was.written; grew = was.grew }

@@ -1,2 +1,3 @@
+mod ArrivalLines
 mod Growing
 mod SomeSeats

@@ -32,7 +32,11 @@ audit_line (audit.Calls seat) = numbered_line (codes "audit 4 Calls ") seat
 audit_line (audit.Before node) = numbered_line (codes "audit 5 Before ") node
 audit_line audit.NoMemory = []
 
--- the line of a packet that arrived at a terminal, by its sender and its number there
+-- where a packet came from: its sender, and its number there
+abbrev pub sender_text : Plan → ℕ → ℕ → List ℕ
+sender_text plan sender number = codes " from " ++ (terminal_name plan sender ++ (codes " " ++ decimal number))
+
+-- the line of a packet that arrived at a terminal
 abbrev pub arrival_line : Plan → ℕ → Packet → ℕ → ℕ → List ℕ
 arrival_line plan terminal packet sender number =
-    terminal_name plan terminal ++ (codes ": " ++ (packet_text packet ++ (codes " from " ++ (terminal_name plan sender ++ (codes " " ++ (decimal number ++ codes "\n"))))))
+    terminal_name plan terminal ++ (codes ": " ++ (packet_text packet ++ (sender_text plan sender number ++ codes "\n")))

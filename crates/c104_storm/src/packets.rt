@@ -1,7 +1,7 @@
 //! The packets that arrived in a storm, sorted: the order in which they came depends on the threads.
 ghost use Rattle.std.specs.Prelude.{◌≡◌, ◌++◌, OnOk, decimal};
 ghost use Rattle.c104_plan.specs.PortTexts.{terminal_name};
-ghost use Rattle.c104_storm.specs.Texts.{arrival_line};
+ghost use Rattle.c104_storm.specs.Texts.{arrival_line, sender_text};
 
 use c104_net::{Origin, Origins};
 use c104_plan::Plan;
@@ -81,11 +81,19 @@ fn add_packet(
     add_name(plan, terminal, text)?;
     text.extend_from_slice(b": ")?;
     text.extend_from_slice(printed.as_bytes())?;
+    add_sender(plan, arrival, text)?;
+    text.push(b'\n')?;
+    Ok(())
+}
+
+/// Where a packet came from joins the text.
+fn add_sender(plan: &Plan, arrival: Arrival, text: &mut Vec<u8>) -> Result<(), NoMemory>
+    ensures { OnOk result (text.new.items ≡ text.old.items ++ sender_text plan.now arrival.sender arrival.number) }
+{
     text.extend_from_slice(b" from ")?;
     add_name(plan, arrival.sender, text)?;
     text.push(b' ')?;
     add_number(arrival.number, text)?;
-    text.push(b'\n')?;
     Ok(())
 }
 

@@ -37,7 +37,6 @@ struct Buffers {
 /// Answers the lines of a script as they are read, whose packets are sent into a network. Answers are written before the
 /// script's reader is asked for more, whenever there are 64 KiB of them, and at the end. Where the reader fails, or when
 /// out of memory, the answers to the first lines are written, each of them whole.
-#[tactic(auto, using(crate::proofs::Growing::grew_then, crate::proofs::Growing::grew_none))]
 pub(crate) fn answer_sends<S: Read, W: Write, M: Messages>(
     alloc: Global,
     net: &mut Net,
@@ -92,7 +91,6 @@ fn answer_lines<S: Read, W: Write, M: Messages>(
 }
 
 /// The same, line by line in these buffers. Says whether the script is longer than it may be.
-#[tactic(auto, using(crate::proofs::Growing::grew_then, crate::proofs::Growing::grew_none))]
 fn read_and_answer<S: Read, W: Write, M: Messages>(
     alloc: Global,
     net: &mut Net,
@@ -187,7 +185,6 @@ fn answer_line<W: Write, M: Messages>(
 
 /// Sends the packet of a line. The line that answers it joins what is kept, and what is to be told of it is told; the text
 /// is where the answer is printed.
-#[tactic(auto, using(crate::proofs::Growing::grew_then, crate::proofs::Growing::grew_none))]
 fn answer_and_explain<W: Write, M: Messages>(
     alloc: Global,
     net: &mut Net,

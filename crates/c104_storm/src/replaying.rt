@@ -69,9 +69,7 @@ fn do_calls(alloc: Global, net: &mut TracedNet, seats: &[SeatCalls]) -> Result<(
     let Ok(mut places) = vec![in alloc; 0usize; seats.len()] else {
         return Err(EventFault::NoMemory);
     };
-    let mut left = count_calls(seats);
-    while left > 0 {
-        left -= 1;
+    for _ in 0..count_calls(seats) {
         if let Some(call) = next_call(seats, places.as_mut_slice()) {
             net.apply(&call.event)?;
         }

@@ -27,7 +27,7 @@ pub const MAX_WORKERS: u8 = 64;
 /// its length or for one of its lines, or the storm, which isn't quiet, whose worker stopped or whose audit finds no run.
 ///
 /// Where no thread can be made, the workers do their turns one after another.
-#[tactic(auto, using(crate::proofs::Growing::grew_then, crate::proofs::Growing::grew_none))]
+#[tactic(auto, using(crate::proofs::Growing::grew_none))]
 pub fn storm_plan<R: Threads + Wait + Sync, S: Read, W: Write, M: Messages>(
     alloc: Global,
     rt: &R,
