@@ -1,5 +1,6 @@
 pub mod Statuses
 pub mod Runs
+pub mod Storms
 pub mod CheckTexts
 pub mod Setups
 pub mod Endings

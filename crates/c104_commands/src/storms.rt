@@ -1,7 +1,7 @@
 //! The command that lets a storm go over a description's network.
 ghost use Rattle.std.specs.Prelude.{ℕ, ◌≡◌, ◌≤◌, ◌≢◌};
 ghost use Rattle.c104_commands.specs.declared.status.Status.TheVariants as status;
-ghost use Rattle.c104_storm.specs.Storms.{Grew};
+ghost use Rattle.c104_commands.specs.Storms.{StormEnds};
 
 use crate::setups::{Setup, read_setup};
 use crate::status::Status;
@@ -32,7 +32,7 @@ pub fn storm_command<R: Threads + Wait + Sync, D: Read, S: Read, W: Write, M: Me
     messages: &mut M,
 ) -> Status
     requires { (1 ≤ workers) × (workers ≤ 64) }
-    ensures grew { Grew (W.contents writer.old) (W.contents writer.new) }
+    ensures ends { StormEnds (D.remaining description.old) (W.contents writer.old) (W.contents writer.new) result }
     ensures of_description { result ≡ status.CannotRead 0 → script.new ≡ script.old }
 {
     let Setup { plan, image } = match read_setup(alloc, description, writer, messages) {
