@@ -43,7 +43,8 @@ pub fn seated(alloc: Global, net: Net, seats: usize) -> Result<(Fabric, Vec<Seat
 }
 
 /// Both packets arrive, and each seat has its 16 calls: a packet sent, two grants, six crossings, four turns of which one is
-/// a claim, and three arrivals.
+/// a claim, and three arrivals. It fails where a fabric answers each event that it isn't ready: then no packet arrives, and
+/// the threads wait for good.
 #[test]
 fn packets_by_two_threads(rt: HostRuntime) -> Result<(), Fail> {
     let one = packet_of(rt.alloc(), "01 aa eop")?;
@@ -199,7 +200,8 @@ fn take_packet<R: Wait>(rt: &R, fabric: &Fabric, seat: &mut Seat, here: usize)
     unreachable!()
 }
 
-/// Commands by a seat: what is poked is read back, and then the seat ends with the fabric.
+/// Commands by a seat: what is poked is read back, and then the seat ends with the fabric. It fails where a write is
+/// dropped or an old value read back, whatever the lists say, and where no event is ever ready.
 #[test]
 fn commands_by_a_seat(rt: HostRuntime) -> Result<(), Fail> {
     let (fabric, seats) = fabric_of(rt.alloc(), 1)?;

@@ -1,4 +1,7 @@
 //! Workers: two of them run at once, they do no turns where none are asked, and stop at a full trace.
+//!
+//! No contract tells that a thread runs, which locks are held, or that an event is done behind them. So what these tests
+//! refuse nothing else does; each names the wrong bodies.
 ghost use Rattle.c104_workers.specs.Fabrics.{AreSeatsOf};
 
 use crate::calls::{apply, labelled_network, placed_network, retire};
@@ -135,7 +138,8 @@ fn turns<R: Threads + Wait + Sync, G: Gate + Sync>(
     Some(run_workers(alloc, rt, fabric, seats, gate, count))
 }
 
-/// Two workers are before a turn at once.
+/// Two workers are before a turn at once. It fails where all workers run on one thread, one after another: then the first
+/// waits for the second in vain.
 #[test]
 fn two_before_a_turn(rt: HostRuntime) -> Result<(), Fail> {
     let net = placed_network(rt.alloc(), PLAN)?;
@@ -146,7 +150,8 @@ fn two_before_a_turn(rt: HostRuntime) -> Result<(), Fail> {
     Ok(())
 }
 
-/// Two nodes are locked at once.
+/// Two nodes are locked at once. It fails where one lock is round everything, since then a worker can't come inside an
+/// event while another is inside one; and where the gate is never asked inside an event, under the locks.
 #[test]
 fn two_inside_nodes(rt: HostRuntime) -> Result<(), Fail> {
     let net = labelled_network(rt.alloc(), MESH)?;
@@ -216,7 +221,8 @@ fn call_counts(gathered: &Gathered) -> Option<[usize; 3]> {
     }
 }
 
-/// A worker stops where the trace of a node is full.
+/// A worker stops where the trace of a node is full. It fails where workers do no event, or where each event is answered
+/// that it isn't ready: then nobody stops.
 #[test]
 fn stopped_by_a_full_trace(rt: HostRuntime) -> Result<(), Fail> {
     let mut net = placed_network(rt.alloc(), PLAN)?;
