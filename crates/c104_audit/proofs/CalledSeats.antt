@@ -4,7 +4,7 @@ use Rattle.c104_audit.specs.Audits.{HaveOtherTickets, IsCalled}
 use Rattle.c104_audit.specs.Firsts.{IsFirst, lower_of}
 use Rattle.c104_audit.specs.Leads.{AreRising, list_at}
 use Rattle.std.specs.List.{AllByRecursion}
-use Rattle.c104_audit.specs.Tests.{AreCalledBelow, CarryAtAllEnds, HasNoStray, IsApart, IsToldAt, is_even}
+use Rattle.c104_audit.specs.Tests.{AreCalledBelow, CarryAtAllEnds, HasNoStray, IsApart, IsToldAt, is_other}
 use Rattle.c104_audit.specs.declared.calls.Call.{Call}
 use Rattle.c104_audit.specs.declared.lists.Lists.{Lists}
 use Rattle.std.proofs.Common.{Bool, IsTrue, List, None, Option, Some, [], ap, arith, false, get_or, inl, inr, length, nat_eq, nat_lt, not, refl, slice_get, subst, sym, true, unwrap_or, ℕ, ◌<◌, ◌∙◌, ◌≡◌, ◌≤◌, ◌⊎◌, ◌↔◌}
@@ -30,7 +30,7 @@ pub told_of_called : (lists : Lists) (s : ℕ) → IsCalled lists s → IsToldAt
 told_of_called lists s called = record { told = sym called.told; listed = record { rising = called.rising; late = called.late } }
 
 -- where the lower seats are called, the first odd seat is this one or a later one
-pub ends_by_test : (lists : Lists) (s : ℕ) (odd : Option ℕ) → IsFirst (CarryAtAllEnds lists) odd → AreCalledBelow lists s → IsTrue (is_even s odd) ↔ CarryAtAllEnds lists s
+pub ends_by_test : (lists : Lists) (s : ℕ) (odd : Option ℕ) → IsFirst (CarryAtAllEnds lists) odd → AreCalledBelow lists s → IsTrue (is_other s odd) ↔ CarryAtAllEnds lists s
 ends_by_test lists s None all below = (λ even. all s, λ ends. refl)
 ends_by_test lists s (Some o) first below = by_test (nat_eq s o) refl (nat_lt s o) refl
   where
@@ -40,8 +40,8 @@ ends_by_test lists s (Some o) first below = by_test (nat_eq s o) refl (nat_lt s 
     by_test false differs true less = (λ even. first.lower s (grind (arith, nat_tests)), λ ends. refl)
     by_test false differs false less = let under : o < s = grind (arith, nat_tests) in absurd (first.fails (below o under).ends)
 
-pub even_is : (lists : Lists) (s : ℕ) (odd : Option ℕ) (b : Bool) → b ≡ is_even s odd → IsFirst (CarryAtAllEnds lists) odd → AreCalledBelow lists s → IsTrue b ↔ CarryAtAllEnds lists s
-even_is lists s odd b is first below = subst (λ x. IsTrue x ↔ CarryAtAllEnds lists s) (sym is) (ends_by_test lists s odd first below)
+pub ends_agree_by : (lists : Lists) (s : ℕ) (odd : Option ℕ) (b : Bool) → b ≡ is_other s odd → IsFirst (CarryAtAllEnds lists) odd → AreCalledBelow lists s → IsTrue b ↔ CarryAtAllEnds lists s
+ends_agree_by lists s odd b is first below = subst (λ x. IsTrue x ↔ CarryAtAllEnds lists s) (sym is) (ends_by_test lists s odd first below)
 
 -- past the lists a seat is called that has no call and agrees at all ends
 pub called_past : (lists : Lists) (lent : List (List Call)) (odd stray : Option ℕ) → lent ≡ lists.calls → AreCalledBelow lists (length lent) →

@@ -1,4 +1,5 @@
 -- The first numbers of which something doesn't hold.
+use Rattle.c104_audit.specs.AuditFaults.{Everywhere}
 use Rattle.c104_audit.specs.Firsts.{IsFirst, lower_of}
 use Rattle.std.proofs.Common.{Bool, IsTrue, List, None, Option, Some, arith, false, if◌then◌else◌, length, nat_le, nat_lt, refl, slice_get, subst, sym, true, ℕ, ◌+◌, ◌<◌, ◌∙◌, ◌≡◌, ◌≤◌}
 use Rattle.std.proofs.lemmas.Option.{slice_get_within}
@@ -31,6 +32,11 @@ none_there P xs k past y there = let inside = slice_get_within xs k y there in a
 -- a test that fails tells that what it tests isn't so
 pub fails_by : (P : Type 0) (b : Bool) → (P → IsTrue b) → b ≡ false → P → ⊥
 fails_by P b tells is so = let yes : IsTrue b = tells so in let never : false ≡ true = sym is ∙ yes in cc
+
+-- where none fails, it is so of every number
+pub first_none : (P : ℕ → Type 0) (o : Option ℕ) → IsFirst P o → ((k : ℕ) → o ≡ Some k → ⊥) → Everywhere P
+first_none P None first none = first
+first_none P (Some k) first none = absurd (none k refl)
 
 -- the same number fails first of two words that say the same
 pub first_same : (P Q : ℕ → Type 0) (o : Option ℕ) → ((k : ℕ) → P k → Q k) → ((k : ℕ) → Q k → P k) → IsFirst P o → IsFirst Q o

@@ -19,6 +19,7 @@ pub mod WiredLinks
 pub mod HalvesAgree
 pub mod EndSeats
 pub mod CalledLeads
+pub mod CalledCounts
 pub mod StraySeats
 pub mod ApartCalls
 pub mod GatheredLeads

@@ -1,7 +1,7 @@
 -- The first seat past all lists that entries carry which lead.
 use Rattle.c104_audit.proofs.CalledLeads.{leads_named}
 use Rattle.c104_audit.proofs.FirstFailures.{first_both, first_same, lower_again}
-use Rattle.c104_audit.proofs.KeptElements.{drop_next}
+use Rattle.c104_audit.proofs.KeptElements.{drop_all, drop_next}
 use Rattle.c104_audit.proofs.Merging.{in_each}
 use Rattle.c104_audit.specs.Audits.{carries, is_number, led_call, led_event, lists_leads}
 use Rattle.c104_audit.specs.Calls.{call_of}
@@ -14,7 +14,7 @@ use Rattle.c104_audit.specs.declared.lists.Lists.{Lists}
 use Rattle.c104_net.specs.declared.leading.Lead.{Lead as Leading}
 use Rattle.c104_event.specs.declared.events.Event.{Event}
 use Rattle.c104_node.specs.declared.acts.Entry.{Entry}
-use Rattle.std.proofs.Common.{Bool, List, None, Option, Some, [], ap, arith, drop, false, if◌then◌else◌, is_some, map, nat_eq, nat_le, refl, slice_get, subst, sym, true, ℕ, ◌++◌, ◌+◌, ◌∙◌, ◌∷◌, ◌≡◌, ◌≤◌}
+use Rattle.std.proofs.Common.{Bool, List, None, Option, Some, [], ap, arith, drop, false, if◌then◌else◌, is_some, length, map, nat_eq, nat_le, refl, slice_get, subst, sym, true, ℕ, ◌++◌, ◌+◌, ◌∙◌, ◌∷◌, ◌≡◌, ◌≤◌}
 use Rattle.std.proofs.lemmas.Bool.Decides.{nat_tests}
 use Rattle.std.specs.Option.{option_map, option_to_list}
 
@@ -63,7 +63,7 @@ module _ (lists : Lists) (count : ℕ) where
       (λ s is. (λ past. some_of s m ms named.0 (is past), λ past. sym (none_of s m ms (some_of s m ms named.0 (is past))) ∙ is past))
       (first_both _ _ (past_seat count m.1.entry.seat) (strays count ms) (past_first count m.1.entry.seat) (strays_of ms named.1))
 
-pub strays_first : (lists : Lists) (count : ℕ) (o : Option ℕ) → o ≡ strays count (lists_leads lists) → IsFirst (HasNoStray lists count) o
+strays_first : (lists : Lists) (count : ℕ) (o : Option ℕ) → o ≡ strays count (lists_leads lists) → IsFirst (HasNoStray lists count) o
 strays_first lists count o is = subst (IsFirst (HasNoStray lists count)) (sym is) (strays_of lists count (lists_leads lists) (in_each (Named lists count) (lists_leads lists) (leads_named lists)))
 
 -- the first of what is left
@@ -77,3 +77,11 @@ strays_next lists count leads i l first odd all at is before =
     ap (λ o. lower_of (lower_of first o) (Rest lists count leads (i + 1))) is
     ∙ lower_again first (past_seat count (lead_seat lists l)) (Rest lists count leads (i + 1))
     ∙ ap (λ ls. lower_of first (strays count (map (lead_in lists.traces) ls))) (sym (drop_next leads i l at)) ∙ before
+
+-- none is left
+pub strays_end : (lists : Lists) (count : ℕ) (leads : List Leading) (i : ℕ) (first : Option ℕ) → length leads ≤ i → lower_of first (strays count (map (lead_in lists.traces) (drop i leads))) ≡ strays count (lists_leads lists) → IsFirst (HasNoStray lists count) first
+strays_end lists count leads i first past found = strays_first lists count first (sym (with_none first) ∙ ap (λ ls. lower_of first (strays count (map (lead_in lists.traces) ls))) (sym (drop_all leads i past)) ∙ found)
+  where
+    with_none : (o : Option ℕ) → lower_of o None ≡ o
+    with_none None = refl
+    with_none (Some s) = refl

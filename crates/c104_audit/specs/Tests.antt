@@ -12,7 +12,7 @@ use Rattle.c104_node.specs.declared.acts.Entry.{Entry}
 use Rattle.c104_node.specs.declared.ends.End.{End}
 use Rattle.c104_node.specs.declared.acts.ActOf.TheVariants as act
 use Rattle.c104_switch.specs.declared.actions.ReplyOf.TheVariants as reply
-use Rattle.std.specs.Prelude.{Bool, List, None, Option, Some, [], drop, filter, if◌then◌else◌, map, nat_eq, nat_le, nat_lt, not, slice_get, true, ℕ, ◌&&◌, ◌++◌, ◌<◌, ◌≤◌, ◌∷◌, ◌≡◌}
+use Rattle.std.specs.Prelude.{Bool, List, None, Option, Some, [], drop, filter, if◌then◌else◌, length, map, nat_eq, nat_le, nat_lt, not, slice_get, true, ℕ, ◌&&◌, ◌+◌, ◌++◌, ◌<◌, ◌≤◌, ◌∷◌, ◌≡◌, ◌↔◌}
 
 -- of a link of a node it is kept whether it has a wire, and the same of each of the first links
 abbrev pub KeepsLink : Lists → ℕ → List Bool → ℕ → Type 0
@@ -97,6 +97,31 @@ pub record IsCallOf (switches k : ℕ) (e : Entry) (c : Call) : Type 0 where
 abbrev pub IsNextCall : ℕ → ℕ → Entry → List Call → ℕ → Type 0
 IsNextCall switches k e calls at = (c : Call) × (slice_get calls at ≡ Some c) × IsCallOf switches k e c
 
+-- how many of a seat's calls are told, with one more entry of it that leads: none where it tells another than the next
+abbrev pub TellsNext : ℕ → ℕ → Entry → List Call → Option ℕ → Option ℕ → Type 0
+TellsNext switches k e calls None after = after ≡ None
+TellsNext switches k e calls (Some n) None = IsNextCall switches k e calls n → ⊥
+TellsNext switches k e calls (Some n) (Some m) = (m ≡ n + 1) × IsNextCall switches k e calls n
+
+-- this number of a seat's calls is told before a place of those that lead: from there on the rest is told where all is. Or
+-- other calls are told.
+abbrev pub IsTold : Lists → List Leading → ℕ → ℕ → Option ℕ → Type 0
+IsTold lists leads i s None = calls_told lists s (lists_leads lists) ≡ list_at lists.calls s → ⊥
+IsTold lists leads i s (Some n) =
+    ((calls_told lists s (map (lead_in lists.traces) (drop i leads)) ≡ drop n (list_at lists.calls s))
+    ↔ (calls_told lists s (lists_leads lists) ≡ list_at lists.calls s)) × (n ≤ length (list_at lists.calls s))
+
+-- and so of each seat that is counted
+abbrev pub AreTold : Lists → List Leading → ℕ → List (Option ℕ) → Type 0
+AreTold lists leads i counts = (s : ℕ) (o : Option ℕ) → slice_get counts s ≡ Some o → IsTold lists leads i s o
+
+-- of each seat that has a list all its calls are counted exactly where they are what the entries tell
+pub record AreCounts (lists : Lists) (counts : List (Option ℕ)) : Type 0 where
+  pub long : length counts ≡ length lists.calls
+  pub counted : (s : ℕ) → s < length lists.calls →
+      (slice_get counts s ≡ Some (Some (length (list_at lists.calls s))))
+      ↔ (calls_told lists s (lists_leads lists) ≡ list_at lists.calls s)
+
 -- the tickets of calls rise, from behind this one, and none is below the first
 abbrev pub listed_after : ℕ → Option ℕ → List Call → Bool
 listed_after first last [] = true
@@ -116,10 +141,10 @@ pub record IsToldSo (lists : Lists) (s : ℕ) (calls : List Call) : Type 0 where
 abbrev pub IsToldAt : Lists → ℕ → Type 0
 IsToldAt lists s = IsToldSo lists s (list_at lists.calls s)
 
--- a seat isn't this one
-abbrev pub is_even : ℕ → Option ℕ → Bool
-is_even s None = true
-is_even s (Some odd) = not (nat_eq s odd)
+-- a number isn't this one, if there is one
+abbrev pub is_other : ℕ → Option ℕ → Bool
+is_other s None = true
+is_other s (Some t) = not (nat_eq s t)
 
 -- the seat of one that leads
 abbrev pub lead_seat : Lists → Leading → Option ℕ

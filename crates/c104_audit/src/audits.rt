@@ -31,7 +31,8 @@ pub fn audit_lists(alloc: Global, lists: &Lists) -> Result<Vec<Event>, AuditFaul
         return Err(AuditFault::Ends(wire));
     }
     let leads = sorted_leads(alloc, lists)?;
-    if let Some(seat) = first_uncalled(lists, leads.as_slice()) {
+    let uncalled = first_uncalled(alloc, lists, leads.as_slice())?;
+    if let Some(seat) = uncalled {
         return Err(AuditFault::Calls(seat));
     }
     if let Some(node) = first_changed(lists) {

@@ -1,7 +1,7 @@
-//! Whether a seat's list is what the entries tell that carry its number.
-ghost use Rattle.std.specs.Prelude.{◌≡◌, ◌↔◌, Some, true, false, IsTrue, MatchOption};
-ghost use Rattle.c104_audit.specs.Audits.{carries, lists_leads, told_reply};
-ghost use Rattle.c104_audit.specs.Tests.{AreLeads, IsCallOf, IsNextCall, calls_told, lead_in};
+//! How many of each seat's calls the entries tell that carry its number.
+ghost use Rattle.std.specs.Prelude.{◌≡◌, ◌↔◌, ◌+◌, ◌<◌, None, Some, length, IfOk, IsTrue, MatchOption};
+ghost use Rattle.c104_audit.specs.Audits.{told_reply};
+ghost use Rattle.c104_audit.specs.Tests.{AreCounts, AreLeads, AreTold, IsCallOf, IsNextCall, TellsNext, lead_in, lead_seat};
 ghost use Rattle.c104_net.specs.Leading.{act_event};
 
 use crate::calls::Call;
@@ -11,8 +11,10 @@ use c104_event::{Event, Port};
 use c104_net::Lead;
 use c104_node::{Act, Entry};
 use c104_switch::{ActionOf, Reply};
+use c104_token::NoMemory;
+use std::alloc::Global;
 
-/// Whether an act of the node at a place tells an event, where there are so many switches.
+/// Whether an act of the node at a place tells an event, where this is the number of switches.
 fn tells(switches: usize, place: usize, act: &Act, event: &Event) -> bool
     ensures { IsTrue result ↔ (act_event switches place act.now ≡ Some event.now) }
 {
@@ -68,55 +70,76 @@ fn is_call_of(switches: usize, place: usize, entry: &Entry, call: &Call) -> bool
         && is_reply_of(&entry.act, &entry.reply, &call.reply)
 }
 
-/// Whether an entry carries the number of a seat.
-fn carries(seat: usize, entry: &Entry) -> bool
-    ensures { result ≡ carries seat entry.now }
+/// Whether the call at a place of a list is what an entry tells that leads.
+fn is_next_call(switches: usize, place: usize, entry: &Entry, calls: &[Call], at: usize) -> bool
+    ensures next { IsTrue result ↔ IsNextCall switches place entry.now calls.now at }
+    ensures inside { IsTrue result → at < length calls.now }
 {
-    match entry.seat {
-        Some(own) => seat == own as usize,
-        None => false,
-    }
+    at < calls.len() && is_call_of(switches, place, entry, &calls[at])
 }
 
-/// The entry of one that leads, if it carries the number of a seat.
-fn carried_at<'a>(lists: &'a Lists, lead: &Lead, seat: usize) -> Option<&'a Entry>
-    ensures { MatchOption result
-        (carries seat (lead_in lists.now.traces lead.now).1.entry ≡ false)
-        (λ e. ((lead_in lists.now.traces lead.now).1.entry ≡ e.now) × (carries seat e.now ≡ true)) }
+/// How many of a seat's calls are told, with one more entry of it that leads: none where it tells another than the next.
+fn next_count(
+    switches: usize,
+    place: usize,
+    entry: &Entry,
+    calls: &[Call],
+    count: Option<usize>,
+) -> Option<usize>
+    ensures { TellsNext switches place entry.now calls.now count result }
 {
-    let Some(trace) = lists.traces.as_slice().get(lead.place) else {
-        return None;
-    };
-    let Some(entry) = trace.as_slice().get(lead.at) else {
-        return None;
-    };
-    if carries(seat, entry) {
-        Some(entry)
+    let count = count?;
+    if is_next_call(switches, place, entry, calls, count) {
+        Some(count + 1)
     } else {
         None
     }
 }
 
-/// Whether the call at a place of a list is what an entry tells that leads.
-fn is_next_call(switches: usize, place: usize, entry: &Entry, calls: &[Call], at: usize) -> bool
-    ensures { IsTrue result ↔ IsNextCall switches place entry.now calls.now at }
+/// An entry that leads, and its seat, if a seat asked for it.
+pub fn seated_entry<'a>(lists: &'a Lists, lead: &Lead) -> Option<(usize, &'a Entry)>
+    ensures { MatchOption result
+        (lead_seat lists.now lead.now ≡ None)
+        (λ seated. (lead_seat lists.now lead.now ≡ Some seated.0)
+        × ((lead_in lists.now.traces lead.now).1.entry ≡ seated.1.now)) }
 {
-    at < calls.len() && is_call_of(switches, place, entry, &calls[at])
+    let trace = lists.traces.as_slice().get(lead.place)?;
+    let entry = trace.as_slice().get(lead.at)?;
+    let seat = entry.seat? as usize;
+    Some((seat, entry))
 }
 
-/// Whether a seat's list is what the entries tell that carry its number.
-pub fn are_told(lists: &Lists, leads: &[Lead], seat: usize, calls: &[Call]) -> bool
-    requires { AreLeads lists.now leads.now }
-    ensures { IsTrue result ↔ (calls_told lists.now seat (lists_leads lists.now) ≡ calls.now) }
+/// Counts the call that the entry at a place tells of those that lead, at its seat.
+fn count_call(lists: &Lists, leads: &[Lead], at: usize, counts: &mut [Option<usize>])
+    requires leads { AreLeads lists.now leads.now }
+    requires at { at < length leads.now }
+    requires long { length counts.old ≡ length lists.now.calls }
+    ensures long { length counts.new ≡ length lists.now.calls }
+    ensures told { AreTold lists.now leads.now at counts.old → AreTold lists.now leads.now (at + 1) counts.new }
 {
-    let mut met = 0;
-    for lead in leads {
-        if let Some(entry) = carried_at(lists, lead, seat) {
-            if !is_next_call(lists.switches, lead.place, entry, calls, met) {
-                return false;
-            }
-            met += 1;
+    let lead = &leads[at];
+    if let Some((seat, entry)) = seated_entry(lists, lead) {
+        if seat < counts.len() {
+            let calls = lists.calls.as_slice()[seat].as_slice();
+            let count = counts[seat];
+            counts[seat] = next_count(lists.switches, lead.place, entry, calls, count);
         }
     }
-    met >= calls.len()
+}
+
+/// How many of each seat's calls the entries tell that carry its number, or none where they tell others. The only error
+/// is out of memory.
+pub fn told_counts(
+    alloc: Global,
+    lists: &Lists,
+    leads: &[Lead],
+) -> Result<Vec<Option<usize>>, NoMemory>
+    requires { AreLeads lists.now leads.now }
+    ensures { IfOk result (λ counts. AreCounts lists.now counts.items) }
+{
+    let mut counts = vec![in alloc; Some(0usize); lists.calls.as_slice().len()]?;
+    for at in 0..leads.len() {
+        count_call(lists, leads, at, &mut counts);
+    }
+    Ok(counts)
 }

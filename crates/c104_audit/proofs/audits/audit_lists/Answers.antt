@@ -1,3 +1,5 @@
+use Rattle.c104_audit.proofs.FirstFailures.{first_none}
+use Rattle.c104_audit.specs.Audits.{IsCalled}
 use Rattle.c104_audit.proofs.audits.audit_lists.Goals as goal
 
 pub returns-clause-audited : goal.returns-clause-audited
@@ -5,6 +7,6 @@ returns-clause-audited c = record {
   shaped = c.in_default.ensures;
   ordered = c.in_default-first_unordered.ensures;
   ended = c.in_default-first_unequal.ensures;
-  called = c.in_default-first_uncalled.ensures;
+  called = first_none (IsCalled c.args.lists.now) c.in_ok-uncalled.uncalled c.in_ok-uncalled.ensures (λ s is. c.in_default-uncalled.not-Some s is);
   before = c.in_default-first_changed.ensures;
 }

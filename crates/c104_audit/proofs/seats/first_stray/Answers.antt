@@ -1,5 +1,5 @@
-use Rattle.c104_audit.proofs.StraySeats.{strays_first}
+use Rattle.c104_audit.proofs.StraySeats.{strays_end}
 use Rattle.c104_audit.proofs.seats.first_stray.Goals as goal
 
 pub returns : goal.returns
-returns c = strays_first c.args.lists.now c.args.count c.find_stray.result c.find_stray.ensures
+returns c = strays_end c.args.lists.now c.args.count c.args.leads.now c.loop-lead.lead-index c.loop-lead.first c.loop-lead-test.false c.loop-lead.invariant

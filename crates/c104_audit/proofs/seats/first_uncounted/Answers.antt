@@ -3,7 +3,7 @@ use Rattle.c104_audit.proofs.CalledSeats.{called_past}
 use Rattle.c104_audit.proofs.FirstFailures.{below_next}
 use Rattle.c104_audit.specs.Audits.{IsCalled}
 use Rattle.c104_audit.specs.Firsts.{IsFirst}
-use Rattle.c104_audit.proofs.seats.first_uncalled.Goals as goal
+use Rattle.c104_audit.proofs.seats.first_uncounted.Goals as goal
 
 pub loop-seat-preserved : goal.loop-seat-preserved
 loop-seat-preserved c = below_next (IsCalled c.args.lists.now) c.loop-seat.seat c.loop-seat.invariant (c.is_called.ensures.0 c.if-not-is_called.false)

@@ -2,7 +2,7 @@ use Rattle.std.proofs.Common.{drop, map, ◌≡◌}
 use Rattle.c104_audit.specs.Audits.{lists_leads}
 use Rattle.c104_audit.specs.Firsts.{lower_of}
 use Rattle.c104_audit.specs.Tests.{lead_in, strays}
-use Rattle.c104_audit.proofs.seats.find_stray.Given as goal
+use Rattle.c104_audit.proofs.seats.first_stray.Given as goal
 
 -- the first so far, and that of what is left, is the first of all
 abbrev pub invariant-loop-lead : goal.invariant-loop-lead
