@@ -4,13 +4,13 @@ use Rattle.c104_audit.proofs.EqualWalks.{equal_answer, equal_fails, equal_next, 
 use Rattle.c104_audit.proofs.KeptElements.{drop_all, place_inside}
 use Rattle.c104_audit.specs.Audits.{carries, is_number, lists_leads}
 use Rattle.c104_audit.specs.Leads.{list_at}
-use Rattle.c104_audit.specs.Tests.{AreCounts, AreLeads, AreTold, IsListed, IsTold, IsToldAt, TellsNext, calls_told, lead_in, lead_seat}
+use Rattle.c104_audit.specs.Tests.{AreCounts, AreLeads, AreTold, IsTold, TellsNext, calls_told, lead_in, lead_seat}
 use Rattle.c104_audit.specs.declared.calls.Call.{Call}
 use Rattle.c104_audit.specs.declared.lists.Lists.{Lists}
 use Rattle.c104_net.specs.declared.leading.Lead.{Lead as Leading}
 use Rattle.c104_node.proofs.WireEnds.{get_set_other, get_set_same}
 use Rattle.c104_node.specs.declared.acts.Entry.{Entry}
-use Rattle.std.proofs.Common.{Bool, IsTrue, List, None, Option, Some, [], ap, arith, drop, false, get_or, length, map, nat_eq, nat_le, refl, replicate, slice_get, slice_set, subst, sym, true, ℕ, ◌+◌, ◌<◌, ◌≤◌, ◌∙◌, ◌∷◌, ◌≡◌, ◌≢◌, ◌↔◌}
+use Rattle.std.proofs.Common.{Bool, IsTrue, List, None, Option, Some, ap, arith, false, get_or, length, map, nat_eq, nat_le, refl, replicate, slice_get, slice_set, subst, sym, true, ℕ, ◌+◌, ◌<◌, ◌≤◌, ◌∙◌, ◌≡◌, ◌≢◌, ◌↔◌}
 use Rattle.std.proofs.lemmas.Bool.Decides.{nat_tests}
 use Rattle.std.proofs.lemmas.List.{get_or-replicate, length-replicate}
 use Rattle.std.proofs.lemmas.Option.{slice_get-get_or, slice_get_within}
@@ -110,7 +110,3 @@ module _ (lists : Lists) (leads : List Leading) where
           let answer : IsTrue (nat_le (length (list_at lists.calls s)) n) ↔ Whole s = equal_answer (Whole s) (Left lists s leads i) (list_at lists.calls s) n (ap (λ ls. calls_told lists s (map (lead_in lists.traces) ls)) (drop_all leads i past)) told.0 in
           let few = told.1 in
           (λ is. (let same : n ≡ length (list_at lists.calls s) = cc in answer.0 (grind (arith, nat_tests))), λ whole. (let yes = answer.1 whole in let same : n ≡ length (list_at lists.calls s) = grind (arith, nat_tests) in ap (λ k. Some (Some k)) same))
-
--- a seat's list is told and in order
-pub told_at : (lists : Lists) (s : ℕ) → (calls_told lists s (lists_leads lists) ≡ list_at lists.calls s) → IsListed lists.first (list_at lists.calls s) → IsToldAt lists s
-told_at lists s told listed = record { told = told; listed = listed }
