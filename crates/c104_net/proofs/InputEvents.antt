@@ -18,8 +18,8 @@ use Rattle.c104_net.proofs.PortChanges.{at, at_other}
 use Rattle.c104_net.proofs.TokenMoves.{claim_world, pass_world, read_world, still_world}
 use Rattle.c104_net.proofs.RandomHeaders.{random_length}
 use Rattle.c104_net.specs.Deliveries.{deletes}
-use Rattle.c104_run.proofs.EventSteps.{named_step}
-use Rattle.c104_run.specs.Network.{Network, network_of}
+use Rattle.c104_run.proofs.EventSteps.{claim_named, input_named}
+use Rattle.c104_run.specs.Network.{Network, network_of, network_step}
 use Rattle.c104_node.specs.Nodes.{Node, node_claim, node_input}
 use Rattle.c104_node.specs.Traced.{traced_kind}
 use Rattle.c104_node.specs.Traces.{part}
@@ -173,9 +173,9 @@ module _ (plan : Plan) (image : Image) (labelled : IsLabelled (routes_of plan im
         holds = k;
       }
 
-  pub input_kept : (net' : Network Traced) (s i word : ℕ) (r : Reply) → named_step traced_kind (network_of plan nodes) (event.Input s i word) ≡ Some (r, net') → Leaves plan image nodes net' (StillHolds plan image)
+  pub input_kept : (net' : Network Traced) (s i word : ℕ) (r : Reply) → network_step traced_kind (network_of plan nodes) (event.Input s i word) ≡ Some (r, net') → Leaves plan image nodes net' (StillHolds plan image)
   input_kept net' s i word r e =
-      given (step_at nodes s (node_input traced_kind i word)) _ (r, net') e (λ ended ea e2.
+      given (step_at nodes s (node_input traced_kind i word)) _ (r, net') (input_named traced_kind (network_of plan nodes) s i word ∙ e) (λ ended ea e2.
       at_place_made nodes s (node_input traced_kind i word) ended ea (λ n n' en en' hv. by_node n n' en en' ended hv e2))
     where
       by_node : (n n' : Node Traced) → slice_get nodes s ≡ Some n → node_input traced_kind i word n ≡ Some n' → (ended : List (Node Traced)) → slice_set nodes s n' ≡ ended → ◌≡◌ {A = Option (Reply × Network Traced)} (Some (reply.Done, network_of plan ended)) (Some (r, net')) → Leaves plan image nodes net' (StillHolds plan image)
@@ -233,9 +233,9 @@ module _ (plan : Plan) (image : Image) (labelled : IsLabelled (routes_of plan im
       kept_items false b' l v e = rw e refl
   claimed_kept s i o S eS free p ep y ph e f = absurd (cc)
 
-  pub claim_kept : (net' : Network Traced) (s i o : ℕ) (r : Reply) → named_step traced_kind (network_of plan nodes) (event.Claim s i o) ≡ Some (r, net') → Leaves plan image nodes net' (StillHolds plan image)
+  pub claim_kept : (net' : Network Traced) (s i o : ℕ) (r : Reply) → network_step traced_kind (network_of plan nodes) (event.Claim s i o) ≡ Some (r, net') → Leaves plan image nodes net' (StillHolds plan image)
   claim_kept net' s i o r e =
-      given (step_at nodes s (node_claim i o)) _ (r, net') e (λ ended ea e2.
+      given (step_at nodes s (node_claim i o)) _ (r, net') (claim_named traced_kind (network_of plan nodes) s i o ∙ e) (λ ended ea e2.
       at_place_made nodes s (node_claim i o) ended ea (λ n n' en en' hv. by_node n n' en en' ended hv e2))
     where
       by_node : (n n' : Node Traced) → slice_get nodes s ≡ Some n → node_claim i o n ≡ Some n' → (ended : List (Node Traced)) → slice_set nodes s n' ≡ ended → ◌≡◌ {A = Option (Reply × Network Traced)} (Some (reply.Done, network_of plan ended)) (Some (r, net')) → Leaves plan image nodes net' (StillHolds plan image)

@@ -7,7 +7,7 @@ use Rattle.c104_node.specs.Acts.{done_by, node_act, nodes_act, plain_reply, toke
 use Rattle.c104_plan.specs.Wiring.{peer}
 use Rattle.c104_event.specs.declared.events.Event.{Event}
 use Rattle.c104_event.specs.declared.events.Event.TheVariants as event
-use Rattle.c104_run.specs.EventActs.{acts_step, crossing_acts, event_acts, port_place}
+use Rattle.c104_run.specs.EventActs.{Ask, acts_step, ask_acts, crossing_acts, event_acts, event_ask, port_place}
 use Rattle.c104_node.specs.PortActs.{Acts, far_act, near_act}
 use Rattle.c104_run.specs.Network.{Network, network_of, network_step}
 use Rattle.c104_node.specs.Nodes.{Node, node_claim, node_credit_in, node_credit_out, node_drain, node_enter, node_input, node_leave}
@@ -30,7 +30,7 @@ IsOfRound (event.Control s bytes) = ⊥
 IsOfRound e = Unit {0}
 
 -- an act of such an event
-abbrev IsPlainAct : {A : Type 0} → ActOf A → Type 0
+abbrev pub IsPlainAct : {A : Type 0} → ActOf A → Type 0
 IsPlainAct (act.Step (action.Control bytes)) = ⊥
 IsPlainAct (act.Send packet) = ⊥
 IsPlainAct a = Unit {0}
@@ -39,17 +39,23 @@ abbrev ArePlain : {A : Type 0} → Acts A → Type 0
 ArePlain (Acts.Alone k a) = IsPlainAct a
 ArePlain (Acts.Joint p q crossing) = Unit {0}
 
-module _ (A : Type 0) where
-  crossing_plain : (crossing : Crossing) (p : Port) (o : Option Port) → IfSome (crossing_acts {A = A} crossing p o) ArePlain
-  crossing_plain crossing p None = tt
-  crossing_plain crossing p (Some q) = tt
+-- what such an event asks
+abbrev pub IsPlainAsk : {A : Type 0} → Ask A → Type 0
+IsPlainAsk (Ask.Alone k a) = IsPlainAct a
+IsPlainAsk (Ask.Over p crossing) = Unit {0}
 
-  event_plain : (plan : Plan) (e : Event) → IsOfRound e → IfSome (event_acts {A = A} plan e) ArePlain
-  event_plain plan (event.Cross p) of = crossing_plain Token p (peer plan p)
-  event_plain plan (event.Credit p) of = crossing_plain Grant p (peer plan p)
-  event_plain plan (event.Send t packet) of = absurd of
-  event_plain plan (event.Control s bytes) of = absurd of
-  event_plain plan e of = tt
+pub asks_plain : (A : Type 0) (plan : Plan) (e : Event) → IsOfRound e → IsPlainAsk {A = A} (event_ask plan e)
+asks_plain A plan (event.Send t packet) of = absurd of
+asks_plain A plan (event.Control s bytes) of = absurd of
+asks_plain A plan e of = tt
+
+acts_plain : {A : Type 0} (plan : Plan) (ask : Ask A) → IsPlainAsk ask → IfSome (ask_acts plan ask) ArePlain
+acts_plain plan (Ask.Alone k a) plain = plain
+acts_plain {A} plan (Ask.Over p crossing) plain = by_peer (peer plan p)
+  where
+    by_peer : (o : Option Port) → IfSome (crossing_acts {A = A} crossing p o) ArePlain
+    by_peer None = tt
+    by_peer (Some q) = tt
 
 -- how a node is changed by the steps of a round's events
 module _ {A : Type 0} (kind : Kind A) (Changed : Node A → Node A → Type 0)
@@ -111,6 +117,6 @@ module _ {A : Type 0} (kind : Kind A) (Changed : Node A → Node A → Type 0)
     round_keeps plan nodes e of r is holds =
         given (event_acts plan e) _ r is (λ acts known more.
         given (acts_step kind plan nodes acts) _ r more (λ v made last.
-        (let plain : ArePlain acts = subst (λ (o : Option (Acts A)). IfSome o ArePlain) known (event_plain A plan e of) in
+        (let plain : ArePlain acts = subst (λ (o : Option (Acts A)). IfSome o ArePlain) known (acts_plain plan (event_ask plan e) (asks_plain A plan e of)) in
         let same : ◌≡◌ {A = Reply × Network A} (plain_reply kind v.0, network_of plan v.1) r = cc in
         subst (λ (t : Reply × Network A). Holds t.1.nodes) same (acts_keep plan nodes acts plain v made holds))))

@@ -4,11 +4,16 @@ use Rattle.c104_plan.specs.Plans.{IsPlan, Plan}
 use Rattle.c104_plan.specs.Wiring.{peer}
 use Rattle.c104_plan.specs.declared.ports.Port.{Port}
 use Rattle.c104_event.specs.declared.events.Event.{Event}
+use Rattle.c104_event.specs.declared.faults.EventFault.{EventFault}
+use Rattle.c104_node.specs.declared.crossings.Crossing.{Crossing}
+use Rattle.c104_node.specs.declared.crossings.Crossing.TheVariants.{Grant, Token}
 use Rattle.c104_link.proofs.MadeSteps.{at_place_made, from_place_made, given, length-at_place, place_after_set, required, with_place_made}
 use Rattle.c104_link.specs.Buffers.{Incoming, Outgoing, incoming_accept, incoming_grant, outgoing_credited, outgoing_emit, outgoing_put, without_first}
-use Rattle.c104_link.specs.Steps.{joint_step_at, step_at, yield_step_at}
-use Rattle.c104_run.proofs.EventSteps.{by_name, named_step}
-use Rattle.c104_net.proofs.JointKeeps.{IsOfRound, round_keeps}
+use Rattle.c104_link.specs.Steps.{◌>>=◌, joint_step_at, step_at, yield_step_at}
+use Rattle.c104_run.specs.EventActs.{Ask, acts_step, ask_acts}
+use Rattle.c104_run.proofs.AskCases.{AreCases, of_event}
+use Rattle.c104_run.proofs.EventSteps.{claim_named, credit_named, cross_named, drain_named, input_named}
+use Rattle.c104_net.proofs.JointKeeps.{IsOfRound, IsPlainAsk, asks_plain, round_keeps}
 use Rattle.c104_run.proofs.BalanceWires.{peer_back}
 use Rattle.c104_net.proofs.LinkActs.{Matches, leave_same, credit_out_same}
 use Rattle.c104_node.proofs.NextTokens.{first_some}
@@ -17,7 +22,7 @@ use Rattle.c104_net.proofs.WorkSteps.{at_far, at_own, claim_work, credit_in_work
 use Rattle.c104_run.specs.Balance.{AreInPlace}
 use Rattle.c104_node.specs.Nodes.{is_switch, Node, node_claim, node_credit_in, node_credit_out, node_drain, node_enter, node_input, node_leave}
 use Rattle.c104_run.specs.Ends.{end_of}
-use Rattle.c104_run.specs.Network.{Network, network_of, network_step, terminal_place}
+use Rattle.c104_run.specs.Network.{Network, network_of, network_step, terminal_place, told_step, wired_fault}
 use Rattle.c104_run.specs.Standstill.{IsStarted, IsStartedNode, IsStartedSwitch}
 use Rattle.c104_node.specs.Terminals.{Terminal, terminal_credit_in, terminal_credit_out, terminal_drain, terminal_enter, terminal_leave}
 use Rattle.c104_node.proofs.NamedWires.{nodes_credit, nodes_cross}
@@ -65,9 +70,9 @@ module _ {A : Type 0} (kind : Kind A) (plan : Plan) (is_plan : IsPlan plan) (ran
   left_is : (told r : Reply) (after : List (Node A)) (net' : Network A) → ◌≡◌ {A = Option (Reply × Network A)} (Some (told, network_of plan after)) (Some (r, net')) → full_work plan rank ahead after + 1 ≤ full_work plan rank ahead nodes → Less net'
   left_is told r after net' e less = let d : network_of plan after ≡ net' = (some_pair_parts told r (network_of plan after) net' e).1 in subst Less d less
 
-  cross_less : (P : Port) (r : Reply) (net' : Network A) → named_step kind (network_of plan nodes) (event.Cross P) ≡ Some (r, net') → Less net'
+  cross_less : (P : Port) (r : Reply) (net' : Network A) → network_step kind (network_of plan nodes) (event.Cross P) ≡ Some (r, net') → Less net'
   cross_less P r net' e =
-      given (peer plan P) _ (r, net') e (λ Q eQ e1.
+      given (peer plan P) _ (r, net') (cross_named kind (network_of plan nodes) is_plan placed P ∙ e) (λ Q eQ e1.
       given (nodes_cross nodes (end_of plan P) (end_of plan Q)) _ (r, net') e1 (λ c ec e2.
       given (yield_step_at nodes (end_of plan P).node (node_leave (end_of plan P).link)) _ c ec (λ v ev f1.
       given (step_at v.1 (end_of plan Q).node (node_enter v.0 (end_of plan Q).link)) _ c f1 (λ after ea f2.
@@ -89,9 +94,9 @@ module _ {A : Type 0} (kind : Kind A) (plan : Plan) (is_plan : IsPlan plan) (ran
       let d : (v.0, after) ≡ c = cc in
       left_is (reply.Token (kind.plain c.0)) r c.1 net' e2 (subst (λ (z : A × List (Node A)). full_work plan rank ahead z.1 + 1 ≤ full_work plan rank ahead nodes) d (omega (arith, one, two, first, second, same, ahead_is, a, b))))))))))
 
-  credit_less : (P : Port) (r : Reply) (net' : Network A) → named_step kind (network_of plan nodes) (event.Credit P) ≡ Some (r, net') → Less net'
+  credit_less : (P : Port) (r : Reply) (net' : Network A) → network_step kind (network_of plan nodes) (event.Credit P) ≡ Some (r, net') → Less net'
   credit_less P r net' e =
-      given (peer plan P) _ (r, net') e (λ Q eQ e1.
+      given (peer plan P) _ (r, net') (credit_named kind (network_of plan nodes) is_plan placed P ∙ e) (λ Q eQ e1.
       given (nodes_credit nodes (end_of plan P) (end_of plan Q)) _ (r, net') e1 (λ after ec e2.
       given (step_at nodes (end_of plan P).node (node_credit_out (end_of plan P).link)) _ after ec (λ mid ev f1.
       at_place_made nodes (end_of plan P).node (node_credit_out (end_of plan P).link) mid ev (λ n n' en en' hv.
@@ -108,16 +113,16 @@ module _ {A : Type 0} (kind : Kind A) (plan : Plan) (is_plan : IsPlan plan) (ran
       let b : full_work plan rank ahead (slice_set mid (end_of plan Q).node m') ≡ full_work plan rank ahead after = ap (full_work plan rank ahead) hm in
       left_is reply.Done r after net' e2 (omega (arith, one, two, first, second, a, b))))))))
 
-  drain_less : (t : ℕ) (r : Reply) (net' : Network A) → named_step kind (network_of plan nodes) (event.Drain t) ≡ Some (r, net') → Less net'
+  drain_less : (t : ℕ) (r : Reply) (net' : Network A) → network_step kind (network_of plan nodes) (event.Drain t) ≡ Some (r, net') → Less net'
   drain_less t r net' e =
-      given (yield_step_at nodes (terminal_place plan t) node_drain) _ (r, net') e (λ v ev e2.
+      given (yield_step_at nodes (terminal_place plan t) node_drain) _ (r, net') (drain_named kind (network_of plan nodes) t ∙ e) (λ v ev e2.
       from_place_made nodes (terminal_place plan t) node_drain v ev (λ n y en ey hv.
       (let one = one_less (terminal_place plan t) n y.1 en (drain_work plan rank ahead (terminal_place plan t) n y ey) in
       left_is (reply.Token (kind.plain v.0)) r v.1 net' e2 (subst (λ (z : A × List (Node A)). full_work plan rank ahead z.1 + 1 ≤ full_work plan rank ahead nodes) hv one))))
 
-  input_less : (s i word : ℕ) (r : Reply) (net' : Network A) → named_step kind (network_of plan nodes) (event.Input s i word) ≡ Some (r, net') → Less net'
+  input_less : (s i word : ℕ) (r : Reply) (net' : Network A) → network_step kind (network_of plan nodes) (event.Input s i word) ≡ Some (r, net') → Less net'
   input_less s i word r net' e =
-      given (step_at nodes s (node_input kind i word)) _ (r, net') e (λ ended ea e2.
+      given (step_at nodes s (node_input kind i word)) _ (r, net') (input_named kind (network_of plan nodes) s i word ∙ e) (λ ended ea e2.
       at_place_made nodes s (node_input kind i word) ended ea (λ n n' en en' hv. left_is reply.Done r ended net' e2 (subst (λ z. full_work plan rank ahead z + 1 ≤ full_work plan rank ahead nodes) hv (one_less s n n' en (by_node n n' en en')))))
     where
       by_node : (n n' : Node A) → slice_get nodes s ≡ Some n → node_input kind i word n ≡ Some n' → full_node plan rank ahead s n' + 1 ≤ full_node plan rank ahead s n
@@ -135,9 +140,9 @@ module _ {A : Type 0} (kind : Kind A) (plan : Plan) (is_plan : IsPlan plan) (ran
           let d : ◌≡◌ {A = Node A} (node.Switch (with_sides S (slice_set S.inputs i y.0, y.1))) n' = ap (λ (z : List (Input A) × List (Outgoing A)). node.Switch (with_sides S z)) d1 ∙ ap node.Switch b ∙ c in
           subst (λ z. full_node plan rank ahead s z + 1 ≤ full_node plan rank ahead s (node.Switch S)) d (omega (arith, less, all)))))))))
 
-  claim_less : (s i o : ℕ) (r : Reply) (net' : Network A) → named_step kind (network_of plan nodes) (event.Claim s i o) ≡ Some (r, net') → Less net'
+  claim_less : (s i o : ℕ) (r : Reply) (net' : Network A) → network_step kind (network_of plan nodes) (event.Claim s i o) ≡ Some (r, net') → Less net'
   claim_less s i o r net' e =
-      given (step_at nodes s (node_claim i o)) _ (r, net') e (λ ended ea e2.
+      given (step_at nodes s (node_claim i o)) _ (r, net') (claim_named kind (network_of plan nodes) s i o ∙ e) (λ ended ea e2.
       at_place_made nodes s (node_claim i o) ended ea (λ n n' en en' hv. left_is reply.Done r ended net' e2 (subst (λ z. full_work plan rank ahead z + 1 ≤ full_work plan rank ahead nodes) hv (one_less s n n' en (by_node n n' en en')))))
     where
       by_node : (n n' : Node A) → slice_get nodes s ≡ Some n → node_claim i o n ≡ Some n' → full_node plan rank ahead s n' + 1 ≤ full_node plan rank ahead s n
@@ -154,17 +159,27 @@ module _ {A : Type 0} (kind : Kind A) (plan : Plan) (is_plan : IsPlan plan) (ran
           let d : ◌≡◌ {A = Node A} (node.Switch (with_sides S (slice_set S.inputs i y.0, y.1))) n' = ap (λ (z : List (Input A) × List (Outgoing A)). node.Switch (with_sides S z)) d1 ∙ ap node.Switch b ∙ c in
           subst (λ z. full_node plan rank ahead s z + 1 ≤ full_node plan rank ahead s (node.Switch S)) d (omega (arith, less, all))))))))
 
-  by_event : (e : Event) (r : Reply) (net' : Network A) → IsOfRound e → named_step kind (network_of plan nodes) e ≡ Some (r, net') → Less net'
-  by_event (event.Cross P) r net' of is = cross_less P r net' is
-  by_event (event.Credit P) r net' of is = credit_less P r net' is
-  by_event (event.Input s i word) r net' of is = input_less s i word r net' is
-  by_event (event.Claim s i o) r net' of is = claim_less s i o r net' is
-  by_event (event.Drain t) r net' of is = drain_less t r net' is
-  by_event e r net' of is = absurd of
+  -- what is asked in a round leaves less, where it was ready
+  abbrev LeavesLess : Option EventFault → Ask A → Type 0
+  LeavesLess f ask = IsPlainAsk ask → (r : Reply) (net' : Network A) → (ask_acts plan ask >>= (λ acts. told_step kind (network_of plan nodes) (acts_step kind plan nodes acts))) ≡ Some (r, net') → Less net'
+
+  over_less : (p : Port) (crossing : Crossing) → LeavesLess (wired_fault plan p) (Ask.Over p crossing)
+  over_less p Token of = cross_less p
+  over_less p Grant of = credit_less p
+
+  steps_less : AreCases plan LeavesLess
+  steps_less = record {
+    over = over_less;
+    turn = λ s i word other of. input_less s i word;
+    claim = λ s i o other of. claim_less s i o;
+    control = λ s bytes other of. absurd of;
+    send = λ t packet other of. absurd of;
+    drain = λ t other of. drain_less t;
+  }
 
   -- each event of a round that is done leaves less
   pub event_less : (e : Event) (r : Reply) (net' : Network A) → IsOfRound e → network_step kind (network_of plan nodes) e ≡ Some (r, net') → Less net'
-  event_less e r net' of is = by_event e r net' of (sym (by_name kind (network_of plan nodes) is_plan placed e) ∙ is)
+  event_less e r net' of is = of_event plan LeavesLess steps_less e (asks_plain A plan e of) r net' is
 
 -- what keeps a node started
 module _ {A : Type 0} where

@@ -28,7 +28,7 @@ use Rattle.c104_switch.specs.declared.actions.ReplyOf.TheVariants as reply
 
 module _ {A : Type 0} (kind : Kind A) where
   -- acts with plain tokens
-  abbrev plain_acts : Acts A → Acts PlainToken
+  abbrev pub plain_acts : Acts A → Acts PlainToken
   plain_acts (Acts.Alone k a) = Acts.Alone k (plain_act kind a)
   plain_acts (Acts.Joint p q crossing) = Acts.Joint p q crossing
 
@@ -37,7 +37,7 @@ module _ {A : Type 0} (kind : Kind A) where
   crossing_plain crossing p None = refl
   crossing_plain crossing p (Some q) = refl
 
-  acts_plain : (plan : Plan) (e : Event) → event_acts plan e ≡ option_map plain_acts (event_acts plan e)
+  pub acts_plain : (plan : Plan) (e : Event) → event_acts plan e ≡ option_map plain_acts (event_acts plan e)
   acts_plain plan (event.Cross p) = crossing_plain Token p (peer plan p)
   acts_plain plan (event.Credit p) = crossing_plain Grant p (peer plan p)
   acts_plain plan e = refl

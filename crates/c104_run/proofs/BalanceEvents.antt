@@ -1,20 +1,24 @@
 -- Each event keeps every network in balance.
 use Rattle.std.proofs.Common.{◌≡◌, inl, inr, Bool, false, List, Option, Some, None, Result, refl, sym, ap, subst, ◌∙◌}
 use Rattle.c104_token.specs.Kinds.{Kind}
-use Rattle.c104_link.specs.Steps.{step_at, yield_step_at}
+use Rattle.c104_link.specs.Steps.{◌>>=◌, step_at, yield_step_at}
 use Rattle.c104_link.proofs.MadeSteps.{given}
 use Rattle.c104_switch.specs.Actions.{Reply}
 use Rattle.c104_switch.specs.declared.actions.ReplyOf.TheVariants as reply
 use Rattle.c104_plan.specs.Plans.{Plan, IsPlan}
 use Rattle.c104_plan.specs.Wiring.{peer}
 use Rattle.c104_event.specs.declared.events.Event.{Event}
-use Rattle.c104_event.specs.declared.events.Event.TheVariants as event
+use Rattle.c104_plan.specs.declared.ports.Port.{Port}
+use Rattle.c104_node.specs.declared.crossings.Crossing.{Crossing}
+use Rattle.c104_node.specs.declared.crossings.Crossing.TheVariants.{Token, Grant}
 use Rattle.c104_event.specs.declared.faults.EventFault.{EventFault}
 use Rattle.c104_node.specs.Nodes.{Node, node_input, node_claim, node_control, node_send, node_drain}
 use Rattle.c104_node.proofs.NamedWires.{nodes_cross, nodes_credit}
 use Rattle.c104_run.specs.Ends.{end_of}
-use Rattle.c104_run.proofs.EventSteps.{by_name, named_step}
-use Rattle.c104_run.specs.Network.{Network, network_of, network_step, terminal_place, event_fault, event_limit, outcome_within_limit}
+use Rattle.c104_run.specs.EventActs.{Ask, acts_step, ask_acts}
+use Rattle.c104_run.proofs.AskCases.{AreCases, of_event}
+use Rattle.c104_run.proofs.EventSteps.{claim_named, control_named, credit_named, cross_named, drain_named, input_named, send_named}
+use Rattle.c104_run.specs.Network.{Network, network_of, network_step, told_step, wired_fault, terminal_place, event_fault, event_limit, outcome_within_limit}
 use Rattle.c104_run.specs.Network.{outcome_if_ready, outcome_if_possible, AnswersEvent, AnswersWith}
 use Rattle.c104_run.specs.Balance.{IsSteady}
 use Rattle.c104_run.proofs.BalanceNodes.{input_rests, claim_rests, control_rests, send_rests, drain_rests}
@@ -30,25 +34,33 @@ module _ {A : Type 0} (kind : Kind A) (plan : Plan) (is_plan : IsPlan plan) (nod
       let same : ◌≡◌ {A = Reply × Network A} (told, network_of plan after) r = cc in
       subst (λ (r : Reply × Network A). IsSteady r.1) same holds
 
-  -- what an event leaves, where it was ready
-  named_steady : (e : Event) (r : Reply × Network A) → named_step kind net e ≡ Some r → IsSteady r.1
-  named_steady (event.Cross p) r is = given (peer plan p) _ r is (λ q wired more. given (nodes_cross nodes (end_of plan p) (end_of plan q)) _ r more (λ v made last.
+  -- what is left of what was asked, where it was ready
+  abbrev LeavesSteady : Option EventFault → Ask A → Type 0
+  LeavesSteady f ask = (r : Reply × Network A) → (ask_acts plan ask >>= (λ acts. told_step kind net (acts_step kind plan nodes acts))) ≡ Some r → IsSteady r.1
+
+  over_steady : (p : Port) (crossing : Crossing) → LeavesSteady (wired_fault plan p) (Ask.Over p crossing)
+  over_steady p Token r is = given (peer plan p) _ r (cross_named kind net is_plan steady.in_place p ∙ is) (λ q wired more. given (nodes_cross nodes (end_of plan p) (end_of plan q)) _ r more (λ v made last.
       by_last (reply.Token (kind.plain v.0)) v.1 r last (steady_crossed plan is_plan p q wired nodes v made steady)))
-  named_steady (event.Credit p) r is = given (peer plan p) _ r is (λ q wired more. given (nodes_credit nodes (end_of plan p) (end_of plan q)) _ r more (λ v made last.
+  over_steady p Grant r is = given (peer plan p) _ r (credit_named kind net is_plan steady.in_place p ∙ is) (λ q wired more. given (nodes_credit nodes (end_of plan p) (end_of plan q)) _ r more (λ v made last.
       by_last reply.Done v r last (steady_credited plan is_plan p q wired nodes v made steady)))
-  named_steady (event.Input s l word) r is = given (step_at nodes s (node_input kind l word)) _ r is (λ v made last.
-      by_last reply.Done v r last (steady_at plan nodes v s (node_input kind l word) made (input_rests kind l word) steady))
-  named_steady (event.Claim s i o) r is = given (step_at nodes s (node_claim i o)) _ r is (λ v made last.
-      by_last reply.Done v r last (steady_at plan nodes v s (node_claim i o) made (claim_rests i o) steady))
-  named_steady (event.Control s bytes) r is = given (yield_step_at nodes s (node_control bytes)) _ r is (λ v made last.
-      by_last (reply.Control v.0) v.1 r last (steady_from plan nodes s (node_control bytes) v made (control_rests bytes) steady))
-  named_steady (event.Send t packet) r is = given (step_at nodes (terminal_place plan t) (node_send kind t packet)) _ r is (λ v made last.
-      by_last reply.Done v r last (steady_at plan nodes v (terminal_place plan t) (node_send kind t packet) made (send_rests kind t packet) steady))
-  named_steady (event.Drain t) r is = given (yield_step_at nodes (terminal_place plan t) node_drain) _ r is (λ v made last.
-      by_last (reply.Token (kind.plain v.0)) v.1 r last (steady_from plan nodes (terminal_place plan t) node_drain v made drain_rests steady))
+
+  steps_steady : AreCases plan LeavesSteady
+  steps_steady = record {
+    over = over_steady;
+    turn = λ s l word other r is. given (step_at nodes s (node_input kind l word)) _ r (input_named kind net s l word ∙ is) (λ v made last.
+        by_last reply.Done v r last (steady_at plan nodes v s (node_input kind l word) made (input_rests kind l word) steady));
+    claim = λ s i o other r is. given (step_at nodes s (node_claim i o)) _ r (claim_named kind net s i o ∙ is) (λ v made last.
+        by_last reply.Done v r last (steady_at plan nodes v s (node_claim i o) made (claim_rests i o) steady));
+    control = λ s bytes other r is. given (yield_step_at nodes s (node_control bytes)) _ r (control_named kind net s bytes ∙ is) (λ v made last.
+        by_last (reply.Control v.0) v.1 r last (steady_from plan nodes s (node_control bytes) v made (control_rests bytes) steady));
+    send = λ t packet other r is. given (step_at nodes (terminal_place plan t) (node_send kind t packet)) _ r (send_named kind net t packet ∙ is) (λ v made last.
+        by_last reply.Done v r last (steady_at plan nodes v (terminal_place plan t) (node_send kind t packet) made (send_rests kind t packet) steady));
+    drain = λ t other r is. given (yield_step_at nodes (terminal_place plan t) node_drain) _ r (drain_named kind net t ∙ is) (λ v made last.
+        by_last (reply.Token (kind.plain v.0)) v.1 r last (steady_from plan nodes (terminal_place plan t) node_drain v made drain_rests steady));
+  }
 
   step_steady : (e : Event) (r : Reply × Network A) → network_step kind net e ≡ Some r → IsSteady r.1
-  step_steady e r is = named_steady e r (sym (by_name kind net is_plan steady.in_place e) ∙ is)
+  step_steady e = of_event plan LeavesSteady steps_steady e
 
   by_limit : (limit : Option EventFault) (r : Reply × Network A) → IsSteady r.1 → IsSteady (outcome_within_limit kind net limit r).1
   by_limit None r holds = holds

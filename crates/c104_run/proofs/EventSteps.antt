@@ -1,9 +1,8 @@
--- An event by its name: in a network of a plan whose nodes stand in their places, the step of the acts of an event is the
--- step that its name says.
+-- What an event does, as the steps of nodes that are named for it: the step of its acts is that of a turn, a claim, a
+-- command, a packet or a token's arrival; and, in a network of a plan whose nodes stand in their places, of a crossing.
 use Rattle.c104_plan.specs.Plans.{IsPlan, Plan}
 use Rattle.c104_plan.specs.Wiring.{peer}
 use Rattle.c104_plan.specs.declared.ports.Port.{Port}
-use Rattle.c104_event.specs.declared.events.Event.{Event}
 use Rattle.c104_link.proofs.MadeSteps.{at_place_made, from_place_made}
 use Rattle.c104_link.specs.Steps.{◌>>=◌, step_at, yield_step_at}
 use Rattle.c104_run.proofs.BalanceWires.{nodes_apart, peer_back, switch_inside}
@@ -48,22 +47,8 @@ module _ {A : Type 0} (kind : Kind A) where
   abbrev pub control_step : Network A → Option (List ℕ × List (Node A)) → Option (Reply × Network A)
   control_step net made = made >>= (λ r. Some (reply.Control r.0, with_nodes net r.1))
 
-  -- what an event answers and leaves, by the step that its name says
-  abbrev pub named_step : Network A → Event → Option (Reply × Network A)
-  named_step net (event.Cross p) = peer net.plan p >>= (λ q.
-      token_step net (nodes_cross net.nodes (end_of net.plan p) (end_of net.plan q)))
-  named_step net (event.Credit p) = peer net.plan p >>= (λ q.
-      done_step net (nodes_credit net.nodes (end_of net.plan p) (end_of net.plan q)))
-  named_step net (event.Input s l word) = done_step net (step_at net.nodes s (node_input kind l word))
-  named_step net (event.Claim s i o) = done_step net (step_at net.nodes s (node_claim i o))
-  named_step net (event.Control s bytes) = control_step net (yield_step_at net.nodes s (node_control bytes))
-  named_step net (event.Send t packet) =
-      done_step net (step_at net.nodes (terminal_place net.plan t) (node_send kind t packet))
-  named_step net (event.Drain t) =
-      token_step net (yield_step_at net.nodes (terminal_place net.plan t) node_drain)
-
 -- whether a port is a switch's
-abbrev is_switch_port : Port → Bool
+abbrev pub is_switch_port : Port → Bool
 is_switch_port (port.Switch s l) = true
 is_switch_port (port.Terminal t) = false
 
@@ -162,7 +147,7 @@ module _ {A : Type 0} (kind : Kind A) where
 
   module _ (plan : Plan) (is_plan : IsPlan plan) (nodes : List (Node A)) (placed : AreInPlace plan nodes) where
     -- the node at a wired port is of the port's kind
-    fits_there : (p q : Port) (n : Node A) → peer plan p ≡ Some q → slice_get nodes (port_place plan p) ≡ Some n → is_switch n ≡ is_switch_port p
+    pub fits_there : (p q : Port) (n : Node A) → peer plan p ≡ Some q → slice_get nodes (port_place plan p) ≡ Some n → is_switch n ≡ is_switch_port p
     fits_there p q n wired at = sym (ap (part false is_switch) at) ∙ in_place plan nodes placed (port_place plan p) ∙ by_port p q wired
       where
         by_port : (p q : Port) → peer plan p ≡ Some q → is_switch_place plan (port_place plan p) ≡ is_switch_port p
@@ -219,7 +204,7 @@ module _ {A : Type 0} (kind : Kind A) where
               (λ m at. credit_in_is plan q m (far_fits y m (ap (λ ns. slice_get ns (port_place plan q)) set ∙ at))))
               ∙ by_made (step_at granted (port_place plan q) (node_credit_in (end_of plan q).link)))
 
-  -- what an event of one node answers and leaves needs no more
+  -- what an event of one node answers and leaves
   pub input_named : (net : Network A) (s l word : ℕ) → done_step kind net (step_at net.nodes s (node_input kind l word)) ≡ network_step kind net (event.Input s l word)
   input_named net s l word = done_alone net s (s - length net.plan.switches) (act.Step (action.Input l word)) (node_input kind l word) (input_act l word (s - length net.plan.switches))
 
@@ -237,27 +222,21 @@ module _ {A : Type 0} (kind : Kind A) where
   pub drain_named : (net : Network A) (t : ℕ) → token_step kind net (yield_step_at net.nodes (terminal_place net.plan t) node_drain) ≡ network_step kind net (event.Drain t)
   drain_named net t = token_alone net (terminal_place net.plan t) (terminal_place net.plan t - length net.plan.switches) act.Drain node_drain (λ n. refl)
 
-  -- the step that the name of an event says is the step of its acts
-  named_is : (net : Network A) → IsPlan net.plan → AreInPlace net.plan net.nodes → (e : Event) → named_step kind net e ≡ network_step kind net e
-  named_is net is_plan placed (event.Cross p) = by_peer (peer net.plan p) refl
-    where
-      by_peer : (o : Option Port) → peer net.plan p ≡ o → (o >>= (λ q. token_step kind net (nodes_cross net.nodes (end_of net.plan p) (end_of net.plan q)))) ≡ (crossing_acts Token p o >>= (λ acts. told_step kind net (acts_step kind net.plan net.nodes acts)))
-      by_peer None wired = refl
-      by_peer (Some q) wired = token_told net (nodes_cross net.nodes (end_of net.plan p) (end_of net.plan q)) ∙ ap (told_step kind net) (sym (cross_is net.plan is_plan net.nodes placed p q wired))
-  named_is net is_plan placed (event.Credit p) = by_peer (peer net.plan p) refl
-    where
-      by_peer : (o : Option Port) → peer net.plan p ≡ o → (o >>= (λ q. done_step kind net (nodes_credit net.nodes (end_of net.plan p) (end_of net.plan q)))) ≡ (crossing_acts Grant p o >>= (λ acts. told_step kind net (acts_step kind net.plan net.nodes acts)))
-      by_peer None wired = refl
-      by_peer (Some q) wired = done_told net (nodes_credit net.nodes (end_of net.plan p) (end_of net.plan q)) ∙ ap (told_step kind net) (sym (credit_is net.plan is_plan net.nodes placed p q wired))
-  named_is net is_plan placed (event.Input s l word) = input_named net s l word
-  named_is net is_plan placed (event.Claim s i o) = claim_named net s i o
-  named_is net is_plan placed (event.Control s bytes) = control_named net s bytes
-  named_is net is_plan placed (event.Send t packet) = send_named net t packet
-  named_is net is_plan placed (event.Drain t) = drain_named net t
+  -- what crosses a wire, in a network of a plan whose nodes stand in their places
+  module _ (net : Network A) (is_plan : IsPlan net.plan) (placed : AreInPlace net.plan net.nodes) (p : Port) where
+    pub cross_named : (peer net.plan p >>= (λ q. token_step kind net (nodes_cross net.nodes (end_of net.plan p) (end_of net.plan q)))) ≡ network_step kind net (event.Cross p)
+    cross_named = by_peer (peer net.plan p) refl
+      where
+        by_peer : (o : Option Port) → peer net.plan p ≡ o → (o >>= (λ q. token_step kind net (nodes_cross net.nodes (end_of net.plan p) (end_of net.plan q)))) ≡ (crossing_acts Token p o >>= (λ acts. told_step kind net (acts_step kind net.plan net.nodes acts)))
+        by_peer None wired = refl
+        by_peer (Some q) wired = token_told net (nodes_cross net.nodes (end_of net.plan p) (end_of net.plan q)) ∙ ap (told_step kind net) (sym (cross_is net.plan is_plan net.nodes placed p q wired))
 
-  -- what an event answers and leaves, by its name
-  pub by_name : (net : Network A) → IsPlan net.plan → AreInPlace net.plan net.nodes → (e : Event) → network_step kind net e ≡ named_step kind net e
-  by_name net is_plan placed e = sym (named_is net is_plan placed e)
+    pub credit_named : (peer net.plan p >>= (λ q. done_step kind net (nodes_credit net.nodes (end_of net.plan p) (end_of net.plan q)))) ≡ network_step kind net (event.Credit p)
+    credit_named = by_peer (peer net.plan p) refl
+      where
+        by_peer : (o : Option Port) → peer net.plan p ≡ o → (o >>= (λ q. done_step kind net (nodes_credit net.nodes (end_of net.plan p) (end_of net.plan q)))) ≡ (crossing_acts Grant p o >>= (λ acts. told_step kind net (acts_step kind net.plan net.nodes acts)))
+        by_peer None wired = refl
+        by_peer (Some q) wired = done_told net (nodes_credit net.nodes (end_of net.plan p) (end_of net.plan q)) ∙ ap (told_step kind net) (sym (credit_is net.plan is_plan net.nodes placed p q wired))
 
   -- a command of a switch that stands there is replied to
   module _ (net : Network A) (k : ℕ) (bytes : List ℕ) (s : Switch A) (here : nat_lt k (length net.plan.switches) ≡ true) (there : slice_get net.nodes k ≡ Some (node.Switch s)) where

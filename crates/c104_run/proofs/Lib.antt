@@ -3,7 +3,6 @@ pub mod ActAnswers
 pub mod ActAttempts
 pub mod EventSteps
 pub mod FarPorts
-pub mod CrossingActs
 pub mod FarEndLists
 pub mod Running
 pub mod RunRecords
@@ -29,6 +28,7 @@ pub mod PlanBuffers
 pub mod BalanceWires
 pub mod BalancePlaces
 pub mod BalanceTurns
+pub mod AskCases
 pub mod BalanceControl
 pub mod BalanceNodes
 pub mod BalanceSteps

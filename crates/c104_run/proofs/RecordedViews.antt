@@ -1,5 +1,5 @@
 -- What is seen of a network over any kind of token is what is seen over plain tokens.
-use Rattle.std.proofs.Common.{◌≡◌, ◌∙◌, ◌&&◌, is_some, ℕ, Bool, false, List, [], ◌∷◌, Option, Some, None, if◌then◌else◌, length, map, nat_lt, option_map, slice_get, refl, ap}
+use Rattle.std.proofs.Common.{◌≡◌, ◌∙◌, ◌&&◌, is_some, ℕ, Bool, false, List, [], ◌∷◌, Option, Some, None, if◌then◌else◌, length, map, nat_lt, option_map, slice_get, refl, ap, ◌-◌}
 use Rattle.std.proofs.lemmas.List.{length-map}
 use Rattle.std.proofs.lemmas.Option.{slice_get-map}
 use Rattle.std.specs.Option.{option_map_or, option_or}
@@ -17,18 +17,22 @@ use Rattle.c104_switch.specs.Views.{owner_from, phase_view, sides_view}
 use Rattle.c104_switch.specs.declared.phase.Phase.TheVariants.{Head, Stream, Want}
 use Rattle.c104_switch.specs.declared.unready.Unready.{Unready}
 use Rattle.c104_switch.specs.declared.unready.Unready.TheVariants.{NoLink, NoToken, NotStarted}
-use Rattle.c104_plan.specs.Wiring.{peer}
-use Rattle.c104_plan.specs.declared.ports.Port.{Port}
 use Rattle.c104_plan.specs.declared.ports.Port.TheVariants as port
 use Rattle.c104_event.specs.declared.events.Event.{Event}
-use Rattle.c104_event.specs.declared.events.Event.TheVariants as event
+use Rattle.c104_switch.specs.declared.actions.ActionOf.TheVariants as action
+use Rattle.c104_node.specs.PortActs.{Acts}
+use Rattle.c104_node.specs.declared.acts.ActOf.TheVariants as act
+use Rattle.c104_node.specs.declared.crossings.Crossing.{Crossing}
+use Rattle.c104_node.specs.declared.crossings.Crossing.TheVariants as crossing
+use Rattle.c104_run.specs.EventActs.{event_acts}
+use Rattle.c104_run.proofs.ActAnswers.{acts_plain, plain_acts}
 use Rattle.c104_node.specs.declared.node.NodeOf.TheVariants as node
 use Rattle.c104_run.specs.declared.reason.Reason.{Reason}
 use Rattle.c104_run.specs.Ends.{end_of}
 use Rattle.c104_run.specs.Network.{event_fault, network_peek, terminal_place, Network}
 use Rattle.c104_node.specs.Nodes.{node_peek, Node}
-use Rattle.c104_run.specs.Reasons.{claim_reason, end_why, event_why, network_why, port_reason, unless_refused, wire_why}
-use Rattle.c104_node.specs.NodeReasons.{node_claim_why, node_credit_in_why, node_credit_out_why, node_drain_why, node_enter_why, node_input_why, node_leave_why}
+use Rattle.c104_run.specs.Reasons.{acts_why, claim_reason, end_why, event_why, far_why, near_why, network_why, port_reason, unless_refused}
+use Rattle.c104_node.specs.NodeReasons.{node_claim_why, node_drain_why, node_input_why}
 use Rattle.c104_node.specs.MappedNodes.{map_input, map_node, map_outgoing}
 use Rattle.c104_run.specs.Standstill.{has_reason, have_reasons}
 use Rattle.c104_node.specs.Views.{node_link_view, node_sent_packet, node_terminal_view}
@@ -127,21 +131,17 @@ module _ {A : Type 0} (kind : Kind A) where
   wanted_plain settings o owner t q (Want b g) = rw (length-map q.items kind.plain, length-map b kind.plain) refl
   wanted_plain settings o owner t q ph = refl
 
-  enter_node : (l : ℕ) (n : Node A) → node_enter_why l (map_node kind.plain n) ≡ node_enter_why l n
-  enter_node l (node.Switch s) = why_plain (map_input kind.plain) _ _ (λ p. refl) s.inputs l
-  enter_node l (node.Terminal t) = refl
+  near_node : (crossing : Crossing) (l : ℕ) (n : Node A) → near_why crossing l (map_node kind.plain n) ≡ near_why crossing l n
+  near_node crossing.Token l (node.Switch s) = why_plain (map_outgoing kind.plain) emit_why emit_why emit_plain s.outputs l
+  near_node crossing.Token l (node.Terminal t) = emit_plain t.output
+  near_node crossing.Grant l (node.Switch s) = why_plain (map_input kind.plain) (λ (p : Input A). unless s.started NotStarted (grant_why p.buffer)) (λ (p : Input Token). unless s.started NotStarted (grant_why p.buffer)) (λ p. ap (unless s.started NotStarted) (grant_plain p.buffer)) s.inputs l
+  near_node crossing.Grant l (node.Terminal t) = grant_plain t.input
 
-  leave_node : (l : ℕ) (n : Node A) → node_leave_why l (map_node kind.plain n) ≡ node_leave_why l n
-  leave_node l (node.Switch s) = why_plain (map_outgoing kind.plain) emit_why emit_why emit_plain s.outputs l
-  leave_node l (node.Terminal t) = emit_plain t.output
-
-  credit_out_node : (l : ℕ) (n : Node A) → node_credit_out_why l (map_node kind.plain n) ≡ node_credit_out_why l n
-  credit_out_node l (node.Switch s) = why_plain (map_input kind.plain) (λ (p : Input A). unless s.started NotStarted (grant_why p.buffer)) (λ (p : Input Token). unless s.started NotStarted (grant_why p.buffer)) (λ p. ap (unless s.started NotStarted) (grant_plain p.buffer)) s.inputs l
-  credit_out_node l (node.Terminal t) = grant_plain t.input
-
-  credit_in_node : (l : ℕ) (n : Node A) → node_credit_in_why l (map_node kind.plain n) ≡ node_credit_in_why l n
-  credit_in_node l (node.Switch s) = why_plain (map_outgoing kind.plain) _ _ (λ q. refl) s.outputs l
-  credit_in_node l (node.Terminal t) = refl
+  far_node : (crossing : Crossing) (l : ℕ) (n : Node A) → far_why crossing l (map_node kind.plain n) ≡ far_why crossing l n
+  far_node crossing.Token l (node.Switch s) = why_plain (map_input kind.plain) _ _ (λ p. refl) s.inputs l
+  far_node crossing.Grant l (node.Switch s) = why_plain (map_outgoing kind.plain) _ _ (λ q. refl) s.outputs l
+  far_node crossing.Token l (node.Terminal t) = refl
+  far_node crossing.Grant l (node.Terminal t) = refl
 
   input_node : (l : ℕ) (n : Node A) → node_input_why l (map_node kind.plain n) ≡ node_input_why l n
   input_node l (node.Switch s) = why_same _ _ (λ t.
@@ -169,19 +169,21 @@ module _ {A : Type 0} (kind : Kind A) where
     at_plain : (g : Node A → Option Unready) (h : Node Token → Option Unready) → ((n : Node A) → h (map_node kind.plain n) ≡ g n) → (k : ℕ) → why_at (map (map_node kind.plain) net.nodes) k h ≡ why_at net.nodes k g
     at_plain g h same k = why_plain (map_node kind.plain) g h same net.nodes k
 
-    wire_plain : (p : Port) (o : Option Port) (near far : ℕ → Node A → Option Unready) (near' far' : ℕ → Node Token → Option Unready) → ((l : ℕ) (n : Node A) → near' l (map_node kind.plain n) ≡ near l n) → ((l : ℕ) (n : Node A) → far' l (map_node kind.plain n) ≡ far l n) → wire_why (plain_network kind net) p o near' far' ≡ wire_why net p o near far
-    wire_plain p None near far near' far' same_near same_far = refl
-    wire_plain p (Some q) near far near' far' same_near same_far =
-        ap (λ (w : Option Unready). option_or (port_reason p w) (port_reason q (end_why (map (map_node kind.plain) net.nodes) (end_of net.plan q) far'))) (at_plain (near (end_of net.plan p).link) (near' (end_of net.plan p).link) (same_near (end_of net.plan p).link) (end_of net.plan p).node)
-        ∙ ap (λ (w : Option Unready). option_or (port_reason p (end_why net.nodes (end_of net.plan p) near)) (port_reason q w)) (at_plain (far (end_of net.plan q).link) (far' (end_of net.plan q).link) (same_far (end_of net.plan q).link) (end_of net.plan q).node)
+    acts_why_plain : (acts : Acts A) → acts_why (plain_network kind net) (plain_acts kind acts) ≡ acts_why net acts
+    acts_why_plain (Acts.Alone k (act.Step (action.Input l word))) = ap (port_reason (port.Switch k l)) (at_plain (node_input_why l) (node_input_why l) (input_node l) k)
+    acts_why_plain (Acts.Alone k (act.Step (action.Claim i o))) = ap (option_map (claim_reason k i o)) (at_plain (node_claim_why i o) (node_claim_why i o) (claim_node i o) k)
+    acts_why_plain (Acts.Alone k act.Drain) = ap (port_reason (port.Terminal (k - length net.plan.switches))) (at_plain node_drain_why node_drain_why drain_node k)
+    acts_why_plain (Acts.Joint p q c) =
+        ap (λ (w : Option Unready). option_or (port_reason p w) (port_reason q (end_why (map (map_node kind.plain) net.nodes) (end_of net.plan q) (far_why c)))) (at_plain (near_why c (end_of net.plan p).link) (near_why c (end_of net.plan p).link) (near_node c (end_of net.plan p).link) (end_of net.plan p).node)
+        ∙ ap (λ (w : Option Unready). option_or (port_reason p (end_why net.nodes (end_of net.plan p) (near_why c))) (port_reason q w)) (at_plain (far_why c (end_of net.plan q).link) (far_why c (end_of net.plan q).link) (far_node c (end_of net.plan q).link) (end_of net.plan q).node)
+    acts_why_plain acts = refl
 
     event_plain : (e : Event) → event_why (plain_network kind net) e ≡ event_why net e
-    event_plain (event.Cross p) = wire_plain p (peer net.plan p) node_leave_why node_enter_why node_leave_why node_enter_why leave_node enter_node
-    event_plain (event.Credit p) = wire_plain p (peer net.plan p) node_credit_out_why node_credit_in_why node_credit_out_why node_credit_in_why credit_out_node credit_in_node
-    event_plain (event.Input s l word) = ap (port_reason (port.Switch s l)) (at_plain (node_input_why l) (node_input_why l) (input_node l) s)
-    event_plain (event.Claim s i o) = ap (option_map (claim_reason s i o)) (at_plain (node_claim_why i o) (node_claim_why i o) (claim_node i o) s)
-    event_plain (event.Drain t) = ap (port_reason (port.Terminal t)) (at_plain node_drain_why node_drain_why drain_node (terminal_place net.plan t))
-    event_plain e = refl
+    event_plain e = ap (λ (o : Option (Acts Token)). o >>= acts_why (plain_network kind net)) (acts_plain kind net.plan e) ∙ by_acts (event_acts net.plan e)
+      where
+        by_acts : (o : Option (Acts A)) → (option_map (plain_acts kind) o >>= acts_why (plain_network kind net)) ≡ (o >>= acts_why net)
+        by_acts None = refl
+        by_acts (Some acts) = acts_why_plain acts
 
     pub network_why_plain : (e : Event) → network_why (plain_network kind net) e ≡ network_why net e
     network_why_plain e = ap (unless_refused (event_fault net.plan e)) (event_plain e)

@@ -1,11 +1,11 @@
 -- An event of a network has a reason exactly where it is answered with NotReady.
-use Rattle.std.proofs.Common.{◌≡◌, ◌<◌, ◌+◌, ◌++◌, ◌∙◌, ℕ, inl, inr, nat_le, nat_lt, not, Bool, true, false, List, Option, Some, None, Ok, map, replicate, length, slice_get, is_some, is_none, if◌then◌else◌, refl, sym, ap, arith}
+use Rattle.std.proofs.Common.{◌≡◌, ◌<◌, ◌+◌, ◌-◌, ◌++◌, ◌∙◌, ℕ, inl, inr, nat_lt, not, Bool, true, false, List, Option, Some, None, map, replicate, length, slice_get, is_some, is_none, refl, sym, ap, arith}
 use Rattle.std.specs.Option.{option_map}
 use Rattle.c104_token.specs.declared.packets.Packet.{Packet}
-use Rattle.c104_token.specs.declared.text.TheConstants.{MAX_PACKET_BYTES}
 use Rattle.c104_token.specs.Kinds.{Kind}
-use Rattle.c104_link.specs.Steps.{step_at, yield_step_at}
-use Rattle.c104_switch.specs.Actions.{Reply}
+use Rattle.c104_switch.specs.Actions.{Reply, is_ready}
+use Rattle.c104_switch.specs.declared.actions.ActionOf.TheVariants as action
+use Rattle.c104_switch.specs.declared.actions.ReplyOf.{ReplyOf}
 use Rattle.c104_switch.specs.declared.actions.ReplyOf.TheVariants as reply
 use Rattle.c104_switch.specs.declared.unready.Unready.{Unready}
 use Rattle.c104_switch.specs.Reasons.{why_at}
@@ -14,19 +14,23 @@ use Rattle.c104_plan.specs.declared.ports.Port.TheVariants as port
 use Rattle.c104_plan.specs.Plans.{IsPlan, Plan}
 use Rattle.c104_plan.specs.Wiring.{peer}
 use Rattle.c104_event.specs.declared.events.Event.{Event}
-use Rattle.c104_event.specs.declared.events.Event.TheVariants as event
 use Rattle.c104_event.specs.declared.faults.EventFault.{EventFault}
-use Rattle.c104_event.specs.declared.faults.EventFault.TheVariants as fault
+use Rattle.c104_node.specs.Acts.{node_act, plain_reply}
+use Rattle.c104_node.specs.PortActs.{Acts}
+use Rattle.c104_node.specs.declared.acts.ActOf.{ActOf}
+use Rattle.c104_node.specs.declared.acts.ActOf.TheVariants as act
+use Rattle.c104_node.specs.declared.crossings.Crossing.{Crossing}
 use Rattle.c104_node.specs.declared.node.NodeOf.TheVariants.{Switch, Terminal}
-use Rattle.c104_node.specs.Nodes.{Node, node_input, node_claim, node_control, node_send, node_drain, is_switch}
-use Rattle.c104_node.proofs.NamedWires.{nodes_cross, nodes_credit}
-use Rattle.c104_run.specs.Ends.{end_of}
-use Rattle.c104_run.proofs.EventSteps.{by_name, control_step, done_step, named_step, token_step}
-use Rattle.c104_run.specs.Network.{Network, with_nodes, network_apply, network_step, event_fault, terminal_place, outcome_within_limit, outcome_if_possible, outcome_if_ready, event_limit, link_fault, wire_fault, wired_fault}
+use Rattle.c104_node.specs.Nodes.{Node, is_switch}
+use Rattle.c104_run.specs.declared.reason.Reason.{Reason}
+use Rattle.c104_run.specs.EventActs.{Ask, acts_step, ask_acts, crossing_acts, event_ask}
+use Rattle.c104_run.proofs.ActSteps.{step_ready as acts_ready}
+use Rattle.c104_run.proofs.AskCases.{AreCases, of_event}
+use Rattle.c104_run.specs.Network.{Network, with_nodes, network_apply, network_step, told_step, event_fault, terminal_place, outcome_within_limit, outcome_if_possible, outcome_if_ready, event_limit, link_fault, wire_fault, wired_fault}
 use Rattle.c104_run.specs.Balance.{IsSteady}
-use Rattle.c104_run.specs.Reasons.{claim_reason, event_why, unless_refused, network_why, is_unready}
+use Rattle.c104_run.specs.Reasons.{acts_why, alone_why, claim_reason, event_why, unless_refused, network_why, is_unready}
 use Rattle.c104_node.specs.NodeReasons.{node_input_why, node_claim_why, node_drain_why}
-use Rattle.c104_run.proofs.UnreadyNodes.{input_here, claim_here, drain_here, step_ready, yield_ready, cross_ready, credit_ready}
+use Rattle.c104_run.proofs.UnreadyNodes.{claim_here, drain_here, input_here, joint_told, step_ready}
 use Rattle.c104_run.proofs.NoFaults.{node_there, past_link, past_node}
 use Rattle.c104_run.proofs.RunRecords.{by_counts, counted}
 use Rattle.c104_node.specs.Traces.{part}
@@ -69,69 +73,65 @@ module _ {A : Type 0} (kind : Kind A) (net : Network A) where
   abbrev told : Event → Option (Reply × Network A) → Bool
   told e made = is_unready (outcome_if_ready kind net e made).0
 
-  within : (r : Reply) (after : Network A) → is_unready (Ok r) ≡ false → (limit : Option EventFault) → is_unready (outcome_within_limit kind net limit (r, after)).0 ≡ false
-  within r after done None = done
-  within r after done (Some f) = refl
+  within : (r : ReplyOf A) (after : Network A) → is_ready r ≡ true → (limit : Option EventFault) → is_unready (outcome_within_limit kind net limit (plain_reply kind r, after)).0 ≡ false
+  within reply.NotReady after ready limit = absurd (cc ready)
+  within reply.Done after ready None = refl
+  within (reply.Token x) after ready None = refl
+  within (reply.Control bytes) after ready None = refl
+  within r after ready (Some f) = refl
 
-  by_done : (e : Event) (made : Option (List (Node A))) → is_none made ≡ told e (done_step kind net made)
-  by_done e None = refl
-  by_done e (Some nodes) = sym (within reply.Done (with_nodes net nodes) refl (event_limit net e))
+  -- an event is told to be unready where the step of its acts can't be made
+  step_told : (e : Event) (acts : Acts A) (made : Option (ReplyOf A × List (Node A))) → acts_step kind net.plan net.nodes acts ≡ made → is_none made ≡ told e (told_step kind net made)
+  step_told e acts None is = refl
+  step_told e acts (Some r) is = sym (within r.0 (with_nodes net r.1) (acts_ready kind net.plan net.nodes acts r is) (event_limit net e))
 
-  by_token : (e : Event) (made : Option (A × List (Node A))) → is_none made ≡ told e (token_step kind net made)
-  by_token e None = refl
-  by_token e (Some r) = sym (within (reply.Token (kind.plain r.0)) (with_nodes net r.1) refl (event_limit net e))
+  -- acts that are asked: there is a reason exactly where their step can't be made
+  record IsHindered (ask : Ask A) : Type 0 where
+    acts : Acts A
+    known : ask_acts net.plan ask ≡ Some acts
+    why : is_some (acts_why net acts) ≡ is_none (acts_step kind net.plan net.nodes acts)
 
-  by_control : (e : Event) (made : Option (List ℕ × List (Node A))) → is_none made ≡ told e (control_step kind net made)
-  by_control e None = refl
-  by_control e (Some r) = sym (within (reply.Control r.0) (with_nodes net r.1) refl (event_limit net e))
-
-  -- a step of a node is told where it can't be made
-  step_told : (e : Event) {R : Type 0} (f : Unready → R) (why : Option Unready) (made : Option (List (Node A))) → is_none why ≡ is_some made → is_some (option_map f why) ≡ told e (done_step kind net made)
-  step_told e f why made same = mapped f why ∙ ap not same ∙ by_done e made
+  abbrev IsHinderedAt : Option EventFault → Ask A → Type 0
+  IsHinderedAt f ask = f ≡ None → IsHindered ask
 
   module _ (is_plan : IsPlan net.plan) (steady : IsSteady net) where
-    control_told : (s : ℕ) (bytes : List ℕ) → s < length net.plan.switches → false ≡ told (event.Control s bytes) (control_step kind net (yield_step_at net.nodes s (node_control bytes)))
-    control_told s bytes inside = made (switch_there (length net.plan.switches) (length net.plan.terminals) net.nodes steady.in_place s inside) ∙ by_control (event.Control s bytes) (yield_step_at net.nodes s (node_control bytes))
+    over_hindered : (p : Port) (crossing : Crossing) → IsHinderedAt (wired_fault net.plan p) (Ask.Over p crossing)
+    over_hindered p crossing none = by_peer (peer net.plan p) refl
       where
-        made : StandsAt net.nodes s true → false ≡ is_none (yield_step_at net.nodes s (node_control bytes))
-        made (Switch w, is, here) = rw is refl
-        made (Terminal t, is, here) = absurd (cc here)
-
-    send_told : (t : ℕ) (packet : Packet) → t < length net.plan.terminals → false ≡ told (event.Send t packet) (done_step kind net (step_at net.nodes (terminal_place net.plan t) (node_send kind t packet)))
-    send_told t packet inside = by_node (terminal_there (length net.plan.switches) (length net.plan.terminals) net.nodes steady.in_place t (terminal_place net.plan t) refl inside)
-      where
-        made : (n : Node A) → slice_get net.nodes (terminal_place net.plan t) ≡ Some n → is_switch n ≡ false → false ≡ is_none (step_at net.nodes (terminal_place net.plan t) (node_send kind t packet))
-        made (Switch w) is here = absurd (cc here)
-        made (Terminal u) is here = rw is refl
-
-        by_node : StandsAt net.nodes (terminal_place net.plan t) false → false ≡ told (event.Send t packet) (done_step kind net (step_at net.nodes (terminal_place net.plan t) (node_send kind t packet)))
-        by_node found = made found.0 found.1 found.2 ∙ by_done (event.Send t packet) (step_at net.nodes (terminal_place net.plan t) (node_send kind t packet))
-
-    named_possible : (e : Event) → event_fault net.plan e ≡ None → is_some (event_why net e) ≡ told e (named_step kind net e)
-    named_possible (event.Cross p) none = by_peer (peer net.plan p) refl
-      where
-        by_peer : (other : Option Port) → peer net.plan p ≡ other → is_some (event_why net (event.Cross p)) ≡ told (event.Cross p) (named_step kind net (event.Cross p))
+        by_peer : (other : Option Port) → peer net.plan p ≡ other → IsHindered (Ask.Over p crossing)
         by_peer None is = absurd (let no : wire_fault None ≡ None = wired net.plan p None is none in cc)
-        by_peer (Some q) is = rw is (cross_ready kind net.nodes (end_of net.plan p) (end_of net.plan q) (λ u. record { port = p; unready = u }) (λ u. record { port = q; unready = u })
-            ∙ by_token (event.Cross p) (nodes_cross net.nodes (end_of net.plan p) (end_of net.plan q)))
-    named_possible (event.Credit p) none = by_peer (peer net.plan p) refl
-      where
-        by_peer : (other : Option Port) → peer net.plan p ≡ other → is_some (event_why net (event.Credit p)) ≡ told (event.Credit p) (named_step kind net (event.Credit p))
-        by_peer None is = absurd (let no : wire_fault None ≡ None = wired net.plan p None is none in cc)
-        by_peer (Some q) is = rw is (credit_ready kind net.nodes (end_of net.plan p) (end_of net.plan q) (λ u. record { port = p; unready = u }) (λ u. record { port = q; unready = u })
-            ∙ by_done (event.Credit p) (nodes_credit net.nodes (end_of net.plan p) (end_of net.plan q)))
-    named_possible (event.Input s l word) none = step_told (event.Input s l word) (λ u. record { port = port.Switch s l; unready = u }) (why_at net.nodes s (node_input_why l)) (step_at net.nodes s (node_input kind l word)) (step_ready net.nodes s (node_input_why l) (node_input kind l word) (input_here kind l word))
-    named_possible (event.Claim s i o) none = step_told (event.Claim s i o) (claim_reason s i o) (why_at net.nodes s (node_claim_why i o)) (step_at net.nodes s (node_claim i o)) (step_ready net.nodes s (node_claim_why i o) (node_claim i o) (claim_here kind i o))
-    named_possible (event.Control s bytes) none = control_told s bytes (node_there None (length net.plan.switches) s none)
-    named_possible (event.Send t packet) none = send_told t packet (node_there (if nat_le (length packet.bytes) MAX_PACKET_BYTES then None else Some fault.TooLong) (length net.plan.terminals) t none)
-    named_possible (event.Drain t) none =
-        let place : ℕ = terminal_place net.plan t in
-        mapped (λ u. record { port = port.Terminal t; unready = u }) (why_at net.nodes place node_drain_why)
-        ∙ ap not (yield_ready net.nodes place node_drain_why node_drain (drain_here kind))
-        ∙ by_token (event.Drain t) (yield_step_at net.nodes place node_drain)
+        by_peer (Some q) is = record { acts = Acts.Joint p q crossing; known = ap (crossing_acts crossing p) is; why = joint_told kind net.plan is_plan net.nodes steady.in_place crossing p q is }
+
+    alone_hindered : (k : ℕ) (a : ActOf A) (why : Node A → Option Unready) (f : Unready → Reason) → alone_why net k a ≡ option_map f (why_at net.nodes k why) → ((n : Node A) → is_none (why n) ≡ is_some (node_act kind (k - length net.plan.switches) a n)) → IsHindered (Ask.Alone k a)
+    alone_hindered k a why f is here = record {
+      acts = Acts.Alone k a;
+      known = refl;
+      why = ap is_some is ∙ mapped f (why_at net.nodes k why) ∙ ap not (step_ready net.nodes k why (node_act kind (k - length net.plan.switches) a) (λ n at. here n));
+    }
+
+    -- a command and a packet that is sent always are ready
+    control_ready : (s : ℕ) (bytes : List ℕ) → StandsAt net.nodes s true → IsHindered (Ask.Alone s (act.Step (action.Control bytes)))
+    control_ready s bytes (Switch w, is, here) = record { acts = Acts.Alone s (act.Step (action.Control bytes)); known = refl; why = rw is refl }
+    control_ready s bytes (Terminal t, is, here) = absurd (cc here)
+
+    send_ready : (k : ℕ) (packet : Packet) → StandsAt net.nodes k false → IsHindered (Ask.Alone k (act.Send packet))
+    send_ready k packet (Switch w, is, here) = absurd (cc here)
+    send_ready k packet (Terminal t, is, here) = record { acts = Acts.Alone k (act.Send packet); known = refl; why = rw is refl }
+
+    steps_hindered : AreCases net.plan IsHinderedAt
+    steps_hindered = record {
+      over = over_hindered;
+      turn = λ s l word other none. alone_hindered s (act.Step (action.Input l word)) (node_input_why l) (λ u. record { port = port.Switch s l; unready = u }) refl (input_here kind l word (s - length net.plan.switches));
+      claim = λ s i o other none. alone_hindered s (act.Step (action.Claim i o)) (node_claim_why i o) (claim_reason s i o) refl (claim_here kind i o (s - length net.plan.switches));
+      control = λ s bytes other none. control_ready s bytes (switch_there (length net.plan.switches) (length net.plan.terminals) net.nodes steady.in_place s (node_there other (length net.plan.switches) s none));
+      send = λ t packet other none. send_ready (terminal_place net.plan t) packet (terminal_there (length net.plan.switches) (length net.plan.terminals) net.nodes steady.in_place t (terminal_place net.plan t) refl (node_there other (length net.plan.terminals) t none));
+      drain = λ t other none. (let k : ℕ = terminal_place net.plan t in alone_hindered k act.Drain node_drain_why (λ u. record { port = port.Terminal (k - length net.plan.switches); unready = u }) refl (drain_here kind (k - length net.plan.switches)));
+    }
 
     possible : (e : Event) → event_fault net.plan e ≡ None → is_some (event_why net e) ≡ told e (network_step kind net e)
-    possible e none = named_possible e none ∙ ap (told e) (sym (by_name kind net is_plan steady.in_place e))
+    possible e none =
+        let found : IsHindered (event_ask net.plan e) = of_event net.plan IsHinderedAt steps_hindered e none in
+        rw found.known (found.why ∙ step_told e found.acts (acts_step kind net.plan net.nodes found.acts) refl)
 
     pub unready_answered : (e : Event) → is_some (network_why net e) ≡ is_unready (network_apply kind net e).0
     unready_answered e = by_fault (event_fault net.plan e) refl

@@ -10,6 +10,7 @@ use Rattle.c104_plan.specs.declared.ports.Port.{Port}
 use Rattle.c104_plan.specs.declared.ports.Port.TheVariants as port
 use Rattle.c104_event.specs.declared.events.Event.{Event}
 use Rattle.c104_event.specs.declared.events.Event.TheVariants as event
+use Rattle.c104_node.specs.declared.acts.ActOf.{ActOf}
 use Rattle.c104_node.specs.declared.acts.ActOf.TheVariants as act
 use Rattle.c104_node.specs.declared.crossings.Crossing.{Crossing}
 use Rattle.c104_node.specs.declared.crossings.Crossing.TheVariants.{Token, Grant}
@@ -27,15 +28,29 @@ crossing_acts crossing p (Some q) = Some (Acts.Joint p q crossing)
 abbrev pub port_place : Plan → Port → ℕ
 port_place plan p = (end_of plan p).node
 
+-- what an event asks, whatever the wires: an act of the node at a place, or that something crosses the wire at a port
+pub data Ask (A : Type 0) : Type 0 where
+  Alone : ℕ → ActOf A → Ask A
+  Over : Port → Crossing → Ask A
+
+-- what each event asks
+abbrev pub event_ask : {A : Type 0} → Plan → Event → Ask A
+event_ask plan (event.Cross p) = Ask.Over p Token
+event_ask plan (event.Credit p) = Ask.Over p Grant
+event_ask plan (event.Input s l word) = Ask.Alone s (act.Step (action.Input l word))
+event_ask plan (event.Claim s i o) = Ask.Alone s (act.Step (action.Claim i o))
+event_ask plan (event.Control s bytes) = Ask.Alone s (act.Step (action.Control bytes))
+event_ask plan (event.Send t packet) = Ask.Alone (port_place plan (port.Terminal t)) (act.Send packet)
+event_ask plan (event.Drain t) = Ask.Alone (port_place plan (port.Terminal t)) act.Drain
+
+-- the acts of what is asked; there are none where a port has no wire
+abbrev pub ask_acts : {A : Type 0} → Plan → Ask A → Option (Acts A)
+ask_acts plan (Ask.Alone k a) = Some (Acts.Alone k a)
+ask_acts plan (Ask.Over p crossing) = crossing_acts crossing p (peer plan p)
+
 -- the acts of an event
 abbrev pub event_acts : {A : Type 0} → Plan → Event → Option (Acts A)
-event_acts plan (event.Cross p) = crossing_acts Token p (peer plan p)
-event_acts plan (event.Credit p) = crossing_acts Grant p (peer plan p)
-event_acts plan (event.Input s l word) = Some (Acts.Alone s (act.Step (action.Input l word)))
-event_acts plan (event.Claim s i o) = Some (Acts.Alone s (act.Step (action.Claim i o)))
-event_acts plan (event.Control s bytes) = Some (Acts.Alone s (act.Step (action.Control bytes)))
-event_acts plan (event.Send t packet) = Some (Acts.Alone (port_place plan (port.Terminal t)) (act.Send packet))
-event_acts plan (event.Drain t) = Some (Acts.Alone (port_place plan (port.Terminal t)) act.Drain)
+event_acts plan e = ask_acts plan (event_ask plan e)
 
 module _ {A : Type 0} (kind : Kind A) where
   -- what some acts answer and leave, where all of them are ready

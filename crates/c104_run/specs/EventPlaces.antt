@@ -1,17 +1,15 @@
 -- The place of the node whose entry leads in an event.
+use Rattle.std.specs.Prelude.{ℕ}
+use Rattle.c104_token.specs.declared.tokens.Token.{Token}
 use Rattle.c104_plan.specs.Plans.{Plan}
 use Rattle.c104_event.specs.declared.events.Event.{Event}
-use Rattle.c104_event.specs.declared.events.Event.TheVariants as event
-use Rattle.c104_run.specs.Ends.{end_of}
-use Rattle.c104_run.specs.Network.{terminal_place}
-use Rattle.std.specs.Prelude.{ℕ}
+use Rattle.c104_run.specs.EventActs.{Ask, event_ask, port_place}
+
+-- the place of the node of which something is asked; of what crosses a wire, of the one where it goes out or that grants
+abbrev pub ask_place : {A : Type 0} → Plan → Ask A → ℕ
+ask_place plan (Ask.Alone k a) = k
+ask_place plan (Ask.Over p crossing) = port_place plan p
 
 -- the place of the node whose entry leads in an event
 abbrev pub event_place : Plan → Event → ℕ
-event_place plan (event.Cross p) = (end_of plan p).node
-event_place plan (event.Credit p) = (end_of plan p).node
-event_place plan (event.Input s l word) = s
-event_place plan (event.Claim s i o) = s
-event_place plan (event.Control s bytes) = s
-event_place plan (event.Send t packet) = terminal_place plan t
-event_place plan (event.Drain t) = terminal_place plan t
+event_place plan e = ask_place {A = Token} plan (event_ask plan e)

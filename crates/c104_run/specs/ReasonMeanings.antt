@@ -1,5 +1,5 @@
 -- What the reason of an event says of the network: it holds of the node at its port.
-use Rattle.std.specs.Prelude.{ℕ, ◌≡◌, ◌⊎◌, Option, Some, None, slice_get}
+use Rattle.std.specs.Prelude.{ℕ, ◌-◌, length, ◌≡◌, ◌⊎◌, Option, Some, None, slice_get}
 use Rattle.c104_switch.specs.ReasonMeanings.{IsReason, IsAcceptReason, IsTakeReason, IsGrantReason, IsEmitReason, IsCreditedReason}
 use Rattle.c104_switch.specs.declared.actions.ActionOf.TheVariants as action
 use Rattle.c104_switch.specs.declared.unready.Unready.{Unready}
@@ -8,12 +8,16 @@ use Rattle.c104_plan.specs.declared.ports.Port.{Port}
 use Rattle.c104_plan.specs.declared.ports.Port.TheVariants as port
 use Rattle.c104_plan.specs.Wiring.{peer}
 use Rattle.c104_event.specs.declared.events.Event.{Event}
-use Rattle.c104_event.specs.declared.events.Event.TheVariants as event
+use Rattle.c104_node.specs.declared.acts.ActOf.{ActOf}
+use Rattle.c104_node.specs.declared.acts.ActOf.TheVariants as act
+use Rattle.c104_node.specs.declared.crossings.Crossing.{Crossing}
+use Rattle.c104_node.specs.declared.crossings.Crossing.TheVariants.{Token, Grant}
 use Rattle.c104_node.specs.declared.node.NodeOf.TheVariants.{Switch, Terminal}
 use Rattle.c104_run.specs.declared.reason.Reason.{Reason}
 use Rattle.c104_node.specs.Nodes.{Node}
 use Rattle.c104_run.specs.Ends.{end_of}
-use Rattle.c104_run.specs.Network.{Network, terminal_place}
+use Rattle.c104_run.specs.EventActs.{Ask, event_ask}
+use Rattle.c104_run.specs.Network.{Network}
 use Rattle.c104_run.specs.Reasons.{claim_link}
 
 -- no token goes out of a node over a link's wire
@@ -35,6 +39,16 @@ IsCreditOutReason l (Terminal t) reason = IsGrantReason t.input reason
 abbrev pub IsCreditInReason : {A : Type 0} → ℕ → Node A → Unready → Type 0
 IsCreditInReason l (Switch s) reason = IsReason s (action.CreditIn l) reason
 IsCreditInReason l (Terminal t) reason = IsCreditedReason t.output reason
+
+-- the end of a wire from which something would cross can't act
+abbrev pub IsNearReason : {A : Type 0} → Crossing → ℕ → Node A → Unready → Type 0
+IsNearReason Token = IsLeaveReason
+IsNearReason Grant = IsCreditOutReason
+
+-- the other end can't
+abbrev pub IsFarReason : {A : Type 0} → Crossing → ℕ → Node A → Unready → Type 0
+IsFarReason Token = IsEnterReason
+IsFarReason Grant = IsCreditInReason
 
 -- an input takes no turn; a terminal has none that could
 abbrev pub IsInputReason : {A : Type 0} → ℕ → ℕ → Node A → Unready → Type 0
@@ -60,23 +74,23 @@ IsSaid Says (Some n) reason = Says n reason
 abbrev pub IsSaidAt : {A : Type 0} → Network A → (ℕ → Node A → Unready → Type 0) → Port → Unready → Type 0
 IsSaidAt net Says p reason = IsSaid (Says (end_of net.plan p).link) (slice_get net.nodes (end_of net.plan p).node) reason
 
--- of the wire at a port, this is said at that port, or at the other end
-abbrev pub IsWireReason : {A : Type 0} → Network A → Port → (ℕ → Node A → Unready → Type 0) →
-    (ℕ → Node A → Unready → Type 0) → Reason → Type 0
-IsWireReason net p Near Far r =
-    ((r.port ≡ p) × IsSaidAt net Near r.port r.unready)
-    ⊎ ((peer net.plan p ≡ Some r.port) × IsSaidAt net Far r.port r.unready)
+-- of the node at a place that is asked for an act alone, this is said; a command and a packet that is sent have no reason
+abbrev pub IsAloneReason : {A : Type 0} → Network A → ℕ → ActOf A → Reason → Type 0
+IsAloneReason net k (act.Step (action.Input l word)) r =
+    (r.port ≡ port.Switch k l) × IsSaid (IsInputReason l word) (slice_get net.nodes k) r.unready
+IsAloneReason net k (act.Step (action.Claim i o)) r =
+    (r.port ≡ port.Switch k (claim_link i o r.unready)) × IsSaid (IsNodeClaimReason i o) (slice_get net.nodes k) r.unready
+IsAloneReason net k act.Drain r =
+    (r.port ≡ port.Terminal (k - length net.plan.switches)) × IsSaid IsDrainReason (slice_get net.nodes k) r.unready
+IsAloneReason net k a r = ⊥
 
--- what the reason of an event says: its port is one of the event's, and the reason holds there. A command
--- and a packet that is sent have none
+-- of what is asked, this is said; of a wire, at the port that it would cross from, or at the other end
+abbrev pub IsAskReason : {A : Type 0} → Network A → Ask A → Reason → Type 0
+IsAskReason net (Ask.Alone k a) r = IsAloneReason net k a r
+IsAskReason net (Ask.Over p crossing) r =
+    ((r.port ≡ p) × IsSaidAt net (IsNearReason crossing) r.port r.unready)
+    ⊎ ((peer net.plan p ≡ Some r.port) × IsSaidAt net (IsFarReason crossing) r.port r.unready)
+
+-- what the reason of an event says: its port is one of the event's, and the reason holds there
 abbrev pub IsEventReason : {A : Type 0} → Network A → Event → Reason → Type 0
-IsEventReason net (event.Cross p) r = IsWireReason net p IsLeaveReason IsEnterReason r
-IsEventReason net (event.Credit p) r = IsWireReason net p IsCreditOutReason IsCreditInReason r
-IsEventReason net (event.Input s l word) r =
-    (r.port ≡ port.Switch s l) × IsSaid (IsInputReason l word) (slice_get net.nodes s) r.unready
-IsEventReason net (event.Claim s i o) r =
-    (r.port ≡ port.Switch s (claim_link i o r.unready)) × IsSaid (IsNodeClaimReason i o) (slice_get net.nodes s) r.unready
-IsEventReason net (event.Control s bytes) r = ⊥
-IsEventReason net (event.Send t packet) r = ⊥
-IsEventReason net (event.Drain t) r =
-    (r.port ≡ port.Terminal t) × IsSaid IsDrainReason (slice_get net.nodes (terminal_place net.plan t)) r.unready
+IsEventReason {A} net e r = IsAskReason {A = A} net (event_ask net.plan e) r

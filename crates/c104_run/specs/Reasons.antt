@@ -1,24 +1,29 @@
 -- Why an event isn't ready, and where: the first of its conditions that doesn't hold. None is ready, or
 -- refused.
-use Rattle.std.specs.Prelude.{ℕ, Bool, true, false, List, Option, Some, None, Result, Ok, Err}
+use Rattle.std.specs.Prelude.{ℕ, ◌-◌, length, Bool, true, false, List, Option, Some, None, Result, Ok, Err}
 use Rattle.std.specs.Option.{option_map, option_or}
+use Rattle.c104_link.specs.Steps.{◌>>=◌}
 use Rattle.c104_switch.specs.Actions.{Reply}
+use Rattle.c104_switch.specs.declared.actions.ActionOf.TheVariants as action
 use Rattle.c104_switch.specs.declared.actions.ReplyOf.TheVariants as reply
 use Rattle.c104_switch.specs.declared.unready.Unready.{Unready}
 use Rattle.c104_switch.specs.declared.unready.Unready.TheVariants.{Owned, NoRoomForHeader}
 use Rattle.c104_switch.specs.Reasons.{why_at}
 use Rattle.c104_plan.specs.declared.ports.Port.{Port}
 use Rattle.c104_plan.specs.declared.ports.Port.TheVariants as port
-use Rattle.c104_plan.specs.Wiring.{peer}
 use Rattle.c104_event.specs.declared.events.Event.{Event}
-use Rattle.c104_event.specs.declared.events.Event.TheVariants as event
 use Rattle.c104_event.specs.declared.faults.EventFault.{EventFault}
-use Rattle.c104_node.specs.declared.node.NodeOf.TheVariants.{Switch, Terminal}
+use Rattle.c104_node.specs.PortActs.{Acts}
+use Rattle.c104_node.specs.declared.acts.ActOf.{ActOf}
+use Rattle.c104_node.specs.declared.acts.ActOf.TheVariants as act
+use Rattle.c104_node.specs.declared.crossings.Crossing.{Crossing}
+use Rattle.c104_node.specs.declared.crossings.Crossing.TheVariants.{Token, Grant}
 use Rattle.c104_node.specs.declared.ends.End.{End}
 use Rattle.c104_run.specs.declared.reason.Reason.{Reason}
 use Rattle.c104_node.specs.Nodes.{Node}
 use Rattle.c104_run.specs.Ends.{end_of}
-use Rattle.c104_run.specs.Network.{Network, event_fault, terminal_place}
+use Rattle.c104_run.specs.EventActs.{event_acts}
+use Rattle.c104_run.specs.Network.{Network, event_fault}
 use Rattle.c104_node.specs.NodeReasons.{node_enter_why, node_leave_why, node_credit_out_why, node_credit_in_why, node_input_why}
 use Rattle.c104_node.specs.NodeReasons.{node_claim_why, node_drain_why}
 
@@ -30,13 +35,15 @@ port_reason p why = option_map (λ u. record { port = p; unready = u }) why
 abbrev pub end_why : {A : Type 0} → List (Node A) → End → (ℕ → Node A → Option Unready) → Option Unready
 end_why nodes end why = why_at nodes end.node (why end.link)
 
--- why what crosses the wire at a port doesn't: the end that is named can't act, or else the other one
-abbrev pub wire_why : {A : Type 0} → Network A → Port → Option Port → (ℕ → Node A → Option Unready) →
-    (ℕ → Node A → Option Unready) → Option Reason
-wire_why net p None near far = None
-wire_why net p (Some q) near far = option_or
-    (port_reason p (end_why net.nodes (end_of net.plan p) near))
-    (port_reason q (end_why net.nodes (end_of net.plan q) far))
+-- why the end of a wire from which something would cross can't act
+abbrev pub near_why : {A : Type 0} → Crossing → ℕ → Node A → Option Unready
+near_why Token = node_leave_why
+near_why Grant = node_credit_out_why
+
+-- the same of the other end
+abbrev pub far_why : {A : Type 0} → Crossing → ℕ → Node A → Option Unready
+far_why Token = node_enter_why
+far_why Grant = node_credit_in_why
 
 -- the link of a switch that the reason of a claim is about: the output where it is owned or has no room
 abbrev pub claim_link : ℕ → ℕ → Unready → ℕ
@@ -48,16 +55,24 @@ claim_link i o reason = i
 abbrev pub claim_reason : ℕ → ℕ → ℕ → Unready → Reason
 claim_reason s i o u = record { port = port.Switch s (claim_link i o u); unready = u }
 
--- why an event that could happen isn't ready; a command and a packet that is sent always are
+-- why the node at a place isn't ready for an act that it is asked alone; a command and a packet that is sent always are
+abbrev pub alone_why : {A : Type 0} → Network A → ℕ → ActOf A → Option Reason
+alone_why net k (act.Step (action.Input l word)) = port_reason (port.Switch k l) (why_at net.nodes k (node_input_why l))
+alone_why net k (act.Step (action.Claim i o)) = option_map (claim_reason k i o) (why_at net.nodes k (node_claim_why i o))
+alone_why net k act.Drain =
+    port_reason (port.Terminal (k - length net.plan.switches)) (why_at net.nodes k node_drain_why)
+alone_why net k a = None
+
+-- why some acts aren't ready; of what crosses a wire, the end that it goes out of can't act, or else the other one
+abbrev pub acts_why : {A : Type 0} → Network A → Acts A → Option Reason
+acts_why net (Acts.Alone k a) = alone_why net k a
+acts_why net (Acts.Joint p q crossing) = option_or
+    (port_reason p (end_why net.nodes (end_of net.plan p) (near_why crossing)))
+    (port_reason q (end_why net.nodes (end_of net.plan q) (far_why crossing)))
+
+-- why an event that could happen isn't ready
 abbrev pub event_why : {A : Type 0} → Network A → Event → Option Reason
-event_why net (event.Cross p) = wire_why net p (peer net.plan p) node_leave_why node_enter_why
-event_why net (event.Credit p) = wire_why net p (peer net.plan p) node_credit_out_why node_credit_in_why
-event_why net (event.Input s l word) = port_reason (port.Switch s l) (why_at net.nodes s (node_input_why l))
-event_why net (event.Claim s i o) = option_map (claim_reason s i o) (why_at net.nodes s (node_claim_why i o))
-event_why net (event.Control s bytes) = None
-event_why net (event.Send t packet) = None
-event_why net (event.Drain t) =
-    port_reason (port.Terminal t) (why_at net.nodes (terminal_place net.plan t) node_drain_why)
+event_why net e = event_acts net.plan e >>= acts_why net
 
 -- a reason of an event that isn't refused
 abbrev pub unless_refused : Option EventFault → Option Reason → Option Reason

@@ -26,7 +26,7 @@ pub fn happen<T: TokenKind, P: Place<T>>(
     ensures kept { IsPlan wires.now }
 {
     // Each arm is a code of its own for its kind of event, in which it is known what acts are asked: a control command
-    // takes about 70 instructions less than by one call for all kinds.
+    // takes about 70 instructions less than by one call for all kinds. The last is that of Drain.
     match event {
         Event::Cross(_) => do_asked(wires, places, stamp, event),
         Event::Credit(_) => do_asked(wires, places, stamp, event),
@@ -34,7 +34,7 @@ pub fn happen<T: TokenKind, P: Place<T>>(
         Event::Claim { .. } => do_asked(wires, places, stamp, event),
         Event::Control { .. } => do_asked(wires, places, stamp, event),
         Event::Send { .. } => do_asked(wires, places, stamp, event),
-        Event::Drain { .. } => do_asked(wires, places, stamp, event),
+        _ => do_asked(wires, places, stamp, event),
     }
 }
 

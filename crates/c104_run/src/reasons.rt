@@ -1,21 +1,25 @@
 //! Why an event isn't ready, over any places.
 ghost use Rattle.std.specs.Prelude.{◌≡◌, map};
-ghost use Rattle.c104_event.specs.declared.events.Event.TheVariants as event;
+ghost use Rattle.c104_plan.specs.Plans.{Plan as ThePlan};
 ghost use Rattle.c104_switch.specs.Reasons.{why_at};
+ghost use Rattle.c104_run.specs.AskedActs.{AreEnds, acts_asked};
+ghost use Rattle.c104_run.specs.Ends.{end_of};
+ghost use Rattle.c104_run.specs.EventActs.{port_place};
 ghost use Rattle.c104_run.specs.Network.{network_of};
-ghost use Rattle.c104_run.specs.Reasons.{claim_reason, end_why, network_why};
-ghost use Rattle.c104_node.specs.NodeReasons.{node_enter_why, node_leave_why, node_credit_out_why, node_credit_in_why};
+ghost use Rattle.c104_run.specs.Reasons.{acts_why, alone_why, claim_reason, end_why, far_why, near_why, network_why};
 ghost use Rattle.c104_node.specs.NodeReasons.{node_input_why, node_claim_why, node_drain_why};
 ghost use Rattle.c104_node.specs.Places.{states};
+ghost use Rattle.c104_node.specs.PortActs.{Acts};
 
+use crate::asked::{Asked, acts_of};
 use crate::reason::Reason;
 use crate::wires::Wires;
 use c104_event::{Event, Port};
-use c104_node::{End, Place, node_at};
-use c104_switch::{LINKS, Unready};
+use c104_node::{ActOf, Crossing, End, Joint, Place, node_at};
+use c104_switch::{ActionOf, Unready};
 use c104_token::TokenKind;
 
-/// Why an event isn't ready, by the kind of event.
+/// Why an event isn't ready; none where it can't happen.
 pub fn first_reason<T: TokenKind, P: Place<T>>(
     wires: &Wires,
     places: &[P],
@@ -23,122 +27,96 @@ pub fn first_reason<T: TokenKind, P: Place<T>>(
 ) -> Option<Reason>
     ensures { result ≡ network_why (network_of wires.now (states (map P.shown places.now))) event.now }
 {
-    match event {
-        Event::Cross(port) => why_cross(wires, places, *port),
-        Event::Credit(port) => why_credit(wires, places, *port),
-        Event::Input {
-            switch,
-            link,
-            word: _,
-        } => why_input(wires, places, *switch, *link),
-        Event::Claim {
-            switch,
-            input,
-            output,
-        } => why_claim(wires, places, *switch, *input, *output),
-        Event::Control { .. } | Event::Send { .. } => None,
-        Event::Drain { terminal } => why_drain(wires, places, *terminal),
+    match acts_of(wires, event) {
+        Ok(asked) => why_asked(wires, places, asked),
+        Err(_) => None,
     }
 }
 
-/// Why no token crosses the wire at a port.
-fn why_cross<T: TokenKind, P: Place<T>>(wires: &Wires, places: &[P], port: Port) -> Option<Reason>
-    ensures { result ≡ network_why (network_of wires.now (states (map P.shown places.now))) (event.Cross port) }
-{
-    let Ok(ends) = wires.ends(port) else {
-        return None;
-    };
-    let other = wires.plan().peer(port)?;
-    if let Some(unready) = why_leave_at(places, ends.near) {
-        return Some(Reason { port, unready });
-    }
-    let unready = why_enter_at(places, ends.far)?;
-    Some(Reason {
-        port: other,
-        unready,
-    })
-}
-
-/// Why a port grants no eight more tokens to the other end of its wire.
-fn why_credit<T: TokenKind, P: Place<T>>(wires: &Wires, places: &[P], port: Port) -> Option<Reason>
-    ensures { result ≡ network_why (network_of wires.now (states (map P.shown places.now))) (event.Credit port) }
-{
-    let Ok(ends) = wires.ends(port) else {
-        return None;
-    };
-    let other = wires.plan().peer(port)?;
-    if let Some(unready) = why_credit_out_at(places, ends.near) {
-        return Some(Reason { port, unready });
-    }
-    let unready = why_credit_in_at(places, ends.far)?;
-    Some(Reason {
-        port: other,
-        unready,
-    })
-}
-
-/// Why an input of a switch takes no turn, which no word decides.
-fn why_input<T: TokenKind, P: Place<T>>(
+/// Why the acts that are asked aren't ready.
+fn why_asked<T: TokenKind, P: Place<T>>(
     wires: &Wires,
     places: &[P],
-    switch: usize,
-    link: usize,
+    asked: Asked<'_, T>,
 ) -> Option<Reason>
-    ensures { result ≡ network_why (network_of wires.now (states (map P.shown places.now))) (event.Input switch link 0) }
+    requires { AreEnds wires.now asked }
+    ensures { result ≡ acts_why (network_of wires.now (states (map P.shown places.now))) (acts_asked asked.entry) }
 {
-    if switch >= wires.switch_count() {
-        return None;
+    match asked {
+        Asked::Alone(place, act) => why_alone(wires, places, place, &act),
+        Asked::Send(_, _) => None,
+        Asked::Joint(near, far, joint) => why_joint(wires, places, near, far, joint),
     }
-    if link >= LINKS {
-        return None;
+}
+
+/// Why nothing crosses the wire between two ports, which are those of the nodes at two places.
+fn why_joint<T: TokenKind, P: Place<T>>(
+    wires: &Wires,
+    places: &[P],
+    near: usize,
+    far: usize,
+    joint: Joint,
+) -> Option<Reason>
+    requires near { near ≡ port_place wires.now joint.near }
+    requires far { far ≡ port_place wires.now joint.far }
+    ensures { result ≡ acts_why (network_of wires.now (states (map P.shown places.now))) (Acts.Joint joint.near joint.far joint.crossing) }
+{
+    let near = end_at(near, joint.near);
+    if let Some(unready) = why_near(places, near, joint.crossing) {
+        return Some(Reason {
+            port: joint.near,
+            unready,
+        });
     }
-    let unready = why_input_at(places, switch, link)?;
+    let far = end_at(far, joint.far);
+    let unready = why_far(places, far, joint.crossing)?;
     Some(Reason {
-        port: Port::Switch(switch, link),
+        port: joint.far,
         unready,
     })
 }
 
-/// Why an input of a switch doesn't claim an output.
-fn why_claim<T: TokenKind, P: Place<T>>(
-    wires: &Wires,
-    places: &[P],
-    switch: usize,
-    input: usize,
-    output: usize,
-) -> Option<Reason>
-    ensures { result ≡ network_why (network_of wires.now (states (map P.shown places.now))) (event.Claim switch input output) }
+/// The end of a wire at a port of the node at a place.
+fn end_at(node: usize, port: Port) -> End
+    ensures { (plan : ThePlan) → node ≡ port_place plan port → result ≡ end_of plan port }
 {
-    if switch >= wires.switch_count() {
-        return None;
+    match port {
+        Port::Switch(_, link) => End { node, link },
+        Port::Terminal(_) => End { node, link: 0 },
     }
-    if input >= LINKS {
-        return None;
-    }
-    if output >= LINKS {
-        return None;
-    }
-    let unready = why_claim_at(places, switch, input, output)?;
-    Some(claim_reason(switch, input, output, unready))
 }
 
-/// Why no token arrives at a terminal.
-fn why_drain<T: TokenKind, P: Place<T>>(
+/// Why the node at a place isn't ready for an act that it is asked alone. A turn isn't decided by its word.
+fn why_alone<T: TokenKind, P: Place<T>>(
     wires: &Wires,
     places: &[P],
-    terminal: usize,
+    place: usize,
+    act: &ActOf<T>,
 ) -> Option<Reason>
-    ensures { result ≡ network_why (network_of wires.now (states (map P.shown places.now))) (event.Drain terminal) }
+    ensures { result ≡ alone_why (network_of wires.now (states (map P.shown places.now))) place act.now }
 {
-    if terminal >= wires.terminal_count() {
-        return None;
+    match act {
+        ActOf::Step(ActionOf::Input(link, _)) => {
+            let unready = why_input_at(places, place, *link)?;
+            Some(Reason {
+                port: Port::Switch(place, *link),
+                unready,
+            })
+        }
+        ActOf::Step(ActionOf::Claim(input, output)) => {
+            let unready = why_claim_at(places, place, *input, *output)?;
+            Some(claim_reason(place, *input, *output, unready))
+        }
+        ActOf::Drain => {
+            let unready = why_drain_at(places, place)?;
+            let terminal = place.saturating_sub(wires.switch_count());
+            Some(Reason {
+                port: Port::Terminal(terminal),
+                unready,
+            })
+        }
+        _ => None,
     }
-    let place = wires.terminal_place(terminal);
-    let unready = why_drain_at(places, place)?;
-    Some(Reason {
-        port: Port::Terminal(terminal),
-        unready,
-    })
 }
 
 /// A reason of a claim: at the output where it is owned or has no room, and else at the input.
@@ -155,43 +133,33 @@ fn claim_reason(switch: usize, input: usize, output: usize, unready: Unready) ->
     }
 }
 
-/// Why no token can go out at an end of a wire.
-fn why_leave_at<T: TokenKind, P: Place<T>>(places: &[P], end: End) -> Option<Unready>
-    ensures { result ≡ end_why (states (map P.shown places.now)) end node_leave_why }
+/// Why the end of a wire from which something would cross can't act: no token can go out, or no eight more be granted.
+fn why_near<T: TokenKind, P: Place<T>>(
+    places: &[P],
+    end: End,
+    crossing: Crossing,
+) -> Option<Unready>
+    ensures { result ≡ end_why (states (map P.shown places.now)) end (near_why crossing) }
 {
-    match node_at(places, end.node) {
-        Some(node) => node.why_leave(end.link),
-        None => Some(Unready::NoLink),
+    let Some(node) = node_at(places, end.node) else {
+        return Some(Unready::NoLink);
+    };
+    match crossing {
+        Crossing::Token => node.why_leave(end.link),
+        Crossing::Grant => node.why_credit_out(end.link),
     }
 }
 
-/// Why no token can come in at an end of a wire.
-fn why_enter_at<T: TokenKind, P: Place<T>>(places: &[P], end: End) -> Option<Unready>
-    ensures { result ≡ end_why (states (map P.shown places.now)) end node_enter_why }
+/// Why the other end can't: no token can come in, or it may not be granted eight more.
+fn why_far<T: TokenKind, P: Place<T>>(places: &[P], end: End, crossing: Crossing) -> Option<Unready>
+    ensures { result ≡ end_why (states (map P.shown places.now)) end (far_why crossing) }
 {
-    match node_at(places, end.node) {
-        Some(node) => node.why_enter(end.link),
-        None => Some(Unready::NoLink),
-    }
-}
-
-/// Why an end of a wire can't grant eight more tokens.
-fn why_credit_out_at<T: TokenKind, P: Place<T>>(places: &[P], end: End) -> Option<Unready>
-    ensures { result ≡ end_why (states (map P.shown places.now)) end node_credit_out_why }
-{
-    match node_at(places, end.node) {
-        Some(node) => node.why_credit_out(end.link),
-        None => Some(Unready::NoLink),
-    }
-}
-
-/// Why an end of a wire may not be granted eight more tokens.
-fn why_credit_in_at<T: TokenKind, P: Place<T>>(places: &[P], end: End) -> Option<Unready>
-    ensures { result ≡ end_why (states (map P.shown places.now)) end node_credit_in_why }
-{
-    match node_at(places, end.node) {
-        Some(node) => node.why_credit_in(end.link),
-        None => Some(Unready::NoLink),
+    let Some(node) = node_at(places, end.node) else {
+        return Some(Unready::NoLink);
+    };
+    match crossing {
+        Crossing::Token => node.why_enter(end.link),
+        Crossing::Grant => node.why_credit_in(end.link),
     }
 }
 
