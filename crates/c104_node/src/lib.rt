@@ -41,7 +41,7 @@ pub use places::{
     act_ready, is_full_at, next_claim_at, next_ready_at, next_wanting_at, node_at, ready_at,
 };
 pub use port_part::PortPart;
-pub use recorded::{Node, act_pair, ready_pair};
+pub use recorded::{Node, act_pair, copy_entries, ready_pair};
 pub use sent_packet::SentPacket;
 pub use stamps::Stamp;
 pub use starts::{NodeStart, all_started};

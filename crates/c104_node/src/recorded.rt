@@ -17,6 +17,7 @@ use crate::starts::NodeStart;
 use crate::terminal::SpareOf;
 use c104_switch::{LINKS, LinkSet};
 use c104_token::Token;
+pub use copies::copy_entries;
 pub use pairs::{act_pair, ready_pair};
 use std::alloc::Global;
 use std::marker::Model;

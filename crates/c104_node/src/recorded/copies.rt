@@ -28,8 +28,8 @@ impl Node {
     }
 }
 
-/// A copy of entries.
-fn copy_entries(alloc: Global, entries: &[Entry]) -> Result<Vec<Entry>, NoMemory>
+/// A copy of entries. The only error is out of memory.
+pub fn copy_entries(alloc: Global, entries: &[Entry]) -> Result<Vec<Entry>, NoMemory>
     ensures { IfOk result (λ copy. copy.items ≡ entries.now) }
 {
     let mut list = Vec::with_capacity(alloc, entries.len())?;
