@@ -28,6 +28,6 @@ mod wired;
 pub use audits::audit_lists;
 pub use calls::Call;
 pub use carried::Carried;
-pub use copies::{copy_calls, copy_entries, copy_event};
+pub use copies::{copy_calls, copy_event};
 pub use faults::AuditFault;
 pub use lists::{Lists, NodeShape};

@@ -12,8 +12,8 @@ ghost use Rattle.c104_workers.specs.Audited.{TellsSeats, lists_of, past_seats, s
 use crate::calls::SeatCalls;
 use crate::closing::Gathered;
 use crate::making::traces_of;
-use c104_audit::{AuditFault, Call, Lists, NodeShape, audit_lists, copy_calls, copy_entries};
-use c104_node::{Entry, Node, NodeStart};
+use c104_audit::{AuditFault, Call, Lists, NodeShape, audit_lists, copy_calls};
+use c104_node::{Entry, Node, NodeStart, copy_entries};
 use c104_plan::{Plan, Port, Wire};
 use c104_run::Run;
 use c104_switch::LINKS;
