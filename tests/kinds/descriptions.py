@@ -285,6 +285,7 @@ REFUSED_DESCRIPTIONS = [
     (b'switch A\nlabel tree A\nrandom A.0 2 1\n', '3: 12 MixedStyle'),
     (b'switch A\nrandom A.0 2 1\nlabel tree A\n', '3: 12 MixedStyle'),
     (b'mesh 1 1 1\nswitch A\n', '2: 12 MixedStyle'),
+    (b'mesh 2 2 1\nswitch A\n', '2: 12 MixedStyle'),
     (b'switch A\nmesh 1 1 1\n', '2: 12 MixedStyle'),
     (MOST_SWITCHES + b'mesh 1 1 1\n', '65: 12 MixedStyle'),
     (b'mesh 1 1 1\nmesh 1 1 1\n', '2: 12 MixedStyle'),

@@ -1,8 +1,7 @@
 """Runs a program over scripts that are too large or too many for folders."""
 
-from case_runner import (ARRIVED_LIMIT, DRAINS_TO_THE_TERMINATOR, FIRST_RUN, FIRST_TEXT,
-    LINE_LIMIT, OUTBOX_LIMIT, PACKET_LIMIT, PLAN, RECEIVED, SCRIPT_LIMIT, SCRIPT_TOO_LONG, TRACE_LIMIT,
-    answers_of, comments, difference, lines_of, padded)
+from case_runner import (ARRIVED_LIMIT, FIRST_RUN, LINE_LIMIT, OUTBOX_LIMIT, PACKET_LIMIT, PLAN, RECEIVED, SCRIPT_LIMIT,
+    SCRIPT_TOO_LONG, TRACE_LIMIT, answers_of, comments, lines_of, padded)
 
 
 def script_case(runner, name, lines, summary=b'', status=0, end=b'\n'):
@@ -213,30 +212,5 @@ def script_lengths(runner):
                 data=text(b'#' * SCRIPT_LIMIT))
 
 
-def prefixes(runner):
-    """Every beginning of the first run's text is answered, and what it answers at a line's end."""
-    name = 'beginnings of the first run'
-    if not runner.wanted(name):
-        return
-    begin = len(PLAN) + len(b'script\n')
-    ends = {begin + len(lines_of(FIRST_RUN[:count])): count for count in range(len(FIRST_RUN) + 1)}
-    for size in range(len(FIRST_TEXT) + 1):
-        found = runner.run(data=FIRST_TEXT[:size])
-        if found is None or found[0] not in (0, 1):
-            runner.judge(name, 'of %d bytes: %s' % (size, 'no end' if found is None else
-                                                    'exit status %d' % found[0]))
-            return
-        # A line without its line feed counts, so the byte before a line's end gives the same.
-        for count in {ends.get(size), ends.get(size + 1)} - {None}:
-            expected = answers_of(FIRST_RUN[:count])
-            if count >= DRAINS_TO_THE_TERMINATOR:
-                expected += RECEIVED
-            wrong = difference(found, expected, 0, None)
-            if wrong:
-                runner.judge(name, 'of %d bytes: %s' % (size, wrong))
-                return
-    runner.judge(name, None)
-
-
-PARTS = [prefixes, long_lines, faults_line_by_line, long_packets, full_outbox,
+PARTS = [long_lines, faults_line_by_line, long_packets, full_outbox,
          full_trace, last_entry, rounds_at_rest, script_lengths, full_inbox]
