@@ -1,0 +1,129 @@
+//! Workers that stop after any number of turns.
+ghost use Rattle.std.specs.Prelude.{◌≤◌, length};
+ghost use Rattle.c104_workers.specs.Fabrics.{AreSeatsOf};
+
+use crate::networks::{CUBE, MESH, PLAN, busy_fabric, fabric_of, is_run, network};
+use c104_control::ControlBytes;
+use c104_event::{Event, EventFault};
+use c104_run::Net;
+use c104_workers::{Fabric, OpenGate, RunFault, Seat, run_workers};
+use std::alloc::Global;
+use std::sync::Wait;
+use std::thread::Threads;
+
+/// The most turns.
+const TURNS: u64 = 20;
+
+/// Whether workers of so many turns leave one run.
+fn leave_a_run<R: Threads + Wait + Sync>(rt: &R, alloc: Global, text: &[u8], turns: u64) -> bool {
+    let Some((fabric, mut seats)) = busy_fabric(alloc, text, 3) else {
+        return false;
+    };
+    let is_done = are_done(rt, alloc, &fabric, &mut seats, turns);
+    let gathered = fabric.close(seats);
+    let is_run = is_run(alloc, &gathered);
+    gathered.retire();
+    is_done && is_run
+}
+
+/// Whether all turns of a worker for each seat are done.
+fn are_done<R: Threads + Wait + Sync>(
+    rt: &R,
+    alloc: Global,
+    fabric: &Fabric,
+    seats: &mut Vec<Seat>,
+    turns: u64,
+) -> bool
+    requires { AreSeatsOf fabric.now.word_id seats.old.items }
+    ensures { AreSeatsOf fabric.now.word_id seats.new.items }
+{
+    if seats.is_empty() {
+        return false;
+    }
+    run_workers(alloc, rt, fabric, seats.as_mut_slice(), &OpenGate, turns).is_ok()
+}
+
+/// Wherever three workers stop, the audit of what they leave answers a run.
+#[test]
+fn after_any_turns(rt: HostRuntime) {
+    for turns in 0..=TURNS {
+        assert!(rt;
+            leave_a_run(&rt, rt.alloc(), PLAN, turns),
+            "after {turns} turns"
+        );
+        assert!(rt;
+            leave_a_run(&rt, rt.alloc(), MESH, turns),
+            "after {turns} turns"
+        );
+        assert!(rt;
+            leave_a_run(&rt, rt.alloc(), CUBE, turns),
+            "after {turns} turns"
+        );
+    }
+}
+
+/// The most entries of a trace.
+const LIMIT: usize = 1_048_576;
+
+/// A network whose switch has room for a few more entries in its trace.
+fn almost_full_network(alloc: Global) -> Option<Net> {
+    let mut net = network(alloc, PLAN)?;
+    fill(&mut net);
+    Some(net)
+}
+
+/// The switch is asked what it is, until a few more entries fill its trace.
+fn fill(net: &mut Net) {
+    let question = Event::Control {
+        switch: 0,
+        bytes: ControlBytes::new(&[0x03]),
+    };
+    for _ in 0..LIMIT - 5 {
+        let _answer = net.apply(&question);
+    }
+}
+
+/// How two workers end where the trace of the switch fills up; and whether they leave one run.
+fn end_at_a_full_trace<R: Threads + Wait + Sync>(
+    rt: &R,
+    alloc: Global,
+) -> Option<(Result<(), RunFault>, bool)> {
+    let net = almost_full_network(alloc)?;
+    let (fabric, mut seats) = fabric_of(alloc, net, 2)?;
+    let end = end_of_turns(rt, alloc, &fabric, &mut seats);
+    let gathered = fabric.close(seats);
+    let is_run = is_run(alloc, &gathered);
+    gathered.retire();
+    Some((end?, is_run))
+}
+
+/// How the turns of a worker for each seat end.
+fn end_of_turns<R: Threads + Wait + Sync>(
+    rt: &R,
+    alloc: Global,
+    fabric: &Fabric,
+    seats: &mut Vec<Seat>,
+) -> Option<Result<(), RunFault>>
+    requires { AreSeatsOf fabric.now.word_id seats.old.items }
+    ensures { AreSeatsOf fabric.now.word_id seats.new.items }
+{
+    if seats.is_empty() {
+        return None;
+    }
+    let seats = seats.as_mut_slice();
+    Some(run_workers(alloc, rt, fabric, seats, &OpenGate, TURNS))
+}
+
+/// Workers stop in a turn where the trace of a node is full, and leave one run.
+#[test]
+fn at_a_full_trace(rt: HostRuntime) {
+    let end = end_at_a_full_trace(&rt, rt.alloc());
+    assert!(rt; is_full(&end));
+}
+
+fn is_full(end: &Option<(Result<(), RunFault>, bool)>) -> bool {
+    matches!(
+        end,
+        Some((Err(RunFault::Event(_, EventFault::TraceFull)), true))
+    )
+}
