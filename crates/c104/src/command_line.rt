@@ -1,4 +1,5 @@
 //! The command line: its words, and what they ask for.
+ghost use Rattle.std.specs.Prelude.{◌≤◌};
 
 use crate::help;
 use crate::sources::STANDARD_INPUT;
@@ -50,8 +51,8 @@ pub struct Order<'a> {
     pub all: bool,
     /// Whether labels are shown as a description by `row` lines.
     pub rows: bool,
-    /// How many workers a storm has, 1 to 64.
-    pub workers: u8,
+    /// How many workers a storm is to have, if that is said.
+    pub workers: Option<u8>,
 }
 
 impl<'a> Order<'a> {
@@ -64,7 +65,7 @@ impl<'a> Order<'a> {
         cycles: false,
         all: false,
         rows: false,
-        workers: DEFAULT_WORKERS,
+        workers: None,
     };
 
     /// The order of words that were matched.
@@ -83,7 +84,7 @@ impl<'a> Order<'a> {
             cycles: given.get_flag(CYCLES),
             all: given.get_flag(ALL),
             rows: given.get_flag(ROWS),
-            workers: workers_of(given.get_one(WORKERS)),
+            workers: given.get_one(WORKERS),
         }
     }
 
@@ -96,15 +97,15 @@ impl<'a> Order<'a> {
             None => STANDARD_INPUT,
         }
     }
-}
 
-/// How many workers a storm has that asks for so many.
-fn workers_of(asked: Option<u8>) -> u8
-    ensures { (1 ≤ result) × (result ≤ 64) }
-{
-    match asked {
-        Some(count) if (1..=MAX_WORKERS).contains(&count) => count,
-        _ => DEFAULT_WORKERS,
+    /// How many workers a storm has, 1 to 64.
+    pub fn worker_count(self) -> u8
+        ensures { (1 ≤ result) × (result ≤ 64) }
+    {
+        match self.workers {
+            Some(count) if (1..=MAX_WORKERS).contains(&count) => count,
+            _ => DEFAULT_WORKERS,
+        }
     }
 }
 

@@ -216,7 +216,7 @@ fn storm_files<H: Threads + Wait + Sync>(
     let status = storm_command(
         rt.alloc(),
         threads,
-        order.workers,
+        order.worker_count(),
         &mut description,
         &mut script,
         &mut io::writer(rt),
