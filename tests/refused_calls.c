@@ -89,6 +89,14 @@ ssize_t write(int file, const void *from, size_t size) {
     return is_refused(WRITE) ? refusal() : next(file, from, moved(size));
 }
 
+/* A program that has threads ends by this, and no destructor is called then. */
+_Noreturn void _exit(int status) {
+    NEXT(_exit);
+    end();
+    next(status);
+    __builtin_unreachable();
+}
+
 /* The program makes no file, so these have no mode. */
 
 int open(const char *path, int flags, ...) {
