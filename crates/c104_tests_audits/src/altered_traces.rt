@@ -1,7 +1,7 @@
 //! Traces of a run that are altered.
 use crate::alterations::{Alteration, fault_at, wire_of};
-use c104_audit::{AuditFault, Lists, copy_entries};
-use c104_node::{Act, Entry};
+use c104_audit::{AuditFault, Lists};
+use c104_node::{Act, Entry, copy_entries};
 use c104_switch::{ActionOf, Reply};
 use c104_token::Token;
 use std::alloc::Global;
