@@ -3,7 +3,6 @@
 use Rattle.c104_plan.specs.Plans.{Plan}
 use Rattle.c104_event.specs.declared.events.Event.{Event}
 use Rattle.c104_event.specs.declared.faults.EventFault.{EventFault}
-use Rattle.c104_event.specs.declared.faults.EventFault.TheVariants as fault
 use Rattle.c104_node.specs.Records.{NodeRecord, fault_first, is_full, recorded_limit, pair_step, recorded_step}
 use Rattle.c104_node.specs.PortActs.{Acts, act_limit}
 use Rattle.c104_node.specs.declared.acts.ActOf.{ActOf}

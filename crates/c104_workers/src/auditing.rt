@@ -28,12 +28,11 @@ struct Known {
     before: Vec<Items<Entry>>,
 }
 
-/// What the nodes and the seats keep.
+/// What the nodes keep.
 #[derive(Drop)]
 struct Kept {
     nodes: Vec<NodeShape>,
     traces: Vec<Items<Entry>>,
-    calls: Vec<Items<Call>>,
 }
 
 impl Gathered {
@@ -43,8 +42,9 @@ impl Gathered {
         ensures whole { IfOk result (λ _. All IsWholeNode self.now.nodes) }
     {
         let plan = self.plan();
-        let known = known_lists(alloc, plan, self.starts.as_slice(), self.before.as_slice())?;
-        let kept = kept_lists(alloc, self.nodes(), self.seats())?;
+        let known = self.known(alloc)?;
+        let kept = kept_lists(alloc, self.nodes())?;
+        let calls = self.calls(alloc)?;
         Ok(Lists {
             first: self.first,
             switches: plan.switches().len(),
@@ -54,8 +54,30 @@ impl Gathered {
             before: Items::new(known.before),
             nodes: Items::new(kept.nodes),
             traces: Items::new(kept.traces),
-            calls: Items::new(kept.calls),
+            calls: Items::new(calls),
         })
+    }
+
+    /// The wires, and what was known of the nodes when the fabric was made. The only error is out of memory.
+    fn known(&self, alloc: Global) -> Result<Known, NoMemory>
+        ensures wires { IfOk result (λ known. known.wires.items ≡ wires self.now.handed.plan) }
+        ensures starts { IfOk result (λ known. known.starts.items ≡ self.now.handed.starts) }
+        ensures before { IfOk result (λ known. known.before.items ≡ self.now.handed.before) }
+    {
+        known_lists(
+            alloc,
+            self.plan(),
+            self.starts.as_slice(),
+            self.before.as_slice(),
+        )
+    }
+
+    /// The seats' calls, by the seats' numbers. The only error is out of memory.
+    fn calls(&self, alloc: Global) -> Result<Vec<Items<Call>>, NoMemory>
+        ensures { IfOk result (λ list.
+            list.items ≡ map (λ number. seat_list number self.now.seats) (range_with_len 0 (past_seats self.now.seats))) }
+    {
+        seat_lists(alloc, self.seats())
     }
 
     /// The run that the nodes' traces tell, where the lists are those of one run: what the network had done when the
@@ -108,21 +130,17 @@ fn known_lists(
     })
 }
 
-/// What nodes and seats keep, as lists. The only error is out of memory.
-fn kept_lists(alloc: Global, nodes: &[Node], seats: &[SeatCalls]) -> Result<Kept, NoMemory>
+/// What nodes keep, as lists. The only error is out of memory.
+fn kept_lists(alloc: Global, nodes: &[Node]) -> Result<Kept, NoMemory>
     ensures nodes { IfOk result (λ kept. kept.nodes.items ≡ map node_shape nodes.now) }
     ensures traces { IfOk result (λ kept. kept.traces.items ≡ map node_trace nodes.now) }
-    ensures calls { IfOk result (λ kept.
-        kept.calls.items ≡ map (λ number. seat_list number seats.now) (range_with_len 0 (past_seats seats.now))) }
     ensures whole { IfOk result (λ kept. All IsWholeNode nodes.now) }
 {
     let shapes = shapes_of(alloc, nodes)?;
     let traces = traces_of(alloc, nodes)?;
-    let calls = seat_lists(alloc, seats)?;
     Ok(Kept {
         nodes: shapes,
         traces,
-        calls,
     })
 }
 

@@ -12,6 +12,7 @@ ghost use Rattle.c104_workers.specs.SeatGrowth.{FaultsAs, Grew};
 use crate::calls::SeatCalls;
 use crate::gates::{Gate, OpenGate};
 use crate::lent_calls::{call_node, call_pair, call_send};
+use crate::parts::{Part, Stage};
 use crate::seats::Seat;
 use c104_event::{Event, EventFault};
 use c104_node::{Entry, Node, NodeStart};
@@ -19,7 +20,7 @@ use c104_plan::Plan;
 use c104_run::{Asked, Wires, acts_of};
 use c104_switch::Reply;
 use c104_tickets::TicketWord;
-use c104_token::{Items, Token};
+use c104_token::{Items, NoMemory, Token};
 use std::marker::Model;
 use std::sync::{Mutex, Wait};
 
@@ -214,6 +215,33 @@ impl Fabric {
                 self.apply_to_two(seat, event, &mut first, &mut second)
             }
         }
+    }
+
+    /// Lists the numbers of those events of a part's stage that its node is ready for when it is locked. For each of the
+    /// others the gate is asked here, and the event is over for a worker. The only error is out of memory.
+    pub(crate) fn list_ready<R: Wait, G: Gate>(
+        &self,
+        rt: &R,
+        part: &Part,
+        stage: Stage,
+        ready: &mut Vec<usize>,
+        gate: &G,
+        worker: usize,
+    ) -> Result<(), NoMemory> {
+        ready.clear();
+        let count = part.count(stage);
+        if count == 0 {
+            return Ok(());
+        }
+        let Some(lock) = self.locks.get(part.node) else {
+            return Ok(());
+        };
+        let node = lock.lock(rt);
+        part.add_ready(&self.wires, &node, stage, ready)?;
+        for _ in ready.len()..count {
+            gate.inside(worker, part.node);
+        }
+        Ok(())
     }
 
     /// Whether all nodes are quiet, each when it is asked: no token stands there, and no packet is under way. It locks

@@ -6,8 +6,9 @@ pub trait Gate {
     /// The worker of this number is about to begin a turn; turns are counted from 0. It holds no lock.
     fn before(&self, worker: usize, turn: u64);
 
-    /// The worker of this number has the lock of the node at this place, for an event of that node alone, or the locks of
-    /// both nodes at the ends of a wire, of which this is the lower. The event isn't done yet, and may not be ready.
+    /// The worker of this number has the lock of the node at this place, for an event that this node isn't ready for or that
+    /// is of this node alone, or the locks of both nodes at the ends of a wire, of which this is the lower. The event isn't
+    /// done yet, and may not be ready.
     fn inside(&self, worker: usize, node: usize);
 }
 

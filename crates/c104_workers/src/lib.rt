@@ -21,6 +21,7 @@ mod fabric;
 mod gates;
 mod lent_calls;
 mod making;
+mod parts;
 mod ports;
 mod seats;
 mod workers;

@@ -1,11 +1,12 @@
 //! Workers: threads that do the parts of rounds, each through a seat of its own.
-ghost use Rattle.std.specs.Prelude.{◌≡◌, ◌<◌, ◌≤◌, All, ℕ, IfOk, length, slice_index_or};
+ghost use Rattle.std.specs.Prelude.{◌≡◌, ◌≢◌, ◌%◌, ◌<◌, ◌≤◌, All, ℕ, IfOk, MatchBool, length, slice_index_or};
 ghost use Rattle.c104_workers.specs.Calls.{SeatView};
 ghost use Rattle.c104_workers.specs.Fabrics.{AreSeatsOf};
 ghost use Rattle.c104_workers.specs.Working.{EndsAs, HasWorked, IsOwnEvent};
 
 use crate::fabric::Fabric;
 use crate::gates::Gate;
+use crate::parts::{Part, Stage};
 use crate::seats::Seat;
 use c104_event::{Event, EventFault};
 use c104_run::round_part;
@@ -18,16 +19,17 @@ use thiserror::Error;
 /// Why workers didn't do all their turns.
 #[derive(Clone, Copy, Debug, PartialEq, Eq, Error)]
 pub enum RunFault {
-    /// The worker of this number stopped at an event that was refused for this, or for want of memory before its first
-    /// turn. It is the lowest of those that stopped.
+    /// The worker of this number stopped at an event that was refused for this, or out of memory between events. It is
+    /// the lowest of those that stopped.
     #[error("worker {0} stopped: {1}")]
     Event(usize, EventFault),
 }
 
 /// Does turns on a fabric by workers, each in a thread of its own: worker 0 through the first of these seats, and so on.
 /// Where no thread can be made, the workers run one after another. Of n workers number i has the nodes k with
-/// k mod n = i. In a turn it does the part that a round has for each of these nodes, by their numbers, and asks the gate
-/// before it and inside each event. It stops at its first event that is refused; an event that isn't ready is none.
+/// k mod n = i. In a turn it does the part that a round has for each of these nodes, by their numbers: it asks the node
+/// which of these events it is ready for, and does these in turn. The gate is asked before the turn, and inside each event
+/// of the part, done or not. A worker stops at its first event that is refused; an event that isn't ready is none.
 ///
 /// There is at least one seat. What was done stays done.
 pub fn run_workers<R: Threads + Wait + Sync, G: Gate + Sync>(
@@ -107,42 +109,92 @@ impl<R: Wait, G: Gate> Worker<'_, R, G> {
         requires word { seat.old.0.word_id ≡ self.now.fabric.now.word_id }
         ensures { HasWorked self.now.fabric.now.handed.plan self.now.count self.now.number seat.old.0 seat.new.0 }
     {
-        let events = self.own_events(alloc)?;
+        let parts = self.own_parts(alloc)?;
+        let mut ready = Vec::new(alloc);
         for turn in 0..turns {
             self.gate.before(self.number, turn);
-            self.do_turn(seat, &events)?;
+            self.do_turn(seat, &parts, &mut ready)?;
         }
         Ok(())
     }
 
-    /// Does events of the worker's own, up to the first that is refused.
-    fn do_turn(&self, seat: &mut Seat, events: &[Event]) -> Result<(), EventFault>
+    /// Does the parts of the worker's own nodes, up to the first event that is refused. The list is for the numbers of those
+    /// that a node is ready for.
+    fn do_turn(
+        &self,
+        seat: &mut Seat,
+        parts: &[Part],
+        ready: &mut Vec<usize>,
+    ) -> Result<(), EventFault>
+        requires word { seat.old.0.word_id ≡ self.now.fabric.now.word_id }
+        requires own { All (λ part. All (IsOwnEvent self.now.fabric.now.handed.plan self.now.count self.now.number)
+            part.events.items) parts.now }
+        ensures { HasWorked self.now.fabric.now.handed.plan self.now.count self.now.number seat.old.0 seat.new.0 }
+    {
+        for part in parts {
+            self.do_part(seat, part, ready)?;
+        }
+        Ok(())
+    }
+
+    /// Does the part of a node, stage by stage, up to the first event that is refused.
+    fn do_part(
+        &self,
+        seat: &mut Seat,
+        part: &Part,
+        ready: &mut Vec<usize>,
+    ) -> Result<(), EventFault>
+        requires word { seat.old.0.word_id ≡ self.now.fabric.now.word_id }
+        requires own { All (IsOwnEvent self.now.fabric.now.handed.plan self.now.count self.now.number) part.now.events.items }
+        ensures { HasWorked self.now.fabric.now.handed.plan self.now.count self.now.number seat.old.0 seat.new.0 }
+    {
+        for stage in [Stage::Crossings, Stage::Turns, Stage::Claims] {
+            self.fabric
+                .list_ready(self.rt, part, stage, ready, self.gate, self.number)?;
+            self.do_ready(seat, part.events.as_slice(), ready.as_slice())?;
+        }
+        Ok(())
+    }
+
+    /// Does the events of these numbers, up to the first that is refused.
+    fn do_ready(&self, seat: &mut Seat, events: &[Event], ready: &[usize]) -> Result<(), EventFault>
         requires word { seat.old.0.word_id ≡ self.now.fabric.now.word_id }
         requires own { All (IsOwnEvent self.now.fabric.now.handed.plan self.now.count self.now.number) events.now }
         ensures { HasWorked self.now.fabric.now.handed.plan self.now.count self.now.number seat.old.0 seat.new.0 }
     {
-        for event in events {
+        for number in ready {
+            let Some(event) = events.get(*number) else {
+                continue;
+            };
             self.fabric
                 .apply_by_worker(self.rt, seat, event, self.gate, self.number)?;
         }
         Ok(())
     }
 
-    /// The events of a turn: the parts that a round has for the worker's nodes, one after another. The only error is out
-    /// of memory.
-    fn own_events(&self, alloc: Global) -> Result<Vec<Event>, NoMemory>
+    /// The parts that a round has for the worker's nodes. The only error is out of memory.
+    fn own_parts(&self, alloc: Global) -> Result<Vec<Part>, NoMemory>
         requires some { 1 ≤ self.now.count }
-        ensures { IfOk result (λ events.
-            All (IsOwnEvent self.now.fabric.now.handed.plan self.now.count self.now.number) events.items) }
+        ensures { IfOk result (λ parts.
+            All (λ part. All (IsOwnEvent self.now.fabric.now.handed.plan self.now.count self.now.number)
+            part.events.items) parts.items) }
     {
         let plan = self.fabric.plan();
-        let mut events = Vec::new(alloc);
+        let mut parts = Vec::new(alloc);
         for node in 0..self.fabric.node_count() {
-            if node % self.count == self.number {
-                let mut part = round_part(alloc, plan, node)?;
-                events.append(&mut part)?;
+            if self.owns(node) {
+                let events = round_part(alloc, plan, node)?;
+                parts.push(Part::new(node, events))?;
             }
         }
-        Ok(events)
+        Ok(parts)
+    }
+
+    /// Whether a node is one of the worker's own.
+    fn owns(&self, node: usize) -> bool
+        requires { 1 ≤ self.now.count }
+        ensures { MatchBool result (node % self.now.count ≡ self.now.number) (node % self.now.count ≢ self.now.number) }
+    {
+        node % self.count == self.number
     }
 }

@@ -1,7 +1,5 @@
 use Rattle.std.proofs.Common.{Some, refl, slice_get, ◌≡◌}
 use Rattle.std.proofs.lemmas.Option.{slice_get_read}
-use Rattle.c104_plan.specs.Plans.{host_port}
-use Rattle.c104_plan.specs.declared.ports.Port.TheVariants as port
 use Rattle.c104_workers.proofs.AuditedLeft.{wire_next}
 use Rattle.c104_workers.proofs.auditing.all_wires.Goals as goal
 
