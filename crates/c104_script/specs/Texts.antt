@@ -1,5 +1,5 @@
 -- What is printed: tokens, replies, refusals and faults.
-use Rattle.std.specs.Prelude.{ℕ, List, ◌∷◌, ◌++◌, flat_map, codes}
+use Rattle.std.specs.Prelude.{ℕ, List, [], ◌∷◌, ◌++◌, flat_map, codes, Option, Some, None}
 use Rattle.std.specs.Fmt.{decimal}
 use Rattle.c104_token.specs.declared.tokens.Token.{Token}
 use Rattle.c104_token.specs.declared.tokens.Token.TheVariants as token
@@ -66,6 +66,7 @@ answer_text (Faulty kind) = codes "fault " ++ fault_words (line_fault_number kin
 abbrev pub answer_line : ℕ → Answer → List ℕ
 answer_line number answer = decimal number ++ (codes ": " ++ (answer_text answer ++ codes "\n"))
 
--- what stands in the summary's place where a script is too long
-abbrev pub script_too_long : List ℕ
-script_too_long = codes "script too long\n"
+-- what is shown of a line of this number: the line of its answer, if it has one
+abbrev pub shown : ℕ → Option Answer → List ℕ
+shown number None = []
+shown number (Some answer) = answer_line number answer

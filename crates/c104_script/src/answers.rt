@@ -62,8 +62,8 @@ fn add_line(number: usize, answer: &Answer, text: &mut Vec<u8>) -> Result<(), No
     Ok(())
 }
 
-/// A number joins the text, in decimal digits.
-pub(crate) fn add_number(number: usize, text: &mut Vec<u8>) -> Result<(), NoMemory>
+/// A number joins the text, in decimal digits. The only error is out of memory.
+pub fn add_number(number: usize, text: &mut Vec<u8>) -> Result<(), NoMemory>
     ensures { OnOk result (text.new.items ≡ text.old.items ++ decimal number) }
 {
     let mut digits = Buffer::new();

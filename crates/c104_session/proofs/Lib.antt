@@ -1,9 +1,6 @@
 pub mod Printing
 pub mod PacketLines
-pub mod Lines
 pub mod LinesLaw
 pub mod Leavings
-pub mod ScriptSoFar
-pub mod ScriptEnds
 pub mod PlanRuns
 pub mod Starts

@@ -7,7 +7,8 @@ use Rattle.std.proofs.Math.Seq.{take-append_seam}
 use mathlib.Core.List.{append_assoc}
 use Rattle.c104_script.specs.TextLines.{is_line, ended, joined, AreLinesOf}
 use Rattle.c104_script.proofs.PartsLaw.{both_are, by_test, first_is, is_feed, line_on}
-use Rattle.c104_session.specs.Lines.{lines_within, script_lines, most_script, AreFirstLines, AreScriptLines, AreOnlyLines}
+use Rattle.c104_stream.specs.ScriptLines.{lines_within, script_lines, most_script}
+use Rattle.c104_session.specs.Lines.{AreFirstLines, AreScriptLines, AreOnlyLines}
 
 -- one line before these
 line_before : (line text : List ℕ) (lines : List (List ℕ)) → is_line line ≡ true → AreLinesOf text lines → AreLinesOf (line ++ 10 ∷ text) (line ∷ lines)

@@ -1,37 +1,8 @@
--- The lines of a script that comes byte by byte.
-use Rattle.std.specs.Prelude.{ℕ, zero, suc, ◌-◌, ◌==◌, ◌≡◌, ◌<◌, ◌≤◌, Bool, true, List, [], ◌∷◌, ◌++◌, length, take, nat_lt, if◌then◌else◌}
+-- What the lines of a script are, however they are computed.
+use Rattle.std.specs.Prelude.{ℕ, ◌-◌, ◌≡◌, ◌<◌, ◌≤◌, true, List, ◌++◌, length, take}
 use Rattle.std.specs.List.{list_all}
-use Rattle.c104_stream.specs.Reading.{piece_before}
+use Rattle.c104_stream.specs.ScriptLines.{most_script}
 use Rattle.c104_script.specs.TextLines.{is_line, ended, AreLinesOf}
-
--- the lines of a text that end in a line feed; front is what was read of the first
-abbrev pub whole_lines : List ℕ → List ℕ → List (List ℕ)
-whole_lines front [] = []
-whole_lines front (byte ∷ text) =
-    if byte == 10 then front ∷ whole_lines [] text else whole_lines (front ++ byte ∷ []) text
-
--- what follows the last line feed
-abbrev pub last_line : List ℕ → List ℕ → List ℕ
-last_line front [] = front
-last_line front (byte ∷ text) =
-    if byte == 10 then last_line [] text else last_line (front ++ byte ∷ []) text
-
--- the most bytes of a script: 16 MiB
-abbrev pub most_script : ℕ
-most_script = 16777216
-
--- the lines of a script that are answered: those that end within a given number of bytes by a line feed
--- or with the script. front is what was read of the first.
-abbrev pub lines_within : ℕ → List ℕ → List ℕ → List (List ℕ)
-lines_within bytes front [] = front ∷ []
-lines_within zero front (byte ∷ script) = []
-lines_within (suc bytes) front (byte ∷ script) =
-    if byte == 10 then front ∷ lines_within bytes [] script else lines_within bytes (front ++ byte ∷ []) script
-
--- the lines of a script that are answered: those that end, by a line feed or with the script, within as
--- many bytes as a script may have
-unfoldable pub script_lines : List ℕ → List (List ℕ)
-script_lines script = lines_within most_script [] script
 
 -- the lines of a text that a line feed ends within a given number of bytes: with their line feeds they begin the
 -- text, and within that number no other line feed follows
@@ -50,15 +21,3 @@ AreScriptLines script lines = (length script ≤ most_script → AreLinesOf scri
 -- these are the lines of a script that are answered, and no others are
 unfoldable pub AreOnlyLines : List ℕ → List (List ℕ) → Type 0
 AreOnlyLines script lines = AreScriptLines script lines × ((others : List (List ℕ)) → AreScriptLines script others → others ≡ lines)
-
--- whether a script is too long
-abbrev pub is_long : List ℕ → Bool
-is_long script = nat_lt most_script (length script)
-
--- a byte joined the line, and then a number of bytes that were read ahead of it: those before the next line
--- feed, but no more than most
-pub record JoinsLine (byte most : ℕ) (old new line longer : List ℕ) (count : ℕ) : Type 0 where
-  pub counted : count ≡ length (piece_before 10 most old)
-  pub few : count ≤ most
-  pub taken : old ≡ piece_before 10 most old ++ new
-  pub joined : longer ≡ line ++ byte ∷ piece_before 10 most old

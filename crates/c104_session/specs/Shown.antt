@@ -21,7 +21,8 @@ use Rattle.c104_run.specs.RecordedRuns.{record_apply}
 use Rattle.c104_run.specs.Rounds.{rounds}
 use Rattle.c104_net.specs.TracedEnds.{traced_end}
 use Rattle.c104_node.specs.declared.traced.Traced.{Traced}
-use Rattle.c104_session.specs.Lines.{script_lines, is_long}
+use Rattle.c104_stream.specs.ScriptLines.{is_long, script_too_long}
+use Rattle.c104_stream.specs.Scripts.{script_outcome}
 use Rattle.c104_script.specs.Script.{read_script_line}
 use Rattle.c104_script.specs.declared.faults.LineFault.{LineFault}
 use Rattle.c104_script.specs.declared.places.Request.{Request}
@@ -30,7 +31,7 @@ use Rattle.c104_script.specs.declared.answers.Answer.TheVariants.{Replied, Refus
 use Rattle.c104_session.specs.declared.session.Session.{Session}
 use Rattle.c104_session.specs.Probing.{probe_answer}
 use Rattle.c104_script.specs.declared.answers.Answer.{Answer}
-use Rattle.c104_script.specs.Texts.{token_text, answer_line, script_too_long}
+use Rattle.c104_script.specs.Texts.{shown, token_text}
 
 -- a network of this plan with an image, before the first line
 abbrev pub new_session : Plan → Image → Session
@@ -77,22 +78,9 @@ unfoldable pub line_answer : Session → List ℕ → Option Answer × Session
 line_answer session text =
     answer_of_read session (read_script_line session.net.network.plan text)
 
--- what is shown of a line of this number: the line of its answer, if it has one
-abbrev pub shown : ℕ → Option Answer → List ℕ
-shown number None = []
-shown number (Some answer) = answer_line number answer
-
 -- what a line of this number shows, and the run after it
 unfoldable pub line_outcome : ℕ → Session → List ℕ → List ℕ × Session
 line_outcome number session text = let r = line_answer session text in (shown number r.0, r.1)
-
--- what these lines show, the first of which has this number, and the run after them
-abbrev pub lines_outcome : ℕ → Session → List (List ℕ) → List ℕ × Session
-lines_outcome line session [] = ([], session)
-lines_outcome line session (text ∷ more) =
-    let this = line_outcome line session text in
-    let rest = lines_outcome (suc line) this.1 more in
-    (this.0 ++ rest.0, rest.1)
 
 -- a packet's tokens, parted by spaces
 abbrev pub tokens_text : List Token → List ℕ
@@ -133,12 +121,8 @@ abbrev pub output_with_summary : Bool → List ℕ × Session → List ℕ × Bo
 output_with_summary true r = (r.0 ++ script_too_long, true)
 output_with_summary false r = (r.0 ++ summary (record_finish r.1.net), r.1.faulty)
 
--- the answers to a script's lines, and the run after them
-abbrev pub script_outcome : Session → List ℕ → List ℕ × Session
-script_outcome session script = lines_outcome 1 session (script_lines script)
-
 -- what a run on the network of a plan with an image shows, and whether any of it was refused: the answers to
 -- the script, line by line, and the summary
 abbrev pub run_output : Plan → Image → List ℕ → List ℕ × Bool
 run_output plan image script =
-    output_with_summary (is_long script) (script_outcome (new_session plan image) script)
+    output_with_summary (is_long script) (script_outcome line_outcome (new_session plan image) script)

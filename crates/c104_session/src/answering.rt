@@ -1,20 +1,18 @@
 //! A script, read and answered line by line.
-ghost use Rattle.std.specs.Prelude.{ℕ, ◌≡◌, ◌++◌, List, [], IfOk, MatchResult, OnOk};
+ghost use Rattle.std.specs.Prelude.{ℕ, ◌≡◌, List, [], MatchResult, OnOk};
 ghost use Rattle.std.specs.Io.KnownBytes.{prepend_known};
-ghost use Rattle.c104_stream.specs.Reading.{GivesByte};
-ghost use Rattle.c104_stream.specs.Writing.{AppendsAndKeeps};
-ghost use Rattle.c104_session.specs.Lines.{script_lines, AreOnlyLines, JoinsLine};
-ghost use Rattle.c104_session.specs.Runs.{AnswersLine, AnswersLines, AnswersScript, LineStops, ReadStops, TextStops};
-ghost use Rattle.c104_session.specs.Shown.{shown};
+ghost use Rattle.c104_stream.specs.ScriptLines.{script_lines};
+ghost use Rattle.c104_stream.specs.Scripts.{AnswersLine, AnswersLines, AnswersScript, LineStops};
+ghost use Rattle.c104_session.specs.Lines.{AreOnlyLines};
+ghost use Rattle.c104_session.specs.Shown.{line_outcome};
 
 use crate::explaining::{ScriptLine, explain_line};
 use crate::progress::Progress;
 use crate::session::Session;
 use crate::tally::Tally;
 use c104_mistakes::{About, Messages};
-use c104_script::{Answer, add_answer};
-use c104_stream::{Ahead, Halt, Kept};
-use c104_token::NoMemory;
+use c104_script::{Answer, keep_answer};
+use c104_stream::{Ahead, Halt, Kept, MAX_SCRIPT, add_bytes, next_byte};
 use std::alloc::Global;
 use std::io::{Read, Write};
 
@@ -30,9 +28,6 @@ pub(crate) struct Answered {
 /// What is told of an empty script.
 const NOTHING: &str =
     "the script is empty; in one text with the description it follows a line with the one word `script`";
-
-/// The most bytes of a script: 16 MiB.
-pub const MAX_SCRIPT: usize = 16_777_216;
 
 /// Answers the lines of a script as they are read. Answers are written before the script's reader is asked for
 /// more, whenever there are 64 KiB of them, and at the end. Says whether the script is longer than it may
@@ -50,7 +45,7 @@ pub fn answer_script<S: Read, W: Write, M: Messages>(
     writer: &mut W,
     messages: &mut M,
 ) -> Result<bool, Halt>
-    ensures answered { AnswersScript session.old (prepend_known ahead.old (S.remaining script.old))
+    ensures answered { AnswersScript line_outcome session.old (prepend_known ahead.old (S.remaining script.old))
         (S.remaining script.new) (W.contents writer.old) (W.contents writer.new) session.new result }
 
     // What the lines of a script are, in words: those that are answered are computed byte by byte.
@@ -89,7 +84,7 @@ fn answer_lines<S: Read, W: Write, M: Messages>(
     messages: &mut M,
 ) -> Result<bool, Halt>
     requires { kept.old ≡ [] }
-    ensures { AnswersLines session.old (prepend_known ahead.old (S.remaining script.old))
+    ensures { AnswersLines line_outcome session.old (prepend_known ahead.old (S.remaining script.old))
         (S.remaining script.new) (W.contents writer.old) (W.contents writer.new) kept.new session.new result }
 {
     let mut buffers = Buffers {
@@ -135,7 +130,7 @@ fn read_and_answer<S: Read, W: Write, M: Messages>(
 ) -> Result<bool, Halt>
     requires kept { kept.old ≡ [] }
     requires line { buffers.old.line.items ≡ [] }
-    ensures { AnswersLines session.old (prepend_known ahead.old (S.remaining script.old))
+    ensures { AnswersLines line_outcome session.old (prepend_known ahead.old (S.remaining script.old))
         (S.remaining script.new) (W.contents writer.old) (W.contents writer.new) kept.new session.new result }
 {
     let mut number = 1;
@@ -162,27 +157,6 @@ fn read_and_answer<S: Read, W: Write, M: Messages>(
     }
 }
 
-/// The next byte of a script, or None at its end. What is kept is written before the reader is asked.
-fn next_byte<S: Read, W: Write>(
-    ahead: &mut Ahead,
-    script: &mut S,
-    kept: &mut Kept,
-    writer: &mut W,
-) -> Result<Option<u8>, Halt>
-    ensures { MatchResult result
-        (λ next. GivesByte (prepend_known ahead.old (S.remaining script.old))
-        (prepend_known ahead.new (S.remaining script.new)) next ×
-        AppendsAndKeeps (W.contents writer.old) (W.contents writer.new) kept.new kept.old)
-        (λ halt. ReadStops (prepend_known ahead.old (S.remaining script.old)) (S.remaining script.new)
-        (W.contents writer.old) (W.contents writer.new) kept.old kept.new halt) }
-{
-    if ahead.is_empty() {
-        kept.flush(writer)?;
-    }
-    let next = ahead.next_byte(script)?;
-    Ok(next)
-}
-
 /// Does what the line in the buffers asks. The line that answers it joins what is kept. Then what is to be told of it
 /// is told, and the buffer is empty for the next line.
 fn answer_line<W: Write, M: Messages>(
@@ -195,9 +169,9 @@ fn answer_line<W: Write, M: Messages>(
     messages: &mut M,
 ) -> Result<(), Halt>
     ensures answered { MatchResult result
-        (λ _. AnswersLine session.old number buffers.old.line.items
+        (λ _. AnswersLine line_outcome session.old number buffers.old.line.items
         (W.contents writer.old) (W.contents writer.new) kept.old kept.new session.new)
-        (λ halt. LineStops session.old number buffers.old.line.items
+        (λ halt. LineStops line_outcome session.old number buffers.old.line.items
         (W.contents writer.old) (W.contents writer.new) kept.old kept.new halt) }
     ensures cleared { OnOk result (buffers.new.line.items ≡ []) }
 {
@@ -228,9 +202,9 @@ fn answer_and_explain<W: Write, M: Messages>(
     messages: &mut M,
 ) -> Result<(), Halt>
     ensures { MatchResult result
-        (λ _. AnswersLine session.old number line.now
+        (λ _. AnswersLine line_outcome session.old number line.now
         (W.contents writer.old) (W.contents writer.new) kept.old kept.new session.new)
-        (λ halt. LineStops session.old number line.now
+        (λ halt. LineStops line_outcome session.old number line.now
         (W.contents writer.old) (W.contents writer.new) kept.old kept.new halt) }
 {
     let Output { text, tally } = output;
@@ -258,9 +232,9 @@ fn give_answer<W: Write, M: Messages>(
     messages: &mut M,
 ) -> Result<Answered, Halt>
     ensures { MatchResult result
-        (λ _. AnswersLine session.old number line.now
+        (λ _. AnswersLine line_outcome session.old number line.now
         (W.contents writer.old) (W.contents writer.new) kept.old kept.new session.new)
-        (λ halt. LineStops session.old number line.now
+        (λ halt. LineStops line_outcome session.old number line.now
         (W.contents writer.old) (W.contents writer.new) kept.old kept.new halt) }
 {
     let mut progress = Progress::of_line(number, messages);
@@ -268,41 +242,4 @@ fn give_answer<W: Write, M: Messages>(
     let rounds = progress.done();
     keep_answer(number, &answer, text, kept, writer)?;
     Ok(Answered { answer, rounds })
-}
-
-/// The line of an answer, if there is one, joins what is kept; the text is where it is printed.
-fn keep_answer<W: Write>(
-    number: usize,
-    answer: &Option<Answer>,
-    text: &mut Vec<u8>,
-    kept: &mut Kept,
-    writer: &mut W,
-) -> Result<(), Halt>
-    ensures { MatchResult result
-        (λ _. AppendsAndKeeps (W.contents writer.old) (W.contents writer.new) kept.new
-        (kept.old ++ shown number answer.now))
-        (λ halt. TextStops (shown number answer.now)
-        (W.contents writer.old) (W.contents writer.new) kept.old kept.new halt) }
-{
-    text.clear();
-    if let Some(answer) = answer {
-        add_answer(number, answer, text)?;
-    }
-    kept.add(writer, text.as_slice())?;
-    Ok(())
-}
-
-/// A byte joins the line, and so does what is read ahead of that line, but no more than `most` bytes. Says
-/// how many joined after the first. The only error is out of memory.
-fn add_bytes(
-    ahead: &mut Ahead,
-    line: &mut Vec<u8>,
-    byte: u8,
-    most: usize,
-) -> Result<usize, NoMemory>
-    ensures { IfOk result (λ count. JoinsLine byte most ahead.old ahead.new line.old.items line.new.items count) }
-{
-    line.push(byte)?;
-    let count = ahead.take_before(b'\n', most, line)?;
-    Ok(count)
 }

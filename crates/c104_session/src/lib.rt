@@ -28,7 +28,7 @@ mod summary;
 mod tally;
 mod tools;
 
-pub use answering::{MAX_SCRIPT, answer_script};
+pub use answering::answer_script;
 pub use ended::EndedNet;
 pub use runs::run_plan;
 pub use session::{Ended, Session};

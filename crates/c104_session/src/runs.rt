@@ -13,7 +13,7 @@ use crate::summary::summary_text;
 use c104_explain::leftover_messages;
 use c104_mistakes::{About, Messages};
 use c104_plan::{Image, Plan};
-use c104_stream::{Ahead, Halt, write_whole};
+use c104_stream::{Ahead, Halt, too_long_line, write_whole};
 use std::alloc::Global;
 use std::io::{Read, Write};
 
@@ -95,7 +95,7 @@ fn write_end<W: Write>(
     ensures { WritesText (end_text is_long run.now) (W.contents writer.old) (W.contents writer.new) result }
 {
     if is_long {
-        write_whole(writer, b"script too long\n")?;
+        write_whole(writer, too_long_line())?;
         return Ok(());
     }
     let summary = summary_text(alloc, run)?;

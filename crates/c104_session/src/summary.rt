@@ -1,7 +1,6 @@
 //! The summary of a run: what arrived at each terminal, and where it came from.
 ghost use Rattle.std.specs.Prelude.{◌≡◌, ◌++◌, ◌<◌, List, IfOk, OnOk, flat_map, length, map, option_to_list};
 ghost use Rattle.std.specs.Global.{Vec as Kept};
-ghost use Rattle.c104_plan.specs.PortTexts.{terminal_name};
 ghost use Rattle.c104_net.specs.Deliveries.{arrived_at};
 ghost use Rattle.c104_net.specs.RunOrigins.{AreOrigins};
 ghost use Rattle.c104_node.specs.Origins.{AreSure, origins_in};
@@ -14,6 +13,7 @@ ghost use Rattle.c104_token.specs.Packets.{packet_tokens};
 use crate::ended::EndedNet;
 use c104_net::{Origin, Origins};
 use c104_plan::Plan;
+use c104_script::add_name;
 use c104_token::{NoMemory, Packet, Token, cut_packets, print_packet};
 use itoa::Buffer;
 use std::alloc::Global;
@@ -129,15 +129,5 @@ fn add_origin(plan: &Plan, origin: Option<Origin>, text: &mut Vec<u8>) -> Result
     add_name(plan, origin.terminal, text)?;
     text.push(b' ')?;
     text.extend_from_slice(digits.format(origin.number).as_bytes())?;
-    Ok(())
-}
-
-/// The name of a terminal joins the text.
-fn add_name(plan: &Plan, number: usize, text: &mut Vec<u8>) -> Result<(), NoMemory>
-    ensures { OnOk result (text.new.items ≡ text.old.items ++ terminal_name plan.now number) }
-{
-    if let Some(terminal) = plan.terminals().get(number) {
-        text.extend_from_slice(terminal.name.as_bytes())?;
-    }
     Ok(())
 }

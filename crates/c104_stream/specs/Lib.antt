@@ -1,3 +1,5 @@
 pub mod Reading
+pub mod ScriptLines
+pub mod Scripts
 pub mod Writing
 pub mod Halts

@@ -15,3 +15,8 @@ pub record AppendsAndKeeps (old new : Option (List ℕ)) (kept bytes : List ℕ)
   pub written : List ℕ
   pub grew : Appends old new written
   pub is_all : bytes ≡ written ++ kept
+
+-- what a writer holds grew by some bytes, and what it held before stays
+pub record Grew (old new : Option (List ℕ)) : Type 0 where
+  pub written : List ℕ
+  pub grew : Appends old new written

@@ -1,6 +1,6 @@
 use Rattle.c104_stream.specs.declared.halt.Halt.TheVariants as halt
 use Rattle.c104_session.proofs.PlanRuns.{nothing_run}
-use Rattle.c104_session.proofs.ScriptEnds.{err_is}
+use Rattle.c104_stream.proofs.ScriptEnds.{err_is}
 use Rattle.c104_session.proofs.runs.run_plan.Goals as goal
 
 pub returns-in_err-session : goal.returns-in_err-session

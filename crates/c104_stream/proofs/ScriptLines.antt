@@ -2,9 +2,8 @@
 use Rattle.std.proofs.Common.{◌≡◌, ℕ, zero, suc, ◌+◌, ◌-◌, ◌≤◌, ◌==◌, Bool, true, false, not, cond, List, [], ◌∷◌, ◌++◌, length, take, if◌then◌else◌, sym, ap, ◌∙◌, refl, subst, arith}
 use Rattle.std.specs.List.{before_first}
 use mathlib.Core.List.{append_assoc, append-nil}
-use Rattle.c104_session.specs.declared.session.Session.{Session}
-use Rattle.c104_session.specs.Lines.{whole_lines, last_line, lines_within}
-use Rattle.c104_session.specs.Shown.{line_outcome, lines_outcome}
+use Rattle.c104_stream.specs.ScriptLines.{whole_lines, last_line, lines_within}
+use Rattle.c104_stream.specs.Scripts.{Answering, lines_outcome}
 
 -- a choice on both sides, by the same test
 by_test : {A B C : Type 0} (f : B → C → A) (test : Bool) (x y : A) (u v : B) (s t : C) → x ≡ f u s → y ≡ f v t → (if test then x else y) ≡ f (if test then u else v) (if test then s else t)
@@ -68,20 +67,21 @@ lines_after (suc bytes) front (b ∷ read) rest room =
     ∙ ap (λ n. whole_lines front (b ∷ read) ++ lines_within n (last_line front (b ∷ read)) rest) (sym same)
 
 -- what more lines show, after these
-abbrev pub shown_after : ℕ → Session → List (List ℕ) → List (List ℕ) → List ℕ × Session
-shown_after line session lines more = lines_outcome (line + length lines) (lines_outcome line session lines).1 more
+module _ {S : Type 0} (answer : Answering S) where
+  abbrev pub shown_after : ℕ → S → List (List ℕ) → List (List ℕ) → List ℕ × S
+  shown_after line state lines more = lines_outcome answer (line + length lines) (lines_outcome answer line state lines).1 more
 
-pub text_on : (line : ℕ) (session : Session) (lines more : List (List ℕ)) → (lines_outcome line session (lines ++ more)).0 ≡ (lines_outcome line session lines).0 ++ (shown_after line session lines more).0
-text_on line session [] more = ap (λ n. (lines_outcome n session more).0) (omega arith)
-text_on line session (text ∷ lines) more =
-    let this : List ℕ × Session = line_outcome line session text in
-    let next : suc line + length lines ≡ line + suc (length lines) = omega arith in
-    ap (λ rest. this.0 ++ rest) (text_on (suc line) this.1 lines more) ∙ sym (append_assoc this.0 (lines_outcome (suc line) this.1 lines).0 (shown_after (suc line) this.1 lines more).0)
-    ∙ ap (λ n. (this.0 ++ (lines_outcome (suc line) this.1 lines).0) ++ (lines_outcome n (lines_outcome (suc line) this.1 lines).1 more).0) next
+  pub text_on : (line : ℕ) (state : S) (lines more : List (List ℕ)) → (lines_outcome answer line state (lines ++ more)).0 ≡ (lines_outcome answer line state lines).0 ++ (shown_after line state lines more).0
+  text_on line state [] more = ap (λ n. (lines_outcome answer n state more).0) (omega arith)
+  text_on line state (text ∷ lines) more =
+      let this : List ℕ × S = answer line state text in
+      let next : suc line + length lines ≡ line + suc (length lines) = omega arith in
+      ap (λ rest. this.0 ++ rest) (text_on (suc line) this.1 lines more) ∙ sym (append_assoc this.0 (lines_outcome answer (suc line) this.1 lines).0 (shown_after (suc line) this.1 lines more).0)
+      ∙ ap (λ n. (this.0 ++ (lines_outcome answer (suc line) this.1 lines).0) ++ (lines_outcome answer n (lines_outcome answer (suc line) this.1 lines).1 more).0) next
 
-pub session_on : (line : ℕ) (session : Session) (lines more : List (List ℕ)) → (lines_outcome line session (lines ++ more)).1 ≡ (shown_after line session lines more).1
-session_on line session [] more = ap (λ n. (lines_outcome n session more).1) (omega arith)
-session_on line session (text ∷ lines) more =
-    let this : List ℕ × Session = line_outcome line session text in
-    let next : suc line + length lines ≡ line + suc (length lines) = omega arith in
-    session_on (suc line) this.1 lines more ∙ ap (λ n. (lines_outcome n (lines_outcome (suc line) this.1 lines).1 more).1) next
+  pub state_on : (line : ℕ) (state : S) (lines more : List (List ℕ)) → (lines_outcome answer line state (lines ++ more)).1 ≡ (shown_after line state lines more).1
+  state_on line state [] more = ap (λ n. (lines_outcome answer n state more).1) (omega arith)
+  state_on line state (text ∷ lines) more =
+      let this : List ℕ × S = answer line state text in
+      let next : suc line + length lines ≡ line + suc (length lines) = omega arith in
+      state_on (suc line) this.1 lines more ∙ ap (λ n. (lines_outcome answer n (lines_outcome answer (suc line) this.1 lines).1 more).1) next

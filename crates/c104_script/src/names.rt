@@ -1,0 +1,17 @@
+//! Names in what is printed.
+ghost use Rattle.std.specs.Prelude.{◌≡◌, ◌++◌, OnOk};
+ghost use Rattle.c104_plan.specs.PortTexts.{terminal_name};
+
+use c104_plan::Plan;
+use c104_token::NoMemory;
+
+/// The name of the terminal of this number joins the text; nothing does where the plan has no such terminal. The only error is out of
+/// memory.
+pub fn add_name(plan: &Plan, number: usize, text: &mut Vec<u8>) -> Result<(), NoMemory>
+    ensures { OnOk result (text.new.items ≡ text.old.items ++ terminal_name plan.now number) }
+{
+    if let Some(terminal) = plan.terminals().get(number) {
+        text.extend_from_slice(terminal.name.as_bytes())?;
+    }
+    Ok(())
+}
