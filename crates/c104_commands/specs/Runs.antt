@@ -4,10 +4,10 @@ use Rattle.std.specs.Io.KnownBytes.{Appends, Keeps}
 use Rattle.c104_plan.specs.Plans.{Plan}
 use Rattle.c104_describe.specs.declared.faults.PlanFault.{PlanFault}
 use Rattle.c104_describe.specs.PlanText.{read_description}
+use Rattle.c104_stream.specs.Scripts.{AnswersPrefix, StopsAnswered}
 use Rattle.c104_stream.specs.Writing.{AppendsPrefix}
 use Rattle.c104_script.specs.Parts.{parts}
-use Rattle.c104_session.specs.Shown.{new_session, run_output}
-use Rattle.c104_session.specs.Runs.{AnswersPrefix, StopsAnswered}
+use Rattle.c104_session.specs.Shown.{line_outcome, new_session, run_output}
 use Rattle.c104_commands.specs.Setups.{ComesTo, SetupResult, refused_text}
 use Rattle.c104_commands.specs.declared.status.Status.{Status}
 use Rattle.c104_commands.specs.declared.status.Status.TheVariants as status
@@ -21,12 +21,12 @@ setup_output (Ok both) script = run_output both.0 both.1 script
 -- the script's reader failed, and there is a network
 abbrev pub FailsInScript : SetupResult → List ℕ → Option (List ℕ) → Option (List ℕ) → Option (List ℕ) → Type 0
 FailsInScript (Err why) script left held holds = ⊥
-FailsInScript (Ok both) script left held holds = AnswersPrefix (new_session both.0 both.1) script left held holds
+FailsInScript (Ok both) script left held holds = AnswersPrefix line_outcome (new_session both.0 both.1) script left held holds
 
 -- out of memory in the script, and there is a network
 abbrev pub StopsInScript : SetupResult → List ℕ → Option (List ℕ) → Option (List ℕ) → Option (List ℕ) → Type 0
 StopsInScript (Err why) script left held holds = ⊥
-StopsInScript (Ok both) script left held holds = StopsAnswered (new_session both.0 both.1) script left held holds
+StopsInScript (Ok both) script left held holds = StopsAnswered line_outcome (new_session both.0 both.1) script left held holds
 
 -- what a run has written when it ends so: all that it shows; or, where a writer failed, a prefix of that, and
 -- something was left to write; where it is out of memory, nothing, or the answers to the first lines of what was read,

@@ -1,12 +1,14 @@
 //! The command that lets a storm go over a description's network.
-ghost use Rattle.std.specs.Prelude.{ℕ, ◌≡◌, ◌≤◌, ◌≢◌};
+ghost use Rattle.std.specs.Prelude.{ℕ, ◌≡◌, ◌≤◌};
+ghost use Rattle.c104_plan.specs.PlanImage.{Fits};
 ghost use Rattle.c104_commands.specs.declared.status.Status.TheVariants as status;
-ghost use Rattle.c104_commands.specs.Storms.{StormEnds};
+ghost use Rattle.c104_commands.specs.Storms.{StormEnds, StormRuns};
 
 use crate::setups::{Setup, read_setup};
 use crate::status::Status;
 use c104_mistakes::Messages;
-use c104_storm::storm_plan;
+use c104_plan::{Image, Plan};
+use c104_storm::{MAX_WORKERS, storm_plan};
 use std::alloc::Global;
 use std::io::{Read, Write};
 use std::sync::Wait;
@@ -31,16 +33,37 @@ pub fn storm_command<R: Threads + Wait + Sync, D: Read, S: Read, W: Write, M: Me
     writer: &mut W,
     messages: &mut M,
 ) -> Status
-    requires { (1 ≤ workers) × (workers ≤ 64) }
-    ensures ends { StormEnds (D.remaining description.old) (W.contents writer.old) (W.contents writer.new) result }
+    requires { (1 ≤ workers) × (workers ≤ MAX_WORKERS) }
+    ensures ends { StormEnds (D.remaining description.old) (S.remaining script.old) (S.remaining script.new)
+        (W.contents writer.old) (W.contents writer.new) result }
     ensures of_description { result ≡ status.CannotRead 0 → script.new ≡ script.old }
 {
     let Setup { plan, image } = match read_setup(alloc, description, writer, messages) {
         Ok(setup) => setup,
         Err(status) => return status,
     };
-    let ended = storm_plan(alloc, rt, workers, &plan, &image, script, writer, messages);
-    match ended {
+    storm_setup(alloc, rt, workers, &plan, &image, script, writer, messages)
+}
+
+/// The same of the network of a plan, with an image that fits it.
+#[tactic(auto, using(crate::proofs::StormStatuses::storm_halts))]
+fn storm_setup<R: Threads + Wait + Sync, S: Read, W: Write, M: Messages>(
+    alloc: Global,
+    rt: &R,
+    workers: u8,
+    plan: &Plan,
+    image: &Image,
+    script: &mut S,
+    writer: &mut W,
+    messages: &mut M,
+) -> Status
+    requires fits { Fits image.now plan.now }
+    requires some { (1 ≤ workers) × (workers ≤ MAX_WORKERS) }
+    ensures runs { StormRuns plan.now image.now (S.remaining script.old) (S.remaining script.new)
+        (W.contents writer.old) (W.contents writer.new) result }
+    ensures of_script { (n : ℕ) → result ≡ status.CannotRead n → n ≡ 1 }
+{
+    match storm_plan(alloc, rt, workers, plan, image, script, writer, messages) {
         Ok(false) => Status::Done,
         Ok(true) => Status::Refused,
         Err(halt) => Status::of_halt(halt, 1),

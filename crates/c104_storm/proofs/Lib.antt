@@ -1,3 +1,5 @@
 mod ArrivalLines
-mod Growing
+mod EndingTexts
 mod SomeSeats
+mod SortedArrivals
+mod StormEnds

@@ -1,3 +1,5 @@
+pub mod Arrivals
+pub mod Endings
 pub mod Sends
 pub mod Storms
 pub mod Texts

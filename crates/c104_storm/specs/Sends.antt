@@ -1,11 +1,14 @@
 -- What the lines of a storm's script ask, and what a network answers: those of a script that begin with `send`.
-use Rattle.std.specs.Prelude.{ℕ, ◌&&◌, Bool, false, List, bytes_eq, codes, length, nat_le, not, slice_get, if◌then◌else◌, Option, Some, None, Result, Ok, Err}
+use Rattle.std.specs.Prelude.{ℕ, ◌&&◌, ◌||◌, Bool, false, true, List, bytes_eq, codes, length, nat_le, not, slice_get, if◌then◌else◌}
+use Rattle.std.specs.Prelude.{Option, Some, None, Result, Ok, Err}
 use Rattle.c104_switch.specs.Actions.{Reply}
 use Rattle.c104_event.specs.declared.events.Event.{Event}
 use Rattle.c104_event.specs.declared.faults.EventFault.{EventFault}
+use Rattle.c104_plan.specs.PlanImage.{Image}
 use Rattle.c104_plan.specs.Plans.{Plan}
 use Rattle.c104_plan.specs.TextCut.{uncommented_line, line_words}
-use Rattle.c104_run.specs.NetRecords.{NetRecord}
+use Rattle.c104_run.specs.NetRecords.{NetRecord, fresh_record}
+use Rattle.c104_run.specs.Network.{placed_network}
 use Rattle.c104_run.specs.RecordedRuns.{record_apply}
 use Rattle.c104_script.specs.Script.{most_line, read_script_line}
 use Rattle.c104_script.specs.declared.answers.Answer.{Answer}
@@ -14,6 +17,8 @@ use Rattle.c104_script.specs.declared.faults.LineFault.{LineFault}
 use Rattle.c104_script.specs.declared.faults.LineFault.TheVariants as fault
 use Rattle.c104_script.specs.declared.places.Request.{Request}
 use Rattle.c104_script.specs.declared.places.Request.TheVariants as ask
+use Rattle.c104_script.specs.Texts.{shown}
+use Rattle.c104_storm.specs.declared.sends.Sending.{Sending}
 
 -- a first word that isn't `send`
 abbrev pub is_another : Option (List ℕ) → Bool
@@ -55,3 +60,22 @@ answer_of_read net (Err kind) = (Some (Faulty kind), net)
 -- what answers a line, and the network after it
 abbrev pub send_answer : NetRecord → List ℕ → Option Answer × NetRecord
 send_answer net line = answer_of_read net (read_send_line net.network.plan line)
+
+-- whether an answer is that a line is faulty
+abbrev pub tells_fault : Option Answer → Bool
+tells_fault (Some (Faulty kind)) = true
+tells_fault answer = false
+
+-- the network of a plan with an image, before the first line
+abbrev pub new_sending : Plan → Image → Sending
+new_sending plan image = record { net = fresh_record (placed_network plan image); is_faulty = false }
+
+-- what answers a line, and the sending after it: its network, and whether a line was faulty so far
+unfoldable pub sending_answer : Sending → List ℕ → Option Answer × Sending
+sending_answer sending line =
+    let r = send_answer sending.net line in
+    (r.0, record { net = r.1; is_faulty = tells_fault r.0 || sending.is_faulty })
+
+-- what a line of this number shows, and the sending after it
+unfoldable pub send_outcome : ℕ → Sending → List ℕ → List ℕ × Sending
+send_outcome number sending line = let r = sending_answer sending line in (shown number r.0, r.1)

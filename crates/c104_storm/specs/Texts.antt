@@ -5,6 +5,7 @@ use Rattle.c104_token.specs.Text.{packet_text}
 use Rattle.c104_token.specs.declared.packets.Packet.{Packet}
 use Rattle.c104_plan.specs.Plans.{Plan}
 use Rattle.c104_plan.specs.PortTexts.{terminal_name}
+use Rattle.c104_node.specs.declared.origins.Origin.{Origin}
 use Rattle.c104_event.specs.EventFaults.{event_fault_name, event_fault_number}
 use Rattle.c104_event.specs.declared.faults.EventFault.{EventFault}
 use Rattle.c104_audit.specs.declared.faults.AuditFault.{AuditFault}
@@ -17,13 +18,14 @@ not_quiet_line = codes "not quiet\n"
 -- the line of a worker that stopped, by its number and its fault
 abbrev pub stop_line : ℕ → EventFault → List ℕ
 stop_line worker kind =
-    codes "worker " ++ (decimal worker ++ (codes " " ++ (decimal (event_fault_number kind) ++ (codes " " ++ (event_fault_name kind ++ codes "\n")))))
+    codes "worker "
+    ++ (decimal worker ++ (codes " " ++ (decimal (event_fault_number kind) ++ (codes " " ++ (event_fault_name kind ++ codes "\n")))))
 
 -- words, and the number of a node, a wire or a seat
 abbrev pub numbered_line : List ℕ → ℕ → List ℕ
 numbered_line words number = words ++ (decimal number ++ codes "\n")
 
--- the line of an audit that finds no run. Where it is out of memory there is none
+-- the line of an audit that finds no run; out of memory there is none
 abbrev pub audit_line : AuditFault → List ℕ
 audit_line (audit.Shape node) = numbered_line (codes "audit 1 Shape ") node
 audit_line (audit.Order node) = numbered_line (codes "audit 2 Order ") node
@@ -32,11 +34,15 @@ audit_line (audit.Calls seat) = numbered_line (codes "audit 4 Calls ") seat
 audit_line (audit.Before node) = numbered_line (codes "audit 5 Before ") node
 audit_line audit.NoMemory = []
 
--- where a packet came from: its sender, and its number there
-abbrev pub sender_text : Plan → ℕ → ℕ → List ℕ
-sender_text plan sender number = codes " from " ++ (terminal_name plan sender ++ (codes " " ++ decimal number))
+-- the line of an audit that finds a run
+abbrev pub audited_line : List ℕ
+audited_line = codes "audit ok\n"
 
--- the line of a packet that arrived at a terminal
-abbrev pub arrival_line : Plan → ℕ → Packet → ℕ → ℕ → List ℕ
-arrival_line plan terminal packet sender number =
-    terminal_name plan terminal ++ (codes ": " ++ (packet_text packet ++ (sender_text plan sender number ++ codes "\n")))
+-- where a packet came from: its sender, and its number there
+abbrev pub sender_text : Plan → Origin → List ℕ
+sender_text plan origin = codes " from " ++ (terminal_name plan origin.terminal ++ (codes " " ++ decimal origin.number))
+
+-- the line of a packet of this origin that arrived at a terminal
+abbrev pub arrival_line : Plan → ℕ → Packet → Origin → List ℕ
+arrival_line plan terminal packet origin =
+    terminal_name plan terminal ++ (codes ": " ++ (packet_text packet ++ (sender_text plan origin ++ codes "\n")))

@@ -1,10 +1,11 @@
 //! The end of a storm: what follows the answers.
-ghost use Rattle.std.specs.Prelude.{◌≡◌, ◌++◌, OnOk};
-ghost use Rattle.c104_storm.specs.Storms.{Grew};
-ghost use Rattle.c104_storm.specs.Texts.{audit_line, numbered_line, stop_line};
+ghost use Rattle.std.specs.Prelude.{◌≡◌, ◌≢◌, IfOk, OnOk};
+ghost use Rattle.c104_audit.specs.declared.faults.AuditFault.TheVariants as audit_fault;
+ghost use Rattle.c104_event.specs.declared.faults.EventFault.TheVariants as event_fault;
+ghost use Rattle.c104_storm.specs.Endings.{EndedSo, IsEnding, WritesEnd, is_refused};
+ghost use Rattle.c104_storm.specs.declared.working.Worked.TheVariants as work;
 
-use crate::packets::{add_number, add_sorted};
-use crate::reading::Sent;
+use crate::end_texts::end_text;
 use crate::working::Worked;
 use c104_audit::AuditFault;
 use c104_event::EventFault;
@@ -15,8 +16,27 @@ use c104_workers::Gathered;
 use std::alloc::Global;
 use std::io::Write;
 
-/// What stands where the summary would, of a script that is too long.
-const TOO_LONG: &[u8] = b"script too long\n";
+/// What the script of a storm came to.
+#[derive(Clone, Copy)]
+pub(crate) struct Sent {
+    /// Whether it is longer than it may be.
+    pub(crate) is_long: bool,
+    /// Whether a line was faulty.
+    pub(crate) is_faulty: bool,
+}
+
+/// How a storm ended.
+#[derive(Drop)]
+pub(crate) enum Ending {
+    /// Tokens are left that go nowhere, or that all the turns weren't enough for.
+    NotQuiet,
+    /// The worker of this number stopped at an event that was refused for this.
+    Stopped(usize, EventFault),
+    /// All was quiet, and the audit found no run, for this.
+    Unaudited(AuditFault),
+    /// All was quiet, and the audit found this run.
+    Audited(Run),
+}
 
 /// Writes how a storm ended whose workers ended so: that it isn't quiet, which worker stopped, or what the audit says and
 /// the packets that arrived. Says whether that or the script was refused. The text is complete before any of it is written,
@@ -28,100 +48,71 @@ pub(crate) fn write_end<W: Write>(
     worked: Worked,
     writer: &mut W,
 ) -> Result<bool, Halt>
-    ensures { Grew (W.contents writer.old) (W.contents writer.new) }
+    ensures { WritesEnd gathered.now sent.is_long sent.is_faulty (W.contents writer.old) (W.contents writer.new) result }
 {
-    let mut text = Vec::new(alloc);
-    let is_refused = add_end(alloc, gathered, sent, worked, &mut text)?;
+    let ending = ending_of(alloc, gathered, worked)?;
+    let text = end_text(alloc, &ending, sent.is_long)?;
     write_whole(writer, text.as_slice())?;
-    Ok(is_refused)
+    Ok(is_refused(&ending, sent))
 }
 
-/// How a storm ended joins the text. Says whether that or the script was refused. The only error is out of memory.
-fn add_end(
-    alloc: Global,
-    gathered: &Gathered,
-    sent: Sent,
-    worked: Worked,
-    text: &mut Vec<u8>,
-) -> Result<bool, NoMemory> {
-    match worked {
-        Worked::Quiet => add_audit(alloc, gathered, sent, text),
-        Worked::NotQuiet => {
-            text.extend_from_slice(b"not quiet\n")?;
-            Ok(true)
-        }
-        Worked::Stopped(_, EventFault::NoMemory) => Err(NoMemory),
-        Worked::Stopped(worker, fault) => {
-            add_stop(worker, fault, text)?;
-            Ok(true)
-        }
-    }
-}
-
-/// What the audit says joins the text, and where it finds a run what follows. Says whether the audit or the script was
-/// refused.
-fn add_audit(
-    alloc: Global,
-    gathered: &Gathered,
-    sent: Sent,
-    text: &mut Vec<u8>,
-) -> Result<bool, NoMemory> {
-    match gathered.audit(alloc) {
-        Ok(run) => {
-            add_run(alloc, &run, sent.is_long, text)?;
-            Ok(sent.is_long || sent.is_faulty)
-        }
-        Err(fault) => {
-            add_audit_fault(fault, text)?;
-            Ok(true)
-        }
-    }
-}
-
-/// That the audit found this run joins the text, and then the packets that arrived, or that the script is too long.
-fn add_run(alloc: Global, run: &Run, is_long: bool, text: &mut Vec<u8>) -> Result<(), NoMemory> {
-    text.extend_from_slice(b"audit ok\n")?;
-    if is_long {
-        text.extend_from_slice(TOO_LONG)?;
-        return Ok(());
-    }
-    add_sorted(alloc, run, text)
-}
-
-/// Which worker stopped joins the text, and for what.
-fn add_stop(worker: usize, fault: EventFault, text: &mut Vec<u8>) -> Result<(), NoMemory>
-    ensures { OnOk result (text.new.items ≡ text.old.items ++ stop_line worker fault) }
+/// Whether a storm was refused that ended so: its script, for its length or for one of its lines, or the storm itself.
+fn is_refused(ending: &Ending, sent: Sent) -> bool
+    ensures { result ≡ is_refused sent.is_long sent.is_faulty ending.now }
 {
-    text.extend_from_slice(b"worker ")?;
-    add_number(worker, text)?;
-    text.push(b' ')?;
-    add_number(usize::from(fault.number()), text)?;
-    text.push(b' ')?;
-    text.extend_from_slice(fault.name().as_bytes())?;
-    text.push(b'\n')?;
-    Ok(())
+    match ending {
+        Ending::NotQuiet => true,
+        Ending::Stopped(_, _) => true,
+        Ending::Unaudited(_) => true,
+        Ending::Audited(_) => sent.is_long || sent.is_faulty,
+    }
 }
 
-/// Why the audit finds no run joins the text. The only error is out of memory, which may also be why.
-fn add_audit_fault(fault: AuditFault, text: &mut Vec<u8>) -> Result<(), NoMemory>
-    ensures { OnOk result (text.new.items ≡ text.old.items ++ audit_line fault) }
+/// How a storm ended whose workers ended so. The only error is out of memory, which may also be why a worker stopped.
+fn ending_of(alloc: Global, gathered: &Gathered, worked: Worked) -> Result<Ending, NoMemory>
+    ensures told { IfOk result (λ ending. IsEnding gathered.now ending) }
+    ensures ended { IfOk result (λ ending. EndedSo worked ending) }
+{
+    match worked {
+        Worked::Quiet => audited(alloc, gathered),
+        Worked::NotQuiet => Ok(Ending::NotQuiet),
+        Worked::Stopped(worker, fault) => {
+            other_event_fault(fault)?;
+            Ok(Ending::Stopped(worker, fault))
+        }
+    }
+}
+
+/// What the audit says of what a fabric left. The only error is out of memory.
+fn audited(alloc: Global, gathered: &Gathered) -> Result<Ending, NoMemory>
+    ensures told { IfOk result (λ ending. IsEnding gathered.now ending) }
+    ensures ended { IfOk result (λ ending. EndedSo work.Quiet ending) }
+{
+    match gathered.audit(alloc) {
+        Ok(run) => Ok(Ending::Audited(run)),
+        Err(fault) => {
+            other_audit_fault(fault)?;
+            Ok(Ending::Unaudited(fault))
+        }
+    }
+}
+
+/// NoMemory where that is the fault of an event.
+fn other_event_fault(fault: EventFault) -> Result<(), NoMemory>
+    ensures { OnOk result (fault ≢ event_fault.NoMemory) }
 {
     match fault {
-        AuditFault::Shape(node) => add_refusal(b"audit 1 Shape ", node, text),
-        AuditFault::Order(node) => add_refusal(b"audit 2 Order ", node, text),
-        AuditFault::Ends(wire) => add_refusal(b"audit 3 Ends ", wire, text),
-        AuditFault::Calls(seat) => add_refusal(b"audit 4 Calls ", seat, text),
-        AuditFault::Before(node) => add_refusal(b"audit 5 Before ", node, text),
-        AuditFault::NoMemory => Err(NoMemory),
+        EventFault::NoMemory => Err(NoMemory),
+        _ => Ok(()),
     }
 }
 
-/// The words and the number of a line join the text.
-fn add_refusal(words: &[u8], number: usize, text: &mut Vec<u8>) -> Result<(), NoMemory>
-    ensures { OnOk result (text.new.items ≡ text.old.items ++ numbered_line words.now number) }
+/// NoMemory where that is the fault of an audit.
+fn other_audit_fault(fault: AuditFault) -> Result<(), NoMemory>
+    ensures { OnOk result (fault ≢ audit_fault.NoMemory) }
 {
-    text.extend_from_slice(words)?;
-    add_number(number, text)?;
-    text.push(b'\n')?;
-    Ok(())
+    match fault {
+        AuditFault::NoMemory => Err(NoMemory),
+        _ => Ok(()),
+    }
 }

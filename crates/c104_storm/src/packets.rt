@@ -1,68 +1,142 @@
 //! The packets that arrived in a storm, sorted: the order in which they came depends on the threads.
-ghost use Rattle.std.specs.Prelude.{◌≡◌, ◌++◌, OnOk, decimal};
-ghost use Rattle.c104_plan.specs.PortTexts.{terminal_name};
-ghost use Rattle.c104_storm.specs.Texts.{arrival_line, sender_text};
+ghost use Rattle.std.specs.Prelude.{◌≡◌, ◌++◌, ◌<◌, IfOk, OnOk, flat_map, length, map};
+ghost use Rattle.std.specs.Global.{Vec as Kept};
+ghost use Rattle.c104_net.specs.Deliveries.{arrived_at};
+ghost use Rattle.c104_net.specs.RunOrigins.{AreOrigins};
+ghost use Rattle.c104_net.specs.TracedEnds.{traced_end};
+ghost use Rattle.c104_node.specs.Origins.{AreSure, origins_in};
+ghost use Rattle.c104_node.specs.declared.origins.Origin.{Origin as TheOrigin};
+ghost use Rattle.c104_node.specs.declared.traced.Traced.{Traced as TheTraced};
+ghost use Rattle.c104_storm.specs.Arrivals.{AreAll, IsSortedOf, JoinArrivals, JoinSorted, arrived_line, arrived_of};
+ghost use Rattle.c104_storm.specs.Texts.{sender_text};
 
 use c104_net::{Origin, Origins};
 use c104_plan::Plan;
 use c104_run::Run;
-use c104_token::{NoMemory, Packet, cut_packets, print_packet};
-use itoa::Buffer;
+use c104_script::{add_name, add_number};
+use c104_token::{NoMemory, Packet, Token, cut_packets, print_packet};
 use std::alloc::Global;
 
-/// Where a packet came from that arrived, and its place among those of its terminal.
+/// A packet that arrived, and where it came from.
 #[derive(Clone, Copy)]
-struct Arrival {
-    sender: usize,
-    number: usize,
-    place: usize,
+pub(crate) struct Arrival<'a> {
+    packet: &'a Packet,
+    origin: Origin,
 }
 
 /// A line for each whole packet that arrived: the packet, the terminal that sent it, and its number among those that this
 /// terminal sent, from 0. They are sorted by the terminal where they arrived, by the one that sent them, and by number,
 /// and join the text. The only error is out of memory.
-pub(crate) fn add_sorted(alloc: Global, run: &Run, text: &mut Vec<u8>) -> Result<(), NoMemory> {
+pub(crate) fn add_sorted(alloc: Global, run: &Run, text: &mut Vec<u8>) -> Result<(), NoMemory>
+    ensures { OnOk result (JoinArrivals run.now text.old.items (length run.now.finished.plan.terminals) text.new.items) }
+{
     let origins = run.origins(alloc)?;
-    for (number, origins) in origins.as_slice().iter().enumerate() {
-        add_terminal(alloc, run, number, origins.as_slice(), text)?;
+    add_terminals(alloc, run, origins.as_slice(), text)
+}
+
+/// The lines of the packets that each terminal received join the text.
+fn add_terminals(
+    alloc: Global,
+    run: &Run,
+    origins: &[Vec<Origin>],
+    text: &mut Vec<u8>,
+) -> Result<(), NoMemory>
+    requires { AreOrigins run.now (map (λ (list : Kept TheOrigin). list.items) origins.now) }
+    ensures { OnOk result (JoinArrivals run.now text.old.items (length run.now.finished.plan.terminals) text.new.items) }
+{
+    for terminal in 0..run.plan().terminals().len() {
+        add_terminal(alloc, run, terminal, origins, text)?;
     }
     Ok(())
 }
 
-/// The lines of a terminal's packets join the text. The origins are those of the packets, in order of arrival.
+/// The lines of the packets that a terminal received join the text.
 fn add_terminal(
     alloc: Global,
     run: &Run,
     terminal: usize,
-    origins: &[Origin],
+    origins: &[Vec<Origin>],
     text: &mut Vec<u8>,
-) -> Result<(), NoMemory> {
-    let Some(arrived) = run.arrived(terminal) else {
-        return Ok(());
+) -> Result<(), NoMemory>
+    requires origins { AreOrigins run.now (map (λ (list : Kept TheOrigin). list.items) origins.now) }
+    requires inside { terminal < length run.now.finished.plan.terminals }
+    ensures { OnOk result (JoinSorted run.now.finished.plan terminal (arrived_at (traced_end run.now) terminal)
+        text.old.items text.new.items) }
+{
+    let (Some(arrived), Some(origins)) = (run.arrived(terminal), origins.get(terminal)) else {
+        unreachable!();
     };
-    let (packets, _unfinished) = cut_packets(alloc, arrived)?;
-    let arrivals = sorted_arrivals(alloc, origins)?;
-    for arrival in arrivals.as_slice() {
-        if let Some(packet) = packets.as_slice().get(arrival.place) {
-            add_packet(alloc, run.plan(), terminal, packet, *arrival, text)?;
-        }
-    }
-    Ok(())
+    add_packets(alloc, run, terminal, arrived, origins.as_slice(), text)
 }
 
-/// Where packets came from, sorted by terminal and number, each with its place among these. The only error is out of
-/// memory.
-fn sorted_arrivals(alloc: Global, origins: &[Origin]) -> Result<Vec<Arrival>, NoMemory> {
-    let mut arrivals = Vec::with_capacity(alloc, origins.len())?;
-    for (place, origin) in origins.iter().enumerate() {
+/// The lines of a terminal's whole packets join the text. The origins are those of the packets, in order of arrival.
+fn add_packets(
+    alloc: Global,
+    run: &Run,
+    terminal: usize,
+    arrived: &[Token],
+    origins: &[Origin],
+    text: &mut Vec<u8>,
+) -> Result<(), NoMemory>
+    requires arrived { arrived.now ≡ map (λ (x : TheTraced). x.token) (arrived_at (traced_end run.now) terminal) }
+    requires origins { origins.now ≡ origins_in (arrived_at (traced_end run.now) terminal) }
+    requires sure { AreSure (arrived_at (traced_end run.now) terminal) }
+    ensures { OnOk result (JoinSorted run.now.finished.plan terminal (arrived_at (traced_end run.now) terminal)
+        text.old.items text.new.items) }
+{
+    let (packets, _unfinished) = cut_packets(alloc, arrived)?;
+    let arrivals = sorted_arrivals(alloc, packets.as_slice(), origins)?;
+    add_lines(alloc, run.plan(), terminal, arrivals.as_slice(), text)
+}
+
+/// Packets with their origins, sorted by terminal and number. The only error is out of memory.
+fn sorted_arrivals<'a>(
+    alloc: Global,
+    packets: &'a [Packet],
+    origins: &[Origin],
+) -> Result<Vec<Arrival<'a>>, NoMemory>
+    requires { length packets.now ≡ length origins.now }
+    ensures { IfOk result (λ list. IsSortedOf packets.now origins.now (map arrived_of list.items)) }
+{
+    let mut arrivals = all_arrivals(alloc, packets, origins)?;
+    arrivals.sort_by_key(|arrival| (arrival.origin.terminal, arrival.origin.number))?;
+    Ok(arrivals)
+}
+
+/// Packets with their origins, in order. The only error is out of memory.
+fn all_arrivals<'a>(
+    alloc: Global,
+    packets: &'a [Packet],
+    origins: &[Origin],
+) -> Result<Vec<Arrival<'a>>, NoMemory>
+    requires { length packets.now ≡ length origins.now }
+    ensures { IfOk result (λ list. AreAll packets.now origins.now (map arrived_of list.items)) }
+{
+    let mut arrivals = Vec::with_capacity(alloc, packets.len())?;
+    for place in 0..packets.len() {
         arrivals.push(Arrival {
-            sender: origin.terminal,
-            number: origin.number,
-            place,
+            packet: &packets[place],
+            origin: origins[place],
         })?;
     }
-    arrivals.sort_by_key(|arrival| (arrival.sender, arrival.number))?;
     Ok(arrivals)
+}
+
+/// The lines of packets that arrived at a terminal join the text.
+fn add_lines(
+    alloc: Global,
+    plan: &Plan,
+    terminal: usize,
+    arrivals: &[Arrival<'_>],
+    text: &mut Vec<u8>,
+) -> Result<(), NoMemory>
+    ensures { OnOk result (text.new.items
+        ≡ text.old.items ++ flat_map (λ a. arrived_line plan.now terminal (arrived_of a)) arrivals.now) }
+{
+    for arrival in arrivals {
+        add_packet(alloc, plan, terminal, *arrival, text)?;
+    }
+    Ok(())
 }
 
 /// The line of a packet joins the text.
@@ -70,48 +144,28 @@ fn add_packet(
     alloc: Global,
     plan: &Plan,
     terminal: usize,
-    packet: &Packet,
-    arrival: Arrival,
+    arrival: Arrival<'_>,
     text: &mut Vec<u8>,
 ) -> Result<(), NoMemory>
     ensures { OnOk result (text.new.items
-        ≡ text.old.items ++ arrival_line plan.now terminal packet.now arrival.sender arrival.number) }
+        ≡ text.old.items ++ arrived_line plan.now terminal (arrived_of arrival.entry)) }
 {
-    let printed = print_packet(alloc, packet)?;
+    let printed = print_packet(alloc, arrival.packet)?;
     add_name(plan, terminal, text)?;
     text.extend_from_slice(b": ")?;
     text.extend_from_slice(printed.as_bytes())?;
-    add_sender(plan, arrival, text)?;
+    add_sender(plan, arrival.origin, text)?;
     text.push(b'\n')?;
     Ok(())
 }
 
 /// Where a packet came from joins the text.
-fn add_sender(plan: &Plan, arrival: Arrival, text: &mut Vec<u8>) -> Result<(), NoMemory>
-    ensures { OnOk result (text.new.items ≡ text.old.items ++ sender_text plan.now arrival.sender arrival.number) }
+fn add_sender(plan: &Plan, origin: Origin, text: &mut Vec<u8>) -> Result<(), NoMemory>
+    ensures { OnOk result (text.new.items ≡ text.old.items ++ sender_text plan.now origin) }
 {
     text.extend_from_slice(b" from ")?;
-    add_name(plan, arrival.sender, text)?;
+    add_name(plan, origin.terminal, text)?;
     text.push(b' ')?;
-    add_number(arrival.number, text)?;
-    Ok(())
-}
-
-/// The name of a terminal joins the text.
-fn add_name(plan: &Plan, number: usize, text: &mut Vec<u8>) -> Result<(), NoMemory>
-    ensures { OnOk result (text.new.items ≡ text.old.items ++ terminal_name plan.now number) }
-{
-    if let Some(terminal) = plan.terminals().get(number) {
-        text.extend_from_slice(terminal.name.as_bytes())?;
-    }
-    Ok(())
-}
-
-/// A number joins the text, in decimal digits.
-pub(crate) fn add_number(number: usize, text: &mut Vec<u8>) -> Result<(), NoMemory>
-    ensures { OnOk result (text.new.items ≡ text.old.items ++ decimal number) }
-{
-    let mut digits = Buffer::new();
-    text.extend_from_slice(digits.format(number).as_bytes())?;
+    add_number(origin.number, text)?;
     Ok(())
 }

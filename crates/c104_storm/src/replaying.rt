@@ -64,6 +64,26 @@ fn send_from(net: &mut TracedNet, terminal: usize, trace: &[Entry]) -> Result<()
     Ok(())
 }
 
+/// How many packets were sent before the workers began.
+pub(crate) fn count_sent(gathered: &Gathered) -> usize {
+    let mut count = 0usize;
+    for node in gathered.nodes() {
+        count = count.saturating_add(count_sends(node.trace()));
+    }
+    count
+}
+
+/// How many packets were sent in a trace.
+fn count_sends(trace: &[Entry]) -> usize {
+    let mut count = 0usize;
+    for entry in trace {
+        if let ActOf::Send(_) = &entry.act {
+            count = count.saturating_add(1);
+        }
+    }
+    count
+}
+
 /// Does the calls of all seats, by their tickets.
 fn do_calls(alloc: Global, net: &mut TracedNet, seats: &[SeatCalls]) -> Result<(), EventFault> {
     let Ok(mut places) = vec![in alloc; 0usize; seats.len()] else {

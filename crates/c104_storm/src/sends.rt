@@ -3,22 +3,73 @@ ghost use Rattle.std.specs.Prelude.{◌≡◌, IfOk, Option};
 ghost use Rattle.c104_run.specs.NetRecords.{NetRecord as TheNet};
 ghost use Rattle.c104_script.specs.Script.{GivesLineOrNoMemory};
 ghost use Rattle.c104_script.specs.declared.answers.Answer.{Answer as TheAnswer};
-ghost use Rattle.c104_storm.specs.Sends.{begins_otherwise, event_outcome, read_send_line, send_answer};
+ghost use Rattle.c104_plan.specs.PlanImage.{Fits};
+ghost use Rattle.c104_storm.specs.Sends.{begins_otherwise, event_outcome, new_sending, read_send_line, send_answer};
+ghost use Rattle.c104_storm.specs.Sends.{sending_answer, tells_fault};
+ghost use Rattle.c104_storm.specs.declared.sends.Sending.{Sending as TheSending};
 
 use c104_event::{Event, EventFault};
 use c104_net::Net;
-use c104_plan::{Plan, first_word, uncommented};
+use c104_plan::{Image, Plan, first_word, uncommented};
 use c104_script::{Answer, LineFault, MAX_LINE, Request, read_line};
 use c104_token::NoMemory;
 use std::alloc::Global;
 
-/// Sends the packet of a line, and gives what answers the line: as in a script, but any line that doesn't begin with
-/// `send` has an unknown word. None where the line has no words. The only error is out of memory.
-pub(crate) fn answer_send(
-    alloc: Global,
-    net: &mut Net,
-    line: &[u8],
-) -> Result<Option<Answer>, NoMemory>
+/// A network into which a script's packets are sent. It can't be dropped: `retire` disposes of it.
+pub(crate) struct Sending {
+    /// The network.
+    pub(crate) net: Net,
+    /// Whether a line was faulty so far.
+    pub(crate) is_faulty: bool,
+}
+
+impl Sending {
+    /// The network of a plan with an image that fits it, before the first line. The only error is out of memory.
+    pub(crate) fn new(alloc: Global, plan: &Plan, image: &Image) -> Result<Self, NoMemory>
+        requires { Fits image.now plan.now }
+        ensures { IfOk result (λ sending. sending ≡ new_sending plan.now image.now) }
+    {
+        match Net::placed(alloc, plan, image) {
+            Ok(net) => Ok(Sending {
+                net,
+                is_faulty: false,
+            }),
+            Err(_) => Err(NoMemory),
+        }
+    }
+
+    /// Sends the packet of a line, and gives what answers the line: as in a script, but any line that doesn't begin with
+    /// `send` has an unknown word. None where the line has no words. The only error is out of memory.
+    #[tactic(auto, unfolding(crate::specs::Sends::sending_answer))]
+    pub(crate) fn answer(&mut self, alloc: Global, line: &[u8]) -> Result<Option<Answer>, NoMemory>
+        ensures { IfOk result (λ answer. ◌≡◌ {A = Option TheAnswer × TheSending}
+            (answer, self.new) (sending_answer self.old line.now)) }
+    {
+        let answer = answer_send(alloc, &mut self.net, line)?;
+        let is_faulty = tells_fault(&answer);
+        self.is_faulty = is_faulty || self.is_faulty;
+        Ok(answer)
+    }
+
+    /// Disposes of the network.
+    pub(crate) fn retire(self) {
+        let Sending { net, is_faulty: _ } = self;
+        net.retire();
+    }
+}
+
+/// Whether a line was answered with what is wrong with it.
+fn tells_fault(answer: &Option<Answer>) -> bool
+    ensures { result ≡ tells_fault answer.now }
+{
+    match answer {
+        Some(Answer::Faulty(_)) => true,
+        _ => false,
+    }
+}
+
+/// Sends the packet of a line, and gives what answers the line. The only error is out of memory.
+fn answer_send(alloc: Global, net: &mut Net, line: &[u8]) -> Result<Option<Answer>, NoMemory>
     ensures answered { IfOk result (λ answer. ◌≡◌ {A = Option TheAnswer × TheNet}
         (answer, net.new) (send_answer net.old line.now)) }
 {

@@ -1,15 +1,17 @@
 //! A storm, on the network of a plan.
-ghost use Rattle.std.specs.Prelude.{◌≤◌, length};
+ghost use Rattle.std.specs.Prelude.{◌≡◌, ◌≤◌, length};
 ghost use Rattle.c104_plan.specs.PlanImage.{Fits};
-ghost use Rattle.c104_storm.specs.Storms.{Grew};
-ghost use Rattle.c104_workers.specs.Fabrics.{AreSeatsOf};
+ghost use Rattle.c104_plan.specs.Plans.{Plan as ThePlan};
+ghost use Rattle.c104_storm.specs.Sends.{new_sending};
+ghost use Rattle.c104_storm.specs.Storms.{StormsOn, StormsPlan};
+ghost use Rattle.c104_workers.specs.Fabrics.{AreSeatsOf, handed_of};
 
-use crate::endings::write_end;
-use crate::reading::{Sent, answer_sends};
+use crate::endings::{Sent, write_end};
+use crate::reading::answer_sends;
+use crate::sends::Sending;
 use crate::telling::explain_end;
 use crate::working::work;
 use c104_mistakes::Messages;
-use c104_net::Net;
 use c104_plan::{Image, Plan};
 use c104_stream::Halt;
 use c104_workers::{Fabric, Seat};
@@ -27,7 +29,6 @@ pub const MAX_WORKERS: u8 = 64;
 /// its length or for one of its lines, or the storm, which isn't quiet, whose worker stopped or whose audit finds no run.
 ///
 /// Where no thread can be made, the workers do their turns one after another.
-#[tactic(auto, using(crate::proofs::Growing::grew_none))]
 pub fn storm_plan<R: Threads + Wait + Sync, S: Read, W: Write, M: Messages>(
     alloc: Global,
     rt: &R,
@@ -40,15 +41,36 @@ pub fn storm_plan<R: Threads + Wait + Sync, S: Read, W: Write, M: Messages>(
 ) -> Result<bool, Halt>
     requires fits { Fits image.now plan.now }
     requires some { (1 ≤ workers) × (workers ≤ MAX_WORKERS) }
-    ensures { Grew (W.contents writer.old) (W.contents writer.new) }
+    ensures { StormsPlan plan.now image.now (S.remaining script.old) (S.remaining script.new)
+        (W.contents writer.old) (W.contents writer.new) result }
 {
-    let Ok(mut net) = Net::placed(alloc, plan, image) else {
-        return Err(Halt::NoMemory);
-    };
-    match answer_sends(alloc, &mut net, script, writer, messages) {
-        Ok(sent) => storm_net(alloc, rt, workers, net, image, sent, writer, messages),
+    let sending = Sending::new(alloc, plan, image)?;
+    storm_script(alloc, rt, workers, sending, image, script, writer, messages)
+}
+
+/// The same of a network that is before the first line of the script.
+fn storm_script<R: Threads + Wait + Sync, S: Read, W: Write, M: Messages>(
+    alloc: Global,
+    rt: &R,
+    workers: u8,
+    sending: Sending,
+    image: &Image,
+    script: &mut S,
+    writer: &mut W,
+    messages: &mut M,
+) -> Result<bool, Halt>
+    requires some { (1 ≤ workers) × (workers ≤ MAX_WORKERS) }
+    ensures { (plan : ThePlan) → sending ≡ new_sending plan image.now →
+        StormsPlan plan image.now (S.remaining script.old) (S.remaining script.new)
+        (W.contents writer.old) (W.contents writer.new) result }
+{
+    let mut sending = sending;
+    match answer_sends(alloc, &mut sending, script, writer, messages) {
+        Ok(is_long) => storm_net(
+            alloc, rt, workers, sending, image, is_long, writer, messages,
+        ),
         Err(halt) => {
-            net.retire();
+            sending.retire();
             Err(halt)
         }
     }
@@ -60,15 +82,18 @@ fn storm_net<R: Threads + Wait + Sync, W: Write, M: Messages>(
     alloc: Global,
     rt: &R,
     workers: u8,
-    net: Net,
+    sending: Sending,
     image: &Image,
-    sent: Sent,
+    is_long: bool,
     writer: &mut W,
     messages: &mut M,
 ) -> Result<bool, Halt>
     requires some { (1 ≤ workers) × (workers ≤ MAX_WORKERS) }
-    ensures { Grew (W.contents writer.old) (W.contents writer.new) }
+    ensures { StormsOn (handed_of sending.net) is_long sending.is_faulty
+        (W.contents writer.old) (W.contents writer.new) result }
 {
+    let Sending { net, is_faulty } = sending;
+    let sent = Sent { is_long, is_faulty };
     match Fabric::new(alloc, net, usize::from(workers)) {
         Ok((fabric, seats)) => {
             storm_fabric(alloc, rt, fabric, seats, image, sent, writer, messages)
@@ -94,7 +119,8 @@ fn storm_fabric<R: Threads + Wait + Sync, W: Write, M: Messages>(
 ) -> Result<bool, Halt>
     requires some { 1 ≤ length seats.items }
     requires own { AreSeatsOf fabric.word_id seats.items }
-    ensures { Grew (W.contents writer.old) (W.contents writer.new) }
+    ensures { StormsOn fabric.handed sent.is_long sent.is_faulty
+        (W.contents writer.old) (W.contents writer.new) result }
 {
     let mut seats = seats;
     let worked = work(alloc, rt, &fabric, seats.as_mut_slice(), messages);

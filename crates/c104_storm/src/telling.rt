@@ -1,14 +1,16 @@
 //! What people are told of a storm.
-ghost use Rattle.c104_storm.specs.Storms.{Grew};
+ghost use Rattle.std.specs.Prelude.{◌≡◌, [], OnOk, OnErr};
+ghost use Rattle.c104_stream.specs.Writing.{AppendsAndKeeps, AppendsPrefix};
 
-use crate::reading::Sent;
-use crate::replaying::replay;
+use crate::endings::Sent;
+use crate::replaying::{count_sent, replay};
+use crate::sends::Sending;
 use crate::working::Worked;
 use c104_event::EventFault;
 use c104_explain::{leftover_messages, standstill_message};
 use c104_mistakes::{About, Messages, fault_message, refusal_message};
 use c104_net::TracedNet;
-use c104_plan::{Image, Plan};
+use c104_plan::Image;
 use c104_script::{Answer, LineFault};
 use c104_stream::{CannotWrite, Kept};
 use c104_workers::Gathered;
@@ -35,63 +37,74 @@ pub(crate) struct SentLine<'a> {
 /// kept is written before.
 pub(crate) fn explain_send<W: Write, M: Messages>(
     alloc: Global,
-    plan: &Plan,
+    sending: &Sending,
     line: SentLine<'_>,
-    answer: &Answer,
+    answer: &Option<Answer>,
     kept: &mut Kept,
     writer: &mut W,
     messages: &mut M,
 ) -> Result<(), CannotWrite>
-    ensures { Grew (W.contents writer.old) (W.contents writer.new) }
+    ensures kept { OnOk result (AppendsAndKeeps (W.contents writer.old) (W.contents writer.new) kept.new kept.old) }
+    ensures prefix { OnErr result (AppendsPrefix (W.contents writer.old) (W.contents writer.new) kept.old) }
+    ensures empty { OnErr result (kept.new ≡ []) }
 {
     if !messages.are_wanted() {
         return Ok(());
     }
     match answer {
-        Answer::Faulty(LineFault::UnknownWord) => {
-            kept.flush(writer)?;
-            messages.tell(About::FaultyLine(line.number), NO_SEND);
-            Ok(())
-        }
-        Answer::Faulty(fault) => {
+        Some(Answer::Faulty(LineFault::UnknownWord)) => tell_after(
+            About::FaultyLine(line.number),
+            NO_SEND,
+            kept,
+            writer,
+            messages,
+        ),
+        Some(Answer::Faulty(fault)) => {
             let message = fault_message(alloc, line.text, *fault, false);
-            tell_after(
-                About::FaultyLine(line.number),
-                message,
-                kept,
-                writer,
-                messages,
-            )
+            let about = About::FaultyLine(line.number);
+            tell_if_any(about, message, kept, writer, messages)
         }
-        Answer::Refused(fault) => {
-            let message = refusal_message(alloc, plan, line.text, *fault);
-            tell_after(
-                About::ScriptLine(line.number),
-                message,
-                kept,
-                writer,
-                messages,
-            )
+        Some(Answer::Refused(fault)) => {
+            let message = refusal_message(alloc, sending.net.plan(), line.text, *fault);
+            let about = About::ScriptLine(line.number);
+            tell_if_any(about, message, kept, writer, messages)
         }
         _ => Ok(()),
     }
 }
 
 /// Tells a message, if there is one: all that is kept is written before.
-fn tell_after<W: Write, M: Messages>(
+fn tell_if_any<W: Write, M: Messages>(
     about: About,
     message: Option<String>,
     kept: &mut Kept,
     writer: &mut W,
     messages: &mut M,
 ) -> Result<(), CannotWrite>
-    ensures { Grew (W.contents writer.old) (W.contents writer.new) }
+    ensures kept { OnOk result (AppendsAndKeeps (W.contents writer.old) (W.contents writer.new) kept.new kept.old) }
+    ensures prefix { OnErr result (AppendsPrefix (W.contents writer.old) (W.contents writer.new) kept.old) }
+    ensures empty { OnErr result (kept.new ≡ []) }
 {
     let Some(message) = message else {
         return Ok(());
     };
+    tell_after(about, message.as_str(), kept, writer, messages)
+}
+
+/// Tells a message: all that is kept is written before.
+fn tell_after<W: Write, M: Messages>(
+    about: About,
+    message: &str,
+    kept: &mut Kept,
+    writer: &mut W,
+    messages: &mut M,
+) -> Result<(), CannotWrite>
+    ensures kept { OnOk result (AppendsAndKeeps (W.contents writer.old) (W.contents writer.new) kept.new kept.old) }
+    ensures prefix { OnErr result (AppendsPrefix (W.contents writer.old) (W.contents writer.new) kept.old) }
+    ensures empty { OnErr result (kept.new ≡ []) }
+{
     kept.flush(writer)?;
-    messages.tell(about, message.as_str());
+    messages.tell(about, message);
     Ok(())
 }
 
@@ -118,15 +131,15 @@ pub(crate) fn explain_end<M: Messages>(
         return;
     };
     if worked == Worked::NotQuiet && net.stands_still() {
-        tell_standstill(alloc, &net, sent, messages);
+        tell_standstill(alloc, &net, count_sent(gathered), messages);
     }
     tell_leftovers(alloc, &net, messages);
     net.retire();
 }
 
-/// Tells who waits for whom in a network that stands still.
-fn tell_standstill<M: Messages>(alloc: Global, net: &TracedNet, sent: Sent, messages: &mut M) {
-    if let Some(message) = standstill_message(alloc, net, Some(sent.packets)) {
+/// Tells who waits for whom in a network that stands still, into which a number of packets were sent.
+fn tell_standstill<M: Messages>(alloc: Global, net: &TracedNet, packets: usize, messages: &mut M) {
+    if let Some(message) = standstill_message(alloc, net, Some(packets)) {
         for line in message.lines() {
             messages.tell(About::Run, line);
         }

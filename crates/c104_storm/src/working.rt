@@ -12,7 +12,7 @@ use std::thread::Threads;
 /// The turns that workers do before it is asked whether all is quiet.
 const TURNS: u32 = 64;
 
-/// How often workers do so many turns, at most.
+/// How often workers do these turns, at most.
 const MOST_TIMES: u32 = 4_096;
 
 /// How the workers of a storm ended.

@@ -1,8 +1,10 @@
-use Rattle.c104_storm.proofs.Growing.{grew_then, grew_text, grew_prefix}
+use Rattle.c104_stream.specs.declared.halt.Halt.TheVariants as halt
+use Rattle.c104_stream.proofs.ScriptEnds.{err_is}
+use Rattle.c104_storm.proofs.StormEnds.{from_reader, nothing_sent}
 use Rattle.c104_storm.proofs.reading.answer_sends.Goals as goal
 
-pub returns-in_err-flush : goal.returns-in_err-flush
-returns-in_err-flush g c = grew_then _ _ _ c.answer_lines-answered.ensures (grew_prefix _ _ _ c.in_err-flush.ensures.prefix)
+pub returns-in_err-ahead : goal.returns-in_err-ahead
+returns-in_err-ahead g c = rw (err_is _ halt.NoMemory c.from_residual.ensures) (nothing_sent _ _ _)
 
 pub returns : goal.returns
-returns g c = grew_then _ _ _ c.answer_lines-answered.ensures (grew_text _ _ _ c.in_ok-flush.ensures.written)
+returns g c = from_reader _ _ _ _ _ _ _ _ c.in_ok-ahead.ensures c.answer_ahead.ensures

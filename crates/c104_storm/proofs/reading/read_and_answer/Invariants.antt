@@ -1,10 +1,11 @@
-use Rattle.c104_storm.specs.Storms.{Grew}
-use Rattle.std.proofs.Common.{◌≤◌, ◌+◌}
+use Rattle.std.specs.Io.KnownBytes.{prepend_known}
+use Rattle.c104_stream.proofs.ScriptSoFar.{Reached}
+use Rattle.c104_storm.specs.Sends.{send_outcome}
 use Rattle.c104_storm.proofs.reading.read_and_answer.Given as goal
 
--- what was written joins what the writer held, and a line ends with a byte of the script
+-- how far the script is read and answered
 abbrev pub invariant-loop-left : goal.invariant-loop-left
-invariant-loop-left g l = Grew (g.W.Write.contents l.initial.writer) (g.W.Write.contents l.writer) × (l.number + l.left ≤ 16777217)
+invariant-loop-left g l = Reached send_outcome (prepend_known l.initial.ahead (g.S.Read.remaining l.initial.script)) (prepend_known l.ahead (g.S.Read.remaining l.script)) (g.W.Write.contents l.initial.writer) (g.W.Write.contents l.writer) l.kept l.initial.sending l.sending l.number l.buffers.line.items l.left
 
 abbrev pub decreases-loop-left : goal.decreases-loop-left
 decreases-loop-left g l = l.left

@@ -1,0 +1,80 @@
+-- The ends of a storm: of its answers, and of what follows them.
+use Rattle.std.proofs.Common.{◌≡◌, ℕ, Bool, List, [], ◌++◌, Option, None, Some, Result, Ok, Err, inl, inr, refl, subst, sym}
+use Rattle.std.specs.Io.KnownBytes.{Appends, prepend_known}
+use Rattle.std.proofs.KnownBytes.{Appends-trans}
+use Rattle.c104_plan.specs.PlanImage.{Image}
+use Rattle.c104_plan.specs.Plans.{Plan}
+use Rattle.c104_stream.proofs.Growing.{grew_none, grew_prefix, grew_then}
+use Rattle.c104_stream.proofs.Prefixes.{prefix_next}
+use Rattle.c104_stream.proofs.ScriptEnds.{nothing_answered}
+use Rattle.c104_stream.specs.ScriptLines.{is_long}
+use Rattle.c104_stream.specs.Scripts.{AnswersScript, script_outcome}
+use Rattle.c104_stream.specs.Writing.{Grew}
+use Rattle.c104_stream.specs.declared.halt.Halt.{Halt}
+use Rattle.c104_stream.specs.declared.halt.Halt.TheVariants as halt
+use Rattle.c104_workers.specs.Fabrics.{Handed, Left, handed_of}
+use Rattle.c104_storm.specs.Endings.{WritesEnd}
+use Rattle.c104_storm.specs.Sends.{new_sending, send_outcome}
+use Rattle.c104_storm.specs.Storms.{MayEndAfter, MayWrite, StormsOn, StormsPlan}
+use Rattle.c104_storm.specs.declared.sends.Sending.{Sending}
+
+-- nothing was answered, and nothing was read
+pub nothing_sent : (start : Sending) (known held : Option (List ℕ)) → AnswersScript send_outcome start known known held held start (Err halt.NoMemory)
+nothing_sent start None held = grew_none held
+nothing_sent start (Some rest) held = nothing_answered send_outcome start (Some rest) held []
+
+-- nothing was read ahead of the answers
+pub from_reader : (start after : Sending) (known left held holds : Option (List ℕ)) (before : List ℕ) (result : Result Bool Halt) → before ≡ [] → AnswersScript send_outcome start (prepend_known before known) left held holds after result → AnswersScript send_outcome start known left held holds after result
+from_reader start after None left held holds before result none answered = answered
+from_reader start after (Some rest) left held holds before result none answered =
+    subst (λ xs. AnswersScript send_outcome start (Some (xs ++ rest)) left held holds after result) none answered
+
+-- what is written at the end, by what was known when the workers began
+pub storms_on : (left : Left) (handed : Handed) (long faulty : Bool) (held holds : Option (List ℕ)) (result : Result Bool Halt) → left.handed ≡ handed → WritesEnd left long faulty held holds result → StormsOn handed long faulty held holds result
+storms_on left handed long faulty held holds (Ok refused) is ends = (ends.0, record { left = left; handed_so = is; ends = ends.1 }, ends.2)
+storms_on left handed long faulty held holds (Err halt.CannotRead) is ends = absurd ends
+storms_on left handed long faulty held holds (Err halt.CannotWrite) is ends = (ends.0, ends.1, record { left = left; handed_so = is; ends = ends.2 }, ends.3)
+storms_on left handed long faulty held holds (Err halt.NoMemory) is ends = ends
+
+module _ (plan : Plan) (image : Image) where
+  -- the sending by its plan
+  pub from_plan : (all left held holds : Option (List ℕ)) (start after : Sending) (result : Result Bool Halt) → start ≡ new_sending plan image → AnswersScript send_outcome start all left held holds after result → AnswersScript send_outcome (new_sending plan image) all left held holds after result
+  from_plan all left held holds start after result is answered = subst (λ s. AnswersScript send_outcome s all left held holds after result) is answered
+
+  -- the script came to no end
+  pub storm_stops : (all left held holds : Option (List ℕ)) (after : Sending) (kind : Halt) → AnswersScript send_outcome (new_sending plan image) all left held holds after (Err kind) → StormsPlan plan image all left held holds (Err kind)
+  storm_stops None left held holds after kind stopped = stopped
+  storm_stops (Some script) left held holds after halt.CannotRead stopped = stopped
+  storm_stops (Some script) left held holds after halt.CannotWrite stopped = inl stopped
+  storm_stops (Some script) left held holds after halt.NoMemory stopped = inl stopped
+
+  -- no memory for the network: nothing was read and nothing is written
+  pub nothing_stormed : (known held : Option (List ℕ)) → StormsPlan plan image known known held held (Err halt.NoMemory)
+  nothing_stormed known held = storm_stops known known held held (new_sending plan image) halt.NoMemory (nothing_sent (new_sending plan image) known held)
+
+  -- an end after the answers to this script
+  whole : (script end : List ℕ) (after : Sending) (long refused : Bool) → long ≡ is_long script → after ≡ (script_outcome send_outcome (new_sending plan image) script).1 → MayEndAfter after long end refused
+      → MayWrite plan image script ((script_outcome send_outcome (new_sending plan image) script).0 ++ end) refused
+  whole script end after long refused is_so is_after may = record {
+    end = end;
+    storms = subst (λ l. MayEndAfter (script_outcome send_outcome (new_sending plan image) script).1 l end refused) is_so (subst (λ (s : Sending). MayEndAfter s long end refused) is_after may);
+    is = refl;
+  }
+
+  -- the script was answered, and then the storm ended
+  pub storm_ends : (all left held now holds : Option (List ℕ)) (after : Sending) (long : Bool) (result : Result Bool Halt) → AnswersScript send_outcome (new_sending plan image) all left held now after (Ok long) → StormsOn (handed_of after.net) long after.is_faulty now holds result
+      → StormsPlan plan image all left held holds result
+  storm_ends None left held now holds after long (Ok refused) answered ends =
+      (after, long, answered.written, ends.0, ends.1, Appends-trans held now holds answered.written ends.0 answered.grew ends.2)
+  storm_ends None left held now holds after long (Err halt.CannotRead) answered ends = absurd ends
+  storm_ends None left held now holds after long (Err halt.CannotWrite) answered ends = grew_then held now holds answered (grew_prefix now holds ends.0 ends.3)
+  storm_ends None left held now holds after long (Err halt.NoMemory) answered ends = subst (λ h. Grew held h) (sym ends) answered
+  storm_ends (Some script) left held now holds after long (Ok refused) answered ends =
+      let shown : List ℕ = (script_outcome send_outcome (new_sending plan image) script).0 in
+      (shown ++ ends.0, whole script ends.0 after long refused answered.0 answered.1 ends.1, Appends-trans held now holds shown ends.0 answered.2 ends.2)
+  storm_ends (Some script) left held now holds after long (Err halt.CannotRead) answered ends = absurd ends
+  storm_ends (Some script) left held now holds after long (Err halt.CannotWrite) answered ends =
+      let shown : List ℕ = (script_outcome send_outcome (new_sending plan image) script).0 in
+      inr (shown ++ ends.0, ends.1, whole script ends.0 after long ends.1 answered.0 answered.1 ends.2, prefix_next held now holds shown ends.0 answered.2 ends.3)
+  storm_ends (Some script) left held now holds after long (Err halt.NoMemory) answered ends =
+      inr (subst (λ h. Appends held h (script_outcome send_outcome (new_sending plan image) script).0) (sym ends) answered.2)

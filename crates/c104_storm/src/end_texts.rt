@@ -1,0 +1,105 @@
+//! The texts of a storm's end.
+ghost use Rattle.std.specs.Prelude.{◌≡◌, ◌++◌, IfOk, OnOk};
+ghost use Rattle.c104_storm.specs.Endings.{IsEndText, IsRunText};
+ghost use Rattle.c104_storm.specs.Texts.{audit_line, numbered_line, stop_line};
+
+use crate::endings::Ending;
+use crate::packets::add_sorted;
+use c104_audit::AuditFault;
+use c104_event::EventFault;
+use c104_run::Run;
+use c104_script::add_number;
+use c104_stream::too_long_line;
+use c104_token::NoMemory;
+use std::alloc::Global;
+
+/// What is written of an ending, of a script that is too long or isn't. The only error is out of memory.
+pub(crate) fn end_text(alloc: Global, ending: &Ending, is_long: bool) -> Result<Vec<u8>, NoMemory>
+    ensures { IfOk result (λ text. IsEndText is_long ending.now text.items) }
+{
+    match ending {
+        Ending::NotQuiet => line_text(alloc, b"not quiet\n"),
+        Ending::Stopped(worker, fault) => stop_text(alloc, *worker, *fault),
+        Ending::Unaudited(fault) => audit_text(alloc, *fault),
+        Ending::Audited(run) => run_text(alloc, run, is_long),
+    }
+}
+
+/// A line. The only error is out of memory.
+fn line_text(alloc: Global, line: &[u8]) -> Result<Vec<u8>, NoMemory>
+    ensures { IfOk result (λ text. text.items ≡ line.now) }
+{
+    let mut text = Vec::new(alloc);
+    text.extend_from_slice(line)?;
+    Ok(text)
+}
+
+/// Which worker stopped, and for what. The only error is out of memory.
+fn stop_text(alloc: Global, worker: usize, fault: EventFault) -> Result<Vec<u8>, NoMemory>
+    ensures { IfOk result (λ text. text.items ≡ stop_line worker fault) }
+{
+    let mut text = Vec::new(alloc);
+    add_stop(worker, fault, &mut text)?;
+    Ok(text)
+}
+
+/// Why the audit finds no run. The only error is out of memory, which may also be why.
+fn audit_text(alloc: Global, fault: AuditFault) -> Result<Vec<u8>, NoMemory>
+    ensures { IfOk result (λ text. text.items ≡ audit_line fault) }
+{
+    let mut text = Vec::new(alloc);
+    add_audit_fault(fault, &mut text)?;
+    Ok(text)
+}
+
+/// That the audit found this run, and then the packets that arrived, or that the script is too long. The only error is
+/// out of memory.
+fn run_text(alloc: Global, run: &Run, is_long: bool) -> Result<Vec<u8>, NoMemory>
+    ensures { IfOk result (λ text. IsRunText is_long run.now text.items) }
+{
+    let mut text = line_text(alloc, b"audit ok\n")?;
+    if is_long {
+        text.extend_from_slice(too_long_line())?;
+        return Ok(text);
+    }
+    add_sorted(alloc, run, &mut text)?;
+    Ok(text)
+}
+
+/// Which worker stopped joins the text, and for what.
+fn add_stop(worker: usize, fault: EventFault, text: &mut Vec<u8>) -> Result<(), NoMemory>
+    ensures { OnOk result (text.new.items ≡ text.old.items ++ stop_line worker fault) }
+{
+    text.extend_from_slice(b"worker ")?;
+    add_number(worker, text)?;
+    text.push(b' ')?;
+    add_number(usize::from(fault.number()), text)?;
+    text.push(b' ')?;
+    text.extend_from_slice(fault.name().as_bytes())?;
+    text.push(b'\n')?;
+    Ok(())
+}
+
+/// Why the audit finds no run joins the text. The only error is out of memory, which may also be why.
+fn add_audit_fault(fault: AuditFault, text: &mut Vec<u8>) -> Result<(), NoMemory>
+    ensures { OnOk result (text.new.items ≡ text.old.items ++ audit_line fault) }
+{
+    match fault {
+        AuditFault::Shape(node) => add_refusal(b"audit 1 Shape ", node, text),
+        AuditFault::Order(node) => add_refusal(b"audit 2 Order ", node, text),
+        AuditFault::Ends(wire) => add_refusal(b"audit 3 Ends ", wire, text),
+        AuditFault::Calls(seat) => add_refusal(b"audit 4 Calls ", seat, text),
+        AuditFault::Before(node) => add_refusal(b"audit 5 Before ", node, text),
+        AuditFault::NoMemory => Err(NoMemory),
+    }
+}
+
+/// The words and the number of a line join the text.
+fn add_refusal(words: &[u8], number: usize, text: &mut Vec<u8>) -> Result<(), NoMemory>
+    ensures { OnOk result (text.new.items ≡ text.old.items ++ numbered_line words.now number) }
+{
+    text.extend_from_slice(words)?;
+    add_number(number, text)?;
+    text.push(b'\n')?;
+    Ok(())
+}
