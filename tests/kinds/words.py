@@ -8,7 +8,8 @@ from case_runner import FIRST_TEXT, difference
 def usage(runner):
     """Words are refused with a message on standard error, and nothing else is written."""
     for words in (['run', 'a', 'b', 'c'], ['run', '--frob'], ['--frob'], ['check'], ['check', 'a', 'b'],
-                  ['label'], ['label', 'a', 'b'], ['draw'], ['draw', 'a', 'b'], ['debug'], ['debug', 'a', 'b'], ['storm'], ['storm', 'a'],
+                  ['label'], ['label', 'a', 'b'], ['draw'], ['draw', 'a', 'b'], ['debug'], ['debug', 'a', 'b'], ['storm'], ['storm', 'a'], ['traffic'],
+                  ['traffic', 'a'],
                   [''], ['-'], ['frob', 'frob'], ['x' * 100000], [b'\xff']):
         name = 'usage of %.20r' % words
         if not runner.wanted(name):

@@ -4,6 +4,7 @@ ghost use Rattle.std.specs.Prelude.{◌≤◌};
 use crate::help;
 use crate::sources::STANDARD_INPUT;
 use crate::subcommands::{Row, SUBCOMMANDS, Subcommand, Takes};
+use crate::traffic_words::{TrafficWords, with_traffic};
 use c104_commands::MAX_WORKERS;
 use clap::{Arg, ArgAction, ArgMatches, Command, Error, value_parser};
 use std::alloc::{AllocError, Global};
@@ -53,6 +54,8 @@ pub struct Order<'a> {
     pub rows: bool,
     /// How many workers a storm is to have, if that is said.
     pub workers: Option<u8>,
+    /// The traffic of which a script is to be printed.
+    pub traffic: TrafficWords<'a>,
 }
 
 impl<'a> Order<'a> {
@@ -66,6 +69,7 @@ impl<'a> Order<'a> {
         all: false,
         rows: false,
         workers: None,
+        traffic: TrafficWords::NONE,
     };
 
     /// The order of words that were matched.
@@ -85,6 +89,7 @@ impl<'a> Order<'a> {
             all: given.get_flag(ALL),
             rows: given.get_flag(ROWS),
             workers: given.get_one(WORKERS),
+            traffic: TrafficWords::of_matches(given),
         }
     }
 
@@ -100,7 +105,7 @@ impl<'a> Order<'a> {
 
     /// How many workers a storm has, 1 to 64.
     pub fn worker_count(self) -> u8
-        ensures { (1 ≤ result) × (result ≤ 64) }
+        ensures { (1 ≤ result) × (result ≤ MAX_WORKERS) }
     {
         match self.workers {
             Some(count) if (1..=MAX_WORKERS).contains(&count) => count,
@@ -204,6 +209,7 @@ fn subcommand<'a>(alloc: Global, row: Row) -> Result<Command<'a>, AllocError> {
         Takes::All => with_description(alloc, named)?.arg(flag(alloc, ALL, ALL_HELP)),
         Takes::Rows => with_description(alloc, named)?.arg(flag(alloc, ROWS, ROWS_HELP)),
         Takes::Marks => with_marks(alloc, named),
+        Takes::Traffic => with_traffic(alloc, with_description(alloc, named)?),
     }
 }
 
@@ -234,7 +240,7 @@ fn with_marks<'a>(alloc: Global, named: Command<'a>) -> Result<Command<'a>, Allo
 }
 
 /// An option without a value.
-fn flag<'a>(alloc: Global, name: &'a str, help: &'a str) -> Arg<'a> {
+pub fn flag<'a>(alloc: Global, name: &'a str, help: &'a str) -> Arg<'a> {
     Arg::new(alloc, name)
         .long(name)
         .help(help)
@@ -268,7 +274,7 @@ fn workers_option<'a>(alloc: Global) -> Arg<'a> {
     Arg::new(alloc, WORKERS)
         .long(WORKERS)
         .value_name("N")
-        .value_parser(value_parser!(u8).range(1..=64))
+        .value_parser(value_parser!(u8).range(1..=i64::from(MAX_WORKERS)))
         .help(WORKERS_HELP)
 }
 

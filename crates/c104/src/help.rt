@@ -28,6 +28,7 @@ Examples:
   c104 label network.txt              which labels and registers it gives
   c104 label --rows network.txt       the same labels, as row lines
   c104 draw network.txt | dot -Tsvg   its picture
+  c104 traffic --help                 packets for it, as a script
 
 Under --explain, standard error explains what is wrong with a line or with labels, why
 an event isn't ready, who waits for whom where nothing moves, and what wasn't
@@ -36,8 +37,8 @@ progress. Standard output is the same.
 
 Exit status:
   0  done, even if an event was refused
-  1  the description, its labels, a line of the script or a storm was refused, or a
-     cycle was found
+  1  the description, its labels, a line of the script, a pattern of traffic or a storm
+     was refused, or a cycle was found
   2  the command line is wrong
   3  a file can't be opened or read, or the output can't be written
   4  out of memory";
@@ -125,3 +126,23 @@ check refuses it the walk is red and the title is the fault.
 
 With --cycles, a cycle that the command cycles finds is red, and the title is that
 cycle.";
+
+/// Of `traffic`.
+pub const TRAFFIC: &str =
+    "Prints a `send` line for each packet, from the terminals that have a target in turn; with
+--load, which is a number of packets of each such terminal in 1,000 rounds, `rounds`
+lines between them. Packets go to the first labels of their targets. Of T terminals,
+counted from 0 in the order of the description, terminal t sends to
+
+  uniform     any, picked by the generator of the seed
+  transpose   row c and column r of a square, where t is in row r and column c
+  reverse     the one whose number has the bits of t in reverse
+  neighbour   the next one, and the last to the first
+  hot-spot    the one named by --target
+  all-to-all  each in turn, from the next one on
+
+and to itself only with --own. The same words print the same script anywhere. It ends
+with the last packet: further rounds let it arrive.
+
+  c104 traffic net.txt --pattern uniform --packets 100 --bytes 8 --seed 1 > sends.txt
+  (cat sends.txt; echo rounds 1000) | c104 run net.txt -";

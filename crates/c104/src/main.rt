@@ -2,9 +2,9 @@
 //!
 //! `main` reads the command line, opens what it names, calls the function of a command and says what that
 //! function's `Status` means: a message on standard error and an exit status. The words of the command
-//! line are in `command_line`, the table of subcommands in `subcommands`, the texts of help in `help`, what a path
-//! stands for in `sources`, a script that is typed in `typed`, what people are told beside the answers in `told`; the
-//! functions of the commands are those of `c104_commands`.
+//! line are in `command_line`, those of traffic in `traffic_words`, the table of subcommands in `subcommands`, the texts
+//! of help in `help`, what a path stands for in `sources`, a script that is typed in `typed`, what people are told beside
+//! the answers in `told`; the functions of the commands are those of `c104_commands`.
 #![tactic(auto)]
 
 mod command_line;
@@ -12,11 +12,12 @@ mod help;
 mod sources;
 mod subcommands;
 mod told;
+mod traffic_words;
 mod typed;
 
 pub use c104_commands::{
-    Marks, Status, check_command, cycles_command, debug_command, draw_command, label_command,
-    label_rows_command, run, run_text, storm_command,
+    Marks, PatternName, Status, check_command, cycles_command, debug_command, draw_command,
+    label_command, label_rows_command, run, run_text, storm_command, traffic_command,
 };
 use c104_describe::read_description;
 use c104_mistakes::{About, Messages};
@@ -33,6 +34,7 @@ use std::thread::Threads;
 use std::{env, io};
 use subcommands::Subcommand;
 use told::{Told, tell_of_words};
+use traffic_words::pattern_of;
 use typed::Typed;
 
 /// The exit status of a wrong command line.
@@ -119,6 +121,7 @@ fn do_order<H: Threads + Wait + Sync>(
         Subcommand::Cycles => search_file(rt, order.description, order.all, told),
         Subcommand::Label => label_file(rt, order, told),
         Subcommand::Draw => draw_file(rt, order, told),
+        Subcommand::Traffic => send_file(rt, order, told),
     }
 }
 
@@ -316,6 +319,40 @@ fn draw_file(rt: &HostRuntime, order: Order<'_>, told: &mut Told<'_>) -> Status 
         &mut io::writer(rt),
         told,
     )
+}
+
+/// Prints a script of traffic for the network of a description's file. A pattern that there isn't is a wrong word, and so
+/// is a hot spot without its terminal, or a terminal without a hot spot.
+fn send_file(rt: &HostRuntime, order: Order<'_>, told: &mut Told<'_>) -> Status {
+    let word = order.traffic.pattern.unwrap_or("");
+    let Some(name) = pattern_of(word) else {
+        let _ = eprintln!(rt;
+            "error: the patterns are uniform, transpose, reverse, neighbour, hot-spot and all-to-all: {word}"
+        );
+        told.note_wrong_word();
+        return Status::Refused;
+    };
+    if order.traffic.target.is_some() != (name == PatternName::HotSpot) {
+        let _ = rt.eprintln(
+            "error: a hot-spot wants --target T, its terminal, and no other pattern does",
+        );
+        told.note_wrong_word();
+        return Status::Refused;
+    }
+    let Some(mut description) = open_path(rt, order.description, told) else {
+        return Status::CannotRead(0);
+    };
+    let status = traffic_command(
+        rt.alloc(),
+        name,
+        order.traffic.target.unwrap_or(""),
+        order.traffic.amount(),
+        &mut description,
+        &mut io::writer(rt),
+        told,
+    );
+    told.note_fault(description.fault());
+    status
 }
 
 /// What is to be marked in a picture.

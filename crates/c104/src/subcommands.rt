@@ -19,6 +19,8 @@ pub enum Subcommand {
     Label,
     /// The picture of a description's network.
     Draw,
+    /// A script of packets for the terminals of a description's network.
+    Traffic,
 }
 
 /// The words that a subcommand takes.
@@ -36,6 +38,8 @@ pub enum Takes {
     Rows,
     /// `DESC [--header N | --cycles]`.
     Marks,
+    /// `DESC --pattern P [--target T] --packets N --bytes B --seed S [--load R] [--own]`.
+    Traffic,
 }
 
 /// A row of the table.
@@ -54,7 +58,7 @@ pub struct Row {
 }
 
 /// The subcommands, in the order of help.
-pub const SUBCOMMANDS: [Row; 7] = [
+pub const SUBCOMMANDS: [Row; 8] = [
     Row {
         subcommand: Subcommand::Run,
         name: "run",
@@ -103,5 +107,12 @@ pub const SUBCOMMANDS: [Row; 7] = [
         about: "Draws the network of a description, as text for Graphviz",
         teaching: help::DRAW,
         takes: Takes::Marks,
+    },
+    Row {
+        subcommand: Subcommand::Traffic,
+        name: "traffic",
+        about: "Prints a script by which the terminals of a description send packets in a pattern",
+        teaching: help::TRAFFIC,
+        takes: Takes::Traffic,
     },
 ];

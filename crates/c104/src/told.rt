@@ -187,12 +187,19 @@ pub fn tell_of_words(rt: &HostRuntime, words: &[String], error: &Error) {
     };
     match error.kind() {
         ErrorKind::InvalidSubcommand => tell_of_command(rt, words),
-        ErrorKind::MissingRequiredArgument => tell_of_script(rt, words),
-        ErrorKind::ValueValidation => {
+        ErrorKind::MissingRequiredArgument if !has_word(words, "traffic") => tell_of_script(
+            rt, words,
+        ),
+        ErrorKind::ValueValidation if has_word(words, "draw") => {
             let _ = rt.eprintln("c104: a header is a decimal number, 0 to 65535");
         }
         _ => {}
     }
+}
+
+/// Whether a word is among these.
+fn has_word(words: &[String], wanted: &str) -> bool {
+    words.iter().any(|word| word.as_str() == wanted)
 }
 
 /// Tells of one file, or of two, where a command is wanted.

@@ -6,3 +6,5 @@ mod RowLemmas
 mod RowTables
 mod RowTexts
 mod RowsByHand
+mod StormStatuses
+mod TrafficEnds

@@ -8,6 +8,7 @@ pub mod Checks
 pub mod ImageTexts
 pub mod Labels
 pub mod LabelRows
+pub mod Traffic
 pub mod RangeChanges
 pub mod RowChanges
 pub mod RowSteps

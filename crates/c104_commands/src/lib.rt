@@ -3,9 +3,9 @@
 //! `run` takes a description and a script from two readers, `debug_command` a script line by line, `run_text` both from
 //! one text;
 //! `check_command` takes a description alone, and checks its labels, and `cycles_command` looks for a cycle of
-//! channel dependencies; `label_command` shows the labels, `label_rows_command` the same by `row` lines, and
-//! `draw_command` draws the network. Each reads no further than the limits of a description, 1 MiB, and of a script,
-//! 16 MiB.
+//! channel dependencies; `label_command` shows the labels, `label_rows_command` the same by `row` lines,
+//! `draw_command` draws the network, and `traffic_command` writes a script by which its terminals send packets. Each
+//! reads no further than the limits of a description, 1 MiB, and of a script, 16 MiB.
 //!
 //! Each of them reports what is faulty, refused, not ready or didn't arrive to what takes `Messages`; what it writes
 //! and answers is the same whatever that does. Give `Silent` to report to nobody.
@@ -34,11 +34,13 @@ mod setups;
 mod status;
 mod storms;
 mod texts;
+mod traffic;
 mod trials;
 
 pub use accepted::cycle_advice;
 pub use advice::check_advice;
 pub use c104_storm::MAX_WORKERS;
+pub use c104_traffic::{MAX_DATA, MAX_PACKETS, PatternName, Traffic};
 pub use checks::check_command;
 pub use cycles::cycles_command;
 pub use draws::draw_command;
@@ -51,3 +53,4 @@ pub use setups::label_fault_text;
 pub use status::Status;
 pub use storms::storm_command;
 pub use texts::check_fault_text;
+pub use traffic::traffic_command;

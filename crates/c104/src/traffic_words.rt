@@ -1,0 +1,189 @@
+//! What the command line says of traffic.
+ghost use Rattle.std.specs.Prelude.{◌≤◌, ◌<◌, IfSome};
+ghost use Rattle.c104_traffic.specs.Packets.{IsTraffic};
+
+use crate::command_line::flag;
+use c104_commands::{MAX_DATA, MAX_PACKETS, PatternName, Traffic};
+use clap::{Arg, ArgMatches, Command, value_parser};
+use std::alloc::{AllocError, Global};
+
+/// What the command line says of traffic.
+#[derive(Clone, Copy)]
+pub struct TrafficWords<'a> {
+    /// The name of a pattern.
+    pub pattern: Option<&'a str>,
+    /// The name of a hot spot.
+    pub target: Option<&'a str>,
+    packets: Option<usize>,
+    bytes: Option<usize>,
+    seed: Option<u64>,
+    load: Option<usize>,
+    own: bool,
+}
+
+impl<'a> TrafficWords<'a> {
+    /// Nothing is said of traffic.
+    pub const NONE: TrafficWords<'static> = TrafficWords {
+        pattern: None,
+        target: None,
+        packets: None,
+        bytes: None,
+        seed: None,
+        load: None,
+        own: false,
+    };
+
+    /// What words that were matched say.
+    pub fn of_matches(given: &ArgMatches<'a>) -> Self {
+        TrafficWords {
+            pattern: given.get_str(PATTERN),
+            target: given.get_str(TARGET),
+            packets: given.get_one(PACKETS),
+            bytes: given.get_one(BYTES),
+            seed: given.get_one(SEED),
+            load: given.get_one(LOAD),
+            own: given.get_flag(OWN),
+        }
+    }
+
+    /// How much traffic is asked for, within its limits.
+    pub fn amount(self) -> Traffic
+        ensures { IsTraffic result }
+    {
+        Traffic {
+            packets: at_most(self.packets, MAX_PACKETS),
+            bytes: at_most(self.bytes, MAX_DATA),
+            seed: self.seed.unwrap_or(0),
+            load: at_least_one(self.load),
+            own: self.own,
+        }
+    }
+}
+
+/// A number that is said, up to a limit.
+fn at_most(said: Option<usize>, limit: usize) -> usize
+    ensures { result ≤ limit }
+{
+    match said {
+        Some(number) if number <= limit => number,
+        _ => limit,
+    }
+}
+
+/// A number that is said, if it isn't 0.
+fn at_least_one(said: Option<usize>) -> Option<usize>
+    ensures { IfSome result (λ number. 0 < number) }
+{
+    match said {
+        Some(number) if number > 0 => Some(number),
+        _ => None,
+    }
+}
+
+/// A pattern by the word for it.
+#[derive(Clone, Copy)]
+struct PatternRow {
+    word: &'static str,
+    name: PatternName,
+}
+
+/// The patterns of traffic.
+const PATTERNS: [PatternRow; 6] = [
+    PatternRow {
+        word: "uniform",
+        name: PatternName::Uniform,
+    },
+    PatternRow {
+        word: "transpose",
+        name: PatternName::Transpose,
+    },
+    PatternRow {
+        word: "reverse",
+        name: PatternName::Reverse,
+    },
+    PatternRow {
+        word: "neighbour",
+        name: PatternName::Neighbour,
+    },
+    PatternRow {
+        word: "hot-spot",
+        name: PatternName::HotSpot,
+    },
+    PatternRow {
+        word: "all-to-all",
+        name: PatternName::AllToAll,
+    },
+];
+
+/// The pattern of this name.
+pub fn pattern_of(word: &str) -> Option<PatternName> {
+    for row in PATTERNS {
+        if row.word == word {
+            return Some(row.name);
+        }
+    }
+    None
+}
+
+/// The options of traffic.
+const PATTERN: &str = "pattern";
+
+const PATTERN_HELP: &str = "Where packets go: uniform, transpose, reverse, neighbour, hot-spot or
+all-to-all";
+
+const TARGET: &str = "target";
+
+const TARGET_HELP: &str = "The terminal that is the hot spot";
+
+const PACKETS: &str = "packets";
+
+const PACKETS_HELP: &str = "How many packets, 1 to 1048576";
+
+const BYTES: &str = "bytes";
+
+const BYTES_HELP: &str = "How many bytes behind the header of each, 0 to 4094";
+
+const SEED: &str = "seed";
+
+const SEED_HELP: &str = "Where the generator begins, 0 to 18446744073709551615";
+
+const LOAD: &str = "load";
+
+const LOAD_HELP: &str = "How many packets a terminal sends in 1,000 rounds, 1 to 1000";
+
+const OWN: &str = "own";
+
+const OWN_HELP: &str = "Let terminals send to themselves, too";
+
+/// `--pattern P [--target T] --packets N --bytes B --seed S [--load R] [--own]`.
+pub fn with_traffic<'a>(alloc: Global, named: Command<'a>) -> Result<Command<'a>, AllocError> {
+    let asked = named
+        .arg(valued(alloc, PATTERN, "P", PATTERN_HELP).required(true))?
+        .arg(valued(alloc, TARGET, "T", TARGET_HELP))?;
+    with_numbers(alloc, asked)?.arg(flag(alloc, OWN, OWN_HELP))
+}
+
+/// `--packets N --bytes B --seed S [--load R]`.
+fn with_numbers<'a>(alloc: Global, asked: Command<'a>) -> Result<Command<'a>, AllocError> {
+    let packets = valued(alloc, PACKETS, "N", PACKETS_HELP)
+        .value_parser(value_parser!(usize).range(1..=1_048_576))
+        .required(true);
+    let bytes = valued(alloc, BYTES, "B", BYTES_HELP)
+        .value_parser(value_parser!(usize).range(0..=4_094))
+        .required(true);
+    let seed = valued(alloc, SEED, "S", SEED_HELP)
+        .value_parser(value_parser!(u64))
+        .required(true);
+    let load = valued(alloc, LOAD, "R", LOAD_HELP).value_parser(value_parser!(usize).range(
+        1..=1_000,
+    ));
+    asked.arg(packets)?.arg(bytes)?.arg(seed)?.arg(load)
+}
+
+/// An option with a value, which help shows so.
+fn valued<'a>(alloc: Global, name: &'a str, value: &'a str, help: &'a str) -> Arg<'a> {
+    Arg::new(alloc, name)
+        .long(name)
+        .value_name(value)
+        .help(help)
+}

@@ -1,0 +1,61 @@
+-- What `traffic` prints of a network: a script, or why the network can't have the pattern; and how it ends.
+--     PrintsTraffic name target traffic plan image text refused
+use Rattle.std.specs.Prelude.{ℕ, ◌≡◌, ◌≢◌, ◌<◌, Bool, true, false, List, count_by, length, Option}
+use Rattle.std.specs.Io.KnownBytes.{Appends, Keeps}
+use Rattle.c104_plan.specs.Plans.{Plan}
+use Rattle.c104_plan.specs.PlanImage.{Image}
+use Rattle.c104_stream.specs.Writing.{AppendsPrefix}
+use Rattle.c104_traffic.specs.Faults.{IsTrafficFault, traffic_fault_text}
+use Rattle.c104_traffic.specs.declared.faults.TrafficFault.{TrafficFault}
+use Rattle.c104_traffic.specs.declared.faults.TrafficFault.TheVariants as fault
+use Rattle.c104_traffic.specs.declared.amounts.Traffic.{Traffic}
+use Rattle.c104_traffic.specs.Patterns.{IsPatternOf}
+use Rattle.c104_traffic.specs.declared.patterns.Pattern.{Pattern}
+use Rattle.c104_traffic.specs.declared.patterns.PatternName.{PatternName}
+use Rattle.c104_traffic.specs.Requests.{AreDirected, IsReadAs, is_send, traffic_requests}
+use Rattle.c104_traffic.specs.Schedules.{AreLabelled}
+use Rattle.c104_traffic.specs.Targets.{senders_of}
+use Rattle.c104_traffic.specs.Texts.{traffic_text}
+use Rattle.c104_commands.specs.declared.status.Status.{Status}
+use Rattle.c104_commands.specs.declared.status.Status.TheVariants as status
+
+-- the script of traffic of a network that can have the pattern of this name: some terminal sends by it, and each has a
+-- header that leads to it. A script's reader reads just these packets of it, and each goes from a terminal to a terminal
+pub record IsScript (name : PatternName) (target : List ℕ) (traffic : Traffic) (plan : Plan) (image : Image) (text : List ℕ) : Type 0 where
+  pub pattern : Pattern
+  pub named : IsPatternOf plan name target pattern
+  pub some : 0 < length (senders_of pattern traffic.own (length plan.terminals))
+  pub labels : AreLabelled plan image
+  pub is : text ≡ traffic_text plan image pattern traffic
+  pub read : IsReadAs plan text (traffic_requests plan image pattern traffic)
+  pub sends : count_by is_send (traffic_requests plan image pattern traffic) ≡ traffic.packets
+  pub directed : AreDirected plan image pattern traffic
+
+-- the line that tells why a network can't have it
+pub record IsTrafficRefusal (name : PatternName) (target : List ℕ) (traffic : Traffic) (plan : Plan) (image : Image) (text : List ℕ) : Type 0 where
+  pub why : TrafficFault
+  pub cause : IsTrafficFault plan image name target traffic.own why
+  pub told : why ≢ fault.NoMemory
+  pub line : text ≡ traffic_fault_text plan why
+
+-- what `traffic` prints of a network, and whether it is refused
+abbrev pub PrintsTraffic : PatternName → List ℕ → Traffic → Plan → Image → List ℕ → Bool → Type 0
+PrintsTraffic name target traffic plan image text false = IsScript name target traffic plan image text
+PrintsTraffic name target traffic plan image text true = IsTrafficRefusal name target traffic plan image text
+
+-- how a command ends that writes this script: all of it is written, or a prefix where the writer failed, or nothing where
+-- it is out of memory
+abbrev pub ScriptEnds : List ℕ → Option (List ℕ) → Option (List ℕ) → Status → Type 0
+ScriptEnds text held holds status.Done = Appends held holds text
+ScriptEnds text held holds status.Refused = ⊥
+ScriptEnds text held holds (status.CannotRead n) = ⊥
+ScriptEnds text held holds status.CannotWrite = AppendsPrefix held holds text
+ScriptEnds text held holds status.NoMemory = Keeps held holds
+
+-- how one ends that tells this fault
+abbrev pub FaultEnds : Plan → TrafficFault → Option (List ℕ) → Option (List ℕ) → Status → Type 0
+FaultEnds plan why held holds status.Done = ⊥
+FaultEnds plan why held holds status.Refused = (why ≢ fault.NoMemory) × Appends held holds (traffic_fault_text plan why)
+FaultEnds plan why held holds (status.CannotRead n) = ⊥
+FaultEnds plan why held holds status.CannotWrite = (why ≢ fault.NoMemory) × AppendsPrefix held holds (traffic_fault_text plan why)
+FaultEnds plan why held holds status.NoMemory = Keeps held holds

@@ -1,0 +1,105 @@
+-- Where the packets of traffic go: from a terminal to a terminal, which is another one unless that is asked for.
+use Rattle.std.proofs.Common.{◌≡◌, ◌≢◌, ◌⊎◌, inl, inr, ℕ, zero, suc, ◌+◌, ◌-◌, ◌*◌, ◌/◌, ◌%◌, ◌^◌, ◌<◌, ◌≤◌, ◌==◌, ◌||◌, Bool, true, false, cond, not, List, [], ◌∷◌, filter, length, map, take, All, nat_lt, sym, subst, ap, ◌∙◌, refl, arith}
+use Rattle.std.specs.List.{range_with_len}
+use Rattle.std.proofs.lemmas.Bool.{cases_lt}
+use Rattle.std.proofs.lemmas.Bool.Decides.{nat_tests}
+use Rattle.std.proofs.lemmas.List.Elements.{filter_passes}
+use Rattle.std.proofs.lemmas.Nat.{mod_below}
+use Rattle.std.proofs.lemmas.Option.{unwrap_or-slice_get}
+use Rattle.c104_switch.specs.Headers.{header_number}
+use Rattle.c104_plan.specs.Plans.{IsPlan, Plan}
+use Rattle.c104_plan.specs.PlanImage.{Image}
+use Rattle.c104_traffic.specs.Packets.{Traffic, byte_at, first_label, header_values, packet_of, packet_word, sender_at, target_at}
+use Rattle.c104_traffic.specs.Patterns.{IsPatternFor, Pattern}
+use Rattle.c104_traffic.specs.Requests.{AreDirected}
+use Rattle.c104_traffic.specs.Schedules.{AreLabelled}
+use Rattle.c104_traffic.specs.Targets.{behind, choices, is_sender, pick, senders_of, target_of}
+use Rattle.c104_traffic.specs.declared.patterns.Pattern.TheVariants as pattern
+use Rattle.c104_traffic.proofs.SentReads.{packet_size}
+use Rattle.c104_traffic.proofs.Senders.{sender_inside}
+use Rattle.c104_traffic.proofs.Squares.{reversed_below, transposed_inside}
+
+-- every target is one of the terminals
+pub target_inside : (p : Pattern) (own : Bool) (count s turn word : ℕ) → IsPatternFor count p → s < count → target_of p own count s turn word < count
+target_inside pattern.Uniform own count s turn word fits inside = mod_below (s + 1 + pick (choices own count) word) count (omega arith)
+target_inside (pattern.Transpose side) own count s turn word fits inside = subst (λ n. target_of (pattern.Transpose side) own count s turn word < n) fits (transposed_inside side s (omega (arith, inside, fits)))
+target_inside (pattern.Reverse bits) own count s turn word fits inside = omega (arith, reversed_below bits 0 s, fits)
+target_inside pattern.Neighbour own count s turn word fits inside = mod_below (s + 1 + 0) count (omega arith)
+target_inside (pattern.HotSpot t) own count s turn word fits inside = fits
+target_inside pattern.AllToAll own count s turn word fits inside = mod_below (s + 1 + pick (choices own count) turn) count (omega arith)
+
+-- by fewer places than there are others none comes round to itself
+behind_apart : (count s places : ℕ) → s < count → places + 1 < count → behind count s places ≢ s
+behind_apart count s places inside few is =
+    let below : behind count s places < count = mod_below (s + 1 + places) count (omega arith) in
+    let whole : count * ((s + 1 + places) / count) + behind count s places ≡ s + 1 + places = omega arith in
+    turns ((s + 1 + places) / count) (omega (arith, whole, is))
+  where
+    turns : (q : ℕ) → count * q ≡ places + 1 → ⊥
+    turns zero round = omega arith
+    turns (suc q) round = omega (arith, few)
+
+pick_few : (n word : ℕ) → 0 < n → pick n word < n
+pick_few n word some = grind (arith, nat_tests, mod_below word n)
+
+-- a terminal that sends, though none may send to itself, sends to another
+ring_apart : (count s number : ℕ) → s < count → behind count s (pick (count - 1) 0) ≢ s → behind count s (pick (count - 1) number) ≢ s
+ring_apart count s number inside first = by_count (cases_lt 1 count)
+  where
+    by_count : (1 < count) ⊎ (count ≤ 1) → behind count s (pick (count - 1) number) ≢ s
+    by_count (inl many) = behind_apart count s (pick (count - 1) number) inside (omega (arith, pick_few (count - 1) number (omega arith)))
+    by_count (inr one) =
+        let none : count - 1 ≡ 0 = omega arith in
+        subst (λ n. behind count s (pick n number) ≢ s) (sym none) (subst (λ n. behind count s (pick n 0) ≢ s) none first)
+
+target_apart : (p : Pattern) (count s turn word : ℕ) → s < count → target_of p false count s 0 0 ≢ s → target_of p false count s turn word ≢ s
+target_apart pattern.Uniform count s turn word inside first = ring_apart count s word inside first
+target_apart (pattern.Transpose side) count s turn word inside first = first
+target_apart (pattern.Reverse bits) count s turn word inside first = first
+target_apart pattern.Neighbour count s turn word inside first = first
+target_apart (pattern.HotSpot t) count s turn word inside first = first
+target_apart pattern.AllToAll count s turn word inside first = ring_apart count s turn inside first
+
+-- who sends passes the test of those that do
+sender_passes : (p : Pattern) (own : Bool) (count number : ℕ) → 0 < length (senders_of p own count) → is_sender p own count (sender_at (senders_of p own count) number) ≡ true
+sender_passes p own count number some =
+    let senders = senders_of p own count in
+    let place : number % length senders < length senders = mod_below number (length senders) some in
+    subst (λ s. is_sender p own count s ≡ true) (sym (unwrap_or-slice_get senders (number % length senders) 0))
+    (filter_passes (is_sender p own count) (range_with_len 0 count) (number % length senders) 0 place)
+
+sends_apart : (p : Pattern) (own : Bool) (count s : ℕ) → is_sender p own count s ≡ true → own ≡ false → target_of p own count s 0 0 ≢ s
+sends_apart p own count s passes other is = grind (arith, nat_tests)
+
+-- the header of a packet is the label that it goes to
+header_is : (header bytes label number : ℕ) → 0 < header → header ≤ 2 → label < cond (nat_lt 1 header) 65536 256
+    → header_number (take header (map (byte_at header label number) (range_with_len 0 (header + bytes)))) ≡ label
+header_is zero bytes label number some few small = absurd (omega arith)
+header_is (suc zero) bytes label number some few small =
+    let longer : 1 + bytes ≡ suc bytes = omega arith in
+    ap (λ n. header_number (take 1 (map (byte_at 1 label number) (range_with_len 0 n)))) longer ∙ omega arith
+header_is (suc (suc zero)) bytes label number some few small =
+    let longer : 2 + bytes ≡ suc (suc bytes) = omega arith in
+    ap (λ n. header_number (take 2 (map (byte_at 2 label number) (range_with_len 0 n)))) longer ∙ omega arith
+header_is (suc (suc (suc header))) bytes label number some few small = absurd (omega arith)
+
+pub are_directed : (plan : Plan) (image : Image) (p : Pattern) (traffic : Traffic) → IsPlan plan → IsPatternFor (length plan.terminals) p → 0 < length (senders_of p traffic.own (length plan.terminals)) → AreLabelled plan image → AreDirected plan image p traffic
+are_directed plan image p traffic kept fits some labels number inside =
+    let count = length plan.terminals in
+    let senders = senders_of p traffic.own count in
+    let s = sender_at senders number in
+    let from : s < count = sender_inside p traffic.own count senders number refl some in
+    let to : target_at p traffic count senders number < count = target_inside p traffic.own count s (number / length senders) (packet_word traffic.seed number) fits from in
+    let label = first_label image (target_at p traffic count senders number) in
+    record {
+      from = from;
+      to = to;
+      header = header_is plan.header traffic.bytes label number kept.header.0 kept.header.1 (labels (target_at p traffic count senders number) to);
+      size = packet_size plan traffic.bytes label number;
+      apart = λ other. by_own traffic.own other (sends_apart p traffic.own count s (sender_passes p traffic.own count number some) other) from;
+    }
+  where
+    by_own : (own : Bool) → own ≡ false → target_of p own (length plan.terminals) (sender_at (senders_of p traffic.own (length plan.terminals)) number) 0 0 ≢ sender_at (senders_of p traffic.own (length plan.terminals)) number → sender_at (senders_of p traffic.own (length plan.terminals)) number < length plan.terminals
+        → target_of p own (length plan.terminals) (sender_at (senders_of p traffic.own (length plan.terminals)) number) (number / length (senders_of p traffic.own (length plan.terminals))) (packet_word traffic.seed number) ≢ sender_at (senders_of p traffic.own (length plan.terminals)) number
+    by_own false other first from = target_apart p (length plan.terminals) _ _ _ from first
+    by_own true other first from = cc

@@ -1,0 +1,12 @@
+mod Squares
+mod Numbered
+mod Joining
+mod Senders
+mod SendLines
+mod Rounds
+mod TerminalNames
+mod ScriptNumbers
+mod ScriptLines
+mod SentReads
+mod Directions
+mod Scripts

@@ -1,0 +1,34 @@
+use Rattle.std.proofs.Common.{ℕ, List, flat_map, ap, sym, ◌∙◌}
+use Rattle.std.specs.List.{range_with_len}
+use Rattle.rand_xoshiro.specs.SplitMix64.{mix_u64}
+use Rattle.c104_traffic.specs.Texts.{numbered_text, sent_text}
+use Rattle.c104_traffic.proofs.Joining.{at_error, joins_same, stops_same}
+use Rattle.c104_traffic.proofs.Numbered.{reached_all, reached_first, reached_next, reached_stops}
+use Rattle.c104_traffic.proofs.Senders.{generator_next}
+use Rattle.c104_traffic.proofs.writing.write_packets.Goals as goal
+
+pub loop-number-init : goal.loop-number-init
+loop-number-init g c = record {
+  reached = reached_first _ _ _ _ _ (ap (λ (senders : List ℕ). flat_map (numbered_text c.args.plan.now c.args.image.now c.args.schedule.now.pattern c.args.traffic senders) (range_with_len 0 c.args.traffic.packets)) c.requires.schedule.senders);
+  generator = c.seed_from_u64-generator.ensures.same;
+}
+
+pub sent_at-sent-requires-clause-word : goal.sent_at-sent-requires-clause-word
+sent_at-sent-requires-clause-word g c =
+    ap (λ (p : ℕ × ℕ). p.0) c.next_word-word.ensures ∙ ap (λ x. (mix_u64 x).0) c.loop-number.invariant.generator
+
+pub loop-number-preserved : goal.loop-number-preserved
+loop-number-preserved g c = record {
+  reached = reached_next _ _ _ _ _ _ _ _ c.loop-number.invariant.reached _ c.loop-number-test.true
+      (joins_same _ _ c.loop-number.kept c.write_sent.new.kept (sent_text c.args.plan.now c.args.traffic.bytes c.loop-number.number c.sent_at-sent.result) (numbered_text c.args.plan.now c.args.image.now c.args.schedule.now.pattern c.args.traffic c.args.schedule.now.senders.items c.loop-number.number) (ap (sent_text c.args.plan.now c.args.traffic.bytes c.loop-number.number) c.sent_at-sent.ensures) c.in_ok-write_sent.ensures.kept);
+  generator = ap (λ (p : ℕ × ℕ). p.1) c.next_word-word.ensures ∙ ap (λ x. (mix_u64 x).1) c.loop-number.invariant.generator ∙ sym (generator_next c.args.traffic.seed c.loop-number.number);
+}
+
+pub returns-in_err-write_sent-clause-prefix : goal.returns-in_err-write_sent-clause-prefix
+returns-in_err-write_sent-clause-prefix g c =
+    at_error _ c.from_residual.result
+    (reached_stops _ _ _ _ _ _ _ _ c.loop-number.invariant.reached c.loop-number-test.true
+    (stops_same _ _ c.loop-number.kept (sent_text c.args.plan.now c.args.traffic.bytes c.loop-number.number c.sent_at-sent.result) (numbered_text c.args.plan.now c.args.image.now c.args.schedule.now.pattern c.args.traffic c.args.schedule.now.senders.items c.loop-number.number) (ap (sent_text c.args.plan.now c.args.traffic.bytes c.loop-number.number) c.sent_at-sent.ensures) c.in_err-write_sent.ensures.prefix))
+
+pub returns-clause-kept : goal.returns-clause-kept
+returns-clause-kept g c = reached_all _ _ _ _ _ _ _ c.loop-number.invariant.reached c.loop-number-test.false

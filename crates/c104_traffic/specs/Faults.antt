@@ -1,0 +1,67 @@
+-- Why a network can't have traffic of a pattern.
+--     IsTrafficFault plan image name target own why      this is why a schedule isn't found
+use Rattle.std.specs.Prelude.{◌≡◌, ⊤, ℕ, ◌<◌, ◌≤◌, Bool, List, [], ◌++◌, length, codes}
+use Rattle.std.specs.Fmt.{decimal}
+use Rattle.c104_plan.specs.Plans.{Plan}
+use Rattle.c104_plan.specs.PlanImage.{Image}
+use Rattle.c104_plan.specs.PortTexts.{terminal_name}
+pub use Rattle.c104_traffic.specs.declared.faults.TrafficFault.{TrafficFault}
+use Rattle.c104_traffic.specs.declared.faults.TrafficFault.TheVariants as fault
+use Rattle.c104_traffic.specs.declared.patterns.Pattern.{Pattern}
+use Rattle.c104_traffic.specs.declared.patterns.PatternName.{PatternName}
+use Rattle.c104_traffic.specs.Packets.{first_label, header_values}
+use Rattle.c104_traffic.specs.Patterns.{IsNoPattern, IsPatternOf}
+use Rattle.c104_traffic.specs.Targets.{senders_of}
+
+-- the number that is printed
+abbrev pub traffic_fault_number : TrafficFault → ℕ
+traffic_fault_number fault.NotSquare = 1
+traffic_fault_number fault.NotPowerOfTwo = 2
+traffic_fault_number fault.NoTerminal = 3
+traffic_fault_number fault.NoTarget = 4
+traffic_fault_number (fault.NoLabel t) = 5
+traffic_fault_number fault.NoMemory = 6
+
+-- the name that is printed
+abbrev pub traffic_fault_name : TrafficFault → List ℕ
+traffic_fault_name fault.NotSquare = codes "NotSquare"
+traffic_fault_name fault.NotPowerOfTwo = codes "NotPowerOfTwo"
+traffic_fault_name fault.NoTerminal = codes "NoTerminal"
+traffic_fault_name fault.NoTarget = codes "NoTarget"
+traffic_fault_name (fault.NoLabel t) = codes "NoLabel"
+traffic_fault_name fault.NoMemory = codes "NoMemory"
+
+-- where a fault is: at a terminal, or nowhere
+abbrev pub traffic_fault_place : Plan → TrafficFault → List ℕ
+traffic_fault_place plan fault.NotSquare = []
+traffic_fault_place plan fault.NotPowerOfTwo = []
+traffic_fault_place plan fault.NoTerminal = []
+traffic_fault_place plan fault.NoTarget = []
+traffic_fault_place plan (fault.NoLabel t) = codes ": " ++ terminal_name plan t
+traffic_fault_place plan fault.NoMemory = []
+
+-- the line of a fault: its number, its name, and where it is
+abbrev pub traffic_fault_text : Plan → TrafficFault → List ℕ
+traffic_fault_text plan why =
+    codes "traffic " ++ (decimal (traffic_fault_number why) ++ (codes " " ++ (traffic_fault_name why ++ (traffic_fault_place plan why ++ codes "\n"))))
+
+-- a terminal is the first whose first label is no header
+pub record IsFirstUnlabelled (plan : Plan) (image : Image) (t : ℕ) : Type 0 where
+  pub inside : t < length plan.terminals
+  pub large : header_values plan ≤ first_label image t
+  pub before : (u : ℕ) → u < t → first_label image u < header_values plan
+
+-- the network can have the pattern, but no terminal sends by it
+pub record HasNoSender (plan : Plan) (name : PatternName) (target : List ℕ) (own : Bool) : Type 0 where
+  pub pattern : Pattern
+  pub named : IsPatternOf plan name target pattern
+  pub none : senders_of pattern own (length plan.terminals) ≡ []
+
+-- this is why a network has no schedule for a pattern of this name
+abbrev pub IsTrafficFault : Plan → Image → PatternName → List ℕ → Bool → TrafficFault → Type 0
+IsTrafficFault plan image name target own fault.NotSquare = IsNoPattern plan name target fault.NotSquare
+IsTrafficFault plan image name target own fault.NotPowerOfTwo = IsNoPattern plan name target fault.NotPowerOfTwo
+IsTrafficFault plan image name target own fault.NoTerminal = IsNoPattern plan name target fault.NoTerminal
+IsTrafficFault plan image name target own fault.NoTarget = HasNoSender plan name target own
+IsTrafficFault plan image name target own (fault.NoLabel t) = IsFirstUnlabelled plan image t
+IsTrafficFault plan image name target own fault.NoMemory = ⊤

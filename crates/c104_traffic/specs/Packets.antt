@@ -1,0 +1,78 @@
+-- The packets of traffic: from which terminal each comes, to which it goes, of which bytes it is, and when it is sent.
+--     packet_of plan bytes label number      the packet of this number, counted from 0, to a label
+use Rattle.std.specs.Prelude.{ℕ, zero, suc, ◌+◌, ◌-◌, ◌*◌, ◌/◌, ◌%◌, ◌<◌, ◌≤◌, ◌==◌, List, length, map, nat_lt, slice_get, if◌then◌else◌, Option, Some, None, IfSome}
+use Rattle.std.specs.List.{range_with_len}
+use Rattle.std.specs.Option.{option_map_or, unwrap_or}
+use Rattle.rand_xoshiro.specs.SplitMix64.{mix_u64}
+use Rattle.c104_token.specs.declared.packets.Packet.{Packet}
+use Rattle.c104_token.specs.declared.tokens.Mark.TheVariants as mark
+use Rattle.c104_plan.specs.Plans.{Plan}
+use Rattle.c104_plan.specs.PlanImage.{Image}
+use Rattle.c104_traffic.specs.Patterns.{Pattern}
+use Rattle.c104_traffic.specs.Targets.{target_of}
+pub use Rattle.c104_traffic.specs.declared.amounts.Traffic.{Traffic}
+use Rattle.c104_traffic.specs.declared.amounts.TheConstants.{MAX_DATA, MAX_PACKETS}
+pub use Rattle.c104_traffic.specs.declared.packets.Sent.{Sent}
+
+-- traffic within the limits
+pub record IsTraffic (traffic : Traffic) : Type 0 where
+  pub packets : traffic.packets ≤ MAX_PACKETS
+  pub bytes : traffic.bytes ≤ MAX_DATA
+  pub load : IfSome traffic.load (λ load. 0 < load)
+
+-- the state of the generator, SplitMix64, behind a number of words from a seed on
+abbrev pub generator_at : ℕ → ℕ → ℕ
+generator_at seed zero = seed
+generator_at seed (suc words) = (mix_u64 (generator_at seed words)).1
+
+-- the word of the packet of this number: each has one
+abbrev pub packet_word : ℕ → ℕ → ℕ
+packet_word seed number = (mix_u64 (generator_at seed number)).0
+
+-- from which terminal a packet comes: those that send do so in turn
+abbrev pub sender_at : List ℕ → ℕ → ℕ
+sender_at senders number = unwrap_or (slice_get senders (number % length senders)) 0
+
+-- to which terminal it goes
+abbrev pub target_at : Pattern → Traffic → ℕ → List ℕ → ℕ → ℕ
+target_at pattern traffic count senders number =
+    target_of pattern traffic.own count (sender_at senders number) (number / length senders) (packet_word traffic.seed number)
+
+-- the first label of a terminal
+abbrev pub first_label : Image → ℕ → ℕ
+first_label image t = option_map_or (λ (range : ℕ × ℕ). range.0) (slice_get image.ranges t) 0
+
+-- how many values a header has
+abbrev pub header_values : Plan → ℕ
+header_values plan = if nat_lt 1 plan.header then 65536 else 256
+
+-- the byte at a place of a packet: those of a header of this length are the label, low byte first, and each behind them
+-- is its place and the packet's number together, of which the last eight bits count
+abbrev pub byte_at : ℕ → ℕ → ℕ → ℕ → ℕ
+byte_at header label number place =
+    if place == 0 then label % 256
+    else (if nat_lt place header then label / 256 % 256 else (number + place) % 256)
+
+-- the packet to a label
+abbrev pub packet_of : Plan → ℕ → ℕ → ℕ → Packet
+packet_of plan bytes label number = record {
+  bytes = map (byte_at plan.header label number) (range_with_len 0 (plan.header + bytes));
+  mark = mark.Eop;
+}
+
+-- how many rounds are done in all before a packet is sent, by a number of senders
+abbrev pub rounds_by : Option ℕ → ℕ → ℕ → ℕ
+rounds_by None senders number = 0
+rounds_by (Some load) senders number = number * 1000 / load / senders
+
+-- how many of them since the packet before
+abbrev pub rounds_before : Option ℕ → ℕ → ℕ → ℕ
+rounds_before load senders number = rounds_by load senders number - rounds_by load senders (number - 1)
+
+-- what is sent as the packet of this number: the rounds before it, its sender, and the first label of its target
+abbrev pub sent_at : Plan → Image → Pattern → Traffic → List ℕ → ℕ → Sent
+sent_at plan image pattern traffic senders number = record {
+  rounds = rounds_before traffic.load (length senders) number;
+  sender = sender_at senders number;
+  label = first_label image (target_at pattern traffic (length plan.terminals) senders number);
+}

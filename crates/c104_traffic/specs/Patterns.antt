@@ -1,0 +1,54 @@
+-- The patterns by which terminals choose where their packets go, and which of them a network can have.
+--     IsPatternOf plan name target pattern      what the pattern of this name is in a network
+--     IsNoPattern plan name target why      it can't have that pattern
+use Rattle.std.specs.Prelude.{◌≡◌, ◌≢◌, ⊤, ℕ, ◌*◌, ◌^◌, ◌<◌, List, length, Option, Some, None}
+use Rattle.c104_plan.specs.Plans.{Plan, terminal_number}
+pub use Rattle.c104_traffic.specs.declared.patterns.Pattern.{Pattern}
+use Rattle.c104_traffic.specs.declared.patterns.Pattern.TheVariants as pattern
+pub use Rattle.c104_traffic.specs.declared.patterns.PatternName.{PatternName}
+use Rattle.c104_traffic.specs.declared.patterns.PatternName.TheVariants as asked
+use Rattle.c104_traffic.specs.declared.faults.TrafficFault.{TrafficFault}
+use Rattle.c104_traffic.specs.declared.faults.TrafficFault.TheVariants as fault
+
+-- the name of a pattern
+abbrev pub name_of : Pattern → PatternName
+name_of pattern.Uniform = asked.Uniform
+name_of (pattern.Transpose side) = asked.Transpose
+name_of (pattern.Reverse bits) = asked.Reverse
+name_of pattern.Neighbour = asked.Neighbour
+name_of (pattern.HotSpot t) = asked.HotSpot
+name_of pattern.AllToAll = asked.AllToAll
+
+-- a pattern is one of a given number of terminals: those of a transpose are a square of its side, those of a reverse are
+-- all the numbers of its bits, and a hot spot is one of them
+abbrev pub IsPatternFor : ℕ → Pattern → Type 0
+IsPatternFor count pattern.Uniform = ⊤
+IsPatternFor count (pattern.Transpose side) = side * side ≡ count
+IsPatternFor count (pattern.Reverse bits) = 2 ^ bits ≡ count
+IsPatternFor count pattern.Neighbour = ⊤
+IsPatternFor count (pattern.HotSpot t) = t < count
+IsPatternFor count pattern.AllToAll = ⊤
+
+-- a hot spot is the terminal of the target's name
+abbrev pub IsAtTarget : Plan → List ℕ → Pattern → Type 0
+IsAtTarget plan target pattern.Uniform = ⊤
+IsAtTarget plan target (pattern.Transpose side) = ⊤
+IsAtTarget plan target (pattern.Reverse bits) = ⊤
+IsAtTarget plan target pattern.Neighbour = ⊤
+IsAtTarget plan target (pattern.HotSpot t) = terminal_number plan target ≡ Some t
+IsAtTarget plan target pattern.AllToAll = ⊤
+
+-- what the pattern of this name is in a network; the target is a name, which a hot spot alone wants
+pub record IsPatternOf (plan : Plan) (name : PatternName) (target : List ℕ) (pattern : Pattern) : Type 0 where
+  pub named : name_of pattern ≡ name
+  pub fits : IsPatternFor (length plan.terminals) pattern
+  pub spot : IsAtTarget plan target pattern
+
+-- a network can't have the pattern of this name
+abbrev pub IsNoPattern : Plan → PatternName → List ℕ → TrafficFault → Type 0
+IsNoPattern plan name target fault.NotSquare = (name ≡ asked.Transpose) × ((side : ℕ) → side * side ≢ length plan.terminals)
+IsNoPattern plan name target fault.NotPowerOfTwo = (name ≡ asked.Reverse) × ((bits : ℕ) → 2 ^ bits ≢ length plan.terminals)
+IsNoPattern plan name target fault.NoTerminal = (name ≡ asked.HotSpot) × (terminal_number plan target ≡ None)
+IsNoPattern plan name target fault.NoTarget = ⊥
+IsNoPattern plan name target (fault.NoLabel t) = ⊥
+IsNoPattern plan name target fault.NoMemory = ⊥

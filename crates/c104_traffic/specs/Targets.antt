@@ -1,0 +1,46 @@
+-- Which terminals send by a pattern, and to which terminal a packet goes. Terminals are counted from 0.
+--     target_of pattern own count s turn word      the target of terminal s
+--     senders_of pattern own count      the terminals that send
+use Rattle.std.specs.Prelude.{ℕ, zero, suc, ◌+◌, ◌-◌, ◌*◌, ◌/◌, ◌%◌, ◌==◌, ◌||◌, Bool, not, List, filter, if◌then◌else◌}
+use Rattle.std.specs.List.{range_with_len}
+use Rattle.c104_traffic.specs.Patterns.{Pattern}
+use Rattle.c104_traffic.specs.declared.patterns.Pattern.TheVariants as pattern
+
+-- how many of the terminals a packet may go to: its sender is among them if that is asked for
+abbrev pub choices : Bool → ℕ → ℕ
+choices own count = if own then count else count - 1
+
+-- one of a number of choices, by any other number; 0 where there is none
+abbrev pub pick : ℕ → ℕ → ℕ
+pick choices number = if choices == 0 then 0 else number % choices
+
+-- the terminal a number of places behind the one that follows s, in a ring
+abbrev pub behind : ℕ → ℕ → ℕ → ℕ
+behind count s places = (s + 1 + places) % count
+
+-- the place in a square of this side, counted row by row, whose row is the column of s, and whose column is its row
+abbrev pub transposed : ℕ → ℕ → ℕ
+transposed side s = s % side * side + s / side
+
+-- the last bits of a number in reverse order, behind those of another
+abbrev pub reversed_onto : ℕ → ℕ → ℕ → ℕ
+reversed_onto done zero number = done
+reversed_onto done (suc bits) number = reversed_onto (2 * done + number % 2) bits (number / 2)
+
+-- to which terminal terminal s sends, of a number of them: turn is how many packets it sent before, and word is a word of
+-- the generator
+abbrev pub target_of : Pattern → Bool → ℕ → ℕ → ℕ → ℕ → ℕ
+target_of pattern.Uniform own count s turn word = behind count s (pick (choices own count) word)
+target_of (pattern.Transpose side) own count s turn word = transposed side s
+target_of (pattern.Reverse bits) own count s turn word = reversed_onto 0 bits s
+target_of pattern.Neighbour own count s turn word = behind count s 0
+target_of (pattern.HotSpot t) own count s turn word = t
+target_of pattern.AllToAll own count s turn word = behind count s (pick (choices own count) turn)
+
+-- whether a terminal sends: it has a target that is another terminal, or may be its own
+abbrev pub is_sender : Pattern → Bool → ℕ → ℕ → Bool
+is_sender pattern own count s = own || not (target_of pattern own count s 0 0 == s)
+
+-- the terminals that send, in order
+abbrev pub senders_of : Pattern → Bool → ℕ → List ℕ
+senders_of pattern own count = filter (is_sender pattern own count) (range_with_len 0 count)

@@ -1,0 +1,41 @@
+-- The script of traffic: its text, as a function of the network, the pattern and the traffic.
+--     traffic_text plan image pattern traffic      the whole of it
+use Rattle.std.specs.Prelude.{ℕ, ◌/◌, ◌%◌, ◌==◌, List, [], ◌∷◌, ◌++◌, length, flat_map, codes, if◌then◌else◌}
+use Rattle.std.specs.Fmt.{decimal}
+use Rattle.std.specs.List.{range_with_len}
+use Rattle.c104_token.specs.declared.packets.Packet.{Packet}
+use Rattle.c104_token.specs.Text.{hex_digit, packet_text}
+use Rattle.c104_plan.specs.Plans.{Plan}
+use Rattle.c104_plan.specs.PlanImage.{Image}
+use Rattle.c104_plan.specs.PortTexts.{terminal_name}
+use Rattle.c104_traffic.specs.Packets.{Sent, Traffic, packet_of, sent_at}
+use Rattle.c104_traffic.specs.Patterns.{Pattern}
+use Rattle.c104_traffic.specs.Targets.{senders_of}
+
+-- a byte of a packet: its two hexadecimal digits, and the space (0x20) behind them
+abbrev pub hex_word : ℕ → List ℕ
+hex_word byte = hex_digit (byte / 16) ∷ hex_digit (byte % 16) ∷ 0x20 ∷ []
+
+-- the line of rounds, where there are some
+abbrev pub rounds_text : ℕ → List ℕ
+rounds_text count = if count == 0 then [] else codes "rounds " ++ (decimal count ++ codes "\n")
+
+-- the line of a packet
+abbrev pub send_text : Plan → ℕ → Packet → List ℕ
+send_text plan sender packet =
+    codes "send " ++ (terminal_name plan sender ++ (codes " " ++ (packet_text packet ++ codes "\n")))
+
+-- the lines of what is sent as the packet of this number
+abbrev pub sent_text : Plan → ℕ → ℕ → Sent → List ℕ
+sent_text plan bytes number sent =
+    rounds_text sent.rounds ++ send_text plan sent.sender (packet_of plan bytes sent.label number)
+
+-- the lines of a packet by its number, from these senders
+abbrev pub numbered_text : Plan → Image → Pattern → Traffic → List ℕ → ℕ → List ℕ
+numbered_text plan image pattern traffic senders number =
+    sent_text plan traffic.bytes number (sent_at plan image pattern traffic senders number)
+
+-- the lines of all packets
+abbrev pub traffic_text : Plan → Image → Pattern → Traffic → List ℕ
+traffic_text plan image pattern traffic =
+    flat_map (numbered_text plan image pattern traffic (senders_of pattern traffic.own (length plan.terminals))) (range_with_len 0 traffic.packets)

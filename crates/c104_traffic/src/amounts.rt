@@ -1,0 +1,24 @@
+//! How much traffic there is.
+
+/// The most packets of a script of traffic: a limit of this emulator.
+pub const MAX_PACKETS: usize = 1_048_576;
+
+/// The most bytes of a packet behind its header: with a header of two bytes it has 4,096, which is the most that a
+/// script's packet may have.
+pub const MAX_DATA: usize = 4_094;
+
+/// How much traffic there is, and from what it is made.
+#[derive(Clone, Copy)]
+pub struct Traffic {
+    /// How many packets are sent, up to 1,048,576.
+    pub packets: usize,
+    /// How many bytes each packet has behind its header, up to 4,094.
+    pub bytes: usize,
+    /// The seed of the generator by which targets are picked.
+    pub seed: u64,
+    /// How many packets each terminal that sends does send in 1,000 rounds, at least one. Without it no rounds are
+    /// between the packets.
+    pub load: Option<usize>,
+    /// Whether a terminal may send packets to itself.
+    pub own: bool,
+}

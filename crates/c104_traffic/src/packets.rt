@@ -1,0 +1,127 @@
+//! The packets of traffic: from which terminal each comes, to which it goes, and when it is sent.
+ghost use Rattle.std.specs.Prelude.{◌≡◌, ◌<◌, ◌≤◌, IfSome, length};
+ghost use Rattle.c104_plan.specs.PortTexts.{terminal_name};
+ghost use Rattle.c104_traffic.specs.Packets.{IsTraffic, byte_at, first_label, header_values, packet_word, rounds_before, rounds_by, sender_at, sent_at};
+ghost use Rattle.c104_traffic.specs.Schedules.{IsSchedule};
+
+use crate::amounts::Traffic;
+use crate::schedules::Schedule;
+use crate::targets::target_of;
+use c104_plan::{Image, Plan};
+
+/// What is sent as a packet.
+#[derive(Clone, Copy)]
+pub(crate) struct Sent {
+    /// How many rounds are done before it, 0 to 1,000.
+    pub rounds: usize,
+    /// The terminal that sends it.
+    pub sender: usize,
+    /// The first label of the terminal that it goes to.
+    pub label: u32,
+}
+
+/// What is sent as the packet of this number. The word is the one that the generator has for it.
+pub(crate) fn sent_at(
+    plan: &Plan,
+    image: &Image,
+    traffic: Traffic,
+    schedule: &Schedule,
+    number: usize,
+    word: u64,
+) -> Sent
+    requires traffic { IsTraffic traffic }
+    requires schedule { IsSchedule plan.now image.now traffic.own schedule.now }
+    requires number { number ≤ 1048576 }
+    requires word { word ≡ packet_word traffic.seed number }
+    ensures { result ≡ sent_at plan.now image.now schedule.now.pattern traffic schedule.now.senders.items number }
+{
+    let senders = schedule.senders.as_slice();
+    let sender = sender_at(senders, number);
+    let target = target_of(
+        schedule.pattern,
+        traffic.own,
+        plan.terminals().len(),
+        sender,
+        number / senders.len(),
+        word,
+    );
+    Sent {
+        rounds: rounds_before(traffic.load, senders.len(), number),
+        sender,
+        label: first_label(image, target),
+    }
+}
+
+/// Which of the terminals that send is the one of this packet.
+fn sender_at(senders: &[usize], number: usize) -> usize
+    requires { 0 < length senders.now }
+    ensures { result ≡ sender_at senders.now number }
+{
+    senders.get(number % senders.len()).copied().unwrap_or(0)
+}
+
+/// How many rounds are done since the packet before.
+fn rounds_before(load: Option<usize>, senders: usize, number: usize) -> usize
+    requires load { IfSome load (λ load. 0 < load) }
+    requires senders { 0 < senders }
+    requires number { number ≤ 1048576 }
+    ensures { result ≡ rounds_before load senders number }
+{
+    let before = rounds_by(load, senders, number.saturating_sub(1));
+    rounds_by(load, senders, number).saturating_sub(before)
+}
+
+/// How many rounds are done in all before a packet is sent.
+fn rounds_by(load: Option<usize>, senders: usize, number: usize) -> usize
+    requires load { IfSome load (λ load. 0 < load) }
+    requires senders { 0 < senders }
+    requires number { number ≤ 1048576 }
+    ensures { result ≡ rounds_by load senders number }
+{
+    match load {
+        Some(load) => number * 1000 / load / senders,
+        None => 0,
+    }
+}
+
+/// The first label of a terminal.
+pub(crate) fn first_label(image: &Image, terminal: usize) -> u32
+    ensures { result ≡ first_label image.now terminal }
+{
+    match image.range(terminal) {
+        Some((first, _)) => first,
+        None => 0,
+    }
+}
+
+/// How many values a header has.
+pub(crate) fn header_values(plan: &Plan) -> u32
+    ensures { result ≡ header_values plan.now }
+{
+    if plan.header() > 1 { 65_536 } else { 256 }
+}
+
+/// The byte at a place of the packet of this number, to a label by a header of this length.
+pub(crate) fn byte_at(header: usize, label: u32, number: usize, place: usize) -> u8
+    requires number { number ≤ 1048576 }
+    requires place { place ≤ 4096 }
+    ensures { result ≡ byte_at header label number place }
+{
+    if place == 0 {
+        return (label % 256) as u8;
+    }
+    if place < header {
+        return (label / 256 % 256) as u8;
+    }
+    ((number + place) % 256) as u8
+}
+
+/// The name of a terminal; where there is none, nothing.
+pub(crate) fn terminal_name(plan: &Plan, number: usize) -> &str
+    ensures { result.now ≡ terminal_name plan.now number }
+{
+    match plan.terminals().get(number) {
+        Some(terminal) => terminal.name.as_str(),
+        None => "",
+    }
+}

@@ -1,0 +1,37 @@
+//! The patterns by which terminals choose where their packets go, as the field names them.
+//!
+//! Terminals are counted in the order of the description, from 0.
+
+/// A pattern by its name.
+#[derive(Clone, Copy, PartialEq, Eq)]
+pub enum PatternName {
+    /// To any terminal, picked anew for each packet.
+    Uniform,
+    /// Of terminals in a square, row by row, from row r and column c to row c and column r.
+    Transpose,
+    /// To the terminal whose number has the bits of the sender's in reverse.
+    Reverse,
+    /// To the next terminal, and from the last to the first.
+    Neighbour,
+    /// To one terminal.
+    HotSpot,
+    /// To all terminals in turn, from the next one on.
+    AllToAll,
+}
+
+/// A pattern in a network.
+#[derive(Clone, Copy)]
+pub enum Pattern {
+    /// To any terminal, picked anew for each packet.
+    Uniform,
+    /// Of terminals in a square of this side, row by row, from row r and column c to row c and column r.
+    Transpose(usize),
+    /// To the terminal whose number has the bits of the sender's in reverse, of which there are this many.
+    Reverse(usize),
+    /// To the next terminal, and from the last to the first.
+    Neighbour,
+    /// To this terminal.
+    HotSpot(usize),
+    /// To all terminals in turn, from the next one on.
+    AllToAll,
+}

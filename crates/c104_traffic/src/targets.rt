@@ -1,0 +1,93 @@
+//! Which terminals send by a pattern, and where their packets go.
+ghost use Rattle.std.specs.Prelude.{◌≡◌, ◌*◌, ◌^◌, ◌<◌, ◌≤◌};
+ghost use Rattle.c104_traffic.specs.Patterns.{IsPatternFor};
+ghost use Rattle.c104_traffic.specs.Targets.{behind, choices, is_sender, pick, reversed_onto, target_of, transposed};
+
+use crate::patterns::Pattern;
+
+/// To which terminal one sends, of this number of them. The turn is how many packets it sent before, and the word is one
+/// of the generator.
+pub(crate) fn target_of(
+    pattern: Pattern,
+    own: bool,
+    count: usize,
+    sender: usize,
+    turn: usize,
+    word: u64,
+) -> usize
+    requires fits { IsPatternFor count pattern }
+    requires few { count ≤ 256 }
+    requires inside { sender < count }
+    ensures { result ≡ target_of pattern own count sender turn word }
+{
+    match pattern {
+        Pattern::Uniform => behind(count, sender, pick(choices(own, count), word)),
+        Pattern::Transpose(side) => transposed(side, sender),
+        Pattern::Reverse(bits) => reversed(bits, sender),
+        Pattern::Neighbour => behind(count, sender, 0),
+        Pattern::HotSpot(terminal) => terminal,
+        Pattern::AllToAll => behind(count, sender, pick(choices(own, count), turn as u64)),
+    }
+}
+
+/// Whether a terminal sends: it has a target that is another terminal, or may be its own.
+pub(crate) fn is_sender(pattern: Pattern, own: bool, count: usize, sender: usize) -> bool
+    requires fits { IsPatternFor count pattern }
+    requires few { count ≤ 256 }
+    requires inside { sender < count }
+    ensures { result ≡ is_sender pattern own count sender }
+{
+    own || target_of(pattern, own, count, sender, 0, 0) != sender
+}
+
+/// How many of the terminals a packet may go to.
+fn choices(own: bool, count: usize) -> usize
+    ensures value { result ≡ choices own count }
+    ensures few { result ≤ count }
+{
+    if own { count } else { count.saturating_sub(1) }
+}
+
+/// One of a number of choices, by any other number; 0 where there is none.
+fn pick(choices: usize, number: u64) -> usize
+    ensures value { result ≡ pick choices number }
+    ensures few { result ≤ choices }
+{
+    if choices == 0 {
+        return 0;
+    }
+    (number % choices as u64) as usize
+}
+
+/// The terminal a number of places behind the one that follows the sender, in a ring.
+fn behind(count: usize, sender: usize, places: usize) -> usize
+    requires few { count ≤ 256 }
+    requires inside { sender < count }
+    requires near { places ≤ count }
+    ensures { result ≡ behind count sender places }
+{
+    (sender + 1 + places) % count
+}
+
+/// The place in a square, counted row by row, whose row and column are the column and the row of this one.
+fn transposed(side: usize, place: usize) -> usize
+    requires few { side * side ≤ 256 }
+    requires inside { place < side * side }
+    ensures { result ≡ transposed side place }
+{
+    place % side * side + place / side
+}
+
+/// The last bits of a number in reverse.
+fn reversed(bits: usize, number: usize) -> usize
+    requires { 2 ^ bits ≤ 256 }
+    ensures { result ≡ reversed_onto 0 bits number }
+{
+    let mut done = 0usize;
+    let mut left = number;
+    for _place in 0..bits {
+        done = 2 * done + left % 2;
+        left /= 2;
+    }
+    done
+}

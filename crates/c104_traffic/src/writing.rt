@@ -1,0 +1,218 @@
+//! The script of traffic, written packet by packet.
+ghost use Rattle.std.specs.Prelude.{◌≡◌, ◌≤◌, ◌+◌, ◌++◌, count_by, flat_map, MatchResult, OnErr, OnOk};
+ghost use Rattle.std.specs.List.{range_with_len};
+ghost use Rattle.std.specs.Io.KnownBytes.{Appends};
+ghost use Rattle.c104_stream.specs.Writing.{AppendsAndKeeps, AppendsPrefix};
+ghost use Rattle.c104_traffic.specs.Packets.{IsTraffic, byte_at, packet_of};
+ghost use Rattle.c104_traffic.specs.Requests.{AreDirected, IsReadAs, is_send, traffic_requests};
+ghost use Rattle.c104_traffic.specs.Schedules.{IsSchedule};
+ghost use Rattle.c104_traffic.specs.Texts.{hex_word, numbered_text, rounds_text, send_text, sent_text, traffic_text};
+ghost use Rattle.c104_traffic.specs.Writing.{StopsWriting};
+
+use crate::amounts::Traffic;
+use crate::packets::{Sent, byte_at, sent_at, terminal_name};
+use crate::schedules::Schedule;
+use c104_plan::{Image, Plan};
+use c104_stream::{CannotWrite, Halt, Kept};
+use c104_token::digit_of;
+use itoa::Buffer;
+use rand_core::SeedableRng;
+use rand_core::utils::NextWord;
+use rand_xoshiro::SplitMix64;
+use std::alloc::Global;
+use std::io::Write;
+
+/// Writes the script of traffic by a schedule: for each packet a `send` line, and before it, where the traffic has a
+/// load, a `rounds` line if rounds are due. The packets go to the first labels of their targets.
+///
+/// Out of memory comes before anything is written. Each error of the writer is a fault at once, and then a prefix is
+/// written.
+pub fn write_traffic<W: Write>(
+    alloc: Global,
+    plan: &Plan,
+    image: &Image,
+    traffic: Traffic,
+    schedule: &Schedule,
+    writer: &mut W,
+) -> Result<(), Halt>
+    requires traffic { IsTraffic traffic }
+    requires schedule { IsSchedule plan.now image.now traffic.own schedule.now }
+    ensures script { MatchResult result
+        (λ _. Appends (W.contents writer.old) (W.contents writer.new)
+        (traffic_text plan.now image.now schedule.now.pattern traffic))
+        (λ halt. StopsWriting (W.contents writer.old) (W.contents writer.new)
+        (traffic_text plan.now image.now schedule.now.pattern traffic) halt) }
+
+    // What a script's reader reads of that text, and where its packets go.
+    ensures read { IsReadAs plan.now (traffic_text plan.now image.now schedule.now.pattern traffic)
+        (traffic_requests plan.now image.now schedule.now.pattern traffic) }
+    ensures sends { count_by is_send (traffic_requests plan.now image.now schedule.now.pattern traffic)
+        ≡ traffic.packets }
+    ensures directed { AreDirected plan.now image.now schedule.now.pattern traffic }
+{
+    write_script(alloc, plan, image, traffic, schedule, writer)
+}
+
+/// The same, of which only what is written is told.
+fn write_script<W: Write>(
+    alloc: Global,
+    plan: &Plan,
+    image: &Image,
+    traffic: Traffic,
+    schedule: &Schedule,
+    writer: &mut W,
+) -> Result<(), Halt>
+    requires traffic { IsTraffic traffic }
+    requires schedule { IsSchedule plan.now image.now traffic.own schedule.now }
+    ensures { MatchResult result
+        (λ _. Appends (W.contents writer.old) (W.contents writer.new)
+        (traffic_text plan.now image.now schedule.now.pattern traffic))
+        (λ halt. StopsWriting (W.contents writer.old) (W.contents writer.new)
+        (traffic_text plan.now image.now schedule.now.pattern traffic) halt) }
+{
+    let mut kept = Kept::new(alloc)?;
+    write_packets(plan, image, traffic, schedule, &mut kept, writer)?;
+    kept.flush(writer)?;
+    Ok(())
+}
+
+/// The lines of all packets join what is kept.
+fn write_packets<W: Write>(
+    plan: &Plan,
+    image: &Image,
+    traffic: Traffic,
+    schedule: &Schedule,
+    kept: &mut Kept,
+    writer: &mut W,
+) -> Result<(), CannotWrite>
+    requires traffic { IsTraffic traffic }
+    requires schedule { IsSchedule plan.now image.now traffic.own schedule.now }
+    ensures kept { OnOk result (AppendsAndKeeps (W.contents writer.old) (W.contents writer.new) kept.new
+        (kept.old ++ traffic_text plan.now image.now schedule.now.pattern traffic)) }
+    ensures prefix { OnErr result (AppendsPrefix (W.contents writer.old) (W.contents writer.new)
+        (kept.old ++ traffic_text plan.now image.now schedule.now.pattern traffic)) }
+{
+    let mut generator = SplitMix64::seed_from_u64(traffic.seed);
+    for number in 0..traffic.packets {
+        let word = generator.next_word();
+        let sent = sent_at(plan, image, traffic, schedule, number, word);
+        write_sent(plan, traffic.bytes, number, sent, kept, writer)?;
+    }
+    Ok(())
+}
+
+/// The lines of what is sent as the packet of this number join what is kept.
+fn write_sent<W: Write>(
+    plan: &Plan,
+    bytes: usize,
+    number: usize,
+    sent: Sent,
+    kept: &mut Kept,
+    writer: &mut W,
+) -> Result<(), CannotWrite>
+    requires bytes { bytes ≤ 4094 }
+    requires number { number ≤ 1048576 }
+    ensures kept { OnOk result (AppendsAndKeeps (W.contents writer.old) (W.contents writer.new) kept.new
+        (kept.old ++ sent_text plan.now bytes number sent)) }
+    ensures prefix { OnErr result (AppendsPrefix (W.contents writer.old) (W.contents writer.new)
+        (kept.old ++ sent_text plan.now bytes number sent)) }
+{
+    write_rounds(sent.rounds, kept, writer)?;
+    write_send(plan, bytes, number, sent, kept, writer)?;
+    Ok(())
+}
+
+/// The line of rounds joins what is kept, if there are some.
+fn write_rounds<W: Write>(count: usize, kept: &mut Kept, writer: &mut W) -> Result<(), CannotWrite>
+    ensures kept { OnOk result (AppendsAndKeeps (W.contents writer.old) (W.contents writer.new) kept.new
+        (kept.old ++ rounds_text count)) }
+    ensures prefix { OnErr result (AppendsPrefix (W.contents writer.old) (W.contents writer.new)
+        (kept.old ++ rounds_text count)) }
+{
+    if count == 0 {
+        return Ok(());
+    }
+    let mut digits = Buffer::new();
+    write_three(
+        b"rounds ",
+        digits.format(count).as_bytes(),
+        b"\n",
+        kept,
+        writer,
+    )?;
+    Ok(())
+}
+
+/// The line of a packet joins what is kept.
+fn write_send<W: Write>(
+    plan: &Plan,
+    bytes: usize,
+    number: usize,
+    sent: Sent,
+    kept: &mut Kept,
+    writer: &mut W,
+) -> Result<(), CannotWrite>
+    requires bytes { bytes ≤ 4094 }
+    requires number { number ≤ 1048576 }
+    ensures kept { OnOk result (AppendsAndKeeps (W.contents writer.old) (W.contents writer.new) kept.new
+        (kept.old ++ send_text plan.now sent.sender (packet_of plan.now bytes sent.label number))) }
+    ensures prefix { OnErr result (AppendsPrefix (W.contents writer.old) (W.contents writer.new)
+        (kept.old ++ send_text plan.now sent.sender (packet_of plan.now bytes sent.label number))) }
+{
+    let name = terminal_name(plan, sent.sender);
+    let header = plan.header();
+    write_three(b"send ", name.as_bytes(), b" ", kept, writer)?;
+    write_bytes(header, bytes, sent.label, number, kept, writer)?;
+    kept.add(writer, b"eop\n")?;
+    Ok(())
+}
+
+/// The bytes of the packet of this number join what is kept, each with a space behind it.
+fn write_bytes<W: Write>(
+    header: usize,
+    bytes: usize,
+    label: u32,
+    number: usize,
+    kept: &mut Kept,
+    writer: &mut W,
+) -> Result<(), CannotWrite>
+    requires header { header ≤ 2 }
+    requires bytes { bytes ≤ 4094 }
+    requires number { number ≤ 1048576 }
+    ensures kept { OnOk result (AppendsAndKeeps (W.contents writer.old) (W.contents writer.new) kept.new
+        (kept.old ++ flat_map (λ place. hex_word (byte_at header label number place)) (range_with_len 0 (header + bytes)))) }
+    ensures prefix { OnErr result (AppendsPrefix (W.contents writer.old) (W.contents writer.new)
+        (kept.old ++ flat_map (λ place. hex_word (byte_at header label number place)) (range_with_len 0 (header + bytes)))) }
+{
+    for place in 0..header + bytes {
+        let text = hex_word(byte_at(header, label, number, place));
+        kept.add(writer, &text)?;
+    }
+    Ok(())
+}
+
+/// The two hexadecimal digits of a byte, and a space.
+fn hex_word(byte: u8) -> [u8; 3]
+    ensures { result ≡ hex_word byte }
+{
+    [digit_of(byte / 16) as u8, digit_of(byte % 16) as u8, b' ']
+}
+
+/// Three texts join what is kept, one after the other.
+fn write_three<W: Write>(
+    first: &[u8],
+    second: &[u8],
+    third: &[u8],
+    kept: &mut Kept,
+    writer: &mut W,
+) -> Result<(), CannotWrite>
+    ensures kept { OnOk result (AppendsAndKeeps (W.contents writer.old) (W.contents writer.new) kept.new
+        (kept.old ++ (first.now ++ (second.now ++ third.now)))) }
+    ensures prefix { OnErr result (AppendsPrefix (W.contents writer.old) (W.contents writer.new)
+        (kept.old ++ (first.now ++ (second.now ++ third.now)))) }
+{
+    kept.add(writer, first)?;
+    kept.add(writer, second)?;
+    kept.add(writer, third)?;
+    Ok(())
+}

@@ -1,0 +1,160 @@
+"""Runs a program's `traffic` over descriptions, and what it prints.
+
+Each script is worked out by hand from docs/FORMATS.md: the first words of SplitMix64 from the seed 1234567 are those of
+its reference, 6457827717110365317, 3203168211198807973, 9817491932198370423, 4593380528125082431 and
+16408922859458223821, which leave 0, 1, 0, 1 and 2 when they are divided by 3.
+"""
+
+import os
+import re
+
+from case_runner import CANNOT_WRITE, PLAN
+
+SQUARE = b'mesh 2 2 1\n'
+LINE = b'mesh 3 1 1\n'
+LONE = b'switch A\nterminal a A.0\n'
+ALL = {'--pattern': 'neighbour', '--packets': '3', '--bytes': '1', '--seed': '1234567'}
+# A send line of 4,096 bytes, the header's two among them.
+LONGEST = re.compile(rb'send t0 01 00(?: [0-9a-f]{2}){4094} eop\n')
+SENT = re.compile(rb'(send \w+(?: [0-9a-f]{2})+ eop\n|rounds [1-9][0-9]*\n)*')
+
+
+def words_of(extra='', **said):
+    """The words after the description: those of ALL, but for what is said instead, and further ones."""
+    words = {**ALL, **{'--' + name: value for name, value in said.items()}}
+    return [it for pair in words.items() if pair[1] is not None for it in pair] + extra.split()
+
+
+# A description, the words, and the script.
+SCRIPTS = {
+    'to the next one': (SQUARE, words_of(packets='5'),
+        b'send t0 01 01 eop\nsend t1 02 02 eop\nsend t2 03 03 eop\nsend t3 00 04 eop\nsend t0 01 05 eop\n'),
+    'to any': (SQUARE, words_of(pattern='uniform', packets='5'),
+        b'send t0 01 01 eop\nsend t1 03 02 eop\nsend t2 03 03 eop\nsend t3 01 04 eop\nsend t0 03 05 eop\n'),
+    'to any, the first word of another seed': (LINE, words_of(pattern='uniform', packets='1', seed='0'),
+        b'send t0 02 01 eop\n'),
+    'to rows from columns': (SQUARE, words_of(pattern='transpose'),
+        b'send t1 02 01 eop\nsend t2 01 02 eop\nsend t1 02 03 eop\n'),
+    'to rows from columns, and to itself': (SQUARE, words_of('--own', pattern='transpose', packets='4'),
+        b'send t0 00 01 eop\nsend t1 02 02 eop\nsend t2 01 03 eop\nsend t3 03 04 eop\n'),
+    'to bits in reverse': (b'cube 3 1\n', words_of(pattern='reverse', packets='5'),
+        b'send t1 04 01 eop\nsend t3 06 02 eop\nsend t4 01 03 eop\nsend t6 03 04 eop\nsend t1 04 05 eop\n'),
+    'to one': (LINE, words_of(pattern='hot-spot', target='t1'),
+        b'send t0 01 01 eop\nsend t2 01 02 eop\nsend t0 01 03 eop\n'),
+    'to one, and from it': (LINE, words_of('--own', pattern='hot-spot', target='t1'),
+        b'send t0 01 01 eop\nsend t1 01 02 eop\nsend t2 01 03 eop\n'),
+    'to all in turn': (LINE, words_of(pattern='all-to-all', packets='7'),
+        b'send t0 01 01 eop\nsend t1 02 02 eop\nsend t2 00 03 eop\nsend t0 02 04 eop\nsend t1 00 05 eop\n'
+        b'send t2 01 06 eop\nsend t0 01 07 eop\n'),
+    'to all in turn, itself last': (PLAN, words_of('--own', pattern='all-to-all', packets='4'),
+        b'send a 01 01 eop\nsend b 00 02 eop\nsend a 00 03 eop\nsend b 01 04 eop\n'),
+    'to itself alone': (LONE, words_of('--own', packets='2'), b'send a 00 01 eop\nsend a 00 02 eop\n'),
+    'no bytes behind the header': (PLAN, words_of(bytes='0'), b'send a 01 eop\nsend b 00 eop\nsend a 01 eop\n'),
+    'headers of two bytes': (b'header 2\n' + PLAN.replace(b'b A.1', b'b A.1 labels 9 from 258'), words_of(bytes='2'),
+        b'send a 02 01 02 03 eop\nsend b 00 00 03 04 eop\nsend a 02 01 04 05 eop\n'),
+    'labels of a tree': (b'switch A\nterminal a A.1 labels 7\nterminal b A.0\nlabel tree A\n', words_of(),
+        b'send a 00 01 eop\nsend b 01 02 eop\nsend a 00 03 eop\n'),
+    'two rounds between': (PLAN, words_of(load='250'),
+        b'send a 01 01 eop\nrounds 2\nsend b 00 02 eop\nrounds 2\nsend a 01 03 eop\n'),
+    'rounds that don\'t come out even': (LINE, words_of(packets='5', load='120'),
+        b'send t0 01 01 eop\nrounds 2\nsend t1 02 02 eop\nrounds 3\nsend t2 00 03 eop\nrounds 3\nsend t0 01 04 eop\n'
+        b'rounds 3\nsend t1 02 05 eop\n'),
+    'rounds between some': (LINE, words_of(packets='5', load='700'),
+        b'send t0 01 01 eop\nsend t1 02 02 eop\nsend t2 00 03 eop\nrounds 1\nsend t0 01 04 eop\nsend t1 02 05 eop\n'),
+    'the most rounds': (LONE + b'terminal b A.1\n', words_of(pattern='hot-spot', target='b', load='1'),
+        b'send a 01 01 eop\nrounds 1000\nsend a 01 02 eop\nrounds 1000\nsend a 01 03 eop\n'),
+}
+
+# A description, the words, the line that tells why there is no script, and what is told of it.
+REFUSED = {
+    'no square': (LINE, words_of(pattern='transpose'), b'traffic 1 NotSquare\n',
+        b'a transpose wants as many terminals as a square has fields: 1, 4, 9, 16, ..'),
+    'no power of two': (LINE, words_of(pattern='reverse'), b'traffic 2 NotPowerOfTwo\n',
+        b'a reverse wants 1, 2, 4, 8, .. terminals'),
+    'no such terminal': (PLAN, words_of(pattern='hot-spot', target='c'), b'traffic 3 NoTerminal\n',
+        b'no terminal has the target\'s name'),
+    'a switch as target': (PLAN, words_of(pattern='hot-spot', target='A'), b'traffic 3 NoTerminal\n',
+        b'no terminal has the target\'s name'),
+    'a terminal alone': (LONE, words_of(), b'traffic 4 NoTarget\n',
+        b'by this pattern no terminal has another one to send to'),
+    'a terminal alone, to any': (LONE, words_of(pattern='uniform'), b'traffic 4 NoTarget\n',
+        b'by this pattern no terminal has another one to send to'),
+    'no terminal': (b'switch A\n', words_of(pattern='transpose'), b'traffic 4 NoTarget\n',
+        b'by this pattern no terminal has another one to send to'),
+    'bits that are the same in reverse': (b'cube 1 1\n', words_of(pattern='reverse'), b'traffic 4 NoTarget\n',
+        b'by this pattern no terminal has another one to send to'),
+    'a label that is no header': (b'switch A\nterminal a A.0\nterminal b A.1 from 256\n', words_of(),
+        b'traffic 5 NoLabel: b\n',
+        b'the first label of a terminal is no header: headers of one byte are 0 to 255'),
+    'a faulty description': (b'switch A\nwire A.0 A.1\n', words_of(), b'description 2: 8 SelfWire\n', None),
+    'no labels': (b'switch A\nswitch B\nlabel tree A\n', words_of(), b'label 1 NotConnected\n', None),
+}
+
+# Words that aren't taken.
+WRONG = (words_of(pattern='frob'), words_of(pattern=None), words_of(packets=None), words_of(bytes=None),
+    words_of(seed=None), words_of(packets='0'), words_of(packets='1048577'), words_of(bytes='4095'), words_of(bytes='-1'),
+    words_of(seed='18446744073709551616'), words_of(seed='x'), words_of(load='0'), words_of(load='1001'),
+    words_of(pattern='hot-spot'), words_of(target='a'), words_of('SCRIPT'))
+
+
+def scripts(runner):
+    for name, (description, words, script) in SCRIPTS.items():
+        runner.case(name, script, words=['traffic', '-', *words], data=description, errors=b'')
+
+
+def refused(runner):
+    for name, (description, words, line, told) in REFUSED.items():
+        runner.case(name, line, 1, words=['traffic', '-', *words], data=description)
+        if told is not None:
+            runner.case(name + ': told', line, 1, b'c104: -: %s\n' % told, words=['--explain', 'traffic', '-', *words],
+                        data=description)
+
+
+def usage(runner):
+    for words in WRONG:
+        runner.case('usage of traffic %s' % ' '.join(words), b'', 2, words=['traffic', '-', *words], data=PLAN)
+    runner.case('usage of traffic without a description', b'', 2, words=['traffic', *words_of()])
+
+
+def limits(runner):
+    """The longest lines, and the most packets: each line is a `send` or `rounds`."""
+    judge(runner, 'the longest packet', b'header 2\n' + PLAN.replace(b'a A.0', b't0 A.0'), words_of(bytes='4094', packets='1'),
+          lambda out: LONGEST.fullmatch(out))
+    judge(runner, 'the most packets', SQUARE, words_of(pattern='uniform', packets='1048576', load='1000'),
+          lambda out: SENT.fullmatch(out) and out.count(b'send') == 1048576)
+
+
+def judge(runner, name, description, words, is_good):
+    if not runner.wanted(name):
+        return
+    found = runner.run(words=['traffic', '-', *words], data=description)
+    good = found is not None and found[0] == 0 and is_good(found[1])
+    runner.judge(name, None if good else '%.200r' % (found,))
+
+
+def arrivals(runner):
+    """What a script sends is sent, and arrives."""
+    name = 'all packets arrive'
+    if not runner.wanted(name):
+        return
+    _, sends, _ = runner.run(words=['traffic', '-', *words_of(pattern='uniform', packets='200', bytes='5', load='20')],
+                             data=SQUARE)
+    found = runner.run(data=SQUARE + b'script\n' + sends + b'rounds 1000\n')
+    answers = sends.count(b'\n') + 1
+    lines = found[1].splitlines() if found else []
+    good = all(it.endswith(b': done') for it in lines[:answers]) and len(lines) == answers + 200
+    runner.judge(name, None if good else '%d lines, %.200r' % (len(lines), lines[-3:]))
+
+
+def failures(runner):
+    """A description that can't be read, and an output that can't be written."""
+    runner.case('no description', b'', 3, b'c104: cannot read none\n', words=['traffic', 'none', *words_of()])
+    with open(os.devnull, 'rb') as folder:
+        runner.case('nothing on standard input', b'traffic 4 NoTarget\n', 1, words=['traffic', '-', *words_of()], stdin=folder)
+    if os.path.exists('/dev/full'):
+        with open('/dev/full', 'wb') as full:
+            runner.case('an output that is full', None, 3, CANNOT_WRITE, words=['traffic', '-', *words_of()], data=PLAN,
+                        stdout=full)
+
+
+PARTS = [scripts, refused, usage, limits, arrivals, failures]
