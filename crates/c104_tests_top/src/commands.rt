@@ -6,20 +6,20 @@ use std::io::{ErrorKind, Read, Write};
 use std::test::Fail;
 
 /// One switch with two terminals: label 0 is that of `a` on link 0, label 1 that of `b` on link 1.
-const DESCRIPTION: &str =
+pub const DESCRIPTION: &str =
     "switch A\nterminal a A.0\nterminal b A.1\nrow A.0 1 0\nrow A.0 2 1\nrow A.1 1 0\nrow A.1 2 1\n";
 
 /// A packet goes from a to b.
-const SCRIPT: &str =
+pub const SCRIPT: &str =
     "send a 01 aa eop\ncredit A.0\ncross a\ncross a\ncross a\ninput A.0\nclaim A 0 1\ncredit b\n\
     cross A.1\ninput A.0\ninput A.0\ncross A.1\ncross A.1\ndrain b\ndrain b\ndrain b\ndrain b\n";
 
-const ANSWERS: &str =
+pub const ANSWERS: &str =
     "1: done\n2: done\n3: token 01\n4: token aa\n5: token eop\n6: done\n7: done\n8: done\n\
     9: token 01\n10: done\n11: done\n12: token aa\n13: token eop\n14: token 01\n15: token aa\n16: token eop\n\
     17: not ready\n";
 
-const SUMMARY: &str = "b: 01 aa eop from a 0\n";
+pub const SUMMARY: &str = "b: 01 aa eop from a 0\n";
 
 /// A reader of some text that then ends or fails. It tells how often it was asked after that.
 #[derive(Drop)]

@@ -11,6 +11,8 @@ mod calls;
 #[cfg(test)]
 mod commands;
 #[cfg(test)]
+mod failures;
+#[cfg(test)]
 mod output;
 #[cfg(test)]
 mod script;

@@ -1,0 +1,165 @@
+//! The commands: out of memory what a run wrote is the beginning of what it writes else, and of the others nothing is
+//! written.
+use crate::calls::PLAN;
+use crate::ground::{Ground, growths_on};
+use crate::growths::{Growing, Refusal, Sharing, is_right, is_told};
+use crate::outcomes::Outcome;
+use crate::written::{ANSWERS, Page, SCRIPT, SENDS, STORM_END, SUMMARY, TWO_ANSWERS};
+use c104_commands::{
+    Marks, Status, check_command, cycles_command, debug_command, draw_command, label_command,
+    label_rows_command, run, run_text, storm_command,
+};
+use c104_mistakes::Silent;
+use std::alloc::Global;
+use std::sync::Wait;
+use std::thread::Threads;
+
+/// A description and a script in one text.
+const TEXT: &[u8] =
+    b"switch A\nterminal a A.0\nterminal b A.1\nrow A.0 2 1\nscript\nsend a 01 aa eop\n\
+    rounds 9\n";
+
+/// Whence a run reads.
+#[derive(Clone, Copy)]
+enum Form {
+    Parts,
+    Lines,
+    Text,
+}
+
+impl Form {
+    fn run(self, alloc: Global, page: &mut Page) -> Status {
+        let (mut description, mut script, mut text) = (PLAN, SCRIPT, TEXT);
+        match self {
+            Form::Parts => run(alloc, &mut description, &mut script, page, &mut Silent),
+            Form::Lines => debug_command(alloc, &mut description, &mut script, page, &mut Silent),
+            Form::Text => run_text(alloc, &mut text, page, &mut Silent),
+        }
+    }
+
+    fn answers(self) -> &'static [u8] {
+        match self {
+            Form::Parts | Form::Lines => ANSWERS,
+            Form::Text => TWO_ANSWERS,
+        }
+    }
+}
+
+/// A run. Out of memory whole answers were written, to the first lines or to all, and no summary.
+#[derive(Drop)]
+struct Running(Form);
+
+impl Growing for Running {
+    fn call(&self, alloc: Global, refusal: Refusal) -> Outcome {
+        let Some(mut page) = Page::new(alloc) else {
+            return Outcome::Wrong;
+        };
+        refusal.begin(alloc);
+        let status = self.0.run(alloc, &mut page);
+        refusal.end(alloc);
+        page.judge(Outcome::of_status(status), self.0.answers(), SUMMARY)
+    }
+}
+
+/// A command over the description of the first run.
+#[derive(Clone, Copy)]
+enum Command {
+    Check,
+    Cycles(bool),
+    Label,
+    Rows,
+    Draw(Marks),
+}
+
+impl Command {
+    fn run(self, alloc: Global, page: &mut Page) -> Status {
+        let mut text = PLAN;
+        match self {
+            Command::Check => check_command(alloc, &mut text, page, &mut Silent),
+            Command::Cycles(all) => cycles_command(alloc, &mut text, all, page, &mut Silent),
+            Command::Label => label_command(alloc, &mut text, page, &mut Silent),
+            Command::Rows => label_rows_command(alloc, &mut text, page, &mut Silent),
+            Command::Draw(marks) => draw_command(alloc, &mut text, marks, page, &mut Silent),
+        }
+    }
+}
+
+/// A command is done. Out of memory nothing was written.
+#[derive(Drop)]
+struct Commanding(Command);
+
+impl Growing for Commanding {
+    fn call(&self, alloc: Global, refusal: Refusal) -> Outcome {
+        let Some(mut page) = Page::new(alloc) else {
+            return Outcome::Wrong;
+        };
+        refusal.begin(alloc);
+        let status = self.0.run(alloc, &mut page);
+        refusal.end(alloc);
+        Outcome::of_status(status).if_kept(page.written().is_empty())
+    }
+}
+
+/// A storm by two workers. Out of memory answers to lines were written, and nothing of the storm.
+#[derive(Drop)]
+struct Storming;
+
+impl Sharing for Storming {
+    fn call<R: Threads + Wait + Sync>(
+        &self,
+        rt: &R,
+        alloc: Global,
+        _ground: Ground<'_>,
+        refusal: Refusal,
+    ) -> Outcome {
+        let Some(mut page) = Page::new(alloc) else {
+            return Outcome::Wrong;
+        };
+        refusal.begin(alloc);
+        let status = storm(rt, alloc, &mut page);
+        refusal.end(alloc);
+        page.judge(Outcome::of_status(status), TWO_ANSWERS, STORM_END)
+    }
+}
+
+fn storm<R: Threads + Wait + Sync>(rt: &R, alloc: Global, page: &mut Page) -> Status {
+    let (mut description, mut sends) = (PLAN, SENDS);
+    storm_command(
+        alloc,
+        rt,
+        2,
+        &mut description,
+        &mut sends,
+        page,
+        &mut Silent,
+    )
+}
+
+#[test]
+fn runs(rt: HostRuntime) {
+    assert!(rt; is_right(&rt, "run", &Running(Form::Parts)));
+    assert!(rt; is_right(&rt, "debug_command", &Running(Form::Lines)));
+    assert!(rt; is_right(&rt, "run_text", &Running(Form::Text)));
+}
+
+#[test]
+fn commands(rt: HostRuntime) {
+    for (name, command) in [
+        ("check_command", Command::Check),
+        ("cycles_command", Command::Cycles(false)),
+        ("cycles_command", Command::Cycles(true)),
+        ("label_command", Command::Label),
+        ("label_rows_command", Command::Rows),
+        ("draw_command", Command::Draw(Marks::Nothing)),
+        ("draw_command", Command::Draw(Marks::Header(1))),
+        ("draw_command", Command::Draw(Marks::Cycle)),
+    ] {
+        assert!(rt; is_right(&rt, name, &Commanding(command)));
+    }
+}
+
+#[test]
+fn storms(rt: HostRuntime) {
+    let growths = growths_on(&rt, rt.alloc(), PLAN, &Storming);
+    assert!(rt; is_told(&rt, "storm_command", growths));
+}

@@ -1,0 +1,124 @@
+//! The texts that commands print of labels, and what people are told of them.
+use crate::calls::PLAN;
+use crate::ground::{Ground, Suite, is_right_on};
+use crate::growths::{Growing, Refusal, is_right};
+use crate::labels::REFUSED;
+use crate::outcomes::Outcome;
+use c104_check::check;
+use c104_commands::{
+    check_advice, check_fault_text, cycle_advice, image_text, label_fault_text, rows_text,
+};
+use c104_label::{LabelFault, image_of};
+use c104_plan::Plan;
+use std::alloc::Global;
+
+/// A text of the labels of a plan, which are accepted.
+#[derive(Clone, Copy)]
+enum Text {
+    /// The image.
+    Image,
+    /// The plan by hand of it.
+    Rows,
+    /// Whether packets can wait for one another forever.
+    Cycles,
+}
+
+/// A text is made of accepted labels.
+#[derive(Drop)]
+struct Telling<'a>(&'a Plan, Text);
+
+impl Growing for Telling<'_> {
+    fn call(&self, alloc: Global, refusal: Refusal) -> Outcome {
+        let Ok(image) = image_of(alloc, self.0) else {
+            return Outcome::Wrong;
+        };
+        if check(alloc, self.0, &image).is_err() {
+            return Outcome::Wrong;
+        }
+        refusal.begin(alloc);
+        let found = match self.1 {
+            Text::Image => Outcome::of(image_text(alloc, self.0, &image)),
+            Text::Rows => Outcome::of(rows_text(alloc, self.0, &image)),
+            Text::Cycles => Outcome::of(cycle_advice(alloc, self.0, &image)),
+        };
+        refusal.end(alloc);
+        found
+    }
+}
+
+/// What is told of labels that are refused.
+#[derive(Clone, Copy)]
+enum Refused {
+    /// Why.
+    Fault,
+    /// What would mend it.
+    Advice,
+}
+
+/// Something is told of refused labels.
+#[derive(Drop)]
+struct Refusing<'a>(&'a Plan, Refused);
+
+impl Growing for Refusing<'_> {
+    fn call(&self, alloc: Global, refusal: Refusal) -> Outcome {
+        let Ok(image) = image_of(alloc, self.0) else {
+            return Outcome::Wrong;
+        };
+        let Err(fault) = check(alloc, self.0, &image) else {
+            return Outcome::Wrong;
+        };
+        refusal.begin(alloc);
+        let found = match self.1 {
+            Refused::Fault => Outcome::of(check_fault_text(alloc, self.0, &fault)),
+            Refused::Advice => Outcome::of(check_advice(alloc, self.0, &image, &fault)),
+        };
+        refusal.end(alloc);
+        found
+    }
+}
+
+/// A fault of a labeller is told.
+#[derive(Drop)]
+struct TellingFault;
+
+impl Growing for TellingFault {
+    fn call(&self, alloc: Global, refusal: Refusal) -> Outcome {
+        refusal.begin(alloc);
+        let result = label_fault_text(alloc, LabelFault::NotConnected);
+        refusal.end(alloc);
+        Outcome::of(result)
+    }
+}
+
+/// Texts of accepted labels.
+#[derive(Drop)]
+struct AcceptedTexts;
+
+impl Suite for AcceptedTexts {
+    fn is_right(&self, rt: &HostRuntime, ground: Ground<'_>) -> bool {
+        is_right(rt, "image_text", &Telling(ground.plan, Text::Image))
+            && is_right(rt, "rows_text", &Telling(ground.plan, Text::Rows))
+            && is_right(rt, "cycle_advice", &Telling(ground.plan, Text::Cycles))
+    }
+}
+
+/// Texts of refused labels.
+#[derive(Drop)]
+struct RefusedTexts;
+
+impl Suite for RefusedTexts {
+    fn is_right(&self, rt: &HostRuntime, ground: Ground<'_>) -> bool {
+        is_right(
+            rt,
+            "check_fault_text",
+            &Refusing(ground.plan, Refused::Fault),
+        ) && is_right(rt, "check_advice", &Refusing(ground.plan, Refused::Advice))
+    }
+}
+
+#[test]
+fn label_texts(rt: HostRuntime) {
+    assert!(rt; is_right_on(&rt, PLAN, &AcceptedTexts));
+    assert!(rt; is_right_on(&rt, REFUSED, &RefusedTexts));
+    assert!(rt; is_right(&rt, "label_fault_text", &TellingFault));
+}

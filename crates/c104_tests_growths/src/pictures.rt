@@ -1,0 +1,76 @@
+//! Pictures of networks.
+use crate::calls::PLAN;
+use crate::ground::{Ground, Suite, is_right_on};
+use crate::growths::{Growing, Refusal, is_right};
+use crate::outcomes::Outcome;
+use c104_check::SwitchPort;
+use c104_draw::{Drawing, draw, draw_cycle, draw_header, drawing_text};
+use std::alloc::Global;
+
+/// What is drawn.
+#[derive(Clone, Copy)]
+enum Picture {
+    Network,
+    Header,
+    Cycle,
+}
+
+/// A picture is drawn.
+#[derive(Drop)]
+struct Painting<'a>(Ground<'a>, Picture);
+
+impl Growing for Painting<'_> {
+    fn call(&self, alloc: Global, refusal: Refusal) -> Outcome {
+        let (plan, image) = (self.0.plan, self.0.image);
+        if !image.fits(plan) {
+            return Outcome::Wrong;
+        }
+        let cycle = [SwitchPort { switch: 0, link: 0 }];
+        refusal.begin(alloc);
+        let found = match self.1 {
+            Picture::Network => Outcome::of(draw(alloc, plan, image)),
+            Picture::Header => Outcome::of(draw_header(alloc, plan, image, 1)),
+            Picture::Cycle => Outcome::of(draw_cycle(alloc, plan, image, &cycle)),
+        };
+        refusal.end(alloc);
+        found
+    }
+}
+
+/// The text of a picture is made.
+#[derive(Drop)]
+struct Telling<'a>(Ground<'a>, &'a Drawing);
+
+impl Growing for Telling<'_> {
+    fn call(&self, alloc: Global, refusal: Refusal) -> Outcome {
+        refusal.begin(alloc);
+        let result = drawing_text(alloc, self.0.plan, self.0.image, self.1, "first");
+        refusal.end(alloc);
+        Outcome::of(result)
+    }
+}
+
+/// Pictures of the first run's network.
+#[derive(Drop)]
+struct PictureCalls;
+
+impl Suite for PictureCalls {
+    fn is_right(&self, rt: &HostRuntime, ground: Ground<'_>) -> bool {
+        is_right(rt, "draw", &Painting(ground, Picture::Network))
+            && is_right(rt, "draw_header", &Painting(ground, Picture::Header))
+            && is_right(rt, "draw_cycle", &Painting(ground, Picture::Cycle))
+            && is_text_right(rt, ground)
+    }
+}
+
+fn is_text_right(rt: &HostRuntime, ground: Ground<'_>) -> bool {
+    match draw(rt.alloc(), ground.plan, ground.image) {
+        Ok(drawing) => is_right(rt, "drawing_text", &Telling(ground, &drawing)),
+        Err(_) => false,
+    }
+}
+
+#[test]
+fn pictures(rt: HostRuntime) {
+    assert!(rt; is_right_on(&rt, PLAN, &PictureCalls));
+}
