@@ -1,5 +1,8 @@
 //! Lists of three runs by two workers, altered in every way at places that are chosen from seeds: the audit tells of each
 //! the first fault.
+//!
+//! These fail where the audit passes over one end of a wire, a reply, a ticket or a start, where it tells one fault of all
+//! lists, and where it takes none for a run: first it has to find one in the lists as they are.
 ghost use Rattle.std.specs.Prelude.{◌≡◌, IfOk, IfSome, length};
 ghost use Rattle.c104_audit.specs.Audits.{AreLists};
 ghost use Rattle.c104_workers.specs.Fabrics.{AreSeatsOf};
@@ -227,8 +230,8 @@ fn is_seen(alloc: Global, gathered: &Gathered, alteration: Alteration, seed: u64
     })
 }
 
-/// Whether each of so many altered lists of what a fabric left is seen. An alteration that can't be made at a place is tried
-/// at the next, and left out after so many.
+/// How many altered lists of what a fabric left are seen, up to `COUNT`, or the first alteration that isn't. One that can't
+/// be made at a place is tried at the next: `COUNT * 8` places in all.
 fn count_seen(alloc: Global, gathered: &Gathered, first: u64) -> Result<usize, Alteration> {
     let mut seed = first;
     let mut count: usize = 0;

@@ -318,19 +318,23 @@ fn is_done_beside<R: Threads + Wait + Sync>(
     }
 }
 
-/// On the plan of two terminals, what a debugger pokes is read back by it while two workers run.
+/// On the plan of two terminals, what a debugger pokes is read back by it while two workers run. It fails where a fabric
+/// answers the value that a register had before, or drops what is poked.
 #[test]
 fn register_beside_workers(rt: HostRuntime) {
     assert!(rt; is_done_beside(&rt, rt.alloc(), PLAN, Asked::Register));
 }
 
-/// On a mesh, a debugger compares all switches with their image while two workers run, and stops and starts one.
+/// On a mesh, a debugger compares all switches with their image while two workers run, and stops and starts one. It fails
+/// where the events of workers change a register, and where tokens that nobody sent are among those that they move: the
+/// audit finds them.
 #[test]
 fn image_beside_workers(rt: HostRuntime) {
     assert!(rt; is_done_beside(&rt, rt.alloc(), MESH, Asked::Image));
 }
 
-/// Each tool is used through a seat while two workers run.
+/// Each tool is used through a seat while two workers run. It fails where the loader resets switches and leaves out what it
+/// is to poke, and where a command has no call of the seat: the audit finds that.
 #[test]
 fn tools_beside_workers(rt: HostRuntime) {
     assert!(rt; is_done_beside(&rt, rt.alloc(), MESH, Asked::Tools));

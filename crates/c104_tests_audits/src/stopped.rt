@@ -14,7 +14,7 @@ use std::thread::Threads;
 /// The most turns.
 const TURNS: u64 = 20;
 
-/// Whether workers of so many turns leave one run.
+/// Whether workers that do a number of turns leave one run.
 fn leave_a_run<R: Threads + Wait + Sync>(rt: &R, alloc: Global, text: &[u8], turns: u64) -> bool {
     let Some((fabric, mut seats)) = busy_fabric(alloc, text, 3) else {
         return false;
@@ -43,7 +43,8 @@ fn are_done<R: Threads + Wait + Sync>(
     run_workers(alloc, rt, fabric, seats.as_mut_slice(), &OpenGate, turns).is_ok()
 }
 
-/// Wherever three workers stop, the audit of what they leave answers a run.
+/// Wherever three workers stop, the audit of what they leave answers a run. It fails where a worker that stops leaves an
+/// event done at one end of a wire alone, or a call without its entries.
 #[test]
 fn after_any_turns(rt: HostRuntime) {
     for turns in 0..=TURNS {
@@ -114,7 +115,8 @@ fn end_of_turns<R: Threads + Wait + Sync>(
     Some(run_workers(alloc, rt, fabric, seats, &OpenGate, TURNS))
 }
 
-/// Workers stop in a turn where the trace of a node is full, and leave one run.
+/// Workers stop in a turn where the trace of a node is full, and leave one run. It fails where workers do no event, or where
+/// each event is answered that it isn't ready: then no trace fills up.
 #[test]
 fn at_a_full_trace(rt: HostRuntime) {
     let end = end_at_a_full_trace(&rt, rt.alloc());

@@ -5,4 +5,6 @@ use Rattle.c104_workers.proofs.AuditedLeft.{are_lists}
 use Rattle.c104_tests_audits.proofs.altered_lists.lists_of.Goals as goal
 
 pub returns : goal.returns
-returns c = subst AreLists (sym c.in_ok-lists.ensures.lists) (are_lists c.args.gathered.now c.plan.ensures.left (subst IsPlan c.plan.ensures.plan c.switches-switches.ensures.kept))
+returns c = subst AreLists (sym c.in_ok-lists.ensures.lists)
+    (are_lists c.args.gathered.now c.plan.ensures.left
+    (subst IsPlan c.plan.ensures.plan c.switches-switches.ensures.kept))
