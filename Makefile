@@ -10,6 +10,9 @@
 # make edits CRATE=c104_link  tries the edits of one crate that the prover must refuse
 # make test                   runs every proof, test, edit and case, from nothing but what passed before on this
 #                             machine; its last line is "N passed, M failed"
+# make storms                 runs a thousand storms over random networks, and compares each with a plain run; no part
+#                             of the test, which runs twenty of them
+# make fuzz MINUTES=60        fuzzes the program by AFL++ for a time, with the cases as seeds; no part of the test
 # make bench                  times the program over grids of switches and over a long script, and its check over large
 #                             descriptions; no part of the test
 
@@ -20,7 +23,7 @@ sources := $(shell find crates crates.txt -path '*/out' -prune -o -type f -print
 PREFIX ?= /usr/local
 installed := $(DESTDIR)$(PREFIX)
 
-.PHONY: all run install try check slow edits test bench
+.PHONY: all run install try check slow edits test storms fuzz bench
 
 all: $(program)
 
@@ -63,6 +66,13 @@ edits:
 
 test:
 	@tests/all
+
+storms: $(program)
+	@tests/storms $(program)
+
+fuzz: MINUTES = 60
+fuzz: $(program)
+	@tests/fuzz $(program) $(MINUTES)
 
 bench: $(program)
 	@tests/bench_networks $(program)

@@ -1,6 +1,7 @@
 """What the kinds of cases share: the runner, the folders of cases, and the text of the first run."""
 
 import os
+import re
 import shutil
 import subprocess
 import sys
@@ -48,6 +49,8 @@ CANNOT_READ = b'c104: cannot read -\n'
 CANNOT_WRITE = b'c104: cannot write\n'
 DESCRIPTION_TOO_LONG = b'description 0: 1 TooLong\n'
 SCRIPT_TOO_LONG = b'script too long\n'
+# The line between a description and a script in one text.
+SCRIPT_LINE = re.compile(rb'^[ \t\r]*script[ \t\r]*(?:#.*)?\n', re.MULTILINE)
 
 
 def lines_of(pairs):

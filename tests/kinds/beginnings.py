@@ -8,10 +8,9 @@ import os
 import re
 from concurrent.futures import ThreadPoolExecutor
 
-from case_runner import (DRAINS_TO_THE_TERMINATOR, EXAMPLES, FIRST_RUN, FIRST_TEXT, PLAN, RECEIVED, answers_of,
-    difference, lines_of)
+from case_runner import (DRAINS_TO_THE_TERMINATOR, EXAMPLES, FIRST_RUN, FIRST_TEXT, PLAN, RECEIVED, SCRIPT_LINE,
+    answers_of, difference, lines_of)
 
-SCRIPT_LINE = re.compile(rb'^[ \t\r]*script[ \t\r]*(#.*)?\n', re.MULTILINE)
 ANSWER = re.compile(rb'(\d+): .*\n')
 
 

@@ -12,29 +12,16 @@ what is wrong, a message that meets a refusal is lost, and nothing else.
 import errno
 import os
 import re
-import shlex
 import subprocess
-import sys
 import tempfile
 
-from case_runner import CANNOT_WRITE, EXAMPLES, FIRST_RUN, FIRST_TEXT, PLAN, TESTS, lines_of
+from case_runner import CANNOT_WRITE, EXAMPLES, FIRST_RUN, FIRST_TEXT, PLAN, SCRIPT_LINE, TESTS, lines_of
+from preloaded import build_library
 
 LIBRARY = os.path.join(TESTS, 'refused_calls.c')
 SECONDS = 60
 NO_MEMORY = b'c104: no memory\n'
 KINDS = ('alloc', 'read', 'write', 'open')
-SCRIPT_LINE = re.compile(rb'^[ \t\r]*script[ \t\r]*(#.*)?\n', re.MULTILINE)
-
-
-def build_library(folder):
-    """Compiles the library that refuses calls, and returns its path."""
-    path = os.path.join(folder, 'refused_calls.so')
-    compiler = shlex.split(os.environ.get('CC') or 'cc')
-    try:
-        subprocess.run([*compiler, '-O2', '-shared', '-fPIC', '-o', path, LIBRARY, '-ldl'], check=True)
-    except (OSError, subprocess.CalledProcessError) as error:
-        sys.exit('%s is not compiled, for which a C compiler is wanted: %s' % (LIBRARY, error))
-    return path
 
 
 class Outcome:
@@ -231,6 +218,10 @@ WHOLE_RUNS = [
     Run('no cycle', ['cycles', 'desc'], description=PLAN),
     Run('a cycle', ['cycles', 'desc', '--all'], description=example('ring.txt')),
     Run('draw', ['draw', 'desc', '--header', '1'], description=PLAN),
+    Run('traffic', ['traffic', 'desc', '--pattern', 'uniform', '--packets', '9', '--bytes', '2', '--seed', '1', '--load', '9'],
+        description=PLAN),
+    Run('no traffic', ['traffic', 'desc', '--pattern', 'hot-spot', '--target', 'c', '--packets', '1', '--bytes', '0', '--seed',
+        '1'], description=PLAN),
     Run('universal routing', text=example('universal-routing.txt')),
     Run('two-byte headers', text=example('many-labels.txt')),
     Run('check of two-byte headers', ['check', 'desc'], description=described('many-labels.txt')),
@@ -288,7 +279,7 @@ def sweep_all(runner, library):
 
 def refused_calls(runner):
     with tempfile.TemporaryDirectory() as folder:
-        library = build_library(folder)
+        library = build_library(LIBRARY, folder)
         judge_the_judges(runner, library)
         sweep_all(runner, library)
 

@@ -8,8 +8,12 @@ import os
 import tempfile
 
 from case_runner import EXAMPLES, PLAN, SCRIPT_LIMIT, comments
+from random_networks import chance_of, network_of, packets_of
 
 WORKERS = (1, 2, 3, 8, 64)
+# The workers on random networks, and the seeds of those that are tried here: tests/storms tries more.
+RANDOM_WORKERS = (1, 2, 4, 8)
+SEEDS = range(5)
 # Enough for every packet of these cases.
 ROUNDS = b'rounds 3000\n'
 MESH = b'mesh 3 2 1\n'
@@ -126,6 +130,33 @@ def as_a_run(runner):
             runner.case(name, due, words=['storm', path, '-'], data=sends)
 
 
+def labels_of(runner, path):
+    """All labels of a network's terminals."""
+    _, out, _ = runner.run(words=['label', path])
+    ranges = [line.split()[2:] for line in out.splitlines() if line.startswith(b'range ')]
+    return [label for first, count in ranges for label in range(int(first), int(first) + int(count))]
+
+
+def storms_of(runner, seed):
+    """Storms over a random network by different numbers of workers: all packets arrive, as they do in a run."""
+    chance = chance_of(seed)
+    network = network_of(chance)
+    with Files(network.description) as path:
+        sends = packets_of(chance, network, labels_of(runner, path))
+        due = due_of(runner, path, network.description, sends)
+        all_arrive = due.count(b' from ') == sends.count(b'\n')
+        runner.judge('a run of seed %d' % seed, None if all_arrive else 'not all packets arrive')
+        for workers in RANDOM_WORKERS:
+            runner.case('seed %d by %d' % (seed, workers), due, words=['storm', path, '-', '--workers', str(workers)],
+                        data=sends)
+
+
+def at_random(runner):
+    """Random networks: of each the audit finds a run, and the same packets arrive as in a plain run."""
+    for seed in SEEDS:
+        storms_of(runner, seed)
+
+
 def by_hand(runner):
     """What was found by hand, and that messages change nothing of it."""
     for name, (description, script, due, status, told) in BY_HAND.items():
@@ -188,4 +219,4 @@ def files(runner):
             runner.case(name, b'', 3, b'c104: cannot read %s\n' % path.encode(), words=['storm', *words])
 
 
-PARTS = [as_a_run, by_hand, full_traces, rings, usage, files]
+PARTS = [as_a_run, at_random, by_hand, full_traces, rings, usage, files]
