@@ -1,5 +1,5 @@
-"""The written parts of docs/DEFINITIONS.md and docs/PROMISES.md, from the comments of specs/ and of the sources, and
-the list of shared lemmas in docs/ARCHITECTURE.md.
+"""The written parts of docs/DEFINITIONS.md and docs/PROMISES.md, from the comments of specs/ and of the sources; of
+docs/REFUSALS.md, from contracts; and the list of shared lemmas in docs/ARCHITECTURE.md.
 
 A page begins with a part by hand, which ends in the line MARK; all below it is written from the crates.
 """
@@ -8,16 +8,18 @@ import os
 import re
 
 import toolchain
+from modules import files_of
+from refusals import refusals_text
 from sources import HEAD, blank, blocks_of, contract_end, past_bracket, read_text
 from specs import Scope, exported, files_below, public_definitions, type_of
 
-DEFINITIONS, PROMISES, MAP = (os.path.join('docs', it + '.md') for it in ('DEFINITIONS', 'PROMISES', 'ARCHITECTURE'))
+DEFINITIONS, PROMISES, REFUSALS, MAP = (os.path.join('docs', it + '.md')
+                                        for it in ('DEFINITIONS', 'PROMISES', 'REFUSALS', 'ARCHITECTURE'))
 MARK = '<!-- From here on tests/write_pages writes this page, from what stands in crates/. -->'
 LEMMAS = re.compile(r'\bRattle\.(c104\w*)\.proofs\.(\w+(?:\.[a-z]\w*)*)')
 CLAUSE = re.compile(r'\b(requires|ensures)\b\s*(\w*)\s*\{')
 GHOST = re.compile(r'\bghost (\w+)\s*[=:]\s*(?=[{(\[])')
 TYPE = re.compile(r'^pub (?:struct|enum|trait|type|const(?! fn)) (\w+)', re.MULTILINE)
-MODULE = re.compile(r'^(?:pub )?mod (\w+);', re.MULTILINE)
 # A full stop that ends a sentence, so not one of `0, 1, .. 31`.
 STOP = re.compile(r'(?<!\.)\.(?=\s+[^a-z])')
 COLUMNS = re.compile(r'\S {2,}\S')
@@ -76,17 +78,6 @@ def quoted(names):
 
 
 # PROMISES.md
-
-def files_of(folder):
-    """The source files of a crate: those of each module in the order in which its parent names them."""
-    root = next(it for it in ('lib.rt', 'main.rt') if os.path.exists(os.path.join(folder, it)))
-    return [root, *(file for name in MODULE.findall(read_text(folder, root)) for file in files_from(folder, name))]
-
-
-def files_from(folder, path):
-    text = read_text(folder, path + '.rt')
-    return [path + '.rt', *(file for name in MODULE.findall(text) for file in files_from(folder, path + '/' + name))]
-
 
 def comment_above(text, at):
     """The `///` comment that ends above a line, over whose attributes it may stand."""
@@ -246,5 +237,5 @@ def written_pages(crates):
     """What each page should be; with the definitions that public contracts rest on."""
     specs, wanted = public_definitions(crates)
     texts = {DEFINITIONS: definitions_text(crates, specs, wanted), PROMISES: promises_text(crates, specs, wanted),
-             MAP: lemmas_text(crates)}
+             REFUSALS: refusals_text(crates, specs), MAP: lemmas_text(crates)}
     return {page: front_of(page) + MARK + '\n' + text for page, text in texts.items()}, specs, wanted
