@@ -56,9 +56,13 @@ mod switches;
 #[cfg(test)]
 mod terminals;
 #[cfg(test)]
+mod texts;
+#[cfg(test)]
 mod tools;
 #[cfg(test)]
 mod traced;
+#[cfg(test)]
+mod traffic;
 #[cfg(test)]
 mod without_memory;
 #[cfg(test)]
