@@ -1,0 +1,9 @@
+use Rattle.std.proofs.Common.{◌≡◌, ◌++◌, drop}
+use Rattle.c104_stats.specs.Tables.{terminal_rows}
+use Rattle.c104_stats.proofs.link_rows.add_wires.Given as goal
+
+-- the rows so far and those that are left are all
+abbrev pub invariant-loop-terminal : goal.invariant-loop-terminal
+invariant-loop-terminal l =
+    l.text.items ++ terminal_rows l.format l.plan l.last l.is_next l.terminal (drop l.terminal l.wires)
+    ≡ l.initial.text.items ++ terminal_rows l.format l.plan l.last l.is_first 0 l.wires

@@ -1,0 +1,18 @@
+use Rattle.std.proofs.Common.{refl}
+use Rattle.c104_stats.proofs.summaries.sum_up.Goals as goal
+
+-- the latencies are those that were sorted
+pub returns : goal.returns
+returns c = λ permutation ascending. record {
+  rounds = c.active.ensures;
+  endings = c.all_endings.ensures;
+  sorted = c.args.sorted.now;
+  permutation = permutation;
+  ascending = ascending;
+  least = c.least_of.ensures;
+  median = c.median_of.ensures;
+  ninety_five = c.ninety_five_of.ensures;
+  most = c.most_of.ensures;
+  tokens = rw (c.add_tokens.ensures, c.add_tokens-of_links.ensures, c.links.ensures, c.wires.ensures) refl;
+  top = c.top_of.ensures;
+}

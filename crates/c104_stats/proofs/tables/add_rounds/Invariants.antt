@@ -1,0 +1,9 @@
+use Rattle.std.proofs.Common.{◌≡◌, ◌++◌, drop, true}
+use Rattle.c104_stats.specs.Tables.{round_rows}
+use Rattle.c104_stats.proofs.tables.add_rounds.Given as goal
+
+-- the rows so far and those that are left are all
+abbrev pub invariant-loop-round : goal.invariant-loop-round
+invariant-loop-round l =
+    l.text.items ++ round_rows l.format l.is_first (drop l.round-index l.rounds)
+    ≡ l.initial.text.items ++ round_rows l.format true l.rounds

@@ -1,0 +1,9 @@
+use Rattle.std.proofs.Common.{◌≡◌, ◌++◌, drop, true}
+use Rattle.c104_stats.specs.Tables.{sender_rows}
+use Rattle.c104_stats.proofs.tables.add_senders.Given as goal
+
+-- the rows so far and those that are left are all
+abbrev pub invariant-loop-terminal : goal.invariant-loop-terminal
+invariant-loop-terminal l =
+    l.text.items ++ sender_rows l.format l.plan l.is_first l.terminal (drop l.terminal l.senders)
+    ≡ l.initial.text.items ++ sender_rows l.format l.plan true 0 l.senders

@@ -1,0 +1,41 @@
+-- The columns of what is printed.
+use Rattle.std.specs.Prelude.{ℕ, List, codes}
+pub use Rattle.c104_stats.specs.declared.columns.Column.{Column}
+use Rattle.c104_stats.specs.declared.columns.Column.TheVariants as column
+
+-- the name of a column
+abbrev pub column_name : Column → List ℕ
+column_name column.Sender = codes "sender"
+column_name column.Number = codes "number"
+column_name column.Receiver = codes "receiver"
+column_name column.Bytes = codes "bytes"
+column_name column.Wires = codes "wires"
+column_name column.Sent = codes "sent"
+column_name column.Left = codes "left"
+column_name column.Arrived = codes "arrived"
+column_name column.Latency = codes "latency"
+column_name column.Idle = codes "idle"
+column_name column.Ending = codes "ending"
+column_name column.Port = codes "port"
+column_name column.Tokens = codes "tokens"
+column_name column.Share = codes "share"
+column_name column.Packets = codes "packets"
+column_name column.Longest = codes "longest"
+column_name column.Waiting = codes "waiting"
+column_name column.Round = codes "round"
+column_name column.Inside = codes "inside"
+column_name column.Moved = codes "moved"
+column_name column.Held = codes "held"
+column_name column.Rounds = codes "rounds"
+column_name column.Lost = codes "lost"
+column_name column.Least = codes "latency_least"
+column_name column.Median = codes "latency_median"
+column_name column.NinetyFive = codes "latency_95"
+column_name column.Most = codes "latency_most"
+column_name column.Rate = codes "tokens_a_round"
+column_name column.Busiest = codes "busiest"
+column_name column.BusiestShare = codes "busiest_share"
+column_name column.Second = codes "second"
+column_name column.SecondShare = codes "second_share"
+column_name column.Third = codes "third"
+column_name column.ThirdShare = codes "third_share"

@@ -1,0 +1,9 @@
+pub mod Numbers
+pub mod Links
+pub mod Packets
+pub mod Rounds
+pub mod Counts
+pub mod Columns
+pub mod Cells
+pub mod Tables
+pub mod Summaries

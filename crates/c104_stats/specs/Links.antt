@@ -1,0 +1,103 @@
+-- What is counted of a link, by the tokens that cross at its port, one after the other.
+--     link_after row x      what is counted after one token more
+--     LinkLaw      what that comes to after any of them, in words
+use Rattle.std.specs.Prelude.{ℕ, ◌+◌, ◌-◌, ◌≡◌, Bool, true, false, List, [], ◌∷◌, Option, Some, None, if◌then◌else◌, length, max, nat_eq}
+use Rattle.c104_stats.specs.Numbers.{few, told}
+pub use Rattle.c104_stats.specs.declared.links.Crossing.{Crossing}
+pub use Rattle.c104_stats.specs.declared.links.Holder.{Holder}
+pub use Rattle.c104_stats.specs.declared.links.LinkRow.{LinkRow}
+
+-- a link over which nothing has crossed
+abbrev pub new_link : LinkRow
+new_link = record { tokens = 0; busy = 0; packets = 0; longest = 0; waiting = 0; last = None; holder = None }
+
+-- whether the last token crossed in this round
+abbrev pub is_in : Option ℕ → ℕ → Bool
+is_in None round = false
+is_in (Some last) round = nat_eq last round
+
+-- in how many rounds a token crossed, with one in this round
+abbrev pub busy_after : LinkRow → ℕ → ℕ
+busy_after row round = if is_in row.last round then row.busy else told (row.busy + 1)
+
+-- the packet that holds a link, with one token more in this round: it begins there, or has held it already
+abbrev pub held_after : Option Holder → Bool → ℕ → Holder
+held_after None again round = record { since = round; busy = 1 }
+held_after (Some h) true round = h
+held_after (Some h) false round = record { since = h.since; busy = few (h.busy + 1) }
+
+abbrev pub holder_after : LinkRow → ℕ → Holder
+holder_after row round = held_after row.holder (is_in row.last round) round
+
+-- over how many rounds a packet has held a link, the first and this one counted
+abbrev pub span : Holder → ℕ → ℕ
+span h round = (round - h.since) + 1
+
+abbrev pub link_span : LinkRow → ℕ → ℕ
+link_span row round = span (holder_after row round) round
+
+-- in how many of them nothing of it crossed
+abbrev pub link_idle : LinkRow → ℕ → ℕ
+link_idle row round = link_span row round - (holder_after row round).busy
+
+-- over how many rounds a packet held it at most, with one that holds it in this round
+abbrev pub longest_with : ℕ → Option Holder → ℕ → ℕ
+longest_with longest None round = longest
+longest_with longest (Some h) round = max longest (span h round)
+
+abbrev pub longest_at : LinkRow → ℕ → ℕ
+longest_at row round = longest_with row.longest row.holder round
+
+-- how many tokens wait there where a round is over
+abbrev pub link_level : ℕ → LinkRow → LinkRow
+link_level level row = record row { waiting = max row.waiting level }
+
+-- a link after a token that crosses
+abbrev pub link_after : LinkRow → Crossing → LinkRow
+link_after row x = record {
+  tokens = told (row.tokens + 1);
+  busy = busy_after row x.round;
+  packets = if x.ends then told (row.packets + 1) else row.packets;
+  longest = if x.ends then max row.longest (link_span row x.round) else row.longest;
+  waiting = row.waiting;
+  last = Some x.round;
+  holder = if x.ends then None else Some (holder_after row x.round);
+}
+
+-- a link after tokens that cross, one after the other
+abbrev pub link_after_all : LinkRow → List Crossing → LinkRow
+link_after_all row [] = row
+link_after_all row (x ∷ xs) = link_after_all (link_after row x) xs
+
+-- how many tokens crossed in another round than the one before
+abbrev pub changes : Option ℕ → List Crossing → ℕ
+changes last [] = 0
+changes last (x ∷ xs) = (if is_in last x.round then 0 else 1) + changes (Some x.round) xs
+
+-- how many of them end a packet
+abbrev pub count_ends : List Crossing → ℕ
+count_ends [] = 0
+count_ends (x ∷ xs) = (if x.ends then 1 else 0) + count_ends xs
+
+-- the round of a packet's first token: one that crossed before, or this one
+abbrev pub first_of : Option ℕ → ℕ → ℕ
+first_of None round = round
+first_of (Some first) round = first
+
+-- the most rounds from a packet's first token to its terminator, both counted; a packet may have begun before
+abbrev pub longest_span : Option ℕ → List Crossing → ℕ
+longest_span first [] = 0
+longest_span first (x ∷ xs) =
+    if x.ends then max ((x.round - first_of first x.round) + 1) (longest_span None xs)
+    else longest_span (Some (first_of first x.round)) xs
+
+-- what is counted of a link over which these crossed
+pub record AreCounted (xs : List Crossing) (row : LinkRow) : Type 0 where
+  pub tokens : row.tokens ≡ told (length xs)
+  pub busy : row.busy ≡ told (changes None xs)
+  pub packets : row.packets ≡ told (count_ends xs)
+  pub longest : row.longest ≡ longest_span None xs
+
+-- whatever crosses, that is counted
+unfoldable pub LinkLaw : Type 0
+LinkLaw = (xs : List Crossing) → AreCounted xs (link_after_all new_link xs)

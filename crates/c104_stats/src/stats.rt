@@ -1,0 +1,317 @@
+//! What is counted of a run.
+//!
+//! A `Stats` is told what happens, in order. What it makes of each thing is one step of `Counts`, so that what it counts in
+//! the end is what the definitions say of all that happened.
+ghost use Rattle.std.specs.Prelude.{◌≡◌, ◌*◌, ◌++◌, ◌∷◌, [], if◌then◌else◌, length, map, replicate, IfOk, OnErr, OnOk};
+ghost use Rattle.c104_plan.specs.declared.plans.Terminal.{Terminal as TheTerminal};
+ghost use Rattle.c104_plan.specs.declared.ports.Port.TheVariants as port;
+ghost use Rattle.c104_regs.specs.declared.registers.TheConstants.{LINKS};
+ghost use Rattle.c104_stats.specs.Counts.{counts_arrived, counts_begun, counts_crossed, counts_ended, counts_found, counts_level, counts_passed, counts_seen, counts_sent, new_counts};
+ghost use Rattle.c104_stats.specs.Links.{new_link};
+ghost use Rattle.c104_stats.specs.Rounds.{new_round, no_levels};
+
+use crate::links::{Crossing, LinkRow};
+use crate::numbers::{in_few, one_round_more};
+use crate::packets::{Arrival, PacketRow, Sender};
+use crate::rounds::{Levels, RoundRow};
+use crate::steps::{
+    arrive_packet, cross_link, cross_out, cross_packet, find_packet, level_link, level_wire,
+    send_from,
+};
+use c104_node::Origin;
+use c104_plan::{Plan, Port, Terminal};
+use c104_regs::LINKS;
+use c104_token::NoMemory;
+use std::alloc::Global;
+use std::marker::Model;
+
+/// What is counted of a run.
+#[derive(Drop)]
+pub struct Stats {
+    keeps: bool,
+    links: Vec<LinkRow>,
+    wires: Vec<LinkRow>,
+    senders: Vec<Sender>,
+    rounds: Vec<RoundRow>,
+    current: RoundRow,
+    active: u32,
+}
+
+impl Model for Stats {
+    ghost use Rattle.c104_plan.specs.declared.ports.Port.TheVariants as port;
+    ghost use Rattle.c104_stats.specs.Counts.{Counts};
+
+    ghost Value = { Counts };
+
+    ghost view = { λ s. record {
+      keeps = s.keeps;
+      links = s.links.items;
+      wires = s.wires.items;
+      senders = s.senders.items;
+      rounds = s.rounds.items;
+      current = s.current;
+      active = s.active;
+    } };
+}
+
+impl Stats {
+    /// Nothing has happened yet on the network of a plan. Rounds that are over are kept if that is asked. The only error is
+    /// out of memory.
+    pub fn new(alloc: Global, plan: &Plan, keeps_rounds: bool) -> Result<Self, NoMemory>
+        ensures { IfOk result (λ stats. stats ≡ new_counts plan.now keeps_rounds) }
+    {
+        let tables = Tables::of(alloc, plan)?;
+        Ok(Stats {
+            keeps: keeps_rounds,
+            links: tables.links,
+            wires: tables.wires,
+            senders: tables.senders,
+            rounds: Vec::new(alloc),
+            current: first_round(),
+            active: 0,
+        })
+    }
+
+    /// The links of the switches, 32 of each.
+    pub fn links(&self) -> &[LinkRow]
+        ensures { result.now ≡ self.now.links }
+    {
+        self.links.as_slice()
+    }
+
+    /// The links of the terminals.
+    pub fn wires(&self) -> &[LinkRow]
+        ensures { result.now ≡ self.now.wires }
+    {
+        self.wires.as_slice()
+    }
+
+    /// The packets of each terminal.
+    pub fn senders(&self) -> &[Sender]
+        ensures { result.now ≡ self.now.senders }
+    {
+        self.senders.as_slice()
+    }
+
+    /// The rounds that are over, if they are kept.
+    pub fn rounds(&self) -> &[RoundRow]
+        ensures { result.now ≡ self.now.rounds }
+    {
+        self.rounds.as_slice()
+    }
+
+    /// The round that began last.
+    pub fn current(&self) -> RoundRow
+        ensures { result ≡ self.now.current }
+    {
+        self.current
+    }
+
+    /// The last round in which something was done.
+    pub fn active(&self) -> u32
+        ensures { result ≡ self.now.active }
+    {
+        self.active
+    }
+
+    /// A terminal sends a packet of this many bytes. The only error is out of memory, and then nothing has changed.
+    pub fn send(&mut self, terminal: usize, bytes: u64) -> Result<(), NoMemory>
+        ensures sent { OnOk result (self.new ≡ counts_sent self.old terminal bytes) }
+        ensures kept { OnErr result (self.new ≡ self.old) }
+    {
+        let packet = PacketRow::new(in_few(bytes), self.current.round);
+        send_from(&mut self.senders, terminal, packet)
+    }
+
+    /// A token crosses the wire at a port, which ends this packet, or none.
+    pub fn cross(&mut self, port: Port, ended: Option<Origin>)
+        ensures { self.new ≡ counts_crossed self.old port ended }
+    {
+        match port {
+            Port::Switch(switch, link) => self.cross_at_switch(switch, link, ended),
+            Port::Terminal(terminal) => self.cross_at_terminal(terminal, ended),
+        }
+    }
+
+    /// The same at a link of a switch.
+    fn cross_at_switch(&mut self, switch: usize, link: usize, ended: Option<Origin>)
+        ensures { self.new ≡ counts_crossed self.old (port.Switch switch link) ended }
+    {
+        let round = self.current.round;
+        let crossing = Crossing {
+            round,
+            ends: ended.is_some(),
+        };
+        let idle = cross_link(&mut self.links, switch, link, crossing);
+        cross_packet(&mut self.senders, idle, ended);
+        self.active = round;
+        self.current = self.current.moved();
+    }
+
+    /// The same at a terminal.
+    fn cross_at_terminal(&mut self, terminal: usize, ended: Option<Origin>)
+        ensures { self.new ≡ counts_crossed self.old (port.Terminal terminal) ended }
+    {
+        let round = self.current.round;
+        let crossing = Crossing {
+            round,
+            ends: ended.is_some(),
+        };
+        cross_out(
+            &mut self.wires,
+            &mut self.senders,
+            terminal,
+            crossing,
+            ended,
+        );
+        self.active = round;
+        self.current = self.current.moved();
+    }
+
+    /// A token arrives at a terminal, which ends this packet, or none.
+    pub fn arrive(&mut self, terminal: usize, ended: Option<Origin>)
+        ensures { self.new ≡ counts_arrived self.old terminal ended }
+    {
+        let arrival = Arrival {
+            terminal: in_few(terminal as u64),
+            round: self.current.round,
+        };
+        arrive_packet(&mut self.senders, arrival, ended);
+        self.active = self.current.round;
+        self.current = self.current.arrived();
+    }
+
+    /// A round begins. The only error is out of memory, and then nothing has changed.
+    pub fn begin_round(&mut self) -> Result<(), NoMemory>
+        ensures begun { OnOk result (self.new ≡ counts_begun self.old) }
+        ensures kept { OnErr result (self.new ≡ self.old) }
+    {
+        let current = self.current;
+        keep_round(self.keeps, &mut self.rounds, current)?;
+        self.current = RoundRow::new(one_round_more(current.round), current.levels);
+        Ok(())
+    }
+
+    /// The round ends, in which something was done or not.
+    pub fn end_round(&mut self, done: bool)
+        ensures { self.new ≡ counts_ended self.old done }
+    {
+        self.active = active_after(done, self.current.round, self.active);
+    }
+
+    /// This is there before the next round begins, or at the end of all.
+    pub fn see_levels(&mut self, levels: Levels)
+        ensures { self.new ≡ counts_seen self.old levels }
+    {
+        self.current = self.current.ended(levels);
+    }
+
+    /// As many rounds pass in which nothing is done.
+    pub fn pass_rounds(&mut self, times: u32)
+        ensures { self.new ≡ counts_passed self.old times }
+    {
+        self.current = self.current.later(times);
+    }
+
+    /// This many tokens wait to cross at a port, before the next round begins or at the end of all.
+    pub fn see_level(&mut self, port: Port, level: u64)
+        ensures { self.new ≡ counts_level self.old port level }
+    {
+        match port {
+            Port::Switch(switch, link) => self.see_level_at_switch(switch, link, level),
+            Port::Terminal(terminal) => self.see_level_at_terminal(terminal, level),
+        }
+    }
+
+    /// The same at a link of a switch.
+    fn see_level_at_switch(&mut self, switch: usize, link: usize, level: u64)
+        ensures { self.new ≡ counts_level self.old (port.Switch switch link) level }
+    {
+        level_link(&mut self.links, switch, link, level);
+    }
+
+    /// The same at a terminal.
+    fn see_level_at_terminal(&mut self, terminal: usize, level: u64)
+        ensures { self.new ≡ counts_level self.old (port.Terminal terminal) level }
+    {
+        level_wire(&mut self.wires, terminal, level);
+    }
+
+    /// The terminator of a packet is in the network, or waits at its sender.
+    pub fn find(&mut self, packet: Origin)
+        ensures { self.new ≡ counts_found self.old packet }
+    {
+        find_packet(&mut self.senders, packet);
+    }
+}
+
+/// A round joins those that are over, if these are kept. The only error is out of memory, and then nothing has changed.
+fn keep_round(keeps: bool, rounds: &mut Vec<RoundRow>, round: RoundRow) -> Result<(), NoMemory>
+    ensures joined { OnOk result (rounds.new.items
+        ≡ (if keeps then rounds.old.items ++ round ∷ [] else rounds.old.items)) }
+    ensures kept { OnErr result (rounds.new.items ≡ rounds.old.items) }
+{
+    if !keeps {
+        return Ok(());
+    }
+    rounds.push(round)?;
+    Ok(())
+}
+
+/// The last round in which something was done, after one in which something was, or not.
+fn active_after(done: bool, round: u32, active: u32) -> u32
+    ensures { result ≡ (if done then round else active) }
+{
+    if done { round } else { active }
+}
+
+/// What is counted of terminals.
+#[derive(Drop)]
+struct Tables {
+    links: Vec<LinkRow>,
+    wires: Vec<LinkRow>,
+    senders: Vec<Sender>,
+}
+
+impl Tables {
+    /// Nothing is counted yet on the network of a plan. The only error is out of memory.
+    fn of(alloc: Global, plan: &Plan) -> Result<Self, NoMemory>
+        ensures links { IfOk result (λ tables. tables.links.items ≡ replicate (length plan.now.switches * LINKS) new_link) }
+        ensures wires { IfOk result (λ tables. tables.wires.items ≡ replicate (length plan.now.terminals) new_link) }
+        ensures senders { IfOk result (λ tables. tables.senders.items ≡ map (λ (t : TheTerminal). []) plan.now.terminals) }
+    {
+        let links = new_rows(alloc, plan.switches().len() * LINKS)?;
+        let wires = new_rows(alloc, plan.terminals().len())?;
+        let senders = new_senders(alloc, plan.terminals())?;
+        Ok(Tables {
+            links,
+            wires,
+            senders,
+        })
+    }
+}
+
+/// This many links at which nothing crossed. The only error is out of memory.
+fn new_rows(alloc: Global, count: usize) -> Result<Vec<LinkRow>, NoMemory>
+    ensures { IfOk result (λ rows. rows.items ≡ replicate count new_link) }
+{
+    Ok(vec![in alloc; LinkRow::new(); count]?)
+}
+
+/// The round before the first.
+fn first_round() -> RoundRow
+    ensures { result ≡ new_round 0 no_levels }
+{
+    RoundRow::new(0, Levels::new())
+}
+
+/// These terminals have sent nothing. The only error is out of memory.
+fn new_senders(alloc: Global, terminals: &[Terminal]) -> Result<Vec<Sender>, NoMemory>
+    ensures { IfOk result (λ senders. senders.items ≡ map (λ (t : TheTerminal). []) terminals.now) }
+{
+    let mut senders = Vec::new(alloc);
+    for _terminal in terminals {
+        senders.push(Sender::new(alloc))?;
+    }
+    Ok(senders)
+}
