@@ -1,4 +1,5 @@
 pub mod Terminals
+pub mod Arrivals
 pub mod Nodes
 pub mod Acts
 pub mod PortActs
@@ -14,11 +15,14 @@ pub mod Records
 pub mod ActLinks
 pub mod WiredPlaces
 pub mod PortParts
+pub mod Idle
 pub mod Traced
 pub mod MappedNodes
 pub mod Origins
 pub mod Outboxes
 pub mod Tagged
+pub mod TaggedWords
+pub mod Notes
 pub mod TracedRecords
 pub mod SpareRooms
 pub mod StartNumbers

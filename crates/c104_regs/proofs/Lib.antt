@@ -4,11 +4,13 @@ pub mod RangeNumbers
 pub mod PackedLaws
 pub mod PackedPokes
 pub mod AddressLemmas
+mod FreeTargets
 pub mod RegisterLemmas
 pub mod ContinueLemmas
 pub mod PlacedRegisters
 pub mod KeptEntries
 pub mod KeptLemmas
+mod KeptGaps
 pub mod PlacedPokes
 pub mod KeptPokes
 pub mod SameSettings

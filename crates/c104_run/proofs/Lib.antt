@@ -3,6 +3,7 @@ pub mod ActAnswers
 pub mod ActAttempts
 pub mod EventSteps
 pub mod FarPorts
+mod EndTables
 pub mod FarEndLists
 pub mod Running
 pub mod RunRecords
@@ -24,6 +25,8 @@ pub mod RecordedRuns
 pub mod DoneEvents
 pub mod WiredPorts
 pub mod PortWalks
+mod LivePlaces
+mod LiveRounds
 pub mod PlanBuffers
 pub mod BalanceWires
 pub mod BalancePlaces

@@ -10,6 +10,8 @@ mod Readiness
 mod Wanting
 mod LinkSets
 mod KeptSets
+mod KeptInputs
+mod KeptSending
 mod SoundnessBuffers
 mod SoundnessInputs
 mod SoundnessTurns
