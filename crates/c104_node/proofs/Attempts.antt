@@ -1,8 +1,7 @@
 -- An act that was tried at its place, as it ends at all places.
-use Rattle.std.proofs.Common.{◌≡◌, ◌<◌, ◌∙◌, ℕ, Bool, true, false, List, [], Option, Some, None, Result, Ok, Err, if◌then◌else◌, get_or, map, option_map, length, slice_get, slice_set, is_some, unwrap_or, refl, sym, ap, subst}
+use Rattle.std.proofs.Common.{◌≡◌, ◌<◌, ◌∙◌, ℕ, Bool, true, false, List, Option, Some, None, Result, Ok, Err, if◌then◌else◌, get_or, map, option_map, length, slice_get, slice_set, is_some, unwrap_or, refl, sym, ap, subst}
 use Rattle.std.proofs.lemmas.List.{map-set}
 use Rattle.std.proofs.lemmas.Option.{slice_get-get_or, slice_get-map}
-use Rattle.std.proofs.Math.Seq.{map-set_same}
 use Rattle.c104_link.specs.Steps.{◌>>=◌}
 use Rattle.c104_token.specs.Kinds.{Kind}
 use Rattle.c104_event.specs.declared.faults.EventFault.{EventFault}
@@ -11,14 +10,13 @@ use Rattle.c104_switch.specs.Actions.{is_ready}
 use Rattle.c104_switch.specs.declared.actions.ReplyOf.{ReplyOf}
 use Rattle.c104_switch.specs.declared.actions.ReplyOf.TheVariants as reply
 use Rattle.c104_node.specs.declared.acts.ActOf.{ActOf}
-use Rattle.c104_node.specs.declared.acts.Entry.{Entry}
 use Rattle.c104_node.specs.declared.stamps.Stamp.{Stamp}
 use Rattle.c104_node.specs.Acts.{node_act, nodes_act, plain_reply, reply_outcome}
 use Rattle.c104_node.specs.Nodes.{Node}
 use Rattle.c104_node.specs.PlaceActs.{AloneDone, HasTried}
-use Rattle.c104_node.specs.Places.{Shown, bases, fulls, room_fault, states, traces}
+use Rattle.c104_node.specs.Places.{Shown, fulls, room_fault, states, traces}
 use Rattle.c104_node.specs.PortActs.{act_limit}
-use Rattle.c104_node.specs.Traces.{entry_of, full_at, kept_entry, lone_deed, noted, noted_all, noted_at, noted_in, plain_act}
+use Rattle.c104_node.specs.Traces.{full_at, kept_entry, lone_deed, noted, noted_all, noted_at, noted_in, plain_act}
 use Rattle.c104_node.proofs.PlaceSteps.{kept_same, seen_there}
 
 -- an act that was tried at a place, among what all places show

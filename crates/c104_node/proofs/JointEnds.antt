@@ -9,9 +9,8 @@ use Rattle.c104_node.specs.PortActs.{IsAnswerOf, far_act, joint_step, near_act}
 use Rattle.c104_node.specs.Nodes.{Node, node_credit_in, node_credit_out, node_enter, node_leave}
 use Rattle.c104_node.specs.PlaceActs.{HasActedAt, JointDone}
 use Rattle.c104_node.specs.Places.{Shown, bases, fulls, room_fault, states, traces}
-use Rattle.c104_node.specs.Traces.{full_at, joint_deeds, kept_entry, noted_all, noted_at}
+use Rattle.c104_node.specs.Traces.{full_at}
 use Rattle.c104_node.specs.declared.acts.ActOf.{ActOf}
-use Rattle.c104_node.specs.declared.acts.Entry.{Entry}
 use Rattle.c104_node.specs.declared.stamps.Stamp.{Stamp}
 use Rattle.c104_node.specs.declared.crossings.Crossing.{Crossing}
 use Rattle.c104_node.specs.declared.crossings.Joint.{Joint}
@@ -19,7 +18,7 @@ use Rattle.c104_node.specs.declared.crossings.Crossing.TheVariants.{Grant, Token
 use Rattle.c104_switch.specs.Actions.{is_ready}
 use Rattle.c104_switch.specs.declared.actions.ReplyOf.{ReplyOf}
 use Rattle.c104_token.specs.Kinds.{Kind}
-use Rattle.std.proofs.Common.{Bool, Err, Ok, ◌||◌, [], if◌then◌else◌, ◌∷◌, List, None, Option, Some, ap, arith, false, is_some, length, nat_lt, refl, slice_get, slice_set, subst, sym, true, ℕ, ◌<◌, ◌≤◌, ◌∙◌, ◌≡◌, ◌≢◌}
+use Rattle.std.proofs.Common.{Bool, Err, Ok, ◌||◌, List, None, Option, Some, ap, arith, false, is_some, length, nat_lt, refl, slice_get, slice_set, subst, sym, true, ℕ, ◌<◌, ◌≤◌, ◌∙◌, ◌≡◌, ◌≢◌}
 use Rattle.std.proofs.lemmas.Bool.Decides.{nat_tests}
 use Rattle.std.proofs.lemmas.Option.{slice_get_past}
 use Rattle.c104_plan.specs.declared.ports.Port.TheVariants as port

@@ -1,5 +1,5 @@
 //! One act of one place among all places.
-ghost use Rattle.std.specs.Prelude.{◌≡◌, ◌≢◌, ◌<◌, ◌≤◌, ℕ, None, Some, true, false, length, is_some, map, slice_get, unwrap_or, IfSome, OnOk};
+ghost use Rattle.std.specs.Prelude.{◌≡◌, ◌≢◌, ◌<◌, ◌≤◌, ℕ, None, Some, true, false, length, is_some, map, slice_get, unwrap_or, IfErr, IfSome, OnOk};
 ghost use Rattle.std.specs.Option.{option_copied};
 ghost use Rattle.c104_regs.specs.declared.registers.TheConstants.{LINKS};
 ghost use Rattle.c104_link.specs.Steps.{step_at};
@@ -13,7 +13,7 @@ ghost use Rattle.c104_node.specs.Records.{has_link};
 ghost use Rattle.c104_node.specs.PlaceActs.{ActEndsAt, AloneDone};
 ghost use Rattle.c104_node.specs.ActLinks.{act_link};
 ghost use Rattle.c104_node.specs.WiredPlaces.{is_linked_at};
-ghost use Rattle.c104_node.specs.Places.{bases, HasRoomAt, fulls, states};
+ghost use Rattle.c104_node.specs.Places.{bases, HasRoomAt, fulls, room_fault, states};
 ghost use Rattle.c104_node.specs.PortParts.{is_ready_at, PassesUnready};
 
 use crate::acts::ActOf;
@@ -102,6 +102,22 @@ fn act_at<T: TokenKind, P: Place<T>>(
     found.act(number, stamp, act)
 }
 
+/// Makes room at a place for whatever is kept of one act. TraceFull where no more may be kept there, else NoMemory.
+#[inline(always)]
+fn open_at<T: TokenKind, P: Place<T>>(places: &mut [P], place: usize) -> Result<(), EventFault>
+    requires { place < length places.old }
+    ensures shown { map P.shown places.new ≡ map P.shown places.old }
+    ensures open { OnOk result ((full_at (fulls (map P.shown places.old)) place ≡ false)
+        × HasRoomAt P.has_room places.new place) }
+    ensures fault { IfErr result (λ f. f ≡ room_fault (full_at (fulls (map P.shown places.old)) place)) }
+{
+    if is_full_at(places, place) {
+        return Err(EventFault::TraceFull);
+    }
+    room_at(places, place)?;
+    Ok(())
+}
+
 /// The node at a place does an act that it is ready for and that no limit refuses, unless nothing more can be kept of
 /// it.
 #[inline(always)]
@@ -119,10 +135,7 @@ pub fn act_ready<T: TokenKind, P: Place<T>>(
     requires within { act_limit (slice_get (states (map P.shown places.old)) place) act ≡ None }
     ensures { AloneDone T.kind P.keeps place number stamp act (map P.shown places.old) result (map P.shown places.new) }
 {
-    if is_full_at(places, place) {
-        return Err(EventFault::TraceFull);
-    }
-    room_at(places, place)?;
+    open_at(places, place)?;
     Ok(act_at(places, place, number, stamp, act)?)
 }
 

@@ -12,6 +12,7 @@ mod LinkSets
 mod KeptSets
 mod KeptInputs
 mod KeptSending
+mod StreamSteps
 mod SoundnessBuffers
 mod SoundnessInputs
 mod SoundnessTurns
