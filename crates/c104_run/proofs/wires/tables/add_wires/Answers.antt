@@ -21,7 +21,7 @@ loop-done-preserved c =
     ∙ ap (λ j. ends_by (end_by c.args.plan.now (drop j ws)) n) down
 
 pub set_end-requires-clause-room : goal.set_end-requires-clause-room
-set_end-requires-clause-room c =
+set_end-requires-clause-room c = 
     ap length c.loop-done.invariant
     ∙ ends_counted (end_by c.args.plan.now (drop (length c.wires-wires.result.now - c.loop-done.done) c.wires-wires.result.now)) (length c.args.plan.now.switches)
 

@@ -16,5 +16,5 @@ loop-number-preserved c =
     let inside : n < length c.args.plan.now.terminals = let same = ap length all in omega (arith, same, below) in
     let here : t ≡ get_or c.args.plan.now.terminals n t = c.index-terminals-number.is ∙ ap (λ (ts : List Terminal). get_or ts n t) all in
     let far : Some c.end_of.result ≡ far_end c.args.plan.now (port.Terminal n) =
-    ap Some (c.end_of.ensures ∙ ap (end_of c.args.plan.now) c.host_port.ensures) ∙ terminal_far c.args.plan.now c.terminals-terminals.ensures.kept n t inside here in
+        ap Some (c.end_of.ensures ∙ ap (end_of c.args.plan.now) c.host_port.ensures) ∙ terminal_far c.args.plan.now c.terminals-terminals.ensures.kept n t inside here in
     map_next (λ k. far_end c.args.plan.now (port.Terminal k)) n [] _ _ c.loop-number.invariant (c.in_ok-push.ensures.items ∙ ap (λ e. c.loop-number.ends.items ++ e ∷ []) far)
