@@ -7,4 +7,5 @@ mod RowTables
 mod RowTexts
 mod RowsByHand
 mod StormStatuses
+mod StateLemmas
 mod TrafficEnds
