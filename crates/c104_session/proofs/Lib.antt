@@ -1,6 +1,7 @@
 pub mod Printing
 pub mod PacketLines
 pub mod LinesLaw
+pub mod DrivenScripts
 pub mod Leavings
 pub mod PlanRuns
 pub mod Starts

@@ -15,6 +15,7 @@
 #![tactic(auto)]
 
 mod answering;
+mod driver;
 mod ended;
 mod explaining;
 mod probing;

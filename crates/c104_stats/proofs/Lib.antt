@@ -1,3 +1,6 @@
 mod LinkLaws
 mod RowSteps
 mod SenderSteps
+mod NumberSteps
+mod Conservation
+mod ConservedEvents

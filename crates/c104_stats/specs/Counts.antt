@@ -1,5 +1,6 @@
 -- What is counted of a run: a step for each thing that is told, in the order in which it happened.
-use Rattle.std.specs.Prelude.{ℕ, ◌+◌, ◌*◌, ◌/◌, ◌&&◌, Bool, List, [], ◌∷◌, ◌++◌, Option, Some, None, if◌then◌else◌, is_some, length, map, nat_lt, replicate, slice_get}
+use Rattle.std.specs.Prelude.{ℕ, ◌+◌, ◌*◌, ◌/◌, ◌&&◌, Bool, List, [], ◌∷◌, ◌++◌, Option, Some, None, if◌then◌else◌, is_some, length, map}
+use Rattle.std.specs.Prelude.{nat_lt, replicate, slice_get}
 use Rattle.c104_regs.specs.declared.registers.TheConstants.{LINKS}
 use Rattle.c104_plan.specs.Plans.{Plan}
 use Rattle.c104_plan.specs.declared.plans.Terminal.{Terminal}
@@ -82,7 +83,8 @@ counts_crossed c (port.Switch s l) ended = record c {
 }
 counts_crossed c (port.Terminal t) ended = record c {
   wires = change_at c.wires t (λ row. link_after row (record { round = c.current.round; ends = is_some ended }));
-  senders = crossed_senders (left_senders c.senders t c.current.round (slice_get c.wires t)) (idle_of (slice_get c.wires t) c.current.round) ended;
+  senders = crossed_senders (left_senders c.senders t c.current.round (slice_get c.wires t))
+      (idle_of (slice_get c.wires t) c.current.round) ended;
   current = moved_round c.current;
   active = c.current.round;
 }
