@@ -2,13 +2,16 @@
 //!
 //! `main` reads the command line, opens what it names, calls the function of a command and says what that
 //! function's `Status` means: a message on standard error and an exit status. The words of the command
-//! line are in `command_line`, those of traffic in `traffic_words`, the table of subcommands in `subcommands`, the texts
+//! line are in `command_line`, those of traffic in `traffic_words`, those of counts in `count_words`, commands of two
+//! files in `pairs`, the table of subcommands in `subcommands`, the texts
 //! of help in `help`, what a path stands for in `sources`, a script that is typed in `typed`, what people are told beside
 //! the answers in `told`; the functions of the commands are those of `c104_commands`.
 #![tactic(auto)]
 
 mod command_line;
+mod count_words;
 mod help;
+mod pairs;
 mod sources;
 mod subcommands;
 mod told;
@@ -17,7 +20,8 @@ mod typed;
 
 pub use c104_commands::{
     Marks, PatternName, Status, check_command, cycles_command, debug_command, draw_command,
-    label_command, label_rows_command, run, run_text, storm_command, traffic_command,
+    label_command, label_rows_command, run, run_text, stats_command, storm_command,
+    traffic_command,
 };
 use c104_describe::read_description;
 use c104_mistakes::{About, Messages};
@@ -25,6 +29,7 @@ use c104_plan::MAX_DESCRIPTION;
 use c104_stream::{ReadFault, read_up_to};
 use clap::error::ErrorKind;
 use command_line::{Order, Words};
+use pairs::{count_files, storm_files};
 use sources::{STANDARD_INPUT, Source, Watched};
 use std::fs::File;
 use std::io::{Input, IsTerminal, Read};
@@ -117,6 +122,7 @@ fn do_order<H: Threads + Wait + Sync>(
         },
         Subcommand::Debug => debug_file(rt, order.description, told),
         Subcommand::Storm => storm_files(rt, threads, order, told),
+        Subcommand::Stats => count_files(rt, order, told),
         Subcommand::Check => check_file(rt, order.description, told),
         Subcommand::Cycles => search_file(rt, order.description, order.all, told),
         Subcommand::Label => label_file(rt, order, told),
@@ -191,35 +197,6 @@ fn run_files(rt: &HostRuntime, description: &str, script: &str, told: &mut Told<
     };
     let status = run(
         rt.alloc(),
-        &mut description,
-        &mut script,
-        &mut io::writer(rt),
-        told,
-    );
-    told.note_fault(description.fault().or(script.fault()));
-    status
-}
-
-/// Lets a storm go over the network of a description's file, by the threads that a handle gives.
-fn storm_files<H: Threads + Wait + Sync>(
-    rt: &HostRuntime,
-    threads: &H,
-    order: Order<'_>,
-    told: &mut Told<'_>,
-) -> Status {
-    let (mut description, mut script) = match open_both(
-        rt,
-        order.description,
-        order.path(1),
-        told,
-    ) {
-        Ok(sources) => sources,
-        Err(status) => return status,
-    };
-    let status = storm_command(
-        rt.alloc(),
-        threads,
-        order.worker_count(),
         &mut description,
         &mut script,
         &mut io::writer(rt),

@@ -8,3 +8,4 @@ mod RowTexts
 mod RowsByHand
 mod StormStatuses
 mod TrafficEnds
+mod CountStatuses

@@ -4,6 +4,7 @@
 //! one text;
 //! `check_command` takes a description alone, and checks its labels, and `cycles_command` looks for a cycle of
 //! channel dependencies; `label_command` shows the labels, `label_rows_command` the same by `row` lines,
+//! `stats_command` counts what a run does,
 //! `draw_command` draws the network, and `traffic_command` writes a script by which its terminals send packets. Each
 //! reads no further than the limits of a description, 1 MiB, and of a script, 16 MiB.
 //!
@@ -17,6 +18,7 @@
 mod accepted;
 mod advice;
 mod checks;
+mod counts;
 mod cycle_breaks;
 mod cycle_texts;
 mod cycles;
@@ -39,9 +41,11 @@ mod trials;
 
 pub use accepted::cycle_advice;
 pub use advice::check_advice;
+pub use c104_session::{Format, Printing, What};
 pub use c104_storm::MAX_WORKERS;
 pub use c104_traffic::{MAX_DATA, MAX_PACKETS, PatternName, Traffic};
 pub use checks::check_command;
+pub use counts::stats_command;
 pub use cycles::cycles_command;
 pub use draws::draw_command;
 pub use images::image_text;

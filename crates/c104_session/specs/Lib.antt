@@ -5,3 +5,5 @@ pub mod Leavings
 pub mod Driven
 pub mod Runs
 pub mod Told
+pub mod Counted
+pub mod CountedRuns

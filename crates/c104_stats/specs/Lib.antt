@@ -9,3 +9,4 @@ pub mod Tables
 pub mod Summaries
 pub mod Conservation
 pub mod Sights
+pub mod Metering

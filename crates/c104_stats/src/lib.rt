@@ -15,6 +15,7 @@ mod finding;
 mod formats;
 mod link_rows;
 mod links;
+mod metering;
 mod numbers;
 mod packets;
 mod rounds;
