@@ -86,6 +86,8 @@ SAYS = {
         'RunsParts': 'what is written are the answers to the first lines, each whole, or to all, and no summary; where the '
                      'writer fails a prefix',
         'RunsText': 'the same of one text',
+    },
+    'c104_storm_command': {
         'StormEnds': 'nothing is written, or the line that tells why; or the answers to the first lines, each whole, or to '
                      'all, and no ending; where the writer fails a prefix',
     },

@@ -1,40 +1,35 @@
 //! The program: reads a description of a network and a script, and shows what the network answers.
 //!
 //! `main` reads the command line, opens what it names, calls the function of a command and says what that
-//! function's `Status` means: a message on standard error and an exit status. The words of the command
-//! line are in `command_line`, those of traffic in `traffic_words`, the table of subcommands in `subcommands`, the texts
-//! of help in `help`, what a path stands for in `sources`, a script that is typed in `typed`, what people are told beside
-//! the answers in `told`; the functions of the commands are those of `c104_commands`.
+//! function's `Status` means: a message on standard error and an exit status. The words of the command line and the texts
+//! of help are those of `c104_words`; what a path stands for is in `sources`, a script that is typed in `typed`, what
+//! people are told beside the answers in `told`; the functions of the commands are those of `c104_commands` and
+//! `c104_storm_command`.
 #![tactic(auto)]
 
-mod command_line;
-mod help;
 mod sources;
-mod subcommands;
 mod told;
-mod traffic_words;
 mod typed;
 
 pub use c104_commands::{
     Marks, PatternName, Status, check_command, cycles_command, debug_command, draw_command,
-    label_command, label_rows_command, run, run_text, storm_command, traffic_command,
+    label_command, label_rows_command, run, run_text, traffic_command,
 };
 use c104_describe::read_description;
 use c104_mistakes::{About, Messages};
 use c104_plan::MAX_DESCRIPTION;
+pub use c104_storm_command::storm_command;
 use c104_stream::{ReadFault, read_up_to};
+use c104_words::{Order, STANDARD_INPUT, Subcommand, Words, pattern_of};
 use clap::error::ErrorKind;
-use command_line::{Order, Words};
-use sources::{STANDARD_INPUT, Source, Watched};
+use sources::{Source, Watched};
 use std::fs::File;
 use std::io::{Input, IsTerminal, Read};
 use std::process::ExitCode;
 use std::sync::Wait;
 use std::thread::Threads;
 use std::{env, io};
-use subcommands::Subcommand;
 use told::{Told, tell_of_words};
-use traffic_words::pattern_of;
 use typed::Typed;
 
 /// The exit status of a wrong command line.

@@ -1,13 +1,11 @@
 //! What a path of the command line stands for: a file, or standard input.
 ghost use Rattle.c104.specs.Sources.{source_remaining};
 
+use c104_words::STANDARD_INPUT;
 use std::io::{Input, Read};
 use std::marker::Model;
 use std::rt::Files;
 use std::{fs, io};
-
-/// The path of standard input.
-pub const STANDARD_INPUT: &str = "-";
 
 /// An open file, or standard input. Each read asks it once, whatever it answers.
 #[derive(Drop)]

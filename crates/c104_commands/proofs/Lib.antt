@@ -6,5 +6,4 @@ mod RowLemmas
 mod RowTables
 mod RowTexts
 mod RowsByHand
-mod StormStatuses
 mod TrafficEnds

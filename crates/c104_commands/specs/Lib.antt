@@ -1,6 +1,5 @@
 pub mod Statuses
 pub mod Runs
-pub mod Storms
 pub mod CheckTexts
 pub mod Setups
 pub mod Endings

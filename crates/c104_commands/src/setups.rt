@@ -22,8 +22,10 @@ use std::io::{Read, Write};
 
 /// A network with its labels: its plan, and the image of them.
 #[derive(Drop)]
-pub(crate) struct Setup {
+pub struct Setup {
+    /// Switches, wires and terminals.
     pub plan: Plan,
+    /// The settings of links and the terminals' ranges of labels.
     pub image: Image,
 }
 
@@ -65,7 +67,7 @@ pub(crate) fn set_up(alloc: Global, description: &[u8]) -> Result<Setup, SetupFa
 /// command ends.
 ///
 /// Reading ends at 1 MiB, whatever the reader. Each error of the reader or the writer is a fault at once.
-pub(crate) fn read_setup<D: Read, W: Write, M: Messages>(
+pub fn read_setup<D: Read, W: Write, M: Messages>(
     alloc: Global,
     description: &mut D,
     writer: &mut W,

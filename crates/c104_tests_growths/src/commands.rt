@@ -7,9 +7,10 @@ use crate::outcomes::Outcome;
 use crate::written::{ANSWERS, Page, SCRIPT, SENDS, STORM_END, SUMMARY, TWO_ANSWERS};
 use c104_commands::{
     Marks, Status, check_command, cycles_command, debug_command, draw_command, label_command,
-    label_rows_command, run, run_text, storm_command,
+    label_rows_command, run, run_text,
 };
 use c104_mistakes::Silent;
+use c104_storm_command::storm_command;
 use std::alloc::Global;
 use std::sync::Wait;
 use std::thread::Threads;

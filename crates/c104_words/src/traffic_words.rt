@@ -3,7 +3,7 @@ ghost use Rattle.std.specs.Prelude.{◌≤◌, ◌<◌, IfSome};
 ghost use Rattle.c104_traffic.specs.Packets.{IsTraffic};
 
 use crate::command_line::flag;
-use c104_commands::{MAX_DATA, MAX_PACKETS, PatternName, Traffic};
+use c104_traffic::{MAX_DATA, MAX_PACKETS, PatternName, Traffic};
 use clap::{Arg, ArgMatches, Command, value_parser};
 use std::alloc::{AllocError, Global};
 

@@ -2,10 +2,9 @@
 ghost use Rattle.std.specs.Prelude.{ℕ, ◌≡◌, ◌≤◌};
 ghost use Rattle.c104_plan.specs.PlanImage.{Fits};
 ghost use Rattle.c104_commands.specs.declared.status.Status.TheVariants as status;
-ghost use Rattle.c104_commands.specs.Storms.{StormEnds, StormRuns};
+ghost use Rattle.c104_storm_command.specs.StormEnds.{StormEnds, StormRuns};
 
-use crate::setups::{Setup, read_setup};
-use crate::status::Status;
+use c104_commands::{Setup, Status, read_setup};
 use c104_mistakes::Messages;
 use c104_plan::{Image, Plan};
 use c104_storm::{MAX_WORKERS, storm_plan};

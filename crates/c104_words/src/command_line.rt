@@ -2,12 +2,16 @@
 ghost use Rattle.std.specs.Prelude.{◌≤◌};
 
 use crate::help;
-use crate::sources::STANDARD_INPUT;
 use crate::subcommands::{Row, SUBCOMMANDS, Subcommand, Takes};
 use crate::traffic_words::{TrafficWords, with_traffic};
-use c104_commands::MAX_WORKERS;
 use clap::{Arg, ArgAction, ArgMatches, Command, Error, value_parser};
 use std::alloc::{AllocError, Global};
+
+/// The path of standard input.
+pub const STANDARD_INPUT: &str = "-";
+
+/// The most workers that a storm can be asked to have: no more than the storm takes, as the proof of its call shows.
+pub const MOST_WORKERS: u8 = 64;
 
 const VERSION: &str = "0.5.0";
 
@@ -105,10 +109,10 @@ impl<'a> Order<'a> {
 
     /// How many workers a storm has, 1 to 64.
     pub fn worker_count(self) -> u8
-        ensures { (1 ≤ result) × (result ≤ MAX_WORKERS) }
+        ensures { (1 ≤ result) × (result ≤ MOST_WORKERS) }
     {
         match self.workers {
-            Some(count) if (1..=MAX_WORKERS).contains(&count) => count,
+            Some(count) if (1..=MOST_WORKERS).contains(&count) => count,
             _ => DEFAULT_WORKERS,
         }
     }
@@ -274,7 +278,7 @@ fn workers_option<'a>(alloc: Global) -> Arg<'a> {
     Arg::new(alloc, WORKERS)
         .long(WORKERS)
         .value_name("N")
-        .value_parser(value_parser!(u8).range(1..=i64::from(MAX_WORKERS)))
+        .value_parser(value_parser!(u8).range(1..=i64::from(MOST_WORKERS)))
         .help(WORKERS_HELP)
 }
 

@@ -6,7 +6,7 @@ use Rattle.c104_stream.specs.declared.halt.Halt.{Halt}
 use Rattle.c104_stream.specs.declared.halt.Halt.TheVariants as halt
 use Rattle.c104_storm.specs.Storms.{StormsPlan}
 use Rattle.c104_commands.specs.Statuses.{halt_status}
-use Rattle.c104_commands.specs.Storms.{StormRuns}
+use Rattle.c104_storm_command.specs.StormEnds.{StormRuns}
 use Rattle.c104_commands.specs.declared.status.Status.{Status}
 
 by_halt : (plan : Plan) (image : Image) (script left held holds : Option (List ℕ)) (kind : Halt) → StormsPlan plan image script left held holds (Err kind) → StormRuns plan image script left held holds (halt_status kind 1)
