@@ -13,8 +13,8 @@
 # make storms                 runs a thousand storms over random networks, and compares each with a plain run; no part
 #                             of the test, which runs twenty of them
 # make fuzz MINUTES=60        fuzzes the program by AFL++ for a time, with the cases as seeds; no part of the test
-# make bench                  times the program over grids of switches and over a long script, and its check over large
-#                             descriptions; no part of the test
+# make bench                  counts the program's instructions and holds them to README, times it over grids of switches
+#                             and over a long script, and its check over large descriptions; no part of the test
 
 program := build/c104
 example := examples/first-network.txt
@@ -75,5 +75,6 @@ fuzz: $(program)
 	@tests/fuzz $(program) $(MINUTES)
 
 bench: $(program)
+	@tests/bench_instructions $(program)
 	@tests/bench_networks $(program)
 	@tests/bench_checks $(program)

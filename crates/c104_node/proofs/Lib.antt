@@ -3,6 +3,7 @@ pub mod PlaceSteps
 pub mod ReadyActs
 pub mod NamedWires
 pub mod JointEnds
+pub mod IdleNodes
 pub mod WireEnds
 pub mod Ranges
 pub mod QuietNodes

@@ -14,6 +14,7 @@ pub mod Records
 pub mod ActLinks
 pub mod WiredPlaces
 pub mod PortParts
+pub mod Idle
 pub mod Traced
 pub mod MappedNodes
 pub mod Origins

@@ -38,7 +38,8 @@ pub use node::starts::add_starts;
 pub use origins::{Origin, origin_of, origins_of};
 pub use place::Place;
 pub use places::{
-    act_ready, is_full_at, next_claim_at, next_ready_at, next_wanting_at, node_at, ready_at,
+    act_ready, is_full_at, is_idle_at, next_claim_at, next_ready_at, next_wanting_at, node_at,
+    ready_at,
 };
 pub use port_part::PortPart;
 pub use recorded::{Node, act_pair, copy_entries, ready_pair};

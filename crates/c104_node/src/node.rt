@@ -4,6 +4,7 @@ ghost use Rattle.std.specs.Option.{option_copied, option_to_list};
 ghost use Rattle.c104_node.specs.Nodes.{node_waiting, node_arrived, node_peek, terminals_of};
 
 mod acting;
+mod idle;
 mod limits;
 pub mod quiet;
 mod reasons;

@@ -1,5 +1,5 @@
 //! One act of one place among all places.
-ghost use Rattle.std.specs.Prelude.{◌≡◌, ◌≢◌, ◌<◌, ◌≤◌, ℕ, None, true, false, length, is_some, map, slice_get, unwrap_or, IfSome, OnOk};
+ghost use Rattle.std.specs.Prelude.{◌≡◌, ◌≢◌, ◌<◌, ◌≤◌, ℕ, None, Some, true, false, length, is_some, map, slice_get, unwrap_or, IfSome, OnOk};
 ghost use Rattle.std.specs.Option.{option_copied};
 ghost use Rattle.c104_regs.specs.declared.registers.TheConstants.{LINKS};
 ghost use Rattle.c104_link.specs.Steps.{step_at};
@@ -7,7 +7,9 @@ ghost use Rattle.c104_node.specs.Acts.{IsWithinLimits, nodes_act, wants_memory};
 ghost use Rattle.c104_node.specs.PortActs.{act_limit};
 ghost use Rattle.c104_node.specs.Traces.{full_at};
 ghost use Rattle.c104_switch.specs.Claims.{IsNextLink};
-ghost use Rattle.c104_node.specs.Nodes.{node_claim};
+ghost use Rattle.c104_node.specs.Nodes.{node_claim, Node as TheNode};
+ghost use Rattle.c104_node.specs.Idle.{IsIdleNode};
+ghost use Rattle.c104_node.specs.Records.{has_link};
 ghost use Rattle.c104_node.specs.PlaceActs.{ActEndsAt, AloneDone, HasActedAt};
 ghost use Rattle.c104_node.specs.ActLinks.{act_link};
 ghost use Rattle.c104_node.specs.WiredPlaces.{is_linked_at};
@@ -199,5 +201,16 @@ pub fn next_claim_at<T: TokenKind, P: Place<T>>(
     match node_at(places, place) {
         Some(node) => node.next_claim(input, from),
         None => None,
+    }
+}
+
+/// Whether nothing of a round can begin at the node at a place, whose wired links are these. It is so where no node is.
+pub fn is_idle_at<T: TokenKind, P: Place<T>>(places: &[P], place: usize, wired: LinkSet) -> bool
+    ensures { result ≡ true → (n : TheNode T) → slice_get (states (map P.shown places.now)) place ≡ Some n →
+        IsIdleNode T.kind (has_link wired) n }
+{
+    match node_at(places, place) {
+        Some(node) => node.is_idle(wired),
+        None => true,
     }
 }

@@ -111,6 +111,11 @@ module _ (f : ℕ → Option ℕ) where
   entries_none none a zero = refl
   entries_none none a (suc n) = ap (λ o. led a o (entries f (a + 1) n)) (none a) ∙ entries_none none (a + 1) n
 
+  -- nor of a range where it gives nothing there
+  pub entries_none_in : (a n : ℕ) → ((c : ℕ) → a ≤ c → c < a + n → f c ≡ None) → entries f a n ≡ []
+  entries_none_in a zero none = refl
+  entries_none_in a (suc n) none = ap (λ o. led a o (entries f (a + 1) n)) (none a (omega arith) (omega arith)) ∙ entries_none_in (a + 1) n (λ c above below. none c (omega arith) (omega arith))
+
 -- those of a range hang on the addresses of the range alone
 pub entries_same : (f g : ℕ → Option ℕ) (a n : ℕ) → ((c : ℕ) → a ≤ c → c < a + n → f c ≡ g c) → entries f a n ≡ entries g a n
 entries_same f g a zero same = refl

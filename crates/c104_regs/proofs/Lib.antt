@@ -9,6 +9,7 @@ pub mod ContinueLemmas
 pub mod PlacedRegisters
 pub mod KeptEntries
 pub mod KeptLemmas
+mod KeptGaps
 pub mod PlacedPokes
 pub mod KeptPokes
 pub mod SameSettings

@@ -83,6 +83,11 @@ get_or-same zero i x = get_or_past [] i x (omega arith)
 get_or-same (suc n) zero x = refl
 get_or-same (suc n) (suc i) x = get_or-same n i x
 
+pub get_or-replicate_inside : {X : Type 0} (n i : ℕ) (x d : X) → i < n → get_or (replicate n x) i d ≡ x
+get_or-replicate_inside zero i x d inside = absurd (omega arith)
+get_or-replicate_inside (suc n) zero x d inside = refl
+get_or-replicate_inside (suc n) (suc i) x d inside = get_or-replicate_inside n i x d (omega arith)
+
 pub value_reset : (r : Register) → register_read reset_settings reset_status r ≡ (register_properties r).reset
 value_reset Mode = refl
 value_reset RandomBase = refl

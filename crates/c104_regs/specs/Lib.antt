@@ -8,3 +8,4 @@ pub mod Packed
 pub mod PackedWords
 pub mod Registers
 pub mod KeptValues
+pub mod Gaps

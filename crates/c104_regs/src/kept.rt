@@ -1,8 +1,10 @@
 //! What of a switch's settings differs from a reset, by address.
-ghost use Rattle.std.specs.Prelude.{◌≡◌, ◌↔◌, ℕ, Some, IfOk, length};
+ghost use Rattle.std.specs.Prelude.{◌≡◌, ◌≤◌, ◌<◌, ◌↔◌, ◌-◌, ◌/◌, ◌%◌, ℕ, None, Some, true, IfOk, length, slice_index_or};
 ghost use Rattle.c104_regs.specs.Addresses.{register_properties};
 ghost use Rattle.c104_regs.specs.Registers.{IsRegisterBank};
 ghost use Rattle.c104_regs.specs.KeptValues.{IsKept, IsMapOf, kept_value, kept_values, unless_reset};
+ghost use Rattle.c104_regs.specs.Gaps.{is_gap};
+ghost use Rattle.c104_regs.specs.Settings.{reset_settings};
 
 use crate::addresses::{ADDRESS_END, Address, Register};
 use crate::packed::PackedSettings;
@@ -10,6 +12,9 @@ use crate::registers::{LINKS, Registers};
 use crate::status::Status;
 use crate::values::SINK_CODE;
 use std::alloc::{AllocError, Global};
+
+/// How many addresses a link has.
+const LINK_ADDRESSES: u16 = 0x100;
 
 impl Register {
     /// The register's value after a reset.
@@ -57,12 +62,61 @@ impl Registers {
     {
         let settings = self.all_settings();
         let mut values = Vec::new(alloc);
-        for addr in 0..ADDRESS_END {
+        let mut addr = 0;
+        while addr < ADDRESS_END {
             if let Some(value) = kept_value(settings, addr) {
                 values.push((addr, value))?;
             }
+            addr = next_kept(settings, addr + 1);
         }
         Ok(values)
+    }
+}
+
+/// The first address from this one on of which a value may be kept, or the end: those of links that are as after a reset
+/// are passed over, and those at which there is no register.
+fn next_kept(settings: &[PackedSettings], addr: u16) -> u16
+    requires { addr ≤ ADDRESS_END }
+    ensures passed { (a : ℕ) → addr ≤ a → a < result → kept_value settings.now a ≡ None }
+    ensures after { addr ≤ result }
+    ensures within { result ≤ ADDRESS_END }
+{
+    let mut next = past_gap(addr);
+    while begins_reset_link(settings, next) {
+        next += LINK_ADDRESSES;
+    }
+    next
+}
+
+/// The first address from this one on that isn't in a part of a link's addresses where there is no register.
+fn past_gap(addr: u16) -> u16
+    requires { addr ≤ ADDRESS_END }
+    ensures passed { (a : ℕ) → addr ≤ a → a < result → is_gap (a % 0x100) ≡ true }
+    ensures after { addr ≤ result }
+    ensures within { result ≤ ADDRESS_END }
+{
+    let offset = addr % LINK_ADDRESSES;
+    match offset {
+        0x0a..=0x3e => addr - offset + 0x3f,
+        0x64..=0x7f => addr - offset + 0x80,
+        0xa4..=0xff => addr - offset + LINK_ADDRESSES,
+        _ => addr,
+    }
+}
+
+/// Whether a link that is as after a reset has its first address here.
+fn begins_reset_link(settings: &[PackedSettings], addr: u16) -> bool
+    requires { addr ≤ ADDRESS_END }
+    ensures begins { result ≡ true → addr % 0x100 ≡ 0 }
+    ensures before { result ≡ true → addr < ADDRESS_END }
+    ensures reset { result ≡ true → slice_index_or settings.now (addr / 0x100 - 1) reset_settings ≡ reset_settings }
+{
+    if addr % LINK_ADDRESSES != 0 || addr >= ADDRESS_END {
+        return false;
+    }
+    match settings.get(Registers::link_of(addr)) {
+        Some(link) => link.is_reset(),
+        None => false,
     }
 }
 

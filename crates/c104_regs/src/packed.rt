@@ -1,5 +1,5 @@
 //! What is set at one link, packed into words.
-ghost use Rattle.std.specs.Prelude.{◌≡◌, ◌<◌, All, IsTrue, map};
+ghost use Rattle.std.specs.Prelude.{◌≡◌, ◌<◌, ◌*◌, All, IsTrue, map, replicate, true};
 ghost use Rattle.c104_interval.specs.Selection.{IsSelected, row_at, select};
 ghost use Rattle.c104_interval.specs.declared.intervals.TheConstants.{ROWS};
 ghost use Rattle.c104_regs.specs.Addresses.{IsRegister, register_takes};
@@ -59,6 +59,13 @@ impl PackedSettings {
             modes: 0,
             rows: [LIMITS * SINK_CODE; ROWS],
         }
+    }
+
+    /// Whether these are the settings after a reset. False may be said of some that are.
+    pub(crate) fn is_reset(&self) -> bool
+        ensures { result ≡ true → self.now ≡ reset_settings }
+    {
+        self.bases == 0 && self.modes == 0 && are_reset(&self.rows)
     }
 
     /// These settings, packed.
@@ -222,6 +229,18 @@ fn code_above(words: &[u32], header: u32) -> u32
         }
     }
     SINK_CODE
+}
+
+/// Whether these are the words of rows after a reset.
+fn are_reset(words: &[u32; ROWS]) -> bool
+    ensures { result ≡ true → words.now ≡ replicate ROWS (LIMITS * SINK_CODE) }
+{
+    for k in 0..ROWS {
+        if words[k] != LIMITS * SINK_CODE {
+            return false;
+        }
+    }
+    true
 }
 
 /// The words of a table's rows.

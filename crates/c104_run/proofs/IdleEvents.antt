@@ -20,7 +20,7 @@ use Rattle.c104_node.specs.Nodes.{node_claim}
 use Rattle.c104_run.proofs.ActSteps.{joint_unready}
 use Rattle.c104_run.proofs.EventSteps.{claim_named, done_step}
 use Rattle.c104_node.specs.declared.crossings.Crossing.TheVariants.{Grant, Token}
-use Rattle.c104_run.specs.Network.{network_apply, network_step, event_fault, outcome_if_possible, outcome_if_ready, link_fault, wire_fault, wired_fault}
+use Rattle.c104_run.specs.Network.{network_apply, network_step, terminal_place, told_step, event_fault, outcome_if_possible, outcome_if_ready, link_fault, wire_fault, wired_fault}
 use Rattle.c104_run.specs.RoundParts.{PartEnds}
 use Rattle.c104_run.specs.Stages.{stage_apply, Stage}
 use Rattle.c104_run.proofs.StageSteps.{unready_part}
@@ -75,3 +75,8 @@ module _ {A : Type 0} (kind : Kind A) (keeps : Bool) (s : Stage A) where
       let is_input : nat_lt i 32 ≡ true = grind (arith, nat_tests) in
       let is_output : nat_lt o 32 ≡ true = grind (arith, nat_tests) in
       idle_event (event.Claim k i o) (rw (is_switch, is_input, is_output) refl) (sym (claim_named kind s.network k i o) ∙ ap (done_step kind s.network) none)
+
+  pub idle_drain : (t : ℕ) → t < length s.network.plan.terminals → is_some (nodes_act kind s.network.nodes (terminal_place s.network.plan t) (terminal_place s.network.plan t - length s.network.plan.switches) act.Drain) ≡ false → PartEnds (stage_apply kind keeps) s (event.Drain t ∷ []) (Ok false) s
+  idle_drain t inside unready =
+      let is_terminal : nat_lt t (length s.network.plan.terminals) ≡ true = grind (arith, nat_tests) in
+      idle_event (event.Drain t) (rw is_terminal refl) (ap (told_step kind s.network) (none_of _ unready))

@@ -24,6 +24,8 @@ pub mod RecordedRuns
 pub mod DoneEvents
 pub mod WiredPorts
 pub mod PortWalks
+mod LivePlaces
+mod LiveRounds
 pub mod PlanBuffers
 pub mod BalanceWires
 pub mod BalancePlaces

@@ -23,6 +23,7 @@ pub mod RecordedRuns
 pub mod FinishedRecords
 pub mod NodeRuns
 pub mod LinkedSets
+pub mod LivePlaces
 pub mod RoundParts
 pub mod NodeParts
 pub mod PlaceFaults

@@ -23,6 +23,7 @@ mod asked;
 mod doing;
 mod events;
 mod faults;
+mod live_places;
 mod net;
 mod net_parts;
 mod node_parts;

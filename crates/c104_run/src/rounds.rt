@@ -1,11 +1,12 @@
 //! Rounds, in which every part of a network takes its turn.
 //!
-//! No list of a round's events is made. Each part walks what its events are about, and leaves out an
-//! event of which the near end says that it isn't ready: it would change nothing.
+//! No list of a round's events is made. Each part walks the places at which something may begin (`LivePlaces`), and leaves
+//! out an event of which the near end says that it isn't ready: it would change nothing.
 ghost use Rattle.std.specs.Prelude.{map};
 ghost use Rattle.c104_plan.specs.Plans.{IsPlan};
-ghost use Rattle.c104_node.specs.Places.{bases};
+ghost use Rattle.c104_node.specs.Places.{bases, states};
 ghost use Rattle.c104_run.specs.KnownWires.{KnowWires};
+ghost use Rattle.c104_run.specs.LivePlaces.{AreLive};
 ghost use Rattle.c104_run.specs.EventRuns.{EventsEnd};
 ghost use Rattle.c104_run.specs.Rounds.{round, rounds};
 ghost use Rattle.c104_run.specs.RoundParts.{PartEnds};
@@ -15,12 +16,16 @@ mod attempts;
 mod parts;
 mod ports;
 
+use crate::live_places::LivePlaces;
 use crate::watch::Watch;
 use crate::wires::Wires;
 use c104_event::EventFault;
-use c104_node::Place;
+use c104_node::{Place, is_idle_at};
 use c104_token::TokenKind;
 use parts::{claim_outputs, credit_ports, cross_ports, drain_terminals, turn_inputs};
+
+/// After how many rounds the places are asked again at which something may begin.
+const ROUNDS_TO_SETTLE: u32 = 8;
 
 /// Does `times` rounds at these places, which stand for the nodes of a network of this plan, and tells of each.
 /// The count is of the events that were done, from before these rounds on: it gives each its ticket.
@@ -38,12 +43,14 @@ pub fn rounds_at<T: TokenKind, P: Place<T>, W: Watch>(
     ensures kept { IsPlan wires.now }
 {
     let _plan = wires.plan();
+    let mut live = LivePlaces::all();
     for round in 0..times {
-        let changed = round_at(wires, places, count)?;
+        let changed = round_at(wires, places, &mut live, count)?;
         if !changed {
             // Nor would any further round change anything.
             return Ok(());
         }
+        settle(wires, places, &mut live, round);
         watch.rounds_done(round + 1, times);
     }
     Ok(())
@@ -53,17 +60,51 @@ pub fn rounds_at<T: TokenKind, P: Place<T>, W: Watch>(
 fn round_at<T: TokenKind, P: Place<T>>(
     wires: &Wires,
     places: &mut [P],
+    live: &mut LivePlaces,
     count: &mut u64,
 ) -> Result<bool, EventFault>
     requires knows { KnowWires wires.now (bases (map P.shown places.old)) }
-    ensures { PartEnds (stage_apply T.kind P.keeps)
+    requires live { AreLive T.kind wires.now live.old (states (map P.shown places.old)) }
+    ensures ends { PartEnds (stage_apply T.kind P.keeps)
         (stage_of wires.now (map P.shown places.old) count.old) (round wires.now)
         result (stage_of wires.now (map P.shown places.new) count.new) }
+    ensures live { AreLive T.kind wires.now live.new (states (map P.shown places.new)) }
 {
-    let credited = credit_ports(wires, places, count)?;
-    let crossed = cross_ports(wires, places, count)?;
-    let turned = turn_inputs(wires, places, count)?;
-    let claimed = claim_outputs(wires, places, count)?;
-    let drained = drain_terminals(wires, places, count)?;
+    let credited = credit_ports(wires, places, live, count)?;
+    let crossed = cross_ports(wires, places, live, count)?;
+    let turned = turn_inputs(wires, places, live, count)?;
+    let claimed = claim_outputs(wires, places, live, count)?;
+    let drained = drain_terminals(wires, places, live, count)?;
     Ok(credited | crossed | turned | claimed | drained)
+}
+
+/// Takes the places out at which nothing can begin now. They are asked after some rounds alone, since this takes as long
+/// as a round in which little happens.
+fn settle<T: TokenKind, P: Place<T>>(wires: &Wires, places: &[P], live: &mut LivePlaces, round: u32)
+    requires { AreLive T.kind wires.now live.old (states (map P.shown places.now)) }
+    ensures { AreLive T.kind wires.now live.new (states (map P.shown places.now)) }
+{
+    if round % ROUNDS_TO_SETTLE != ROUNDS_TO_SETTLE - 1 {
+        return;
+    }
+    take_out_idle(wires, places, live);
+}
+
+/// Takes the places out at which nothing can begin now.
+fn take_out_idle<T: TokenKind, P: Place<T>>(wires: &Wires, places: &[P], live: &mut LivePlaces)
+    requires { AreLive T.kind wires.now live.old (states (map P.shown places.now)) }
+    ensures { AreLive T.kind wires.now live.new (states (map P.shown places.now)) }
+{
+    // The proof reads here what every plan keeps.
+    let _plan = wires.plan();
+    let end = wires.switch_count() + wires.terminal_count();
+    let mut from = 0;
+    while let Some(place) = live.next(from, end) {
+        from = place + 1;
+        let links = wires.node_links(place);
+        if !is_idle_at(places, place, links) {
+            continue;
+        }
+        live.remove(place);
+    }
 }

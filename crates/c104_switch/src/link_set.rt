@@ -1,5 +1,5 @@
 //! Sets of links.
-ghost use Rattle.std.specs.Prelude.{◌≡◌, ◌≢◌, ◌<◌, ◌&&◌, ℕ, false};
+ghost use Rattle.std.specs.Prelude.{◌≡◌, ◌≢◌, ◌<◌, ◌&&◌, ℕ, false, true};
 ghost use Rattle.c104_crossbar.specs.Groups.{has_bit};
 ghost use Rattle.c104_regs.specs.declared.registers.TheConstants.{LINKS};
 ghost use Rattle.c104_switch.specs.Claims.{IsNextLink};
@@ -30,6 +30,13 @@ impl LinkSet {
         ensures { (l : ℕ) → has_bit result l ≡ false }
     {
         LinkSet { word: 0 }
+    }
+
+    /// A set of all links.
+    pub fn all() -> Self
+        ensures { (l : ℕ) → l < LINKS → has_bit result l ≡ true }
+    {
+        LinkSet { word: u32::MAX }
     }
 
     /// Puts a link into the set or takes it out. A switch has no link of number 32 or more.

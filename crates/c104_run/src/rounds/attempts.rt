@@ -1,7 +1,7 @@
 //! One event of a round, which tells whether it was done, and is counted where it was.
 //!
 //! A round knows of each of its events that it can happen, and what acts it asks: so an event is tried by its acts.
-ghost use Rattle.std.specs.Prelude.{◌≡◌, ◌<◌, ◌∷◌, [], None, Some, is_some, length, map, true};
+ghost use Rattle.std.specs.Prelude.{◌≡◌, ◌≢◌, ◌<◌, ◌∷◌, [], ℕ, None, Some, is_some, length, map, slice_get, true};
 ghost use Rattle.c104_plan.specs.Wiring.{peer};
 ghost use Rattle.c104_plan.specs.declared.ports.Port.TheVariants as port;
 ghost use Rattle.c104_event.specs.declared.events.Event.{Event as TheEvent};
@@ -10,17 +10,19 @@ ghost use Rattle.c104_regs.specs.declared.registers.TheConstants.{LINKS};
 ghost use Rattle.c104_node.specs.ActLinks.{act_link};
 ghost use Rattle.c104_node.specs.Places.{bases, states};
 ghost use Rattle.c104_run.specs.KnownWires.{KnowWires};
+ghost use Rattle.c104_run.specs.LivePlaces.{AreLive, is_live};
 ghost use Rattle.c104_node.specs.Acts.{IsWithinLimits, nodes_act};
 ghost use Rattle.c104_run.specs.EventsAtPlaces.{told_answer};
 ghost use Rattle.c104_node.specs.PortActs.{Acts, near_act};
 ghost use Rattle.c104_run.specs.EventActs.{crossing_acts, event_acts, port_place};
-ghost use Rattle.c104_run.specs.Network.{event_fault, wired_fault};
+ghost use Rattle.c104_run.specs.Network.{event_fault, terminal_place, wired_fault};
 ghost use Rattle.c104_run.specs.NetRecords.{is_done, ticket_after};
 ghost use Rattle.c104_run.specs.RoundParts.{PartEnds, done_answer};
 ghost use Rattle.c104_run.specs.Stages.{stage_apply, stage_of};
 
 use crate::asked::far_port;
 use crate::doing::do_alone;
+use crate::live_places::LivePlaces;
 use crate::wires::Wires;
 use c104_event::{EventFault, Port};
 use c104_node::{ActOf, Crossing, Joint, Place, Stamp, joint_from};
@@ -28,11 +30,12 @@ use c104_switch::{ActionOf, ReplyOf};
 use c104_token::TokenKind;
 
 /// Tries a crossing from a port that is wired and ready, and tells whether it was done. Its ticket is the count of the
-/// events before it.
+/// events before it. What it may begin at the other end is in the set after it.
 #[inline(always)]
 pub fn attempt_joint<T: TokenKind, P: Place<T>>(
     wires: &Wires,
     places: &mut [P],
+    live: &mut LivePlaces,
     count: &mut u64,
     port: Port,
     crossing: Crossing,
@@ -41,11 +44,15 @@ pub fn attempt_joint<T: TokenKind, P: Place<T>>(
     requires wired { wired_fault wires.now port ≡ None }
     requires goes { is_some
         (nodes_act T.kind (states (map P.shown places.old)) (port_place wires.now port) 0 (near_act crossing port)) ≡ true }
-    ensures { (e : TheEvent) → event_fault wires.now e ≡ None →
+    requires live { AreLive T.kind wires.now live.old (states (map P.shown places.old)) }
+    requires near { is_live live.old (port_place wires.now port) ≡ true }
+    ensures tried { (e : TheEvent) → event_fault wires.now e ≡ None →
         event_acts {A = T} wires.now e ≡ crossing_acts crossing port (peer wires.now port) →
         PartEnds (stage_apply T.kind P.keeps)
         (stage_of wires.now (map P.shown places.old) count.old) (e ∷ [])
         result (stage_of wires.now (map P.shown places.new) count.new) }
+    ensures live { AreLive T.kind wires.now live.new (states (map P.shown places.new)) }
+    ensures grown { (k : ℕ) → is_live live.old k ≡ true → is_live live.new k ≡ true }
 {
     let ends = wires.wired_ends(port);
     let joint = Joint {
@@ -57,6 +64,7 @@ pub fn attempt_joint<T: TokenKind, P: Place<T>>(
         ticket: *count,
         seat: None,
     };
+    live.add(ends.far.node);
     let answer = joint_from(places, ends.near.node, ends.far.node, joint, stamp);
     counted(count, answer)
 }
@@ -71,9 +79,11 @@ pub fn attempt_turn<T: TokenKind, P: Place<T>>(
     link: usize,
 ) -> Result<bool, EventFault>
     requires wired { wired_fault wires.now (port.Switch switch link) ≡ None }
-    ensures { PartEnds (stage_apply T.kind P.keeps)
+    ensures tried { PartEnds (stage_apply T.kind P.keeps)
         (stage_of wires.now (map P.shown places.old) count.old) (event.Input switch link 0 ∷ [])
         result (stage_of wires.now (map P.shown places.new) count.new) }
+    ensures stay { (k : ℕ) → k ≢ switch →
+        slice_get (states (map P.shown places.new)) k ≡ slice_get (states (map P.shown places.old)) k }
 {
     let act = ActOf::Step(ActionOf::Input(link, 0));
     attempt_alone(wires, places, count, switch, act)
@@ -91,9 +101,11 @@ pub fn attempt_claim<T: TokenKind, P: Place<T>>(
     requires switch { switch < length wires.now.switches }
     requires input { input < LINKS }
     requires output { output < LINKS }
-    ensures { PartEnds (stage_apply T.kind P.keeps)
+    ensures tried { PartEnds (stage_apply T.kind P.keeps)
         (stage_of wires.now (map P.shown places.old) count.old) (event.Claim switch input output ∷ [])
         result (stage_of wires.now (map P.shown places.new) count.new) }
+    ensures stay { (k : ℕ) → k ≢ switch →
+        slice_get (states (map P.shown places.new)) k ≡ slice_get (states (map P.shown places.old)) k }
 {
     let act = ActOf::Step(ActionOf::Claim(input, output));
     attempt_alone(wires, places, count, switch, act)
@@ -108,9 +120,11 @@ pub fn attempt_drain<T: TokenKind, P: Place<T>>(
     terminal: usize,
 ) -> Result<bool, EventFault>
     requires terminal { terminal < length wires.now.terminals }
-    ensures { PartEnds (stage_apply T.kind P.keeps)
+    ensures tried { PartEnds (stage_apply T.kind P.keeps)
         (stage_of wires.now (map P.shown places.old) count.old) (event.Drain terminal ∷ [])
         result (stage_of wires.now (map P.shown places.new) count.new) }
+    ensures stay { (k : ℕ) → k ≢ terminal_place wires.now terminal →
+        slice_get (states (map P.shown places.new)) k ≡ slice_get (states (map P.shown places.old)) k }
 {
     let place = wires.terminal_place(terminal);
     attempt_alone(wires, places, count, place, ActOf::Drain)
@@ -127,11 +141,13 @@ fn attempt_alone<T: TokenKind, P: Place<T>>(
 ) -> Result<bool, EventFault>
     requires short { IsWithinLimits act }
     requires lone { act_link act ≡ None }
-    ensures { (e : TheEvent) → event_fault wires.now e ≡ None →
+    ensures tried { (e : TheEvent) → event_fault wires.now e ≡ None →
         event_acts wires.now e ≡ Some (Acts.Alone place act) →
         PartEnds (stage_apply T.kind P.keeps)
         (stage_of wires.now (map P.shown places.old) count.old) (e ∷ [])
         result (stage_of wires.now (map P.shown places.new) count.new) }
+    ensures stay { (k : ℕ) → k ≢ place →
+        slice_get (states (map P.shown places.new)) k ≡ slice_get (states (map P.shown places.old)) k }
 {
     let switches = wires.switch_count();
     let stamp = Stamp {

@@ -1,15 +1,17 @@
 //! The parts of a round: all its events of one kind. Each tells whether any of them was done.
-ghost use Rattle.std.specs.Prelude.{◌<◌, flat_map, length, map};
+ghost use Rattle.std.specs.Prelude.{◌≡◌, ◌<◌, flat_map, length, map, true};
 ghost use Rattle.c104_event.specs.declared.events.Event.TheVariants as event;
 ghost use Rattle.c104_regs.specs.declared.registers.TheConstants.{LINKS};
-ghost use Rattle.c104_node.specs.Places.{bases};
+ghost use Rattle.c104_node.specs.Places.{bases, states};
 ghost use Rattle.c104_run.specs.KnownWires.{KnowWires};
+ghost use Rattle.c104_run.specs.LivePlaces.{AreLive, is_live};
 ghost use Rattle.c104_run.specs.Rounds.{all_claims, all_drains, claims_of, switch_claims, turn_at, wired_ports};
 ghost use Rattle.c104_run.specs.RoundParts.{PartEnds};
 ghost use Rattle.c104_run.specs.Stages.{stage_apply, stage_of};
 
 use super::attempts::{attempt_claim, attempt_drain};
-use super::ports::walk_ports;
+use super::ports::{next_terminal, walk_ports};
+use crate::live_places::LivePlaces;
 use crate::wires::Wires;
 use c104_event::EventFault;
 use c104_node::{Place, PortPart, next_claim_at, next_wanting_at};
@@ -19,59 +21,73 @@ use c104_token::TokenKind;
 pub fn credit_ports<T: TokenKind, P: Place<T>>(
     wires: &Wires,
     places: &mut [P],
+    live: &mut LivePlaces,
     count: &mut u64,
 ) -> Result<bool, EventFault>
     requires knows { KnowWires wires.now (bases (map P.shown places.old)) }
-    ensures { PartEnds (stage_apply T.kind P.keeps)
+    requires live { AreLive T.kind wires.now live.old (states (map P.shown places.old)) }
+    ensures ends { PartEnds (stage_apply T.kind P.keeps)
         (stage_of wires.now (map P.shown places.old) count.old) (map event.Credit (wired_ports wires.now))
         result (stage_of wires.now (map P.shown places.new) count.new) }
+    ensures live { AreLive T.kind wires.now live.new (states (map P.shown places.new)) }
 {
-    walk_ports(wires, places, count, PortPart::Credit)
+    walk_ports(wires, places, live, count, PortPart::Credit)
 }
 
 /// A crossing from each wired port.
 pub fn cross_ports<T: TokenKind, P: Place<T>>(
     wires: &Wires,
     places: &mut [P],
+    live: &mut LivePlaces,
     count: &mut u64,
 ) -> Result<bool, EventFault>
     requires knows { KnowWires wires.now (bases (map P.shown places.old)) }
-    ensures { PartEnds (stage_apply T.kind P.keeps)
+    requires live { AreLive T.kind wires.now live.old (states (map P.shown places.old)) }
+    ensures ends { PartEnds (stage_apply T.kind P.keeps)
         (stage_of wires.now (map P.shown places.old) count.old) (map event.Cross (wired_ports wires.now))
         result (stage_of wires.now (map P.shown places.new) count.new) }
+    ensures live { AreLive T.kind wires.now live.new (states (map P.shown places.new)) }
 {
-    walk_ports(wires, places, count, PortPart::Cross)
+    walk_ports(wires, places, live, count, PortPart::Cross)
 }
 
 /// A turn of each wired input.
 pub fn turn_inputs<T: TokenKind, P: Place<T>>(
     wires: &Wires,
     places: &mut [P],
+    live: &mut LivePlaces,
     count: &mut u64,
 ) -> Result<bool, EventFault>
     requires knows { KnowWires wires.now (bases (map P.shown places.old)) }
-    ensures { PartEnds (stage_apply T.kind P.keeps)
+    requires live { AreLive T.kind wires.now live.old (states (map P.shown places.old)) }
+    ensures ends { PartEnds (stage_apply T.kind P.keeps)
         (stage_of wires.now (map P.shown places.old) count.old) (flat_map turn_at (wired_ports wires.now))
         result (stage_of wires.now (map P.shown places.new) count.new) }
+    ensures live { AreLive T.kind wires.now live.new (states (map P.shown places.new)) }
 {
-    walk_ports(wires, places, count, PortPart::Turn)
+    walk_ports(wires, places, live, count, PortPart::Turn)
 }
 
 /// The claims of all switches.
 pub fn claim_outputs<T: TokenKind, P: Place<T>>(
     wires: &Wires,
     places: &mut [P],
+    live: &LivePlaces,
     count: &mut u64,
 ) -> Result<bool, EventFault>
-    ensures { PartEnds (stage_apply T.kind P.keeps)
+    requires live { AreLive T.kind wires.now live.now (states (map P.shown places.old)) }
+    ensures ends { PartEnds (stage_apply T.kind P.keeps)
         (stage_of wires.now (map P.shown places.old) count.old) (all_claims (length wires.now.switches))
         result (stage_of wires.now (map P.shown places.new) count.new) }
+    ensures live { AreLive T.kind wires.now live.now (states (map P.shown places.new)) }
 {
     let mut changed = false;
     let switches = wires.switch_count();
-    for switch in 0..switches {
-        let done = claim_in_switch(wires, places, count, switch)?;
+    let mut from = 0;
+    while let Some(switch) = live.next(from, switches) {
+        let done = claim_in_switch(wires, places, live, count, switch)?;
         changed |= done;
+        from = switch + 1;
     }
     Ok(changed)
 }
@@ -80,18 +96,22 @@ pub fn claim_outputs<T: TokenKind, P: Place<T>>(
 fn claim_in_switch<T: TokenKind, P: Place<T>>(
     wires: &Wires,
     places: &mut [P],
+    live: &LivePlaces,
     count: &mut u64,
     switch: usize,
 ) -> Result<bool, EventFault>
     requires switch { switch < length wires.now.switches }
-    ensures { PartEnds (stage_apply T.kind P.keeps)
+    requires live { AreLive T.kind wires.now live.now (states (map P.shown places.old)) }
+    requires here { is_live live.now switch ≡ true }
+    ensures ends { PartEnds (stage_apply T.kind P.keeps)
         (stage_of wires.now (map P.shown places.old) count.old) (switch_claims switch)
         result (stage_of wires.now (map P.shown places.new) count.new) }
+    ensures live { AreLive T.kind wires.now live.now (states (map P.shown places.new)) }
 {
     let mut changed = false;
     let mut from = 0;
     while let Some(input) = next_wanting_at(places, switch, from) {
-        let done = claim_for_input(wires, places, count, switch, input)?;
+        let done = claim_for_input(wires, places, live, count, switch, input)?;
         changed |= done;
         from = input + 1;
     }
@@ -103,15 +123,19 @@ fn claim_in_switch<T: TokenKind, P: Place<T>>(
 fn claim_for_input<T: TokenKind, P: Place<T>>(
     wires: &Wires,
     places: &mut [P],
+    live: &LivePlaces,
     count: &mut u64,
     switch: usize,
     input: usize,
 ) -> Result<bool, EventFault>
     requires switch { switch < length wires.now.switches }
     requires input { input < LINKS }
-    ensures { PartEnds (stage_apply T.kind P.keeps)
+    requires live { AreLive T.kind wires.now live.now (states (map P.shown places.old)) }
+    requires here { is_live live.now switch ≡ true }
+    ensures ends { PartEnds (stage_apply T.kind P.keeps)
         (stage_of wires.now (map P.shown places.old) count.old) (claims_of switch input)
         result (stage_of wires.now (map P.shown places.new) count.new) }
+    ensures live { AreLive T.kind wires.now live.now (states (map P.shown places.new)) }
 {
     let mut changed = false;
     let mut from = 0;
@@ -127,17 +151,21 @@ fn claim_for_input<T: TokenKind, P: Place<T>>(
 pub fn drain_terminals<T: TokenKind, P: Place<T>>(
     wires: &Wires,
     places: &mut [P],
+    live: &LivePlaces,
     count: &mut u64,
 ) -> Result<bool, EventFault>
-    ensures { PartEnds (stage_apply T.kind P.keeps)
+    requires live { AreLive T.kind wires.now live.now (states (map P.shown places.old)) }
+    ensures ends { PartEnds (stage_apply T.kind P.keeps)
         (stage_of wires.now (map P.shown places.old) count.old) (all_drains (length wires.now.terminals))
         result (stage_of wires.now (map P.shown places.new) count.new) }
+    ensures live { AreLive T.kind wires.now live.now (states (map P.shown places.new)) }
 {
     let mut changed = false;
-    let terminals = wires.terminal_count();
-    for terminal in 0..terminals {
+    let mut from = 0;
+    while let Some(terminal) = next_terminal(wires, live, from) {
         let done = attempt_drain(wires, places, count, terminal)?;
         changed |= done;
+        from = terminal + 1;
     }
     Ok(changed)
 }

@@ -1,5 +1,5 @@
-//! The parts of a round that are about ports. Those of a switch are walked by the sets of its links, and
-//! of terminals each is asked, so that no event is tried of which it is known that its near end isn't ready.
+//! The parts of a round that are about ports. The switches and the terminals at which something may begin are walked, a
+//! switch by the sets of its links, so that no event is tried of which it is known that its near end isn't ready.
 //!
 //! The walks are inlined, since each part is a code of its own.
 ghost use Rattle.std.specs.Prelude.{◌≡◌, ◌<◌, ◌≤◌, ℕ, None, false, true, flat_map, length, map, unwrap_or, IfSome, Ok};
@@ -7,7 +7,8 @@ ghost use Rattle.c104_plan.specs.declared.ports.Port.TheVariants as port;
 ghost use Rattle.c104_regs.specs.declared.registers.TheConstants.{LINKS};
 ghost use Rattle.c104_node.specs.Places.{bases, states};
 ghost use Rattle.c104_run.specs.KnownWires.{KnowWires};
-ghost use Rattle.c104_run.specs.Network.{wired_fault};
+ghost use Rattle.c104_run.specs.LivePlaces.{AreLive, is_live};
+ghost use Rattle.c104_run.specs.Network.{terminal_place, wired_fault};
 ghost use Rattle.c104_run.specs.EventActs.{port_place};
 ghost use Rattle.c104_node.specs.PortParts.{IsNearReady};
 ghost use Rattle.c104_run.specs.RoundParts.{port_events, wired_events, PartEnds};
@@ -16,6 +17,7 @@ ghost use Rattle.c104_run.specs.Rounds.{is_wired, turn_at, wired_links, wired_po
 ghost use Rattle.c104_run.specs.Stages.{stage_apply, stage_of};
 
 use super::attempts::{attempt_joint, attempt_turn};
+use crate::live_places::LivePlaces;
 use crate::wires::Wires;
 use c104_event::{EventFault, Port};
 use c104_node::{Crossing, Place, PortPart, can_near_at, next_ready_at};
@@ -26,17 +28,20 @@ use c104_token::TokenKind;
 pub fn walk_ports<T: TokenKind, P: Place<T>>(
     wires: &Wires,
     places: &mut [P],
+    live: &mut LivePlaces,
     count: &mut u64,
     part: PortPart,
 ) -> Result<bool, EventFault>
     requires knows { KnowWires wires.now (bases (map P.shown places.old)) }
-    ensures { PartEnds (stage_apply T.kind P.keeps)
+    requires live { AreLive T.kind wires.now live.old (states (map P.shown places.old)) }
+    ensures ends { PartEnds (stage_apply T.kind P.keeps)
         (stage_of wires.now (map P.shown places.old) count.old)
         (flat_map (port_events part) (wired_ports wires.now))
         result (stage_of wires.now (map P.shown places.new) count.new) }
+    ensures live { AreLive T.kind wires.now live.new (states (map P.shown places.new)) }
 {
-    let of_switches = walk_switches(wires, places, count, part)?;
-    let of_terminals = walk_terminals(wires, places, count, part)?;
+    let of_switches = walk_switches(wires, places, live, count, part)?;
+    let of_terminals = walk_terminals(wires, places, live, count, part)?;
     Ok(of_switches | of_terminals)
 }
 
@@ -45,21 +50,26 @@ pub fn walk_ports<T: TokenKind, P: Place<T>>(
 fn walk_switches<T: TokenKind, P: Place<T>>(
     wires: &Wires,
     places: &mut [P],
+    live: &mut LivePlaces,
     count: &mut u64,
     part: PortPart,
 ) -> Result<bool, EventFault>
     requires knows { KnowWires wires.now (bases (map P.shown places.old)) }
-    ensures { PartEnds (stage_apply T.kind P.keeps)
+    requires live { AreLive T.kind wires.now live.old (states (map P.shown places.old)) }
+    ensures ends { PartEnds (stage_apply T.kind P.keeps)
         (stage_of wires.now (map P.shown places.old) count.old)
         (flat_map (port_events part)
         (flat_map (wired_links wires.now) (range_with_len 0 (length wires.now.switches))))
         result (stage_of wires.now (map P.shown places.new) count.new) }
+    ensures live { AreLive T.kind wires.now live.new (states (map P.shown places.new)) }
 {
     let mut changed = false;
     let switches = wires.switch_count();
-    for switch in 0..switches {
-        let done = walk_links(wires, places, count, part, switch)?;
+    let mut from = 0;
+    while let Some(switch) = live.next(from, switches) {
+        let done = walk_links(wires, places, live, count, part, switch)?;
         changed |= done;
+        from = switch + 1;
     }
     Ok(changed)
 }
@@ -69,21 +79,25 @@ fn walk_switches<T: TokenKind, P: Place<T>>(
 fn walk_links<T: TokenKind, P: Place<T>>(
     wires: &Wires,
     places: &mut [P],
+    live: &mut LivePlaces,
     count: &mut u64,
     part: PortPart,
     switch: usize,
 ) -> Result<bool, EventFault>
     requires knows { KnowWires wires.now (bases (map P.shown places.old)) }
     requires switch { switch < length wires.now.switches }
-    ensures { PartEnds (stage_apply T.kind P.keeps)
+    requires live { AreLive T.kind wires.now live.old (states (map P.shown places.old)) }
+    requires here { is_live live.old switch ≡ true }
+    ensures ends { PartEnds (stage_apply T.kind P.keeps)
         (stage_of wires.now (map P.shown places.old) count.old)
         (flat_map (port_events part) (wired_links wires.now switch))
         result (stage_of wires.now (map P.shown places.new) count.new) }
+    ensures live { AreLive T.kind wires.now live.new (states (map P.shown places.new)) }
 {
     let mut changed = false;
     let mut from = 0;
     while let Some(link) = next_link(wires, places, part, switch, from) {
-        let done = try_at(wires, places, count, part, Port::Switch(switch, link))?;
+        let done = try_at(wires, places, live, count, part, Port::Switch(switch, link))?;
         changed |= done;
         from = link + 1;
     }
@@ -119,22 +133,45 @@ fn next_link<T: TokenKind, P: Place<T>>(
 fn walk_terminals<T: TokenKind, P: Place<T>>(
     wires: &Wires,
     places: &mut [P],
+    live: &mut LivePlaces,
     count: &mut u64,
     part: PortPart,
 ) -> Result<bool, EventFault>
     requires knows { KnowWires wires.now (bases (map P.shown places.old)) }
-    ensures { PartEnds (stage_apply T.kind P.keeps)
+    requires live { AreLive T.kind wires.now live.old (states (map P.shown places.old)) }
+    ensures ends { PartEnds (stage_apply T.kind P.keeps)
         (stage_of wires.now (map P.shown places.old) count.old)
         (flat_map (port_events part) (wired_terminals wires.now))
         result (stage_of wires.now (map P.shown places.new) count.new) }
+    ensures live { AreLive T.kind wires.now live.new (states (map P.shown places.new)) }
 {
     let mut changed = false;
-    let terminals = wires.terminal_count();
-    for terminal in 0..terminals {
-        let done = try_terminal(wires, places, count, part, terminal)?;
+    let mut from = 0;
+    while let Some(terminal) = next_terminal(wires, live, from) {
+        let done = try_terminal(wires, places, live, count, part, terminal)?;
         changed |= done;
+        from = terminal + 1;
     }
     Ok(changed)
+}
+
+/// The next terminal, from this one on, at which something may begin.
+#[inline(always)]
+pub fn next_terminal(wires: &Wires, live: &LivePlaces, from: usize) -> Option<usize>
+    requires { from ≤ length wires.now.terminals }
+    ensures passed { (t : ℕ) → from ≤ t → t < unwrap_or result (length wires.now.terminals) →
+        is_live live.now (terminal_place wires.now t) ≡ false }
+    ensures found { IfSome result (λ t. (from ≤ t) × (t < length wires.now.terminals)) }
+    ensures live { IfSome result (λ t. is_live live.now (terminal_place wires.now t) ≡ true) }
+{
+    // The proof reads here what every plan keeps.
+    let _plan = wires.plan();
+    let switches = wires.switch_count();
+    let end = switches + wires.terminal_count();
+    match live.next(switches + from, end) {
+        Some(place) => Some(place - switches),
+        None => None,
+    }
 }
 
 /// The event of a part at a terminal, if it is wired.
@@ -142,16 +179,20 @@ fn walk_terminals<T: TokenKind, P: Place<T>>(
 fn try_terminal<T: TokenKind, P: Place<T>>(
     wires: &Wires,
     places: &mut [P],
+    live: &mut LivePlaces,
     count: &mut u64,
     part: PortPart,
     terminal: usize,
 ) -> Result<bool, EventFault>
     requires knows { KnowWires wires.now (bases (map P.shown places.old)) }
     requires terminal { terminal < length wires.now.terminals }
-    ensures { PartEnds (stage_apply T.kind P.keeps)
+    requires live { AreLive T.kind wires.now live.old (states (map P.shown places.old)) }
+    requires here { is_live live.old (terminal_place wires.now terminal) ≡ true }
+    ensures ends { PartEnds (stage_apply T.kind P.keeps)
         (stage_of wires.now (map P.shown places.old) count.old)
         (wired_events wires.now part (port.Terminal terminal))
         result (stage_of wires.now (map P.shown places.new) count.new) }
+    ensures live { AreLive T.kind wires.now live.new (states (map P.shown places.new)) }
 {
     if !wires.is_linked(terminal) {
         return Ok(false);
@@ -159,7 +200,7 @@ fn try_terminal<T: TokenKind, P: Place<T>>(
     if !is_ready(wires, places, part, terminal) {
         return Ok(false);
     }
-    try_at(wires, places, count, part, Port::Terminal(terminal))
+    try_at(wires, places, live, count, part, Port::Terminal(terminal))
 }
 
 /// Whether a wired terminal is ready for its event of a part. It has no input.
@@ -191,6 +232,7 @@ fn is_ready<T: TokenKind, P: Place<T>>(
 fn try_at<T: TokenKind, P: Place<T>>(
     wires: &Wires,
     places: &mut [P],
+    live: &mut LivePlaces,
     count: &mut u64,
     part: PortPart,
     port: Port,
@@ -198,14 +240,18 @@ fn try_at<T: TokenKind, P: Place<T>>(
     requires knows { KnowWires wires.now (bases (map P.shown places.old)) }
     requires wired { wired_fault wires.now port ≡ None }
     requires ready { IsNearReady T.kind part (states (map P.shown places.old)) (port_place wires.now port) port }
-    ensures { PartEnds (stage_apply T.kind P.keeps)
+    requires live { AreLive T.kind wires.now live.old (states (map P.shown places.old)) }
+    requires here { is_live live.old (port_place wires.now port) ≡ true }
+    ensures ends { PartEnds (stage_apply T.kind P.keeps)
         (stage_of wires.now (map P.shown places.old) count.old) (port_events part port)
         result (stage_of wires.now (map P.shown places.new) count.new) }
+    ensures live { AreLive T.kind wires.now live.new (states (map P.shown places.new)) }
+    ensures grown { (k : ℕ) → is_live live.old k ≡ true → is_live live.new k ≡ true }
 {
     match part {
-        PortPart::Credit => attempt_joint(wires, places, count, port, Crossing::Grant),
-        PortPart::Cross => attempt_joint(wires, places, count, port, Crossing::Token),
-        PortPart::Turn => try_turn(wires, places, count, port),
+        PortPart::Credit => attempt_joint(wires, places, live, count, port, Crossing::Grant),
+        PortPart::Cross => attempt_joint(wires, places, live, count, port, Crossing::Token),
+        PortPart::Turn => try_turn(wires, places, live, count, port),
     }
 }
 
@@ -214,13 +260,17 @@ fn try_at<T: TokenKind, P: Place<T>>(
 fn try_turn<T: TokenKind, P: Place<T>>(
     wires: &Wires,
     places: &mut [P],
+    live: &LivePlaces,
     count: &mut u64,
     port: Port,
 ) -> Result<bool, EventFault>
     requires wired { wired_fault wires.now port ≡ None }
-    ensures { PartEnds (stage_apply T.kind P.keeps)
+    requires live { AreLive T.kind wires.now live.now (states (map P.shown places.old)) }
+    requires here { is_live live.now (port_place wires.now port) ≡ true }
+    ensures ends { PartEnds (stage_apply T.kind P.keeps)
         (stage_of wires.now (map P.shown places.old) count.old) (turn_at port)
         result (stage_of wires.now (map P.shown places.new) count.new) }
+    ensures live { AreLive T.kind wires.now live.now (states (map P.shown places.new)) }
 {
     match port {
         Port::Switch(switch, link) => attempt_turn(wires, places, count, switch, link),

@@ -1,4 +1,6 @@
 use Rattle.std.proofs.Common.{◌≡◌, Ok, map}
+use Rattle.c104_node.specs.Places.{states}
+use Rattle.c104_run.specs.LivePlaces.{AreLive}
 use Rattle.c104_run.specs.Stages.{stage_apply, stage_of}
 use Rattle.c104_run.specs.EventRuns.{run_events}
 use Rattle.c104_run.specs.Rounds.{rounds}
@@ -6,4 +8,7 @@ use Rattle.c104_run.proofs.rounds.rounds_at.Given as goal
 
 -- the rounds so far are done without a fault
 abbrev pub invariant-loop-round : goal.invariant-loop-round
-invariant-loop-round g l = run_events (stage_apply g.T.TokenKind.kind g.P.Place.keeps) (stage_of l.wires (map g.P.Place.shown l.initial.places) l.initial.count) (rounds l.wires l.round) ≡ (Ok tt, stage_of l.wires (map g.P.Place.shown l.places) l.count)
+invariant-loop-round g l = record {
+  done : run_events (stage_apply g.T.TokenKind.kind g.P.Place.keeps) (stage_of l.wires (map g.P.Place.shown l.initial.places) l.initial.count) (rounds l.wires l.round) ≡ (Ok tt, stage_of l.wires (map g.P.Place.shown l.places) l.count);
+  live : AreLive g.T.TokenKind.kind l.wires l.live (states (map g.P.Place.shown l.places));
+}

@@ -3,5 +3,5 @@ use Rattle.c104_run.specs.Rounds.{wired_ports}
 use Rattle.c104_run.proofs.RoundJoins.{of_events}
 use Rattle.c104_run.proofs.rounds.parts.credit_ports.Goals as goal
 
-pub returns : goal.returns
-returns g c = of_events _ event.Credit (wired_ports c.args.wires.now) _ _ _ c.walk_ports.ensures
+pub returns-clause-ends : goal.returns-clause-ends
+returns-clause-ends g c = of_events _ event.Credit (wired_ports c.args.wires.now) _ _ _ c.walk_ports.ensures.ends

@@ -1,6 +1,8 @@
-use Rattle.std.proofs.Common.{◌-◌, ◌≤◌, take, Ok, map}
+use Rattle.std.proofs.Common.{◌≡◌, ◌-◌, ◌≤◌, true, take, Ok, map}
 use Rattle.std.specs.List.{flat_map, range_with_len}
 use Rattle.c104_plan.specs.declared.ports.Port.TheVariants as port
+use Rattle.c104_node.specs.Places.{states}
+use Rattle.c104_run.specs.LivePlaces.{AreLive, is_live}
 use Rattle.c104_run.specs.Stages.{stage_apply, stage_of}
 use Rattle.c104_run.specs.RoundParts.{PartEnds}
 use Rattle.c104_run.proofs.PortWalks.{wired_by}
@@ -11,6 +13,8 @@ abbrev pub invariant-loop-link : goal.invariant-loop-link
 invariant-loop-link g l = record {
   ends : PartEnds (stage_apply g.T.TokenKind.kind g.P.Place.keeps) (stage_of l.wires (map g.P.Place.shown l.initial.places) l.initial.count) (flat_map (wired_by l.wires l.part (port.Switch l.switch)) (take l.from (range_with_len 0 32))) (Ok l.changed) (stage_of l.wires (map g.P.Place.shown l.places) l.count);
   within : l.from ≤ 32;
+  live : AreLive g.T.TokenKind.kind l.wires l.live (states (map g.P.Place.shown l.places));
+  here : is_live l.live l.switch ≡ true;
 }
 
 abbrev pub decreases-loop-link : goal.decreases-loop-link

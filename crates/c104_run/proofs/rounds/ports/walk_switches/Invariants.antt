@@ -1,5 +1,7 @@
-use Rattle.std.proofs.Common.{length, take, Ok, map}
+use Rattle.std.proofs.Common.{◌-◌, ◌≤◌, length, take, Ok, map}
 use Rattle.std.specs.List.{flat_map, range_with_len}
+use Rattle.c104_node.specs.Places.{states}
+use Rattle.c104_run.specs.LivePlaces.{AreLive}
 use Rattle.c104_run.specs.Stages.{stage_apply, stage_of}
 use Rattle.c104_run.specs.RoundParts.{PartEnds}
 use Rattle.c104_run.proofs.PortWalks.{of_switch}
@@ -7,4 +9,11 @@ use Rattle.c104_run.proofs.rounds.ports.walk_switches.Given as goal
 
 -- the events so far
 abbrev pub invariant-loop-switch : goal.invariant-loop-switch
-invariant-loop-switch g l = PartEnds (stage_apply g.T.TokenKind.kind g.P.Place.keeps) (stage_of l.wires (map g.P.Place.shown l.initial.places) l.initial.count) (flat_map (of_switch l.wires l.part) (take l.switch (range_with_len 0 (length l.wires.switches)))) (Ok l.changed) (stage_of l.wires (map g.P.Place.shown l.places) l.count)
+invariant-loop-switch g l = record {
+  ends : PartEnds (stage_apply g.T.TokenKind.kind g.P.Place.keeps) (stage_of l.wires (map g.P.Place.shown l.initial.places) l.initial.count) (flat_map (of_switch l.wires l.part) (take l.from (range_with_len 0 (length l.wires.switches)))) (Ok l.changed) (stage_of l.wires (map g.P.Place.shown l.places) l.count);
+  live : AreLive g.T.TokenKind.kind l.wires l.live (states (map g.P.Place.shown l.places));
+  within : l.from ≤ length l.wires.switches;
+}
+
+abbrev pub decreases-loop-switch : goal.decreases-loop-switch
+decreases-loop-switch g l = length l.wires.switches - l.from

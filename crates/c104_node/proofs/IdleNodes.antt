@@ -1,0 +1,153 @@
+-- A node at which nothing of a round can begin, by what is asked of it; and what acts of other nodes leave there.
+use Rattle.std.proofs.Common.{◌≡◌, ◌≢◌, ◌∙◌, ◌<◌, ◌&&◌, not, ℕ, Bool, true, false, List, Option, Some, None, Result, Ok, Err, is_some, nat_lt, slice_get, slice_set, refl, sym, ap, subst, arith}
+use Rattle.std.proofs.lemmas.Bool.Decides.{nat_tests}
+use Rattle.c104_crossbar.specs.Groups.{has_bit}
+use Rattle.c104_token.specs.Kinds.{Kind}
+use Rattle.c104_link.specs.Steps.{◌>>=◌, step_at}
+use Rattle.c104_link.proofs.MadeSteps.{from_place_made}
+use Rattle.c104_switch.specs.Switch.{Switch as State, switch_credit_out, switch_leave}
+use Rattle.c104_switch.specs.Turns.{switch_input}
+use Rattle.c104_switch.specs.Claims.{switch_claim, IsNextLink}
+use Rattle.c104_switch.specs.declared.actions.ReplyOf.{ReplyOf}
+use Rattle.c104_event.specs.declared.faults.EventFault.{EventFault}
+use Rattle.c104_node.specs.declared.acts.ActOf.{ActOf}
+use Rattle.c104_node.specs.declared.crossings.Joint.{Joint}
+use Rattle.c104_node.specs.declared.node.NodeOf.TheVariants as node
+use Rattle.c104_node.specs.declared.port_part.PortPart.{PortPart}
+use Rattle.c104_node.specs.declared.port_part.PortPart.TheVariants.{Credit, Cross, Turn}
+use Rattle.c104_node.specs.declared.stamps.Stamp.{Stamp}
+use Rattle.c104_node.specs.Acts.{done_by, node_act, nodes_act, reply_outcome, token_by}
+use Rattle.c104_node.specs.Idle.{IsIdleNode}
+use Rattle.c104_node.specs.Nodes.{Node, as_switch, as_terminal, node_claim}
+use Rattle.c104_node.specs.PlaceActs.{ActsEnd, AloneDone, JointDone}
+use Rattle.c104_node.specs.Places.{Shown, states}
+use Rattle.c104_node.specs.PortActs.{far_act, joint_step, near_act}
+use Rattle.c104_node.specs.PortParts.{is_node_ready, is_ready_at}
+use Rattle.c104_node.specs.Records.{has_link}
+use Rattle.c104_node.specs.Terminals.{Terminal, terminal_credit_out, terminal_drain, terminal_leave}
+use Rattle.c104_node.proofs.WireEnds.{get_set_other}
+
+-- what isn't so of a test that was passed over
+first_false : (a b : Bool) → (a && b) ≡ false → b ≡ true → a ≡ false
+first_false true b none is = absurd (let no : true ≡ false = sym is ∙ none in cc)
+first_false false b none is = refl
+
+-- a link of a set is one below 32 whose bit is set
+link_inside : (set l : ℕ) → has_link set l ≡ true → (l < 32) × (has_bit set l ≡ true)
+link_inside set l is = by_test (nat_lt l 32) refl is
+  where
+    by_test : (b : Bool) → nat_lt l 32 ≡ b → (b && has_bit set l) ≡ true → (l < 32) × (has_bit set l ≡ true)
+    by_test true below is = (grind (arith, nat_tests), is)
+    by_test false below is = absurd (cc)
+
+-- what a test says of its opposite
+pub opposite : (b : Bool) → not b ≡ true → b ≡ false
+opposite true is = absurd (cc)
+opposite false is = refl
+
+none_is : {X : Type 0} (o : Option X) → is_some o ≡ false → o ≡ None
+none_is None is = refl
+none_is (Some x) is = absurd (cc)
+
+module _ {A : Type 0} (kind : Kind A) where
+  -- a switch of which no link that is asked is ready, and no input wants an output
+  pub idle_switch : (s : State A) (wired : ℕ) → IsNextLink (λ l. is_some (switch_credit_out s l) && has_bit wired l) 0 None → IsNextLink (λ l. is_some (switch_leave s l) && has_bit wired l) 0 None →
+      ((l word : ℕ) → l < 32 → has_bit wired l ≡ true → switch_input kind s l word ≡ None) → ((i o : ℕ) → i < 32 → switch_claim s i o ≡ None) → IsIdleNode kind (has_link wired) (node.Switch s)
+  idle_switch s wired granting leaving turning wanting = record {
+    links = λ part l is. by_part part l (link_inside wired l is);
+    claims = λ i o inside. by_claim i o (wanting i o inside);
+    grants = refl;
+    leaves = refl;
+    drains = λ number. refl;
+  }
+    where
+      by_claim : (i o : ℕ) → switch_claim s i o ≡ None → node_claim i o (node.Switch s) ≡ None
+      by_claim i o none = ap (λ (made : Option (State A)). made >>= as_switch) none
+
+      by_part : (part : PortPart) (l : ℕ) → (l < 32) × (has_bit wired l ≡ true) → is_node_ready kind part l (node.Switch s) ≡ false
+      by_part Credit l inside = let none : switch_credit_out s l ≡ None = none_is (switch_credit_out s l) (first_false _ _ (granting.0 l (omega arith) inside.0) inside.1) in ap (λ (made : Option (State A)). is_some (done_by {A = A} (made >>= as_switch))) none
+      by_part Cross l inside = let none : switch_leave s l ≡ None = none_is (switch_leave s l) (first_false _ _ (leaving.0 l (omega arith) inside.0) inside.1) in ap (λ (made : Option (A × State A)). is_some (token_by (made >>= (λ r. Some (r.0, node.Switch r.1))))) none
+      by_part Turn l inside = let none : switch_input kind s l 0 ≡ None = turning l 0 inside.0 inside.1 in ap (λ (made : Option (State A)). is_some (done_by {A = A} (made >>= as_switch))) none
+
+  -- a terminal that neither grants nor sends, and at which nothing arrives
+  pub idle_terminal : (t : Terminal A) (wired : ℕ) → is_some (terminal_credit_out t) ≡ false → is_some (terminal_leave t) ≡ false → is_some (terminal_drain t) ≡ false → IsIdleNode kind (has_link wired) (node.Terminal t)
+  idle_terminal t wired granting leaving draining = record {
+    links = λ part l is. by_part part l;
+    claims = λ i o inside. refl;
+    grants = ap (λ (made : Option (Terminal A)). is_some (done_by {A = A} (made >>= as_terminal))) (none_is (terminal_credit_out t) granting);
+    leaves = ap (λ (made : Option (A × Terminal A)). is_some (token_by (made >>= (λ r. Some (r.0, node.Terminal r.1))))) (none_is (terminal_leave t) leaving);
+    drains = λ number. ap (λ (made : Option (A × Terminal A)). is_some (token_by (made >>= (λ r. Some (r.0, node.Terminal r.1))))) (none_is (terminal_drain t) draining);
+  }
+    where
+      by_part : (part : PortPart) (l : ℕ) → is_node_ready kind part l (node.Terminal t) ≡ false
+      by_part Credit l = refl
+      by_part Cross l = refl
+      by_part Turn l = refl
+
+  -- the same links, told in another way
+  pub idle_by : (n : Node A) (wired others : ℕ → Bool) → ((l : ℕ) → wired l ≡ others l) → IsIdleNode kind wired n → IsIdleNode kind others n
+  idle_by n wired others same idle = record {
+    links = λ part l is. idle.links part l (same l ∙ is);
+    claims = idle.claims;
+    grants = idle.grants;
+    leaves = idle.leaves;
+    drains = idle.drains;
+  }
+
+  -- what no node there does is not ready there
+  module _ (nodes : List (Node A)) (k : ℕ) where
+    pub unready_there : (number : ℕ) (a : ActOf A) → ((n : Node A) → slice_get nodes k ≡ Some n → is_some (node_act kind number a n) ≡ false) → is_some (nodes_act kind nodes k number a) ≡ false
+    unready_there number a none = by_node (slice_get nodes k) refl
+      where
+        by_made : (made : Option (ReplyOf A × Node A)) → is_some made ≡ false → is_some {T = ReplyOf A × List (Node A)} (made >>= (λ y. Some (y.0, slice_set nodes k y.1))) ≡ false
+        by_made None is = refl
+        by_made (Some y) is = absurd (cc)
+
+        by_node : (o : Option (Node A)) → slice_get nodes k ≡ o → is_some (nodes_act kind nodes k number a) ≡ false
+        by_node None is = rw is refl
+        by_node (Some n) is = rw is (by_made (node_act kind number a n) (none n is))
+
+    pub unclaimed_there : (i o : ℕ) → ((n : Node A) → slice_get nodes k ≡ Some n → node_claim i o n ≡ None) → step_at nodes k (node_claim i o) ≡ None
+    unclaimed_there i o none = by_node (slice_get nodes k) refl
+      where
+        by_node : (found : Option (Node A)) → slice_get nodes k ≡ found → step_at nodes k (node_claim i o) ≡ None
+        by_node None is = rw is refl
+        by_node (Some n) is = rw (is, none n is) refl
+
+  -- acts change no other node than those that do them
+  act_frame : (nodes : List (Node A)) (k number : ℕ) (a : ActOf A) (r : ReplyOf A × List (Node A)) → nodes_act kind nodes k number a ≡ Some r → (j : ℕ) → j ≢ k → slice_get r.1 j ≡ slice_get nodes j
+  act_frame nodes k number a r is j other =
+      from_place_made nodes k (node_act kind number a) r is (λ n y here made set.
+      ap (λ (z : ReplyOf A × List (Node A)). slice_get z.1 j) (sym set) ∙ get_set_other nodes k j y.1 (λ same. other (sym same)))
+
+  joint_frame : (nodes : List (Node A)) (near far : ℕ) (joint : Joint) (r : ReplyOf A × List (Node A)) → joint_step kind near far joint.near joint.far joint.crossing nodes ≡ Some r → (j : ℕ) → j ≢ near → j ≢ far → slice_get r.1 j ≡ slice_get nodes j
+  joint_frame nodes near far joint r is j from to = by_near (nodes_act kind nodes near 0 (near_act joint.crossing joint.near)) refl is
+    where
+      by_far : (v : ReplyOf A × List (Node A)) → slice_get v.1 j ≡ slice_get nodes j → (came : Option (ReplyOf A × List (Node A))) → nodes_act kind v.1 far 0 (far_act joint.far v.0) ≡ came →
+          (came >>= (λ s. Some (v.0, s.1))) ≡ Some r → slice_get r.1 j ≡ slice_get nodes j
+      by_far v first None came is = absurd (cc)
+      by_far v first (Some w) came is =
+          let both : ◌≡◌ {A = ReplyOf A × List (Node A)} (v.0, w.1) r = cc in
+          ap (λ (z : ReplyOf A × List (Node A)). slice_get z.1 j) (sym both) ∙ act_frame v.1 far 0 (far_act joint.far v.0) w came j to ∙ first
+
+      by_near : (gone : Option (ReplyOf A × List (Node A))) → nodes_act kind nodes near 0 (near_act joint.crossing joint.near) ≡ gone →
+          (gone >>= (λ v. nodes_act kind v.1 far 0 (far_act joint.far v.0) >>= (λ s. Some (v.0, s.1)))) ≡ Some r → slice_get r.1 j ≡ slice_get nodes j
+      by_near None gone is = absurd (cc)
+      by_near (Some v) gone is = by_far v (act_frame nodes near 0 (near_act joint.crossing joint.near) v gone j from) (nodes_act kind v.1 far 0 (far_act joint.far v.0)) refl is
+
+  -- and so it is of acts however they end
+  ended_frame : (limit : Option EventFault) (made : Option (ReplyOf A × List (Node A))) (full : Bool) (nodes after : List (Node A)) (answer : Result (ReplyOf A) EventFault) (j : ℕ) → ((r : ReplyOf A × List (Node A)) → made ≡ Some r → slice_get r.1 j ≡ slice_get nodes j) →
+      ActsEnd limit made full nodes answer after → slice_get after j ≡ slice_get nodes j
+  ended_frame limit None full nodes after (Ok told) j frame ends = ap (λ (z : ReplyOf A × List (Node A)). slice_get z.1 j) ends.0
+  ended_frame limit (Some r) full nodes after (Ok told) j frame ends = ap (λ (z : ReplyOf A × List (Node A)). slice_get z.1 j) ends.0 ∙ frame r refl
+  ended_frame limit made full nodes after (Err f) j frame ends = ap (λ ns. slice_get ns j) ends.2
+
+  module _ (keeps : Bool) (stamp : Stamp) (olds news : List (Shown A)) (answer : Result (ReplyOf A) EventFault) (j : ℕ) where
+    abbrev Stays : Type 0
+    Stays = slice_get (states news) j ≡ slice_get (states olds) j
+
+    pub alone_stays : (k number : ℕ) (a : ActOf A) → AloneDone kind keeps k number stamp a olds answer news → j ≢ k → Stays
+    alone_stays k number a done other = ended_frame _ _ _ (states olds) (states news) answer j (λ r made. act_frame (states olds) k number a r made j other) done.ends
+
+    pub joint_stays : (near far : ℕ) (joint : Joint) → JointDone kind keeps near far joint stamp olds answer news → j ≢ near → j ≢ far → Stays
+    joint_stays near far joint done from to = ended_frame _ _ _ (states olds) (states news) answer j (λ r made. joint_frame (states olds) near far joint r made j from to) done.ends

@@ -1,0 +1,77 @@
+-- Sets of places: what a change of one place changes, and what is passed over; and what they say of nodes.
+use Rattle.std.proofs.Common.{zero, suc, ◌≡◌, ◌≢◌, ◌∙◌, ◌+◌, ◌-◌, ◌*◌, ◌/◌, ◌%◌, ◌<◌, ◌≤◌, ◌||◌, ◌&&◌, ◌∷◌, [], ℕ, Bool, true, false, List, Option, Some, None, Result, get_or, length, map, nat_le, replicate, slice_get, slice_set, unwrap_or, refl, sym, ap, subst, inl, inr, arith}
+use Rattle.std.proofs.lemmas.Bool.{cases_eq, cases_lt}
+use Rattle.std.proofs.lemmas.Bool.Decides.{nat_tests}
+use Rattle.std.proofs.lemmas.List.{get_or-set_other, get_or-set_same}
+use Rattle.c104_crossbar.specs.Groups.{has_bit}
+use Rattle.c104_switch.specs.Claims.{IsNextLink}
+use Rattle.c104_run.specs.LivePlaces.{is_live}
+
+pub get_or-replicated : {X : Type 0} (n i : ℕ) (x d : X) → i < n → get_or (replicate n x) i d ≡ x
+get_or-replicated zero i x d inside = absurd (omega arith)
+get_or-replicated (suc n) zero x d inside = refl
+get_or-replicated (suc n) (suc i) x d inside = get_or-replicated n i x d (omega arith)
+
+-- what is read inside a list hangs on no default
+pub get_or-inside : {X : Type 0} (xs : List X) (i : ℕ) (a b : X) → i < length xs → get_or xs i a ≡ get_or xs i b
+get_or-inside [] i a b inside = absurd (omega arith)
+get_or-inside (x ∷ xs) zero a b inside = refl
+get_or-inside (x ∷ xs) (suc i) a b inside = get_or-inside xs i a b (omega arith)
+
+module _ (blocks : List ℕ) where
+  -- a place that is told apart is one of the set as its bit says
+  pub told_by : (k : ℕ) → k < 320 → is_live blocks k ≡ has_bit (get_or blocks (k / 32) 0) (k % 32)
+  told_by k below = let past : nat_le 320 k ≡ false = grind (arith, nat_tests) in rw past refl
+
+  pub told_past : (k : ℕ) → 320 ≤ k → is_live blocks k ≡ true
+  told_past k past = let is : nat_le 320 k ≡ true = grind (arith, nat_tests) in rw is refl
+
+  -- all places are of a set that has all bits
+  pub all_told : ((b l : ℕ) → b < 10 → l < 32 → has_bit (get_or blocks b 0) l ≡ true) → (k : ℕ) → is_live blocks k ≡ true
+  all_told all k = elim (cases_lt k 320) [
+    | inl below ↦ told_by k below ∙ all (k / 32) (k % 32) (omega arith) (omega arith)
+    | inr past ↦ told_past k past
+  ]
+
+  -- a place is put into the set or taken out, and no other changes
+  module _ (counted : length blocks ≡ 10) (place block : ℕ) (inside : place < 320) (b : Bool) (here : has_bit block (place % 32) ≡ b)
+      (others : (l : ℕ) → l < 32 → l ≢ place % 32 → has_bit block l ≡ has_bit (get_or blocks (place / 32) 0) l) where
+    pub changed_here : is_live (slice_set blocks (place / 32) block) place ≡ b
+    changed_here =
+        let past : nat_le 320 place ≡ false = grind (arith, nat_tests) in
+        let at : get_or (slice_set blocks (place / 32) block) (place / 32) 0 ≡ block = get_or-set_same blocks (place / 32) block 0 (omega (arith, counted)) in
+        rw (past, at) here
+
+    pub changed_other : (k : ℕ) → k ≢ place → is_live (slice_set blocks (place / 32) block) k ≡ is_live blocks k
+    changed_other k other = elim (cases_eq (k / 32) (place / 32)) [
+      | inl same ↦
+          let at : get_or (slice_set blocks (place / 32) block) (place / 32) 0 ≡ block = get_or-set_same blocks (place / 32) block 0 (omega (arith, counted)) in
+          let bit : k % 32 ≢ place % 32 = (λ is. other (omega (arith, same, is))) in
+          let low : k % 32 < 32 = omega arith in
+          rw same (rw at (ap (λ c. nat_le 320 k || c) (others (k % 32) low bit)))
+      | inr differs ↦ ap (λ w. nat_le 320 k || has_bit w (k % 32)) (get_or-set_other blocks (place / 32) (k / 32) block 0 differs)
+    ]
+
+  -- of the places of a word those are passed over whose bits are, from one on
+  module _ (at : ℕ) (inside : at < 320) (found : Option ℕ) where
+    abbrev word : ℕ
+    word = get_or blocks (at / 32) 0
+
+    unset : (b : Bool) → (b && b) ≡ false → b ≡ false
+    unset true is = is
+    unset false is = refl
+
+    both : (b : Bool) → (b && b) ≡ true → b ≡ true
+    both true is = refl
+    both false is = is
+
+    pub word_passed : IsNextLink (λ l. has_bit word l && has_bit word l) (at % 32) found → (k : ℕ) → at ≤ k → k < at - at % 32 + unwrap_or found 32 → unwrap_or found 32 ≤ 32 → is_live blocks k ≡ false
+    word_passed next k from below last =
+        let same_word : k / 32 ≡ at / 32 = omega arith in
+        told_by k (omega arith) ∙ ap (λ b. has_bit (get_or blocks b 0) (k % 32)) same_word ∙ unset (has_bit word (k % 32)) (next.0 (k % 32) (omega arith) (omega arith))
+
+    pub word_found : (l : ℕ) → l < 32 → (has_bit word l && has_bit word l) ≡ true → is_live blocks (at - at % 32 + l) ≡ true
+    word_found l below is =
+        let same_word : (at - at % 32 + l) / 32 ≡ at / 32 = omega arith in
+        let same_link : (at - at % 32 + l) % 32 ≡ l = omega arith in
+        told_by (at - at % 32 + l) (omega arith) ∙ ap (λ b. has_bit (get_or blocks b 0) ((at - at % 32 + l) % 32)) same_word ∙ ap (has_bit word) same_link ∙ both (has_bit word l) is

@@ -1,0 +1,22 @@
+-- The places of a network's nodes at which something of a round may begin.
+use Rattle.std.specs.Prelude.{ℕ, ◌≡◌, ◌/◌, ◌%◌, ◌||◌, Bool, false, List, Some, nat_le, slice_get, slice_index_or}
+use Rattle.c104_crossbar.specs.Groups.{has_bit}
+use Rattle.c104_regs.specs.declared.registers.TheConstants.{LINKS}
+use Rattle.c104_token.specs.Kinds.{Kind}
+use Rattle.c104_plan.specs.Plans.{IsPlan, Plan}
+use Rattle.c104_node.specs.Idle.{IsIdleNode}
+use Rattle.c104_node.specs.Nodes.{Node}
+use Rattle.c104_run.specs.KnownWires.{is_linked_end}
+
+-- how many places are told apart
+abbrev pub told_places : ℕ
+told_places = 320
+
+-- whether a place is one of a set, each word of which has 32 places; any further place counts as one of it
+abbrev pub is_live : List ℕ → ℕ → Bool
+is_live blocks k = nat_le told_places k || has_bit (slice_index_or blocks (k / LINKS) 0) (k % LINKS)
+
+-- a place that isn't one of the set has a node at which nothing of a round can begin, or none
+pub record AreLive {A : Type 0} (kind : Kind A) (plan : Plan) (blocks : List ℕ) (nodes : List (Node A)) : Type 0 where
+  pub planned : IsPlan plan
+  pub idle : (k : ℕ) (n : Node A) → is_live blocks k ≡ false → slice_get nodes k ≡ Some n → IsIdleNode kind (is_linked_end plan k) n

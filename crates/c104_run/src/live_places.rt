@@ -1,0 +1,89 @@
+//! Which places of a network may begin something of a round.
+ghost use Rattle.std.specs.Prelude.{◌≡◌, ◌≢◌, ◌<◌, ◌≤◌, ◌⊎◌, ℕ, false, true, unwrap_or, IfSome};
+ghost use Rattle.c104_run.specs.LivePlaces.{is_live};
+
+use c104_switch::{LINKS, LinkSet};
+use std::marker::Model;
+
+/// How many words a set has: there is a bit for each place of the largest plan, with 64 switches and 256 terminals.
+const BLOCKS: usize = 10;
+
+/// How many places are told apart.
+const PLACES: usize = 320;
+
+/// A set of places, the switches of a plan in order and then its terminals. A place past the last of the largest plan
+/// counts as one of it.
+///
+/// Rounds keep in it the places at which something may begin: what isn't in it is passed over and not asked.
+#[derive(Drop)]
+pub struct LivePlaces {
+    // Place k has bit k % 32 of word k / 32.
+    blocks: [LinkSet; BLOCKS],
+}
+
+impl Model for LivePlaces {
+    ghost use Rattle.std.specs.Prelude.{◌≡◌, List, length, ℕ};
+
+    ghost Value = { List ℕ };
+
+    ghost view = { λ live. live.blocks };
+
+    ghost invariant = { λ live. length live.blocks ≡ 10 };
+}
+
+impl LivePlaces {
+    /// The set of all places.
+    pub fn all() -> Self
+        ensures { (k : ℕ) → is_live result k ≡ true }
+    {
+        LivePlaces {
+            blocks: [LinkSet::all(); BLOCKS],
+        }
+    }
+
+    /// Puts a place into the set.
+    #[inline(always)]
+    pub fn add(&mut self, place: usize)
+        ensures here { is_live self.new place ≡ true }
+        ensures others { (k : ℕ) → k ≢ place → is_live self.new k ≡ is_live self.old k }
+    {
+        if place >= PLACES {
+            return;
+        }
+        let block = &mut self.blocks[place / LINKS];
+        block.set(place % LINKS, true);
+    }
+
+    /// Takes a place out of the set, if it is told apart.
+    pub fn remove(&mut self, place: usize)
+        ensures { (k : ℕ) → k ≢ place → is_live self.new k ≡ is_live self.old k }
+    {
+        if place >= PLACES {
+            return;
+        }
+        let block = &mut self.blocks[place / LINKS];
+        block.set(place % LINKS, false);
+    }
+
+    /// The next place of the set, from this one on and below another.
+    #[inline(always)]
+    pub fn next(&self, from: usize, below: usize) -> Option<usize>
+        ensures passed { (k : ℕ) → from ≤ k → k < unwrap_or result below → is_live self.now k ≡ false }
+        ensures found { IfSome result (λ k. (from ≤ k) × (k < below) × (is_live self.now k ≡ true)) }
+    {
+        let mut at = from;
+        while at < below {
+            if at >= PLACES {
+                return Some(at);
+            }
+            let block = self.blocks[at / LINKS];
+            let first = at - at % LINKS;
+            match block.next(at % LINKS, block) {
+                Some(link) if first + link < below => return Some(first + link),
+                Some(_) => return None,
+                None => at = first + LINKS,
+            }
+        }
+        None
+    }
+}
