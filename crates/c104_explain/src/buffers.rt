@@ -3,7 +3,7 @@
 use c104_net::{Origin, TaggedToken, TracedNet, WaitingTokens};
 use c104_plan::Port;
 use c104_switch::{LINKS, Phase};
-use c104_token::Token;
+use c104_token::{Token, TokenKind};
 
 /// The most tokens that an input or an output holds.
 pub(crate) const BUFFER_LIMIT: usize = 64;
@@ -60,8 +60,7 @@ fn find_in_switch(net: &TracedNet, switch: usize, packet: Origin) -> Option<(Buf
 fn end_in(net: &TracedNet, buffer: Buffer, packet: Origin) -> Option<usize> {
     for index in 0..BUFFER_LIMIT {
         let token = token_at(net, buffer, index)?;
-        let is_there = token.terminal as usize == packet.terminal
-            && token.number as usize == packet.number;
+        let is_there = token.terminal() == packet.terminal && token.number() == packet.number;
         if is_end(&token) && is_there {
             return Some(index);
         }
@@ -93,7 +92,7 @@ pub(crate) fn last_run(net: &TracedNet, buffer: Buffer, count: usize) -> Run {
 
 /// Whether a token ends a packet.
 fn is_end(token: &TaggedToken) -> bool {
-    !matches!(token.token, Token::Byte(_))
+    !matches!(token.plain(), Token::Byte(_))
 }
 
 /// The token at this index of a buffer.

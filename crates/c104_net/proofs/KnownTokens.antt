@@ -77,7 +77,7 @@ known_random token.Eop = known_sent 0 0 0 token.Eop
 known_random token.Eom = known_sent 0 0 0 token.Eom
 
 abbrev known_kind : Kind Known
-known_kind = record { plain = λ x. x.0.token; random = λ place x. known_random x; sent = known_sent }
+known_kind = record { plain = λ x. x.0.token; byte = λ x. None; random = λ place x. known_random x; sent = known_sent }
 
 plain_known : (x : Known) → traced_kind.plain (known_of x) ≡ known_kind.plain x
 plain_known x = refl

@@ -40,6 +40,7 @@ sure_random token.Eom = (sent_token 0 0 0 token.Eom, sure_sent 0 0 0 token.Eom)
 abbrev sure_kind : Kind Sure
 sure_kind = record {
   plain = λ x. x.0.token;
+  byte = λ x. None;
   random = λ place x. sure_random x;
   sent = λ terminal number place x. (sent_token terminal number place x, sure_sent terminal number place x);
 }

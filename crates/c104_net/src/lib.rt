@@ -20,7 +20,7 @@ mod work;
 
 pub use c104_event::{Event, EventFault, Port};
 pub use c104_node::{
-    Act, ActOf, Entry, Node, NodeStart, Origin, SentPacket, Source, Stamp, TaggedToken,
+    Act, ActOf, ArrivedOf, Entry, Node, NodeStart, Origin, SentPacket, Source, Stamp, TaggedToken,
     TerminalStart, TerminalView, Traced, all_started, origin_of, origins_of,
 };
 pub use c104_run::{

@@ -11,7 +11,7 @@ ghost use Rattle.c104_node.specs.declared.traced.Traced.{Traced as TheTraced};
 use crate::bare_net::NetOf;
 use crate::bare_run::RunOf;
 use crate::replays::replay_all;
-use c104_node::{Origin, Traced, origins_of};
+use c104_node::{ArrivedOf, Origin, Traced, origins_of};
 use c104_run::Run;
 use c104_token::NoMemory;
 use std::alloc::Global;
@@ -71,7 +71,15 @@ fn origins_at(alloc: Global, run: &RunOf<Traced>) -> Result<Vec<Vec<Origin>>, No
     let mut lists = Vec::new(alloc);
     let terminals = run.terminals.as_slice();
     for terminal in terminals {
-        lists.push(origins_of(alloc, terminal.arrived())?)?;
+        lists.push(arrived_origins(alloc, terminal.arrived())?)?;
     }
     Ok(lists)
+}
+
+/// The origins of what arrived at a terminal. The only error is out of memory.
+fn arrived_origins(alloc: Global, arrived: &ArrivedOf<Traced>) -> Result<Vec<Origin>, NoMemory>
+    ensures { IfOk result (λ list. list.items ≡ origins_in arrived.now) }
+{
+    let tokens = arrived.to_list(alloc)?;
+    origins_of(alloc, tokens.as_slice())
 }

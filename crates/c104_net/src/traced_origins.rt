@@ -6,13 +6,13 @@ ghost use Rattle.c104_node.specs.declared.origins.Origin.{Origin as TheOrigin};
 ghost use Rattle.c104_run.specs.FinishedRecords.{record_finish};
 ghost use Rattle.c104_net.specs.RunOrigins.{AreOrigins};
 ghost use Rattle.std.specs.Prelude.{option_map};
-ghost use Rattle.c104_node.specs.Tagged.{tag};
+ghost use Rattle.c104_node.specs.Tagged.{tag, tagged_origins};
 ghost use Rattle.c104_net.specs.TracedEnds.{traced_end};
 ghost use Rattle.c104_run.specs.NetViews.{network_input_token, network_output_token};
 
 use crate::run_origins::Origins;
 use c104_event::Port;
-use c104_node::{Origin, TaggedToken, tagged_origins};
+use c104_node::{ArrivedOf, Origin, TaggedToken, tagged_origins};
 use c104_run::{TracedNet, input_token_at, output_token_at};
 use c104_token::NoMemory;
 use std::alloc::Global;
@@ -74,9 +74,17 @@ impl Origins for TracedNet {
         let places = self.places();
         for place in places {
             if let Some(arrived) = place.arrived() {
-                lists.push(tagged_origins(alloc, arrived)?)?;
+                lists.push(told_origins(alloc, arrived)?)?;
             }
         }
         Ok(lists)
     }
+}
+
+/// The origins that the terminators among what arrived tell, in order. The only error is out of memory.
+fn told_origins(alloc: Global, arrived: &ArrivedOf<TaggedToken>) -> Result<Vec<Origin>, NoMemory>
+    ensures { IfOk result (λ list. list.items ≡ tagged_origins arrived.now) }
+{
+    let tokens = arrived.to_list(alloc)?;
+    tagged_origins(alloc, tokens.as_slice())
 }

@@ -1,5 +1,5 @@
 -- A node at which nothing of a round can begin, by what is asked of it; and what acts of other nodes leave there.
-use Rattle.std.proofs.Common.{◌≡◌, ◌≢◌, ◌∙◌, ◌<◌, ◌&&◌, not, ℕ, Bool, true, false, List, Option, Some, None, Result, Ok, Err, is_some, nat_lt, slice_get, slice_set, refl, sym, ap, subst, arith}
+use Rattle.std.proofs.Common.{◌≡◌, ◌≢◌, ◌∙◌, ◌<◌, ◌&&◌, not, ℕ, Bool, true, false, List, Option, Some, None, Result, Ok, Err, is_some, nat_lt, slice_get, slice_set, refl, sym, ap, arith}
 use Rattle.std.proofs.lemmas.Bool.Decides.{nat_tests}
 use Rattle.c104_crossbar.specs.Groups.{has_bit}
 use Rattle.c104_token.specs.Kinds.{Kind}
@@ -16,13 +16,13 @@ use Rattle.c104_node.specs.declared.node.NodeOf.TheVariants as node
 use Rattle.c104_node.specs.declared.port_part.PortPart.{PortPart}
 use Rattle.c104_node.specs.declared.port_part.PortPart.TheVariants.{Credit, Cross, Turn}
 use Rattle.c104_node.specs.declared.stamps.Stamp.{Stamp}
-use Rattle.c104_node.specs.Acts.{done_by, node_act, nodes_act, reply_outcome, token_by}
+use Rattle.c104_node.specs.Acts.{done_by, node_act, nodes_act, token_by}
 use Rattle.c104_node.specs.Idle.{IsIdleNode}
 use Rattle.c104_node.specs.Nodes.{Node, as_switch, as_terminal, node_claim}
 use Rattle.c104_node.specs.PlaceActs.{ActsEnd, AloneDone, JointDone}
 use Rattle.c104_node.specs.Places.{Shown, states}
 use Rattle.c104_node.specs.PortActs.{far_act, joint_step, near_act}
-use Rattle.c104_node.specs.PortParts.{is_node_ready, is_ready_at}
+use Rattle.c104_node.specs.PortParts.{is_node_ready}
 use Rattle.c104_node.specs.Records.{has_link}
 use Rattle.c104_node.specs.Terminals.{Terminal, terminal_credit_out, terminal_drain, terminal_leave}
 use Rattle.c104_node.proofs.WireEnds.{get_set_other}

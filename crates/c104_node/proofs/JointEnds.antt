@@ -7,11 +7,10 @@ use Rattle.c104_event.specs.declared.faults.EventFault.{EventFault}
 use Rattle.c104_node.specs.Acts.{done_by, node_act, nodes_act, reply_outcome, token_by}
 use Rattle.c104_node.specs.PortActs.{IsAnswerOf, far_act, joint_step, near_act}
 use Rattle.c104_node.specs.Nodes.{Node, node_credit_in, node_credit_out, node_enter, node_leave}
-use Rattle.c104_node.specs.PlaceActs.{JointDone}
+use Rattle.c104_node.specs.PlaceActs.{HasActedAt, JointDone}
 use Rattle.c104_node.specs.Places.{Shown, bases, fulls, room_fault, states, traces}
-use Rattle.c104_node.specs.Traces.{full_at, joint_deeds, kept_entry, noted_all, noted_at}
+use Rattle.c104_node.specs.Traces.{full_at}
 use Rattle.c104_node.specs.declared.acts.ActOf.{ActOf}
-use Rattle.c104_node.specs.declared.acts.Entry.{Entry}
 use Rattle.c104_node.specs.declared.stamps.Stamp.{Stamp}
 use Rattle.c104_node.specs.declared.crossings.Crossing.{Crossing}
 use Rattle.c104_node.specs.declared.crossings.Joint.{Joint}
@@ -19,7 +18,7 @@ use Rattle.c104_node.specs.declared.crossings.Crossing.TheVariants.{Grant, Token
 use Rattle.c104_switch.specs.Actions.{is_ready}
 use Rattle.c104_switch.specs.declared.actions.ReplyOf.{ReplyOf}
 use Rattle.c104_token.specs.Kinds.{Kind}
-use Rattle.std.proofs.Common.{Bool, Err, Ok, ◌||◌, [], if◌then◌else◌, ◌∷◌, List, None, Option, Some, ap, arith, false, is_some, length, nat_lt, refl, slice_get, slice_set, subst, sym, true, ℕ, ◌<◌, ◌≤◌, ◌∙◌, ◌≡◌, ◌≢◌}
+use Rattle.std.proofs.Common.{Bool, Err, Ok, ◌||◌, List, None, Option, Some, ap, arith, false, is_some, length, nat_lt, refl, slice_get, slice_set, subst, sym, true, ℕ, ◌<◌, ◌≤◌, ◌∙◌, ◌≡◌, ◌≢◌}
 use Rattle.std.proofs.lemmas.Bool.Decides.{nat_tests}
 use Rattle.std.proofs.lemmas.Option.{slice_get_past}
 use Rattle.c104_plan.specs.declared.ports.Port.TheVariants as port
@@ -107,21 +106,6 @@ module _ {A : Type 0} (kind : Kind A) (p q : Port) (crossing : Crossing) (near f
   gone_answers r gone = from_place_made nodes near (node_act kind 0 (near_act crossing p)) r gone (λ n v here made set.
       subst (λ (z : ReplyOf A × List (Node A)). IsAnswerOf crossing z.0) set (near_answers kind crossing p n v made))
 
-  -- the far end answers that it came in
-  pub came_answers : (r s : ReplyOf A × List (Node A)) → HasGone r → nodes_act kind r.1 far 0 (far_act q r.0) ≡ Some s → s.0 ≡ reply.Done
-  came_answers r s gone came = from_place_made r.1 far (node_act kind 0 (far_act q r.0)) s came (λ m v here made set.
-      ap (λ (z : ReplyOf A × List (Node A)). z.0) (sym set) ∙ far_done kind crossing r.0 q m v (gone_answers r gone) made)
-
-  -- an entry is kept of each
-  pub both_noted : (keeps : Bool) (stamp : Stamp) (before mid after : List (List Entry)) (told last : ReplyOf A) (one two : ActOf A) → one ≡ near_act crossing p → two ≡ far_act q told → last ≡ reply.Done → is_ready told ≡ true →
-      mid ≡ noted_at keeps before near (kept_entry kind stamp one told) → after ≡ noted_at keeps mid far (kept_entry kind stamp two last) → after ≡ noted_all keeps before (joint_deeds kind stamp near far p q crossing told)
-  both_noted keeps stamp before mid after told last one two one_is two_is last_is ready first second =
-      second ∙ ap (λ ts. noted_at keeps ts far (kept_entry kind stamp two last)) first
-      ∙ ap (λ a. noted_at keeps (noted_at keeps before near (kept_entry kind stamp a told)) far (kept_entry kind stamp two last)) one_is
-      ∙ ap (λ a. noted_at keeps (noted_at keeps before near (kept_entry kind stamp (near_act crossing p) told)) far (kept_entry kind stamp a last)) two_is
-      ∙ ap (λ r. noted_at keeps (noted_at keeps before near (kept_entry kind stamp (near_act crossing p) told)) far (kept_entry kind stamp (far_act q told) r)) last_is
-      ∙ sym (ap (λ b. noted_all keeps before (if b then (near, kept_entry kind stamp (near_act crossing p) told) ∷ (far, kept_entry kind stamp (far_act q told) reply.Done) ∷ [] else [])) ready)
-
   module _ (apart : near ≢ far) where
     -- whether the far end can act is told by the node there alone
     some_at : (a : ActOf A) (ns ms : List (Node A)) → slice_get ns far ≡ slice_get ms far → is_some (nodes_act kind ns far 0 a) ≡ is_some (nodes_act kind ms far 0 a)
@@ -189,3 +173,13 @@ module _ {A : Type 0} (kind : Kind A) (keeps : Bool) (near far : ℕ) (joint : J
   -- where both are, and it is refused
   pub crossing_refused : (f : EventFault) (news : List (Shown A)) → f ≡ room_fault (full_at (fulls olds) near || full_at (fulls olds) far) → is_some made ≡ true → news ≡ olds → JointDone kind keeps near far joint stamp olds (Err f) news
   crossing_refused f news is ready same = record { ends = (is, ready, ap states same); base = ap bases same; trace = ap traces same }
+
+-- what crosses goes out at one end, and then comes in at the other
+module _ {A : Type 0} (kind : Kind A) (keeps : Bool) (near far : ℕ) (joint : Joint) (stamp : Stamp) (olds mids : List (Shown A)) (told : ReplyOf A) where
+  -- the near end has acted
+  abbrev pub HasLeft : Crossing → Type 0
+  HasLeft crossing = HasActedAt kind keeps near 0 stamp (near_act crossing joint.near) olds told mids
+
+  -- where the far end was ready before, it is then
+  pub come_ready : near ≢ far → HasLeft joint.crossing → ((a : ReplyOf A) → IsAnswerOf joint.crossing a → is_some (nodes_act kind (states olds) far 0 (far_act joint.far a)) ≡ true) → is_some (nodes_act kind (states mids) far 0 (far_act joint.far told)) ≡ true
+  come_ready apart left comes = sym (far_opens kind joint.near joint.far joint.crossing near far (states olds) apart (told, states mids) left.acted (λ a answer. sym (comes a answer)))

@@ -3,6 +3,8 @@ pub mod PlaceSteps
 pub mod ReadyActs
 pub mod NamedWires
 pub mod JointEnds
+pub mod EndPlaces
+pub mod Attempts
 pub mod IdleNodes
 pub mod WireEnds
 pub mod Ranges
@@ -11,6 +13,7 @@ pub mod BegunRecords
 mod BufferSizes
 pub mod EachSoFar
 pub mod Waiting
+pub mod ArrivedLists
 pub mod Walks
 pub mod RecordedNodes
 pub mod NodePairs

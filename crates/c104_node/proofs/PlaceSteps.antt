@@ -57,10 +57,10 @@ module _ {A P : Type 0} (shown : P → Shown A) (xs : List P) (k : ℕ) (d : P) 
 -- what a place shows after an act, among what all show
 module _ {A : Type 0} (olds : List (Shown A)) (k : ℕ) (old new : Shown A) (there : slice_get olds k ≡ Some old) where
   -- what stays at the place stays at all
-  kept_same : {S : Type 0} (f : Shown A → S) → f new ≡ f old → map f (slice_set olds k new) ≡ map f olds
+  pub kept_same : {S : Type 0} (f : Shown A → S) → f new ≡ f old → map f (slice_set olds k new) ≡ map f olds
   kept_same f same = map-set_same f olds k new new (same ∙ ap f (sym (get_or_from_slice_get olds k old new there)))
 
-  seen_there : {S : Type 0} (f : Shown A → S) → slice_get (map f olds) k ≡ Some (f old)
+  pub seen_there : {S : Type 0} (f : Shown A → S) → slice_get (map f olds) k ≡ Some (f old)
   seen_there f = slice_get-map f olds k ∙ ap (option_map f) there
 
   module _ (kind : Kind A) (keeps : Bool) (number : ℕ) (stamp : Stamp) (a : ActOf A) (reply : ReplyOf A) where

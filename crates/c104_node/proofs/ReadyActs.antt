@@ -1,5 +1,4 @@
 -- An act that is done answers something else than that it is not ready.
-use Rattle.c104_node.specs.declared.crossings.Crossing.TheVariants.{Token}
 use Rattle.c104_node.specs.Acts.{control_by, done_by, node_act, token_by}
 use Rattle.c104_node.specs.Nodes.{Node, node_claim, node_control, node_credit_in, node_credit_out, node_drain, node_enter, node_input, node_leave, node_send}
 use Rattle.c104_node.specs.declared.acts.ActOf.{ActOf}

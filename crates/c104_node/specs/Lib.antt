@@ -1,4 +1,5 @@
 pub mod Terminals
+pub mod Arrivals
 pub mod Nodes
 pub mod Acts
 pub mod PortActs
@@ -20,6 +21,8 @@ pub mod MappedNodes
 pub mod Origins
 pub mod Outboxes
 pub mod Tagged
+pub mod TaggedWords
+pub mod Notes
 pub mod TracedRecords
 pub mod SpareRooms
 pub mod StartNumbers

@@ -1,8 +1,10 @@
 -- What an act changes of what its place shows, and what acts of one node, or of two, leave at all places.
 --     HasActed kind keeps number stamp act old reply new      one place, after an act that was answered so
+--     HasTried ..     the same of an act that may not have been ready
 --     AreDone ..      all places, after acts that were answered so; AloneDone and JointDone say it of one act and of two
-use Rattle.std.specs.Prelude.{ℕ, ◌≡◌, ◌||◌, Bool, true, false, List, Option, Some, None, Result, Ok, Err, is_some, slice_get, unwrap_or}
+use Rattle.std.specs.Prelude.{ℕ, ◌≡◌, ◌||◌, Bool, true, false, List, Option, Some, None, Result, Ok, Err, if◌then◌else◌, is_some, slice_get, unwrap_or}
 use Rattle.c104_token.specs.Kinds.{Kind}
+use Rattle.c104_switch.specs.Actions.{is_ready}
 use Rattle.c104_switch.specs.declared.actions.ReplyOf.{ReplyOf}
 use Rattle.c104_event.specs.declared.faults.EventFault.{EventFault}
 use Rattle.c104_node.specs.declared.acts.ActOf.{ActOf}
@@ -46,7 +48,20 @@ module _ {A : Type 0} (kind : Kind A) (keeps : Bool) where
   ActEnds number stamp a old (Ok reply) new = HasActed number stamp a old reply new
   ActEnds number stamp a old (Err e) new = (new ≡ old) × (wants_memory a ≡ true)
 
-  -- the same of one act among all places
+  -- a place after an act was tried that was answered so: an entry is kept where it was done
+  pub record HasTried (number : ℕ) (stamp : Stamp) (a : ActOf A) (old : Shown A) (reply : ReplyOf A) (new : Shown A)
+      : Type 0 where
+    pub acted : ◌≡◌ {A = ReplyOf A × Node A} (reply, new.state) (reply_outcome (node_act kind number a old.state) old.state)
+    pub base : new.base ≡ old.base
+    pub trace : new.trace ≡ (if is_ready reply then noted keeps old.trace (kept_entry kind stamp a reply) else old.trace)
+
+  -- how an act of a place ends that is tried: it is answered as is due; or it is ready, and memory has run out, and
+  -- nothing changed
+  abbrev pub AttemptEnds : {E : Type 0} → ℕ → Stamp → ActOf A → Shown A → Result (ReplyOf A) E → Shown A → Type 0
+  AttemptEnds number stamp a old (Ok reply) new = HasTried number stamp a old reply new
+  AttemptEnds number stamp a old (Err e) new = (is_some (node_act kind number a old.state) ≡ true) × (new ≡ old)
+
+  -- HasActed of one act among all places
   pub record HasActedAt (place number : ℕ) (stamp : Stamp) (a : ActOf A) (olds : List (Shown A)) (reply : ReplyOf A)
       (news : List (Shown A)) : Type 0 where
     pub acted : nodes_act kind (states olds) place number a ≡ Some (reply, states news)

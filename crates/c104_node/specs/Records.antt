@@ -101,7 +101,7 @@ pub record NodeRoom : Type 0 where
 -- a node can do an act and keep its entry without memory
 pub record HasRoomFor (room : NodeRoom) (n : Node Token) (a : ActOf Token) : Type 0 where
   pub entry : 0 < room.entries
-  pub enough : IsEnough room.spare n a
+  pub enough : IsEnough plain_kind room.spare n a
 
 -- what a node shows as a place of a network
 abbrev pub node_shown : NodeRecord × NodeRoom → Shown Token

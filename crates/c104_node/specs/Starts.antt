@@ -6,7 +6,6 @@ use Rattle.c104_node.specs.declared.node.NodeOf.TheVariants as node
 use Rattle.c104_node.specs.declared.starts.NodeStart.{NodeStart}
 use Rattle.c104_node.specs.declared.starts.NodeStart.TheVariants as start
 use Rattle.std.specs.Prelude.{◌≡◌, true}
-use Rattle.c104_switch.specs.Switch.{Switch}
 
 -- a node at a start
 abbrev pub start_node : {A : Type 0} → NodeStart → Node A

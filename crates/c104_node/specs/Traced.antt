@@ -1,6 +1,6 @@
 -- Tokens that tell where they came from.
-use Rattle.std.specs.Prelude.{ℕ, Some, None}
-use Rattle.c104_token.specs.Kinds.{Kind}
+use Rattle.std.specs.Prelude.{ℕ, Option, Some, None}
+use Rattle.c104_token.specs.Kinds.{Kind, plain_byte}
 use Rattle.c104_token.specs.declared.tokens.Token.{Token}
 pub use Rattle.c104_node.specs.declared.traced.Source.{Source}
 pub use Rattle.c104_node.specs.declared.traced.Traced.{Traced}
@@ -12,10 +12,16 @@ sent_token terminal number place x = record {
   source = Some (record { terminal = terminal; number = number; place = place });
 }
 
+-- the byte of a token that came from nowhere, if it is one
+abbrev pub sourceless_byte : Token → Option Source → Option ℕ
+sourceless_byte x None = plain_byte x
+sourceless_byte x (Some s) = None
+
 -- a token of a packet came from a terminal; one of a random header came from nowhere
 abbrev pub traced_kind : Kind Traced
 traced_kind = record {
   plain = λ x. x.token;
+  byte = λ x. sourceless_byte x.token x.source;
   random = λ place x. record { token = x; source = None };
   sent = sent_token;
 }

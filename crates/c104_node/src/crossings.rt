@@ -1,7 +1,8 @@
 //! What crosses a wire, and the acts at its two ports.
 ghost use Rattle.std.specs.Prelude.{◌≡◌, is_some, true};
 ghost use Rattle.c104_node.specs.Acts.{node_act};
-ghost use Rattle.c104_node.specs.PortActs.{IsAnswerOf, far_act, near_act, port_credit_in, port_enter};
+ghost use Rattle.c104_node.specs.PortActs.{IsAnswerOf, far_act, near_act};
+ghost use Rattle.c104_node.specs.PortActs.{port_credit_in, port_credit_out, port_enter, port_leave};
 ghost use Rattle.c104_switch.specs.declared.actions.ReplyOf.{ReplyOf as TheReply};
 
 use crate::acts::ActOf;
@@ -31,20 +32,9 @@ pub fn near_act<T: TokenKind>(node: &NodeOf<T>, crossing: Crossing, port: Port) 
     requires { is_some (node_act T.kind 0 (near_act crossing port) node.now) ≡ true }
     ensures { result ≡ near_act crossing port }
 {
-    // A node that would is of its port's kind. Said here, it isn't asked again where the act is done.
     match crossing {
-        Crossing::Token => match (node, port) {
-            (NodeOf::Switch(_), Port::Switch(_, link)) => ActOf::Step(ActionOf::Leave(link)),
-            (NodeOf::Terminal(_), Port::Terminal(_)) => ActOf::Leave,
-            (NodeOf::Switch(_), Port::Terminal(_)) => unreachable!(),
-            (NodeOf::Terminal(_), Port::Switch(_, _)) => unreachable!(),
-        },
-        Crossing::Grant => match (node, port) {
-            (NodeOf::Switch(_), Port::Switch(_, link)) => ActOf::Step(ActionOf::CreditOut(link)),
-            (NodeOf::Terminal(_), Port::Terminal(_)) => ActOf::CreditOut,
-            (NodeOf::Switch(_), Port::Terminal(_)) => unreachable!(),
-            (NodeOf::Terminal(_), Port::Switch(_, _)) => unreachable!(),
-        },
+        Crossing::Token => leave_act(node, port),
+        Crossing::Grant => credit_out_act(node, port),
     }
 }
 
@@ -72,9 +62,24 @@ pub fn far_act<T: TokenKind>(
     }
 }
 
+/// The act by which a token goes out at a port, of a node that would do it.
+// A node that would is of its port's kind. Said here, it isn't asked again where the act is done.
+#[inline(always)]
+pub fn leave_act<T: TokenKind>(node: &NodeOf<T>, port: Port) -> ActOf<T>
+    requires { is_some (node_act T.kind 0 (port_leave port) node.now) ≡ true }
+    ensures { result ≡ port_leave port }
+{
+    match (node, port) {
+        (NodeOf::Switch(_), Port::Switch(_, link)) => ActOf::Step(ActionOf::Leave(link)),
+        (NodeOf::Terminal(_), Port::Terminal(_)) => ActOf::Leave,
+        (NodeOf::Switch(_), Port::Terminal(_)) => unreachable!(),
+        (NodeOf::Terminal(_), Port::Switch(_, _)) => unreachable!(),
+    }
+}
+
 /// The act by which a token comes in at a port, of a node that would do it.
 #[inline(always)]
-fn enter_act<T: TokenKind>(node: &NodeOf<T>, port: Port, token: T) -> ActOf<T>
+pub fn enter_act<T: TokenKind>(node: &NodeOf<T>, port: Port, token: T) -> ActOf<T>
     requires { is_some (node_act T.kind 0 (port_enter token port) node.now) ≡ true }
     ensures { result ≡ port_enter token port }
 {
@@ -86,9 +91,23 @@ fn enter_act<T: TokenKind>(node: &NodeOf<T>, port: Port, token: T) -> ActOf<T>
     }
 }
 
+/// The act by which a port grants eight more, of a node that would do it.
+#[inline(always)]
+pub fn credit_out_act<T: TokenKind>(node: &NodeOf<T>, port: Port) -> ActOf<T>
+    requires { is_some (node_act T.kind 0 (port_credit_out port) node.now) ≡ true }
+    ensures { result ≡ port_credit_out port }
+{
+    match (node, port) {
+        (NodeOf::Switch(_), Port::Switch(_, link)) => ActOf::Step(ActionOf::CreditOut(link)),
+        (NodeOf::Terminal(_), Port::Terminal(_)) => ActOf::CreditOut,
+        (NodeOf::Switch(_), Port::Terminal(_)) => unreachable!(),
+        (NodeOf::Terminal(_), Port::Switch(_, _)) => unreachable!(),
+    }
+}
+
 /// The act by which eight more are granted to a port, of a node that would do it.
 #[inline(always)]
-fn credit_in_act<T: TokenKind>(node: &NodeOf<T>, port: Port) -> ActOf<T>
+pub fn credit_in_act<T: TokenKind>(node: &NodeOf<T>, port: Port) -> ActOf<T>
     requires { is_some (node_act T.kind 0 (port_credit_in port) node.now) ≡ true }
     ensures { result ≡ port_credit_in port }
 {

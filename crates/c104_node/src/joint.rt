@@ -10,10 +10,10 @@ ghost use Rattle.c104_node.specs.WiredPlaces.{links_at};
 ghost use Rattle.c104_node.specs.Places.{HasRoomAt, bases, fulls, states, traces};
 ghost use Rattle.c104_node.specs.Traces.{full_at, joint_deeds, noted_all};
 
-use crate::acts::ActOf;
-use crate::crossings::{Crossing, Joint, can_far, can_near, far_act, near_act};
+use crate::crossings::{Crossing, Joint, can_far, can_near};
+use crate::end_places::{credit_in_at, credit_out_at, enter_at, leave_at};
 use crate::place::Place;
-use crate::places::{act_sure, is_full_at, node_at, room_at};
+use crate::places::{is_full_at, node_at, room_at};
 use crate::stamps::Stamp;
 use c104_event::{EventFault, Port};
 use c104_switch::ReplyOf;
@@ -95,36 +95,6 @@ fn can_far_at<T: TokenKind, P: Place<T>>(places: &[P], place: usize, joint: Join
     }
 }
 
-/// The act of the node at a place, at the port from which something crosses, where it would do it.
-#[inline(always)]
-fn near_act_at<T: TokenKind, P: Place<T>>(places: &[P], place: usize, joint: Joint) -> ActOf<T>
-    requires { is_some (nodes_act T.kind (states (map P.shown places.now)) place 0 (near_act joint.crossing joint.near)) ≡ true }
-    ensures { result ≡ near_act joint.crossing joint.near }
-{
-    match node_at(places, place) {
-        Some(node) => near_act(node, joint.crossing, joint.near),
-        None => unreachable!(),
-    }
-}
-
-/// The act of the node at a place, at the other port, where it would do it.
-#[inline(always)]
-fn far_act_at<T: TokenKind, P: Place<T>>(
-    places: &[P],
-    place: usize,
-    joint: Joint,
-    told: &ReplyOf<T>,
-) -> ActOf<T>
-    requires answer { IsAnswerOf joint.crossing told.now }
-    requires ready { is_some (nodes_act T.kind (states (map P.shown places.now)) place 0 (far_act joint.far told.now)) ≡ true }
-    ensures { result ≡ far_act joint.far told.now }
-{
-    match node_at(places, place) {
-        Some(node) => far_act(node, joint.crossing, joint.far, told),
-        None => unreachable!(),
-    }
-}
-
 /// Whether no further entry may be kept at one of two places.
 #[inline(always)]
 fn are_full_at<T: TokenKind, P: Place<T>>(places: &[P], near: usize, far: usize) -> bool
@@ -179,9 +149,16 @@ fn cross_open<T: TokenKind, P: Place<T>>(
     ensures trace { traces (map P.shown places.new) ≡ noted_all P.keeps (traces (map P.shown places.old))
         (joint_deeds T.kind stamp near far joint.near joint.far joint.crossing result) }
 {
-    let going = near_act_at(places, near, joint);
-    let told = act_sure(places, near, stamp, going);
-    let coming = far_act_at(places, far, joint, &told);
-    act_sure(places, far, stamp, coming);
-    told
+    match joint.crossing {
+        Crossing::Token => {
+            let token = leave_at(places, near, stamp, joint.near);
+            enter_at(places, far, stamp, joint.far, token);
+            ReplyOf::Token(token)
+        }
+        Crossing::Grant => {
+            credit_out_at(places, near, stamp, joint.near);
+            credit_in_at(places, far, stamp, joint.far);
+            ReplyOf::Done
+        }
+    }
 }

@@ -4,6 +4,7 @@ ghost use Rattle.std.specs.Option.{option_copied, option_to_list};
 ghost use Rattle.c104_node.specs.Nodes.{node_waiting, node_arrived, node_peek, terminals_of};
 
 mod acting;
+mod ends;
 mod idle;
 mod limits;
 pub mod quiet;
@@ -12,7 +13,7 @@ pub mod starts;
 mod tokens;
 mod views;
 
-use crate::terminal::TerminalOf;
+use crate::terminal::{ArrivedOf, TerminalOf};
 use c104_switch::SwitchOf;
 use c104_token::TokenKind;
 
@@ -58,7 +59,7 @@ impl<T: TokenKind> NodeOf<T> {
     }
 
     /// The tokens that arrived, if the node is a terminal.
-    pub fn arrived(&self) -> Option<&[T]>
+    pub fn arrived(&self) -> Option<&ArrivedOf<T>>
         ensures { option_copied result ≡ node_arrived self.now }
     {
         match self {

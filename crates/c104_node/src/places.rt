@@ -1,19 +1,19 @@
 //! One act of one place among all places.
-ghost use Rattle.std.specs.Prelude.{◌≡◌, ◌≢◌, ◌<◌, ◌≤◌, ℕ, None, Some, true, false, length, is_some, map, slice_get, unwrap_or, IfSome, OnOk};
+ghost use Rattle.std.specs.Prelude.{◌≡◌, ◌≢◌, ◌<◌, ◌≤◌, ℕ, None, Some, true, false, length, is_some, map, slice_get, unwrap_or, IfErr, IfSome, OnOk};
 ghost use Rattle.std.specs.Option.{option_copied};
 ghost use Rattle.c104_regs.specs.declared.registers.TheConstants.{LINKS};
 ghost use Rattle.c104_link.specs.Steps.{step_at};
-ghost use Rattle.c104_node.specs.Acts.{IsWithinLimits, nodes_act, wants_memory};
+ghost use Rattle.c104_node.specs.Acts.{IsWithinLimits, nodes_act};
 ghost use Rattle.c104_node.specs.PortActs.{act_limit};
 ghost use Rattle.c104_node.specs.Traces.{full_at};
 ghost use Rattle.c104_switch.specs.Claims.{IsNextLink};
 ghost use Rattle.c104_node.specs.Nodes.{node_claim, Node as TheNode};
 ghost use Rattle.c104_node.specs.Idle.{IsIdleNode};
 ghost use Rattle.c104_node.specs.Records.{has_link};
-ghost use Rattle.c104_node.specs.PlaceActs.{ActEndsAt, AloneDone, HasActedAt};
+ghost use Rattle.c104_node.specs.PlaceActs.{ActEndsAt, AloneDone};
 ghost use Rattle.c104_node.specs.ActLinks.{act_link};
 ghost use Rattle.c104_node.specs.WiredPlaces.{is_linked_at};
-ghost use Rattle.c104_node.specs.Places.{bases, HasRoomAt, fulls, states};
+ghost use Rattle.c104_node.specs.Places.{bases, HasRoomAt, fulls, room_fault, states};
 ghost use Rattle.c104_node.specs.PortParts.{is_ready_at, PassesUnready};
 
 use crate::acts::ActOf;
@@ -102,28 +102,20 @@ fn act_at<T: TokenKind, P: Place<T>>(
     found.act(number, stamp, act)
 }
 
-/// The node at a place does an act that it is ready for, and that wants no memory.
+/// Makes room at a place for whatever is kept of one act. TraceFull where no more may be kept there, else NoMemory.
 #[inline(always)]
-pub fn act_sure<T: TokenKind, P: Place<T>>(
-    places: &mut [P],
-    place: usize,
-    stamp: Stamp,
-    act: ActOf<T>,
-) -> ReplyOf<T>
-    requires inside { place < length places.old }
-    requires short { IsWithinLimits act }
-    requires linked { is_linked_at (bases (map P.shown places.old)) place act ≡ true }
-    requires light { wants_memory act ≡ false }
-    requires room { HasRoomAt P.has_room places.old place }
-    requires ready { is_some (nodes_act T.kind (states (map P.shown places.old)) place 0 act) ≡ true }
-    ensures done { HasActedAt T.kind P.keeps place 0 stamp act (map P.shown places.old) result (map P.shown places.new) }
-    ensures others { (j : ℕ) → j ≢ place →
-        HasRoomAt P.has_room places.old j → HasRoomAt P.has_room places.new j }
+fn open_at<T: TokenKind, P: Place<T>>(places: &mut [P], place: usize) -> Result<(), EventFault>
+    requires { place < length places.old }
+    ensures shown { map P.shown places.new ≡ map P.shown places.old }
+    ensures open { OnOk result ((full_at (fulls (map P.shown places.old)) place ≡ false)
+        × HasRoomAt P.has_room places.new place) }
+    ensures fault { IfErr result (λ f. f ≡ room_fault (full_at (fulls (map P.shown places.old)) place)) }
 {
-    match act_at(places, place, 0, stamp, act) {
-        Ok(told) => told,
-        Err(_) => unreachable!(),
+    if is_full_at(places, place) {
+        return Err(EventFault::TraceFull);
     }
+    room_at(places, place)?;
+    Ok(())
 }
 
 /// The node at a place does an act that it is ready for and that no limit refuses, unless nothing more can be kept of
@@ -143,11 +135,29 @@ pub fn act_ready<T: TokenKind, P: Place<T>>(
     requires within { act_limit (slice_get (states (map P.shown places.old)) place) act ≡ None }
     ensures { AloneDone T.kind P.keeps place number stamp act (map P.shown places.old) result (map P.shown places.new) }
 {
-    if is_full_at(places, place) {
-        return Err(EventFault::TraceFull);
-    }
-    room_at(places, place)?;
+    open_at(places, place)?;
     Ok(act_at(places, place, number, stamp, act)?)
+}
+
+/// The node at a place does an act that no limit refuses, if it is ready for it, where nothing is full. Whether it is
+/// ready is told by what it answers.
+#[inline(always)]
+pub fn attempt_at<T: TokenKind, P: Place<T>>(
+    places: &mut [P],
+    place: usize,
+    number: usize,
+    stamp: Stamp,
+    act: ActOf<T>,
+) -> Result<ReplyOf<T>, EventFault>
+    requires inside { place < length places.old }
+    requires short { IsWithinLimits act }
+    requires lone { act_link act ≡ None }
+    requires within { act_limit (slice_get (states (map P.shown places.old)) place) act ≡ None }
+    requires free { full_at (fulls (map P.shown places.old)) place ≡ false }
+    ensures { AloneDone T.kind P.keeps place number stamp act (map P.shown places.old) result (map P.shown places.new) }
+{
+    let found = &mut places[place];
+    Ok(found.attempt(number, stamp, act)?)
 }
 
 /// The next link of a set, from this one on, at which the switch at a place is ready for its act of a part; of a turn, at

@@ -8,6 +8,7 @@ ghost use Rattle.c104_node.specs.Terminals.{terminal_credit_in, terminal_drain};
 ghost use Rattle.c104_node.specs.Outboxes.{waiting_taken};
 ghost use Rattle.c104_node.specs.Terminals.{sent_tokens, terminal_begin, terminal_send};
 
+mod arrived;
 mod copies;
 mod reasons;
 mod spare;
@@ -15,6 +16,7 @@ mod starts;
 mod tokens;
 mod views;
 
+pub use arrived::ArrivedOf;
 use c104_link::{CREDIT_LIMIT, InBufferOf, TOKENS_OF_A_GRANT};
 use c104_token::{NoMemory, Packet, Token, TokenKind};
 pub use spare::SpareOf;
@@ -41,7 +43,7 @@ pub struct TerminalOf<T: TokenKind> {
     place: usize,
     waiting: usize,
     credit: usize,
-    arrived: Vec<T>,
+    arrived: ArrivedOf<T>,
 }
 
 impl<T: TokenKind> Model for TerminalOf<T> {
@@ -56,7 +58,7 @@ impl<T: TokenKind> Model for TerminalOf<T> {
       input = t.input;
       output = record { items = waiting_from T.kind t.next t.place t.sent.items; credit = t.credit };
       sent = map packet_of t.sent.items;
-      arrived = t.arrived.items;
+      arrived = t.arrived;
     } };
 
     ghost invariant = { λ t. (t.credit ≤ CREDIT_LIMIT)
@@ -77,7 +79,7 @@ impl<T: TokenKind> TerminalOf<T> {
             place: 0,
             waiting: 0,
             credit: 0,
-            arrived: Vec::new(alloc),
+            arrived: ArrivedOf::new(alloc),
         })
     }
 
@@ -108,10 +110,10 @@ impl<T: TokenKind> TerminalOf<T> {
     }
 
     /// The tokens that arrived.
-    pub fn arrived(&self) -> &[T]
+    pub fn arrived(&self) -> &ArrivedOf<T>
         ensures { result.now ≡ self.now.arrived }
     {
-        self.arrived.as_slice()
+        &self.arrived
     }
 
     /// A token comes in from the wire. False where none was granted.
@@ -215,21 +217,17 @@ impl<T: TokenKind> TerminalOf<T> {
     }
 
     /// The first token that came in arrives. None where none came in. Out of memory nothing changes.
+    #[inline(always)]
     pub fn drain(&mut self) -> Result<Option<T>, NoMemory>
         ensures done { IfOk result (λ token.
             (token, self.new) ≡ option_outcome (terminal_drain self.old) self.old) }
         ensures kept { OnErr result (self.new ≡ self.old) }
     {
-        if self.input.is_empty() {
+        let Some(token) = self.input.first() else {
             return Ok(None);
-        }
-        self.arrived.reserve(1)?;
-        let Some(token) = self.input.take() else {
-            unreachable!();
         };
-        let Ok(()) = self.arrived.push(token) else {
-            unreachable!();
-        };
+        self.arrived.push(token)?;
+        let _token = self.input.take();
         Ok(Some(token))
     }
 

@@ -31,6 +31,13 @@ impl TokenKind for Traced {
         self.token
     }
 
+    fn byte(&self) -> Option<u8> {
+        match (self.token, self.source) {
+            (Token::Byte(byte), None) => Some(byte),
+            _ => None,
+        }
+    }
+
     fn random(_place: usize, token: Token) -> Self {
         Traced {
             token,

@@ -4,7 +4,7 @@ use Rattle.std.proofs.lemmas.Bool.Decides.{nat_tests}
 use Rattle.c104_regs.specs.Addresses.{Address, Register, address_of, register_at, register_properties}
 use Rattle.c104_regs.specs.declared.addresses.Address.TheVariants.{DeviceId, Started, AtLink}
 use Rattle.c104_regs.specs.Gaps.{is_gap}
-use Rattle.c104_regs.specs.KeptValues.{kept_value, unless_reset}
+use Rattle.c104_regs.specs.KeptValues.{kept_value}
 use Rattle.c104_regs.specs.Settings.{Settings, reset_settings}
 use Rattle.c104_regs.specs.Values.{register_read, reset_status}
 use Rattle.c104_regs.proofs.KeptEntries.{entries, entries_cut, entries_none_in}

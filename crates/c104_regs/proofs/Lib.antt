@@ -4,6 +4,7 @@ pub mod RangeNumbers
 pub mod PackedLaws
 pub mod PackedPokes
 pub mod AddressLemmas
+mod FreeTargets
 pub mod RegisterLemmas
 pub mod ContinueLemmas
 pub mod PlacedRegisters

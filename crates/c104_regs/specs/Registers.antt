@@ -95,6 +95,15 @@ abbrev pub waits : Register → Bool
 waits Mode = true
 waits r = false
 
+-- the link and the register that a poke of v at address a sets, by whether the link is busy; or the first
+-- fault
+abbrev pub free_target : Bool → ℕ → ℕ → Result (ℕ × Register) RegFault
+free_target busy a v = unless (target a v)
+  where
+    unless : Result (ℕ × Register) RegFault → Result (ℕ × Register) RegFault
+    unless (Err e) = Err e
+    unless (Ok (l, r)) = if waits r && busy then Err Busy else Ok (l, r)
+
 -- the settings of all links after register r of link l is set to v
 abbrev pub settings_with : List Settings → ℕ → Register → ℕ → List Settings
 settings_with settings l r v = slice_set settings l (with_value (slice_index_or settings l reset_settings) r v)

@@ -5,7 +5,7 @@ ghost use Rattle.c104_regs.specs.Addresses.{IsRegister, Register, register_prope
 ghost use Rattle.c104_regs.specs.declared.faults.RegFault.TheVariants.{OutOfRange};
 ghost use Rattle.c104_regs.specs.Groups.{continue_bits, continues_at};
 ghost use Rattle.c104_regs.specs.Ranges.{IsInRange, IsTableInRange};
-ghost use Rattle.c104_regs.specs.Registers.{IsRegisterBank, IsTarget, RegisterBank as Bank, bank_peek, placed_bank, bank_poke, reset_bank, settable, settings_at, settings_with, status_at, target, with_status};
+ghost use Rattle.c104_regs.specs.Registers.{IsRegisterBank, IsTarget, RegisterBank as Bank, bank_peek, placed_bank, bank_poke, free_target, reset_bank, settable, settings_at, settings_with, status_at, target, with_status};
 ghost use Rattle.c104_regs.specs.Values.{mode_of, bit_value, register_read};
 
 use crate::addresses::{Address, Register};
@@ -171,10 +171,8 @@ impl Registers {
             ((a : ℕ) → a ≢ addr → bank_peek self.new a ≡ bank_peek self.old a) }
         ensures refused { OnErr result (self.new ≡ self.old) }
     {
-        let (link, register) = target(addr, value)?;
-        if register.waits() && self.statuses[link].busy {
-            return Err(RegFault::Busy);
-        }
+        let busy = self.is_busy(Registers::link_of(addr));
+        let (link, register) = free_target(addr, value, busy)?;
         set(
             &mut self.settings,
             &mut self.continues,
@@ -193,10 +191,7 @@ impl Registers {
             (result ≡ (bank_poke b addr value).0) × (self.new.settings ≡ (bank_poke b addr value).1.settings) }
         ensures told { self.new ≡ record self.old { settings = self.new.settings } }
     {
-        let (link, register) = target(addr, value)?;
-        if register.waits() && status.busy {
-            return Err(RegFault::Busy);
-        }
+        let (link, register) = free_target(addr, value, status.busy)?;
         set(
             &mut self.settings,
             &mut self.continues,
@@ -246,6 +241,17 @@ impl Registers {
         ensures kept { IsTableInRange result }
     {
         self.settings(link).table()
+    }
+
+    /// Whether a packet was on its way through a link when the switch told of it last. Past the last link
+    /// there is none.
+    fn is_busy(&self, link: usize) -> bool
+        ensures { result ≡ (status_at self.now link).busy }
+    {
+        match self.statuses.get(link) {
+            Some(status) => status.busy,
+            None => false,
+        }
     }
 
     /// What is set at a link, 0 to 31.
@@ -298,6 +304,19 @@ fn target(addr: u16, value: u32) -> Result<(usize, Register), RegFault>
     }
     if !register.takes(value) {
         return Err(RegFault::OutOfRange);
+    }
+    Ok((link, register))
+}
+
+/// The link and the register that a poke sets, where that link is busy or not, or the first fault.
+/// Busy comes after those of the address and the value.
+fn free_target(addr: u16, value: u32, busy: bool) -> Result<(usize, Register), RegFault>
+    ensures free { result ≡ free_target busy addr value }
+    ensures found { IfOk result (λ x. IsTarget addr value x.0 x.1) }
+{
+    let (link, register) = target(addr, value)?;
+    if register.waits() && busy {
+        return Err(RegFault::Busy);
     }
     Ok((link, register))
 }

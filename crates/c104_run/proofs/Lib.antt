@@ -3,6 +3,7 @@ pub mod ActAnswers
 pub mod ActAttempts
 pub mod EventSteps
 pub mod FarPorts
+mod EndTables
 pub mod FarEndLists
 pub mod Running
 pub mod RunRecords

@@ -18,7 +18,7 @@ use Rattle.c104_run.specs.Network.{wired_fault}
 use Rattle.c104_node.specs.Nodes.{Node}
 use Rattle.c104_node.specs.PortParts.{IsFoundReady, IsNearReady, is_ready_at}
 use Rattle.c104_run.specs.RoundParts.{port_events, wired_events, PartEnds}
-use Rattle.c104_run.specs.Rounds.{is_wired, link_numbers, wired_links, wired_ports, wired_terminals}
+use Rattle.c104_run.specs.Rounds.{is_wired, link_numbers, turn_at, wired_links, wired_ports, wired_terminals}
 use Rattle.c104_run.proofs.IdleEvents.{idle_credit, idle_cross, idle_turn}
 use Rattle.c104_run.proofs.PartRuns.{part_empty}
 use Rattle.c104_run.specs.Stages.{stage_apply, Stage}
@@ -77,6 +77,22 @@ module _ (plan : Plan) (part : PortPart) where
   module _ {S : Type 0} (apply : S → Event → Applied S) (net : S) where
     pub at_unwired : (p : Port) → is_wired plan p ≡ false → PartEnds apply net (wired_events plan part p) (Ok false) net
     at_unwired p is = subst (λ es. PartEnds apply net es (Ok false) net) (sym (wired_none p is)) (part_empty apply net)
+
+-- a terminal takes no turn
+no_turns : (plan : Plan) (ns : List ℕ) → flat_map turn_at (filter (is_wired plan) (map port.Terminal ns)) ≡ []
+no_turns plan [] = refl
+no_turns plan (n ∷ ns) = by_wire (is_wired plan (port.Terminal n)) refl (no_turns plan ns)
+  where
+    by_wire : (b : Bool) → is_wired plan (port.Terminal n) ≡ b → flat_map turn_at (filter (is_wired plan) (map port.Terminal ns)) ≡ [] → flat_map turn_at (filter (is_wired plan) (map port.Terminal (n ∷ ns))) ≡ []
+    by_wire true is rest = rw is rest
+    by_wire false is rest = rw is rest
+
+-- so the turns of the switches' ports are all turns
+pub of_turns : (plan : Plan) {S : Type 0} (apply : S → Event → Applied S) (net after : S) (result : Result Bool EventFault) → PartEnds apply net (flat_map (port_events Turn) (flat_map (wired_links plan) (range_with_len 0 (length plan.switches)))) result after → PartEnds apply net (flat_map turn_at (wired_ports plan)) result after
+of_turns plan apply net after result ends =
+    let links : List Port = flat_map (wired_links plan) (range_with_len 0 (length plan.switches)) in
+    subst (λ es. PartEnds apply net es result after)
+    (sym (flat_map-append turn_at links (wired_terminals plan) ∙ ap (λ es. flat_map turn_at links ++ es) (no_turns plan (range_with_len 0 (length plan.terminals))) ∙ append-nil (flat_map turn_at links))) ends
 
 -- a link that isn't ready for its own act
 pub idle_link : {A : Type 0} (kind : Kind A) (keeps : Bool) (s : Stage A) (part : PortPart) (k l : ℕ) → wired_fault s.network.plan (port.Switch k l) ≡ None → is_ready_at kind part s.network.nodes k l ≡ false → PartEnds (stage_apply kind keeps) s (port_events part (port.Switch k l)) (Ok false) s

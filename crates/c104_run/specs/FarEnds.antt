@@ -1,10 +1,12 @@
 -- The table of wires: the far end of the wire at each port.
-use Rattle.std.specs.Prelude.{◌*◌, ◌/◌, ◌%◌, List, Option, length, map, option_map}
+use Rattle.std.specs.Prelude.{ℕ, ◌*◌, ◌/◌, ◌%◌, List, [], ◌∷◌, Option, Some, None, if◌then◌else◌, length, map, option_map}
 use Rattle.std.specs.List.{range_with_len}
 use Rattle.c104_regs.specs.declared.registers.TheConstants.{LINKS}
 use Rattle.c104_plan.specs.declared.ports.Port.TheVariants as port
 use Rattle.c104_plan.specs.declared.ports.Port.{Port}
 use Rattle.c104_plan.specs.Plans.{Plan}
+use Rattle.c104_plan.specs.declared.ports.Wire.{Wire}
+use Rattle.c104_plan.specs.Ports.{is_port}
 use Rattle.c104_plan.specs.Wiring.{peer}
 use Rattle.c104_node.specs.declared.ends.End.{End}
 use Rattle.c104_run.specs.Ends.{end_of}
@@ -23,3 +25,19 @@ link_ends plan =
 abbrev pub terminal_ends : Plan → List (Option End)
 terminal_ends plan =
     map (λ t. far_end plan (port.Terminal t)) (range_with_len 0 (length plan.terminals))
+
+-- The table, made one wire after the other
+
+-- the far end at each port, once that at one more is known
+abbrev pub with_end : (Port → Option End) → Port → End → Port → Option End
+with_end far at e p = if is_port at p then Some e else far p
+
+-- the far end at each port by some wires, the first of which counts
+abbrev pub end_by : Plan → List Wire → Port → Option End
+end_by plan [] p = None
+end_by plan (w ∷ ws) p =
+    with_end (with_end (end_by plan ws) w.there (end_of plan w.here)) w.here (end_of plan w.there) p
+
+-- the far ends of all links of n switches, where this tells that at each port
+abbrev pub ends_by : (Port → Option End) → ℕ → List (Option End)
+ends_by far n = map (λ place. far (port.Switch (place / LINKS) (place % LINKS))) (range_with_len 0 (n * LINKS))

@@ -1,19 +1,20 @@
 //! The acts of an event, done at the places of nodes.
-ghost use Rattle.std.specs.Prelude.{◌≡◌, ◌-◌, None, map, slice_get};
-ghost use Rattle.c104_node.specs.Acts.{IsWithinLimits};
+ghost use Rattle.std.specs.Prelude.{◌≡◌, ◌-◌, ◌<◌, None, MatchOption, false, true, is_some, length, map, slice_get, unwrap_or};
+ghost use Rattle.c104_node.specs.Acts.{IsWithinLimits, nodes_act};
 ghost use Rattle.c104_run.specs.AskedActs.{AreEnds, acts_asked};
 ghost use Rattle.c104_node.specs.PortActs.{act_limit};
 ghost use Rattle.c104_run.specs.EventsAtPlaces.{ActsDone};
 ghost use Rattle.c104_node.specs.PlaceActs.{AloneDone};
 ghost use Rattle.c104_node.specs.ActLinks.{act_link};
-ghost use Rattle.c104_node.specs.Places.{bases, states};
+ghost use Rattle.c104_node.specs.Places.{bases, fulls, room_fault, states};
+ghost use Rattle.c104_node.specs.Traces.{full_at};
 ghost use Rattle.c104_run.specs.KnownWires.{KnowWires};
 ghost use Rattle.c104_node.specs.declared.acts.ActOf.TheVariants as act;
 
 use crate::asked::Asked;
 use c104_event::EventFault;
 use c104_node::{
-    ActOf, Place, SentPacket, Stamp, act_ready, is_full_at, joint_at, node_at, ready_at,
+    ActOf, Place, SentPacket, Stamp, act_ready, attempt_at, is_full_at, joint_at, node_at, ready_at,
 };
 use c104_plan::Plan;
 use c104_switch::ReplyOf;
@@ -32,7 +33,31 @@ fn limit_at<T: TokenKind, P: Place<T>>(
     node_at(places, place)?.limit(act)
 }
 
+/// Why an act that is ready can't be done now, if something is in the way: a limit of a list, or a full trace.
+#[inline(always)]
+fn refusal_at<T: TokenKind, P: Place<T>>(
+    places: &[P],
+    place: usize,
+    act: &ActOf<T>,
+) -> Option<EventFault>
+    requires { IsWithinLimits act.now }
+    ensures { MatchOption result
+        ((act_limit (slice_get (states (map P.shown places.now)) place) act.now ≡ None)
+        × (full_at (fulls (map P.shown places.now)) place ≡ false))
+        (λ fault. fault ≡ unwrap_or (act_limit (slice_get (states (map P.shown places.now)) place) act.now)
+        (room_fault (full_at (fulls (map P.shown places.now)) place))) }
+{
+    if let Some(fault) = limit_at(places, place, act) {
+        return Some(fault);
+    }
+    if is_full_at(places, place) {
+        return Some(EventFault::TraceFull);
+    }
+    None
+}
+
 /// The node at a place does an act, if it is ready and no limit of a list refuses it.
+// Where nothing is in the way it is tried, so that it isn't asked first whether it is ready.
 #[inline(always)]
 pub fn do_alone<T: TokenKind, P: Place<T>>(
     switches: usize,
@@ -47,16 +72,16 @@ pub fn do_alone<T: TokenKind, P: Place<T>>(
         (map P.shown places.old) result (map P.shown places.new) }
 {
     let number = place.saturating_sub(switches);
-    if !ready_at(places, place, number, &act) {
-        return Ok(ReplyOf::NotReady);
-    }
     if place >= places.len() {
         return Ok(ReplyOf::NotReady);
     }
-    if let Some(fault) = limit_at(places, place, &act) {
+    let Some(fault) = refusal_at(places, place, &act) else {
+        return attempt_at(places, place, number, stamp, act);
+    };
+    if ready_at(places, place, number, &act) {
         return Err(fault);
     }
-    act_ready(places, place, number, stamp, act)
+    Ok(ReplyOf::NotReady)
 }
 
 /// The terminal at a place sends a packet, if the limit of its list doesn't refuse it. The packet is copied only then.
@@ -81,6 +106,26 @@ fn do_send<T: TokenKind, P: Place<T>>(
     if let Some(fault) = node.send_limit(packet) {
         return Err(fault);
     }
+    send_open(switches, places, place, packet, stamp)
+}
+
+/// The same where it is ready and no limit refuses it.
+#[inline(always)]
+fn send_open<T: TokenKind, P: Place<T>>(
+    switches: usize,
+    places: &mut [P],
+    place: usize,
+    packet: &Packet,
+    stamp: Stamp,
+) -> Result<ReplyOf<T>, EventFault>
+    requires short { IsWithinLimits {A = T} (act.Send packet.now) }
+    requires inside { place < length places.old }
+    requires ready { is_some
+        (nodes_act T.kind (states (map P.shown places.old)) place (place - switches) (act.Send packet.now)) ≡ true }
+    requires within { act_limit (slice_get (states (map P.shown places.old)) place) (act.Send packet.now) ≡ None }
+    ensures { AloneDone T.kind P.keeps place (place - switches) stamp (act.Send packet.now)
+        (map P.shown places.old) result (map P.shown places.new) }
+{
     if is_full_at(places, place) {
         return Err(EventFault::TraceFull);
     }

@@ -1,6 +1,6 @@
 //! Which places of a network may begin something of a round.
 ghost use Rattle.std.specs.Prelude.{◌≡◌, ◌≢◌, ◌<◌, ◌≤◌, ◌⊎◌, ℕ, false, true, unwrap_or, IfSome};
-ghost use Rattle.c104_run.specs.LivePlaces.{is_live};
+ghost use Rattle.c104_run.specs.LivePlaces.{is_live, told_places};
 
 use c104_switch::{LINKS, LinkSet};
 use std::marker::Model;
@@ -19,16 +19,21 @@ const PLACES: usize = 320;
 pub struct LivePlaces {
     // Place k has bit k % 32 of word k / 32.
     blocks: [LinkSet; BLOCKS],
+    // Whether it is known that all places are in the set: then it is walked without a look at bits, which is most of what
+    // a small network at work would lose by the set.
+    is_all: bool,
 }
 
 impl Model for LivePlaces {
-    ghost use Rattle.std.specs.Prelude.{◌≡◌, List, length, ℕ};
+    ghost use Rattle.std.specs.Prelude.{◌≡◌, List, length, true, ℕ};
+    ghost use Rattle.c104_run.specs.LivePlaces.{is_live};
 
     ghost Value = { List ℕ };
 
     ghost view = { λ live. live.blocks };
 
-    ghost invariant = { λ live. length live.blocks ≡ 10 };
+    ghost invariant = { λ live.
+        (length live.blocks ≡ 10) × (live.is_all ≡ true → (k : ℕ) → is_live live.blocks k ≡ true) };
 }
 
 impl LivePlaces {
@@ -38,7 +43,15 @@ impl LivePlaces {
     {
         LivePlaces {
             blocks: [LinkSet::all(); BLOCKS],
+            is_all: true,
         }
+    }
+
+    /// Puts all places into the set.
+    pub fn fill(&mut self)
+        ensures { (k : ℕ) → is_live self.new k ≡ true }
+    {
+        *self = LivePlaces::all();
     }
 
     /// Puts a place into the set.
@@ -47,6 +60,9 @@ impl LivePlaces {
         ensures here { is_live self.new place ≡ true }
         ensures others { (k : ℕ) → k ≢ place → is_live self.new k ≡ is_live self.old k }
     {
+        if self.is_all {
+            return;
+        }
         if place >= PLACES {
             return;
         }
@@ -61,6 +77,7 @@ impl LivePlaces {
         if place >= PLACES {
             return;
         }
+        self.is_all = false;
         let block = &mut self.blocks[place / LINKS];
         block.set(place % LINKS, false);
     }
@@ -68,14 +85,18 @@ impl LivePlaces {
     /// The next place of the set, from this one on and below another.
     #[inline(always)]
     pub fn next(&self, from: usize, below: usize) -> Option<usize>
+        requires { below ≤ told_places }
         ensures passed { (k : ℕ) → from ≤ k → k < unwrap_or result below → is_live self.now k ≡ false }
         ensures found { IfSome result (λ k. (from ≤ k) × (k < below) × (is_live self.now k ≡ true)) }
     {
+        if self.is_all {
+            if from < below {
+                return Some(from);
+            }
+            return None;
+        }
         let mut at = from;
         while at < below {
-            if at >= PLACES {
-                return Some(at);
-            }
             let block = self.blocks[at / LINKS];
             let first = at - at % LINKS;
             match block.next(at % LINKS, block) {

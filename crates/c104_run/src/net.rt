@@ -22,7 +22,7 @@ use crate::recording::{place_new_recorded, place_recorded};
 use crate::run::Run;
 use crate::run_parts::{RunParts, parts_of};
 use crate::wires::Wires;
-use c104_node::Node;
+use c104_node::{ArrivedOf, Node};
 use c104_plan::{Image, Plan};
 use c104_token::{NoMemory, Token};
 use std::alloc::Global;
@@ -119,7 +119,7 @@ impl Net {
 
     /// The tokens that arrived at a terminal since the start, in order. None where the plan has no
     /// such terminal.
-    pub fn arrived(&self, terminal: usize) -> Option<&[Token]>
+    pub fn arrived(&self, terminal: usize) -> Option<&ArrivedOf<Token>>
         ensures { option_copied result ≡ network_arrived self.now.network terminal }
     {
         arrived_at(&self.wires, self.places.as_slice(), terminal)

@@ -10,7 +10,7 @@ ghost use Rattle.c104_run.specs.NetViews.{network_link_view, network_terminal_vi
 ghost use Rattle.c104_node.specs.Places.{states};
 
 use crate::wires::Wires;
-use c104_node::{Place, TerminalView, node_at};
+use c104_node::{ArrivedOf, Place, TerminalView, node_at};
 use c104_switch::LinkView;
 use c104_token::TokenKind;
 
@@ -101,7 +101,7 @@ pub fn arrived_at<'a, T: TokenKind, P: Place<T>>(
     wires: &Wires,
     places: &'a [P],
     terminal: usize,
-) -> Option<&'a [T]>
+) -> Option<&'a ArrivedOf<T>>
     ensures { option_copied result ≡ network_arrived (network_of wires.now (states (map P.shown places.now))) terminal }
 {
     if terminal >= wires.terminal_count() {
@@ -112,7 +112,7 @@ pub fn arrived_at<'a, T: TokenKind, P: Place<T>>(
 }
 
 /// The tokens that arrived at the node at a place, if it is a terminal.
-fn arrived_place<T: TokenKind, P: Place<T>>(places: &[P], place: usize) -> Option<&[T]>
+fn arrived_place<T: TokenKind, P: Place<T>>(places: &[P], place: usize) -> Option<&ArrivedOf<T>>
     ensures { option_copied result ≡ nodes_arrived (states (map P.shown places.now)) place }
 {
     match node_at(places, place) {

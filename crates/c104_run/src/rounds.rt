@@ -90,21 +90,26 @@ fn settle<T: TokenKind, P: Place<T>>(wires: &Wires, places: &[P], live: &mut Liv
     take_out_idle(wires, places, live);
 }
 
-/// Takes the places out at which nothing can begin now.
+/// Takes the places out at which nothing can begin now, unless most would be left: then all are, since all are walked
+/// faster than most.
 fn take_out_idle<T: TokenKind, P: Place<T>>(wires: &Wires, places: &[P], live: &mut LivePlaces)
     requires { AreLive T.kind wires.now live.old (states (map P.shown places.now)) }
     ensures { AreLive T.kind wires.now live.new (states (map P.shown places.now)) }
 {
-    // The proof reads here what every plan keeps.
     let _plan = wires.plan();
-    let end = wires.switch_count() + wires.terminal_count();
+    let end = wires.place_count();
+    let mut left = 0usize;
     let mut from = 0;
     while let Some(place) = live.next(from, end) {
         from = place + 1;
         let links = wires.node_links(place);
         if !is_idle_at(places, place, links) {
+            left = left.saturating_add(1);
             continue;
         }
         live.remove(place);
+    }
+    if left > end / 2 {
+        live.fill();
     }
 }

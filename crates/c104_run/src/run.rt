@@ -5,7 +5,7 @@ ghost use Rattle.c104_run.specs.Finished.{run_arrived};
 ghost use Rattle.c104_run.specs.FinishedRecords.{IsFinishedRecord};
 
 use crate::run_parts::RunParts;
-use c104_node::{Entry, NodeStart};
+use c104_node::{ArrivedOf, Entry, NodeStart};
 use c104_plan::Plan;
 use c104_token::{Items, Token};
 use std::marker::Model;
@@ -84,7 +84,7 @@ impl Run {
 
     /// The tokens that had arrived at a terminal at the end, in order. None where the plan has no
     /// such terminal.
-    pub fn arrived(&self, terminal: usize) -> Option<&[Token]>
+    pub fn arrived(&self, terminal: usize) -> Option<&ArrivedOf<Token>>
         ensures { option_copied result ≡ run_arrived self.now.finished terminal }
     {
         match self.parts.terminals.get(terminal) {

@@ -7,11 +7,12 @@ ghost use Rattle.c104_plan.specs.Wiring.{IsPlanPort};
 ghost use Rattle.c104_node.specs.Records.{has_link};
 ghost use Rattle.c104_run.specs.Ends.{end_of};
 ghost use Rattle.c104_run.specs.KnownWires.{is_linked_end};
-ghost use Rattle.c104_run.specs.FarEnds.{far_end, link_ends, terminal_ends};
+ghost use Rattle.c104_run.specs.FarEnds.{far_end};
 ghost use Rattle.c104_run.specs.Network.{terminal_place, wired_fault};
 ghost use Rattle.c104_run.specs.Rounds.{is_wired};
-ghost use Rattle.c104_run.specs.LinkedSets.{AreLinked};
 ghost use Rattle.c104_regs.specs.declared.registers.TheConstants.{LINKS};
+
+mod tables;
 
 use c104_event::{EventFault, Port};
 use c104_node::End;
@@ -20,6 +21,7 @@ use c104_switch::{LINKS, LinkSet};
 use c104_token::NoMemory;
 use std::alloc::Global;
 use std::marker::Model;
+use tables::far_ends;
 
 /// A plan, with the table of its wires: the far end at each port is one look-up.
 #[derive(Drop)]
@@ -94,6 +96,16 @@ impl Wires {
         ensures { result ≡ length self.now.terminals }
     {
         self.plan.terminals().len()
+    }
+
+    /// How many nodes it has: switches, and then terminals.
+    #[inline(always)]
+    pub fn place_count(&self) -> usize
+        ensures { result ≡ length self.now.switches + length self.now.terminals }
+    {
+        // The proof reads here what every plan keeps.
+        let _plan = self.plan();
+        self.switch_count() + self.terminal_count()
     }
 
     /// The place of a terminal among the nodes.
@@ -234,95 +246,6 @@ impl Wires {
         // The plan has at most 64 switches, so the sum fits.
         let _switches = self.plan.switches();
         self.links[switch * LINKS + link]
-    }
-}
-
-/// What is found of the wires of a plan.
-#[derive(Drop)]
-struct FarEnds {
-    links: Vec<Option<End>>,
-    terminals: Vec<Option<End>>,
-    linked: Vec<LinkSet>,
-}
-
-/// The far ends of all links and terminals of a plan, and the wired links of its switches.
-fn far_ends(alloc: Global, plan: &Plan) -> Result<FarEnds, NoMemory>
-    ensures links { IfOk result (λ ends. ends.links.items ≡ link_ends plan.now) }
-    ensures terminals { IfOk result (λ ends. ends.terminals.items ≡ terminal_ends plan.now) }
-    ensures linked { IfOk result (λ ends.
-        AreLinked plan.now (length plan.now.switches) ends.linked.items) }
-{
-    let links = link_ends(alloc, plan)?;
-    let terminals = terminal_ends(alloc, plan)?;
-    let linked = linked_sets(alloc, plan, &links)?;
-    Ok(FarEnds {
-        links,
-        terminals,
-        linked,
-    })
-}
-
-/// The far ends of all links of a plan, by switch and link.
-fn link_ends(alloc: Global, plan: &Plan) -> Result<Vec<Option<End>>, NoMemory>
-    ensures { IfOk result (λ ends. ends.items ≡ link_ends plan.now) }
-{
-    let count = plan.switches().len() * LINKS;
-    let mut ends = Vec::with_capacity(alloc, count)?;
-    for place in 0..count {
-        let port = Port::Switch(place / LINKS, place % LINKS);
-        ends.push(find_far_end(plan, port))?;
-    }
-    Ok(ends)
-}
-
-/// The far ends of the terminals of a plan, in order.
-fn terminal_ends(alloc: Global, plan: &Plan) -> Result<Vec<Option<End>>, NoMemory>
-    ensures { IfOk result (λ ends. ends.items ≡ terminal_ends plan.now) }
-{
-    let count = plan.terminals().len();
-    let mut ends = Vec::with_capacity(alloc, count)?;
-    for terminal in 0..count {
-        ends.push(find_far_end(plan, Port::Terminal(terminal)))?;
-    }
-    Ok(ends)
-}
-
-/// The wired links of each switch, in order, by the far ends of all links.
-fn linked_sets(alloc: Global, plan: &Plan, links: &[Option<End>]) -> Result<Vec<LinkSet>, NoMemory>
-    requires { links.now ≡ link_ends plan.now }
-    ensures { IfOk result (λ sets. AreLinked plan.now (length plan.now.switches) sets.items) }
-{
-    let count = plan.switches().len();
-    let mut sets = Vec::with_capacity(alloc, count)?;
-    for switch in 0..count {
-        sets.push(linked_set(plan, links, switch))?;
-    }
-    Ok(sets)
-}
-
-/// The wired links of a switch, by the far ends of all links.
-fn linked_set(plan: &Plan, links: &[Option<End>], switch: usize) -> LinkSet
-    requires links { links.now ≡ link_ends plan.now }
-    requires switch { switch < length plan.now.switches }
-    ensures { (l : ℕ) → l < LINKS →
-        has_bit result l ≡ is_wired plan.now (port.Switch switch l) }
-{
-    // The plan has at most 64 switches, so the sum fits.
-    let _switches = plan.switches();
-    let mut set = LinkSet::new();
-    for link in 0..LINKS {
-        set.set(link, links[switch * LINKS + link].is_some());
-    }
-    set
-}
-
-/// The far end of the wire at a port, found among the plan's wires.
-fn find_far_end(plan: &Plan, port: Port) -> Option<End>
-    ensures { result ≡ far_end plan.now port }
-{
-    match plan.peer(port) {
-        Some(other) => Some(end_of(plan, other)),
-        None => None,
     }
 }
 

@@ -66,7 +66,15 @@ fn add_terminal(
     let (Some(arrived), Some(origins)) = (run.arrived(terminal), origins.get(terminal)) else {
         unreachable!();
     };
-    add_packets(alloc, run, terminal, arrived, origins.as_slice(), text)
+    let tokens = arrived.to_list(alloc)?;
+    add_packets(
+        alloc,
+        run,
+        terminal,
+        tokens.as_slice(),
+        origins.as_slice(),
+        text,
+    )
 }
 
 /// The lines of a terminal's whole packets join the text. The origins are those of the packets, in order of arrival.

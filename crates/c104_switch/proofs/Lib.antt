@@ -10,6 +10,9 @@ mod Readiness
 mod Wanting
 mod LinkSets
 mod KeptSets
+mod KeptInputs
+mod KeptSending
+mod StreamSteps
 mod SoundnessBuffers
 mod SoundnessInputs
 mod SoundnessTurns

@@ -19,6 +19,12 @@ streaming_input p o = record p { phase = Stream o }
 abbrev pub put_header : {A : Type 0} → Settings → List A → Outgoing A → Option (Outgoing A)
 put_header s b q = if s.delete_header then Some q else buffer.outgoing_put_all b q
 
+-- the same of output o of all, as the settings of its own link say
+abbrev pub put_own : {A : Type 0} → List Settings → ℕ → List A → List (Outgoing A) → Option (List (Outgoing A))
+put_own settings o b qs = do
+  t ← slice_get settings o
+  step_at qs o (put_header t b)
+
 -- the header goes to output o of the group that is wanted, and the rest will follow
 abbrev pub input_claim : {A : Type 0} → List Settings → Input A → List (Outgoing A) → ℕ → Phase (List A) → Option (Input A × List (Outgoing A))
 input_claim settings p qs o (Want b g) = do

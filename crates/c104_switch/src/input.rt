@@ -1,5 +1,5 @@
 //! The input side of one link.
-ghost use Rattle.std.specs.Prelude.{option_to_list, ◌≡◌, ◌==◌, length, IfOk, is_some};
+ghost use Rattle.std.specs.Prelude.{option_to_list, ◌≡◌, ◌==◌, length, slice_get, IfOk, is_some};
 ghost use Rattle.std.specs.Option.{option_copied};
 ghost use Rattle.c104_link.specs.Buffers.{IsValidCap, IsWithinCap};
 ghost use Rattle.c104_link.specs.Steps.{bool_outcome};
@@ -221,11 +221,18 @@ impl<T: TokenKind> InputOf<T> {
         self.buffer.granted() > 0
     }
 
+    /// Whether the input has a token.
+    pub fn has_token(&self) -> bool
+        ensures { result ≡ is_some (slice_get self.now.buffer.items 0) }
+    {
+        self.buffer.first().is_some()
+    }
+
     /// Whether the input has a token and doesn't want an output. Else it isn't ready for a turn.
     pub fn may_turn(&self) -> bool
         ensures { result ≡ may_turn self.now }
     {
-        self.buffer.first().is_some() && !self.is_wanting()
+        self.has_token() && !self.is_wanting()
     }
 
     /// Whether `grant` would grant.

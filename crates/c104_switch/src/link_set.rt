@@ -1,5 +1,5 @@
 //! Sets of links.
-ghost use Rattle.std.specs.Prelude.{◌≡◌, ◌≢◌, ◌<◌, ◌&&◌, ℕ, false, true};
+ghost use Rattle.std.specs.Prelude.{◌≡◌, ◌≢◌, ◌<◌, ◌&&◌, ◌||◌, ℕ, false, true};
 ghost use Rattle.c104_crossbar.specs.Groups.{has_bit};
 ghost use Rattle.c104_regs.specs.declared.registers.TheConstants.{LINKS};
 ghost use Rattle.c104_switch.specs.Claims.{IsNextLink};
@@ -53,6 +53,28 @@ impl LinkSet {
             self.word |= bit;
         } else {
             self.word &= !bit;
+        }
+    }
+
+    /// Puts a link into the set, where this is so. Else nothing changes.
+    #[inline(always)]
+    pub(crate) fn add_if(&mut self, link: usize, is_so: bool)
+        ensures here { link < LINKS → has_bit self.new link ≡ (is_so || has_bit self.old link) }
+        ensures others { (l : ℕ) → l < LINKS → l ≢ link → has_bit self.new l ≡ has_bit self.old l }
+    {
+        if is_so {
+            self.set(link, true);
+        }
+    }
+
+    /// Takes a link out of the set, unless this is so. Else nothing changes.
+    #[inline(always)]
+    pub(crate) fn remove_unless(&mut self, link: usize, is_so: bool)
+        ensures here { link < LINKS → has_bit self.new link ≡ (is_so && has_bit self.old link) }
+        ensures others { (l : ℕ) → l < LINKS → l ≢ link → has_bit self.new l ≡ has_bit self.old l }
+    {
+        if !is_so {
+            self.set(link, false);
         }
     }
 

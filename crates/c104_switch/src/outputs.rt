@@ -88,7 +88,8 @@ impl<T: TokenKind> OutputsOf<T> {
         }
         let output = &mut list[link];
         let token = output.emit();
-        self.sending.set(link, output.can_emit());
+        // It can send no more than before.
+        self.sending.remove_unless(link, output.can_emit());
         token
     }
 
@@ -118,7 +119,8 @@ impl<T: TokenKind> OutputsOf<T> {
         }
         let output = &mut list[link];
         let is_done = put(output, token);
-        self.sending.set(link, output.can_emit());
+        // It holds a token now, this one or others, so it can send where it has credit.
+        self.sending.add_if(link, output.credit() > 0);
         is_done
     }
 

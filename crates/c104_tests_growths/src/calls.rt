@@ -96,7 +96,13 @@ fn is_same_entry(one: &Entry, other: &Entry) -> bool {
 
 /// Whether the packet of the first run has come to the terminal b.
 pub fn has_come(net: &Net) -> bool {
-    net.arrived(1) == Some([Token::Byte(1), Token::Byte(0xaa), Token::Eop].as_slice())
+    let Some(arrived) = net.arrived(1) else {
+        return false;
+    };
+    arrived.len() == 3
+        && arrived.get(0) == Some(Token::Byte(1))
+        && arrived.get(1) == Some(Token::Byte(0xaa))
+        && arrived.get(2) == Some(Token::Eop)
 }
 
 /// The packet of the first run.

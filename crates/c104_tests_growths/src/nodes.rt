@@ -8,7 +8,7 @@ use c104_node::{
     Act, ActOf, Node, NodeOf, NodeStart, SentPacket, Source, TaggedToken, Traced, add_starts,
     origins_of, tagged_origins,
 };
-use c104_token::{NoMemory, Packet, Token};
+use c104_token::{NoMemory, Packet, Token, TokenKind};
 use std::alloc::Global;
 
 /// The nodes of a network: the switches, and then the terminals.
@@ -216,11 +216,7 @@ fn traced_end() -> Traced {
 }
 
 fn tagged_end() -> TaggedToken {
-    TaggedToken {
-        token: Token::Eop,
-        terminal: 0,
-        number: 0,
-    }
+    TaggedToken::sent(0, 0, 2, Token::Eop)
 }
 
 #[test]

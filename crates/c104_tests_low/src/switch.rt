@@ -152,10 +152,16 @@ struct Placed {
 }
 
 impl TokenKind for Placed {
-    ghost kind = { record { plain = λ x. x.token; random = λ place x. record { token = x; place = place }; sent = λ terminal number place x. record { token = x; place = place } } };
+    ghost use Rattle.std.specs.Prelude.{None};
+
+    ghost kind = { record { plain = λ x. x.token; byte = λ x. None; random = λ place x. record { token = x; place = place }; sent = λ terminal number place x. record { token = x; place = place } } };
 
     fn plain(&self) -> Token {
         self.token
+    }
+
+    fn byte(&self) -> Option<u8> {
+        None
     }
 
     fn random(place: usize, token: Token) -> Self {

@@ -4,7 +4,7 @@ use c104_control::ControlBytes;
 use c104_describe::read_description;
 use c104_event::{Event, EventFault};
 use c104_label::image_of;
-use c104_net::{Entry, Net, NetParts, Reason, Run, round_part};
+use c104_net::{ArrivedOf, Entry, Net, NetParts, Reason, Run, round_part};
 use c104_plan::{Image, Plan, hand_image};
 use c104_switch::Reply;
 use c104_token::{Packet, Token, parse_packet};
@@ -181,12 +181,25 @@ pub fn entry_count(net: &Net, node: usize) -> usize {
 
 /// Whether these tokens have arrived at a terminal so far.
 pub fn has_arrived(net: &Net, terminal: usize, due: &[Token]) -> bool {
-    net.arrived(terminal) == Some(due)
+    are_tokens(net.arrived(terminal), due)
 }
 
 /// Whether these tokens had arrived at a terminal at the end of a run.
 pub fn did_arrive(run: &Run, terminal: usize, due: &[Token]) -> bool {
-    run.arrived(terminal) == Some(due)
+    are_tokens(run.arrived(terminal), due)
+}
+
+/// Whether what arrived are these tokens.
+fn are_tokens(arrived: Option<&ArrivedOf<Token>>, due: &[Token]) -> bool {
+    let Some(arrived) = arrived else {
+        return false;
+    };
+    for (index, token) in due.iter().enumerate() {
+        if arrived.get(index) != Some(*token) {
+            return false;
+        }
+    }
+    arrived.len() == due.len()
 }
 
 /// What a node did in a run.

@@ -1,6 +1,7 @@
-ghost use Rattle.std.specs.Prelude.{◌≡◌, ◌<◌, ◌+◌, ◌*◌, map, IfOk, IfSome};
+ghost use Rattle.std.specs.Prelude.{◌≡◌, ◌<◌, ◌+◌, ◌*◌, map, nat_lt, IfOk, IfSome};
 ghost use Rattle.std.specs.String.{string_bytes};
 ghost use Rattle.c104_token.specs.Text.{packet_words, word_of, spelled_byte, hex_value, parse_packet, parse_words, packet_text, hex_digit, IsPacketText, TakesPacketText, ReadsBack, GivesPacketOrNoMemory};
+ghost use Rattle.c104_token.specs.declared.text.TheConstants.{MAX_PACKET_BYTES};
 
 use crate::faults::{NoMemory, TokenFault};
 use crate::list::Items;
@@ -41,7 +42,7 @@ pub fn parse_words(alloc: Global, words: &[&[u8]]) -> Result<Packet, TokenFault>
     for (place, word) in words.iter().enumerate() {
         match read_word(word) {
             Word::Byte(byte) => {
-                if bytes.len() >= MAX_PACKET_BYTES {
+                if !has_room(bytes.len()) {
                     return Err(TokenFault::TooLong);
                 }
                 bytes.push(byte)?;
@@ -59,6 +60,13 @@ pub fn parse_words(alloc: Global, words: &[&[u8]]) -> Result<Packet, TokenFault>
         }
     }
     Err(TokenFault::NoEnd)
+}
+
+/// Whether a packet that has this number of bytes may have one more.
+fn has_room(count: usize) -> bool
+    ensures { result ≡ nat_lt count MAX_PACKET_BYTES }
+{
+    count < MAX_PACKET_BYTES
 }
 
 /// The words of a text that spaces part.

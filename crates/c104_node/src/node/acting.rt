@@ -1,5 +1,5 @@
 //! The acts of a node.
-ghost use Rattle.std.specs.Prelude.{◌≡◌, ◌<◌, ◌≤◌, ℕ, Some, None, true, false, is_some, unwrap_or, IfSome, MatchResult};
+ghost use Rattle.std.specs.Prelude.{◌≡◌, ◌<◌, ◌≤◌, ℕ, Some, None, true, false, is_some, unwrap_or, IfSome, MatchResult, OnErr};
 ghost use Rattle.c104_node.specs.Acts.{IsWithinLimits, node_act, reply_outcome, wants_memory};
 ghost use Rattle.c104_regs.specs.declared.registers.TheConstants.{LINKS};
 ghost use Rattle.c104_node.specs.PortActs.{act_limit};
@@ -18,7 +18,7 @@ use c104_token::{NoMemory, TokenKind};
 
 impl<T: TokenKind> NodeOf<T> {
     /// Does an act, or answers NotReady and changes nothing. The number is the terminal's, if the
-    /// node is one. Only Send and Drain may want memory, and then nothing has changed.
+    /// node is one. Only Send and Drain may want memory, where the node is ready for them, and then nothing has changed.
     #[inline(always)]
     pub fn act(&mut self, number: usize, act: &ActOf<T>) -> Result<ReplyOf<T>, NoMemory>
         requires { IsWithinLimits act.now }
@@ -29,6 +29,7 @@ impl<T: TokenKind> NodeOf<T> {
         ensures memory { MatchResult result
             (λ _. Unit {0})
             (λ _. wants_memory act.now ≡ true) }
+        ensures refused { OnErr result (is_some (node_act T.kind number act.now self.old) ≡ true) }
     {
         match act {
             ActOf::Send(packet) => match self {
@@ -41,6 +42,9 @@ impl<T: TokenKind> NodeOf<T> {
             ActOf::Drain => match self {
                 NodeOf::Switch(_) => Ok(ReplyOf::NotReady),
                 NodeOf::Terminal(terminal) => {
+                    if !terminal.can_drain() {
+                        return Ok(ReplyOf::NotReady);
+                    }
                     let token = terminal.drain()?;
                     Ok(gave(token))
                 }
@@ -58,7 +62,7 @@ impl<T: TokenKind> NodeOf<T> {
         spare: &mut SpareOf<T>,
     ) -> ReplyOf<T>
         requires below { act_limit (Some self.old) act.now ≡ None }
-        requires enough { IsEnough spare.old self.old act.now }
+        requires enough { IsEnough T.kind spare.old self.old act.now }
         ensures { (result, self.new) ≡ reply_outcome (node_act T.kind number act.now self.old) self.old }
     {
         match act {

@@ -67,7 +67,7 @@ impl<T: TokenKind> NodeOf<T> {
 
     /// Sets aside what memory an act wants. The only error is out of memory.
     pub fn room_for(&self, act: &ActOf<T>, spare: &mut SpareOf<T>) -> Result<(), NoMemory>
-        ensures { OnOk result (IsEnough spare.new self.now act.now) }
+        ensures { OnOk result (IsEnough T.kind spare.new self.now act.now) }
     {
         match self {
             NodeOf::Switch(_) => Ok(()),

@@ -14,7 +14,7 @@ impl Place<Token> for Node {
     ghost use Rattle.c104_node.specs.PortActs.{act_limit};
     ghost use Rattle.c104_node.specs.ActLinks.{on_links};
     ghost use Rattle.c104_node.specs.Records.{is_full, node_shown, has_link};
-    ghost use Rattle.c104_node.specs.PlaceActs.{ActEnds};
+    ghost use Rattle.c104_node.specs.PlaceActs.{ActEnds, AttemptEnds};
     ghost use Rattle.c104_node.specs.WiredPlaces.{is_linked};
 
     ghost shown = { node_shown };
@@ -65,5 +65,20 @@ impl Place<Token> for Node {
             seat: stamp.seat,
         });
         Ok(reply)
+    }
+
+    #[inline(always)]
+    fn attempt(&mut self, number: usize, stamp: Stamp, act: Act) -> Result<Reply, NoMemory>
+        requires short { IsWithinLimits act }
+        requires linked { on_links (has_link self.old.0.wired) act ≡ true }
+        requires below { act_limit (Some self.old.0.state) act ≡ None }
+        requires free { is_full self.old.0 ≡ false }
+        ensures { AttemptEnds plain_kind true number stamp act (node_shown self.old) result (node_shown self.new) }
+    {
+        if !self.core.ready(number, &act) {
+            return Ok(Reply::NotReady);
+        }
+        self.room_for_entry()?;
+        Place::act(self, number, stamp, act)
     }
 }

@@ -13,7 +13,7 @@ impl<T: TokenKind> TerminalOf<T> {
     {
         let input = copy_input(alloc, &self.input)?;
         let sent = copy_sent(alloc, self.sent.as_slice())?;
-        let arrived = copy_tokens(alloc, self.arrived.as_slice())?;
+        let arrived = self.arrived.copy(alloc)?;
         Ok(TerminalOf {
             input,
             sent,
@@ -55,17 +55,6 @@ fn copy_sent(alloc: Global, sent: &[TerminalPacket]) -> Result<Vec<TerminalPacke
             packet,
             terminal: posted.terminal,
         })?;
-    }
-    Ok(list)
-}
-
-/// A copy of tokens. The only error is out of memory.
-fn copy_tokens<T: TokenKind>(alloc: Global, tokens: &[T]) -> Result<Vec<T>, NoMemory>
-    ensures { IfOk result (λ copy. copy.items ≡ tokens.now) }
-{
-    let mut list = Vec::with_capacity(alloc, tokens.len())?;
-    for token in tokens {
-        list.push(*token)?;
     }
     Ok(list)
 }

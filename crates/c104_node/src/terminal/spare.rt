@@ -1,11 +1,13 @@
 //! Memory that is set aside for a terminal: lists that may take the place of its own, so that it grows without memory.
-ghost use Rattle.std.specs.Prelude.{◌≡◌, ◌≤◌, ◌<◌, ◌+◌, ◌++◌, ◌∷◌, [], Some, None, length, vec_len, OnOk};
+ghost use Rattle.std.specs.Prelude.{◌≡◌, ◌≤◌, ◌<◌, ◌+◌, ◌++◌, ◌∷◌, [], Some, None, length, vec_len, IfOk, OnOk};
 ghost use Rattle.std.specs.Vec.{vec_capacity};
 ghost use Rattle.c104_link.specs.Steps.{option_outcome};
 ghost use Rattle.c104_token.specs.declared.packets.Packet.{Packet as ThePacket};
+ghost use Rattle.c104_node.specs.Arrivals.{others_in};
 ghost use Rattle.c104_node.specs.PortActs.{outbox_limit};
 ghost use Rattle.c104_node.specs.Terminals.{terminal_drain, terminal_send};
 
+use super::arrived::OtherOf;
 use super::{TerminalOf, TerminalPacket};
 use c104_token::{NoMemory, Packet, TokenKind};
 use std::alloc::Global;
@@ -18,7 +20,8 @@ use std::mem;
 pub struct SpareOf<T: TokenKind> {
     copy: Option<Packet>,
     sent: Vec<TerminalPacket>,
-    arrived: Vec<T>,
+    bytes: Vec<u8>,
+    others: Vec<OtherOf<T>>,
 }
 
 impl<T: TokenKind> Model for SpareOf<T> {
@@ -28,20 +31,26 @@ impl<T: TokenKind> Model for SpareOf<T> {
 
     ghost Value = { SpareRoom };
 
-    ghost view = { λ s. record { copy = s.copy; sent = vec_capacity s.sent; arrived = vec_capacity s.arrived } };
+    ghost view = { λ s. record {
+      copy = s.copy;
+      sent = vec_capacity s.sent;
+      arrived = vec_capacity s.bytes;
+      others = vec_capacity s.others;
+    } };
 
-    ghost invariant = { λ s. (s.sent.items ≡ []) × (s.arrived.items ≡ []) };
+    ghost invariant = { λ s. (s.sent.items ≡ []) × (s.bytes.items ≡ []) × (s.others.items ≡ []) };
 }
 
 impl<T: TokenKind> SpareOf<T> {
     /// Nothing is set aside.
     pub fn new(alloc: Global) -> Self
-        ensures { result ≡ record { copy = None; sent = 0; arrived = 0 } }
+        ensures { result ≡ record { copy = None; sent = 0; arrived = 0; others = 0 } }
     {
         SpareOf {
             copy: None,
             sent: Vec::new(alloc),
-            arrived: Vec::new(alloc),
+            bytes: Vec::new(alloc),
+            others: Vec::new(alloc),
         }
     }
 }
@@ -60,9 +69,13 @@ impl<T: TokenKind> TerminalOf<T> {
 
     /// Sets memory aside for one more token that arrives. The only error is out of memory.
     pub fn room_for_drain(&self, spare: &mut SpareOf<T>) -> Result<(), NoMemory>
-        ensures { OnOk result (length self.now.arrived < spare.new.arrived) }
+        ensures arrived { OnOk result (length self.now.arrived < spare.new.arrived) }
+        ensures others { OnOk result (others_in T.kind self.now.arrived < spare.new.others) }
     {
-        spare.arrived.reserve(self.arrived.len() + 1)?;
+        let arrived = one_more(self.arrived.len())?;
+        let others = one_more(self.arrived.other_count())?;
+        spare.bytes.reserve(arrived)?;
+        spare.others.reserve(others)?;
         Ok(())
     }
 
@@ -81,14 +94,16 @@ impl<T: TokenKind> TerminalOf<T> {
         self.post(terminal, packet, &mut spare.sent);
     }
 
-    /// The first token that came in arrives, as in `drain`, but without memory: where the list of what arrived is full,
-    /// the spare one takes its place. None where none came in.
+    /// The first token that came in arrives, as in `drain`, but without memory: where a list of what arrived is full, the
+    /// spare one takes its place. None where none came in.
     pub fn drain_reserved(&mut self, spare: &mut SpareOf<T>) -> Option<T>
-        requires { length self.old.arrived < spare.old.arrived }
+        requires arrived { length self.old.arrived < spare.old.arrived }
+        requires others { others_in T.kind self.old.arrived < spare.old.others }
         ensures { (result, self.new) ≡ option_outcome (terminal_drain self.old) self.old }
     {
         let token = self.input.take()?;
-        push_roomy(&mut self.arrived, &mut spare.arrived, token);
+        self.arrived
+            .push_into(token, &mut spare.bytes, &mut spare.others);
         Some(token)
     }
 
@@ -107,8 +122,15 @@ impl<T: TokenKind> TerminalOf<T> {
     }
 }
 
+/// One more than a count. Out of memory where that is more than can be counted.
+fn one_more(count: usize) -> Result<usize, NoMemory>
+    ensures { IfOk result (λ more. more ≡ count + 1) }
+{
+    count.checked_add(1).ok_or(NoMemory)
+}
+
 /// A thing joins a list. Where the list is full, another that has room takes its place.
-fn push_roomy<X>(list: &mut Vec<X>, spare: &mut Vec<X>, thing: X)
+pub(super) fn push_roomy<X>(list: &mut Vec<X>, spare: &mut Vec<X>, thing: X)
     requires empty { spare.old.items ≡ [] }
     requires room { vec_len list.old < vec_capacity spare.old }
     ensures items { list.new.items ≡ list.old.items ++ thing ∷ [] }

@@ -3,7 +3,7 @@ ghost use Rattle.std.specs.Prelude.{◌≡◌, IfOk};
 ghost use Rattle.c104_link.specs.Buffers.{IsValidCap};
 ghost use Rattle.c104_node.specs.TerminalStarts.{IsTerminalStart, new_terminal_start, start_terminal, terminal_start};
 
-use super::TerminalOf;
+use super::{ArrivedOf, TerminalOf};
 use c104_link::InBufferOf;
 use c104_token::{NoMemory, TokenKind};
 use std::alloc::Global;
@@ -88,7 +88,7 @@ impl<T: TokenKind> TerminalOf<T> {
             place: 0,
             waiting: 0,
             credit: start.credit,
-            arrived: Vec::new(alloc),
+            arrived: ArrivedOf::new(alloc),
         })
     }
 

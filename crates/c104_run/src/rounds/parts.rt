@@ -10,7 +10,7 @@ ghost use Rattle.c104_run.specs.RoundParts.{PartEnds};
 ghost use Rattle.c104_run.specs.Stages.{stage_apply, stage_of};
 
 use super::attempts::{attempt_claim, attempt_drain};
-use super::ports::{next_terminal, walk_ports};
+use super::ports::{next_terminal, walk_ports, walk_switches};
 use crate::live_places::LivePlaces;
 use crate::wires::Wires;
 use c104_event::EventFault;
@@ -65,7 +65,8 @@ pub fn turn_inputs<T: TokenKind, P: Place<T>>(
         result (stage_of wires.now (map P.shown places.new) count.new) }
     ensures live { AreLive T.kind wires.now live.new (states (map P.shown places.new)) }
 {
-    walk_ports(wires, places, live, count, PortPart::Turn)
+    // A terminal has no input.
+    walk_switches(wires, places, live, count, PortPart::Turn)
 }
 
 /// The claims of all switches.
@@ -82,6 +83,8 @@ pub fn claim_outputs<T: TokenKind, P: Place<T>>(
     ensures live { AreLive T.kind wires.now live.now (states (map P.shown places.new)) }
 {
     let mut changed = false;
+    // The proof reads here what every plan keeps.
+    let _plan = wires.plan();
     let switches = wires.switch_count();
     let mut from = 0;
     while let Some(switch) = live.next(from, switches) {
@@ -161,8 +164,10 @@ pub fn drain_terminals<T: TokenKind, P: Place<T>>(
     ensures live { AreLive T.kind wires.now live.now (states (map P.shown places.new)) }
 {
     let mut changed = false;
+    let first = wires.switch_count();
+    let end = wires.place_count();
     let mut from = 0;
-    while let Some(terminal) = next_terminal(wires, live, from) {
+    while let Some(terminal) = next_terminal(wires, live, first, end, from) {
         let done = attempt_drain(wires, places, count, terminal)?;
         changed |= done;
         from = terminal + 1;

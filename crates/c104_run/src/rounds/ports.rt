@@ -2,7 +2,7 @@
 //! switch by the sets of its links, so that no event is tried of which it is known that its near end isn't ready.
 //!
 //! The walks are inlined, since each part is a code of its own.
-ghost use Rattle.std.specs.Prelude.{◌≡◌, ◌<◌, ◌≤◌, ℕ, None, false, true, flat_map, length, map, unwrap_or, IfSome, Ok};
+ghost use Rattle.std.specs.Prelude.{◌≡◌, ◌+◌, ◌<◌, ◌≤◌, ℕ, None, false, true, flat_map, length, map, unwrap_or, IfSome, Ok};
 ghost use Rattle.c104_plan.specs.declared.ports.Port.TheVariants as port;
 ghost use Rattle.c104_regs.specs.declared.registers.TheConstants.{LINKS};
 ghost use Rattle.c104_node.specs.Places.{bases, states};
@@ -47,7 +47,7 @@ pub fn walk_ports<T: TokenKind, P: Place<T>>(
 
 /// The events of a part at the wired links of the switches.
 #[inline(always)]
-fn walk_switches<T: TokenKind, P: Place<T>>(
+pub fn walk_switches<T: TokenKind, P: Place<T>>(
     wires: &Wires,
     places: &mut [P],
     live: &mut LivePlaces,
@@ -64,6 +64,8 @@ fn walk_switches<T: TokenKind, P: Place<T>>(
     ensures live { AreLive T.kind wires.now live.new (states (map P.shown places.new)) }
 {
     let mut changed = false;
+    // The proof reads here what every plan keeps.
+    let _plan = wires.plan();
     let switches = wires.switch_count();
     let mut from = 0;
     while let Some(switch) = live.next(from, switches) {
@@ -146,8 +148,10 @@ fn walk_terminals<T: TokenKind, P: Place<T>>(
     ensures live { AreLive T.kind wires.now live.new (states (map P.shown places.new)) }
 {
     let mut changed = false;
+    let first = wires.switch_count();
+    let end = wires.place_count();
     let mut from = 0;
-    while let Some(terminal) = next_terminal(wires, live, from) {
+    while let Some(terminal) = next_terminal(wires, live, first, end, from) {
         let done = try_terminal(wires, places, live, count, part, terminal)?;
         changed |= done;
         from = terminal + 1;
@@ -155,10 +159,19 @@ fn walk_terminals<T: TokenKind, P: Place<T>>(
     Ok(changed)
 }
 
-/// The next terminal, from this one on, at which something may begin.
+/// The next terminal, from this one on, at which something may begin. The first terminal's place and the end of the places
+/// are given, so that a walk looks them up once.
 #[inline(always)]
-pub fn next_terminal(wires: &Wires, live: &LivePlaces, from: usize) -> Option<usize>
-    requires { from ≤ length wires.now.terminals }
+pub fn next_terminal(
+    wires: &Wires,
+    live: &LivePlaces,
+    first: usize,
+    end: usize,
+    from: usize,
+) -> Option<usize>
+    requires first { first ≡ length wires.now.switches }
+    requires end { end ≡ length wires.now.switches + length wires.now.terminals }
+    requires from { from ≤ length wires.now.terminals }
     ensures passed { (t : ℕ) → from ≤ t → t < unwrap_or result (length wires.now.terminals) →
         is_live live.now (terminal_place wires.now t) ≡ false }
     ensures found { IfSome result (λ t. (from ≤ t) × (t < length wires.now.terminals)) }
@@ -166,10 +179,8 @@ pub fn next_terminal(wires: &Wires, live: &LivePlaces, from: usize) -> Option<us
 {
     // The proof reads here what every plan keeps.
     let _plan = wires.plan();
-    let switches = wires.switch_count();
-    let end = switches + wires.terminal_count();
-    match live.next(switches + from, end) {
-        Some(place) => Some(place - switches),
+    match live.next(first + from, end) {
+        Some(place) => Some(place - first),
         None => None,
     }
 }

@@ -9,7 +9,7 @@ ghost use Rattle.c104_node.specs.declared.tagged.TaggedToken.{TaggedToken as The
 
 use super::TracedNet;
 use crate::place_views::arrived_at;
-use c104_node::TaggedToken;
+use c104_node::{ArrivedOf, TaggedToken};
 use c104_token::{NoMemory, Token, TokenKind};
 use std::alloc::Global;
 
@@ -26,12 +26,20 @@ impl TracedNet {
         let _count = self.count;
         match arrived_at(&self.wires, self.places.as_slice(), terminal) {
             Some(tokens) => {
-                let list = plain_tokens(alloc, tokens)?;
+                let list = plain_list(alloc, tokens)?;
                 Ok(Some(list))
             }
             None => Ok(None),
         }
     }
+}
+
+/// What arrived, without where it came from. The only error is out of memory.
+fn plain_list(alloc: Global, arrived: &ArrivedOf<TaggedToken>) -> Result<Vec<Token>, NoMemory>
+    ensures { IfOk result (λ list. list.items ≡ map (λ (x : TheTagged). x.token) arrived.now) }
+{
+    let tokens = arrived.to_list(alloc)?;
+    plain_tokens(alloc, tokens.as_slice())
 }
 
 /// These tokens without where they came from. The only error is out of memory.
@@ -40,7 +48,7 @@ fn plain_tokens(alloc: Global, tokens: &[TaggedToken]) -> Result<Vec<Token>, NoM
 {
     let mut list = Vec::new(alloc);
     for token in tokens {
-        list.push(token.token)?;
+        list.push(token.plain())?;
     }
     Ok(list)
 }

@@ -2,7 +2,8 @@
 ghost use Rattle.std.specs.Prelude.{option_to_list, ◌≡◌, ◌<◌, ◌∷◌, ◌++◌, ◌&&◌, List, Some, None, ℕ, false, is_some, is_none, nat_le, IfNone, IfSome};
 ghost use Rattle.c104_link.specs.Buffers.{Outgoing};
 ghost use Rattle.c104_regs.specs.declared.registers.TheConstants.{LINKS};
-ghost use Rattle.c104_switch.specs.Claims.{input_claim, IsClaim};
+ghost use Rattle.c104_link.specs.Steps.{bool_outcome};
+ghost use Rattle.c104_switch.specs.Claims.{input_claim, put_own, IsClaim};
 ghost use Rattle.c104_switch.specs.Holding.{phase_claims};
 
 use super::InputOf;
@@ -31,13 +32,9 @@ impl<T: TokenKind> InputOf<T> {
             return Some(claim);
         };
         let output = claim.output();
-        if !is_in_group(registers, link, output) {
-            return Some(claim);
-        }
-        let Some(own) = registers.all_settings().get(output) else {
-            return Some(claim);
-        };
-        if !outputs.put_header(output, own, self.header.as_slice()) {
+        if !is_in_group(registers, link, output)
+            || !put_own(registers, output, self.header.as_slice(), outputs)
+        {
             return Some(claim);
         }
         self.stage.set(Stage::Stream(claim));
@@ -77,5 +74,22 @@ impl<T: TokenKind> InputOf<T> {
             Some(own) => outputs.can_put_header(output, own, self.header.as_slice()),
             None => false,
         }
+    }
+}
+
+/// A header joins an output, or is deleted there, as the output's own link says. False where it
+/// can't be.
+fn put_own<T: TokenKind>(
+    registers: &Registers,
+    output: usize,
+    header: &[T],
+    outputs: &mut OutputsOf<T>,
+) -> bool
+    ensures { (result, outputs.new) ≡
+        bool_outcome (put_own registers.now.settings output header.now outputs.old) outputs.old }
+{
+    match registers.all_settings().get(output) {
+        Some(own) => outputs.put_header(output, own, header),
+        None => false,
     }
 }

@@ -1,12 +1,12 @@
 //! What an input does with its first token.
-ghost use Rattle.std.specs.Prelude.{◌≡◌, ◌++◌, ℕ, true, false, if◌then◌else◌, None, is_some, IsSome};
+ghost use Rattle.std.specs.Prelude.{◌≡◌, ◌++◌, ℕ, true, false, if◌then◌else◌, is_some};
 ghost use Rattle.c104_token.specs.Tokens.{is_end};
 ghost use Rattle.c104_regs.specs.declared.settings.Settings.{Settings as TheSettings};
-ghost use Rattle.c104_switch.specs.Switch.{Fresh, count_after};
+ghost use Rattle.c104_switch.specs.Switch.{Fresh, Stream, count_after};
 ghost use Rattle.c104_switch.specs.Headers.{phase_after_header, random_header};
 ghost use Rattle.c104_switch.specs.Turns.{input_turn, IsTurn, header_turn, random_turn, input_after_token};
-ghost use Rattle.c104_switch.specs.Holding.{phase_claims, is_done_turn, freed_claims};
-ghost use Rattle.c104_switch.specs.Phases.{Sinking, streamed_output, HasRoom, IsReading, tokens_read};
+ghost use Rattle.c104_switch.specs.Holding.{phase_claims, is_done_turn, freed_claims, HasStreamed};
+ghost use Rattle.c104_switch.specs.Phases.{Sinking, HasRoom, IsReading, tokens_read};
 ghost use Rattle.c104_switch.specs.Stages.{stage_phase};
 
 use super::InputOf;
@@ -23,7 +23,9 @@ use std::mem;
 pub enum Turn {
     /// Nothing: it wasn't ready.
     NotReady,
-    /// It is done.
+    /// It is done, by no more than that a token of a packet that streams went on.
+    Streamed,
+    /// It is done otherwise.
     Done,
     /// It is done, and the packet's terminator gave its claim back.
     Freed(Claim),
@@ -37,6 +39,7 @@ impl<T: TokenKind> InputOf<T> {
             self.old outputs.old (is_done_turn result) self.new outputs.new }
         ensures claims { phase_claims self.old.phase ≡
             freed_claims result ++ phase_claims self.new.phase }
+        ensures streamed { HasStreamed result self.old self.new }
     {
         let Some(token) = self.buffer.first() else {
             return Turn::NotReady;
@@ -48,10 +51,8 @@ impl<T: TokenKind> InputOf<T> {
             Stage::Head => self.read_token(settings, token),
             Stage::Want(_) => return Turn::NotReady,
             Stage::Stream(claim) => {
-                if !outputs.put(claim.output(), token) {
-                    return Turn::NotReady;
-                }
-                return self.stream(ends);
+                let output = claim.output();
+                return self.stream(output, outputs);
             }
             Stage::Sinking => self.sink(ends),
         }
@@ -85,19 +86,26 @@ impl<T: TokenKind> InputOf<T> {
         }
     }
 
-    /// Uses the first token of a packet that streams. A terminator ends it and gives the claim
-    /// back.
-    fn stream(&mut self, ends: bool) -> Turn
-        requires { IsSome (streamed_output self.old.phase) }
-        ensures used { self.new ≡
-            input_after_token self.old (if ends then Fresh else self.old.phase) false false }
-        ensures done { is_done_turn result ≡ true }
+    /// The first token of a packet that streams to this output goes on, where there are a token and
+    /// room for it. A terminator ends the packet and gives the claim back.
+    #[inline(always)]
+    fn stream(&mut self, output: usize, outputs: &mut OutputsOf<T>) -> Turn
+        requires { self.old.phase ≡ Stream output }
+        ensures turned { (settings : TheSettings) (word : ℕ) → IsTurn T.kind settings word
+            self.old outputs.old (is_done_turn result) self.new outputs.new }
         ensures claims { phase_claims self.old.phase ≡
             freed_claims result ++ phase_claims self.new.phase }
+        ensures streamed { HasStreamed result self.old self.new }
     {
-        self.buffer.take();
-        if !ends {
-            return Turn::Done;
+        if !outputs.can_put(output) {
+            return Turn::NotReady;
+        }
+        let Some(token) = self.buffer.take() else {
+            return Turn::NotReady;
+        };
+        outputs.put(output, token);
+        if !is_end(token.plain()) {
+            return Turn::Streamed;
         }
         let Some(claim) = mem::replace(&mut self.stage, Stage::Fresh).into_claim() else {
             unreachable!();

@@ -1,4 +1,4 @@
-use Rattle.std.proofs.Common.{◌≡◌, ◌∙◌, ℕ, arith, length, replicate, sym}
+use Rattle.std.proofs.Common.{◌∙◌, ℕ, arith, replicate, sym}
 use Rattle.std.proofs.lemmas.List.{ext_get_or, length-replicate}
 use Rattle.c104_regs.proofs.RegisterLemmas.{get_or-replicate_inside}
 use Rattle.c104_regs.proofs.packed.are_reset.Goals as goal

@@ -1,4 +1,4 @@
-use Rattle.std.proofs.Common.{inl, ap, ◌∙◌, List, ℕ, map, drop, ◌+◌, arith, Bor}
+use Rattle.std.proofs.Common.{inl, ap, sym, ◌∙◌, List, ℕ, map, drop, ◌+◌, nat_lt, Bor}
 use Rattle.c104_token.specs.Text.{packet_from_words, word_of}
 use Rattle.c104_token.proofs.Reading.{after_byte, at_full, at_other, at_early_end}
 use Rattle.c104_token.proofs.text.parse_words.Goals as goal
@@ -6,10 +6,10 @@ use Rattle.c104_token.proofs.text.parse_words.Goals as goal
 pub loop-place-preserved : goal.loop-place-preserved
 loop-place-preserved c =
     ap (λ (bytes : List ℕ). packet_from_words (map word_of (drop (c.loop-place.place + 1) (map (λ (w : Bor (List ℕ)). w.now) c.args.words.now))) bytes) (c.in_ok-push-in-Byte.ensures.items)
-    ∙ after_byte c.args.words.now c.loop-place.place _ c.loop-place-test.true c.loop-place.bytes.items c.loop-place.invariant c.in-Byte.byte c.in-Byte.ensures (omega arith)
+    ∙ after_byte c.args.words.now c.loop-place.place _ c.loop-place-test.true c.loop-place.bytes.items c.loop-place.invariant c.in-Byte.byte c.in-Byte.ensures (ap (λ n. nat_lt n 4096) (sym (c.len.ensures ∙ c.loop-place.bytes.ok.0)) ∙ sym c.has_room.ensures ∙ c.if-not-has_room.false)
 
-pub returns-then-len-ge-MAX_PACKET_BYTES : goal.returns-then-len-ge-MAX_PACKET_BYTES
-returns-then-len-ge-MAX_PACKET_BYTES c = inl (at_full c.args.words.now c.loop-place.place _ c.loop-place-test.true c.loop-place.bytes.items c.loop-place.invariant c.in-Byte.byte c.in-Byte.ensures (omega arith))
+pub returns-then-not-has_room : goal.returns-then-not-has_room
+returns-then-not-has_room c = inl (at_full c.args.words.now c.loop-place.place _ c.loop-place-test.true c.loop-place.bytes.items c.loop-place.invariant c.in-Byte.byte c.in-Byte.ensures (ap (λ n. nat_lt n 4096) (sym (c.len.ensures ∙ c.loop-place.bytes.ok.0)) ∙ sym c.has_room.ensures ∙ c.if-not-has_room.true))
 
 pub returns-then-place-words : goal.returns-then-place-words
 returns-then-place-words c = inl (at_early_end c.args.words.now c.loop-place.place _ c.loop-place-test.true c.loop-place.bytes.items c.loop-place.invariant c.in-End.mark c.in-End.ensures c.if-place-words.true)

@@ -9,7 +9,7 @@ use Rattle.c104_run.specs.NetRecords.{NetRecord}
 use Rattle.c104_net.specs.RunOrigins.{AreOrigins}
 use Rattle.c104_node.specs.TracedRecords.{IsFit, TracedRecord}
 use Rattle.c104_net.proofs.TracedOrigins.{arrived_origins, fit_on, origins_on, origins_past, traced_origins}
-use Rattle.c104_net.proofs.traced_origins.TracedNetOrigins.origins.Goals.{in-Some+in_ok-tagged_origins+in_ok-push, in_default}
+use Rattle.c104_net.proofs.traced_origins.TracedNetOrigins.origins.Goals.{in-Some+in_ok-told_origins+in_ok-push, in_default}
 use Rattle.c104_net.proofs.traced_origins.TracedNetOrigins.origins.Goals as goal
 
 abbrev items_of : Kept Origin → List Origin
@@ -23,8 +23,8 @@ loop-place-preserved c =
     let there : slice_get nodes c.loop-place.place-index ≡ Some c.place-item.result = slice_get-get_or nodes c.loop-place.place-index c.place-item.result inside ∙ ap Some (sym c.place-item.is) in
     record {
       lists = elim c.match-arrived.branch [
-        | in-Some+in_ok-tagged_origins+in_ok-push w ↦ origins_on nodes c.loop-place.place-index c.place-item.result (map items_of c.loop-place.lists.items) (map items_of c.match-arrived.lists.items) w.in-Some.arrived.now w.in_ok-tagged_origins.field-0.items inside c.place-item.is w.in-Some.ensures.arrived w.in_ok-tagged_origins.ensures
-            (ap (λ (v : Kept (Kept Origin)). map items_of v.items) w.lists-is ∙ ap (map items_of) w.in_ok-push.ensures.items ∙ map-append items_of c.loop-place.lists.items (w.in_ok-tagged_origins.field-0 ∷ [])) c.loop-place.invariant.lists
+        | in-Some+in_ok-told_origins+in_ok-push w ↦ origins_on nodes c.loop-place.place-index c.place-item.result (map items_of c.loop-place.lists.items) (map items_of c.match-arrived.lists.items) w.in-Some.arrived.now w.in_ok-told_origins.field-0.items inside c.place-item.is w.in-Some.ensures.arrived w.in_ok-told_origins.ensures
+            (ap (λ (v : Kept (Kept Origin)). map items_of v.items) w.lists-is ∙ ap (map items_of) w.in_ok-push.ensures.items ∙ map-append items_of c.loop-place.lists.items (w.in_ok-told_origins.field-0 ∷ [])) c.loop-place.invariant.lists
         | in_default w ↦ origins_past nodes c.loop-place.place-index c.place-item.result (map items_of c.match-arrived.lists.items) inside c.place-item.is w.in_default.ensures.arrived
             (ap (λ (v : Kept (Kept Origin)). map items_of v.items) w.lists-is ∙ c.loop-place.invariant.lists)
       ];

@@ -16,5 +16,5 @@ invariant_of-self g c =
 pub returns-clause-sent : goal.returns-clause-sent
 returns-clause-sent g c =
     let p : TerminalPacket = record { packet = c.args.packet; terminal = c.args.terminal } in
-    sends g.T.TokenKind.kind c.self.inside.sent.items c.push_roomy.new.list.items c.self.inside.next c.self.inside.place c.self.inside.waiting p c.args.packet refl c.push_roomy.ensures.items c.self.invariant.1 c.self.inside.input c.self.inside.credit c.self.inside.arrived.items
+    sends g.T.TokenKind.kind c.self.inside.sent.items c.push_roomy.new.list.items c.self.inside.next c.self.inside.place c.self.inside.waiting p c.args.packet refl c.push_roomy.ensures.items c.self.invariant.1 c.self.inside.input c.self.inside.credit c.self.inside.arrived
     ∙ ap (terminal_send g.T.TokenKind.kind c.args.terminal c.args.packet) c.self.view_is

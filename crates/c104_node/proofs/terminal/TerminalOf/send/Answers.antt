@@ -15,5 +15,5 @@ pub returns-clause-done : goal.returns-clause-done
 returns-clause-done g c =
     let p : TerminalPacket = record { packet = c.in_ok-copy.copy; terminal = c.args.terminal } in
     let joined : c.push.new.self.items ≡ c.self.inside.sent.items ++ p ∷ [] = c.in-Ok.ensures.items ∙ ap (λ (ps : List TerminalPacket). ps ++ p ∷ []) c.reserve.ensures.items in
-    sends g.T.TokenKind.kind c.self.inside.sent.items c.push.new.self.items c.self.inside.next c.self.inside.place c.self.inside.waiting p c.args.packet.now c.in_ok-copy.ensures.cases joined c.self.invariant.1 c.self.inside.input c.self.inside.credit c.self.inside.arrived.items
+    sends g.T.TokenKind.kind c.self.inside.sent.items c.push.new.self.items c.self.inside.next c.self.inside.place c.self.inside.waiting p c.args.packet.now c.in_ok-copy.ensures.cases joined c.self.invariant.1 c.self.inside.input c.self.inside.credit c.self.inside.arrived
     ∙ ap (terminal_send g.T.TokenKind.kind c.args.terminal c.args.packet.now) c.self.view_is

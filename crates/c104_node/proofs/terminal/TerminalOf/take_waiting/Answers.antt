@@ -36,7 +36,7 @@ returns-then-self-last g c =
     let same : length c.as_slice-last.result.now ≡ length p.packet.bytes = ap (length {A = ℕ}) c.as_slice-last.ensures in
     sym (rest_taken g.T.TokenKind.kind c.self.inside.sent.items c.self.inside.next c.self.inside.place p here c.self.inside.waiting c.self.invariant.1 c.token_at-token.result c.token_at-token.ensures c.self.inside.next (c.self.inside.place + 1)
     (inl (omega (arith, same, c.if-self-last.true), refl, refl))
-    (record { input = c.self.inside.input; output = record { items = waiting_from g.T.TokenKind.kind c.self.inside.next c.self.inside.place c.self.inside.sent.items; credit = c.self.inside.credit }; sent = map packet_of c.self.inside.sent.items; arrived = c.self.inside.arrived.items }) refl)
+    (record { input = c.self.inside.input; output = record { items = waiting_from g.T.TokenKind.kind c.self.inside.next c.self.inside.place c.self.inside.sent.items; credit = c.self.inside.credit }; sent = map packet_of c.self.inside.sent.items; arrived = c.self.inside.arrived }) refl)
     ∙ ap waiting_taken c.self.view_is
 
 pub returns : goal.returns
@@ -46,5 +46,5 @@ returns g c =
     let same : length c.as_slice-last.result.now ≡ length p.packet.bytes = ap (length {A = ℕ}) c.as_slice-last.ensures in
     sym (rest_taken g.T.TokenKind.kind c.self.inside.sent.items c.self.inside.next c.self.inside.place p here c.self.inside.waiting c.self.invariant.1 c.token_at-token.result c.token_at-token.ensures (c.self.inside.next + 1) 0
     (inr (omega (arith, same, c.if-self-last.false), refl, refl))
-    (record { input = c.self.inside.input; output = record { items = waiting_from g.T.TokenKind.kind c.self.inside.next c.self.inside.place c.self.inside.sent.items; credit = c.self.inside.credit }; sent = map packet_of c.self.inside.sent.items; arrived = c.self.inside.arrived.items }) refl)
+    (record { input = c.self.inside.input; output = record { items = waiting_from g.T.TokenKind.kind c.self.inside.next c.self.inside.place c.self.inside.sent.items; credit = c.self.inside.credit }; sent = map packet_of c.self.inside.sent.items; arrived = c.self.inside.arrived }) refl)
     ∙ ap waiting_taken c.self.view_is

@@ -5,6 +5,9 @@ use Rattle.c104_run.proofs.LiveRounds.{passed_claims}
 use Rattle.c104_run.proofs.PartRuns.{number_next, number_stops, numbers_done, numbers_passed}
 use Rattle.c104_run.proofs.rounds.parts.claim_outputs.Goals as goal
 
+pub next-requires : goal.next-requires
+next-requires g c = let few = c.plan-plan.ensures.kept.few_switches in omega (arith, few, c.switch_count-switches.ensures)
+
 pub loop-switch-preserved : goal.loop-switch-preserved
 loop-switch-preserved g c = record {
   ends = number_next _ switch_claims _ _ _ _ _ _ _ (omega (arith, c.switch_count-switches.ensures, c.in-Some.ensures.found.1)) (numbers_passed _ switch_claims (length c.args.wires.now.switches) c.loop-switch.from _ _ (stage_of c.args.wires.now (map g.P.Place.shown c.loop-switch.places) c.loop-switch.count) _ c.in-Some.ensures.found.0 (omega (arith, c.switch_count-switches.ensures, c.in-Some.ensures.found.1))

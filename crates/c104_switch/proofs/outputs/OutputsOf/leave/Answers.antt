@@ -1,11 +1,12 @@
-use Rattle.std.proofs.Common.{◌∙◌, is_some, sym, arith}
+use Rattle.std.proofs.Common.{◌&&◌, ◌∙◌, ap, sym, arith}
+use Rattle.c104_crossbar.specs.Groups.{has_bit}
 use Rattle.c104_link.proofs.Lifts.{lift_taken}
-use Rattle.c104_link.specs.Buffers.{outgoing_emit}
-use Rattle.c104_switch.proofs.KeptSets.{tested_set}
+use Rattle.c104_switch.proofs.KeptSending.{sending_asked}
 use Rattle.c104_switch.proofs.outputs.OutputsOf.leave.Goals as goal
 
 pub returns : goal.returns
 returns g c = rw (sym c.self.view_is) (lift_taken c.self.inside.list.items c.args.link c.index_mut-output.result.now c.emit-token.new.self (omega arith) c.index_mut-output.ensures.value c.emit-token.result _ c.emit-token.ensures)
 
 pub invariant_of-self-2 : goal.invariant_of-self-2
-invariant_of-self-2 g c = tested_set (λ q. is_some (outgoing_emit q)) c.self.inside.list.items c.args.link c.emit-token.new.self c.self.inside.sending c.set.new.self (omega arith) c.self.invariant (λ inside. c.set.ensures.here inside ∙ c.can_emit.ensures) c.set.ensures.others
+invariant_of-self-2 g c = sending_asked c.self.inside.list.items c.args.link c.index_mut-output.result.now c.emit-token.new.self c.self.inside.sending c.remove_unless.new.self (omega arith) c.index_mut-output.ensures.value c.self.invariant c.remove_unless.ensures.others
+    c.emit-token.result c.emit-token.ensures (λ inside. c.remove_unless.ensures.here inside ∙ ap (λ b. b && has_bit c.self.inside.sending c.args.link) c.can_emit.ensures)

@@ -1,11 +1,12 @@
-use Rattle.std.proofs.Common.{◌∙◌, is_some, sym, arith}
+use Rattle.std.proofs.Common.{◌||◌, ◌∙◌, nat_lt, ap, sym, arith}
+use Rattle.c104_crossbar.specs.Groups.{has_bit}
 use Rattle.c104_link.proofs.Lifts.{lift_tried}
-use Rattle.c104_link.specs.Buffers.{outgoing_emit}
-use Rattle.c104_switch.proofs.KeptSets.{tested_set}
+use Rattle.c104_switch.proofs.KeptSending.{sending_offered}
 use Rattle.c104_switch.proofs.outputs.OutputsOf.put.Goals as goal
 
 pub returns : goal.returns
 returns g c = rw (sym c.self.view_is) (lift_tried c.self.inside.list.items c.args.link c.index_mut-output.result.now c.put-is_done.new.output (omega arith) c.index_mut-output.ensures.value c.put-is_done.result _ c.put-is_done.ensures)
 
 pub invariant_of-self-2 : goal.invariant_of-self-2
-invariant_of-self-2 g c = tested_set (λ q. is_some (outgoing_emit q)) c.self.inside.list.items c.args.link c.put-is_done.new.output c.self.inside.sending c.set.new.self (omega arith) c.self.invariant (λ inside. c.set.ensures.here inside ∙ c.can_emit.ensures) c.set.ensures.others
+invariant_of-self-2 g c = sending_offered c.self.inside.list.items c.args.link c.index_mut-output.result.now c.put-is_done.new.output c.self.inside.sending c.add_if.new.self (omega arith) c.index_mut-output.ensures.value c.self.invariant c.add_if.ensures.others
+    c.args.token c.put-is_done.result c.put-is_done.ensures (λ inside. c.add_if.ensures.here inside ∙ ap (λ n. nat_lt 0 n || has_bit c.self.inside.sending c.args.link) c.credit.ensures.credit)

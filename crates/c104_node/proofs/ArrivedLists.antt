@@ -1,0 +1,172 @@
+-- What arrived, as bytes and the tokens that are more than a byte: one token more, and the token at a place.
+use Rattle.std.proofs.Common.{◌≡◌, ◌∙◌, ◌≤◌, ◌<◌, ◌+◌, ◌++◌, ◌⊎◌, ℕ, zero, suc, List, [], ◌∷◌, Option, Some, None, drop, inl, inr, length, length-append, map, slice_get, slice_set, take, refl, subst, sym, ap, arith}
+use Rattle.std.proofs.lemmas.Option.{slice_get-map}
+use Rattle.std.specs.Option.{option_map}
+use Rattle.std.proofs.lemmas.List.{length-map, length-set, map-append}
+use Rattle.c104_token.specs.Kinds.{byte_token, Kind}
+use Rattle.c104_node.proofs.Waiting.{drop_there}
+use Rattle.c104_node.specs.Arrivals.{arrived_list, counted_other, others_in, overlaid, AreInside, IsArrived, OtherOf}
+
+same_or : (m n : ℕ) → (m ≡ n) ⊎ (m ≡ n → ⊥)
+same_or zero zero = inl refl
+same_or zero (suc n) = inr (λ is. omega (arith, is))
+same_or (suc m) zero = inr (λ is. omega (arith, is))
+same_or (suc m) (suc n) = elim (same_or m n) [ inl is ↦ inl (ap suc is) | inr differ ↦ inr (λ is. differ (omega (arith, is))) ]
+
+take_there : {X : Type 0} (xs : List X) (k : ℕ) (x : X) → slice_get xs k ≡ Some x → take (suc k) xs ≡ take k xs ++ x ∷ []
+take_there [] k x is = cc
+take_there (y ∷ xs) zero x is = let same : y ≡ x = cc in ap (λ z. z ∷ []) same
+take_there (y ∷ xs) (suc k) x is = ap (λ zs. y ∷ zs) (take_there xs k x is)
+
+module _ {A : Type 0} where
+  -- past its end a list stays
+  pub set_past : (xs : List A) (k : ℕ) (y : A) → length xs ≤ k → slice_set xs k y ≡ xs
+  set_past [] k y past = refl
+  set_past (z ∷ xs) zero y past = absurd (let no : ⊥ = omega (arith, past) in no)
+  set_past (z ∷ xs) (suc k) y past = ap (λ (ys : List A). z ∷ ys) (set_past xs k y (omega (arith, past)))
+
+  set_before : (xs : List A) (x y : A) (k : ℕ) → k < length xs → slice_set (xs ++ x ∷ []) k y ≡ slice_set xs k y ++ x ∷ []
+  set_before [] x y k inside = absurd (let no : ⊥ = omega (arith, inside) in no)
+  set_before (z ∷ xs) x y zero inside = refl
+  set_before (z ∷ xs) x y (suc k) inside = ap (λ (ys : List A). z ∷ ys) (set_before xs x y k (omega (arith, inside)))
+
+  set_end : (xs : List A) (x y : A) (k : ℕ) → k ≡ length xs → slice_set (xs ++ x ∷ []) k y ≡ xs ++ y ∷ []
+  set_end [] x y k is = ap (λ (j : ℕ). slice_set (x ∷ []) j y) is
+  set_end (z ∷ xs) x y zero is = absurd (let no : ⊥ = omega (arith, is) in no)
+  set_end (z ∷ xs) x y (suc k) is = ap (λ (ys : List A). z ∷ ys) (set_end xs x y k (omega (arith, is)))
+
+  set_there : (xs : List A) (k : ℕ) (x y : A) → slice_get xs k ≡ Some x → slice_get (slice_set xs k y) k ≡ Some y
+  set_there [] k x y is = cc
+  set_there (z ∷ xs) zero x y is = refl
+  set_there (z ∷ xs) (suc k) x y is = set_there xs k x y is
+
+  set_elsewhere : (xs : List A) (k j : ℕ) (y : A) → (k ≡ j → ⊥) → slice_get (slice_set xs k y) j ≡ slice_get xs j
+  set_elsewhere [] k j y differ = refl
+  set_elsewhere (z ∷ xs) zero zero y differ = absurd (differ refl)
+  set_elsewhere (z ∷ xs) zero (suc j) y differ = refl
+  set_elsewhere (z ∷ xs) (suc k) zero y differ = refl
+  set_elsewhere (z ∷ xs) (suc k) (suc j) y differ = set_elsewhere xs k j y (λ same. differ (ap suc same))
+
+  pub overlaid_length : (os : List (OtherOf A)) (xs : List A) → length (overlaid os xs) ≡ length xs
+  overlaid_length [] xs = refl
+  overlaid_length (o ∷ os) xs = overlaid_length os (slice_set xs o.place o.token) ∙ length-set xs o.place o.token
+
+  pub overlaid_more : (os : List (OtherOf A)) (o : OtherOf A) (xs : List A) → overlaid (os ++ o ∷ []) xs ≡ slice_set (overlaid os xs) o.place o.token
+  overlaid_more [] o xs = refl
+  overlaid_more (p ∷ os) o xs = overlaid_more os o (slice_set xs p.place p.token)
+
+  overlaid_longer : (os : List (OtherOf A)) (xs : List A) (x : A) → AreInside (length xs) os → overlaid os (xs ++ x ∷ []) ≡ overlaid os xs ++ x ∷ []
+  overlaid_longer [] xs x inside = refl
+  overlaid_longer (o ∷ os) xs x inside =
+      ap (overlaid os) (set_before xs x o.token o.place inside.0)
+      ∙ overlaid_longer os (slice_set xs o.place o.token) x (subst (λ (n : ℕ). AreInside n os) (sym (length-set xs o.place o.token)) inside.1)
+
+  inside_longer : (os : List (OtherOf A)) (m n : ℕ) → m ≤ n → AreInside m os → AreInside n os
+  inside_longer [] m n longer inside = tt
+  inside_longer (o ∷ os) m n longer inside = (omega (arith, longer, inside.0), inside_longer os m n longer inside.1)
+
+  inside_more : (os : List (OtherOf A)) (o : OtherOf A) (n : ℕ) → AreInside n os → o.place < n → AreInside n (os ++ o ∷ [])
+  inside_more [] o n inside here = (here, tt)
+  inside_more (p ∷ os) o n inside here = (inside.0, inside_more os o n inside.1 here)
+
+  -- the place of each is inside
+  pub inside_at : (os : List (OtherOf A)) (n k : ℕ) (o : OtherOf A) → AreInside n os → slice_get os k ≡ Some o → o.place < n
+  inside_at [] n k o inside is = cc
+  inside_at (p ∷ os) n zero o inside is = let same : p ≡ o = cc in subst (λ (q : OtherOf A). q.place < n) same inside.0
+  inside_at (p ∷ os) n (suc k) o inside is = inside_at os n k o inside.1 is
+
+  -- a token that is laid over another place, or over this one
+  pub other_elsewhere : (os : List (OtherOf A)) (o : OtherOf A) (xs : List A) (k : ℕ) (x : A) → (o.place ≡ k → ⊥) → slice_get (overlaid os xs) k ≡ Some x → slice_get (overlaid (os ++ o ∷ []) xs) k ≡ Some x
+  other_elsewhere os o xs k x differ is = ap (λ (ys : List A). slice_get ys k) (overlaid_more os o xs) ∙ set_elsewhere (overlaid os xs) o.place k o.token differ ∙ is
+
+  pub other_there : (os : List (OtherOf A)) (o : OtherOf A) (xs : List A) (k : ℕ) (x : A) → o.place ≡ k → slice_get (overlaid os xs) k ≡ Some x → slice_get (overlaid (os ++ o ∷ []) xs) k ≡ Some o.token
+  other_there os o xs k x same is =
+      ap (λ (ys : List A). slice_get ys k) (overlaid_more os o xs)
+      ∙ ap (λ (j : ℕ). slice_get (slice_set (overlaid os xs) j o.token) k) same
+      ∙ set_there (overlaid os xs) k x o.token is
+
+  -- one more is laid over a list
+  pub next_laid : (os : List (OtherOf A)) (k : ℕ) (o : OtherOf A) (xs now all : List A) → slice_get os k ≡ Some o → now ≡ slice_set xs o.place o.token → overlaid (drop k os) xs ≡ all → overlaid (drop (k + 1) os) now ≡ all
+  next_laid os k o xs now all there set before =
+      let one : k + 1 ≡ suc k = omega arith in
+      ap (λ (j : ℕ). overlaid (drop j os) now) one
+      ∙ ap (overlaid (drop (suc k) os)) set
+      ∙ ap (λ (ps : List (OtherOf A)). overlaid ps xs) (sym (drop_there os k o there))
+      ∙ before
+
+  -- the token at a place where one more is laid over a list
+  pub next_among : (os : List (OtherOf A)) (k : ℕ) (o : OtherOf A) (i : ℕ) (x y : A) (xs : List A) → slice_get os k ≡ Some o → (o.place ≡ i → y ≡ o.token) → ((o.place ≡ i → ⊥) → y ≡ x) → slice_get (overlaid (take k os) xs) i ≡ Some x → slice_get (overlaid (take (k + 1) os) xs) i ≡ Some y
+  next_among os k o i x y xs there here elsewhere before =
+      let one : k + 1 ≡ suc k = omega arith in
+      ap (λ (j : ℕ). slice_get (overlaid (take j os) xs) i) one
+      ∙ ap (λ (ps : List (OtherOf A)). slice_get (overlaid ps xs) i) (take_there os k o there)
+      ∙ elim (same_or o.place i) [
+        | inl same ↦ other_there (take k os) o xs i x same before ∙ ap Some (sym (here same))
+        | inr differ ↦ other_elsewhere (take k os) o xs i x differ before ∙ ap Some (sym (elsewhere differ))
+      ]
+
+module _ {A : Type 0} (kind : Kind A) where
+  -- the token of a byte at its place, before others are laid over it
+  pub byte_there : (bytes lent : List ℕ) (k b : ℕ) → lent ≡ bytes → slice_get lent k ≡ Some b → slice_get (map (byte_token kind) bytes) k ≡ Some (byte_token kind b)
+  byte_there bytes lent k b same there =
+      slice_get-map (byte_token kind) bytes k
+      ∙ ap (λ (bs : List ℕ). option_map (byte_token kind) (slice_get bs k)) (sym same)
+      ∙ ap (option_map (byte_token kind)) there
+
+  counted_sum : (b : Option ℕ) (m n : ℕ) → counted_other kind b m + n ≡ counted_other kind b (m + n)
+  counted_sum None m n = omega arith
+  counted_sum (Some b) m n = refl
+
+  others_sum : (xs : List A) (x : A) → others_in kind (xs ++ x ∷ []) ≡ others_in kind xs + others_in kind (x ∷ [])
+  others_sum [] x = omega arith
+  others_sum (y ∷ xs) x = ap (counted_other kind (kind.byte y)) (others_sum xs x) ∙ sym (counted_sum (kind.byte y) (others_in kind xs) (others_in kind (x ∷ [])))
+
+  pub arrived_length : (bytes : List ℕ) (os : List (OtherOf A)) → length (arrived_list kind bytes os) ≡ length bytes
+  arrived_length bytes os = overlaid_length os (map (byte_token kind) bytes) ∙ length-map bytes (byte_token kind)
+
+  -- one byte more
+  longer : (bytes : List ℕ) (os : List (OtherOf A)) (b : ℕ) → AreInside (length bytes) os → arrived_list kind (bytes ++ b ∷ []) os ≡ arrived_list kind bytes os ++ byte_token kind b ∷ []
+  longer bytes os b inside =
+      ap (overlaid os) (map-append (byte_token kind) bytes (b ∷ []))
+      ∙ overlaid_longer os (map (byte_token kind) bytes) (byte_token kind b) (subst (λ (n : ℕ). AreInside n os) (sym (length-map bytes (byte_token kind))) inside)
+
+  longer_inside : (bytes : List ℕ) (os : List (OtherOf A)) (b : ℕ) → AreInside (length bytes) os → AreInside (length (bytes ++ b ∷ [])) os
+  longer_inside bytes os b inside = let more = length-append bytes (b ∷ []) in inside_longer os (length bytes) (length (bytes ++ b ∷ [])) (omega (arith, more)) inside
+
+  -- a token that is a byte arrived
+  pub byte_more : (bytes now : List ℕ) (os : List (OtherOf A)) (b : ℕ) (x : A) → IsArrived kind bytes os → now ≡ bytes ++ b ∷ [] → x ≡ byte_token kind b → arrived_list kind now os ≡ arrived_list kind bytes os ++ x ∷ []
+  byte_more bytes now os b x is joined same =
+      ap (λ (bs : List ℕ). arrived_list kind bs os) joined
+      ∙ longer bytes os b is.inside
+      ∙ ap (λ (y : A). arrived_list kind bytes os ++ y ∷ []) (sym same)
+
+  pub byte_keeps : (bytes now : List ℕ) (os : List (OtherOf A)) (b : ℕ) (x : A) → IsArrived kind bytes os → now ≡ bytes ++ b ∷ [] → x ≡ byte_token kind b → kind.byte x ≡ Some b → IsArrived kind now os
+  byte_keeps bytes now os b x is joined same told =
+      let one : others_in kind (x ∷ []) ≡ 0 = ap (λ (o : Option ℕ). counted_other kind o 0) told in
+      let sum = others_sum (arrived_list kind bytes os) x in
+      let now_in = ap (others_in kind) (byte_more bytes now os b x is joined same) in
+      record {
+        inside = subst (λ (bs : List ℕ). AreInside (length bs) os) (sym joined) (longer_inside bytes os b is.inside);
+        counted = omega (arith, is.counted, one, sum, now_in);
+      }
+
+  -- a token that is more than a byte arrived
+  pub other_more : (bytes now : List ℕ) (os later : List (OtherOf A)) (b : ℕ) (o : OtherOf A) → IsArrived kind bytes os → now ≡ bytes ++ b ∷ [] → later ≡ os ++ o ∷ [] → o.place ≡ length bytes → arrived_list kind now later ≡ arrived_list kind bytes os ++ o.token ∷ []
+  other_more bytes now os later b o is joined laid placed =
+      ap (λ (bs : List ℕ). arrived_list kind bs later) joined
+      ∙ ap (λ (ps : List (OtherOf A)). arrived_list kind (bytes ++ b ∷ []) ps) laid
+      ∙ overlaid_more os o (map (byte_token kind) (bytes ++ b ∷ []))
+      ∙ ap (λ (ys : List A). slice_set ys o.place o.token) (longer bytes os b is.inside)
+      ∙ set_end (arrived_list kind bytes os) (byte_token kind b) o.token o.place (placed ∙ sym (arrived_length bytes os))
+
+  pub other_keeps : (bytes now : List ℕ) (os later : List (OtherOf A)) (b : ℕ) (o : OtherOf A) → IsArrived kind bytes os → now ≡ bytes ++ b ∷ [] → later ≡ os ++ o ∷ [] → o.place ≡ length bytes → kind.byte o.token ≡ None → IsArrived kind now later
+  other_keeps bytes now os later b o is joined laid placed told =
+      let one : others_in kind (o.token ∷ []) ≡ 1 = ap (λ (c : Option ℕ). counted_other kind c 0) told in
+      let sum = others_sum (arrived_list kind bytes os) o.token in
+      let now_in = ap (others_in kind) (other_more bytes now os later b o is joined laid placed) in
+      let long = ap (length {A = OtherOf A}) laid ∙ length-append os (o ∷ []) in
+      let bytes_long = ap (length {A = ℕ}) joined ∙ length-append bytes (b ∷ []) in
+      record {
+        inside = subst (λ (ps : List (OtherOf A)). AreInside (length now) ps) (sym laid) (inside_more os o (length now) (subst (λ (bs : List ℕ). AreInside (length bs) os) (sym joined) (longer_inside bytes os b is.inside)) (omega (arith, placed, bytes_long)));
+        counted = omega (arith, is.counted, one, sum, now_in, long);
+      }

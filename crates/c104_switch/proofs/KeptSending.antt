@@ -1,0 +1,97 @@
+-- The set of the outputs that can send, where a token joins one of them or leaves it.
+use Rattle.std.proofs.Common.{◌≡◌, ◌≢◌, ◌<◌, ◌≤◌, ◌&&◌, ◌||◌, ℕ, Bool, true, false, List, [], ◌∷◌, ◌++◌, Option, Some, None, length, slice_get, slice_set, is_some, nat_lt, get_or, refl, sym, ap, ◌∙◌, arith}
+use Rattle.std.proofs.lemmas.Bool.Decides.{nat_tests}
+use Rattle.std.proofs.lemmas.Option.{slice_get-get_or}
+use Rattle.std.specs.Option.{option_map_or}
+use Rattle.c104_crossbar.specs.Groups.{has_bit}
+use Rattle.c104_link.specs.Buffers.{Outgoing, outgoing_emit, outgoing_put}
+use Rattle.c104_link.specs.Steps.{bool_outcome, option_outcome}
+use Rattle.c104_switch.specs.Readiness.{AreSending}
+use Rattle.c104_switch.proofs.KeptSets.{tested_set}
+
+module _ {A : Type 0} where
+  abbrev sends : Outgoing A → Bool
+  sends q = is_some (outgoing_emit q)
+
+  -- an output sends where it has a token and a credit
+  sends_by : (q : Outgoing A) → sends q ≡ (is_some (slice_get q.items 0) && nat_lt 0 q.credit)
+  sends_by q = by_parts (slice_get q.items 0) (nat_lt 0 q.credit) refl refl
+    where
+      by_parts : (first : Option A) (some : Bool) → slice_get q.items 0 ≡ first → nat_lt 0 q.credit ≡ some → sends q ≡ (is_some first && some)
+      by_parts None some at is = rw at refl
+      by_parts (Some x) true at is = rw (at, is) refl
+      by_parts (Some x) false at is = rw (at, is) refl
+
+  -- one that a token was offered to holds one, this or others
+  record IsOffered (q r : Outgoing A) : Type 0 where
+    holds : is_some (slice_get r.items 0) ≡ true
+    credit : r.credit ≡ q.credit
+
+  offered : (x : A) (q r : Outgoing A) (b : Bool) → ◌≡◌ {A = Bool × Outgoing A} (b, r) (bool_outcome (outgoing_put x q) q) → IsOffered q r
+  offered x q r b given = by_room (nat_lt (length q.items) 8) refl
+    where
+      last_holds : (xs : List A) → is_some (slice_get (xs ++ x ∷ []) 0) ≡ true
+      last_holds [] = refl
+      last_holds (y ∷ ys) = refl
+
+      many_hold : (xs : List A) → 8 ≤ length xs → is_some (slice_get xs 0) ≡ true
+      many_hold [] many = absurd (omega arith)
+      many_hold (y ∷ ys) many = refl
+
+      by_room : (room : Bool) → nat_lt (length q.items) 8 ≡ room → IsOffered q r
+      by_room true is =
+          let after : Outgoing A = record { items = q.items ++ x ∷ []; credit = q.credit } in
+          let joins : bool_outcome (outgoing_put x q) q ≡ (true, after) = rw is refl in
+          let same : r ≡ after = ap (λ (t : Bool × Outgoing A). t.1) (given ∙ joins) in
+          record {
+            holds = ap (λ (t : Outgoing A). is_some (slice_get t.items 0)) same ∙ last_holds q.items;
+            credit = ap (λ (t : Outgoing A). t.credit) same;
+          }
+      by_room false is =
+          let stays : bool_outcome (outgoing_put x q) q ≡ (false, q) = rw is refl in
+          let same : r ≡ q = ap (λ (t : Bool × Outgoing A). t.1) (given ∙ stays) in
+          let many : 8 ≤ length q.items = grind (arith, nat_tests) in
+          record {
+            holds = ap (λ (t : Outgoing A). is_some (slice_get t.items 0)) same ∙ many_hold q.items many;
+            credit = ap (λ (t : Outgoing A). t.credit) same;
+          }
+
+  -- so it sends where it has credit, and did before where it did
+  offered_sends : (x : A) (q r : Outgoing A) (b : Bool) → ◌≡◌ {A = Bool × Outgoing A} (b, r) (bool_outcome (outgoing_put x q) q) → (nat_lt 0 r.credit || sends q) ≡ sends r
+  offered_sends x q r b given =
+      let is = offered x q r b given in
+      let before : sends q ≡ (is_some (slice_get q.items 0) && nat_lt 0 r.credit) = sends_by q ∙ ap (λ n. is_some (slice_get q.items 0) && nat_lt 0 n) (sym is.credit) in
+      let after : sends r ≡ nat_lt 0 r.credit = sends_by r ∙ ap (λ b. b && nat_lt 0 r.credit) is.holds in
+      ap (λ b. nat_lt 0 r.credit || b) before ∙ or_and (is_some (slice_get q.items 0)) (nat_lt 0 r.credit) ∙ sym after
+    where
+      or_and : (b c : Bool) → (c || (b && c)) ≡ c
+      or_and b true = refl
+      or_and true false = refl
+      or_and false false = refl
+
+  -- one that was asked for a token sends no more than before
+  asked_sends : (o : Option A) (q r : Outgoing A) → ◌≡◌ {A = Option A × Outgoing A} (o, r) (option_outcome (outgoing_emit q) q) → (sends r && sends q) ≡ sends r
+  asked_sends o q r given = by_made (outgoing_emit q) refl
+    where
+      and_true : (b : Bool) → (b && true) ≡ b
+      and_true true = refl
+      and_true false = refl
+
+      by_made : (made : Option (A × Outgoing A)) → outgoing_emit q ≡ made → (sends r && sends q) ≡ sends r
+      by_made None made =
+          let stays : option_outcome (outgoing_emit q) q ≡ (None, q) = ap (λ m. option_outcome m q) made in
+          let same : r ≡ q = ap (λ (t : Option A × Outgoing A). t.1) (given ∙ stays) in
+          let none : sends r ≡ false = ap (λ (t : Outgoing A). sends t) same ∙ ap is_some made in
+          ap (λ b. b && sends q) none ∙ sym none
+      by_made (Some y) made = ap (λ b. sends r && b) (ap is_some made) ∙ and_true (sends r)
+
+  module _ (qs : List (Outgoing A)) (i : ℕ) (q r : Outgoing A) (set other : ℕ) (inside : i < length qs) (is : q ≡ get_or qs i q) (sending : AreSending set qs) (others : (l : ℕ) → l < 32 → l ≢ i → has_bit other l ≡ has_bit set l) where
+    -- the set has an output there as it was
+    here : i < 32 → has_bit set i ≡ sends q
+    here below = sending i below ∙ ap (λ o. option_map_or sends o false) (slice_get-get_or qs i q inside ∙ ap Some (sym is))
+
+    pub sending_offered : (x : A) (b : Bool) → ◌≡◌ {A = Bool × Outgoing A} (b, r) (bool_outcome (outgoing_put x q) q) → (i < 32 → has_bit other i ≡ (nat_lt 0 r.credit || has_bit set i)) → AreSending other (slice_set qs i r)
+    sending_offered x b given put = tested_set sends qs i r set other inside sending (λ below. put below ∙ ap (λ b. nat_lt 0 r.credit || b) (here below) ∙ offered_sends x q r b given) others
+
+    pub sending_asked : (o : Option A) → ◌≡◌ {A = Option A × Outgoing A} (o, r) (option_outcome (outgoing_emit q) q) → (i < 32 → has_bit other i ≡ (sends r && has_bit set i)) → AreSending other (slice_set qs i r)
+    sending_asked o given left = tested_set sends qs i r set other inside sending (λ below. left below ∙ ap (λ b. sends r && b) (here below) ∙ asked_sends o q r given) others
