@@ -4,3 +4,4 @@ pub mod LinesLaw
 pub mod Leavings
 pub mod PlanRuns
 pub mod Starts
+pub mod TextsWritten

@@ -1,6 +1,7 @@
 -- What a run shows: the answers to the script's lines in turn, and then what arrived.
 use Rattle.std.specs.Prelude.{ℕ, suc, Bool, true, false, List, [], ◌∷◌, ◌++◌, flat_map, map, codes, decimal, Option, Some, None, Result, Ok}
 use Rattle.std.specs.Prelude.{Err}
+use Rattle.std.specs.Global.{Vec}
 use Rattle.c104_token.specs.declared.tokens.Token.{Token}
 use Rattle.c104_token.specs.Cut.{whole_pieces}
 use Rattle.c104_switch.specs.Actions.{Reply}
@@ -115,6 +116,10 @@ terminals_text plan net number (terminal ∷ more) =
 -- told by its own tokens, in the same run over tokens that tell where they came from.
 unfoldable pub summary : FinishedRecord → List ℕ
 summary run = terminals_text run.finished.plan (traced_end run) 0 run.finished.plan.terminals
+
+-- what several texts say, one after the other
+abbrev pub joined_texts : List (Vec ℕ) → List ℕ
+joined_texts texts = flat_map (λ (text : Vec ℕ). text.items) texts
 
 -- what follows the answers, and whether a script was refused: for its length, or for one of its lines
 abbrev pub output_with_summary : Bool → List ℕ × Session → List ℕ × Bool

@@ -3,7 +3,7 @@
 //! A `Session` is a network in the midst of a script: it keeps the `TracedNet`, what was loaded there, and whether a
 //! line was faulty so far. It can't be dropped, and neither can what `finish` gives at its end, an `Ended` with the
 //! `EndedNet` that tells what arrived.
-//! `answer_script` answers the lines of a script as they are read, `summary_text` tells what arrived
+//! `answer_script` answers the lines of a script as they are read, `summary_texts` tells what arrived
 //! at each terminal, and `run_plan` does both on the network of a plan.
 //!
 //! Lines are answered as they are read, and all answers are written before the reader is asked for
@@ -32,4 +32,4 @@ pub use answering::answer_script;
 pub use ended::EndedNet;
 pub use runs::run_plan;
 pub use session::{Ended, Session};
-pub use summary::summary_text;
+pub use summary::summary_texts;

@@ -1,19 +1,20 @@
 //! A script, run on the network of a plan.
-ghost use Rattle.std.specs.Prelude.{◌≡◌};
-ghost use Rattle.std.specs.Io.KnownBytes.{prepend_known};
+ghost use Rattle.std.specs.Prelude.{◌≡◌, OnErr, OnOk};
+ghost use Rattle.std.specs.Io.KnownBytes.{Appends, prepend_known};
 ghost use Rattle.c104_plan.specs.PlanImage.{Fits, Image as TheImage};
 ghost use Rattle.c104_plan.specs.Plans.{Plan as ThePlan};
 ghost use Rattle.c104_session.specs.Runs.{EndsRun, RunsPlan, WritesText, end_text};
-ghost use Rattle.c104_session.specs.Shown.{new_session};
+ghost use Rattle.c104_session.specs.Shown.{joined_texts, new_session};
+ghost use Rattle.c104_stream.specs.Writing.{AppendsPrefix};
 
 use crate::answering::answer_script;
 use crate::ended::EndedNet;
 use crate::session::{Ended, Session};
-use crate::summary::summary_text;
+use crate::summary::summary_texts;
 use c104_explain::leftover_messages;
 use c104_mistakes::{About, Messages};
 use c104_plan::{Image, Plan};
-use c104_stream::{Ahead, Halt, too_long_line, write_whole};
+use c104_stream::{Ahead, CannotWrite, Halt, too_long_line, write_whole};
 use std::alloc::Global;
 use std::io::{Read, Write};
 
@@ -98,8 +99,19 @@ fn write_end<W: Write>(
         write_whole(writer, too_long_line())?;
         return Ok(());
     }
-    let summary = summary_text(alloc, run)?;
-    write_whole(writer, summary.as_slice())?;
+    let texts = summary_texts(alloc, run)?;
+    write_texts(writer, texts.as_slice())?;
+    Ok(())
+}
+
+/// Writes texts, one after the other.
+fn write_texts<W: Write>(writer: &mut W, texts: &[Vec<u8>]) -> Result<(), CannotWrite>
+    ensures all { OnOk result (Appends (W.contents writer.old) (W.contents writer.new) (joined_texts texts.now)) }
+    ensures prefix { OnErr result (AppendsPrefix (W.contents writer.old) (W.contents writer.new) (joined_texts texts.now)) }
+{
+    for text in texts {
+        write_whole(writer, text.as_slice())?;
+    }
     Ok(())
 }
 

@@ -7,7 +7,7 @@ ghost use Rattle.c104_node.specs.Origins.{AreSure, origins_in};
 ghost use Rattle.c104_node.specs.declared.origins.Origin.{Origin as TheOrigin};
 ghost use Rattle.c104_net.specs.TracedEnds.{traced_end};
 ghost use Rattle.c104_node.specs.declared.traced.Traced.{Traced as TheTraced};
-ghost use Rattle.c104_session.specs.Shown.{origin_text, packet_line, packets_text, summary};
+ghost use Rattle.c104_session.specs.Shown.{joined_texts, origin_text, packet_line, packets_text, summary};
 ghost use Rattle.c104_token.specs.Packets.{packet_tokens};
 
 use crate::ended::EndedNet;
@@ -18,32 +18,35 @@ use c104_token::{NoMemory, Packet, Token, cut_packets, print_packet};
 use itoa::Buffer;
 use std::alloc::Global;
 
-/// A line for each whole packet that arrived, by terminal in the plan's order and then in order of arrival: the packet,
-/// the terminal that sent it, and its number among those that this terminal sent, from 0. The text is complete before
-/// any of it is written, so that none of it is written where memory runs out. The only error is out of memory.
-pub fn summary_text(alloc: Global, run: &EndedNet) -> Result<Vec<u8>, NoMemory>
-    ensures { IfOk result (λ text. text.items ≡ summary run.now) }
+/// A line for each whole packet that arrived: a text for each terminal in the plan's order, and in it the packets in order
+/// of arrival: the packet, the terminal that sent it, and its number among those that this terminal sent, from 0. All
+/// texts are complete before any of them is written, so that none is written where memory runs out. The only error is out
+/// of memory.
+pub fn summary_texts(alloc: Global, run: &EndedNet) -> Result<Vec<Vec<u8>>, NoMemory>
+    ensures { IfOk result (λ texts. joined_texts texts.items ≡ summary run.now) }
 {
     let origins = run.origins(alloc)?;
-    let mut text = Vec::new(alloc);
-    add_terminals(alloc, run, origins.as_slice(), &mut text)?;
-    Ok(text)
+    let mut texts = Vec::new(alloc);
+    add_terminals(alloc, run, origins.as_slice(), &mut texts)?;
+    Ok(texts)
 }
 
-/// The lines of the packets that each terminal received join the text.
+/// The lines of the packets that each terminal received join the texts, as one of their own.
 #[tactic(auto, unfolding(crate::specs::Shown::summary))]
 fn add_terminals(
     alloc: Global,
     run: &EndedNet,
     origins: &[Vec<Origin>],
-    text: &mut Vec<u8>,
+    texts: &mut Vec<Vec<u8>>,
 ) -> Result<(), NoMemory>
     requires { AreOrigins run.now (map (λ (list : Kept TheOrigin). list.items) origins.now) }
-    ensures { OnOk result (text.new.items ≡ text.old.items ++ summary run.now) }
+    ensures { OnOk result (joined_texts texts.new.items ≡ joined_texts texts.old.items ++ summary run.now) }
 {
     for (number, terminal) in run.plan().terminals().iter().enumerate() {
+        let mut text = Vec::new(alloc);
         let name = terminal.name.as_bytes();
-        add_terminal(alloc, run, number, name, origins, text)?;
+        add_terminal(alloc, run, number, name, origins, &mut text)?;
+        texts.push(text)?;
     }
     Ok(())
 }
