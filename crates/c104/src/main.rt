@@ -2,18 +2,19 @@
 //!
 //! `main` reads the command line, opens what it names, calls the function of a command and says what that
 //! function's `Status` means: a message on standard error and an exit status. The words of the command line and the texts
-//! of help are those of `c104_words`; what a path stands for is in `sources`, a script that is typed in `typed`, what
-//! people are told beside the answers in `told`; the functions of the commands are those of `c104_commands` and
-//! `c104_storm_command`.
+//! of help are those of `c104_words`; how files are opened is in `opening`, what a path stands for in `sources`, a script
+//! that is typed in `typed`, what people are told beside the answers in `told`; the functions of the commands are those
+//! of `c104_commands` and `c104_storm_command`.
 #![tactic(auto)]
 
+mod opening;
 mod sources;
 mod told;
 mod typed;
 
 pub use c104_commands::{
     Marks, PatternName, Status, check_command, cycles_command, debug_command, draw_command,
-    label_command, label_rows_command, run, run_text, traffic_command,
+    draw_state_command, label_command, label_rows_command, run, run_text, traffic_command,
 };
 use c104_describe::read_description;
 use c104_mistakes::{About, Messages};
@@ -22,9 +23,9 @@ pub use c104_storm_command::storm_command;
 use c104_stream::{ReadFault, read_up_to};
 use c104_words::{Order, STANDARD_INPUT, Subcommand, Words, pattern_of};
 use clap::error::ErrorKind;
-use sources::{Source, Watched};
-use std::fs::File;
-use std::io::{Input, IsTerminal, Read};
+use opening::{is_closed, open_both, open_path};
+use sources::Watched;
+use std::io::{Input, IsTerminal};
 use std::process::ExitCode;
 use std::sync::Wait;
 use std::thread::Threads;
@@ -37,9 +38,6 @@ const WRONG_USAGE: u8 = 2;
 
 /// The last header of one byte.
 const LAST_SHORT_HEADER: u16 = 255;
-
-/// A file of the host's, or its standard input.
-type HostSource = Watched<Source<File, <HostRuntime as Input>::Reader>>;
 
 /// What is told where a person may not know that a text is awaited.
 const AWAITED: &str =
@@ -115,6 +113,7 @@ fn do_order<H: Threads + Wait + Sync>(
         Subcommand::Check => check_file(rt, order.description, told),
         Subcommand::Cycles => search_file(rt, order.description, order.all, told),
         Subcommand::Label => label_file(rt, order, told),
+        Subcommand::Draw if order.state => draw_files(rt, order, told),
         Subcommand::Draw => draw_file(rt, order, told),
         Subcommand::Traffic => send_file(rt, order, told),
     }
@@ -129,53 +128,6 @@ fn run_one_text(rt: &HostRuntime, told: &mut Told<'_>) -> Status {
     let status = run_text(rt.alloc(), &mut text, &mut io::writer(rt), told);
     told.note_fault(text.fault());
     status
-}
-
-/// Opens a path, or notes why it can't be opened.
-fn open_path(rt: &HostRuntime, path: &str, told: &mut Told<'_>) -> Option<HostSource> {
-    match Source::open(rt, path) {
-        Ok(source) => Some(Watched::new(source)),
-        Err(error) => {
-            told.note_fault(error.raw_os_error());
-            None
-        }
-    }
-}
-
-/// Whether a path is that of standard input, and nothing is open there: a file that is opened would take its place.
-fn is_closed(rt: &HostRuntime, path: &str, told: &mut Told<'_>) -> bool {
-    if path != STANDARD_INPUT {
-        return false;
-    }
-    match rt.reader().read(&mut []) {
-        Ok(_) => false,
-        Err(error) => {
-            told.note_fault(error.raw_os_error());
-            true
-        }
-    }
-}
-
-/// Opens a description and a script, the description first, before anything is read. The error is how the command ends.
-fn open_both(
-    rt: &HostRuntime,
-    description: &str,
-    script: &str,
-    told: &mut Told<'_>,
-) -> Result<(HostSource, HostSource), Status> {
-    if is_closed(rt, description, told) {
-        return Err(Status::CannotRead(0));
-    }
-    if is_closed(rt, script, told) {
-        return Err(Status::CannotRead(1));
-    }
-    let Some(description) = open_path(rt, description, told) else {
-        return Err(Status::CannotRead(0));
-    };
-    let Some(script) = open_path(rt, script, told) else {
-        return Err(Status::CannotRead(1));
-    };
-    Ok((description, script))
 }
 
 /// Runs two files.
@@ -314,6 +266,28 @@ fn draw_file(rt: &HostRuntime, order: Order<'_>, told: &mut Told<'_>) -> Status 
         &mut io::writer(rt),
         told,
     )
+}
+
+/// Draws the network of a description's file as it stands after a script.
+fn draw_files(rt: &HostRuntime, order: Order<'_>, told: &mut Told<'_>) -> Status {
+    let (mut description, mut script) = match open_both(
+        rt,
+        order.description,
+        order.path(1),
+        told,
+    ) {
+        Ok(sources) => sources,
+        Err(status) => return status,
+    };
+    let status = draw_state_command(
+        rt.alloc(),
+        &mut description,
+        &mut script,
+        &mut io::writer(rt),
+        told,
+    );
+    told.note_fault(description.fault().or(script.fault()));
+    status
 }
 
 /// Prints a script of traffic for the network of a description's file. A pattern that there isn't is a wrong word, and so

@@ -6,4 +6,5 @@ mod RowLemmas
 mod RowTables
 mod RowTexts
 mod RowsByHand
+mod StateLemmas
 mod TrafficEnds

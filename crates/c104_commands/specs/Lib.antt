@@ -13,6 +13,7 @@ pub mod RowChanges
 pub mod RowSteps
 pub mod Advice
 pub mod Pictures
+pub mod StatePictures
 pub mod CycleTexts
 pub mod Cycles
 pub mod CycleAdvice

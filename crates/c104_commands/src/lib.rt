@@ -4,8 +4,9 @@
 //! one text;
 //! `check_command` takes a description alone, and checks its labels, and `cycles_command` looks for a cycle of
 //! channel dependencies; `label_command` shows the labels, `label_rows_command` the same by `row` lines,
-//! `draw_command` draws the network, and `traffic_command` writes a script by which its terminals send packets. Each
-//! reads no further than the limits of a description, 1 MiB, and of a script, 16 MiB.
+//! `draw_command` draws the network, `draw_state_command` as it stands after a script, and `traffic_command` writes a
+//! script by which its terminals send packets. Each reads no further than the limits of a description, 1 MiB, and of a
+//! script, 16 MiB.
 //!
 //! Each of them reports what is faulty, refused, not ready or didn't arrive to what takes `Messages`; what it writes
 //! and answers is the same whatever that does. Give `Silent` to report to nobody.
@@ -31,6 +32,7 @@ mod range_changes;
 mod row_changes;
 mod runs;
 mod setups;
+mod states;
 mod status;
 mod texts;
 mod traffic;
@@ -48,6 +50,7 @@ pub use labels::label_command;
 pub use pictures::Marks;
 pub use runs::{debug_command, run, run_text};
 pub use setups::{Setup, label_fault_text, read_setup};
+pub use states::draw_state_command;
 pub use status::Status;
 pub use texts::check_fault_text;
 pub use traffic::traffic_command;

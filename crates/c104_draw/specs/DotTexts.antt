@@ -1,5 +1,6 @@
 -- The text of a picture, in the language of Graphviz.
 --     IsDotText plan image drawing title text      a text is that of a picture with this title
+--     IsDotTextWith plan image drawing title lines text      the same with further lines
 --     AddsLines IsLine xs old new      a text to which the line of each of these is added, in order
 --     IsNodeLine, IsEdgeLine      the line of a node, and of an edge
 use Rattle.std.specs.Prelude.{◌≡◌, ℕ, suc, ◌+◌, ◌-◌, ◌==◌, ◌&&◌, Bool, true, false, not, List, [], ◌∷◌, ◌++◌, length, slice_get, codes, Option, Some, None, is_some, if◌then◌else◌}
@@ -164,12 +165,17 @@ AddsLines IsLine (x ∷ xs) old new = (line : List ℕ) × IsLine x line × Adds
 abbrev pub wire_numbers : Drawing → List ℕ
 wire_numbers drawing = range_with_len 0 (length drawing.wires)
 
--- the text of a picture: what stands before the nodes, the line of each node, the line of each edge, and the end
-pub record IsDotText (plan : Plan) (image : Image) (drawing : Drawing) (title text : List ℕ) : Type 0 where
+-- the text of a picture: what stands before the nodes, the line of each node, the line of each edge, further lines, and
+-- the end
+pub record IsDotTextWith (plan : Plan) (image : Image) (drawing : Drawing) (title lines text : List ℕ) : Type 0 where
   pub frame : Frame
   pub framed : IsFrameOf plan.shape frame
   pub with_nodes : List ℕ
   pub nodes : AddsLines (IsNodeLine plan image frame) drawing.nodes (opening_text frame title (legend_text drawing)) with_nodes
   pub with_edges : List ℕ
   pub edges : AddsLines (IsEdgeLine plan image drawing frame (not (length title == 0))) (wire_numbers drawing) with_nodes with_edges
-  pub whole : text ≡ with_edges ++ codes "}\n"
+  pub whole : text ≡ with_edges ++ (lines ++ codes "}\n")
+
+-- the same without further lines
+abbrev pub IsDotText : Plan → Image → Drawing → List ℕ → List ℕ → Type 0
+IsDotText plan image drawing title text = IsDotTextWith plan image drawing title [] text

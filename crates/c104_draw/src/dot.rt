@@ -1,8 +1,8 @@
 //! A picture as a text for Graphviz.
-ghost use Rattle.std.specs.Prelude.{◌≡◌, IfOk};
+ghost use Rattle.std.specs.Prelude.{◌≡◌, ◌++◌, IfOk, OnOk, codes};
 ghost use Rattle.std.specs.List.{list_any};
 ghost use Rattle.std.specs.String.{string_bytes};
-ghost use Rattle.c104_draw.specs.DotTexts.{IsDotText, legend_text, opening_text};
+ghost use Rattle.c104_draw.specs.DotTexts.{IsDotText, IsDotTextWith, legend_text, opening_text};
 ghost use Rattle.c104_draw.specs.Drawings.{DrawnWire as TheWire};
 ghost use Rattle.c104_draw.specs.Frames.{IsFrameOf};
 ghost use Rattle.c104_draw.specs.Strokes.{has_random};
@@ -43,8 +43,23 @@ pub fn drawing_text(
     ensures text { IfOk result (λ text.
         IsDotText plan.now image.now drawing.now title.now (string_bytes text)) }
 {
+    drawing_text_with(alloc, plan, image, drawing, title, "")
+}
+
+/// The same with further lines behind those of the edges.
+pub fn drawing_text_with(
+    alloc: Global,
+    plan: &Plan,
+    image: &Image,
+    drawing: &Drawing,
+    title: &str,
+    lines: &str,
+) -> Result<String, NoMemory>
+    ensures { IfOk result (λ text.
+        IsDotTextWith plan.now image.now drawing.now title.now lines.now (string_bytes text)) }
+{
     let frame = Frame::of(alloc, plan)?;
-    let text = framed_text(alloc, plan, image, drawing, title, &frame)?;
+    let text = framed_text(alloc, plan, image, drawing, title, lines, &frame)?;
     Ok(text)
 }
 
@@ -55,11 +70,12 @@ fn framed_text(
     image: &Image,
     drawing: &Drawing,
     title: &str,
+    lines: &str,
     frame: &Frame,
 ) -> Result<String, AllocError>
     requires { IsFrameOf plan.now.shape frame.now }
     ensures { IfOk result (λ text.
-        IsDotText plan.now image.now drawing.now title.now (string_bytes text)) }
+        IsDotTextWith plan.now image.now drawing.now title.now lines.now (string_bytes text)) }
 {
     let mut text = opening_text(alloc, frame, title, legend_text(drawing))?;
     add_nodes(alloc, &mut text, plan, image, drawing.nodes(), frame)?;
@@ -72,8 +88,16 @@ fn framed_text(
         frame,
         !title.is_empty(),
     )?;
-    text.push_str("}\n")?;
+    add_end(&mut text, lines)?;
     Ok(text)
+}
+
+/// Further lines join the text, and the end.
+fn add_end(text: &mut String, lines: &str) -> Result<(), AllocError>
+    ensures { OnOk result (string_bytes text.new ≡ string_bytes text.old ++ (lines.now ++ codes "}\n")) }
+{
+    text.push_str(lines)?;
+    text.push_str("}\n")
 }
 
 /// What stands before the nodes of a picture.

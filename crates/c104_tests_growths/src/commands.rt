@@ -6,8 +6,8 @@ use crate::growths::{Growing, Refusal, Sharing, is_right, is_told};
 use crate::outcomes::Outcome;
 use crate::written::{ANSWERS, Page, SCRIPT, SENDS, STORM_END, SUMMARY, TWO_ANSWERS};
 use c104_commands::{
-    Marks, Status, check_command, cycles_command, debug_command, draw_command, label_command,
-    label_rows_command, run, run_text,
+    Marks, Status, check_command, cycles_command, debug_command, draw_command, draw_state_command,
+    label_command, label_rows_command, run, run_text,
 };
 use c104_mistakes::Silent;
 use c104_storm_command::storm_command;
@@ -70,17 +70,21 @@ enum Command {
     Label,
     Rows,
     Draw(Marks),
+    State,
 }
 
 impl Command {
     fn run(self, alloc: Global, page: &mut Page) -> Status {
-        let mut text = PLAN;
+        let (mut text, mut script) = (PLAN, SCRIPT);
         match self {
             Command::Check => check_command(alloc, &mut text, page, &mut Silent),
             Command::Cycles(all) => cycles_command(alloc, &mut text, all, page, &mut Silent),
             Command::Label => label_command(alloc, &mut text, page, &mut Silent),
             Command::Rows => label_rows_command(alloc, &mut text, page, &mut Silent),
             Command::Draw(marks) => draw_command(alloc, &mut text, marks, page, &mut Silent),
+            Command::State => {
+                draw_state_command(alloc, &mut text, &mut script, page, &mut Silent)
+            }
         }
     }
 }
@@ -154,6 +158,7 @@ fn commands(rt: HostRuntime) {
         ("draw_command", Command::Draw(Marks::Nothing)),
         ("draw_command", Command::Draw(Marks::Header(1))),
         ("draw_command", Command::Draw(Marks::Cycle)),
+        ("draw_state_command", Command::State),
     ] {
         assert!(rt; is_right(&rt, name, &Commanding(command)));
     }

@@ -48,6 +48,8 @@ mod plans;
 #[cfg(test)]
 mod scripts;
 #[cfg(test)]
+mod states;
+#[cfg(test)]
 mod storms;
 #[cfg(test)]
 mod streams;

@@ -4,7 +4,7 @@ use crate::ground::{Ground, Suite, is_right_on};
 use crate::growths::{Growing, Refusal, is_right};
 use crate::outcomes::Outcome;
 use c104_check::SwitchPort;
-use c104_draw::{Drawing, draw, draw_cycle, draw_header, drawing_text};
+use c104_draw::{Drawing, draw, draw_cycle, draw_header, drawing_text, drawing_text_with};
 use std::alloc::Global;
 
 /// What is drawn.
@@ -37,16 +37,22 @@ impl Growing for Painting<'_> {
     }
 }
 
-/// The text of a picture is made.
+/// The text of a picture is made, maybe with further lines.
 #[derive(Drop)]
-struct Telling<'a>(Ground<'a>, &'a Drawing);
+struct Telling<'a>(Ground<'a>, &'a Drawing, Option<&'a str>);
 
 impl Growing for Telling<'_> {
     fn call(&self, alloc: Global, refusal: Refusal) -> Outcome {
         refusal.begin(alloc);
-        let result = drawing_text(alloc, self.0.plan, self.0.image, self.1, "first");
+        let (plan, image) = (self.0.plan, self.0.image);
+        let found = match self.2 {
+            Some(lines) => Outcome::of(drawing_text_with(
+                alloc, plan, image, self.1, "first", lines,
+            )),
+            None => Outcome::of(drawing_text(alloc, plan, image, self.1, "first")),
+        };
         refusal.end(alloc);
-        Outcome::of(result)
+        found
     }
 }
 
@@ -65,7 +71,14 @@ impl Suite for PictureCalls {
 
 fn is_text_right(rt: &HostRuntime, ground: Ground<'_>) -> bool {
     match draw(rt.alloc(), ground.plan, ground.image) {
-        Ok(drawing) => is_right(rt, "drawing_text", &Telling(ground, &drawing)),
+        Ok(drawing) => {
+            is_right(rt, "drawing_text", &Telling(ground, &drawing, None))
+                && is_right(
+                    rt,
+                    "drawing_text_with",
+                    &Telling(ground, &drawing, Some("  edge [color=gray]\n")),
+                )
+        }
         Err(_) => false,
     }
 }

@@ -52,6 +52,8 @@ pub struct Order<'a> {
     pub header: Option<u16>,
     /// Whether a cycle is marked in a picture.
     pub cycles: bool,
+    /// Whether a picture is of the network as it stands after a script.
+    pub state: bool,
     /// Whether all dependencies are listed.
     pub all: bool,
     /// Whether labels are shown as a description by `row` lines.
@@ -70,6 +72,7 @@ impl<'a> Order<'a> {
         script: None,
         header: None,
         cycles: false,
+        state: false,
         all: false,
         rows: false,
         workers: None,
@@ -90,6 +93,7 @@ impl<'a> Order<'a> {
             script: given.get_str(SCRIPT),
             header: given.get_one(HEADER),
             cycles: given.get_flag(CYCLES),
+            state: given.get_flag(STATE),
             all: given.get_flag(ALL),
             rows: given.get_flag(ROWS),
             workers: given.get_one(WORKERS),
@@ -151,6 +155,11 @@ const HEADER_HELP: &str = "Mark the ways of a header, 0 to 255, or 65535 with tw
 const CYCLES: &str = "cycles";
 
 const CYCLES_HELP: &str = "Mark a cycle of channel dependencies";
+
+/// The option of a picture of the network as it stands.
+const STATE: &str = "state";
+
+const STATE_HELP: &str = "Show the packets under way at the end of the script";
 
 /// The option of all dependencies.
 const ALL: &str = "all";
@@ -235,12 +244,27 @@ fn with_description<'a>(alloc: Global, named: Command<'a>) -> Result<Command<'a>
     named.arg(description_argument(alloc).required(true))
 }
 
-/// `DESC [--header N | --cycles]`.
+/// `DESC [--header N | --cycles | SCRIPT --state]`.
 fn with_marks<'a>(alloc: Global, named: Command<'a>) -> Result<Command<'a>, AllocError> {
     let cycles = flag(alloc, CYCLES, CYCLES_HELP).conflicts_with(HEADER)?;
-    with_description(alloc, named)?
+    let marked = with_description(alloc, named)?
         .arg(header_option(alloc))?
-        .arg(cycles)
+        .arg(cycles)?;
+    with_state(alloc, marked)
+}
+
+/// `[SCRIPT --state]`: neither of the two stands without the other.
+fn with_state<'a>(alloc: Global, named: Command<'a>) -> Result<Command<'a>, AllocError> {
+    let script = script_argument(alloc).requires_arg(STATE)?;
+    named.arg(script)?.arg(state_option(alloc)?)
+}
+
+/// `--state`, with a script, and without what else is marked.
+fn state_option<'a>(alloc: Global) -> Result<Arg<'a>, AllocError> {
+    flag(alloc, STATE, STATE_HELP)
+        .requires_arg(SCRIPT)?
+        .conflicts_with(HEADER)?
+        .conflicts_with(CYCLES)
 }
 
 /// An option without a value.

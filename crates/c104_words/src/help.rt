@@ -125,7 +125,14 @@ With a header, the links that it may take are bold, its owner is filled, and whe
 check refuses it the walk is red and the title is the fault.
 
 With --cycles, a cycle that the command cycles finds is red, and the title is that
-cycle.";
+cycle.
+
+With --state, a script is run, and its answers aren't printed: the picture shows the
+network as it then stands. Each link that a packet holds is an arrow in the packet's
+colour and pattern, named by the packet's terminal and its number there; in brackets
+behind its ports stands how many tokens wait. A dotted arrow leads along each output that
+an input wants for a header. Where the network stands still, packets that wait for one
+another in a cycle are red. The exit status is 1 where a line of the script is faulty.";
 
 /// Of `traffic`.
 pub const TRAFFIC: &str =

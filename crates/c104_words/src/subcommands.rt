@@ -36,7 +36,7 @@ pub enum Takes {
     All,
     /// `DESC [--rows]`.
     Rows,
-    /// `DESC [--header N | --cycles]`.
+    /// `DESC [--header N | --cycles | SCRIPT --state]`.
     Marks,
     /// `DESC --pattern P [--target T] --packets N --bytes B --seed S [--load R] [--own]`.
     Traffic,

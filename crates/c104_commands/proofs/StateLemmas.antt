@@ -1,0 +1,33 @@
+-- The picture of a network after a script: what is drawn by the answers of the script, and how it ends where nothing is.
+use Rattle.std.proofs.Common.{◌≡◌, ◌||◌, ℕ, Bool, List, Option, None, Some, Err, Ok, inl, refl, ap, subst, sym, ◌∙◌}
+use Rattle.std.specs.Io.KnownBytes.{Keeps}
+use Rattle.std.proofs.KnownBytes.{Keeps-refl}
+use Rattle.c104_plan.specs.Plans.{Plan}
+use Rattle.c104_plan.specs.PlanImage.{Image}
+use Rattle.c104_stream.specs.declared.halt.Halt.{Halt}
+use Rattle.c104_stream.specs.declared.halt.Halt.TheVariants as halt
+use Rattle.c104_stream.specs.ScriptLines.{is_long}
+use Rattle.c104_stream.specs.Scripts.{AnswersScript}
+use Rattle.c104_session.specs.Shown.{line_outcome, new_session}
+use Rattle.c104_session.specs.declared.session.Session.{Session}
+use Rattle.c104_commands.specs.Statuses.{halt_status}
+use Rattle.c104_commands.specs.StatePictures.{IsDrawnAfter, IsPictureOf, IsUndrawn, StateRuns}
+use Rattle.c104_commands.specs.declared.status.Status.{Status}
+
+undrawn : (kind : Halt) → IsUndrawn (halt_status kind 1)
+undrawn halt.CannotRead = refl
+undrawn halt.CannotWrite = tt
+undrawn halt.NoMemory = tt
+
+pub state_halts : (plan : Plan) (image : Image) (script held : Option (List ℕ)) (kind : Halt) (ended : Status) → ended ≡ halt_status kind 1 → StateRuns plan image script held held ended
+state_halts plan image script held kind ended is = inl (subst IsUndrawn (sym is) (undrawn kind), Keeps-refl held)
+
+-- a picture of the session as it is answered is that after the script
+pub drawn_after : (plan : Plan) (image : Image) (script left held holds : Option (List ℕ)) (session after : Session) (long refused : Bool) (text : List ℕ) → session ≡ new_session plan image → AnswersScript line_outcome session script left held holds after (Ok long) → IsPictureOf after text → refused ≡ (long || after.faulty) → IsDrawnAfter plan image script text refused
+drawn_after plan image None left held holds session after long refused text is answered drawn told = tt
+drawn_after plan image (Some script) left held holds session after long refused text is answered drawn told =
+    let of_plan : AnswersScript line_outcome (new_session plan image) (Some script) left held holds after (Ok long) =
+    subst (λ s. AnswersScript line_outcome s (Some script) left held holds after (Ok long)) is answered in (
+      subst (λ (s : Session). IsPictureOf s text) of_plan.1 drawn,
+      told ∙ ap (λ l. l || after.faulty) of_plan.0 ∙ ap (λ (s : Session). is_long script || s.faulty) of_plan.1,
+    )

@@ -1,0 +1,149 @@
+//! The drawing of a description's network as it stands after a script.
+ghost use Rattle.std.specs.Prelude.{ℕ, ◌≡◌, ◌≢◌, ◌||◌, Bool, IfOk, Ok};
+ghost use Rattle.std.specs.Io.KnownBytes.{prepend_known};
+ghost use Rattle.std.specs.String.{string_bytes};
+ghost use Rattle.c104_plan.specs.PlanImage.{Fits, Image as TheImage};
+ghost use Rattle.c104_plan.specs.Plans.{Plan as ThePlan};
+ghost use Rattle.c104_session.specs.Shown.{new_session};
+ghost use Rattle.c104_commands.specs.StatePictures.{IsDrawnAfter, IsPictureOf, StateEnds, StateRuns, WritesDrawn};
+ghost use Rattle.c104_commands.specs.declared.status.Status.TheVariants as status;
+
+use crate::setups::{Setup, read_setup};
+use crate::status::Status;
+use c104_mistakes::Messages;
+use c104_picture::state_text;
+use c104_plan::{Image, Plan};
+use c104_session::{Session, answer_script};
+use c104_stream::{Ahead, Halt, write_whole};
+use std::alloc::Global;
+use std::io;
+use std::io::{Read, Write};
+
+/// Reads a description, and then reads a script and does its lines on the network, started with the image of its
+/// labels; at the end writes a picture of the network as it then stands, as a text for Graphviz. Answers aren't written,
+/// nor what arrived. A line that is faulty is left out, and then the status is Refused, as it is where the script is too
+/// long, of which the lines are done that end within 16 MiB.
+///
+/// It tells people of each line that is faulty, refused or not ready. What is written and how it ends are the same
+/// whatever takes the messages does.
+///
+/// Reading ends at 1 MiB of a description and at 16 MiB of a script, whatever the reader. Each error of a reader or the
+/// writer is a fault at once.
+pub fn draw_state_command<D: Read, S: Read, W: Write, M: Messages>(
+    alloc: Global,
+    description: &mut D,
+    script: &mut S,
+    writer: &mut W,
+    messages: &mut M,
+) -> Status
+    ensures ends { StateEnds (D.remaining description.old) (S.remaining script.old)
+        (W.contents writer.old) (W.contents writer.new) result }
+    ensures of_description { result ≡ status.CannotRead 0 → script.new ≡ script.old }
+{
+    let Setup { plan, image } = match read_setup(alloc, description, writer, messages) {
+        Ok(setup) => setup,
+        Err(status) => return status,
+    };
+    draw_after(alloc, &plan, image, script, writer, messages)
+}
+
+/// The same of the network of a plan, with an image that fits it.
+#[tactic(auto, using(crate::proofs::StateLemmas::state_halts))]
+fn draw_after<S: Read, W: Write, M: Messages>(
+    alloc: Global,
+    plan: &Plan,
+    image: Image,
+    script: &mut S,
+    writer: &mut W,
+    messages: &mut M,
+) -> Status
+    requires { Fits image plan.now }
+    ensures runs { StateRuns plan.now image (S.remaining script.old)
+        (W.contents writer.old) (W.contents writer.new) result }
+    ensures of_script { (n : ℕ) → result ≡ status.CannotRead n → n ≡ 1 }
+{
+    match drawn_after(alloc, plan, image, script, messages) {
+        Ok(drawn) => write_drawn(&drawn, writer),
+        Err(halt) => Status::of_halt(halt, 1),
+    }
+}
+
+/// The picture of a network after a script.
+#[derive(Drop)]
+struct Drawn {
+    text: String,
+    /// Whether the script is refused.
+    refused: bool,
+}
+
+/// Writes a picture.
+fn write_drawn<W: Write>(drawn: &Drawn, writer: &mut W) -> Status
+    ensures written { WritesDrawn (string_bytes drawn.now.text) drawn.now.refused
+        (W.contents writer.old) (W.contents writer.new) result }
+    ensures of_writer { (n : ℕ) → result ≢ status.CannotRead n }
+{
+    let Ok(()) = write_whole(writer, drawn.text.as_bytes()) else {
+        return Status::CannotWrite;
+    };
+    if drawn.refused {
+        Status::Refused
+    } else {
+        Status::Done
+    }
+}
+
+/// The picture of the network of a plan, with an image that fits it, after a script.
+fn drawn_after<S: Read, M: Messages>(
+    alloc: Global,
+    plan: &Plan,
+    image: Image,
+    script: &mut S,
+    messages: &mut M,
+) -> Result<Drawn, Halt>
+    requires { Fits image plan.now }
+    ensures { IfOk result (λ drawn.
+        IsDrawnAfter plan.now image (S.remaining script.old) (string_bytes drawn.text) drawn.refused) }
+{
+    let mut ahead = Ahead::new(alloc)?;
+    let session = Session::new(alloc, plan, image)?;
+    drawn_session(alloc, session, &mut ahead, script, messages)
+}
+
+/// The same on a network that is before the script's first line.
+fn drawn_session<S: Read, M: Messages>(
+    alloc: Global,
+    session: Session,
+    ahead: &mut Ahead,
+    script: &mut S,
+    messages: &mut M,
+) -> Result<Drawn, Halt>
+    ensures { (plan : ThePlan) (image : TheImage) → session ≡ new_session plan image →
+        IfOk result (λ drawn. IsDrawnAfter plan image (prepend_known ahead.old (S.remaining script.old))
+        (string_bytes drawn.text) drawn.refused) }
+{
+    let mut session = session;
+    let answered = answer_script(
+        alloc,
+        &mut session,
+        ahead,
+        script,
+        &mut io::sink(),
+        messages,
+    );
+    let drawn = drawn_of(alloc, &session, answered);
+    session.finish().retire();
+    drawn
+}
+
+/// The same of a network on which a script was answered so.
+fn drawn_of(alloc: Global, session: &Session, answered: Result<bool, Halt>) -> Result<Drawn, Halt>
+    ensures { IfOk result (λ drawn. (long : Bool) × (answered ≡ Ok long)
+        × IsPictureOf session.now (string_bytes drawn.text) × (drawn.refused ≡ (long || session.now.faulty))) }
+{
+    let is_long = answered?;
+    let text = state_text(alloc, &session.net, &session.image)?;
+    Ok(Drawn {
+        text,
+        refused: is_long || session.faulty,
+    })
+}

@@ -1,0 +1,2 @@
+mod Searches
+pub mod Pictured

@@ -1,0 +1,36 @@
+use Rattle.std.proofs.Common.{◌∙◌, ◌+◌, ◌-◌, Option, sym, ap, arith}
+use Rattle.std.specs.Option.{option_or}
+use Rattle.c104_node.specs.Tagged.{TaggedToken}
+use Rattle.c104_node.specs.declared.origins.Origin.{Origin}
+use Rattle.c104_picture.specs.Holders.{end_or, first_end, output_tokens}
+use Rattle.c104_picture.specs.declared.holders.TheConstants.{BUFFER_LIMIT}
+use Rattle.c104_picture.proofs.Searches.{end_end, end_step}
+use Rattle.c104_picture.proofs.holders.output_end.Goals as goal
+
+pub loop-index-preserved : goal.loop-index-preserved
+loop-index-preserved c =
+    let tokens = output_tokens c.args.net.now c.args.switch c.args.link in
+    let k = c.loop-index.index in
+    let rest = first_end tokens (BUFFER_LIMIT - (k + 1)) (k + 1) in
+    ap (λ (o : Option Origin). option_or o rest) c.in_default-end_of.ensures ∙ ap (λ (x : Option TaggedToken). end_or x rest) c.in-Some.ensures
+    ∙ sym (end_step tokens BUFFER_LIMIT k c.loop-index-test.true) ∙ c.loop-index.invariant
+
+pub returns-in-Some-end_of : goal.returns-in-Some-end_of
+returns-in-Some-end_of c =
+    let tokens = output_tokens c.args.net.now c.args.switch c.args.link in
+    let k = c.loop-index.index in
+    let rest = first_end tokens (BUFFER_LIMIT - (k + 1)) (k + 1) in
+    ap (λ (o : Option Origin). option_or o rest) c.in-Some-end_of.ensures ∙ ap (λ (x : Option TaggedToken). end_or x rest) c.in-Some.ensures
+    ∙ sym (end_step tokens BUFFER_LIMIT k c.loop-index-test.true) ∙ c.loop-index.invariant
+
+pub returns-in_default : goal.returns-in_default
+returns-in_default c =
+    let tokens = output_tokens c.args.net.now c.args.switch c.args.link in
+    let k = c.loop-index.index in
+    let rest = first_end tokens (BUFFER_LIMIT - (k + 1)) (k + 1) in
+    ap (λ (x : Option TaggedToken). end_or x rest) c.in_default.ensures
+    ∙ sym (end_step tokens BUFFER_LIMIT k c.loop-index-test.true) ∙ c.loop-index.invariant
+
+pub returns : goal.returns
+returns c =
+    sym (end_end (output_tokens c.args.net.now c.args.switch c.args.link) BUFFER_LIMIT c.loop-index.index (omega arith)) ∙ c.loop-index.invariant

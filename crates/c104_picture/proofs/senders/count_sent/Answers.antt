@@ -1,0 +1,25 @@
+use Rattle.std.proofs.Common.{◌≡◌, ◌∙◌, ◌+◌, ◌-◌, Option, ℕ, sym, ap, arith}
+use Rattle.c104_picture.specs.Senders.{count_from, counted, size_at}
+use Rattle.c104_picture.specs.declared.senders.TheConstants.{SENT_LIMIT}
+use Rattle.c104_picture.proofs.Searches.{count_end, count_step}
+use Rattle.c104_picture.proofs.senders.count_sent.Goals as goal
+
+pub loop-number-preserved : goal.loop-number-preserved
+loop-number-preserved c =
+    let sizes = size_at c.args.net.now c.args.terminal in
+    let k = c.loop-number.number in
+    ap (λ (o : Option ℕ). counted o k (count_from sizes (SENT_LIMIT - (k + 1)) (k + 1))) c.in-Some.ensures
+    ∙ sym (count_step sizes SENT_LIMIT k c.loop-number-test.true) ∙ c.loop-number.invariant
+
+pub returns-in-None : goal.returns-in-None
+returns-in-None c =
+    let sizes = size_at c.args.net.now c.args.terminal in
+    let k = c.loop-number.number in
+    ap (λ (o : Option ℕ). counted o k (count_from sizes (SENT_LIMIT - (k + 1)) (k + 1))) c.in-None.ensures
+    ∙ sym (count_step sizes SENT_LIMIT k c.loop-number-test.true) ∙ c.loop-number.invariant
+
+pub returns : goal.returns
+returns c =
+    let sizes = size_at c.args.net.now c.args.terminal in
+    let all : SENT_LIMIT ≡ c.loop-number.number = omega arith in
+    all ∙ sym (count_end sizes SENT_LIMIT c.loop-number.number (omega arith)) ∙ c.loop-number.invariant

@@ -1,0 +1,8 @@
+use Rattle.std.proofs.Common.{◌≡◌, ◌-◌}
+use Rattle.c104_picture.specs.Senders.{count_from, size_at}
+use Rattle.c104_picture.specs.declared.senders.TheConstants.{SENT_LIMIT}
+use Rattle.c104_picture.proofs.senders.count_sent.Given as goal
+
+-- what is left tells it
+abbrev pub invariant-loop-number : goal.invariant-loop-number
+invariant-loop-number l = count_from (size_at l.net l.terminal) (SENT_LIMIT - l.number) l.number ≡ count_from (size_at l.net l.terminal) SENT_LIMIT 0

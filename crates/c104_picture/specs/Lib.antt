@@ -1,0 +1,6 @@
+pub mod Senders
+pub mod Holders
+pub mod Waits
+pub mod States
+pub mod StateTexts
+pub mod Pictures
