@@ -46,6 +46,8 @@ fn add_terminals(
         let mut text = Vec::new(alloc);
         let name = terminal.name.as_bytes();
         add_terminal(alloc, run, number, name, origins, &mut text)?;
+        // Text that grew has up to as much room again.
+        text.shrink_to_fit();
         texts.push(text)?;
     }
     Ok(())
