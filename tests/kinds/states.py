@@ -101,7 +101,7 @@ def ring(runner):
     held = {it[:3] for it in arrows if it[3][0].startswith('red') and it[3][1:] in (('solid', WIDE), ('dashed', WIDE))}
     wanted = {it[:3] for it in arrows if it[3] == ('red', 'dotted', WIDE)}
     order = list(zip('ABCD', 'BCDA', 'dabc'))
-    ways = {(here, there, r'%s 0\n%s.1 [8] to %s.2 [9]' % (here.lower(), here, there)) for here, there, _ in order}
+    ways = {(here, there, r'%s 0\n%s.1 [8] to %s.2 [8]' % (here.lower(), here, there)) for here, there, _ in order}
     wishes = {(here, there, r'%s 0\n%s.2 wants %s.1' % (packet, here, here)) for here, there, packet in order}
     runner.judge(name, compared((status, title_of(text), held, wanted), (0, LOCKED, ways, wishes)))
 
