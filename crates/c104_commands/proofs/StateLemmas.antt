@@ -1,5 +1,5 @@
 -- The picture of a network after a script: what is drawn by the answers of the script, and how it ends where nothing is.
-use Rattle.std.proofs.Common.{◌≡◌, ◌||◌, ℕ, Bool, List, Option, None, Some, Err, Ok, inl, refl, ap, subst, sym, ◌∙◌}
+use Rattle.std.proofs.Common.{◌≡◌, ◌||◌, ℕ, Bool, List, Option, None, Some, Err, Ok, inl, inr, refl, ap, subst, sym, ◌∙◌}
 use Rattle.std.specs.Io.KnownBytes.{Keeps}
 use Rattle.std.proofs.KnownBytes.{Keeps-refl}
 use Rattle.c104_plan.specs.Plans.{Plan}
@@ -11,7 +11,8 @@ use Rattle.c104_stream.specs.Scripts.{AnswersScript}
 use Rattle.c104_session.specs.Shown.{line_outcome, new_session}
 use Rattle.c104_session.specs.declared.session.Session.{Session}
 use Rattle.c104_commands.specs.Statuses.{halt_status}
-use Rattle.c104_commands.specs.StatePictures.{IsDrawnAfter, IsPictureOf, IsUndrawn, StateRuns}
+use Rattle.c104_commands.specs.Endings.{IsSetup}
+use Rattle.c104_commands.specs.StatePictures.{IsDrawnAfter, IsPictureOf, IsUndrawn, StateEnds, StateRuns}
 use Rattle.c104_commands.specs.declared.status.Status.{Status}
 
 undrawn : (kind : Halt) → IsUndrawn (halt_status kind 1)
@@ -21,6 +22,11 @@ undrawn halt.NoMemory = tt
 
 pub state_halts : (plan : Plan) (image : Image) (script held : Option (List ℕ)) (kind : Halt) (ended : Status) → ended ≡ halt_status kind 1 → StateRuns plan image script held held ended
 state_halts plan image script held kind ended is = inl (subst IsUndrawn (sym is) (undrawn kind), Keeps-refl held)
+
+-- where there is a network, and nothing was written before, all ends as for that network
+pub state_ends : (description script held now holds : Option (List ℕ)) (plan : Plan) (image : Image) (ended : Status) → IsSetup description (Ok (plan, image)) → held ≡ now → StateRuns plan image script now holds ended → StateEnds description script held holds ended
+state_ends description script held now holds plan image ended setup same runs =
+    inr (plan, image, setup, subst (λ h. StateRuns plan image script h holds ended) (sym same) runs)
 
 -- a picture of the session as it is answered is that after the script
 pub drawn_after : (plan : Plan) (image : Image) (script left held holds : Option (List ℕ)) (session after : Session) (long refused : Bool) (text : List ℕ) → session ≡ new_session plan image → AnswersScript line_outcome session script left held holds after (Ok long) → IsPictureOf after text → refused ≡ (long || after.faulty) → IsDrawnAfter plan image script text refused

@@ -110,6 +110,7 @@ fn drawn_after<S: Read, M: Messages>(
 }
 
 /// The same on a network that is before the script's first line.
+#[tactic(auto, using(crate::proofs::StateLemmas::drawn_after))]
 fn drawn_session<S: Read, M: Messages>(
     alloc: Global,
     session: Session,
