@@ -12,6 +12,7 @@ from case_runner import CANNOT_WRITE, EXAMPLES, FIRST_RUN, PLAN, SCRIPT_LIMIT, c
 ARROW = re.compile(r'  "([\w-]+)" -> "([\w.-]+)" \[dir=forward, label="([^"]*)"(, arrowhead=onormal, style=dotted)?, '
                    r'color="([^"]*)"(?:, style=(\w+))?, penwidth=(\d)\]')
 TITLE = re.compile(r'  label="(.*)"')
+GREY = ', color=gray60'
 CALM = r'in brackets: tokens that wait\ndotted: an output that is wanted'
 LOCKED = CALM + r'\nred: these wait for one another, and nothing moves'
 
@@ -78,12 +79,12 @@ def drawn(runner):
 
 
 def plain(runner):
-    """But for its arrows and its title a picture is the network's own."""
+    """But for its arrows, its title and that its edges are grey a picture is the network's own."""
     name = 'nothing but the network'
     if runner.wanted(name):
         own = runner.run(words=['draw', '-'], data=PLAN)[1].decode().split('\n')
         found = drawn_after(runner, PLAN, SENT)[1].decode().split('\n')
-        left = [it for it in found if not ARROW.fullmatch(it) and not TITLE.fullmatch(it)]
+        left = [it.replace(GREY, '') for it in found if not ARROW.fullmatch(it) and not TITLE.fullmatch(it)]
         runner.judge(name, compared(left, own))
 
 

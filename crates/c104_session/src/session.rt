@@ -82,6 +82,7 @@ impl Session {
     }
 
     /// The same, and tells of each round that changed something.
+    #[inline(always)]
     #[tactic(auto, using(crate::proofs::Leavings::nothing_left, crate::proofs::Leavings::request_left), unfolding(crate::specs::Shown::line_answer))]
     pub(crate) fn answer_watched<W: Watch>(
         &mut self,
