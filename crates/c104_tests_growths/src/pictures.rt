@@ -37,19 +37,21 @@ impl Growing for Painting<'_> {
     }
 }
 
-/// The text of a picture is made, maybe with further lines.
+/// What the further lines of a text are.
+const LINES: &str = "  edge [color=gray]\n";
+
+/// The text of a picture is made, or that with further lines.
 #[derive(Drop)]
-struct Telling<'a>(Ground<'a>, &'a Drawing, Option<&'a str>);
+struct Telling<'a>(Ground<'a>, &'a Drawing, bool);
 
 impl Growing for Telling<'_> {
     fn call(&self, alloc: Global, refusal: Refusal) -> Outcome {
         refusal.begin(alloc);
         let (plan, image) = (self.0.plan, self.0.image);
-        let found = match self.2 {
-            Some(lines) => Outcome::of(drawing_text_with(
-                alloc, plan, image, self.1, "first", lines,
-            )),
-            None => Outcome::of(drawing_text(alloc, plan, image, self.1, "first")),
+        let found = if self.2 {
+            Outcome::of(drawing_text_with(alloc, plan, image, self.1, "first", LINES))
+        } else {
+            Outcome::of(drawing_text(alloc, plan, image, self.1, "first"))
         };
         refusal.end(alloc);
         found
@@ -72,12 +74,8 @@ impl Suite for PictureCalls {
 fn is_text_right(rt: &HostRuntime, ground: Ground<'_>) -> bool {
     match draw(rt.alloc(), ground.plan, ground.image) {
         Ok(drawing) => {
-            is_right(rt, "drawing_text", &Telling(ground, &drawing, None))
-                && is_right(
-                    rt,
-                    "drawing_text_with",
-                    &Telling(ground, &drawing, Some("  edge [color=gray]\n")),
-                )
+            is_right(rt, "drawing_text", &Telling(ground, &drawing, false))
+                && is_right(rt, "drawing_text_with", &Telling(ground, &drawing, true))
         }
         Err(_) => false,
     }
