@@ -50,7 +50,9 @@ mod UndoneRounds
 pub mod DeadlockFree
 pub mod SentCounts
 pub mod KnownTokens
+pub mod OwnEnds
 pub mod TracedOrigins
+pub mod MeteredRecords
 pub mod TracedTokens
 pub mod RandomOwners
 pub mod RandomHeaders

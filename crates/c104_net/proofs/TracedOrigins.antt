@@ -2,30 +2,23 @@
 use Rattle.std.proofs.Common.{◌≡◌, ◌∙◌, ◌≤◌, ◌++◌, ◌<◌, ◌+◌, ℕ, zero, suc, All, List, [], ◌∷◌, Option, Some, None, Result, get_or, length, map, slice_get, take, refl, sym, ap, subst, arith, append-nil, inl, inr}
 use Rattle.std.proofs.lemmas.Bool.{cases_eq}
 use Rattle.std.proofs.lemmas.List.{map-append, map_more}
-use Rattle.std.proofs.lemmas.Option.{slice_get-map}
-use Rattle.std.specs.Option.{option_map}
 use Rattle.c104_token.specs.declared.tokens.Token.{Token}
-use Rattle.c104_token.specs.Kinds.{plain_kind}
-use Rattle.c104_switch.specs.Actions.{Reply}
 use Rattle.c104_plan.specs.Plans.{Plan, IsPlan}
-use Rattle.c104_event.specs.declared.events.Event.{Event}
-use Rattle.c104_event.specs.declared.faults.EventFault.{EventFault}
 use Rattle.c104_node.specs.declared.acts.Entry.{Entry}
 use Rattle.c104_node.specs.declared.node.NodeOf.TheVariants as node
 use Rattle.c104_node.specs.declared.starts.NodeStart.{NodeStart}
-use Rattle.c104_run.specs.EventRuns.{run_events}
 use Rattle.c104_run.specs.Finished.{network_finish}
 use Rattle.c104_node.specs.Nodes.{terminals_of, node_arrived, Node}
 use Rattle.c104_run.specs.FinishedRecords.{record_finish, FinishedRecord}
-use Rattle.c104_run.specs.Network.{network_apply, network_of, Network}
+use Rattle.c104_run.specs.MeteredRuns.{AreOwnNodes}
+use Rattle.c104_run.specs.Network.{network_of, Network}
 use Rattle.c104_run.specs.NetRecords.{IsWithinLimit, NetRecord}
 use Rattle.c104_node.specs.declared.origins.Origin.{Origin}
 use Rattle.c104_net.specs.RunOrigins.{AreOrigins}
-use Rattle.c104_run.specs.Runs.{at_node, run_deeds, IsDoneRun, IsRunRecord}
+use Rattle.c104_run.specs.Runs.{at_node, run_deeds}
 use Rattle.c104_node.specs.Starts.{start_node}
 use Rattle.c104_node.specs.Tagged.{tag, tagged_kind, tagged_origins}
 use Rattle.c104_node.specs.declared.tagged.TaggedToken.{TaggedToken}
-use Rattle.c104_node.specs.Traced.{traced_kind}
 use Rattle.c104_node.specs.declared.traced.Traced.{Traced}
 use Rattle.c104_run.specs.TracedRuns.{map_network, IsTracedRun}
 use Rattle.c104_node.specs.MappedNodes.{map_node}
@@ -38,13 +31,9 @@ use Rattle.c104_run.proofs.Finishing.{terminals_append}
 use Rattle.c104_run.proofs.RecordedNets.{states_shown}
 use Rattle.c104_net.proofs.RunOrigins.{ends_traced, origins_lent, terminal_origins, IsKeptRun}
 use Rattle.c104_net.proofs.SentBytes.{run_bytes, IsFitEntry}
-use Rattle.c104_run.proofs.NodeMaps.{starts_same}
-use Rattle.c104_run.proofs.StepMaps.{apply_map}
-use Rattle.c104_net.proofs.ToldEvents.{events_told}
-use Rattle.c104_net.proofs.TracedRuns.{run_after, traced_from}
-use Rattle.c104_run.proofs.TaggedRuns.{tagged_apply, tagged_plain, plain_network, token_of}
 use Rattle.c104_net.proofs.KnownTokens.{lists_same, tagged_lists}
 use Rattle.c104_net.proofs.SentCounts.{bounded_first}
+use Rattle.c104_net.proofs.OwnEnds.{ends_again, one_part, own_end, run_again, tagged_again}
 
 -- the origins of what arrived at the terminals among nodes
 abbrev pub arrived_origins : List TracedRecord → List (List Origin)
@@ -87,34 +76,6 @@ fit_there [] fit k trace at = cc
 fit_there (n ∷ nodes) fit zero trace at = let same : n.trace ≡ trace = cc in subst (λ (t : List Entry). All IsFitEntry t) same (fit 0 n refl)
 fit_there (n ∷ nodes) fit (suc k) trace at = fit_there nodes (λ j m here. fit (suc j) m here) k trace at
 
--- what is told of each of a list, whatever it is
-option_same : {X Y Z : Type 0} (f : X → Y) (z : Z) (o : Option X) → option_map (λ (y : Y). z) (option_map f o) ≡ option_map (λ (x : X). z) o
-option_same f z None = refl
-option_same f z (Some x) = refl
-
-one_part : {X Y Z : Type 0} (f : X → Y) (z : Z) (xs : List X) (k : ℕ) → option_map (λ (y : Y). z) (slice_get (map f xs) k) ≡ option_map (λ (x : X). z) (slice_get xs k)
-one_part {Y = Y} f z xs k = ap (option_map (λ (y : Y). z)) (slice_get-map f xs k) ∙ option_same f z (slice_get xs k)
-
--- a run over tagged tokens is one over plain tokens
-run_plain : (net ended : Network TaggedToken) (events : List (Event × Reply)) → IsDoneRun tagged_kind net events ended → IsDoneRun plain_kind (plain_network net) events (plain_network ended)
-run_plain net ended [] is = ap plain_network is
-run_plain net ended (e ∷ events) is = (
-  plain_network is.0,
-  ap (λ (d : Result Reply EventFault × Network TaggedToken). (d.0, plain_network d.1)) is.1 ∙ sym (apply_map token_of tagged_kind plain_kind (λ x. refl) (λ j b. refl) tagged_plain net e.0),
-  is.2,
-  run_plain is.0 ended events is.3,
-)
-
--- a run over tokens that all tell where they came from is one over what is kept of them
-run_tagged : (net ended : Network Traced) (events : List (Event × Reply)) → IsDoneRun traced_kind net events ended → IsDoneRun tagged_kind (map_network tag net) events (map_network tag ended)
-run_tagged net ended [] is = ap (map_network tag) is
-run_tagged net ended (e ∷ events) is = (
-  map_network tag is.0,
-  ap (λ (d : Result Reply EventFault × Network Traced). (d.0, map_network tag d.1)) is.1 ∙ sym (tagged_apply net e.0),
-  is.2,
-  run_tagged is.0 ended events is.3,
-)
-
 module _ (plan : Plan) (is_plan : IsPlan plan) (nodes : List TracedRecord) (count : ℕ) (is : IsRecordedNet counted_reading plan nodes count) where
   abbrev net : NetRecord
   net = places_record counted_reading plan nodes count
@@ -128,45 +89,25 @@ module _ (plan : Plan) (is_plan : IsPlan plan) (nodes : List TracedRecord) (coun
   abbrev starts : List NodeStart
   starts = map traced_start nodes
 
-  -- the events of the run lead there over plain tokens too
-  told_plain : IsRunRecord plain_kind plan seatless (map start_node net.starts) net.network.nodes net.traces count is.events
-  told_plain =
-      let from : plain_network (network_of plan (map start_node starts)) ≡ network_of plan (map start_node net.starts) = ap (network_of plan) (starts_same token_of starts) in
-      let to : plain_network here ≡ net.network = ap (network_of plan) (states_shown counted_reading counted_keeps.reads nodes) in
-      record {
-        run = subst (λ n. IsDoneRun plain_kind n is.events net.network) from (subst (λ n. IsDoneRun plain_kind (plain_network (network_of plan (map start_node starts))) is.events n) to (run_plain (network_of plan (map start_node starts)) here is.events is.told.run));
-        told = λ k.
-            is.told.told k
-            ∙ one_part (start_node {A = TaggedToken}) (at_node k (run_deeds plan seatless 0 is.events)) starts k ∙ sym (one_part (start_node {A = Token}) (at_node k (run_deeds plan seatless 0 is.events)) starts k);
-        counted = is.told.counted;
-        ordered = is.told.ordered;
-      }
+  abbrev own : AreOwnNodes tagged_kind net (map traced_state nodes)
+  own = record { plain = states_shown counted_reading counted_keeps.reads nodes; events = is.events; told = is.told }
 
   -- the same run over tokens that all tell where they came from
-  again : (nodes : List (Node Traced)) × IsTracedRun plan starts is.events net.network.nodes nodes
-  again = traced_from plan starts net.network.nodes is.events told_plain.run
+  abbrev again : (nodes : List (Node Traced)) × IsTracedRun plan starts is.events net.network.nodes nodes
+  again = run_again net is_plan is.kept.started.in_place (map traced_state nodes) own
 
   abbrev there : Network Traced
   there = network_of plan again.0
 
-  -- it ends where the events that the traces tell lead
   ends_there : traced_end run ≡ there
-  unfolding traced_end
-  ends_there =
-      ap (λ (events : List Event). (run_events (network_apply traced_kind) (network_of plan (map start_node net.starts)) events).1)
-      (events_told plan is_plan seatless (map start_node net.starts) net.network.nodes net.traces count is.events told_plain is.kept.started.in_place)
-      ∙ run_after traced_kind (network_of plan (map start_node starts)) there is.events again.1.run
+  ends_there = ends_again net is_plan is.kept.started.in_place (map traced_state nodes) own
 
-  -- and what is kept of its tokens are the tokens of the nodes
   tagged_there : map (map_node tag) again.0 ≡ map traced_state nodes
-  tagged_there =
-      let from : map_network tag (network_of plan (map start_node starts)) ≡ network_of plan (map start_node starts) = ap (network_of plan) (starts_same tag starts) in
-      let run : IsDoneRun tagged_kind (network_of plan (map start_node starts)) is.events (map_network tag there) = subst (λ (n : Network TaggedToken). IsDoneRun tagged_kind n is.events (map_network tag there)) from (run_tagged (network_of plan (map start_node starts)) there is.events again.1.run) in
-      ap (λ (n : Network TaggedToken). n.nodes) (sym (run_after tagged_kind (network_of plan (map start_node starts)) (map_network tag there) is.events run) ∙ run_after tagged_kind (network_of plan (map start_node starts)) here is.events is.told.run)
+  tagged_there = tagged_again net is_plan is.kept.started.in_place (map traced_state nodes) own
 
-  -- so what is kept of the tokens at that end is what stands here
+  -- what is kept of the tokens at that end is what stands here
   pub tagged_end : map_network tag (traced_end run) ≡ here
-  tagged_end = ap (map_network tag) ends_there ∙ ap (network_of plan) tagged_there
+  tagged_end = own_end net is_plan is.kept.started.in_place (map traced_state nodes) own
 
   -- so they tell the same packets
   lists_are : arrived_origins nodes ≡ map terminal_origins (terminals_of again.0)

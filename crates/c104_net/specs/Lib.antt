@@ -4,6 +4,7 @@ pub mod Leading
 pub mod Merges
 pub mod ToldEvents
 pub mod TracedEnds
+pub mod MeteredRecords
 pub mod Replays
 pub mod RunOrigins
 pub mod Work

@@ -13,8 +13,9 @@ use Rattle.c104_event.specs.declared.faults.EventFault.{EventFault}
 use Rattle.c104_event.specs.declared.faults.EventFault.TheVariants as fault
 use Rattle.c104_node.specs.declared.acts.ActOf.{ActOf}
 use Rattle.c104_node.specs.declared.crossings.Crossing.{Crossing}
+use Rattle.c104_node.specs.declared.crossings.Crossing.TheVariants.{Grant, Token}
 use Rattle.c104_node.specs.declared.ends.End.{End}
-use Rattle.c104_run.specs.EventActs.{crossing_acts, event_acts, port_place}
+use Rattle.c104_run.specs.EventActs.{crossing_acts, crossing_event, event_acts, port_place}
 use Rattle.c104_node.specs.PortActs.{Acts}
 use Rattle.c104_run.specs.EventsAtPlaces.{ActsDone, told_answer}
 use Rattle.c104_run.specs.Ends.{end_of}
@@ -24,26 +25,37 @@ use Rattle.c104_run.specs.NetRecords.{is_done, ticket_after}
 use Rattle.c104_node.specs.PlaceActs.{AloneDone, JointDone}
 use Rattle.c104_node.specs.Places.{IsFullByTrace, Shown}
 use Rattle.c104_run.specs.RoundParts.{done_answer, PartEnds}
-use Rattle.c104_run.specs.Stages.{stage_apply, stage_of}
+use Rattle.c104_run.specs.Meters.{meter_told, metered_apply, metered_of, Sees}
 use Rattle.c104_node.specs.Traces.{seatless}
 use Rattle.c104_run.proofs.ActAnswers.{event_done}
-use Rattle.c104_run.proofs.StageSteps.{fulls_kept, part_done}
+use Rattle.c104_run.proofs.MeteredSteps.{part_done, told_meter}
+use Rattle.c104_run.proofs.StageSteps.{fulls_kept}
 
-module _ {A P : Type 0} (kind : Kind A) (keeps : Bool) (shown : P → Shown A) (limited : (p : P) → IsFullByTrace keeps (shown p)) (plan : Plan) (olds news : List P) (count counted : ℕ) (e : Event) (possible : event_fault plan e ≡ None)
+-- what can happen at a wired port: what crosses from there, of whatever kind
+crossing_possible : (plan : Plan) (crossing : Crossing) (p : Port) → wired_fault plan p ≡ None → event_fault plan (crossing_event crossing p) ≡ None
+crossing_possible plan Token p wired = wired
+crossing_possible plan Grant p wired = wired
+
+-- it asks that this crosses
+crossing_known : {A : Type 0} (plan : Plan) (crossing : Crossing) (p : Port) → ◌≡◌ {A = Option (Acts A)} (event_acts plan (crossing_event crossing p)) (crossing_acts crossing p (peer plan p))
+crossing_known plan Token p = refl
+crossing_known plan Grant p = refl
+
+module _ {A M P : Type 0} (kind : Kind A) (keeps : Bool) (sees : Sees M A) (shown : P → Shown A) (limited : (p : P) → IsFullByTrace keeps (shown p)) (plan : Plan) (olds news : List P) (count counted : ℕ) (m n : M)
     (told : Result (ReplyOf A) EventFault) (counts : counted ≡ ticket_after count (is_done (told_answer kind told))) where
-  -- what the part of the event comes to
-  abbrev pub IsTried : Type 0
-  IsTried = PartEnds (stage_apply kind keeps) (stage_of plan (map shown olds) count) (e ∷ []) (done_answer (told_answer kind told)) (stage_of plan (map shown news) counted)
+  -- what the part of an event comes to, of which a meter is told this
+  abbrev pub IsTried : Event → Type 0
+  IsTried e = PartEnds (metered_apply kind keeps sees) (metered_of plan (map shown olds) count m) (e ∷ []) (done_answer (told_answer kind told)) (metered_of plan (map shown news) counted n)
 
-  acts_tried : (acts : Acts A) → event_acts plan e ≡ Some acts → ActsDone kind keeps plan (seatless count) acts (map shown olds) told (map shown news) → IsTried
-  acts_tried acts known done =
-      part_done kind keeps plan (map shown olds) (map shown news) count counted (fulls_kept keeps shown limited olds) e (told_answer kind told)
+  acts_tried : (e : Event) → n ≡ meter_told sees m e told → event_fault plan e ≡ None → (acts : Acts A) → event_acts plan e ≡ Some acts → ActsDone kind keeps plan (seatless count) acts (map shown olds) told (map shown news) → IsTried e
+  acts_tried e tells possible acts known done =
+      part_done kind keeps sees plan (map shown olds) (map shown news) count counted m n (fulls_kept keeps shown limited olds) e (told_answer kind told)
       (event_done kind plan e acts known keeps (seatless count) possible (map shown olds) told (map shown news) done) counts
+      (tells ∙ told_meter kind sees keeps plan e acts known (seatless count) (map shown olds) (map shown news) m told done)
 
   -- an act of one node
-  pub alone_tried : (k switches : ℕ) (a : ActOf A) → event_acts plan e ≡ Some (Acts.Alone k a) → switches ≡ length plan.switches → AloneDone kind keeps k (k - switches) (seatless count) a (map shown olds) told (map shown news) → IsTried
-  alone_tried k switches a known same done =
-      acts_tried (Acts.Alone k a) known (subst (λ n. AloneDone kind keeps k (k - n) (seatless count) a (map shown olds) told (map shown news)) same done)
+  pub alone_tried : (e : Event) → n ≡ meter_told sees m e told → event_fault plan e ≡ None → (k : ℕ) (a : ActOf A) → event_acts plan e ≡ Some (Acts.Alone k a) → AloneDone kind keeps k (k - length plan.switches) (seatless count) a (map shown olds) told (map shown news) → IsTried e
+  alone_tried e tells possible k a known done = acts_tried e tells possible (Acts.Alone k a) known done
 
   -- what crosses a wire
   module _ (p q : Port) (crossing : Crossing) (near far : End) (near_is : near ≡ end_of plan p) (far_is : far_end plan p ≡ Some far) (wired : peer plan p ≡ Some q) where
@@ -58,9 +70,9 @@ module _ {A P : Type 0} (kind : Kind A) (keeps : Bool) (shown : P → Shown A) (
         let both : Some (end_of plan q) ≡ Some far = sym (ap (option_map (end_of plan)) wired) ∙ far_is in
         let one : end_of plan q ≡ far = cc in ap (λ (end : End). end.node) (sym one)
 
-    pub joint_tried : ◌≡◌ {A = Option (Acts A)} (event_acts plan e) (crossing_acts crossing p (peer plan p)) → IsEnded near.node far.node → IsTried
-    joint_tried known done =
-        acts_tried (Acts.Joint p q crossing) (known ∙ ap (crossing_acts crossing p) wired)
+    pub joint_tried : n ≡ meter_told sees m (crossing_event crossing p) told → wired_fault plan p ≡ None → IsEnded near.node far.node → IsTried (crossing_event crossing p)
+    joint_tried tells possible done =
+        acts_tried (crossing_event crossing p) tells (crossing_possible plan crossing p possible) (Acts.Joint p q crossing) (crossing_known plan crossing p ∙ ap (crossing_acts crossing p) wired)
         (subst (λ j. IsEnded (port_place plan p) j) far_place (subst (λ k. IsEnded k far.node) near_place done))
 
 -- what can happen at a wired link: a turn of its input

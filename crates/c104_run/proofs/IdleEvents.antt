@@ -20,10 +20,10 @@ use Rattle.c104_node.specs.Nodes.{node_claim}
 use Rattle.c104_run.proofs.ActSteps.{joint_unready}
 use Rattle.c104_run.proofs.EventSteps.{claim_named, done_step}
 use Rattle.c104_node.specs.declared.crossings.Crossing.TheVariants.{Grant, Token}
-use Rattle.c104_run.specs.Network.{network_apply, network_step, terminal_place, told_step, event_fault, outcome_if_possible, outcome_if_ready, link_fault, wire_fault, wired_fault}
-use Rattle.c104_run.specs.RoundParts.{PartEnds}
-use Rattle.c104_run.specs.Stages.{stage_apply, Stage}
-use Rattle.c104_run.proofs.StageSteps.{unready_part}
+use Rattle.c104_run.specs.Network.{Network, network_apply, network_step, terminal_place, told_step, event_fault, outcome_if_possible, outcome_if_ready, link_fault, wire_fault, wired_fault}
+use Rattle.c104_run.specs.Meters.{metered_apply, Metered, Sees}
+use Rattle.c104_run.specs.RoundParts.{AreIdle, PartEnds}
+use Rattle.c104_run.proofs.MeteredSteps.{idle_part}
 use Rattle.c104_run.proofs.NoFaults.{link_there, node_there, past_node}
 
 pub none_of : {X : Type 0} (o : Option X) → is_some o ≡ false → o ≡ None
@@ -47,36 +47,40 @@ module _ (plan : Plan) where
       let is_terminal : nat_lt t (length plan.terminals) ≡ true = grind (arith, nat_tests) in
       rw (is_terminal, is) refl
 
-module _ {A : Type 0} (kind : Kind A) (keeps : Bool) (s : Stage A) where
+module _ {A : Type 0} (kind : Kind A) (net : Network A) where
   -- an event that could happen and isn't ready
-  idle_event : (e : Event) → event_fault s.network.plan e ≡ None → network_step kind s.network e ≡ None → PartEnds (stage_apply kind keeps) s (e ∷ []) (Ok false) s
+  idle_event : (e : Event) → event_fault net.plan e ≡ None → network_step kind net e ≡ None → AreIdle kind net (e ∷ [])
   idle_event e possible unready =
-      let unchanged : network_apply kind s.network e ≡ (Ok reply.NotReady, s.network) = ap (outcome_if_possible kind s.network e) possible ∙ ap (outcome_if_ready kind s.network e) unready in
-      unready_part kind keeps s e unchanged
+      let unchanged : network_apply kind net e ≡ (Ok reply.NotReady, net) = ap (outcome_if_possible kind net e) possible ∙ ap (outcome_if_ready kind net e) unready in
+      record { each = (unchanged, tt) }
 
   -- nothing crosses from a port whose node isn't ready
-  pub idle_credit : (p : Port) → wired_fault s.network.plan p ≡ None → is_some (nodes_act kind s.network.nodes (port_place s.network.plan p) 0 (near_act Grant p)) ≡ false → PartEnds (stage_apply kind keeps) s (event.Credit p ∷ []) (Ok false) s
-  idle_credit p wired unready = idle_event (event.Credit p) wired (joint_unready kind s.network Grant p (none_of _ unready) (peer s.network.plan p))
+  pub idle_credit : (p : Port) → wired_fault net.plan p ≡ None → is_some (nodes_act kind net.nodes (port_place net.plan p) 0 (near_act Grant p)) ≡ false → AreIdle kind net (event.Credit p ∷ [])
+  idle_credit p wired unready = idle_event (event.Credit p) wired (joint_unready kind net Grant p (none_of _ unready) (peer net.plan p))
 
-  pub idle_cross : (p : Port) → wired_fault s.network.plan p ≡ None → is_some (nodes_act kind s.network.nodes (port_place s.network.plan p) 0 (near_act Token p)) ≡ false → PartEnds (stage_apply kind keeps) s (event.Cross p ∷ []) (Ok false) s
-  idle_cross p wired unready = idle_event (event.Cross p) wired (joint_unready kind s.network Token p (none_of _ unready) (peer s.network.plan p))
+  pub idle_cross : (p : Port) → wired_fault net.plan p ≡ None → is_some (nodes_act kind net.nodes (port_place net.plan p) 0 (near_act Token p)) ≡ false → AreIdle kind net (event.Cross p ∷ [])
+  idle_cross p wired unready = idle_event (event.Cross p) wired (joint_unready kind net Token p (none_of _ unready) (peer net.plan p))
 
-  pub idle_turn : (k l : ℕ) → wired_fault s.network.plan (port.Switch k l) ≡ None → is_some (nodes_act kind s.network.nodes k 0 (act.Step (action.Input l 0))) ≡ false → PartEnds (stage_apply kind keeps) s (event.Input k l 0 ∷ []) (Ok false) s
+  pub idle_turn : (k l : ℕ) → wired_fault net.plan (port.Switch k l) ≡ None → is_some (nodes_act kind net.nodes k 0 (act.Step (action.Input l 0))) ≡ false → AreIdle kind net (event.Input k l 0 ∷ [])
   idle_turn k l wired unready =
-      let inside = port_inside s.network.plan (port.Switch k l) wired in
-      let is_switch : nat_lt k (length s.network.plan.switches) ≡ true = let below : k < length s.network.plan.switches = inside.0 in grind (arith, nat_tests) in
+      let inside = port_inside net.plan (port.Switch k l) wired in
+      let is_switch : nat_lt k (length net.plan.switches) ≡ true = let below : k < length net.plan.switches = inside.0 in grind (arith, nat_tests) in
       let is_link : nat_lt l 32 ≡ true = let below : l < 32 = inside.1 in grind (arith, nat_tests) in
-      let first : k - length s.network.plan.switches ≡ 0 = let below : k < length s.network.plan.switches = inside.0 in omega arith in
-      idle_event (event.Input k l 0) (rw (is_switch, is_link) refl) (rw first (rw (none_of (nodes_act kind s.network.nodes k 0 (act.Step (action.Input l 0))) unready) refl))
+      let first : k - length net.plan.switches ≡ 0 = let below : k < length net.plan.switches = inside.0 in omega arith in
+      idle_event (event.Input k l 0) (rw (is_switch, is_link) refl) (rw first (rw (none_of (nodes_act kind net.nodes k 0 (act.Step (action.Input l 0))) unready) refl))
 
-  pub idle_claim : (k i o : ℕ) → k < length s.network.plan.switches → i < 32 → o < 32 → step_at s.network.nodes k (node_claim i o) ≡ None → PartEnds (stage_apply kind keeps) s (event.Claim k i o ∷ []) (Ok false) s
+module _ {A M : Type 0} (kind : Kind A) (keeps : Bool) (sees : Sees M A) (s : Metered A M) where
+  abbrev net : Network A
+  net = s.stage.network
+
+  pub idle_claim : (k i o : ℕ) → k < length net.plan.switches → i < 32 → o < 32 → step_at net.nodes k (node_claim i o) ≡ None → PartEnds (metered_apply kind keeps sees) s (event.Claim k i o ∷ []) (Ok false) s
   idle_claim k i o switch input output none =
-      let is_switch : nat_lt k (length s.network.plan.switches) ≡ true = grind (arith, nat_tests) in
+      let is_switch : nat_lt k (length net.plan.switches) ≡ true = grind (arith, nat_tests) in
       let is_input : nat_lt i 32 ≡ true = grind (arith, nat_tests) in
       let is_output : nat_lt o 32 ≡ true = grind (arith, nat_tests) in
-      idle_event (event.Claim k i o) (rw (is_switch, is_input, is_output) refl) (sym (claim_named kind s.network k i o) ∙ ap (done_step kind s.network) none)
+      idle_part kind keeps sees s (event.Claim k i o ∷ []) (idle_event kind net (event.Claim k i o) (rw (is_switch, is_input, is_output) refl) (sym (claim_named kind net k i o) ∙ ap (done_step kind net) none))
 
-  pub idle_drain : (t : ℕ) → t < length s.network.plan.terminals → is_some (nodes_act kind s.network.nodes (terminal_place s.network.plan t) (terminal_place s.network.plan t - length s.network.plan.switches) act.Drain) ≡ false → PartEnds (stage_apply kind keeps) s (event.Drain t ∷ []) (Ok false) s
+  pub idle_drain : (t : ℕ) → t < length net.plan.terminals → is_some (nodes_act kind net.nodes (terminal_place net.plan t) (terminal_place net.plan t - length net.plan.switches) act.Drain) ≡ false → PartEnds (metered_apply kind keeps sees) s (event.Drain t ∷ []) (Ok false) s
   idle_drain t inside unready =
-      let is_terminal : nat_lt t (length s.network.plan.terminals) ≡ true = grind (arith, nat_tests) in
-      idle_event (event.Drain t) (rw is_terminal refl) (ap (told_step kind s.network) (none_of _ unready))
+      let is_terminal : nat_lt t (length net.plan.terminals) ≡ true = grind (arith, nat_tests) in
+      idle_part kind keeps sees s (event.Drain t ∷ []) (idle_event kind net (event.Drain t) (rw is_terminal refl) (ap (told_step kind net) (none_of _ unready)))

@@ -7,14 +7,14 @@ use Rattle.c104_run.specs.EventRuns.{EventsEnd}
 use Rattle.c104_run.specs.EventActs.{port_place}
 use Rattle.c104_node.specs.Places.{PlaceBase, Shown, base_wired, bases}
 use Rattle.c104_run.specs.RoundParts.{PartEnds}
-use Rattle.c104_run.specs.Stages.{stage_apply, stage_of, Stage}
+use Rattle.c104_run.specs.Meters.{metered_apply, metered_of, Sees}
 use Rattle.c104_node.specs.Traces.{part}
 use Rattle.c104_node.specs.WiredPlaces.{links_at, links_of}
 use Rattle.c104_run.specs.KnownWires.{is_linked_end, KnowWires}
 use Rattle.c104_node.proofs.PlaceSteps.{shown_at}
-use Rattle.c104_run.proofs.RoundRuns.{ends_keep}
+use Rattle.c104_run.proofs.MeteredSteps.{ends_bases, part_bases}
 use Rattle.c104_token.specs.Kinds.{Kind}
-use Rattle.std.proofs.Common.{Bool, IfSome, Err, List, None, Ok, Option, Result, Some, ap, map, option_map, refl, slice_get, subst, sym, true, inl, ℕ, ◌∙◌, ◌≡◌}
+use Rattle.std.proofs.Common.{Bool, IfSome, List, None, Option, Result, Some, ap, map, option_map, refl, slice_get, subst, sym, true, ℕ, ◌∙◌, ◌≡◌}
 use Rattle.std.proofs.lemmas.Option.{slice_get-map}
 
 -- what is known of wires depends on nothing else
@@ -70,11 +70,10 @@ module _ {A : Type 0} where
       subst (λ ps. KnowWires plan (bases (map shown ps))) (sym put_is) (goes (subst (λ ps. KnowWires plan (bases (map shown ps))) (sym lent_is) known))
 
   -- what was known is known after events in turn, and after a part of a round
-  pub known_after : (kind : Kind A) (keeps : Bool) (plan : Plan) (olds news : List (Shown A)) (count counted : ℕ) (es : List Event) (r : Result (Unit {0}) EventFault) → EventsEnd (stage_apply kind keeps) (stage_of plan olds count) es r (stage_of plan news counted) →
-      KnowWires plan (bases olds) → KnowWires plan (bases news)
-  known_after kind keeps plan olds news count counted es r ends known = subst (KnowWires plan) (sym (ends_keep (stage_apply kind keeps) (λ (t : Stage A). t.bases ≡ bases olds) (λ t e same. same) (stage_of plan olds count) (stage_of plan news counted) es r refl ends)) known
+  pub known_after : {M : Type 0} (kind : Kind A) (keeps : Bool) (sees : Sees M A) (plan : Plan) (olds news : List (Shown A)) (count counted : ℕ) (m n : M) (es : List Event) (r : Result (Unit {0}) EventFault) →
+      EventsEnd (metered_apply kind keeps sees) (metered_of plan olds count m) es r (metered_of plan news counted n) → KnowWires plan (bases olds) → KnowWires plan (bases news)
+  known_after kind keeps sees plan olds news count counted m n es r ends known = subst (KnowWires plan) (sym (ends_bases kind keeps sees (metered_of plan olds count m) (metered_of plan news counted n) es r ends)) known
 
-  pub still_known : (kind : Kind A) (keeps : Bool) (plan : Plan) (olds news : List (Shown A)) (count counted : ℕ) (es : List Event) (r : Result Bool EventFault) → PartEnds (stage_apply kind keeps) (stage_of plan olds count) es r (stage_of plan news counted) →
-      KnowWires plan (bases olds) → KnowWires plan (bases news)
-  still_known kind keeps plan olds news count counted es (Ok changed) ends known = known_after kind keeps plan olds news count counted es (Ok tt) (inl (sym ends.ends.0)) known
-  still_known kind keeps plan olds news count counted es (Err f) ends known = known_after kind keeps plan olds news count counted es (Err f) ends.ends known
+  pub still_known : {M : Type 0} (kind : Kind A) (keeps : Bool) (sees : Sees M A) (plan : Plan) (olds news : List (Shown A)) (count counted : ℕ) (m n : M) (es : List Event) (r : Result Bool EventFault) →
+      PartEnds (metered_apply kind keeps sees) (metered_of plan olds count m) es r (metered_of plan news counted n) → KnowWires plan (bases olds) → KnowWires plan (bases news)
+  still_known kind keeps sees plan olds news count counted m n es r ends known = subst (KnowWires plan) (sym (part_bases kind keeps sees (metered_of plan olds count m) (metered_of plan news counted n) es r ends)) known

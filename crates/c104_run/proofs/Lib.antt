@@ -17,7 +17,9 @@ pub mod RoundLists
 pub mod RoundRuns
 pub mod RoundsTaken
 pub mod PartRuns
+pub mod SeenRuns
 pub mod StageSteps
+pub mod MeteredSteps
 pub mod NoFaults
 pub mod IdleEvents
 pub mod RoundJoins
@@ -55,6 +57,7 @@ pub mod TaggedRuns
 pub mod RecordedStages
 pub mod RecordedNets
 pub mod RecordedPlaces
+pub mod MeteredPlaces
 pub mod RecordedBegins
 pub mod RecordedViews
 pub mod TracedFirsts

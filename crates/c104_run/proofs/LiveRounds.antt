@@ -1,6 +1,5 @@
 -- Rounds over sets of places: what is passed over does nothing, and what an event may begin is in the set after it.
-use Rattle.std.proofs.Common.{◌≡◌, ◌≢◌, ◌∙◌, ◌+◌, ◌-◌, ◌<◌, ◌≤◌, ◌∷◌, [], ℕ, Bool, true, false, List, Option, Some, None, Ok, inl, inr, is_some, length, map, nat_lt, slice_get, refl, sym, ap, subst, arith}
-use Rattle.std.specs.List.{flat_map}
+use Rattle.std.proofs.Common.{◌≡◌, ◌≢◌, ◌∙◌, ◌-◌, ◌<◌, ◌∷◌, [], ℕ, Bool, true, false, List, Some, Ok, inl, inr, length, nat_lt, slice_get, sym, ap, subst, arith}
 use Rattle.std.proofs.lemmas.Bool.{cases_eq}
 use Rattle.std.proofs.lemmas.Bool.Decides.{nat_tests}
 use Rattle.c104_token.specs.Kinds.{Kind}
@@ -11,20 +10,20 @@ use Rattle.c104_node.specs.declared.acts.ActOf.TheVariants as act
 use Rattle.c104_node.specs.declared.port_part.PortPart.{PortPart}
 use Rattle.c104_node.specs.declared.port_part.PortPart.TheVariants.{Credit, Cross, Turn}
 use Rattle.c104_node.specs.Idle.{IsIdleNode}
-use Rattle.c104_node.specs.Nodes.{Node, node_claim}
+use Rattle.c104_node.specs.Nodes.{Node}
 use Rattle.c104_node.specs.PortParts.{is_ready_at, part_act}
 use Rattle.c104_node.specs.Records.{has_link}
 use Rattle.c104_node.proofs.IdleNodes.{idle_by, unclaimed_there, unready_there}
 use Rattle.c104_run.specs.KnownWires.{is_linked_end}
 use Rattle.c104_run.specs.LivePlaces.{AreLive, is_live}
 use Rattle.c104_run.specs.Network.{terminal_place}
-use Rattle.c104_run.specs.RoundParts.{PartEnds, wired_events}
+use Rattle.c104_run.specs.RoundParts.{AreIdle, PartEnds, port_events, wired_events}
 use Rattle.c104_run.specs.Rounds.{claims_of, is_wired, switch_claims}
-use Rattle.c104_run.specs.Stages.{stage_apply, Stage}
-use Rattle.c104_run.proofs.ActAttempts.{drain_possible}
+use Rattle.c104_run.specs.Meters.{metered_apply, Metered, Sees}
 use Rattle.c104_run.proofs.IdleEvents.{idle_claim, idle_credit, idle_cross, idle_drain}
+use Rattle.c104_run.proofs.MeteredSteps.{idle_part}
 use Rattle.c104_run.proofs.PartRuns.{numbers_done, numbers_passed, part_empty}
-use Rattle.c104_run.proofs.PortWalks.{at_unwired, at_wired, idle_link, of_links, of_switch, wired_by}
+use Rattle.c104_run.proofs.PortWalks.{idle_link, idle_wired, of_links, of_switch, wired_by}
 use Rattle.c104_run.proofs.RoundJoins.{idle_claims, of_inputs}
 use Rattle.c104_run.proofs.WiredPorts.{has_wire}
 
@@ -77,12 +76,12 @@ module _ {A : Type 0} (kind : Kind A) (plan : Plan) where
   }
 
 -- what is passed over, in a stage
-module _ {A : Type 0} (kind : Kind A) (keeps : Bool) (s : Stage A) (blocks : List ℕ) (live : AreLive kind s.network.plan blocks s.network.nodes) where
+module _ {A M : Type 0} (kind : Kind A) (keeps : Bool) (sees : Sees M A) (s : Metered A M) (blocks : List ℕ) (live : AreLive kind s.stage.network.plan blocks s.stage.network.nodes) where
   abbrev plan : Plan
-  plan = s.network.plan
+  plan = s.stage.network.plan
 
   abbrev nodes : List (Node A)
-  nodes = s.network.nodes
+  nodes = s.stage.network.nodes
 
   linked_switch : (k l : ℕ) → k < length plan.switches → is_wired plan (port.Switch k l) ≡ true → is_linked_end plan k l ≡ true
   linked_switch k l inside is = let here : nat_lt k (length plan.switches) ≡ true = grind (arith, nat_tests) in rw here is
@@ -92,45 +91,36 @@ module _ {A : Type 0} (kind : Kind A) (keeps : Bool) (s : Stage A) (blocks : Lis
     unready_link : (part : PortPart) (l : ℕ) → is_wired plan (port.Switch k l) ≡ true → is_ready_at kind part nodes k l ≡ false
     unready_link part l is = unready_there kind nodes k 0 (part_act part l) (λ n here. (live.idle k n none here).links part l (linked_switch k l inside is))
 
-    passed_at : (part : PortPart) (l : ℕ) → PartEnds (stage_apply kind keeps) s (wired_events plan part (port.Switch k l)) (Ok false) s
-    passed_at part l = by_wire (is_wired plan (port.Switch k l)) refl
-      where
-        by_wire : (b : Bool) → is_wired plan (port.Switch k l) ≡ b → PartEnds (stage_apply kind keeps) s (wired_events plan part (port.Switch k l)) (Ok false) s
-        by_wire true is = at_wired plan part (stage_apply kind keeps) s s (Ok false) (port.Switch k l) is (idle_link kind keeps s part k l (has_wire plan live.planned (port.Switch k l) is) (unready_link part l is))
-        by_wire false is = at_unwired plan part (stage_apply kind keeps) s (port.Switch k l) is
+    passed_at : (part : PortPart) (l : ℕ) → PartEnds (metered_apply kind keeps sees) s (wired_events plan part (port.Switch k l)) (Ok false) s
+    passed_at part l = idle_part kind keeps sees s (wired_events plan part (port.Switch k l))
+        (idle_wired kind s.stage.network part (port.Switch k l) (λ is. idle_link kind s.stage.network part k l (has_wire plan live.planned (port.Switch k l) is) (unready_link part l is)))
 
     -- all of its links
-    pub passed_switch : (part : PortPart) → PartEnds (stage_apply kind keeps) s (of_switch plan part k) (Ok false) s
+    pub passed_switch : (part : PortPart) → PartEnds (metered_apply kind keeps sees) s (of_switch plan part k) (Ok false) s
     passed_switch part =
-        of_links plan part (stage_apply kind keeps) s s (Ok false) k
-        (numbers_done (stage_apply kind keeps) (wired_by plan part (port.Switch k)) 32 32 s s false (omega arith)
-        (numbers_passed (stage_apply kind keeps) (wired_by plan part (port.Switch k)) 32 0 32 s s false (omega arith) (omega arith) (λ l above below. passed_at part l) (part_empty (stage_apply kind keeps) s)))
+        of_links plan part (metered_apply kind keeps sees) s s (Ok false) k
+        (numbers_done (metered_apply kind keeps sees) (wired_by plan part (port.Switch k)) 32 32 s s false (omega arith)
+        (numbers_passed (metered_apply kind keeps sees) (wired_by plan part (port.Switch k)) 32 0 32 s s false (omega arith) (omega arith) (λ l above below. passed_at part l) (part_empty (metered_apply kind keeps sees) s)))
 
     -- its claims
-    pub passed_claims : PartEnds (stage_apply kind keeps) s (switch_claims k) (Ok false) s
+    pub passed_claims : PartEnds (metered_apply kind keeps sees) s (switch_claims k) (Ok false) s
     passed_claims =
-        of_inputs (stage_apply kind keeps) s s k (Ok false)
-        (numbers_done (stage_apply kind keeps) (claims_of k) 32 32 s s false (omega arith)
-        (numbers_passed (stage_apply kind keeps) (claims_of k) 32 0 32 s s false (omega arith) (omega arith)
-        (λ i above below. idle_claims (stage_apply kind keeps) s k i (λ o under. idle_claim kind keeps s k i o inside below under (unclaimed_there kind nodes k i o (λ n here. (live.idle k n none here).claims i o below))))
-        (part_empty (stage_apply kind keeps) s)))
+        of_inputs (metered_apply kind keeps sees) s s k (Ok false)
+        (numbers_done (metered_apply kind keeps sees) (claims_of k) 32 32 s s false (omega arith)
+        (numbers_passed (metered_apply kind keeps sees) (claims_of k) 32 0 32 s s false (omega arith) (omega arith)
+        (λ i above below. idle_claims (metered_apply kind keeps sees) s k i (λ o under. idle_claim kind keeps sees s k i o inside below under (unclaimed_there kind nodes k i o (λ n here. (live.idle k n none here).claims i o below))))
+        (part_empty (metered_apply kind keeps sees) s)))
 
   -- a terminal
   module _ (t : ℕ) (inside : t < length plan.terminals) (none : is_live blocks (terminal_place plan t) ≡ false) where
-    pub passed_terminal : (part : PortPart) → PartEnds (stage_apply kind keeps) s (wired_events plan part (port.Terminal t)) (Ok false) s
-    passed_terminal part = by_wire (is_wired plan (port.Terminal t)) refl
+    pub passed_terminal : (part : PortPart) → PartEnds (metered_apply kind keeps sees) s (wired_events plan part (port.Terminal t)) (Ok false) s
+    passed_terminal part = idle_part kind keeps sees s (wired_events plan part (port.Terminal t)) (idle_wired kind s.stage.network part (port.Terminal t) (by_part part))
       where
-        by_part : (part : PortPart) → is_wired plan (port.Terminal t) ≡ true → PartEnds (stage_apply kind keeps) s (wired_events plan part (port.Terminal t)) (Ok false) s
-        by_part Credit is = at_wired plan Credit (stage_apply kind keeps) s s (Ok false) (port.Terminal t) is
-            (idle_credit kind keeps s (port.Terminal t) (has_wire plan live.planned (port.Terminal t) is) (unready_there kind nodes (terminal_place plan t) 0 act.CreditOut (λ n here. (live.idle (terminal_place plan t) n none here).grants)))
-        by_part Cross is = at_wired plan Cross (stage_apply kind keeps) s s (Ok false) (port.Terminal t) is
-            (idle_cross kind keeps s (port.Terminal t) (has_wire plan live.planned (port.Terminal t) is) (unready_there kind nodes (terminal_place plan t) 0 act.Leave (λ n here. (live.idle (terminal_place plan t) n none here).leaves)))
-        by_part Turn is = at_wired plan Turn (stage_apply kind keeps) s s (Ok false) (port.Terminal t) is (part_empty (stage_apply kind keeps) s)
+        by_part : (part : PortPart) → is_wired plan (port.Terminal t) ≡ true → AreIdle kind s.stage.network (port_events part (port.Terminal t))
+        by_part Credit is = idle_credit kind s.stage.network (port.Terminal t) (has_wire plan live.planned (port.Terminal t) is) (unready_there kind nodes (terminal_place plan t) 0 act.CreditOut (λ n here. (live.idle (terminal_place plan t) n none here).grants))
+        by_part Cross is = idle_cross kind s.stage.network (port.Terminal t) (has_wire plan live.planned (port.Terminal t) is) (unready_there kind nodes (terminal_place plan t) 0 act.Leave (λ n here. (live.idle (terminal_place plan t) n none here).leaves))
+        by_part Turn is = record { each = tt }
 
-        by_wire : (b : Bool) → is_wired plan (port.Terminal t) ≡ b → PartEnds (stage_apply kind keeps) s (wired_events plan part (port.Terminal t)) (Ok false) s
-        by_wire true is = by_part part is
-        by_wire false is = at_unwired plan part (stage_apply kind keeps) s (port.Terminal t) is
-
-    pub passed_drain : PartEnds (stage_apply kind keeps) s (event.Drain t ∷ []) (Ok false) s
-    passed_drain = idle_drain kind keeps s t inside
+    pub passed_drain : PartEnds (metered_apply kind keeps sees) s (event.Drain t ∷ []) (Ok false) s
+    passed_drain = idle_drain kind keeps sees s t inside
         (unready_there kind nodes (terminal_place plan t) (terminal_place plan t - length plan.switches) act.Drain (λ n here. (live.idle (terminal_place plan t) n none here).drains (terminal_place plan t - length plan.switches)))

@@ -14,14 +14,13 @@ use Rattle.c104_event.specs.declared.faults.EventFault.{EventFault}
 use Rattle.c104_node.specs.declared.port_part.PortPart.{PortPart}
 use Rattle.c104_node.specs.declared.port_part.PortPart.TheVariants.{Credit, Cross, Turn}
 use Rattle.c104_run.specs.EventActs.{port_place}
-use Rattle.c104_run.specs.Network.{wired_fault}
+use Rattle.c104_run.specs.Network.{wired_fault, Network}
 use Rattle.c104_node.specs.Nodes.{Node}
 use Rattle.c104_node.specs.PortParts.{IsFoundReady, IsNearReady, is_ready_at}
-use Rattle.c104_run.specs.RoundParts.{port_events, wired_events, PartEnds}
+use Rattle.c104_run.specs.RoundParts.{port_events, wired_events, AreIdle, PartEnds}
 use Rattle.c104_run.specs.Rounds.{is_wired, link_numbers, turn_at, wired_links, wired_ports, wired_terminals}
 use Rattle.c104_run.proofs.IdleEvents.{idle_credit, idle_cross, idle_turn}
 use Rattle.c104_run.proofs.PartRuns.{part_empty}
-use Rattle.c104_run.specs.Stages.{stage_apply, Stage}
 use Rattle.c104_run.proofs.RoundLists.{links_passed}
 use Rattle.c104_run.proofs.RoundRuns.{Applied}
 
@@ -94,19 +93,24 @@ of_turns plan apply net after result ends =
     subst (λ es. PartEnds apply net es result after)
     (sym (flat_map-append turn_at links (wired_terminals plan) ∙ ap (λ es. flat_map turn_at links ++ es) (no_turns plan (range_with_len 0 (length plan.terminals))) ∙ append-nil (flat_map turn_at links))) ends
 
+module _ {A : Type 0} (kind : Kind A) (net : Network A) (part : PortPart) where
+  -- what a part has for a port that has no wire, or where nothing is ready
+  pub idle_wired : (p : Port) → (is_wired net.plan p ≡ true → AreIdle kind net (port_events part p)) → AreIdle kind net (wired_events net.plan part p)
+  idle_wired p idle = by_wire (is_wired net.plan p) refl
+    where
+      by_wire : (b : Bool) → is_wired net.plan p ≡ b → AreIdle kind net (wired_events net.plan part p)
+      by_wire true is = subst (AreIdle kind net) (sym (wired_one net.plan part p is)) (idle is)
+      by_wire false is = subst (AreIdle kind net) (sym (wired_none net.plan part p is)) (record { each = tt })
+
 -- a link that isn't ready for its own act
-pub idle_link : {A : Type 0} (kind : Kind A) (keeps : Bool) (s : Stage A) (part : PortPart) (k l : ℕ) → wired_fault s.network.plan (port.Switch k l) ≡ None → is_ready_at kind part s.network.nodes k l ≡ false → PartEnds (stage_apply kind keeps) s (port_events part (port.Switch k l)) (Ok false) s
-idle_link kind keeps s Credit k l wired unready = idle_credit kind keeps s (port.Switch k l) wired unready
-idle_link kind keeps s Cross k l wired unready = idle_cross kind keeps s (port.Switch k l) wired unready
-idle_link kind keeps s Turn k l wired unready = idle_turn kind keeps s k l wired unready
+pub idle_link : {A : Type 0} (kind : Kind A) (net : Network A) (part : PortPart) (k l : ℕ) → wired_fault net.plan (port.Switch k l) ≡ None → is_ready_at kind part net.nodes k l ≡ false → AreIdle kind net (port_events part (port.Switch k l))
+idle_link kind net Credit k l wired unready = idle_credit kind net (port.Switch k l) wired unready
+idle_link kind net Cross k l wired unready = idle_cross kind net (port.Switch k l) wired unready
+idle_link kind net Turn k l wired unready = idle_turn kind net k l wired unready
 
 -- a link that is passed over: it has no wire, or isn't ready
-pub passed_link : {A : Type 0} (kind : Kind A) (keeps : Bool) (s : Stage A) (part : PortPart) (k l among : ℕ) → has_bit among l ≡ is_wired s.network.plan (port.Switch k l) → (has_bit among l ≡ true → wired_fault s.network.plan (port.Switch k l) ≡ None) → (has_bit among l ≡ true → is_ready_at kind part s.network.nodes k l ≡ false) → PartEnds (stage_apply kind keeps) s (wired_events s.network.plan part (port.Switch k l)) (Ok false) s
-passed_link kind keeps s part k l among linked wired unready = by_wire (is_wired s.network.plan (port.Switch k l)) refl
-  where
-    by_wire : (b : Bool) → is_wired s.network.plan (port.Switch k l) ≡ b → PartEnds (stage_apply kind keeps) s (wired_events s.network.plan part (port.Switch k l)) (Ok false) s
-    by_wire true is = at_wired s.network.plan part (stage_apply kind keeps) s s (Ok false) (port.Switch k l) is (idle_link kind keeps s part k l (wired (linked ∙ is)) (unready (linked ∙ is)))
-    by_wire false is = at_unwired s.network.plan part (stage_apply kind keeps) s (port.Switch k l) is
+pub passed_link : {A : Type 0} (kind : Kind A) (net : Network A) (part : PortPart) (k l among : ℕ) → has_bit among l ≡ is_wired net.plan (port.Switch k l) → (has_bit among l ≡ true → wired_fault net.plan (port.Switch k l) ≡ None) → (has_bit among l ≡ true → is_ready_at kind part net.nodes k l ≡ false) → AreIdle kind net (wired_events net.plan part (port.Switch k l))
+passed_link kind net part k l among linked wired unready = idle_wired kind net part (port.Switch k l) (λ is. idle_link kind net part k l (wired (linked ∙ is)) (unready (linked ∙ is)))
 
 -- what was found is ready, as the near end of its wire
 pub near_ready : {A : Type 0} (kind : Kind A) (plan : Plan) (part : PortPart) (nodes : List (Node A)) (s l : ℕ) → IsFoundReady part (is_ready_at kind part nodes s l) → IsNearReady kind part nodes (port_place plan (port.Switch s l)) (port.Switch s l)

@@ -41,13 +41,13 @@ module _ {A P : Type 0} (v : Reading A P) (keeps : Bool) (is : KeepsRecord v kee
       fulls_kept keeps v.shown limited places ∙ ap (λ b. map (is_kept_full b) (traces (map v.shown places))) is.keeping
       ∙ ap (map is_trace_full) (traces_are places)
 
-  stage_is : (plan : Plan) (places : List P) (count : ℕ) → stage_of plan (map v.shown places) count ≡ places_stage v plan places count
+  pub stage_is : (plan : Plan) (places : List P) (count : ℕ) → stage_of plan (map v.shown places) count ≡ places_stage v plan places count
   stage_is plan places count =
       same_stage (stage_of plan (map v.shown places) count) (places_stage v plan places count)
       (ap (network_of plan) (map_twice (λ (s : Shown A). s.state) v.shown places)) refl (traces_are places) refl
 
   -- what is so of the stages that places show is so of those of the network
-  stages_are : (plan : Plan) (old new : List P) (count counted : ℕ) (Ends : Bool → Stage A → Stage A → Type 0) → Ends keeps (stage_of plan (map v.shown old) count) (stage_of plan (map v.shown new) counted) →
+  pub stages_are : (plan : Plan) (old new : List P) (count counted : ℕ) (Ends : Bool → Stage A → Stage A → Type 0) → Ends keeps (stage_of plan (map v.shown old) count) (stage_of plan (map v.shown new) counted) →
       Ends true (places_stage v plan old count) (places_stage v plan new counted)
   stages_are plan old new count counted Ends ends =
       subst (λ s. Ends true (places_stage v plan old count) s) (stage_is plan new counted)

@@ -91,7 +91,7 @@ module _ {S : Type 0} (apply : S → Event → Applied S) where
 -- a run as it is seen, where each event is seen so
 module _ {S R : Type 0} (apply : S → Event → Applied S) (apply_seen : R → Event → Applied R) (seen : S → R)
     (follows : (s : S) (e : Event) → ◌≡◌ {A = Applied R} ((apply s e).0, seen (apply s e).1) (apply_seen (seen s) e)) where
-  run_seen : (events : List Event) (s : S) → ◌≡◌ {A = Outcome R} ((run_events apply s events).0, seen (run_events apply s events).1) (run_events apply_seen (seen s) events)
+  pub run_seen : (events : List Event) (s : S) → ◌≡◌ {A = Outcome R} ((run_events apply s events).0, seen (run_events apply s events).1) (run_events apply_seen (seen s) events)
   run_seen [] s = refl
   run_seen (e ∷ events) s =
       by_answer (λ next. run_seen events next) (apply s e).0 (apply s e).1

@@ -16,10 +16,8 @@ use Rattle.c104_node.specs.Traces.{kept_of, noted_all, seatless}
 use Rattle.c104_run.specs.EventDeeds.{event_deeds, event_full}
 use Rattle.c104_run.specs.EventRuns.{Answers}
 use Rattle.c104_run.specs.Stages.{stage_after, stage_apply, stage_full, stage_of, unless_full, Stage}
-use Rattle.c104_run.specs.RoundParts.{done_answer, PartEnds}
 use Rattle.c104_run.proofs.UndoneEvents.{undone_deeds}
-use Rattle.c104_run.proofs.PartRuns.{part_of_reply}
-use Rattle.c104_run.proofs.RoundRuns.{fault_ends, is_told, step_replies, undone_leaves, Applied}
+use Rattle.c104_run.proofs.RoundRuns.{is_told, step_replies, undone_stays, Applied}
 
 -- where each place is full where its trace is, that of all is told by their traces
 pub fulls_kept : {A P : Type 0} (keeps : Bool) (shown : P → Shown A) → ((p : P) → IsFullByTrace keeps (shown p)) → (places : List P) → fulls (map shown places) ≡ map (is_kept_full keeps) (traces (map shown places))
@@ -101,13 +99,9 @@ module _ {A : Type 0} (kind : Kind A) (keeps : Bool) (s after : Stage A) (full :
     stage_answers answer kept (inl is) free = inl (due_stage answer kept (is ∙ sym (is_open (ap (λ (d : Applied (Network A)). full && is_done d.0) (sym is) ∙ not_full full answer free))))
     stage_answers answer kept (inr refused) free = refused_stage full refl answer kept refused.0 refused.1 refused.2
 
-    -- a part of one event
-    attempted : (answer : Result Reply EventFault) → Keeps answer → AnswersWith kind full s.network e answer after.network → IfOk answer (λ r. is_ready r ≡ true → full ≡ false) → PartEnds (stage_apply kind keeps) s (e ∷ []) (done_answer answer) after
-    attempted (Ok r) kept answers free =
-        part_of_reply (stage_apply kind keeps) s after e r
-        (λ undone. undone_same (Ok r) kept undone (undone_leaves kind s.network after.network e r undone (elim answers [ inl is ↦ inl is | inr refused ↦ absurd (cc refused.0) ])))
-        (stage_answers (Ok r) kept answers free)
-    attempted (Err f) kept answers free = record { ends = fault_ends (stage_apply kind keeps) s after e f (stage_answers (Err f) kept answers free) }
+    -- an event that isn't done leaves the stage as it was
+    undone_stage : (answer : Result Reply EventFault) → Keeps answer → AnswersWith kind full s.network e answer after.network → is_done answer ≡ false → after ≡ s
+    undone_stage answer kept answers undone = undone_same answer kept undone (undone_stays kind s.network e after.network full answer undone answers)
 
 -- an event at places, as a step of the stage that they show
 module _ {A : Type 0} (kind : Kind A) (keeps : Bool) (plan : Plan) (olds news : List (Shown A)) (count counted : ℕ) (limited : fulls olds ≡ map (is_kept_full keeps) (traces olds))
@@ -121,12 +115,12 @@ module _ {A : Type 0} (kind : Kind A) (keeps : Bool) (plan : Plan) (olds news : 
   pub stage_done : Answers (stage_apply kind keeps) (stage olds count) e answer (stage news counted)
   stage_done = stage_answers kind keeps (stage olds count) (stage news counted) (event_full plan (fulls olds) e) e full_told answer (done.base, done.trace, told) done.answers done.free
 
-  pub part_done : PartEnds (stage_apply kind keeps) (stage olds count) (e ∷ []) (done_answer answer) (stage news counted)
-  part_done = attempted kind keeps (stage olds count) (stage news counted) (event_full plan (fulls olds) e) e full_told answer (done.base, done.trace, told) done.answers done.free
+  pub stage_undone : is_done answer ≡ false → stage news counted ≡ stage olds count
+  stage_undone = undone_stage kind keeps (stage olds count) (stage news counted) (event_full plan (fulls olds) e) e full_told answer (done.base, done.trace, told) done.answers
 
 module _ {A : Type 0} (kind : Kind A) where
   -- an event that isn't ready
-  pub unready_part : (keeps : Bool) (s : Stage A) (e : Event) → network_apply kind s.network e ≡ (Ok reply.NotReady, s.network) → PartEnds (stage_apply kind keeps) s (e ∷ []) (Ok false) s
-  unready_part keeps s e unready =
-      attempted kind keeps s s (stage_full keeps s e) e refl (Ok reply.NotReady)
+  pub unready_stage : (keeps : Bool) (s : Stage A) (e : Event) → network_apply kind s.network e ≡ (Ok reply.NotReady, s.network) → Answers (stage_apply kind keeps) s e (Ok reply.NotReady) s
+  unready_stage keeps s e unready =
+      stage_answers kind keeps s s (stage_full keeps s e) e refl (Ok reply.NotReady)
       (refl, sym (ap (noted_all keeps s.traces) (undone_deeds s.network.plan (seatless s.count) e (Ok reply.NotReady) refl)), refl) (inl (sym unready)) (λ ready. absurd (cc ready))

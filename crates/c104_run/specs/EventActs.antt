@@ -24,6 +24,11 @@ abbrev pub crossing_acts : {A : Type 0} → Crossing → Port → Option Port �
 crossing_acts crossing p None = None
 crossing_acts crossing p (Some q) = Some (Acts.Joint p q crossing)
 
+-- the event of what crosses from a port
+abbrev pub crossing_event : Crossing → Port → Event
+crossing_event Token p = event.Cross p
+crossing_event Grant p = event.Credit p
+
 -- the place of a port among the nodes
 abbrev pub port_place : Plan → Port → ℕ
 port_place plan p = (end_of plan p).node

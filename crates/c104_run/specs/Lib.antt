@@ -18,6 +18,7 @@ pub mod WiredActs
 pub mod Finished
 pub mod EventRuns
 pub mod Stages
+pub mod Meters
 pub mod Rounds
 pub mod RecordedRuns
 pub mod FinishedRecords
@@ -25,6 +26,7 @@ pub mod NodeRuns
 pub mod LinkedSets
 pub mod LivePlaces
 pub mod RoundParts
+pub mod MeteredRuns
 pub mod NodeParts
 pub mod PlaceFaults
 pub mod TracedRuns

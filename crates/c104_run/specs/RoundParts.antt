@@ -1,9 +1,12 @@
 -- Parts of a round: how a run of some events ends that tells whether any of them was done.
 use Rattle.std.specs.Prelude.{◌≡◌, Bool, false, List, Result, Ok, Err, [], ◌∷◌, filter}
+use Rattle.c104_token.specs.Kinds.{Kind}
 use Rattle.c104_switch.specs.Actions.{Reply, is_ready}
+use Rattle.c104_switch.specs.declared.actions.ReplyOf.TheVariants as reply
 use Rattle.c104_event.specs.declared.events.Event.{Event}
 use Rattle.c104_event.specs.declared.faults.EventFault.{EventFault}
 use Rattle.c104_run.specs.EventRuns.{EventsEnd, run_events}
+use Rattle.c104_run.specs.Network.{network_apply, Network}
 use Rattle.std.specs.List.{flat_map}
 use Rattle.c104_plan.specs.Plans.{Plan}
 use Rattle.c104_plan.specs.declared.ports.Port.{Port}
@@ -27,6 +30,15 @@ module _ {S : Type 0} (apply : S → Event → Result Reply EventFault × S) whe
 
   pub record PartEnds (s : S) (events : List Event) (result : Result Bool EventFault) (after : S) : Type 0 where
     pub ends : Ending s events result after
+
+module _ {A : Type 0} (kind : Kind A) (net : Network A) where
+  -- each of some events is answered with NotReady, and changes nothing
+  abbrev pub EachIdle : List Event → Type 0
+  EachIdle [] = Unit {0}
+  EachIdle (e ∷ events) = (network_apply kind net e ≡ (Ok reply.NotReady, net)) × EachIdle events
+
+  pub record AreIdle (events : List Event) : Type 0 where
+    pub each : EachIdle events
 
 -- what a part has for a port
 abbrev pub port_events : PortPart → Port → List Event

@@ -15,7 +15,8 @@
 //!
 //! A `PlaceFault` is why a network was not made, and a `Reason` why an event isn't ready, and where. `view_link`
 //! and `view_terminal` show how a link of a switch and how a terminal stands. `rounds` does the events of all parts
-//! in turn, again and again; a `Watch` is told how far they are. `round_part` gives what a round has for one node.
+//! in turn, again and again; a `Watch` is told how far they are. A `Meter` is told of each token that crosses a wire or
+//! arrives. `round_part` gives what a round has for one node.
 //! `Run::of_nodes` is the run that nodes tell which were taken out of a network.
 #![tactic(auto)]
 
@@ -24,6 +25,7 @@ mod doing;
 mod events;
 mod faults;
 mod live_places;
+mod meter;
 mod net;
 mod net_parts;
 mod node_parts;
@@ -44,8 +46,9 @@ mod watch;
 mod wires;
 
 pub use asked::{Asked, acts_of};
-pub use events::happen;
+pub use events::{happen, happen_to};
 pub use faults::PlaceFault;
+pub use meter::{Meter, Unmetered};
 pub use net::Net;
 pub use net_parts::NetParts;
 pub use node_parts::round_part;

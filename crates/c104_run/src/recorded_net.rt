@@ -4,13 +4,15 @@ ghost use Rattle.c104_node.specs.Places.{bases};
 ghost use Rattle.c104_run.specs.KnownWires.{KnowWires};
 ghost use Rattle.c104_run.specs.NetRecords.{is_done, ticket_after, IsNetRecord, RecordsEvent};
 ghost use Rattle.c104_run.specs.RecordedNets.{places_record, reading, IsRecordedNet};
+ghost use Rattle.c104_run.specs.MeteredRuns.{MetersEvent};
 ghost use Rattle.c104_run.specs.RecordedRuns.{AnswersRecord, DoneLaw};
 
 mod asking;
 mod beginning;
 mod rounds;
 
-use crate::events::happen;
+use crate::events::happen_to;
+use crate::meter::{Meter, Unmetered};
 use crate::recorded_place::{RecordedPlace, retire_places};
 use crate::wires::Wires;
 use c104_event::{Event, EventFault};
@@ -116,11 +118,26 @@ impl<T: TokenKind, P: RecordedPlace<T>> RecordedNet<T, P> {
         ensures due { AnswersRecord self.old event.now result self.new }
         ensures done { DoneLaw }
     {
+        self.apply_metered(event, &mut Unmetered)
+    }
+
+    /// The same, and tells a meter of the token, where one crosses a wire or arrives.
+    #[inline(always)]
+    pub fn apply_metered<M: Meter<T>>(
+        &mut self,
+        event: &Event,
+        meter: &mut M,
+    ) -> Result<Reply, EventFault>
+        ensures recorded { RecordsEvent self.old event.now result self.new }
+        ensures due { AnswersRecord self.old event.now result self.new }
+        ensures done { DoneLaw }
+        ensures metered { MetersEvent T.kind M.sees self.old meter.old event.now result self.new meter.new }
+    {
         let stamp = Stamp {
             ticket: self.count,
             seat: None,
         };
-        let answer = happen(&self.wires, self.places.as_mut_slice(), stamp, event);
+        let answer = happen_to(&self.wires, self.places.as_mut_slice(), stamp, event, meter);
         self.count = ticket_after(self.count, was_done(&answer));
         answer
     }

@@ -10,13 +10,14 @@ ghost use Rattle.c104_run.specs.LivePlaces.{AreLive};
 ghost use Rattle.c104_run.specs.EventRuns.{EventsEnd};
 ghost use Rattle.c104_run.specs.Rounds.{round, rounds};
 ghost use Rattle.c104_run.specs.RoundParts.{PartEnds};
-ghost use Rattle.c104_run.specs.Stages.{stage_apply, stage_of};
+ghost use Rattle.c104_run.specs.Meters.{metered_apply, metered_of};
 
 mod attempts;
 mod parts;
 mod ports;
 
 use crate::live_places::LivePlaces;
+use crate::meter::Meter;
 use crate::watch::Watch;
 use crate::wires::Wires;
 use c104_event::EventFault;
@@ -29,23 +30,24 @@ const ROUNDS_TO_SETTLE: u32 = 8;
 
 /// Does `times` rounds at these places, which stand for the nodes of a network of this plan, and tells of each.
 /// The count is of the events that were done, from before these rounds on: it gives each its ticket.
-pub fn rounds_at<T: TokenKind, P: Place<T>, W: Watch>(
+pub fn rounds_at<T: TokenKind, P: Place<T>, W: Watch, M: Meter<T>>(
     wires: &Wires,
     places: &mut [P],
     count: &mut u64,
+    meter: &mut M,
     times: u32,
     watch: &mut W,
 ) -> Result<(), EventFault>
     requires knows { KnowWires wires.now (bases (map P.shown places.old)) }
-    ensures ends { EventsEnd (stage_apply T.kind P.keeps)
-        (stage_of wires.now (map P.shown places.old) count.old) (rounds wires.now times)
-        result (stage_of wires.now (map P.shown places.new) count.new) }
+    ensures ends { EventsEnd (metered_apply T.kind P.keeps M.sees)
+        (metered_of wires.now (map P.shown places.old) count.old meter.old) (rounds wires.now times)
+        result (metered_of wires.now (map P.shown places.new) count.new meter.new) }
     ensures kept { IsPlan wires.now }
 {
     let _plan = wires.plan();
     let mut live = LivePlaces::all();
     for round in 0..times {
-        let changed = round_at(wires, places, &mut live, count)?;
+        let changed = round_at(wires, places, &mut live, count, meter)?;
         if !changed {
             // Nor would any further round change anything.
             return Ok(());
@@ -56,25 +58,44 @@ pub fn rounds_at<T: TokenKind, P: Place<T>, W: Watch>(
     Ok(())
 }
 
+/// Does one round at these places, and tells whether any event of it was done.
+pub fn one_round_at<T: TokenKind, P: Place<T>, M: Meter<T>>(
+    wires: &Wires,
+    places: &mut [P],
+    count: &mut u64,
+    meter: &mut M,
+) -> Result<bool, EventFault>
+    requires knows { KnowWires wires.now (bases (map P.shown places.old)) }
+    ensures ends { PartEnds (metered_apply T.kind P.keeps M.sees)
+        (metered_of wires.now (map P.shown places.old) count.old meter.old) (round wires.now)
+        result (metered_of wires.now (map P.shown places.new) count.new meter.new) }
+    ensures kept { IsPlan wires.now }
+{
+    let _plan = wires.plan();
+    let mut live = LivePlaces::all();
+    round_at(wires, places, &mut live, count, meter)
+}
+
 /// Does a round, and tells whether any event of it was done.
-fn round_at<T: TokenKind, P: Place<T>>(
+fn round_at<T: TokenKind, P: Place<T>, M: Meter<T>>(
     wires: &Wires,
     places: &mut [P],
     live: &mut LivePlaces,
     count: &mut u64,
+    meter: &mut M,
 ) -> Result<bool, EventFault>
     requires knows { KnowWires wires.now (bases (map P.shown places.old)) }
     requires live { AreLive T.kind wires.now live.old (states (map P.shown places.old)) }
-    ensures ends { PartEnds (stage_apply T.kind P.keeps)
-        (stage_of wires.now (map P.shown places.old) count.old) (round wires.now)
-        result (stage_of wires.now (map P.shown places.new) count.new) }
+    ensures ends { PartEnds (metered_apply T.kind P.keeps M.sees)
+        (metered_of wires.now (map P.shown places.old) count.old meter.old) (round wires.now)
+        result (metered_of wires.now (map P.shown places.new) count.new meter.new) }
     ensures live { AreLive T.kind wires.now live.new (states (map P.shown places.new)) }
 {
-    let credited = credit_ports(wires, places, live, count)?;
-    let crossed = cross_ports(wires, places, live, count)?;
-    let turned = turn_inputs(wires, places, live, count)?;
-    let claimed = claim_outputs(wires, places, live, count)?;
-    let drained = drain_terminals(wires, places, live, count)?;
+    let credited = credit_ports(wires, places, live, count, meter)?;
+    let crossed = cross_ports(wires, places, live, count, meter)?;
+    let turned = turn_inputs(wires, places, live, count, meter)?;
+    let claimed = claim_outputs(wires, places, live, count, meter)?;
+    let drained = drain_terminals(wires, places, live, count, meter)?;
     Ok(credited | crossed | turned | claimed | drained)
 }
 

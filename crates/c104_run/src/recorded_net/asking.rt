@@ -21,6 +21,13 @@ use c104_switch::LinkView;
 use c104_token::{Packet, TokenKind};
 
 impl<T: TokenKind, P: RecordedPlace<T>> RecordedNet<T, P> {
+    /// How many events were done since the start of the run.
+    pub fn done_count(&self) -> u64
+        ensures { result ≡ self.now.count }
+    {
+        self.count
+    }
+
     /// The value of the register at this address of a switch. None where the plan has no such
     /// switch, or no register has the address.
     pub fn peek(&self, switch: usize, addr: u16) -> Option<u32>

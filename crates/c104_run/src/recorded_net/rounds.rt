@@ -1,9 +1,11 @@
 //! Rounds of a network whose nodes are seen with their records.
+ghost use Rattle.c104_run.specs.MeteredRuns.{MetersRound, RecordsRound};
 ghost use Rattle.c104_run.specs.RecordedRuns.{RecordsRounds};
 
 use super::RecordedNet;
+use crate::meter::{Meter, Unmetered};
 use crate::recorded_place::RecordedPlace;
-use crate::rounds::rounds_at;
+use crate::rounds::{one_round_at, rounds_at};
 use crate::watch::{Unwatched, Watch};
 use c104_event::EventFault;
 use c104_token::TokenKind;
@@ -30,8 +32,25 @@ impl<T: TokenKind, P: RecordedPlace<T>> RecordedNet<T, P> {
             &self.wires,
             self.places.as_mut_slice(),
             &mut self.count,
+            &mut Unmetered,
             count,
             watch,
+        )
+    }
+
+    /// Does one round, tells a meter of each token that crosses a wire and of each that arrives, and tells whether any
+    /// event of the round was done. Where none was, no further round would change anything.
+    ///
+    /// The events before a fault stand, and a meter was told of them.
+    pub fn round_metered<M: Meter<T>>(&mut self, meter: &mut M) -> Result<bool, EventFault>
+        ensures recorded { RecordsRound self.old result self.new }
+        ensures metered { MetersRound T.kind M.sees self.old meter.old result self.new meter.new }
+    {
+        one_round_at(
+            &self.wires,
+            self.places.as_mut_slice(),
+            &mut self.count,
+            meter,
         )
     }
 }

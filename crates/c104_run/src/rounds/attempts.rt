@@ -1,28 +1,31 @@
 //! One event of a round, which tells whether it was done, and is counted where it was.
 //!
 //! A round knows of each of its events that it can happen, and what acts it asks: so an event is tried by its acts.
-ghost use Rattle.std.specs.Prelude.{◌≡◌, ◌≢◌, ◌<◌, ◌∷◌, [], ℕ, None, Some, is_some, length, map, slice_get, true};
-ghost use Rattle.c104_plan.specs.Wiring.{peer};
+ghost use Rattle.std.specs.Prelude.{◌≡◌, ◌≢◌, ◌-◌, ◌<◌, ◌∷◌, [], ℕ, None, Some, is_some, length, map, slice_get, true};
 ghost use Rattle.c104_plan.specs.declared.ports.Port.TheVariants as port;
 ghost use Rattle.c104_event.specs.declared.events.Event.{Event as TheEvent};
 ghost use Rattle.c104_event.specs.declared.events.Event.TheVariants as event;
 ghost use Rattle.c104_regs.specs.declared.registers.TheConstants.{LINKS};
+ghost use Rattle.c104_switch.specs.declared.actions.ReplyOf.{ReplyOf as TheReply};
 ghost use Rattle.c104_node.specs.ActLinks.{act_link};
+ghost use Rattle.c104_node.specs.PlaceActs.{AloneDone};
+ghost use Rattle.c104_node.specs.Traces.{seatless};
 ghost use Rattle.c104_node.specs.Places.{bases, states};
 ghost use Rattle.c104_run.specs.KnownWires.{KnowWires};
 ghost use Rattle.c104_run.specs.LivePlaces.{AreLive, is_live};
 ghost use Rattle.c104_node.specs.Acts.{IsWithinLimits, nodes_act};
 ghost use Rattle.c104_run.specs.EventsAtPlaces.{told_answer};
 ghost use Rattle.c104_node.specs.PortActs.{Acts, near_act};
-ghost use Rattle.c104_run.specs.EventActs.{crossing_acts, event_acts, port_place};
+ghost use Rattle.c104_run.specs.EventActs.{crossing_event, event_acts, port_place};
 ghost use Rattle.c104_run.specs.Network.{event_fault, terminal_place, wired_fault};
 ghost use Rattle.c104_run.specs.NetRecords.{is_done, ticket_after};
 ghost use Rattle.c104_run.specs.RoundParts.{PartEnds, done_answer};
-ghost use Rattle.c104_run.specs.Stages.{stage_apply, stage_of};
+ghost use Rattle.c104_run.specs.Meters.{meter_after, metered_apply, metered_of};
 
 use crate::asked::far_port;
 use crate::doing::do_alone;
 use crate::live_places::LivePlaces;
+use crate::meter::{Meter, tell_arrived, tell_joint};
 use crate::wires::Wires;
 use c104_event::{EventFault, Port};
 use c104_node::{ActOf, Crossing, Joint, Place, Stamp, joint_from};
@@ -30,13 +33,14 @@ use c104_switch::{ActionOf, ReplyOf};
 use c104_token::TokenKind;
 
 /// Tries a crossing from a port that is wired and ready, and tells whether it was done. Its ticket is the count of the
-/// events before it. What it may begin at the other end is in the set after it.
+/// events before it. What it may begin at the other end is in the set after it. A meter is told of a token that crosses.
 #[inline(always)]
-pub fn attempt_joint<T: TokenKind, P: Place<T>>(
+pub fn attempt_joint<T: TokenKind, P: Place<T>, M: Meter<T>>(
     wires: &Wires,
     places: &mut [P],
     live: &mut LivePlaces,
     count: &mut u64,
+    meter: &mut M,
     port: Port,
     crossing: Crossing,
 ) -> Result<bool, EventFault>
@@ -46,11 +50,9 @@ pub fn attempt_joint<T: TokenKind, P: Place<T>>(
         (nodes_act T.kind (states (map P.shown places.old)) (port_place wires.now port) 0 (near_act crossing port)) ≡ true }
     requires live { AreLive T.kind wires.now live.old (states (map P.shown places.old)) }
     requires near { is_live live.old (port_place wires.now port) ≡ true }
-    ensures tried { (e : TheEvent) → event_fault wires.now e ≡ None →
-        event_acts {A = T} wires.now e ≡ crossing_acts crossing port (peer wires.now port) →
-        PartEnds (stage_apply T.kind P.keeps)
-        (stage_of wires.now (map P.shown places.old) count.old) (e ∷ [])
-        result (stage_of wires.now (map P.shown places.new) count.new) }
+    ensures tried { PartEnds (metered_apply T.kind P.keeps M.sees)
+        (metered_of wires.now (map P.shown places.old) count.old meter.old) (crossing_event crossing port ∷ [])
+        result (metered_of wires.now (map P.shown places.new) count.new meter.new) }
     ensures live { AreLive T.kind wires.now live.new (states (map P.shown places.new)) }
     ensures grown { (k : ℕ) → is_live live.old k ≡ true → is_live live.new k ≡ true }
 {
@@ -66,34 +68,37 @@ pub fn attempt_joint<T: TokenKind, P: Place<T>>(
     };
     live.add(ends.far.node);
     let answer = joint_from(places, ends.near.node, ends.far.node, joint, stamp);
+    tell_joint(meter, crossing, port, &answer);
     counted(count, answer)
 }
 
 /// The same of a turn of the input at a wired link, with word 0.
 #[inline(always)]
-pub fn attempt_turn<T: TokenKind, P: Place<T>>(
+pub fn attempt_turn<T: TokenKind, P: Place<T>, M: Meter<T>>(
     wires: &Wires,
     places: &mut [P],
     count: &mut u64,
+    meter: &mut M,
     switch: usize,
     link: usize,
 ) -> Result<bool, EventFault>
     requires wired { wired_fault wires.now (port.Switch switch link) ≡ None }
-    ensures tried { PartEnds (stage_apply T.kind P.keeps)
-        (stage_of wires.now (map P.shown places.old) count.old) (event.Input switch link 0 ∷ [])
-        result (stage_of wires.now (map P.shown places.new) count.new) }
+    ensures tried { PartEnds (metered_apply T.kind P.keeps M.sees)
+        (metered_of wires.now (map P.shown places.old) count.old meter.old) (event.Input switch link 0 ∷ [])
+        result (metered_of wires.now (map P.shown places.new) count.new meter.new) }
     ensures stay { (k : ℕ) → k ≢ switch →
         slice_get (states (map P.shown places.new)) k ≡ slice_get (states (map P.shown places.old)) k }
 {
     let act = ActOf::Step(ActionOf::Input(link, 0));
-    attempt_alone(wires, places, count, switch, act)
+    attempt_alone(wires, places, count, meter, switch, act)
 }
 
 /// The same of a claim.
-pub fn attempt_claim<T: TokenKind, P: Place<T>>(
+pub fn attempt_claim<T: TokenKind, P: Place<T>, M: Meter<T>>(
     wires: &Wires,
     places: &mut [P],
     count: &mut u64,
+    meter: &mut M,
     switch: usize,
     input: usize,
     output: usize,
@@ -101,41 +106,46 @@ pub fn attempt_claim<T: TokenKind, P: Place<T>>(
     requires switch { switch < length wires.now.switches }
     requires input { input < LINKS }
     requires output { output < LINKS }
-    ensures tried { PartEnds (stage_apply T.kind P.keeps)
-        (stage_of wires.now (map P.shown places.old) count.old) (event.Claim switch input output ∷ [])
-        result (stage_of wires.now (map P.shown places.new) count.new) }
+    ensures tried { PartEnds (metered_apply T.kind P.keeps M.sees)
+        (metered_of wires.now (map P.shown places.old) count.old meter.old) (event.Claim switch input output ∷ [])
+        result (metered_of wires.now (map P.shown places.new) count.new meter.new) }
     ensures stay { (k : ℕ) → k ≢ switch →
         slice_get (states (map P.shown places.new)) k ≡ slice_get (states (map P.shown places.old)) k }
 {
     let act = ActOf::Step(ActionOf::Claim(input, output));
-    attempt_alone(wires, places, count, switch, act)
+    attempt_alone(wires, places, count, meter, switch, act)
 }
 
-/// The same of an arrival at a terminal.
+/// The same of an arrival at a terminal. A meter is told of the token.
 #[inline(always)]
-pub fn attempt_drain<T: TokenKind, P: Place<T>>(
+pub fn attempt_drain<T: TokenKind, P: Place<T>, M: Meter<T>>(
     wires: &Wires,
     places: &mut [P],
     count: &mut u64,
+    meter: &mut M,
     terminal: usize,
 ) -> Result<bool, EventFault>
     requires terminal { terminal < length wires.now.terminals }
-    ensures tried { PartEnds (stage_apply T.kind P.keeps)
-        (stage_of wires.now (map P.shown places.old) count.old) (event.Drain terminal ∷ [])
-        result (stage_of wires.now (map P.shown places.new) count.new) }
+    ensures tried { PartEnds (metered_apply T.kind P.keeps M.sees)
+        (metered_of wires.now (map P.shown places.old) count.old meter.old) (event.Drain terminal ∷ [])
+        result (metered_of wires.now (map P.shown places.new) count.new meter.new) }
     ensures stay { (k : ℕ) → k ≢ terminal_place wires.now terminal →
         slice_get (states (map P.shown places.new)) k ≡ slice_get (states (map P.shown places.old)) k }
 {
     let place = wires.terminal_place(terminal);
-    attempt_alone(wires, places, count, place, ActOf::Drain)
+    let answer = do_next(wires, places, *count, place, ActOf::Drain);
+    tell_arrived(meter, terminal, &answer);
+    counted(count, answer)
 }
 
-/// Tries an event that can happen and asks an act of one node, and tells whether it was done.
+/// Tries an event that can happen and asks an act of one node, and tells whether it was done. It is one of which a meter
+/// isn't told.
 #[inline(always)]
-fn attempt_alone<T: TokenKind, P: Place<T>>(
+fn attempt_alone<T: TokenKind, P: Place<T>, M: Meter<T>>(
     wires: &Wires,
     places: &mut [P],
     count: &mut u64,
+    _meter: &M,
     place: usize,
     act: ActOf<T>,
 ) -> Result<bool, EventFault>
@@ -143,19 +153,34 @@ fn attempt_alone<T: TokenKind, P: Place<T>>(
     requires lone { act_link act ≡ None }
     ensures tried { (e : TheEvent) → event_fault wires.now e ≡ None →
         event_acts wires.now e ≡ Some (Acts.Alone place act) →
-        PartEnds (stage_apply T.kind P.keeps)
-        (stage_of wires.now (map P.shown places.old) count.old) (e ∷ [])
-        result (stage_of wires.now (map P.shown places.new) count.new) }
+        ((reply : TheReply T) → meter_after M.sees _meter.now e reply ≡ _meter.now) →
+        PartEnds (metered_apply T.kind P.keeps M.sees)
+        (metered_of wires.now (map P.shown places.old) count.old _meter.now) (e ∷ [])
+        result (metered_of wires.now (map P.shown places.new) count.new _meter.now) }
     ensures stay { (k : ℕ) → k ≢ place →
         slice_get (states (map P.shown places.new)) k ≡ slice_get (states (map P.shown places.old)) k }
 {
-    let switches = wires.switch_count();
-    let stamp = Stamp {
-        ticket: *count,
-        seat: None,
-    };
-    let answer = do_alone(switches, places, place, act, stamp);
+    let answer = do_next(wires, places, *count, place, act);
     counted(count, answer)
+}
+
+/// The node at a place does an act, as the event of this ticket.
+#[inline(always)]
+fn do_next<T: TokenKind, P: Place<T>>(
+    wires: &Wires,
+    places: &mut [P],
+    ticket: u64,
+    place: usize,
+    act: ActOf<T>,
+) -> Result<ReplyOf<T>, EventFault>
+    requires short { IsWithinLimits act }
+    requires lone { act_link act ≡ None }
+    ensures { AloneDone T.kind P.keeps place (place - length wires.now.switches) (seatless ticket) act
+        (map P.shown places.old) result (map P.shown places.new) }
+{
+    let switches = wires.switch_count();
+    let stamp = Stamp { ticket, seat: None };
+    do_alone(switches, places, place, act, stamp)
 }
 
 /// Counts an event that was answered so, if it was done, and tells whether it was.

@@ -7,79 +7,84 @@ ghost use Rattle.c104_run.specs.KnownWires.{KnowWires};
 ghost use Rattle.c104_run.specs.LivePlaces.{AreLive, is_live};
 ghost use Rattle.c104_run.specs.Rounds.{all_claims, all_drains, claims_of, switch_claims, turn_at, wired_ports};
 ghost use Rattle.c104_run.specs.RoundParts.{PartEnds};
-ghost use Rattle.c104_run.specs.Stages.{stage_apply, stage_of};
+ghost use Rattle.c104_run.specs.Meters.{metered_apply, metered_of};
 
 use super::attempts::{attempt_claim, attempt_drain};
 use super::ports::{next_terminal, walk_ports, walk_switches};
 use crate::live_places::LivePlaces;
+use crate::meter::Meter;
 use crate::wires::Wires;
 use c104_event::EventFault;
 use c104_node::{Place, PortPart, next_claim_at, next_wanting_at};
 use c104_token::TokenKind;
 
 /// Credit of each wired port.
-pub fn credit_ports<T: TokenKind, P: Place<T>>(
+pub fn credit_ports<T: TokenKind, P: Place<T>, M: Meter<T>>(
     wires: &Wires,
     places: &mut [P],
     live: &mut LivePlaces,
     count: &mut u64,
+    meter: &mut M,
 ) -> Result<bool, EventFault>
     requires knows { KnowWires wires.now (bases (map P.shown places.old)) }
     requires live { AreLive T.kind wires.now live.old (states (map P.shown places.old)) }
-    ensures ends { PartEnds (stage_apply T.kind P.keeps)
-        (stage_of wires.now (map P.shown places.old) count.old) (map event.Credit (wired_ports wires.now))
-        result (stage_of wires.now (map P.shown places.new) count.new) }
+    ensures ends { PartEnds (metered_apply T.kind P.keeps M.sees)
+        (metered_of wires.now (map P.shown places.old) count.old meter.old) (map event.Credit (wired_ports wires.now))
+        result (metered_of wires.now (map P.shown places.new) count.new meter.new) }
     ensures live { AreLive T.kind wires.now live.new (states (map P.shown places.new)) }
 {
-    walk_ports(wires, places, live, count, PortPart::Credit)
+    walk_ports(wires, places, live, count, meter, PortPart::Credit)
 }
 
 /// A crossing from each wired port.
-pub fn cross_ports<T: TokenKind, P: Place<T>>(
+pub fn cross_ports<T: TokenKind, P: Place<T>, M: Meter<T>>(
     wires: &Wires,
     places: &mut [P],
     live: &mut LivePlaces,
     count: &mut u64,
+    meter: &mut M,
 ) -> Result<bool, EventFault>
     requires knows { KnowWires wires.now (bases (map P.shown places.old)) }
     requires live { AreLive T.kind wires.now live.old (states (map P.shown places.old)) }
-    ensures ends { PartEnds (stage_apply T.kind P.keeps)
-        (stage_of wires.now (map P.shown places.old) count.old) (map event.Cross (wired_ports wires.now))
-        result (stage_of wires.now (map P.shown places.new) count.new) }
+    ensures ends { PartEnds (metered_apply T.kind P.keeps M.sees)
+        (metered_of wires.now (map P.shown places.old) count.old meter.old) (map event.Cross (wired_ports wires.now))
+        result (metered_of wires.now (map P.shown places.new) count.new meter.new) }
     ensures live { AreLive T.kind wires.now live.new (states (map P.shown places.new)) }
 {
-    walk_ports(wires, places, live, count, PortPart::Cross)
+    walk_ports(wires, places, live, count, meter, PortPart::Cross)
 }
 
 /// A turn of each wired input.
-pub fn turn_inputs<T: TokenKind, P: Place<T>>(
+pub fn turn_inputs<T: TokenKind, P: Place<T>, M: Meter<T>>(
     wires: &Wires,
     places: &mut [P],
     live: &mut LivePlaces,
     count: &mut u64,
+    meter: &mut M,
 ) -> Result<bool, EventFault>
     requires knows { KnowWires wires.now (bases (map P.shown places.old)) }
     requires live { AreLive T.kind wires.now live.old (states (map P.shown places.old)) }
-    ensures ends { PartEnds (stage_apply T.kind P.keeps)
-        (stage_of wires.now (map P.shown places.old) count.old) (flat_map turn_at (wired_ports wires.now))
-        result (stage_of wires.now (map P.shown places.new) count.new) }
+    ensures ends { PartEnds (metered_apply T.kind P.keeps M.sees)
+        (metered_of wires.now (map P.shown places.old) count.old meter.old) (flat_map turn_at (wired_ports wires.now))
+        result (metered_of wires.now (map P.shown places.new) count.new meter.new) }
     ensures live { AreLive T.kind wires.now live.new (states (map P.shown places.new)) }
 {
     // A terminal has no input.
-    walk_switches(wires, places, live, count, PortPart::Turn)
+    walk_switches(wires, places, live, count, meter, PortPart::Turn)
 }
 
 /// The claims of all switches.
-pub fn claim_outputs<T: TokenKind, P: Place<T>>(
+pub fn claim_outputs<T: TokenKind, P: Place<T>, M: Meter<T>>(
     wires: &Wires,
     places: &mut [P],
     live: &LivePlaces,
     count: &mut u64,
+    meter: &mut M,
 ) -> Result<bool, EventFault>
     requires live { AreLive T.kind wires.now live.now (states (map P.shown places.old)) }
-    ensures ends { PartEnds (stage_apply T.kind P.keeps)
-        (stage_of wires.now (map P.shown places.old) count.old) (all_claims (length wires.now.switches))
-        result (stage_of wires.now (map P.shown places.new) count.new) }
+    ensures ends { PartEnds (metered_apply T.kind P.keeps M.sees)
+        (metered_of wires.now (map P.shown places.old) count.old meter.old) (all_claims (length wires.now.switches))
+        result (metered_of wires.now (map P.shown places.new) count.new meter.new) }
     ensures live { AreLive T.kind wires.now live.now (states (map P.shown places.new)) }
 {
     let mut changed = false;
@@ -88,7 +93,7 @@ pub fn claim_outputs<T: TokenKind, P: Place<T>>(
     let switches = wires.switch_count();
     let mut from = 0;
     while let Some(switch) = live.next(from, switches) {
-        let done = claim_in_switch(wires, places, live, count, switch)?;
+        let done = claim_in_switch(wires, places, live, count, meter, switch)?;
         changed |= done;
         from = switch + 1;
     }
@@ -96,25 +101,26 @@ pub fn claim_outputs<T: TokenKind, P: Place<T>>(
 }
 
 /// The claims of a switch. Those of an input that wants no output are left out.
-fn claim_in_switch<T: TokenKind, P: Place<T>>(
+fn claim_in_switch<T: TokenKind, P: Place<T>, M: Meter<T>>(
     wires: &Wires,
     places: &mut [P],
     live: &LivePlaces,
     count: &mut u64,
+    meter: &mut M,
     switch: usize,
 ) -> Result<bool, EventFault>
     requires switch { switch < length wires.now.switches }
     requires live { AreLive T.kind wires.now live.now (states (map P.shown places.old)) }
     requires here { is_live live.now switch ≡ true }
-    ensures ends { PartEnds (stage_apply T.kind P.keeps)
-        (stage_of wires.now (map P.shown places.old) count.old) (switch_claims switch)
-        result (stage_of wires.now (map P.shown places.new) count.new) }
+    ensures ends { PartEnds (metered_apply T.kind P.keeps M.sees)
+        (metered_of wires.now (map P.shown places.old) count.old meter.old) (switch_claims switch)
+        result (metered_of wires.now (map P.shown places.new) count.new meter.new) }
     ensures live { AreLive T.kind wires.now live.now (states (map P.shown places.new)) }
 {
     let mut changed = false;
     let mut from = 0;
     while let Some(input) = next_wanting_at(places, switch, from) {
-        let done = claim_for_input(wires, places, live, count, switch, input)?;
+        let done = claim_for_input(wires, places, live, count, meter, switch, input)?;
         changed |= done;
         from = input + 1;
     }
@@ -123,11 +129,12 @@ fn claim_in_switch<T: TokenKind, P: Place<T>>(
 
 /// The claims of an input. Those that it can't make are left out, and after one that is made it can
 /// make no more.
-fn claim_for_input<T: TokenKind, P: Place<T>>(
+fn claim_for_input<T: TokenKind, P: Place<T>, M: Meter<T>>(
     wires: &Wires,
     places: &mut [P],
     live: &LivePlaces,
     count: &mut u64,
+    meter: &mut M,
     switch: usize,
     input: usize,
 ) -> Result<bool, EventFault>
@@ -135,15 +142,15 @@ fn claim_for_input<T: TokenKind, P: Place<T>>(
     requires input { input < LINKS }
     requires live { AreLive T.kind wires.now live.now (states (map P.shown places.old)) }
     requires here { is_live live.now switch ≡ true }
-    ensures ends { PartEnds (stage_apply T.kind P.keeps)
-        (stage_of wires.now (map P.shown places.old) count.old) (claims_of switch input)
-        result (stage_of wires.now (map P.shown places.new) count.new) }
+    ensures ends { PartEnds (metered_apply T.kind P.keeps M.sees)
+        (metered_of wires.now (map P.shown places.old) count.old meter.old) (claims_of switch input)
+        result (metered_of wires.now (map P.shown places.new) count.new meter.new) }
     ensures live { AreLive T.kind wires.now live.now (states (map P.shown places.new)) }
 {
     let mut changed = false;
     let mut from = 0;
     while let Some(output) = next_claim_at(places, switch, input, from) {
-        let done = attempt_claim(wires, places, count, switch, input, output)?;
+        let done = attempt_claim(wires, places, count, meter, switch, input, output)?;
         changed |= done;
         from = output + 1;
     }
@@ -151,16 +158,17 @@ fn claim_for_input<T: TokenKind, P: Place<T>>(
 }
 
 /// A token's arrival at each terminal.
-pub fn drain_terminals<T: TokenKind, P: Place<T>>(
+pub fn drain_terminals<T: TokenKind, P: Place<T>, M: Meter<T>>(
     wires: &Wires,
     places: &mut [P],
     live: &LivePlaces,
     count: &mut u64,
+    meter: &mut M,
 ) -> Result<bool, EventFault>
     requires live { AreLive T.kind wires.now live.now (states (map P.shown places.old)) }
-    ensures ends { PartEnds (stage_apply T.kind P.keeps)
-        (stage_of wires.now (map P.shown places.old) count.old) (all_drains (length wires.now.terminals))
-        result (stage_of wires.now (map P.shown places.new) count.new) }
+    ensures ends { PartEnds (metered_apply T.kind P.keeps M.sees)
+        (metered_of wires.now (map P.shown places.old) count.old meter.old) (all_drains (length wires.now.terminals))
+        result (metered_of wires.now (map P.shown places.new) count.new meter.new) }
     ensures live { AreLive T.kind wires.now live.now (states (map P.shown places.new)) }
 {
     let mut changed = false;
@@ -168,7 +176,7 @@ pub fn drain_terminals<T: TokenKind, P: Place<T>>(
     let end = wires.place_count();
     let mut from = 0;
     while let Some(terminal) = next_terminal(wires, live, first, end, from) {
-        let done = attempt_drain(wires, places, count, terminal)?;
+        let done = attempt_drain(wires, places, count, meter, terminal)?;
         changed |= done;
         from = terminal + 1;
     }

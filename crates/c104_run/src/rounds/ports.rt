@@ -2,22 +2,23 @@
 //! switch by the sets of its links, so that no event is tried of which it is known that its near end isn't ready.
 //!
 //! The walks are inlined, since each part is a code of its own.
-ghost use Rattle.std.specs.Prelude.{◌≡◌, ◌+◌, ◌<◌, ◌≤◌, ℕ, None, false, true, flat_map, length, map, unwrap_or, IfSome, Ok};
+ghost use Rattle.std.specs.Prelude.{◌≡◌, ◌+◌, ◌<◌, ◌≤◌, ℕ, None, false, true, flat_map, length, map, unwrap_or, IfSome};
 ghost use Rattle.c104_plan.specs.declared.ports.Port.TheVariants as port;
 ghost use Rattle.c104_regs.specs.declared.registers.TheConstants.{LINKS};
 ghost use Rattle.c104_node.specs.Places.{bases, states};
 ghost use Rattle.c104_run.specs.KnownWires.{KnowWires};
 ghost use Rattle.c104_run.specs.LivePlaces.{AreLive, is_live};
-ghost use Rattle.c104_run.specs.Network.{terminal_place, wired_fault};
+ghost use Rattle.c104_run.specs.Network.{network_of, terminal_place, wired_fault};
 ghost use Rattle.c104_run.specs.EventActs.{port_place};
 ghost use Rattle.c104_node.specs.PortParts.{IsNearReady};
-ghost use Rattle.c104_run.specs.RoundParts.{port_events, wired_events, PartEnds};
+ghost use Rattle.c104_run.specs.RoundParts.{port_events, wired_events, AreIdle, PartEnds};
 ghost use Rattle.std.specs.List.{range_with_len};
 ghost use Rattle.c104_run.specs.Rounds.{is_wired, turn_at, wired_links, wired_ports, wired_terminals};
-ghost use Rattle.c104_run.specs.Stages.{stage_apply, stage_of};
+ghost use Rattle.c104_run.specs.Meters.{metered_apply, metered_of};
 
 use super::attempts::{attempt_joint, attempt_turn};
 use crate::live_places::LivePlaces;
+use crate::meter::Meter;
 use crate::wires::Wires;
 use c104_event::{EventFault, Port};
 use c104_node::{Crossing, Place, PortPart, can_near_at, next_ready_at};
@@ -25,42 +26,44 @@ use c104_token::TokenKind;
 
 /// The events of a part at all wired ports.
 #[inline(always)]
-pub fn walk_ports<T: TokenKind, P: Place<T>>(
+pub fn walk_ports<T: TokenKind, P: Place<T>, M: Meter<T>>(
     wires: &Wires,
     places: &mut [P],
     live: &mut LivePlaces,
     count: &mut u64,
+    meter: &mut M,
     part: PortPart,
 ) -> Result<bool, EventFault>
     requires knows { KnowWires wires.now (bases (map P.shown places.old)) }
     requires live { AreLive T.kind wires.now live.old (states (map P.shown places.old)) }
-    ensures ends { PartEnds (stage_apply T.kind P.keeps)
-        (stage_of wires.now (map P.shown places.old) count.old)
+    ensures ends { PartEnds (metered_apply T.kind P.keeps M.sees)
+        (metered_of wires.now (map P.shown places.old) count.old meter.old)
         (flat_map (port_events part) (wired_ports wires.now))
-        result (stage_of wires.now (map P.shown places.new) count.new) }
+        result (metered_of wires.now (map P.shown places.new) count.new meter.new) }
     ensures live { AreLive T.kind wires.now live.new (states (map P.shown places.new)) }
 {
-    let of_switches = walk_switches(wires, places, live, count, part)?;
-    let of_terminals = walk_terminals(wires, places, live, count, part)?;
+    let of_switches = walk_switches(wires, places, live, count, meter, part)?;
+    let of_terminals = walk_terminals(wires, places, live, count, meter, part)?;
     Ok(of_switches | of_terminals)
 }
 
 /// The events of a part at the wired links of the switches.
 #[inline(always)]
-pub fn walk_switches<T: TokenKind, P: Place<T>>(
+pub fn walk_switches<T: TokenKind, P: Place<T>, M: Meter<T>>(
     wires: &Wires,
     places: &mut [P],
     live: &mut LivePlaces,
     count: &mut u64,
+    meter: &mut M,
     part: PortPart,
 ) -> Result<bool, EventFault>
     requires knows { KnowWires wires.now (bases (map P.shown places.old)) }
     requires live { AreLive T.kind wires.now live.old (states (map P.shown places.old)) }
-    ensures ends { PartEnds (stage_apply T.kind P.keeps)
-        (stage_of wires.now (map P.shown places.old) count.old)
+    ensures ends { PartEnds (metered_apply T.kind P.keeps M.sees)
+        (metered_of wires.now (map P.shown places.old) count.old meter.old)
         (flat_map (port_events part)
         (flat_map (wired_links wires.now) (range_with_len 0 (length wires.now.switches))))
-        result (stage_of wires.now (map P.shown places.new) count.new) }
+        result (metered_of wires.now (map P.shown places.new) count.new meter.new) }
     ensures live { AreLive T.kind wires.now live.new (states (map P.shown places.new)) }
 {
     let mut changed = false;
@@ -69,7 +72,7 @@ pub fn walk_switches<T: TokenKind, P: Place<T>>(
     let switches = wires.switch_count();
     let mut from = 0;
     while let Some(switch) = live.next(from, switches) {
-        let done = walk_links(wires, places, live, count, part, switch)?;
+        let done = walk_links(wires, places, live, count, meter, part, switch)?;
         changed |= done;
         from = switch + 1;
     }
@@ -78,11 +81,12 @@ pub fn walk_switches<T: TokenKind, P: Place<T>>(
 
 /// The events of a part at the wired links of a switch.
 #[inline(always)]
-fn walk_links<T: TokenKind, P: Place<T>>(
+fn walk_links<T: TokenKind, P: Place<T>, M: Meter<T>>(
     wires: &Wires,
     places: &mut [P],
     live: &mut LivePlaces,
     count: &mut u64,
+    meter: &mut M,
     part: PortPart,
     switch: usize,
 ) -> Result<bool, EventFault>
@@ -90,16 +94,24 @@ fn walk_links<T: TokenKind, P: Place<T>>(
     requires switch { switch < length wires.now.switches }
     requires live { AreLive T.kind wires.now live.old (states (map P.shown places.old)) }
     requires here { is_live live.old switch ≡ true }
-    ensures ends { PartEnds (stage_apply T.kind P.keeps)
-        (stage_of wires.now (map P.shown places.old) count.old)
+    ensures ends { PartEnds (metered_apply T.kind P.keeps M.sees)
+        (metered_of wires.now (map P.shown places.old) count.old meter.old)
         (flat_map (port_events part) (wired_links wires.now switch))
-        result (stage_of wires.now (map P.shown places.new) count.new) }
+        result (metered_of wires.now (map P.shown places.new) count.new meter.new) }
     ensures live { AreLive T.kind wires.now live.new (states (map P.shown places.new)) }
 {
     let mut changed = false;
     let mut from = 0;
     while let Some(link) = next_link(wires, places, part, switch, from) {
-        let done = try_at(wires, places, live, count, part, Port::Switch(switch, link))?;
+        let done = try_at(
+            wires,
+            places,
+            live,
+            count,
+            meter,
+            part,
+            Port::Switch(switch, link),
+        )?;
         changed |= done;
         from = link + 1;
     }
@@ -116,10 +128,8 @@ fn next_link<T: TokenKind, P: Place<T>>(
     from: usize,
 ) -> Option<usize>
     requires { switch < length wires.now.switches }
-    ensures passed { (l count : ℕ) → from ≤ l → l < unwrap_or result LINKS → PartEnds (stage_apply T.kind P.keeps)
-        (stage_of wires.now (map P.shown places.now) count)
-        (wired_events wires.now part (port.Switch switch l))
-        (Ok false) (stage_of wires.now (map P.shown places.now) count) }
+    ensures passed { (l : ℕ) → from ≤ l → l < unwrap_or result LINKS → AreIdle T.kind
+        (network_of wires.now (states (map P.shown places.now))) (wired_events wires.now part (port.Switch switch l)) }
     ensures found { IfSome result (λ l. (from ≤ l) × (l < LINKS)) }
     ensures wired { IfSome result (λ l. wired_fault wires.now (port.Switch switch l) ≡ None) }
     ensures linked { IfSome result (λ l. is_wired wires.now (port.Switch switch l) ≡ true) }
@@ -132,19 +142,20 @@ fn next_link<T: TokenKind, P: Place<T>>(
 
 /// The events of a part at the wired terminals.
 #[inline(always)]
-fn walk_terminals<T: TokenKind, P: Place<T>>(
+fn walk_terminals<T: TokenKind, P: Place<T>, M: Meter<T>>(
     wires: &Wires,
     places: &mut [P],
     live: &mut LivePlaces,
     count: &mut u64,
+    meter: &mut M,
     part: PortPart,
 ) -> Result<bool, EventFault>
     requires knows { KnowWires wires.now (bases (map P.shown places.old)) }
     requires live { AreLive T.kind wires.now live.old (states (map P.shown places.old)) }
-    ensures ends { PartEnds (stage_apply T.kind P.keeps)
-        (stage_of wires.now (map P.shown places.old) count.old)
+    ensures ends { PartEnds (metered_apply T.kind P.keeps M.sees)
+        (metered_of wires.now (map P.shown places.old) count.old meter.old)
         (flat_map (port_events part) (wired_terminals wires.now))
-        result (stage_of wires.now (map P.shown places.new) count.new) }
+        result (metered_of wires.now (map P.shown places.new) count.new meter.new) }
     ensures live { AreLive T.kind wires.now live.new (states (map P.shown places.new)) }
 {
     let mut changed = false;
@@ -152,7 +163,7 @@ fn walk_terminals<T: TokenKind, P: Place<T>>(
     let end = wires.place_count();
     let mut from = 0;
     while let Some(terminal) = next_terminal(wires, live, first, end, from) {
-        let done = try_terminal(wires, places, live, count, part, terminal)?;
+        let done = try_terminal(wires, places, live, count, meter, part, terminal)?;
         changed |= done;
         from = terminal + 1;
     }
@@ -187,11 +198,12 @@ pub fn next_terminal(
 
 /// The event of a part at a terminal, if it is wired.
 #[inline(always)]
-fn try_terminal<T: TokenKind, P: Place<T>>(
+fn try_terminal<T: TokenKind, P: Place<T>, M: Meter<T>>(
     wires: &Wires,
     places: &mut [P],
     live: &mut LivePlaces,
     count: &mut u64,
+    meter: &mut M,
     part: PortPart,
     terminal: usize,
 ) -> Result<bool, EventFault>
@@ -199,10 +211,10 @@ fn try_terminal<T: TokenKind, P: Place<T>>(
     requires terminal { terminal < length wires.now.terminals }
     requires live { AreLive T.kind wires.now live.old (states (map P.shown places.old)) }
     requires here { is_live live.old (terminal_place wires.now terminal) ≡ true }
-    ensures ends { PartEnds (stage_apply T.kind P.keeps)
-        (stage_of wires.now (map P.shown places.old) count.old)
+    ensures ends { PartEnds (metered_apply T.kind P.keeps M.sees)
+        (metered_of wires.now (map P.shown places.old) count.old meter.old)
         (wired_events wires.now part (port.Terminal terminal))
-        result (stage_of wires.now (map P.shown places.new) count.new) }
+        result (metered_of wires.now (map P.shown places.new) count.new meter.new) }
     ensures live { AreLive T.kind wires.now live.new (states (map P.shown places.new)) }
 {
     if !wires.is_linked(terminal) {
@@ -211,7 +223,15 @@ fn try_terminal<T: TokenKind, P: Place<T>>(
     if !is_ready(wires, places, part, terminal) {
         return Ok(false);
     }
-    try_at(wires, places, live, count, part, Port::Terminal(terminal))
+    try_at(
+        wires,
+        places,
+        live,
+        count,
+        meter,
+        part,
+        Port::Terminal(terminal),
+    )
 }
 
 /// Whether a wired terminal is ready for its event of a part. It has no input.
@@ -223,9 +243,8 @@ fn is_ready<T: TokenKind, P: Place<T>>(
     terminal: usize,
 ) -> bool
     requires { wired_fault wires.now (port.Terminal terminal) ≡ None }
-    ensures passed { (count : ℕ) → result ≡ false → PartEnds (stage_apply T.kind P.keeps)
-        (stage_of wires.now (map P.shown places.now) count) (port_events part (port.Terminal terminal))
-        (Ok false) (stage_of wires.now (map P.shown places.now) count) }
+    ensures passed { result ≡ false → AreIdle T.kind
+        (network_of wires.now (states (map P.shown places.now))) (port_events part (port.Terminal terminal)) }
     ensures ready { result ≡ true → IsNearReady T.kind part
         (states (map P.shown places.now)) (port_place wires.now (port.Terminal terminal)) (port.Terminal terminal) }
 {
@@ -240,11 +259,12 @@ fn is_ready<T: TokenKind, P: Place<T>>(
 
 /// The event of a part at a wired port, which is ready for it; for a turn, which may be.
 #[inline(always)]
-fn try_at<T: TokenKind, P: Place<T>>(
+fn try_at<T: TokenKind, P: Place<T>, M: Meter<T>>(
     wires: &Wires,
     places: &mut [P],
     live: &mut LivePlaces,
     count: &mut u64,
+    meter: &mut M,
     part: PortPart,
     port: Port,
 ) -> Result<bool, EventFault>
@@ -253,38 +273,39 @@ fn try_at<T: TokenKind, P: Place<T>>(
     requires ready { IsNearReady T.kind part (states (map P.shown places.old)) (port_place wires.now port) port }
     requires live { AreLive T.kind wires.now live.old (states (map P.shown places.old)) }
     requires here { is_live live.old (port_place wires.now port) ≡ true }
-    ensures ends { PartEnds (stage_apply T.kind P.keeps)
-        (stage_of wires.now (map P.shown places.old) count.old) (port_events part port)
-        result (stage_of wires.now (map P.shown places.new) count.new) }
+    ensures ends { PartEnds (metered_apply T.kind P.keeps M.sees)
+        (metered_of wires.now (map P.shown places.old) count.old meter.old) (port_events part port)
+        result (metered_of wires.now (map P.shown places.new) count.new meter.new) }
     ensures live { AreLive T.kind wires.now live.new (states (map P.shown places.new)) }
     ensures grown { (k : ℕ) → is_live live.old k ≡ true → is_live live.new k ≡ true }
 {
     match part {
-        PortPart::Credit => attempt_joint(wires, places, live, count, port, Crossing::Grant),
-        PortPart::Cross => attempt_joint(wires, places, live, count, port, Crossing::Token),
-        PortPart::Turn => try_turn(wires, places, live, count, port),
+        PortPart::Credit => attempt_joint(wires, places, live, count, meter, port, Crossing::Grant),
+        PortPart::Cross => attempt_joint(wires, places, live, count, meter, port, Crossing::Token),
+        PortPart::Turn => try_turn(wires, places, live, count, meter, port),
     }
 }
 
 /// The input at a wired port takes a turn, with word 0, if it is a switch's.
 #[inline(always)]
-fn try_turn<T: TokenKind, P: Place<T>>(
+fn try_turn<T: TokenKind, P: Place<T>, M: Meter<T>>(
     wires: &Wires,
     places: &mut [P],
     live: &LivePlaces,
     count: &mut u64,
+    meter: &mut M,
     port: Port,
 ) -> Result<bool, EventFault>
     requires wired { wired_fault wires.now port ≡ None }
     requires live { AreLive T.kind wires.now live.now (states (map P.shown places.old)) }
     requires here { is_live live.now (port_place wires.now port) ≡ true }
-    ensures ends { PartEnds (stage_apply T.kind P.keeps)
-        (stage_of wires.now (map P.shown places.old) count.old) (turn_at port)
-        result (stage_of wires.now (map P.shown places.new) count.new) }
+    ensures ends { PartEnds (metered_apply T.kind P.keeps M.sees)
+        (metered_of wires.now (map P.shown places.old) count.old meter.old) (turn_at port)
+        result (metered_of wires.now (map P.shown places.new) count.new meter.new) }
     ensures live { AreLive T.kind wires.now live.now (states (map P.shown places.new)) }
 {
     match port {
-        Port::Switch(switch, link) => attempt_turn(wires, places, count, switch, link),
+        Port::Switch(switch, link) => attempt_turn(wires, places, count, meter, switch, link),
         Port::Terminal(_) => Ok(false),
     }
 }

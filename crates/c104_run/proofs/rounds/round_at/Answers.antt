@@ -22,9 +22,9 @@ pub returns-in_err-drained-clause-ends : goal.returns-in_err-drained-clause-ends
 returns-in_err-drained-clause-ends g c = rw (err_is _ _ c.from_residual-in_err-drained.ensures) (stops_after _ _ _ _ _ _ _ _ (part_after _ _ _ _ _ _ _ _ (part_after _ _ _ _ _ _ _ _ (part_after _ _ _ _ _ _ _ _ c.in_ok-credited.ensures.ends c.in_ok-crossed.ensures.ends) c.in_ok-turned.ensures.ends) c.in_ok-claimed.ensures.ends) c.in_err-drained.ensures.ends)
 
 pub cross_ports-requires-clause-knows : goal.cross_ports-requires-clause-knows
-cross_ports-requires-clause-knows g c = still_known g.T.TokenKind.kind _ _ _ _ _ _ _ _ c.in_ok-credited.ensures.ends c.requires.knows
+cross_ports-requires-clause-knows g c = still_known g.T.TokenKind.kind _ _ _ _ _ _ _ _ _ _ _ c.in_ok-credited.ensures.ends c.requires.knows
 
 pub turn_inputs-requires-clause-knows : goal.turn_inputs-requires-clause-knows
 turn_inputs-requires-clause-knows g c =
-    still_known g.T.TokenKind.kind _ _ _ _ _ _ _ _ c.in_ok-crossed.ensures.ends
-    (still_known g.T.TokenKind.kind _ _ _ _ _ _ _ _ c.in_ok-credited.ensures.ends c.requires.knows)
+    still_known g.T.TokenKind.kind _ _ _ _ _ _ _ _ _ _ _ c.in_ok-crossed.ensures.ends
+    (still_known g.T.TokenKind.kind _ _ _ _ _ _ _ _ _ _ _ c.in_ok-credited.ensures.ends c.requires.knows)

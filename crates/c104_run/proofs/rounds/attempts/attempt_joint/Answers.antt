@@ -8,10 +8,10 @@ use Rattle.c104_run.proofs.LiveRounds.{grown_on, live_joint}
 use Rattle.c104_run.proofs.rounds.attempts.attempt_joint.Goals as goal
 
 pub returns-clause-tried : goal.returns-clause-tried
-returns-clause-tried g c = λ e possible known.
+returns-clause-tried g c =
     rw c.counted.ensures.told
-    (joint_tried g.T.TokenKind.kind g.P.Place.keeps g.P.Place.shown g.met.P.Place.limited c.args.wires.now c.args.places.now c.joint_from-answer.new.places c.args.count.now c.counted.new.count e possible c.joint_from-answer.result c.counted.ensures.count
-    c.args.port c.far_port.result c.args.crossing c.wired_ends-ends.result.near c.wired_ends-ends.result.far c.wired_ends-ends.ensures.near c.wired_ends-ends.ensures.far c.far_port.ensures known c.joint_from-answer.ensures)
+    (joint_tried g.T.TokenKind.kind g.P.Place.keeps g.M.Meter.sees g.P.Place.shown g.met.P.Place.limited c.args.wires.now c.args.places.now c.joint_from-answer.new.places c.args.count.now c.counted.new.count c.args.meter.now c.tell_joint.new.meter c.joint_from-answer.result c.counted.ensures.count
+    c.args.port c.far_port.result c.args.crossing c.wired_ends-ends.result.near c.wired_ends-ends.result.far c.wired_ends-ends.ensures.near c.wired_ends-ends.ensures.far c.far_port.ensures c.tell_joint.ensures c.requires.wired c.joint_from-answer.ensures)
 
 pub returns-clause-live : goal.returns-clause-live
 returns-clause-live g c =

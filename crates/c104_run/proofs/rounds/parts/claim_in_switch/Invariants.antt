@@ -3,14 +3,14 @@ use Rattle.std.specs.List.{flat_map, range_with_len}
 use Rattle.c104_run.specs.Rounds.{claims_of}
 use Rattle.c104_node.specs.Places.{states}
 use Rattle.c104_run.specs.LivePlaces.{AreLive}
-use Rattle.c104_run.specs.Stages.{stage_apply, stage_of}
+use Rattle.c104_run.specs.Meters.{metered_apply, metered_of}
 use Rattle.c104_run.specs.RoundParts.{PartEnds}
 use Rattle.c104_run.proofs.rounds.parts.claim_in_switch.Given as goal
 
 -- the claims so far
 abbrev pub invariant-loop-input : goal.invariant-loop-input
 invariant-loop-input g l = record {
-  ends : PartEnds (stage_apply g.T.TokenKind.kind g.P.Place.keeps) (stage_of l.wires (map g.P.Place.shown l.initial.places) l.initial.count) (flat_map (claims_of l.switch) (take l.from (range_with_len 0 32))) (Ok l.changed) (stage_of l.wires (map g.P.Place.shown l.places) l.count);
+  ends : PartEnds (metered_apply g.T.TokenKind.kind g.P.Place.keeps g.M.Meter.sees) (metered_of l.wires (map g.P.Place.shown l.initial.places) l.initial.count l.initial.meter) (flat_map (claims_of l.switch) (take l.from (range_with_len 0 32))) (Ok l.changed) (metered_of l.wires (map g.P.Place.shown l.places) l.count l.meter);
   within : l.from ≤ 32;
   live : AreLive g.T.TokenKind.kind l.wires l.live (states (map g.P.Place.shown l.places));
 }

@@ -1,13 +1,13 @@
 use Rattle.std.proofs.Common.{◌<◌, ◌∙◌, map, sym}
-use Rattle.c104_run.specs.Stages.{stage_of}
+use Rattle.c104_run.specs.Network.{network_of}
 use Rattle.c104_run.proofs.PortWalks.{below_links, if_some, near_ready, passed_link}
 use Rattle.c104_node.specs.Places.{states}
 use Rattle.c104_run.proofs.rounds.ports.next_link.Goals as goal
 
 pub returns-clause-passed : goal.returns-clause-passed
-returns-clause-passed g c = λ l count after below.
+returns-clause-passed g c = λ l after below.
     let inside = below_links l c.next_ready_at.result (if_some _ (λ i. i < 32) c.next_ready_at.result (λ i is. is.1) c.next_ready_at.ensures.1) below in
-    passed_link g.T.TokenKind.kind g.P.Place.keeps (stage_of c.args.wires.now (map g.P.Place.shown c.args.places.now) count) c.args.part c.args.switch l c.linked-among.result (c.linked-among.ensures.linked l inside) (c.linked-among.ensures.wired l inside) (λ is. c.next_ready_at.ensures.0 l after below is)
+    passed_link g.T.TokenKind.kind (network_of c.args.wires.now (states (map g.P.Place.shown c.args.places.now))) c.args.part c.args.switch l c.linked-among.result (c.linked-among.ensures.linked l inside) (c.linked-among.ensures.wired l inside) (λ is. c.next_ready_at.ensures.0 l after below is)
 
 pub returns-clause-found : goal.returns-clause-found
 returns-clause-found g c = if_some _ _ c.next_ready_at.result (λ l is. (is.0, is.1)) c.next_ready_at.ensures.1

@@ -14,4 +14,4 @@ pub returns-in_err-of_terminals-clause-ends : goal.returns-in_err-of_terminals-c
 returns-in_err-of_terminals-clause-ends g c = rw (err_is _ _ c.from_residual-in_err-of_terminals.ensures) (of_ports c.args.wires.now c.args.part _ _ _ _ (stops_after _ _ _ _ _ _ _ _ c.in_ok-of_switches.ensures.ends c.in_err-of_terminals.ensures.ends))
 
 pub walk_terminals-requires-clause-knows : goal.walk_terminals-requires-clause-knows
-walk_terminals-requires-clause-knows g c = still_known g.T.TokenKind.kind _ _ _ _ _ _ _ _ c.in_ok-of_switches.ensures.ends c.requires.knows
+walk_terminals-requires-clause-knows g c = still_known g.T.TokenKind.kind _ _ _ _ _ _ _ _ _ _ _ c.in_ok-of_switches.ensures.ends c.requires.knows

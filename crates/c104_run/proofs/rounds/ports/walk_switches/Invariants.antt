@@ -2,7 +2,7 @@ use Rattle.std.proofs.Common.{◌-◌, ◌≤◌, length, take, Ok, map}
 use Rattle.std.specs.List.{flat_map, range_with_len}
 use Rattle.c104_node.specs.Places.{states}
 use Rattle.c104_run.specs.LivePlaces.{AreLive}
-use Rattle.c104_run.specs.Stages.{stage_apply, stage_of}
+use Rattle.c104_run.specs.Meters.{metered_apply, metered_of}
 use Rattle.c104_run.specs.RoundParts.{PartEnds}
 use Rattle.c104_run.proofs.PortWalks.{of_switch}
 use Rattle.c104_run.proofs.rounds.ports.walk_switches.Given as goal
@@ -10,7 +10,7 @@ use Rattle.c104_run.proofs.rounds.ports.walk_switches.Given as goal
 -- the events so far
 abbrev pub invariant-loop-switch : goal.invariant-loop-switch
 invariant-loop-switch g l = record {
-  ends : PartEnds (stage_apply g.T.TokenKind.kind g.P.Place.keeps) (stage_of l.wires (map g.P.Place.shown l.initial.places) l.initial.count) (flat_map (of_switch l.wires l.part) (take l.from (range_with_len 0 (length l.wires.switches)))) (Ok l.changed) (stage_of l.wires (map g.P.Place.shown l.places) l.count);
+  ends : PartEnds (metered_apply g.T.TokenKind.kind g.P.Place.keeps g.M.Meter.sees) (metered_of l.wires (map g.P.Place.shown l.initial.places) l.initial.count l.initial.meter) (flat_map (of_switch l.wires l.part) (take l.from (range_with_len 0 (length l.wires.switches)))) (Ok l.changed) (metered_of l.wires (map g.P.Place.shown l.places) l.count l.meter);
   live : AreLive g.T.TokenKind.kind l.wires l.live (states (map g.P.Place.shown l.places));
   within : l.from ≤ length l.wires.switches;
 }

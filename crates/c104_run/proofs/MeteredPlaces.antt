@@ -1,0 +1,131 @@
+-- What a meter is told of events and of a round over the places of a network whose nodes are seen with their records.
+use Rattle.std.proofs.Common.{◌≡◌, ◌∙◌, ℕ, Bool, true, List, Result, Ok, Err, map, inl, inr, refl, sym, ap, subst}
+use Rattle.c104_switch.specs.Actions.{Reply}
+use Rattle.c104_plan.specs.Plans.{Plan, IsPlan}
+use Rattle.c104_event.specs.declared.events.Event.{Event}
+use Rattle.c104_event.specs.declared.faults.EventFault.{EventFault}
+use Rattle.c104_node.specs.Places.{IsFullByTrace, bases, started_base, states}
+use Rattle.c104_node.specs.declared.starts.NodeStart.{NodeStart}
+use Rattle.c104_node.specs.Traces.{seatless}
+use Rattle.c104_run.specs.EventRuns.{Answers, EventsEnd}
+use Rattle.c104_run.specs.EventsAtPlaces.{EventDone}
+use Rattle.c104_run.specs.MeteredRuns.{AreOwnNodes, MetersEvent, MetersSo}
+use Rattle.c104_run.specs.Meters.{meter_if, metered_apply, metered_of, own_reply, with_meter, Metered, Sees}
+use Rattle.c104_run.specs.Network.{network_of}
+use Rattle.c104_run.specs.NetRecords.{is_done, ticket_after}
+use Rattle.c104_run.specs.RecordedNets.{places_record, read_state, IsRecordedNet, KeepsRecord, Reading}
+use Rattle.c104_run.specs.RecordedRuns.{record_apply, record_at}
+use Rattle.c104_run.specs.RoundParts.{PartEnds}
+use Rattle.c104_run.specs.Stages.{Stage}
+use Rattle.c104_run.proofs.MeteredSteps.{event_metered, part_bases, stage_ends}
+use Rattle.c104_run.proofs.SeenRuns.{answers_while, part_while}
+use Rattle.c104_run.proofs.RecordedNets.{places_plain, places_stage, starts_same, states_shown}
+use Rattle.c104_run.proofs.RecordedPlaces.{goes_on, runs_on, stage_is, stages_are}
+use Rattle.c104_run.proofs.RecordedStages.{plain_stage}
+use Rattle.c104_run.proofs.StageSteps.{fulls_kept}
+
+module _ {A M : Type 0} (starts : List NodeStart) where
+  -- the same stage, of whose nodes no more is told than where they started
+  abbrev pub at_starts : Metered A M → Metered A M
+  at_starts x = with_meter (record { network = x.stage.network; bases = map started_base starts; traces = x.stage.traces; count = x.stage.count }) x.meter
+
+-- how a network goes on by a round, and what a meter is told of it
+pub record RoundOn {A P M : Type 0} (v : Reading A P) (sees : Sees M A) (plan : Plan) (old new : List P) (count counted : ℕ) (m n : M) (events : List Event) (result : Result Bool EventFault) : Type 0 where
+  pub kept : IsRecordedNet v plan new counted
+  pub ends : PartEnds record_apply (places_record v plan old count) events result (places_record v plan new counted)
+  pub meters : MetersSo v.kind (places_record v plan old count) m (places_record v plan new counted) n (λ x y. PartEnds (metered_apply v.kind true sees) x events result y)
+
+module _ {A P M : Type 0} (v : Reading A P) (keeps : Bool) (is : KeepsRecord v keeps) (limited : (p : P) → IsFullByTrace keeps (v.shown p)) (sees : Sees M A) (plan : Plan) (is_plan : IsPlan plan) where
+  own_nodes : (places : List P) (count : ℕ) → IsRecordedNet v plan places count → AreOwnNodes v.kind (places_record v plan places count) (map (read_state v) places)
+  own_nodes places count net = record { plain = states_shown v is.reads places; events = net.events; told = net.told }
+
+  -- what is so of metered stages that places show is so of those of the network
+  module _ (old new : List P) (count counted : ℕ) (m n : M) (is_old : IsRecordedNet v plan old count) (is_new : IsRecordedNet v plan new counted) (same : bases (map v.shown new) ≡ bases (map v.shown old)) where
+    same_start : map v.start new ≡ map v.start old
+    same_start = starts_same v is.reads new old same
+
+    meters_so : (Ends : Bool → Metered A M → Metered A M → Type 0) → ((x y : Metered A M) → Ends true x y → Ends true (at_starts (map v.start old) x) (at_starts (map v.start old) y)) → Ends keeps (metered_of plan (map v.shown old) count m) (metered_of plan (map v.shown new) counted n) →
+        MetersSo v.kind (places_record v plan old count) m (places_record v plan new counted) n (λ x y. Ends true x y)
+    meters_so Ends seen ends = record {
+      before = map (read_state v) old;
+      after = map (read_state v) new;
+      begun = own_nodes old count is_old;
+      ended = own_nodes new counted is_new;
+      ends =
+          subst (λ starts. Ends true (at_starts (map v.start old) (with_meter (places_stage v plan old count) m)) (at_starts starts (with_meter (places_stage v plan new counted) n))) (sym same_start)
+          (seen (with_meter (places_stage v plan old count) m) (with_meter (places_stage v plan new counted) n)
+          (stages_are v keeps is limited plan old new count counted (λ b s t. Ends b (with_meter s m) (with_meter t n)) ends));
+    }
+
+    -- where nothing changed at the places, nothing changed of the network
+    same_record : ◌≡◌ {A = Metered A M} (metered_of plan (map v.shown new) counted n) (metered_of plan (map v.shown old) count m) → places_record v plan new counted ≡ places_record v plan old count
+    same_record stays =
+        let stage : places_stage v plan new counted ≡ places_stage v plan old count =
+        sym (stage_is v keeps is limited plan new counted) ∙ ap (λ (x : Metered A M). x.stage) stays ∙ stage_is v keeps is limited plan old count in
+        sym (places_plain v is.reads plan new counted) ∙ ap (λ starts. record_at starts (plain_stage v.kind (places_stage v plan new counted))) same_start
+        ∙ ap (λ (s : Stage A). record_at (map v.start old) (plain_stage v.kind s)) stage ∙ places_plain v is.reads plan old count
+
+  -- the places are lent by a list and put back
+  module _ (items lent new put : List P) (lent_is : lent ≡ items) (put_is : put ≡ new) (count counted : ℕ) (m n : M) (before : IsRecordedNet v plan items count) where
+    abbrev here : IsRecordedNet v plan lent count
+    here = subst (λ ps. IsRecordedNet v plan ps count) (sym lent_is) before
+
+    module _ (e : Event) (answer : Result Reply EventFault) (done : EventDone v.kind keeps plan (seatless count) e (map v.shown lent) answer (map v.shown new)) (counts : counted ≡ ticket_after count (is_done answer))
+        (told : n ≡ meter_if sees (is_done answer) m e (own_reply v.kind (network_of plan (states (map v.shown lent))) e)) where
+      event_there : MetersEvent v.kind sees (places_record v plan lent count) m e answer (places_record v plan new counted) n
+      event_there =
+          meters_so lent new count counted m n here (goes_on v keeps is limited plan is_plan lent lent new new refl refl count counted here e answer done counts).kept done.base
+          (λ b x y. Answers (metered_apply v.kind b sees) x e answer y)
+          (λ x y answers. answers_while (metered_apply v.kind true sees) (metered_apply v.kind true sees) (at_starts (map v.start lent)) (λ z. Unit {0}) (λ z e none. tt) (λ z e none. refl) x y tt e answer answers)
+          (event_metered v.kind keeps sees plan (map v.shown lent) (map v.shown new) count counted m n (fulls_kept keeps v.shown limited lent) e answer done counts told)
+
+      pub meters_on : MetersEvent v.kind sees (places_record v plan items count) m e answer (places_record v plan put counted) n
+      meters_on =
+          subst (λ ps. MetersEvent v.kind sees (places_record v plan ps count) m e answer (places_record v plan put counted) n) lent_is
+          (subst (λ ps. MetersEvent v.kind sees (places_record v plan lent count) m e answer (places_record v plan ps counted) n) (sym put_is) event_there)
+
+    module _ (events : List Event) (result : Result Bool EventFault) (ends : PartEnds (metered_apply v.kind keeps sees) (metered_of plan (map v.shown lent) count m) events result (metered_of plan (map v.shown new) counted n)) where
+      abbrev RunsOnTo : Result (Unit {0}) EventFault → Type 0
+      RunsOnTo r = EventsEnd (metered_apply v.kind keeps sees) (metered_of plan (map v.shown lent) count m) events r (metered_of plan (map v.shown new) counted n)
+
+      on_by : (r : Result (Unit {0}) EventFault) → RunsOnTo r → IsRecordedNet v plan new counted × EventsEnd record_apply (places_record v plan lent count) events r (places_record v plan new counted)
+      on_by r run =
+          let on = runs_on v keeps is limited plan is_plan lent lent new new refl refl count counted here events r (stage_ends v.kind keeps sees (metered_of plan (map v.shown lent) count m) (metered_of plan (map v.shown new) counted n) events r run) in
+          (on.kept, on.ends)
+
+      kept_by : (r : Result Bool EventFault) → PartEnds (metered_apply v.kind keeps sees) (metered_of plan (map v.shown lent) count m) events r (metered_of plan (map v.shown new) counted n) → IsRecordedNet v plan new counted
+      kept_by (Ok changed) part = (on_by (Ok tt) (inl (sym part.ends.0))).0
+      kept_by (Err f) part = (on_by (Err f) part.ends).0
+
+      abbrev kept_there : IsRecordedNet v plan new counted
+      kept_there = kept_by result ends
+
+      same_bases : bases (map v.shown new) ≡ bases (map v.shown lent)
+      same_bases = part_bases v.kind keeps sees (metered_of plan (map v.shown lent) count m) (metered_of plan (map v.shown new) counted n) events result ends
+
+      ends_by : (r : Result Bool EventFault) → PartEnds (metered_apply v.kind keeps sees) (metered_of plan (map v.shown lent) count m) events r (metered_of plan (map v.shown new) counted n) →
+          PartEnds record_apply (places_record v plan lent count) events r (places_record v plan new counted)
+      ends_by (Ok changed) part = record {
+        ends = (
+          elim (on_by (Ok tt) (inl (sym part.ends.0))).1 [
+            | inl due ↦ sym due
+            | inr short ↦ absurd (cc short.refused)
+          ],
+          λ none. same_record lent new count counted m n here kept_there same_bases (part.ends.1 none),
+        );
+      }
+      ends_by (Err f) part = record { ends = (on_by (Err f) part.ends).1 }
+
+      round_there : RoundOn v sees plan lent new count counted m n events result
+      round_there = record {
+        kept = kept_there;
+        ends = ends_by result ends;
+        meters =
+            meters_so lent new count counted m n here kept_there same_bases (λ b x y. PartEnds (metered_apply v.kind b sees) x events result y)
+            (λ x y part. part_while (metered_apply v.kind true sees) (metered_apply v.kind true sees) (at_starts (map v.start lent)) (λ z. Unit {0}) (λ z e none. tt) (λ z e none. refl) x y tt events result part) ends;
+      }
+
+      pub round_on : RoundOn v sees plan items put count counted m n events result
+      round_on =
+          subst (λ ps. RoundOn v sees plan ps put count counted m n events result) lent_is
+          (subst (λ ps. RoundOn v sees plan lent ps count counted m n events result) (sym put_is) round_there)

@@ -1,0 +1,60 @@
+-- What a meter is told of a network with its record: by the tokens that the network carries itself.
+use Rattle.std.specs.Prelude.{◌≡◌, Bool, true, List, Result, map}
+use Rattle.c104_token.specs.Kinds.{Kind}
+use Rattle.c104_switch.specs.Actions.{Reply}
+use Rattle.c104_event.specs.declared.events.Event.{Event}
+use Rattle.c104_event.specs.declared.faults.EventFault.{EventFault}
+use Rattle.c104_node.specs.MappedNodes.{map_node}
+use Rattle.c104_node.specs.Nodes.{Node}
+use Rattle.c104_node.specs.Places.{started_base}
+use Rattle.c104_node.specs.Starts.{start_node}
+use Rattle.c104_node.specs.Traces.{seatless}
+use Rattle.c104_run.specs.EventRuns.{Answers}
+use Rattle.c104_run.specs.Meters.{metered_apply, with_meter, Metered, Sees}
+use Rattle.c104_run.specs.NetRecords.{NetRecord}
+use Rattle.c104_run.specs.Network.{network_of}
+use Rattle.c104_run.specs.RecordedRuns.{record_apply}
+use Rattle.c104_run.specs.RoundParts.{PartEnds}
+use Rattle.c104_run.specs.Rounds.{round}
+use Rattle.c104_run.specs.Runs.{IsRunRecord}
+use Rattle.c104_run.specs.Stages.{Stage}
+
+-- the stage that a network with its record is at, where its nodes over its own tokens are these
+abbrev pub own_stage : {A : Type 0} → NetRecord → List (Node A) → Stage A
+own_stage r nodes = record {
+  network = network_of r.network.plan nodes;
+  bases = map started_base r.starts;
+  traces = r.traces;
+  count = r.count;
+}
+
+-- nodes over a kind of tokens that are those of a record over plain ones, and to which the run leads that it tells
+pub record AreOwnNodes {A : Type 0} (kind : Kind A) (r : NetRecord) (nodes : List (Node A)) : Type 0 where
+  pub plain : map (map_node kind.plain) nodes ≡ r.network.nodes
+  pub events : List (Event × Reply)
+  pub told : IsRunRecord kind r.network.plan seatless (map start_node r.starts) nodes r.traces r.count events
+
+-- a meter before and after something that leads from one network with its record to another: this is so of the metered
+-- stages over the nodes of their own tokens
+pub record MetersSo {A M : Type 0} (kind : Kind A) (old : NetRecord) (m : M) (new : NetRecord) (n : M)
+    (Ends : Metered A M → Metered A M → Type 0) : Type 0 where
+  pub before : List (Node A)
+  pub after : List (Node A)
+  pub begun : AreOwnNodes kind old before
+  pub ended : AreOwnNodes kind new after
+  pub ends : Ends (with_meter (own_stage old before) m) (with_meter (own_stage new after) n)
+
+-- a meter is told what is due of an event, where it was done
+abbrev pub MetersEvent : {A M : Type 0} → Kind A → Sees M A → NetRecord → M → Event → Result Reply EventFault
+    → NetRecord → M → Type 0
+MetersEvent kind sees old m e answer new n =
+    MetersSo kind old m new n (λ x y. Answers (metered_apply kind true sees) x e answer y)
+
+-- it is told what is due of the events of a round
+abbrev pub MetersRound : {A M : Type 0} → Kind A → Sees M A → NetRecord → M → Result Bool EventFault → NetRecord → M → Type 0
+MetersRound kind sees old m result new n =
+    MetersSo kind old m new n (λ x y. PartEnds (metered_apply kind true sees) x (round old.network.plan) result y)
+
+-- how one round ends: as the run of its events, up to the first that is refused; where none was done nothing has changed
+abbrev pub RecordsRound : NetRecord → Result Bool EventFault → NetRecord → Type 0
+RecordsRound old result new = PartEnds record_apply old (round old.network.plan) result new
