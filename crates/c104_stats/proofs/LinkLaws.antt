@@ -1,7 +1,9 @@
 -- What is counted of a link is what its definitions say of the tokens that crossed.
-use Rattle.std.proofs.Common.{◌≡◌, ◌∙◌, ◌+◌, ◌-◌, ◌≤◌, ℕ, Bool, true, false, List, [], ◌∷◌, Option, Some, None, if◌then◌else◌, length, max, refl, ap, arith}
+use Rattle.std.proofs.Common.{◌≡◌, ◌∙◌, ◌+◌, ◌-◌, ◌≤◌, ℕ, Bool, true, false, List, [], ◌∷◌, Option, Some, None, if◌then◌else◌, length, max}
+use Rattle.std.proofs.Common.{refl, ap, arith}
 use Rattle.c104_stats.specs.Numbers.{told}
-use Rattle.c104_stats.specs.Links.{changes, count_ends, first_of, held_after, holder_after, is_in, link_after, link_after_all, link_span, longest_span, new_link, Crossing, Holder, LinkLaw, LinkRow}
+use Rattle.c104_stats.specs.Links.{changes, count_ends, first_of, held_after, holder_after, is_in, link_after, link_after_all, link_span}
+use Rattle.c104_stats.specs.Links.{longest_span, new_link, Crossing, Holder, LinkLaw, LinkRow}
 
 few_told : (a : ℕ) → told a ≤ 18446744073709551615
 few_told a = omega arith
@@ -9,11 +11,13 @@ few_told a = omega arith
 kept_told : (a : ℕ) → a ≤ 18446744073709551615 → a ≡ told (a + 0)
 kept_told a few = omega arith
 
-tokens_after : (xs : List Crossing) (row : LinkRow) → row.tokens ≤ 18446744073709551615 → (link_after_all row xs).tokens ≡ told (row.tokens + length xs)
+tokens_after : (xs : List Crossing) (row : LinkRow) → row.tokens ≤ 18446744073709551615
+    → (link_after_all row xs).tokens ≡ told (row.tokens + length xs)
 tokens_after [] row few = kept_told row.tokens few
 tokens_after (x ∷ xs) row few = tokens_after xs (link_after row x) (few_told (row.tokens + 1)) ∙ omega arith
 
-busy_one : (busy : ℕ) (again : Bool) (n : ℕ) → told ((if again then busy else told (busy + 1)) + n) ≡ told (busy + ((if again then 0 else 1) + n))
+busy_one : (busy : ℕ) (again : Bool) (n : ℕ)
+    → told ((if again then busy else told (busy + 1)) + n) ≡ told (busy + ((if again then 0 else 1) + n))
 busy_one busy true n = omega arith
 busy_one busy false n = omega arith
 
@@ -21,21 +25,25 @@ busy_few : (busy : ℕ) (again : Bool) → busy ≤ 18446744073709551615 → (if
 busy_few busy true few = few
 busy_few busy false few = few_told (busy + 1)
 
-busy_told : (xs : List Crossing) (row : LinkRow) → row.busy ≤ 18446744073709551615 → (link_after_all row xs).busy ≡ told (row.busy + changes row.last xs)
+busy_told : (xs : List Crossing) (row : LinkRow) → row.busy ≤ 18446744073709551615
+    → (link_after_all row xs).busy ≡ told (row.busy + changes row.last xs)
 busy_told [] row few = kept_told row.busy few
 busy_told (x ∷ xs) row few =
     busy_told xs (link_after row x) (busy_few row.busy (is_in row.last x.round) few)
     ∙ busy_one row.busy (is_in row.last x.round) (changes (Some x.round) xs)
 
-ends_one : (packets : ℕ) (ends : Bool) (n : ℕ) → told ((if ends then told (packets + 1) else packets) + n) ≡ told (packets + ((if ends then 1 else 0) + n))
+ends_one : (packets : ℕ) (ends : Bool) (n : ℕ)
+    → told ((if ends then told (packets + 1) else packets) + n) ≡ told (packets + ((if ends then 1 else 0) + n))
 ends_one packets true n = omega arith
 ends_one packets false n = omega arith
 
-ends_few : (packets : ℕ) (ends : Bool) → packets ≤ 18446744073709551615 → (if ends then told (packets + 1) else packets) ≤ 18446744073709551615
+ends_few : (packets : ℕ) (ends : Bool) → packets ≤ 18446744073709551615
+    → (if ends then told (packets + 1) else packets) ≤ 18446744073709551615
 ends_few packets true few = few_told (packets + 1)
 ends_few packets false few = few
 
-packets_told : (xs : List Crossing) (row : LinkRow) → row.packets ≤ 18446744073709551615 → (link_after_all row xs).packets ≡ told (row.packets + count_ends xs)
+packets_told : (xs : List Crossing) (row : LinkRow) → row.packets ≤ 18446744073709551615
+    → (link_after_all row xs).packets ≡ told (row.packets + count_ends xs)
 packets_told [] row few = kept_told row.packets few
 packets_told (x ∷ xs) row few =
     packets_told xs (link_after row x) (ends_few row.packets x.ends few) ∙ ends_one row.packets x.ends (count_ends xs)
@@ -61,11 +69,14 @@ longest_told [] row = max_none row.longest
 longest_told (x ∷ xs) row = longest_told xs (link_after row x) ∙ by_end x.ends
   where
     by_end : (ends : Bool) →
-        max (if ends then max row.longest (link_span row x.round) else row.longest) (longest_span (began (if ends then None else Some (holder_after row x.round))) xs)
-        ≡ max row.longest (if ends then max ((x.round - first_of (began row.holder) x.round) + 1) (longest_span None xs) else longest_span (Some (first_of (began row.holder) x.round)) xs)
+        max (if ends then max row.longest (link_span row x.round) else row.longest)
+        (longest_span (began (if ends then None else Some (holder_after row x.round))) xs)
+        ≡ max row.longest (if ends then max ((x.round - first_of (began row.holder) x.round) + 1) (longest_span None xs)
+        else longest_span (Some (first_of (began row.holder) x.round)) xs)
     by_end true =
         max_then row.longest (link_span row x.round) (longest_span None xs)
-        ∙ ap (λ s. max row.longest (max ((x.round - s) + 1) (longest_span None xs))) (began_first row.holder (is_in row.last x.round) x.round)
+        ∙ ap (λ s. max row.longest (max ((x.round - s) + 1) (longest_span None xs)))
+        (began_first row.holder (is_in row.last x.round) x.round)
     by_end false = ap (λ s. max row.longest (longest_span (Some s) xs)) (began_first row.holder (is_in row.last x.round) x.round)
 
 pub link_law : LinkLaw

@@ -1,5 +1,6 @@
 -- From the packets of one terminal to those of all.
-use Rattle.std.proofs.Common.{◌≡◌, ◌<◌, ◌∙◌, ℕ, zero, suc, List, [], ◌∷◌, Result, Ok, Err, OnOk, OnErr, get_or, length, slice_set, refl, sym, ap}
+use Rattle.std.proofs.Common.{◌≡◌, ◌<◌, ◌∙◌, ℕ, zero, suc, List, [], ◌∷◌, Result, Ok, Err, OnOk, OnErr, get_or, length, slice_set, refl}
+use Rattle.std.proofs.Common.{sym, ap}
 use Rattle.std.proofs.lemmas.Option.{slice_get-get_or}
 use Rattle.c104_stats.specs.Packets.{change_at, changed_by}
 
@@ -10,14 +11,17 @@ module _ {X : Type 0} where
   set_back (x ∷ xs) (suc i) d = ap (λ ys. x ∷ ys) (set_back xs i d)
 
   -- what was changed in one thing that is there
-  pub changed_there : (xs : List X) (i : ℕ) (d : X) (f : X → X) (new : X) → i < length xs → new ≡ f (get_or xs i d) → slice_set xs i new ≡ change_at xs i f
+  pub changed_there : (xs : List X) (i : ℕ) (d : X) (f : X → X) (new : X) → i < length xs → new ≡ f (get_or xs i d)
+      → slice_set xs i new ≡ change_at xs i f
   changed_there xs i d f new inside is = ap (slice_set xs i) is ∙ ap (changed_by xs i f) (sym (slice_get-get_or xs i d inside))
 
   -- the same of a step that may fail, which then changes nothing
-  pub changed_if : {Y E : Type 0} (xs : List X) (i : ℕ) (d : X) (f : X → X) (new : X) (r : Result Y E) → i < length xs → OnOk r (new ≡ f (get_or xs i d)) → OnOk r (slice_set xs i new ≡ change_at xs i f)
+  pub changed_if : {Y E : Type 0} (xs : List X) (i : ℕ) (d : X) (f : X → X) (new : X) (r : Result Y E) → i < length xs
+      → OnOk r (new ≡ f (get_or xs i d)) → OnOk r (slice_set xs i new ≡ change_at xs i f)
   changed_if xs i d f new (Ok y) inside is = changed_there xs i d f new inside is
   changed_if xs i d f new (Err e) inside is = is
 
-  pub kept_if : {Y E : Type 0} (xs : List X) (i : ℕ) (d new : X) (r : Result Y E) → OnErr r (new ≡ get_or xs i d) → OnErr r (slice_set xs i new ≡ xs)
+  pub kept_if : {Y E : Type 0} (xs : List X) (i : ℕ) (d new : X) (r : Result Y E) → OnErr r (new ≡ get_or xs i d)
+      → OnErr r (slice_set xs i new ≡ xs)
   kept_if xs i d new (Ok y) is = is
   kept_if xs i d new (Err e) is = ap (slice_set xs i) is ∙ set_back xs i d

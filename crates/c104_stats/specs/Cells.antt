@@ -1,5 +1,6 @@
 -- How a cell, a row and a table are printed.
-use Rattle.std.specs.Prelude.{ℕ, ◌-◌, ◌/◌, ◌%◌, Bool, true, false, List, [], ◌∷◌, ◌++◌, Option, Some, None, codes, if◌then◌else◌, length, map, nat_eq, replicate}
+use Rattle.std.specs.Prelude.{ℕ, ◌-◌, ◌/◌, ◌%◌, Bool, true, false, List, [], ◌∷◌, ◌++◌, Option, Some, None, codes, if◌then◌else◌, length}
+use Rattle.std.specs.Prelude.{map, nat_eq, replicate}
 use Rattle.std.specs.Fmt.{decimal}
 use Rattle.c104_stats.specs.Columns.{column_name, Column}
 pub use Rattle.c104_stats.specs.declared.formats.Format.{Format}

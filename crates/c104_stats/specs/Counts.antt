@@ -1,5 +1,6 @@
 -- What is counted of a run: a step for each thing that is told, in the order in which it happened.
-use Rattle.std.specs.Prelude.{ℕ, ◌+◌, ◌*◌, ◌/◌, ◌&&◌, Bool, List, [], ◌∷◌, ◌++◌, Option, Some, None, if◌then◌else◌, is_some, length, map, nat_lt, replicate, slice_get}
+use Rattle.std.specs.Prelude.{ℕ, ◌+◌, ◌*◌, ◌/◌, ◌&&◌, Bool, List, [], ◌∷◌, ◌++◌, Option, Some, None, if◌then◌else◌, is_some, length, map}
+use Rattle.std.specs.Prelude.{nat_lt, replicate, slice_get}
 use Rattle.c104_regs.specs.declared.registers.TheConstants.{LINKS}
 use Rattle.c104_plan.specs.Plans.{Plan}
 use Rattle.c104_plan.specs.declared.plans.Terminal.{Terminal}
@@ -8,7 +9,8 @@ use Rattle.c104_plan.specs.declared.ports.Port.TheVariants as port
 use Rattle.c104_node.specs.declared.origins.Origin.{Origin}
 use Rattle.c104_stats.specs.Numbers.{few}
 use Rattle.c104_stats.specs.Links.{link_after, link_idle, link_level, new_link, LinkRow}
-use Rattle.c104_stats.specs.Packets.{arrived_packet, change_at, crossed_packet, inside_packet, left_packet, sent_packet, Arrival, PacketRow}
+use Rattle.c104_stats.specs.Packets.{all_but_last, arrived_packet, change_at, crossed_packet, inside_packet, left_packet, sent_packet}
+use Rattle.c104_stats.specs.Packets.{Arrival, PacketRow}
 use Rattle.c104_stats.specs.Rounds.{arrived_round, ended_round, later_round, moved_round, new_round, no_levels, Levels, RoundRow}
 
 pub record Counts : Type 0 where
@@ -72,6 +74,10 @@ left_senders senders t round (Some row) = change_at senders t (λ packets. chang
 abbrev pub counts_sent : Counts → ℕ → ℕ → Counts
 counts_sent c t bytes = record c { senders = change_at c.senders t (λ packets. packets ++ sent_packet (few bytes) c.current.round ∷ []) }
 
+-- the packet that a terminal sent last was taken back
+abbrev pub counts_taken : Counts → ℕ → Counts
+counts_taken c t = record c { senders = change_at c.senders t all_but_last }
+
 -- a token crossed the wire at a port, which ended this packet, or none
 abbrev pub counts_crossed : Counts → Port → Option Origin → Counts
 counts_crossed c (port.Switch s l) ended = record c {
@@ -82,7 +88,8 @@ counts_crossed c (port.Switch s l) ended = record c {
 }
 counts_crossed c (port.Terminal t) ended = record c {
   wires = change_at c.wires t (λ row. link_after row (record { round = c.current.round; ends = is_some ended }));
-  senders = crossed_senders (left_senders c.senders t c.current.round (slice_get c.wires t)) (idle_of (slice_get c.wires t) c.current.round) ended;
+  senders = crossed_senders (left_senders c.senders t c.current.round (slice_get c.wires t))
+      (idle_of (slice_get c.wires t) c.current.round) ended;
   current = moved_round c.current;
   active = c.current.round;
 }

@@ -7,3 +7,6 @@ pub mod Columns
 pub mod Cells
 pub mod Tables
 pub mod Summaries
+pub mod Conservation
+pub mod Sights
+pub mod Metering

@@ -1,5 +1,5 @@
 -- What is counted of a packet.
-use Rattle.std.specs.Prelude.{ℕ, ◌+◌, ◌-◌, true, false, List, Option, Some, None, slice_get, slice_set}
+use Rattle.std.specs.Prelude.{ℕ, ◌+◌, ◌-◌, true, false, List, Option, Some, None, length, slice_get, slice_set, take}
 use Rattle.c104_stats.specs.Links.{first_of}
 use Rattle.c104_stats.specs.Numbers.{few}
 pub use Rattle.c104_stats.specs.declared.packets.Arrival.{Arrival}
@@ -8,6 +8,10 @@ pub use Rattle.c104_stats.specs.declared.packets.PacketRow.{PacketRow}
 -- a packet of this many bytes that is sent in this round
 abbrev pub sent_packet : ℕ → ℕ → PacketRow
 sent_packet bytes round = record { bytes = bytes; sent = round; left = None; arrival = None; wires = 0; idle = 0; is_inside = false }
+
+-- packets without the one that was sent last
+abbrev pub all_but_last : List PacketRow → List PacketRow
+all_but_last packets = take (length packets - 1) packets
 
 -- a packet of which a token left its sender in this round: that counts if it is the first
 abbrev pub left_packet : ℕ → PacketRow → PacketRow

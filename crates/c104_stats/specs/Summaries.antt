@@ -1,5 +1,6 @@
 -- What the counts of a run come to.
-use Rattle.std.specs.Prelude.{ℕ, ◌+◌, ◌-◌, ◌*◌, ◌/◌, ◌%◌, ◌≡◌, Bool, true, List, [], ◌∷◌, ◌++◌, Option, Some, None, if◌then◌else◌, length, nat_lt, slice_get, IsPermutation, IsSorted}
+use Rattle.std.specs.Prelude.{ℕ, ◌+◌, ◌-◌, ◌*◌, ◌/◌, ◌%◌, ◌≡◌, Bool, true, List, [], ◌∷◌, ◌++◌, Option, Some, None, if◌then◌else◌, length}
+use Rattle.std.specs.Prelude.{nat_lt, slice_get, IsPermutation, IsSorted}
 use Rattle.std.specs.Ordering.{nat_cmp}
 use Rattle.c104_plan.specs.Plans.{Plan}
 use Rattle.c104_plan.specs.PortTexts.{port_text}
@@ -50,7 +51,8 @@ abbrev pub all_latencies : List (List PacketRow) → List ℕ
 all_latencies [] = []
 all_latencies (ps ∷ senders) = latencies ps ++ all_latencies senders
 
--- the place in an ascending list of this length of the least number that is as large as so many of a hundred
+-- the place of a percentile in an ascending list of this length, by nearest rank: the first number there that at least this
+-- percentage of them don't exceed
 abbrev pub rank : ℕ → ℕ → ℕ
 rank percent n = (n / 100 * percent + (n % 100 * percent + 99) / 100) - 1
 

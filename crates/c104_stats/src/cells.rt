@@ -1,6 +1,7 @@
 //! How a cell and a row are printed.
 ghost use Rattle.std.specs.Prelude.{◌≡◌, ◌++◌, OnOk, decimal, map};
-ghost use Rattle.c104_stats.specs.Cells.{behind, between, blanks, cells_text, column_of, key_text, line_text, lines_text, names_row, row_text, shown, some_count, spaced_text, thousandths_text, value_text, word_text};
+ghost use Rattle.c104_stats.specs.Cells.{behind, between, blanks, cells_text, column_of, key_text, line_text, lines_text, names_row};
+ghost use Rattle.c104_stats.specs.Cells.{row_text, shown, some_count, spaced_text, thousandths_text, value_text, word_text};
 
 use crate::columns::Column;
 use crate::formats::Format;

@@ -9,13 +9,17 @@
 
 mod cells;
 mod columns;
+mod conservation;
 mod endings;
+mod finding;
 mod formats;
 mod link_rows;
 mod links;
+mod metering;
 mod numbers;
 mod packets;
 mod rounds;
+mod sights;
 mod stats;
 mod steps;
 mod summaries;
@@ -23,6 +27,7 @@ mod summary_texts;
 mod tables;
 mod tops;
 
+pub use conservation::conservation_law;
 pub use endings::Ending;
 pub use formats::{Format, What};
 pub use link_rows::links_text;

@@ -1,7 +1,8 @@
 //! What is counted of packets, and the packets of a terminal.
 ghost use Rattle.std.specs.Prelude.{◌≡◌, ◌++◌, ◌∷◌, [], slice_get, OnErr, OnOk};
 ghost use Rattle.c104_stats.specs.Links.{first_of};
-ghost use Rattle.c104_stats.specs.Packets.{arrived_packet, change_at, crossed_packet, inside_packet, latency, left_packet, sent_packet};
+ghost use Rattle.c104_stats.specs.Packets.{all_but_last, arrived_packet, change_at, crossed_packet, inside_packet, latency};
+ghost use Rattle.c104_stats.specs.Packets.{left_packet, sent_packet};
 
 use crate::numbers::{few_more, one_round_more};
 use c104_token::NoMemory;
@@ -150,6 +151,14 @@ impl Sender {
     {
         self.packets.push(packet)?;
         Ok(())
+    }
+
+    /// The packet that was sent last is taken back.
+    pub fn take_back(&mut self)
+        ensures { self.new ≡ all_but_last self.old }
+    {
+        let count = self.packets.len().saturating_sub(1);
+        self.packets.truncate(count);
     }
 
     /// A token of a packet leaves in this round.

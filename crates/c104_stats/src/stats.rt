@@ -6,7 +6,8 @@ ghost use Rattle.std.specs.Prelude.{◌≡◌, ◌*◌, ◌++◌, ◌∷◌, [],
 ghost use Rattle.c104_plan.specs.declared.plans.Terminal.{Terminal as TheTerminal};
 ghost use Rattle.c104_plan.specs.declared.ports.Port.TheVariants as port;
 ghost use Rattle.c104_regs.specs.declared.registers.TheConstants.{LINKS};
-ghost use Rattle.c104_stats.specs.Counts.{counts_arrived, counts_begun, counts_crossed, counts_ended, counts_found, counts_level, counts_passed, counts_seen, counts_sent, new_counts};
+ghost use Rattle.c104_stats.specs.Counts.{counts_arrived, counts_begun, counts_crossed, counts_ended, counts_found, counts_level};
+ghost use Rattle.c104_stats.specs.Counts.{counts_passed, counts_seen, counts_sent, counts_taken, new_counts};
 ghost use Rattle.c104_stats.specs.Links.{new_link};
 ghost use Rattle.c104_stats.specs.Rounds.{new_round, no_levels};
 
@@ -16,7 +17,7 @@ use crate::packets::{Arrival, PacketRow, Sender};
 use crate::rounds::{Levels, RoundRow};
 use crate::steps::{
     arrive_packet, cross_link, cross_out, cross_packet, find_packet, level_link, level_wire,
-    send_from,
+    send_from, take_back,
 };
 use c104_node::Origin;
 use c104_plan::{Plan, Port, Terminal};
@@ -121,6 +122,13 @@ impl Stats {
     {
         let packet = PacketRow::new(in_few(bytes), self.current.round);
         send_from(&mut self.senders, terminal, packet)
+    }
+
+    /// The packet that a terminal sent last is taken back.
+    pub fn take_back(&mut self, terminal: usize)
+        ensures { self.new ≡ counts_taken self.old terminal }
+    {
+        take_back(&mut self.senders, terminal);
     }
 
     /// A token crosses the wire at a port, which ends this packet, or none.

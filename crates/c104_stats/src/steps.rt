@@ -2,7 +2,7 @@
 ghost use Rattle.std.specs.Prelude.{◌≡◌, ◌<◌, ◌++◌, ◌∷◌, [], length, slice_get, OnErr, OnOk};
 ghost use Rattle.c104_stats.specs.Counts.{arrived_senders, change_link, crossed_senders, idle_of, left_senders, link_row};
 ghost use Rattle.c104_stats.specs.Links.{link_after, link_level};
-ghost use Rattle.c104_stats.specs.Packets.{arrived_packet, change_at, crossed_packet, inside_packet, left_packet};
+ghost use Rattle.c104_stats.specs.Packets.{all_but_last, arrived_packet, change_at, crossed_packet, inside_packet, left_packet};
 
 use crate::links::{Crossing, LinkRow};
 use crate::packets::{Arrival, PacketRow, Sender};
@@ -81,6 +81,25 @@ fn send_there(senders: &mut [Sender], terminal: usize, packet: PacketRow) -> Res
 {
     let sender = &mut senders[terminal];
     sender.send(packet)
+}
+
+/// The packet that a terminal sent last is taken back.
+pub(crate) fn take_back(senders: &mut [Sender], terminal: usize)
+    ensures { senders.new ≡ change_at senders.old terminal all_but_last }
+{
+    let Some(_) = senders.get(terminal) else {
+        return;
+    };
+    take_there(senders, terminal);
+}
+
+/// The same, where the terminal is among them.
+fn take_there(senders: &mut [Sender], terminal: usize)
+    requires inside { terminal < length senders.old }
+    ensures { senders.new ≡ change_at senders.old terminal all_but_last }
+{
+    let sender = &mut senders[terminal];
+    sender.take_back();
 }
 
 /// A token leaves a terminal, of the packet behind those that have left it whole.

@@ -1,7 +1,8 @@
 //! What the counts of a run come to.
 ghost use Rattle.std.specs.Prelude.{◌≡◌, ◌++◌, IfOk, OnOk, IsPermutation, IsSorted, slice_get};
 ghost use Rattle.std.specs.Ordering.{nat_cmp};
-ghost use Rattle.c104_stats.specs.Summaries.{IsSummary, all_endings, all_latencies, endings_with, latencies, latency_if, no_endings, one_ending, ranked, sent_count, tokens_with, top_of};
+ghost use Rattle.c104_stats.specs.Summaries.{IsSummary, all_endings, all_latencies, endings_with, latencies, latency_if, no_endings};
+ghost use Rattle.c104_stats.specs.Summaries.{one_ending, ranked, sent_count, tokens_with, top_of};
 
 use crate::endings::Ending;
 use crate::links::LinkRow;

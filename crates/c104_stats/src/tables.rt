@@ -2,7 +2,8 @@
 ghost use Rattle.std.specs.Prelude.{◌≡◌, ◌++◌, IfOk, OnOk, true};
 ghost use Rattle.c104_plan.specs.PortTexts.{terminal_name};
 ghost use Rattle.c104_stats.specs.Cells.{row_text, shown};
-ghost use Rattle.c104_stats.specs.Tables.{arrived_cell, ending_cell, latency_cell, packet_cells, packet_rows, packets_text, receiver_cell, round_cells, round_rows, rounds_text, sender_cell, sender_rows};
+ghost use Rattle.c104_stats.specs.Tables.{arrived_cell, ending_cell, latency_cell, packet_cells, packet_rows, packets_text, receiver_cell};
+ghost use Rattle.c104_stats.specs.Tables.{round_cells, round_rows, rounds_text, sender_cell, sender_rows};
 
 use crate::cells::{Cell, add_names, add_row};
 use crate::columns::Column;

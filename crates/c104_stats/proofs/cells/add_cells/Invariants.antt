@@ -4,4 +4,6 @@ use Rattle.c104_stats.proofs.cells.add_cells.Given as goal
 
 -- the cells so far and those that are left are all
 abbrev pub invariant-loop-place : goal.invariant-loop-place
-invariant-loop-place l = l.text.items ++ cells_text l.format (map shown (drop l.place l.cells)) ≡ l.initial.text.items ++ cells_text l.format (map shown l.cells)
+invariant-loop-place l =
+    l.text.items ++ cells_text l.format (map shown (drop l.place l.cells))
+    ≡ l.initial.text.items ++ cells_text l.format (map shown l.cells)

@@ -8,15 +8,19 @@ use Rattle.c104_stats.proofs.summary_texts.add_summary.Goals as goal
 
 pub returns : goal.returns
 returns c = λ plan first second third. subst
-    (λ cells. OnOk c.add_summary_cells.result (c.add_summary_cells.new.text.items ≡ c.args.text.now.items ++ cells_summary c.args.format cells))
+    (λ cells. OnOk c.add_summary_cells.result
+    (c.add_summary_cells.new.text.items ≡ c.args.text.now.items ++ cells_summary c.args.format cells))
     (ap (map shown) c.as_slice-4.ensures ∙ next_cell _ _ _ _ (ap (Shown.Count column.Rounds) c.from-rounds.ensures)
     (next_cell _ _ _ _ (ap (Shown.Count column.Sent) c.sent.ensures) (next_cell _ _ _ _ refl (next_cell _ _ _ _ refl
     (next_cell _ _ _ _ c.of.ensures (next_cell _ _ _ _ c.of-2.ensures (next_cell _ _ _ _ c.of-3.ensures (next_cell _ _ _ _ c.of-4.ensures
     (next_cell _ _ _ _ (ap (Shown.Share column.Rate) (c.share.ensures ∙ ap (share c.args.summary.tokens) c.from-rounds.ensures))
     (next_cell _ _ _ _ (c.name_cell.ensures ∙ ap (name_cell column.Busiest c.args.summary.top.first) (c.as_slice.ensures.value ∙ first))
     (next_cell _ _ _ _ (c.share_cell.ensures ∙ ap (share_cell column.BusiestShare c.args.summary.top.first) c.from-rounds.ensures)
-    (next_cell _ _ _ _ (c.name_cell-2.ensures ∙ ap (name_cell column.Second c.args.summary.top.second) (c.as_slice-2.ensures.value ∙ second))
+    (next_cell _ _ _ _
+    (c.name_cell-2.ensures ∙ ap (name_cell column.Second c.args.summary.top.second) (c.as_slice-2.ensures.value ∙ second))
     (next_cell _ _ _ _ (c.share_cell-2.ensures ∙ ap (share_cell column.SecondShare c.args.summary.top.second) c.from-rounds.ensures)
     (next_cell _ _ _ _ (c.name_cell-3.ensures ∙ ap (name_cell column.Third c.args.summary.top.third) (c.as_slice-3.ensures.value ∙ third))
-    (next_cell _ _ _ _ (c.share_cell-3.ensures ∙ ap (share_cell column.ThirdShare c.args.summary.top.third) c.from-rounds.ensures) refl)))))))))))))))
+    (next_cell _ _ _ _
+    (c.share_cell-3.ensures ∙ ap (share_cell column.ThirdShare c.args.summary.top.third) c.from-rounds.ensures)
+    refl)))))))))))))))
     c.add_summary_cells.ensures

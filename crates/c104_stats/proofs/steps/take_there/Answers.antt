@@ -1,0 +1,8 @@
+use Rattle.c104_stats.specs.Packets.{all_but_last}
+use Rattle.c104_stats.proofs.SenderSteps.{changed_there}
+use Rattle.c104_stats.proofs.steps.take_there.Goals as goal
+
+pub returns : goal.returns
+returns c =
+    changed_there c.args.senders.now c.args.terminal c.index-senders-terminal.result all_but_last c.take_back.new.self
+    c.requires.inside c.take_back.ensures

@@ -1,0 +1,135 @@
+//! What is seen of a network where a round is over.
+ghost use Rattle.std.specs.Prelude.{◌≡◌};
+ghost use Rattle.c104_token.specs.Kinds.{plain_kind};
+ghost use Rattle.c104_run.specs.NetViews.{network_link_view, network_terminal_view};
+ghost use Rattle.c104_stats.specs.Sights.{counts_of_net, header_tokens, levels_with_link, levels_with_terminal, link_levels};
+ghost use Rattle.c104_stats.specs.Sights.{link_seen, links_levels, links_seen, outputs_held, switches_levels, switches_seen};
+ghost use Rattle.c104_stats.specs.Sights.{terminal_levels, terminal_seen, terminals_levels, terminals_seen};
+
+use crate::numbers::added;
+use crate::rounds::Levels;
+use crate::stats::Stats;
+use c104_node::TerminalView;
+use c104_plan::Port;
+use c104_run::TracedNet;
+use c104_switch::{HeaderBytes, LINKS, LinkView, Phase};
+
+impl Levels {
+    /// What there is, with what is seen of a link.
+    fn with_link(self, view: &LinkView) -> Self
+        ensures { result ≡ levels_with_link view.now self }
+    {
+        let buffered = added(
+            added(self.inside, view.input_level as u64),
+            view.output_level as u64,
+        );
+        Levels {
+            waiting: self.waiting,
+            inside: added(buffered, header_tokens(&view.phase)),
+            held: added(self.held, outputs_held(&view.phase)),
+        }
+    }
+
+    /// What there is, with what is seen of a terminal.
+    fn with_terminal(self, view: TerminalView) -> Self
+        ensures { result ≡ levels_with_terminal view self }
+    {
+        Levels {
+            waiting: added(self.waiting, view.waiting as u64),
+            inside: added(self.inside, view.undrained as u64),
+            held: self.held,
+        }
+    }
+}
+
+/// How many tokens of a header an input has read, or has that waits.
+fn header_tokens(phase: &Phase<HeaderBytes>) -> u64
+    ensures { result ≡ header_tokens phase.now }
+{
+    match phase {
+        Phase::Head(header) => header.as_slice().len() as u64,
+        Phase::Want(header, _) => header.as_slice().len() as u64,
+        Phase::Fresh | Phase::Stream(_) | Phase::Sinking => 0,
+    }
+}
+
+/// How many outputs an input holds.
+fn outputs_held(phase: &Phase<HeaderBytes>) -> u64
+    ensures { result ≡ outputs_held phase.now }
+{
+    match phase {
+        Phase::Stream(_) => 1,
+        Phase::Fresh | Phase::Head(_) | Phase::Want(_, _) | Phase::Sinking => 0,
+    }
+}
+
+impl Stats {
+    /// This is there in a network, before the next round begins or at the end of all.
+    pub fn see_net(&mut self, net: &TracedNet)
+        ensures { self.new ≡ counts_of_net net.now.network self.old }
+    {
+        let mut levels = Levels::new();
+        see_switches(self, &mut levels, net);
+        see_terminals(self, &mut levels, net);
+        self.see_levels(levels);
+    }
+}
+
+/// The same of the switches.
+#[tactic(auto, using(crate::proofs::NumberSteps::none_yet, crate::proofs::NumberSteps::one_more))]
+fn see_switches(stats: &mut Stats, levels: &mut Levels, net: &TracedNet)
+    ensures levels { levels.new ≡ switches_levels net.now.network levels.old }
+    ensures stats { stats.new ≡ switches_seen net.now.network stats.old }
+{
+    for switch in 0..net.plan().switches().len() {
+        see_links(stats, levels, net, switch);
+    }
+}
+
+/// The same of the links of a switch.
+#[tactic(auto, using(crate::proofs::NumberSteps::none_yet, crate::proofs::NumberSteps::one_more))]
+fn see_links(stats: &mut Stats, levels: &mut Levels, net: &TracedNet, switch: usize)
+    ensures levels { levels.new ≡ links_levels net.now.network switch levels.old }
+    ensures stats { stats.new ≡ links_seen net.now.network switch stats.old }
+{
+    for link in 0..LINKS {
+        see_link(stats, levels, net, switch, link);
+    }
+}
+
+/// The same of a link.
+fn see_link(stats: &mut Stats, levels: &mut Levels, net: &TracedNet, switch: usize, link: usize)
+    ensures levels { levels.new ≡ link_levels (network_link_view plain_kind net.now.network switch link) levels.old }
+    ensures stats { stats.new ≡
+        link_seen (network_link_view plain_kind net.now.network switch link) switch link stats.old }
+{
+    let Some(view) = net.view_link(switch, link) else {
+        return;
+    };
+    *levels = levels.with_link(&view);
+    stats.see_level(Port::Switch(switch, link), view.output_level as u64);
+}
+
+/// The same of the terminals.
+#[tactic(auto, using(crate::proofs::NumberSteps::none_yet, crate::proofs::NumberSteps::one_more))]
+fn see_terminals(stats: &mut Stats, levels: &mut Levels, net: &TracedNet)
+    ensures levels { levels.new ≡ terminals_levels net.now.network levels.old }
+    ensures stats { stats.new ≡ terminals_seen net.now.network stats.old }
+{
+    for terminal in 0..net.plan().terminals().len() {
+        see_terminal(stats, levels, net, terminal);
+    }
+}
+
+/// The same of a terminal.
+fn see_terminal(stats: &mut Stats, levels: &mut Levels, net: &TracedNet, terminal: usize)
+    ensures levels { levels.new ≡ terminal_levels (network_terminal_view net.now.network terminal) levels.old }
+    ensures stats { stats.new ≡
+        terminal_seen (network_terminal_view net.now.network terminal) terminal stats.old }
+{
+    let Some(view) = net.view_terminal(terminal) else {
+        return;
+    };
+    *levels = levels.with_terminal(view);
+    stats.see_level(Port::Terminal(terminal), view.waiting as u64);
+}
