@@ -1,6 +1,14 @@
-pub mod Printing
+pub mod SummaryTexts
 pub mod PacketLines
 pub mod LinesLaw
+pub mod DrivenScripts
+pub mod CountedEvents
+pub mod StillCounts
+pub mod RoundLeavings
+pub mod CountedRounds
+pub mod CountedLoops
+pub mod CountedScripts
+pub mod StillTexts
 pub mod Leavings
 pub mod PlanRuns
 pub mod Starts

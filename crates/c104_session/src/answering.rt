@@ -2,10 +2,12 @@
 ghost use Rattle.std.specs.Prelude.{ℕ, ◌≡◌, List, [], MatchResult, OnOk};
 ghost use Rattle.std.specs.Io.KnownBytes.{prepend_known};
 ghost use Rattle.c104_stream.specs.ScriptLines.{script_lines};
-ghost use Rattle.c104_stream.specs.Scripts.{AnswersLine, AnswersLines, AnswersScript, LineStops};
+ghost use Rattle.c104_stream.specs.Scripts.{AnswersLine, AnswersScript, LineStops};
+ghost use Rattle.c104_session.specs.Driven.{DrivesLine, DrivesLines, DrivesScript, DrivingStops, line_driven};
 ghost use Rattle.c104_session.specs.Lines.{AreOnlyLines};
 ghost use Rattle.c104_session.specs.Shown.{line_outcome};
 
+use crate::driver::{Driver, Plain};
 use crate::explaining::{ScriptLine, explain_line};
 use crate::progress::Progress;
 use crate::session::Session;
@@ -51,8 +53,26 @@ pub fn answer_script<S: Read, W: Write, M: Messages>(
     // What the lines of a script are, in words: those that are answered are computed byte by byte.
     ensures lines { (script : List ℕ) → AreOnlyLines script (script_lines script) }
 {
+    drive_script(alloc, session, &mut Plain, ahead, script, writer, messages)
+}
+
+/// Answers the lines of a script by a driver. What is answered is the same whatever the driver keeps.
+pub(crate) fn drive_script<D: Driver, S: Read, W: Write, M: Messages>(
+    alloc: Global,
+    session: &mut Session,
+    driver: &mut D,
+    ahead: &mut Ahead,
+    script: &mut S,
+    writer: &mut W,
+    messages: &mut M,
+) -> Result<bool, Halt>
+    ensures { DrivesScript D.drives session.old driver.old (prepend_known ahead.old (S.remaining script.old))
+        (S.remaining script.new) (W.contents writer.old) (W.contents writer.new) session.new driver.new result }
+{
     let mut kept = Kept::new(alloc)?;
-    let answered = answer_lines(alloc, session, ahead, script, &mut kept, writer, messages);
+    let answered = answer_lines(
+        alloc, session, driver, ahead, script, &mut kept, writer, messages,
+    );
 
     // Where memory ran out and the answers so far can't be written either, that is a write fault.
     kept.flush(writer)?;
@@ -74,9 +94,10 @@ struct Output {
 }
 
 /// Answers the lines of a script, of which the last answers may be kept.
-fn answer_lines<S: Read, W: Write, M: Messages>(
+fn answer_lines<D: Driver, S: Read, W: Write, M: Messages>(
     alloc: Global,
     session: &mut Session,
+    driver: &mut D,
     ahead: &mut Ahead,
     script: &mut S,
     kept: &mut Kept,
@@ -84,8 +105,8 @@ fn answer_lines<S: Read, W: Write, M: Messages>(
     messages: &mut M,
 ) -> Result<bool, Halt>
     requires { kept.old ≡ [] }
-    ensures { AnswersLines line_outcome session.old (prepend_known ahead.old (S.remaining script.old))
-        (S.remaining script.new) (W.contents writer.old) (W.contents writer.new) kept.new session.new result }
+    ensures { DrivesLines D.drives session.old driver.old (prepend_known ahead.old (S.remaining script.old))
+        (S.remaining script.new) (W.contents writer.old) (W.contents writer.new) kept.new session.new driver.new result }
 {
     let mut buffers = Buffers {
         line: Vec::new(alloc),
@@ -97,6 +118,7 @@ fn answer_lines<S: Read, W: Write, M: Messages>(
     let answered = read_and_answer(
         alloc,
         session,
+        driver,
         ahead,
         script,
         &mut buffers,
@@ -118,9 +140,10 @@ fn tell_of_nothing<M: Messages>(tally: &Tally, messages: &mut M) {
 }
 
 /// The same, line by line in these buffers.
-fn read_and_answer<S: Read, W: Write, M: Messages>(
+fn read_and_answer<D: Driver, S: Read, W: Write, M: Messages>(
     alloc: Global,
     session: &mut Session,
+    driver: &mut D,
     ahead: &mut Ahead,
     script: &mut S,
     buffers: &mut Buffers,
@@ -130,19 +153,23 @@ fn read_and_answer<S: Read, W: Write, M: Messages>(
 ) -> Result<bool, Halt>
     requires kept { kept.old ≡ [] }
     requires line { buffers.old.line.items ≡ [] }
-    ensures { AnswersLines line_outcome session.old (prepend_known ahead.old (S.remaining script.old))
-        (S.remaining script.new) (W.contents writer.old) (W.contents writer.new) kept.new session.new result }
+    ensures { DrivesLines D.drives session.old driver.old (prepend_known ahead.old (S.remaining script.old))
+        (S.remaining script.new) (W.contents writer.old) (W.contents writer.new) kept.new session.new driver.new result }
 {
     let mut number = 1;
     let mut left = MAX_SCRIPT;
     while left > 0 {
         let Some(byte) = next_byte(ahead, script, kept, writer)? else {
-            answer_line(alloc, session, number, buffers, kept, writer, messages)?;
+            answer_line(
+                alloc, session, driver, number, buffers, kept, writer, messages,
+            )?;
             return Ok(false);
         };
         left -= 1;
         if byte == b'\n' {
-            answer_line(alloc, session, number, buffers, kept, writer, messages)?;
+            answer_line(
+                alloc, session, driver, number, buffers, kept, writer, messages,
+            )?;
             number += 1;
         } else {
             left -= add_bytes(ahead, &mut buffers.line, byte, left)?;
@@ -151,7 +178,9 @@ fn read_and_answer<S: Read, W: Write, M: Messages>(
     match next_byte(ahead, script, kept, writer)? {
         Some(_) => Ok(true),
         None => {
-            answer_line(alloc, session, number, buffers, kept, writer, messages)?;
+            answer_line(
+                alloc, session, driver, number, buffers, kept, writer, messages,
+            )?;
             Ok(false)
         }
     }
@@ -159,9 +188,10 @@ fn read_and_answer<S: Read, W: Write, M: Messages>(
 
 /// Does what the line in the buffers asks. The line that answers it joins what is kept. Then what is to be told of it
 /// is told, and the buffer is empty for the next line.
-fn answer_line<W: Write, M: Messages>(
+fn answer_line<D: Driver, W: Write, M: Messages>(
     alloc: Global,
     session: &mut Session,
+    driver: &mut D,
     number: usize,
     buffers: &mut Buffers,
     kept: &mut Kept,
@@ -169,9 +199,9 @@ fn answer_line<W: Write, M: Messages>(
     messages: &mut M,
 ) -> Result<(), Halt>
     ensures answered { MatchResult result
-        (λ _. AnswersLine line_outcome session.old number buffers.old.line.items
-        (W.contents writer.old) (W.contents writer.new) kept.old kept.new session.new)
-        (λ halt. LineStops line_outcome session.old number buffers.old.line.items
+        (λ _. DrivesLine D.drives session.old driver.old number buffers.old.line.items
+        (W.contents writer.old) (W.contents writer.new) kept.old kept.new session.new driver.new)
+        (λ halt. DrivingStops D.drives session.old driver.old number buffers.old.line.items
         (W.contents writer.old) (W.contents writer.new) kept.old kept.new halt) }
     ensures cleared { OnOk result (buffers.new.line.items ≡ []) }
 {
@@ -179,6 +209,7 @@ fn answer_line<W: Write, M: Messages>(
     answer_and_explain(
         alloc,
         session,
+        driver,
         number,
         line.as_slice(),
         output,
@@ -191,9 +222,10 @@ fn answer_line<W: Write, M: Messages>(
 }
 
 /// Does what a line asks. The line that answers it joins what is kept. Then what is to be told of it is told.
-fn answer_and_explain<W: Write, M: Messages>(
+fn answer_and_explain<D: Driver, W: Write, M: Messages>(
     alloc: Global,
     session: &mut Session,
+    driver: &mut D,
     number: usize,
     line: &[u8],
     output: &mut Output,
@@ -202,13 +234,15 @@ fn answer_and_explain<W: Write, M: Messages>(
     messages: &mut M,
 ) -> Result<(), Halt>
     ensures { MatchResult result
-        (λ _. AnswersLine line_outcome session.old number line.now
-        (W.contents writer.old) (W.contents writer.new) kept.old kept.new session.new)
-        (λ halt. LineStops line_outcome session.old number line.now
+        (λ _. DrivesLine D.drives session.old driver.old number line.now
+        (W.contents writer.old) (W.contents writer.new) kept.old kept.new session.new driver.new)
+        (λ halt. DrivingStops D.drives session.old driver.old number line.now
         (W.contents writer.old) (W.contents writer.new) kept.old kept.new halt) }
 {
     let Output { text, tally } = output;
-    let answered = give_answer(alloc, session, number, line, text, kept, writer, messages)?;
+    let answered = give_answer(
+        alloc, session, driver, number, line, text, kept, writer, messages,
+    )?;
     if answered.answer.is_some() {
         tally.note_line();
     }
@@ -221,9 +255,10 @@ fn answer_and_explain<W: Write, M: Messages>(
 
 /// Does what a line asks. The line that answers it joins what is kept; the text is where it is printed.
 #[tactic(auto, unfolding(crate::specs::Shown::line_outcome))]
-fn give_answer<W: Write, M: Messages>(
+fn give_answer<D: Driver, W: Write, M: Messages>(
     alloc: Global,
     session: &mut Session,
+    driver: &mut D,
     number: usize,
     line: &[u8],
     text: &mut Vec<u8>,
@@ -231,14 +266,15 @@ fn give_answer<W: Write, M: Messages>(
     writer: &mut W,
     messages: &mut M,
 ) -> Result<Answered, Halt>
-    ensures { MatchResult result
+    ensures answered { MatchResult result
         (λ _. AnswersLine line_outcome session.old number line.now
         (W.contents writer.old) (W.contents writer.new) kept.old kept.new session.new)
         (λ halt. LineStops line_outcome session.old number line.now
         (W.contents writer.old) (W.contents writer.new) kept.old kept.new halt) }
+    ensures driven { OnOk result (driver.new ≡ line_driven D.drives driver.old session.old.net line.now) }
 {
     let mut progress = Progress::of_line(number, messages);
-    let answer = session.answer_watched(alloc, line, &mut progress)?;
+    let answer = session.answer_driven(alloc, line, driver, &mut progress)?;
     let rounds = progress.done();
     keep_answer(number, &answer, text, kept, writer)?;
     Ok(Answered { answer, rounds })

@@ -15,6 +15,9 @@
 #![tactic(auto)]
 
 mod answering;
+mod counted_runs;
+mod counting;
+mod driver;
 mod ended;
 mod explaining;
 mod probing;
@@ -24,11 +27,14 @@ mod runs;
 mod session;
 mod standing;
 mod starting;
+mod still;
 mod summary;
 mod tally;
 mod tools;
 
 pub use answering::answer_script;
+pub use c104_stats::{Format, What};
+pub use counted_runs::{Printing, count_plan};
 pub use ended::EndedNet;
 pub use runs::run_plan;
 pub use session::{Ended, Session};

@@ -19,7 +19,7 @@ use std::alloc::Global;
 use std::io::{Read, Write};
 
 /// What is told of a script that is longer than it may be.
-const TOO_LONG: &str =
+pub(crate) const TOO_LONG: &str =
     "a script has at most 16777216 bytes; the lines that end within them were answered";
 
 /// Runs a script on the network of a plan, started with an image that fits it: lines are answered as they are
@@ -116,7 +116,7 @@ fn write_texts<W: Write>(writer: &mut W, texts: &[Vec<u8>]) -> Result<(), Cannot
 }
 
 /// What is to be told at the end of what didn't arrive.
-fn leftovers_of<M: Messages>(
+pub(crate) fn leftovers_of<M: Messages>(
     alloc: Global,
     session: &Session,
     messages: &M,
@@ -128,7 +128,7 @@ fn leftovers_of<M: Messages>(
 }
 
 /// Tells what didn't arrive.
-fn tell_all<M: Messages>(leftovers: &Option<Vec<String>>, messages: &mut M) {
+pub(crate) fn tell_all<M: Messages>(leftovers: &Option<Vec<String>>, messages: &mut M) {
     if let Some(leftovers) = leftovers {
         for message in leftovers {
             messages.tell(About::Run, message.as_str());

@@ -1,17 +1,18 @@
 //! A run of a network, line by line.
-ghost use Rattle.std.specs.Prelude.{◌≡◌, ◌⊎◌, Option, Result, Err, IfOk, OnErr};
+ghost use Rattle.std.specs.Prelude.{◌≡◌, ◌⊎◌, Option, Result, Err, IfOk, OnErr, OnOk};
 ghost use Rattle.c104_switch.specs.Actions.{Reply as TheReply};
 ghost use Rattle.c104_event.specs.declared.faults.EventFault.{EventFault as TheFault};
 ghost use Rattle.c104_event.specs.declared.faults.EventFault.TheVariants as fault;
 ghost use Rattle.c104_run.specs.FinishedRecords.{record_finish};
 ghost use Rattle.c104_plan.specs.PlanImage.{Fits};
 ghost use Rattle.c104_run.specs.NetRecords.{NetRecord as TheNet};
-ghost use Rattle.c104_run.specs.RecordedRuns.{AnswersRecord};
 ghost use Rattle.c104_script.specs.declared.answers.Answer.{Answer as TheAnswer};
+ghost use Rattle.c104_session.specs.Driven.{DoesEvent, line_driven, request_driven};
 ghost use Rattle.c104_session.specs.Leavings.{KeepsAllButNet, LeavesLine, LeavesNet, LeavesRounds};
 ghost use Rattle.c104_session.specs.Shown.{new_session, line_answer, request_answer, rounds_outcome};
 ghost use Rattle.c104_session.specs.declared.session.Session.{Session as TheSession};
 
+use crate::driver::{Driver, Plain};
 use crate::ended::EndedNet;
 use crate::probing::answer_probe;
 use crate::starting::start_net;
@@ -78,26 +79,28 @@ impl Session {
             (answer, self.new) (line_answer self.old line.now)) }
         ensures left { OnErr result (LeavesLine self.old line.now self.new) }
     {
-        self.answer_watched(alloc, line, &mut Unwatched)
+        self.answer_driven(alloc, line, &mut Plain, &mut Unwatched)
     }
 
-    /// The same, and tells of each round that changed something.
+    /// The same by a driver, and tells of each round that changed something.
     #[inline(always)]
-    #[tactic(auto, using(crate::proofs::Leavings::nothing_left, crate::proofs::Leavings::request_left), unfolding(crate::specs::Shown::line_answer))]
-    pub(crate) fn answer_watched<W: Watch>(
+    #[tactic(auto, using(crate::proofs::Leavings::nothing_left, crate::proofs::Leavings::request_left), unfolding(crate::specs::Shown::line_answer, crate::specs::Driven::line_driven))]
+    pub(crate) fn answer_driven<D: Driver, W: Watch>(
         &mut self,
         alloc: Global,
         line: &[u8],
+        driver: &mut D,
         watch: &mut W,
     ) -> Result<Option<Answer>, NoMemory>
         ensures answered { IfOk result (λ answer. ◌≡◌ {A = Option TheAnswer × TheSession}
             (answer, self.new) (line_answer self.old line.now)) }
         ensures left { OnErr result (LeavesLine self.old line.now self.new) }
+        ensures driven { OnOk result (driver.new ≡ line_driven D.drives driver.old self.old.net line.now) }
     {
         match read_line(alloc, self.net.plan(), line) {
             Ok(None) => Ok(None),
             Ok(Some(request)) => {
-                let answer = self.answer_request(alloc, &request, watch)?;
+                let answer = self.answer_request(alloc, &request, driver, watch)?;
                 Ok(Some(answer))
             }
             Err(LineFault::NoMemory) => Err(NoMemory),
@@ -109,20 +112,22 @@ impl Session {
     }
 
     /// Does what a request says.
-    fn answer_request<W: Watch>(
+    fn answer_request<D: Driver, W: Watch>(
         &mut self,
         alloc: Global,
         request: &Request,
+        driver: &mut D,
         watch: &mut W,
     ) -> Result<Answer, NoMemory>
         ensures answered { IfOk result (λ answer. ◌≡◌ {A = TheAnswer × TheSession}
             (answer, self.new) (request_answer self.old request.now)) }
         ensures kept { OnErr result (KeepsAllButNet self.old self.new) }
         ensures left { OnErr result (LeavesNet self.old.net request.now self.new.net) }
+        ensures driven { OnOk result (driver.new ≡ request_driven D.drives driver.old self.old.net request.now) }
     {
         let done = match request {
-            Request::Asked(event) => do_event(&mut self.net, event),
-            Request::Rounds(count) => do_rounds(&mut self.net, *count, watch),
+            Request::Asked(event) => do_event(&mut self.net, event, driver),
+            Request::Rounds(count) => do_rounds(&mut self.net, *count, driver, watch),
             Request::Probed(probe) => {
                 return answer_probe(alloc, &mut self.net, &self.image, *probe);
             }
@@ -145,21 +150,30 @@ impl Ended {
 }
 
 /// Does an event. Where it is refused, and out of memory, the network stays as it was.
-#[tactic(auto, using(crate::proofs::Leavings::event_kept))]
-fn do_event(net: &mut TracedNet, event: &Event) -> Result<Reply, EventFault>
-    ensures due { AnswersRecord net.old event.now result net.new }
+fn do_event<D: Driver>(
+    net: &mut TracedNet,
+    event: &Event,
+    driver: &mut D,
+) -> Result<Reply, EventFault>
+    ensures due { DoesEvent net.old event.now result net.new }
     ensures kept { OnErr result (net.new ≡ net.old) }
+    ensures driven { (driver.new ≡ D.drives.event driver.old net.old event.now) ⊎ (result ≡ Err fault.NoMemory) }
 {
-    net.apply(event)
+    driver.event(net, event)
 }
 
 /// Does `count` rounds, up to the first event that is refused.
-#[tactic(auto, using(crate::proofs::Leavings::rounds_left))]
-fn do_rounds<W: Watch>(net: &mut TracedNet, count: u32, watch: &mut W) -> Result<Reply, EventFault>
+fn do_rounds<D: Driver, W: Watch>(
+    net: &mut TracedNet,
+    count: u32,
+    driver: &mut D,
+    watch: &mut W,
+) -> Result<Reply, EventFault>
     ensures due { (◌≡◌ {A = Result TheReply TheFault × TheNet}
         (result, net.new) (rounds_outcome net.old count)) ⊎ (result ≡ Err fault.NoMemory) }
     ensures left { LeavesRounds net.old count net.new }
+    ensures driven { (driver.new ≡ D.drives.rounds driver.old net.old count) ⊎ (result ≡ Err fault.NoMemory) }
 {
-    net.rounds_watched(count, watch)?;
+    driver.rounds(net, count, watch)?;
     Ok(Reply::Done)
 }

@@ -101,7 +101,7 @@ fn add_packets(
 }
 
 /// The line of a packet joins the text.
-#[tactic(auto, using(crate::proofs::Printing::printed_tokens))]
+#[tactic(auto, using(crate::proofs::SummaryTexts::printed_tokens))]
 fn add_packet(
     alloc: Global,
     plan: &Plan,

@@ -1,11 +1,11 @@
 use Rattle.std.specs.Io.KnownBytes.{prepend_known}
 use Rattle.c104_stream.proofs.ScriptSoFar.{Reached}
-use Rattle.c104_session.specs.Shown.{line_outcome}
+use Rattle.c104_session.specs.Driven.{driven_outcome}
 use Rattle.c104_session.proofs.answering.read_and_answer.Given as goal
 
 -- how far the script is read and answered
 abbrev pub invariant-loop-left : goal.invariant-loop-left
-invariant-loop-left g l = Reached line_outcome (prepend_known l.initial.ahead (g.S.Read.remaining l.initial.script)) (prepend_known l.ahead (g.S.Read.remaining l.script)) (g.W.Write.contents l.initial.writer) (g.W.Write.contents l.writer) l.kept l.initial.session l.session l.number l.buffers.line.items l.left
+invariant-loop-left g l = Reached (driven_outcome g.D.Driver.drives) (prepend_known l.initial.ahead (g.S.Read.remaining l.initial.script)) (prepend_known l.ahead (g.S.Read.remaining l.script)) (g.W.Write.contents l.initial.writer) (g.W.Write.contents l.writer) l.kept (l.initial.session, l.initial.driver) (l.session, l.driver) l.number l.buffers.line.items l.left
 
 abbrev pub decreases-loop-left : goal.decreases-loop-left
 decreases-loop-left g l = l.left

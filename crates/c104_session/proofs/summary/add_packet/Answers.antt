@@ -1,6 +1,6 @@
 use Rattle.std.proofs.Common.{flat_map, ◌∙◌}
 use Rattle.std.specs.Prelude.{option_to_list}
-use Rattle.c104_session.proofs.Printing.{joined}
+use Rattle.c104_session.proofs.SummaryTexts.{joined}
 use Rattle.c104_session.specs.Shown.{origin_text}
 use Rattle.c104_session.proofs.summary.add_packet.Goals as goal
 

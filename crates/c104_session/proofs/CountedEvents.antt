@@ -1,0 +1,51 @@
+-- Events that are counted: the network goes on as by itself, and what is told of it is counted.
+use Rattle.std.proofs.Common.{◌≡◌, ◌⊎◌, ◌∙◌, ℕ, Result, Ok, Err, OnErr, ap, inl, inr}
+use Rattle.c104_switch.specs.Actions.{Reply}
+use Rattle.c104_event.specs.declared.events.Event.{Event}
+use Rattle.c104_event.specs.declared.faults.EventFault.{EventFault}
+use Rattle.c104_event.specs.declared.faults.EventFault.TheVariants as fault
+use Rattle.c104_run.specs.EventRuns.{Answers}
+use Rattle.c104_run.specs.NetRecords.{is_done, NetRecord}
+use Rattle.c104_run.specs.RecordedRuns.{record_apply, AnswersRecord}
+use Rattle.c104_net.specs.MeteredRecords.{at_meter, record_metered}
+use Rattle.c104_stats.proofs.TakenCounts.{taken_back}
+use Rattle.c104_stats.specs.Counts.{counts_sent, counts_taken, Counts}
+use Rattle.c104_stats.specs.Metering.{counting}
+use Rattle.c104_session.specs.Counted.{counts_told, sent_if, Counted}
+use Rattle.c104_session.specs.Driven.{DoesEvent}
+use Rattle.c104_session.proofs.Leavings.{event_kept}
+
+-- what an event came to, alone or with what is counted
+abbrev pub Told : NetRecord → Counts → Event → Result Reply EventFault → NetRecord → Counts → Type 0
+Told net c e answer after d = Answers (record_metered counting) (at_meter net c) e answer (at_meter after d)
+
+module _ (net : NetRecord) (e : Event) (answer : Result Reply EventFault) (after : NetRecord) where
+  pub asked_due : AnswersRecord net e answer after → DoesEvent net e answer after
+  asked_due (inl due) = inl due
+  asked_due (inr short) = inr short.0
+
+  module _ (c d : Counts) where
+    of_record : Told net c e answer after d → AnswersRecord net e answer after
+    of_record (inl due) = inl (ap (λ (x : Result Reply EventFault × Counted). (x.0, x.1.net)) due)
+    of_record (inr short) = inr (short.0, short.1, ap (λ (x : Counted). x.net) short.2)
+
+    pub told_due : Told net c e answer after d → DoesEvent net e answer after
+    told_due told = asked_due (of_record told)
+
+    pub told_kept : Told net c e answer after d → OnErr answer (after ≡ net)
+    told_kept told = event_kept net e answer after (of_record told)
+
+    pub told_counts : Told net c e answer after d → (d ≡ counts_told c net e) ⊎ (answer ≡ Err fault.NoMemory)
+    told_counts (inl due) = inl (ap (λ (x : Result Reply EventFault × Counted). x.1.meter) due)
+    told_counts (inr short) = inr short.0
+
+    -- a packet that was counted stays where it was sent
+    pub sent_counts : (t bytes : ℕ) → AnswersRecord net e answer after → d ≡ sent_if (is_done answer) c t bytes
+        → (d ≡ sent_if (is_done (record_apply net e).0) c t bytes) ⊎ (answer ≡ Err fault.NoMemory)
+    sent_counts t bytes (inl due) is =
+        inl (is ∙ ap (λ (x : Result Reply EventFault × NetRecord). sent_if (is_done x.0) c t bytes) due)
+    sent_counts t bytes (inr short) is = inr short.0
+
+-- what was counted of a packet before it was sent is taken back
+pub sent_kept : (c before : Counts) (t bytes : ℕ) → c ≡ counts_sent before t bytes → counts_taken c t ≡ before
+sent_kept c before t bytes is = ap (λ (d : Counts). counts_taken d t) is ∙ taken_back before t bytes

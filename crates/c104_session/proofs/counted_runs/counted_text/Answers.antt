@@ -1,0 +1,12 @@
+use Rattle.std.proofs.Common.{subst}
+use Rattle.c104_session.specs.CountedRuns.{GrewBehind, IsCountsText}
+use Rattle.c104_session.proofs.CountedScripts.{printed_behind}
+use Rattle.c104_session.proofs.counted_runs.counted_text.Goals as goal
+
+pub returns : goal.returns
+returns g c =
+    printed_behind c.args.printing c.args.session.now.net c.args.stats.now c.in_ok-text.text.items
+    (subst (λ plan. IsCountsText c.args.printing plan c.args.stats.now c.in_ok-text.text.items) c.plan.ensures c.in_ok-text.ensures)
+    c.add_behind.new.text.items
+    (subst (λ n. GrewBehind c.args.printing.format c.args.session.now.net n c.in_ok-text.text.items c.add_behind.new.text.items)
+    c.active.ensures c.in_ok-add_behind.ensures)

@@ -1,0 +1,76 @@
+-- The counts of a run: what an event that is asked of a network adds to them, and what rounds do.
+--     counted_event c net e      an event
+--     counted_rounds c net n      n rounds
+use Rattle.std.specs.Prelude.{ℕ, suc, zero, ◌≡◌, ◌⊎◌, ◌||◌, Bool, true, false, Result, Ok, Err, if◌then◌else◌, length, nat_le, nat_lt}
+use Rattle.c104_event.specs.declared.events.Event.{Event}
+use Rattle.c104_event.specs.declared.events.Event.TheVariants as event
+use Rattle.c104_event.specs.declared.faults.EventFault.{EventFault}
+use Rattle.c104_event.specs.declared.faults.EventFault.TheVariants as fault
+use Rattle.c104_run.specs.EventRuns.{run_events, Outcome}
+use Rattle.c104_run.specs.NetRecords.{is_done, largest_ticket, NetRecord}
+use Rattle.c104_run.specs.RecordedRuns.{record_apply}
+use Rattle.c104_run.specs.Rounds.{round}
+use Rattle.c104_net.specs.MeteredRecords.{at_meter, record_metered, MeteredRecord}
+use Rattle.c104_stats.specs.Counts.{counts_begun, counts_ended, counts_passed, counts_sent, Counts}
+use Rattle.c104_stats.specs.Metering.{counting}
+use Rattle.c104_stats.specs.Sights.{counts_of_net}
+use Rattle.c104_session.specs.Driven.{Driving}
+use Rattle.c104_session.specs.Leavings.{LeavesRounds}
+
+-- a network with its record, and what is counted of its run
+abbrev pub Counted : Type 0
+Counted = MeteredRecord Counts
+
+-- what is counted of a packet that a terminal was asked to send, where that was done
+abbrev pub sent_if : Bool → Counts → ℕ → ℕ → Counts
+sent_if true c t bytes = counts_sent c t bytes
+sent_if false c t bytes = c
+
+-- what is counted of the token that an event moves, where one crosses or arrives
+abbrev pub counts_told : Counts → NetRecord → Event → Counts
+counts_told c net e = (record_metered counting (at_meter net c) e).1.meter
+
+-- after an event
+abbrev pub counted_event : Counts → NetRecord → Event → Counts
+counted_event c net (event.Send t packet) =
+    sent_if (is_done (record_apply net (event.Send t packet)).0) c t (length packet.bytes)
+counted_event c net e = counts_told c net e
+
+-- the events of a round, after what is there was seen and the round has begun
+abbrev pub counted_round : Counted → Outcome Counted
+counted_round s =
+    run_events (record_metered counting) (at_meter s.net (counts_begun (counts_of_net s.net.network s.meter)))
+    (round s.net.network.plan)
+
+-- whether anything was done, by how many events were before and after. At the largest count, which no network comes near,
+-- that can't be told, and counts as done
+abbrev pub is_later : ℕ → ℕ → Bool
+is_later before after = nat_lt before after || nat_le largest_ticket before
+
+-- a round that ended so, and those behind it: where nothing was done nothing is done in any of them, and they pass
+abbrev pub counted_on : ℕ → (Counted → Counts) → NetRecord → Outcome Counted → Counts
+counted_on left more old (Err f, s) = s.meter
+counted_on left more old (Ok u, s) =
+    if is_later old.count s.net.count then more (at_meter s.net (counts_ended s.meter true))
+    else counts_passed (counts_ended s.meter false) left
+
+abbrev pub rounds_counted : ℕ → Counted → Counts
+rounds_counted zero s = s.meter
+rounds_counted (suc n) s = counted_on n (rounds_counted n) s.net (counted_round s)
+
+-- after rounds
+abbrev pub counted_rounds : Counts → NetRecord → ℕ → Counts
+counted_rounds c net count = rounds_counted count (at_meter net c)
+
+-- what is counted of what a network is asked
+abbrev pub counts_kept : Driving Counts
+counts_kept = record { event = counted_event; rounds = counted_rounds }
+
+-- what one round comes to: as is counted of it, and whether anything was done; or a fault stops it, or there is no memory
+-- after some of its events
+abbrev pub CountsRound : NetRecord → Counts → Result Bool EventFault → NetRecord → Counts → Type 0
+CountsRound net c (Ok done) after counted =
+    (e : Counts) × (counted_round (at_meter net c) ≡ (Ok tt, at_meter after e)) × (done ≡ is_later net.count after.count)
+    × (counted ≡ counts_ended e done)
+CountsRound net c (Err f) after counted =
+    (counted_round (at_meter net c) ≡ (Err f, at_meter after counted)) ⊎ ((f ≡ fault.NoMemory) × LeavesRounds net 1 after)

@@ -1,0 +1,80 @@
+-- What a driver keeps of what a network is asked, line by line of a script, beside what the network does and answers.
+use Rattle.std.specs.Prelude.{ℕ, ◌≡◌, ◌⊎◌, Bool, List, Option, Some, None, Result, Ok, Err}
+use Rattle.c104_switch.specs.Actions.{Reply}
+use Rattle.c104_event.specs.declared.events.Event.{Event}
+use Rattle.c104_event.specs.declared.faults.EventFault.{EventFault}
+use Rattle.c104_event.specs.declared.faults.EventFault.TheVariants as fault
+use Rattle.c104_run.specs.EventRuns.{run_events}
+use Rattle.c104_run.specs.NetRecords.{NetRecord}
+use Rattle.c104_run.specs.RecordedRuns.{record_apply}
+use Rattle.c104_run.specs.Rounds.{rounds}
+use Rattle.c104_script.specs.Script.{read_script_line}
+use Rattle.c104_script.specs.declared.faults.LineFault.{LineFault}
+use Rattle.c104_script.specs.declared.places.Request.{Request}
+use Rattle.c104_script.specs.declared.places.Request.TheVariants as ask
+use Rattle.c104_stream.specs.Scripts.{AnswersLine, AnswersLines, AnswersScript, Known, LineStops}
+use Rattle.c104_stream.specs.declared.halt.Halt.{Halt}
+use Rattle.c104_session.specs.declared.session.Session.{Session}
+use Rattle.c104_session.specs.Shown.{line_outcome}
+
+-- what a driver keeps: its state after it did an event, or as many rounds, on a network that was in this state. That is
+-- said of all that memory suffices for
+pub record Driving (D : Type 0) : Type 0 where
+  pub event : D → NetRecord → Event → D
+  pub rounds : D → NetRecord → ℕ → D
+
+-- an event was done, or refused, as is due; or there was no memory for it
+abbrev pub DoesEvent : NetRecord → Event → Result Reply EventFault → NetRecord → Type 0
+DoesEvent net event result after =
+    (◌≡◌ {A = Result Reply EventFault × NetRecord} (result, after) (record_apply net event)) ⊎ (result ≡ Err fault.NoMemory)
+
+-- the same of rounds
+abbrev pub DoesRounds : NetRecord → ℕ → Result (Unit {0}) EventFault → NetRecord → Type 0
+DoesRounds net count result after =
+    (◌≡◌ {A = Result (Unit {0}) EventFault × NetRecord} (result, after) (run_events record_apply net (rounds net.network.plan count)))
+    ⊎ (result ≡ Err fault.NoMemory)
+
+-- a driver that keeps nothing
+abbrev pub keeps_nothing : {D : Type 0} → Driving D
+keeps_nothing = record { event = λ driver net e. driver; rounds = λ driver net count. driver }
+
+module _ {D : Type 0} (drives : Driving D) where
+  -- the driver after a request: it does events and rounds, and has no part in anything else
+  abbrev pub request_driven : D → NetRecord → Request → D
+  request_driven driver net (ask.Asked event) = drives.event driver net event
+  request_driven driver net (ask.Rounds count) = drives.rounds driver net count
+  request_driven driver net (ask.Probed it) = driver
+  request_driven driver net (ask.Refused kind) = driver
+
+  -- the same of what was read of a line
+  abbrev pub read_driven : D → NetRecord → Result (Option Request) LineFault → D
+  read_driven driver net (Ok None) = driver
+  read_driven driver net (Ok (Some request)) = request_driven driver net request
+  read_driven driver net (Err kind) = driver
+
+  -- the driver after a line
+  unfoldable pub line_driven : D → NetRecord → List ℕ → D
+  line_driven driver net text = read_driven driver net (read_script_line net.network.plan text)
+
+  -- what a line shows, and the run and the driver after it
+  abbrev pub driven_outcome : ℕ → Session × D → List ℕ → List ℕ × (Session × D)
+  driven_outcome number s text =
+      ((line_outcome number s.0 text).0, ((line_outcome number s.0 text).1, line_driven s.1 s.0.net text))
+
+  -- a line was answered, or that stopped, and the lines of a script, as in a run without a driver; and beside them the
+  -- state of the driver
+  abbrev pub DrivesLine : Session → D → ℕ → List ℕ → Known → Known → List ℕ → List ℕ → Session → D → Type 0
+  DrivesLine session driver number line held holds kept keeps after driven =
+      AnswersLine driven_outcome (session, driver) number line held holds kept keeps (after, driven)
+
+  abbrev pub DrivingStops : Session → D → ℕ → List ℕ → Known → Known → List ℕ → List ℕ → Halt → Type 0
+  DrivingStops session driver number line held holds kept keeps halt =
+      LineStops driven_outcome (session, driver) number line held holds kept keeps halt
+
+  abbrev pub DrivesLines : Session → D → Known → Known → Known → Known → List ℕ → Session → D → Result Bool Halt → Type 0
+  DrivesLines session driver all left held holds keeps after driven result =
+      AnswersLines driven_outcome (session, driver) all left held holds keeps (after, driven) result
+
+  abbrev pub DrivesScript : Session → D → Known → Known → Known → Known → Session → D → Result Bool Halt → Type 0
+  DrivesScript session driver all left held holds after driven result =
+      AnswersScript driven_outcome (session, driver) all left held holds (after, driven) result

@@ -1,0 +1,122 @@
+//! A driver that counts what it does.
+ghost use Rattle.std.specs.Prelude.{ℕ, ◌≡◌, ◌⊎◌, Err, OnErr};
+ghost use Rattle.c104_event.specs.declared.faults.EventFault.TheVariants as fault;
+ghost use Rattle.c104_run.specs.NetRecords.{is_done};
+ghost use Rattle.c104_run.specs.RecordedRuns.{record_apply};
+ghost use Rattle.c104_stats.specs.Counts.{counts_sent, Counts};
+ghost use Rattle.c104_session.specs.Counted.{counts_told, is_later, sent_if, CountsRound};
+ghost use Rattle.c104_session.specs.Driven.{DoesEvent};
+
+use crate::driver::Driver;
+use c104_event::{Event, EventFault};
+use c104_net::{MeteredNet, TracedNet, Watch};
+use c104_stats::Stats;
+use c104_switch::Reply;
+
+impl Driver for Stats {
+    ghost use Rattle.c104_session.specs.Counted.{counts_kept};
+
+    ghost drives = { counts_kept };
+
+    fn event(&mut self, net: &mut TracedNet, event: &Event) -> Result<Reply, EventFault> {
+        match event {
+            Event::Send { terminal, packet } => {
+                let bytes = packet.bytes.as_slice().len() as u64;
+                send_counted(self, net, event, *terminal, bytes)
+            }
+            _ => do_counted(self, net, event),
+        }
+    }
+
+    fn rounds<W: Watch>(
+        &mut self,
+        net: &mut TracedNet,
+        count: u32,
+        watch: &mut W,
+    ) -> Result<(), EventFault> {
+        for round in 0..count {
+            let done = count_round(self, net)?;
+            if !done {
+                // Nor would any further round change anything.
+                self.pass_rounds(count - (round + 1));
+                return Ok(());
+            }
+            watch.rounds_done(round + 1, count);
+        }
+        Ok(())
+    }
+}
+
+/// Does an event, of which the counts are told.
+#[tactic(auto, using(crate::proofs::CountedEvents::told_due, crate::proofs::CountedEvents::told_kept, crate::proofs::CountedEvents::told_counts))]
+fn do_counted(stats: &mut Stats, net: &mut TracedNet, event: &Event) -> Result<Reply, EventFault>
+    ensures due { DoesEvent net.old event.now result net.new }
+    ensures kept { OnErr result (net.new ≡ net.old) }
+    ensures counted { (stats.new ≡ counts_told stats.old net.old event.now) ⊎ (result ≡ Err fault.NoMemory) }
+{
+    net.apply_told(event, stats)
+}
+
+/// Asks a terminal to send a packet of this many bytes. It is counted before, when there may be no memory for that, and
+/// taken back where it isn't done.
+#[tactic(auto, using(crate::proofs::CountedEvents::asked_due, crate::proofs::Leavings::event_kept, crate::proofs::CountedEvents::sent_counts))]
+fn send_counted(
+    stats: &mut Stats,
+    net: &mut TracedNet,
+    event: &Event,
+    terminal: usize,
+    bytes: u64,
+) -> Result<Reply, EventFault>
+    ensures due { DoesEvent net.old event.now result net.new }
+    ensures kept { OnErr result (net.new ≡ net.old) }
+    ensures counted { (stats.new ≡ sent_if (is_done (record_apply net.old event.now).0) stats.old terminal bytes)
+        ⊎ (result ≡ Err fault.NoMemory) }
+{
+    stats.send(terminal, bytes)?;
+    let answer = net.apply(event);
+    keep_sent(stats, terminal, was_done(&answer));
+    answer
+}
+
+/// What was counted of a packet stays where it was sent, and else is taken back.
+#[tactic(auto, using(crate::proofs::CountedEvents::sent_kept))]
+fn keep_sent(stats: &mut Stats, terminal: usize, done: bool)
+    ensures { (before : Counts) (bytes : ℕ) → stats.old ≡ counts_sent before terminal bytes
+        → stats.new ≡ sent_if done before terminal bytes }
+{
+    if !done {
+        stats.take_back(terminal);
+    }
+}
+
+/// Whether an event that was answered so was done.
+fn was_done(answer: &Result<Reply, EventFault>) -> bool
+    ensures { result ≡ is_done answer.now }
+{
+    match answer {
+        Ok(Reply::NotReady) => false,
+        Ok(_) => true,
+        Err(_) => false,
+    }
+}
+
+/// Does a round, and tells whether any event of it was done.
+fn count_round(stats: &mut Stats, net: &mut TracedNet) -> Result<bool, EventFault>
+    ensures { CountsRound net.old stats.old result net.new stats.new }
+{
+    stats.see_net(net);
+    stats.begin_round()?;
+    let before = net.done_count();
+    net.round_told(stats)?;
+    let done = is_later(before, net.done_count());
+    stats.end_round(done);
+    Ok(done)
+}
+
+/// Whether any event was done, by how many were before and after. At the largest count, which no network comes near, that
+/// can't be told, and counts as done.
+fn is_later(before: u64, after: u64) -> bool
+    ensures { result ≡ is_later before after }
+{
+    before < after || u64::MAX <= before
+}

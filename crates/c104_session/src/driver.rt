@@ -1,0 +1,62 @@
+//! Who does what the lines of a script ask of a network.
+ghost use Rattle.std.specs.Prelude.{◌≡◌, ◌⊎◌, Err, OnErr};
+ghost use Rattle.c104_event.specs.declared.faults.EventFault.TheVariants as fault;
+ghost use Rattle.c104_session.specs.Driven.{DoesEvent, DoesRounds};
+ghost use Rattle.c104_session.specs.Leavings.{LeavesRounds};
+
+use c104_event::{Event, EventFault};
+use c104_net::{TracedNet, Watch};
+use c104_switch::Reply;
+
+/// Who does the events and the rounds that a script asks of a network. What the network does and answers is the same
+/// whoever it is; beside that a driver may keep what was done.
+pub(crate) trait Driver {
+    ghost use Rattle.c104_session.specs.Driven.{Driving};
+
+    /// What it keeps.
+    ghost drives: { Driving Self };
+
+    /// Does an event, as `TracedNet::apply` does. Out of memory it isn't done.
+    fn event(&mut self, net: &mut TracedNet, event: &Event) -> Result<Reply, EventFault>
+        ensures due { DoesEvent net.old event.now result net.new }
+        ensures kept { OnErr result (net.new ≡ net.old) }
+        ensures driven { (self.new ≡ drives.event self.old net.old event.now) ⊎ (result ≡ Err fault.NoMemory) };
+
+    /// Does `count` rounds, as `TracedNet::rounds_watched` does. Out of memory the first of their events are done.
+    fn rounds<W: Watch>(
+        &mut self,
+        net: &mut TracedNet,
+        count: u32,
+        watch: &mut W,
+    ) -> Result<(), EventFault>
+        ensures due { DoesRounds net.old count result net.new }
+        ensures left { LeavesRounds net.old count net.new }
+        ensures driven { (self.new ≡ drives.rounds self.old net.old count) ⊎ (result ≡ Err fault.NoMemory) };
+}
+
+/// A driver that keeps nothing.
+#[derive(Clone, Copy)]
+pub(crate) struct Plain;
+
+impl Driver for Plain {
+    ghost use Rattle.c104_session.specs.Driven.{keeps_nothing};
+
+    ghost drives = { keeps_nothing };
+
+    #[tactic(auto, using(crate::proofs::Leavings::event_kept))]
+    #[inline]
+    fn event(&mut self, net: &mut TracedNet, event: &Event) -> Result<Reply, EventFault> {
+        net.apply(event)
+    }
+
+    #[tactic(auto, using(crate::proofs::Leavings::rounds_left))]
+    #[inline]
+    fn rounds<W: Watch>(
+        &mut self,
+        net: &mut TracedNet,
+        count: u32,
+        watch: &mut W,
+    ) -> Result<(), EventFault> {
+        net.rounds_watched(count, watch)
+    }
+}
