@@ -2,19 +2,21 @@
 //!
 //! `main` reads the command line, opens what it names, calls the function of a command and says what that
 //! function's `Status` means: a message on standard error and an exit status. The words of the command line and the texts
-//! of help are those of `c104_words`; how files are opened is in `opening`, what a path stands for in `sources`, a script
-//! that is typed in `typed`, what people are told beside the answers in `told`; the functions of the commands are those
-//! of `c104_commands` and `c104_storm_command`.
+//! of help are those of `c104_words`; commands of two files are in `pairs`, how files are opened in `opening`, what a path
+//! stands for in `sources`, a script that is typed in `typed`, what people are told beside the answers in `told`; the
+//! functions of the commands are those of `c104_commands` and `c104_storm_command`.
 #![tactic(auto)]
 
 mod opening;
+mod pairs;
 mod sources;
 mod told;
 mod typed;
 
 pub use c104_commands::{
     Marks, PatternName, Status, check_command, cycles_command, debug_command, draw_command,
-    draw_state_command, label_command, label_rows_command, run, run_text, traffic_command,
+    draw_state_command, label_command, label_rows_command, run, run_text, stats_command,
+    traffic_command,
 };
 use c104_describe::read_description;
 use c104_mistakes::{About, Messages};
@@ -24,6 +26,7 @@ use c104_stream::{ReadFault, read_up_to};
 use c104_words::{Order, STANDARD_INPUT, Subcommand, Words, pattern_of};
 use clap::error::ErrorKind;
 use opening::{is_closed, open_both, open_path};
+use pairs::{count_files, storm_files};
 use sources::Watched;
 use std::io::{Input, IsTerminal};
 use std::process::ExitCode;
@@ -110,6 +113,7 @@ fn do_order<H: Threads + Wait + Sync>(
         },
         Subcommand::Debug => debug_file(rt, order.description, told),
         Subcommand::Storm => storm_files(rt, threads, order, told),
+        Subcommand::Stats => count_files(rt, order, told),
         Subcommand::Check => check_file(rt, order.description, told),
         Subcommand::Cycles => search_file(rt, order.description, order.all, told),
         Subcommand::Label => label_file(rt, order, told),
@@ -138,35 +142,6 @@ fn run_files(rt: &HostRuntime, description: &str, script: &str, told: &mut Told<
     };
     let status = run(
         rt.alloc(),
-        &mut description,
-        &mut script,
-        &mut io::writer(rt),
-        told,
-    );
-    told.note_fault(description.fault().or(script.fault()));
-    status
-}
-
-/// Lets a storm go over the network of a description's file, by the threads that a handle gives.
-fn storm_files<H: Threads + Wait + Sync>(
-    rt: &HostRuntime,
-    threads: &H,
-    order: Order<'_>,
-    told: &mut Told<'_>,
-) -> Status {
-    let (mut description, mut script) = match open_both(
-        rt,
-        order.description,
-        order.path(1),
-        told,
-    ) {
-        Ok(sources) => sources,
-        Err(status) => return status,
-    };
-    let status = storm_command(
-        rt.alloc(),
-        threads,
-        order.worker_count(),
         &mut description,
         &mut script,
         &mut io::writer(rt),

@@ -8,3 +8,4 @@ mod RowTexts
 mod RowsByHand
 mod StateLemmas
 mod TrafficEnds
+mod CountStatuses

@@ -17,3 +17,4 @@ pub mod StatePictures
 pub mod CycleTexts
 pub mod Cycles
 pub mod CycleAdvice
+pub mod Counts

@@ -4,9 +4,9 @@
 //! one text;
 //! `check_command` takes a description alone, and checks its labels, and `cycles_command` looks for a cycle of
 //! channel dependencies; `label_command` shows the labels, `label_rows_command` the same by `row` lines,
-//! `draw_command` draws the network, `draw_state_command` as it stands after a script, and `traffic_command` writes a
-//! script by which its terminals send packets. Each reads no further than the limits of a description, 1 MiB, and of a
-//! script, 16 MiB.
+//! `stats_command` counts what a run does, `draw_command` draws the network, `draw_state_command` as it stands after a
+//! script, and `traffic_command` writes a script by which its terminals send packets. Each reads no further than the limits
+//! of a description, 1 MiB, and of a script, 16 MiB.
 //!
 //! Each of them reports what is faulty, refused, not ready or didn't arrive to what takes `Messages`; what it writes
 //! and answers is the same whatever that does. Give `Silent` to report to nobody.
@@ -18,6 +18,7 @@
 mod accepted;
 mod advice;
 mod checks;
+mod counts;
 mod cycle_breaks;
 mod cycle_texts;
 mod cycles;
@@ -40,8 +41,10 @@ mod trials;
 
 pub use accepted::cycle_advice;
 pub use advice::check_advice;
+pub use c104_session::{Format, Printing, What};
 pub use c104_traffic::{MAX_DATA, MAX_PACKETS, PatternName, Traffic};
 pub use checks::check_command;
+pub use counts::stats_command;
 pub use cycles::cycles_command;
 pub use draws::draw_command;
 pub use images::image_text;

@@ -1,6 +1,7 @@
 //! The command line: its words, and what they ask for.
 ghost use Rattle.std.specs.Prelude.{◌≤◌};
 
+use crate::count_words::{CountWords, with_counts};
 use crate::help;
 use crate::subcommands::{Row, SUBCOMMANDS, Subcommand, Takes};
 use crate::traffic_words::{TrafficWords, with_traffic};
@@ -62,6 +63,8 @@ pub struct Order<'a> {
     pub workers: Option<u8>,
     /// The traffic of which a script is to be printed.
     pub traffic: TrafficWords<'a>,
+    /// Which counts of a run are to be printed, and how.
+    pub counts: CountWords<'a>,
 }
 
 impl<'a> Order<'a> {
@@ -77,6 +80,7 @@ impl<'a> Order<'a> {
         rows: false,
         workers: None,
         traffic: TrafficWords::NONE,
+        counts: CountWords::NONE,
     };
 
     /// The order of words that were matched.
@@ -98,6 +102,7 @@ impl<'a> Order<'a> {
             rows: given.get_flag(ROWS),
             workers: given.get_one(WORKERS),
             traffic: TrafficWords::of_matches(given),
+            counts: CountWords::of_matches(given),
         }
     }
 
@@ -218,6 +223,7 @@ fn subcommand<'a>(alloc: Global, row: Row) -> Result<Command<'a>, AllocError> {
     match row.takes {
         Takes::Files => with_files(alloc, named),
         Takes::Workers => with_workers(alloc, named),
+        Takes::Counts => with_counts(alloc, with_both(alloc, named)?),
         Takes::Description => with_description(alloc, named),
         Takes::All => with_description(alloc, named)?.arg(flag(alloc, ALL, ALL_HELP)),
         Takes::Rows => with_description(alloc, named)?.arg(flag(alloc, ROWS, ROWS_HELP)),
@@ -234,9 +240,12 @@ fn with_files<'a>(alloc: Global, named: Command<'a>) -> Result<Command<'a>, Allo
 
 /// `DESC SCRIPT [--workers N]`.
 fn with_workers<'a>(alloc: Global, named: Command<'a>) -> Result<Command<'a>, AllocError> {
-    with_description(alloc, named)?
-        .arg(script_argument(alloc).required(true))?
-        .arg(workers_option(alloc))
+    with_both(alloc, named)?.arg(workers_option(alloc))
+}
+
+/// `DESC SCRIPT`.
+fn with_both<'a>(alloc: Global, named: Command<'a>) -> Result<Command<'a>, AllocError> {
+    with_description(alloc, named)?.arg(script_argument(alloc).required(true))
 }
 
 /// `DESC`.
@@ -273,6 +282,14 @@ pub fn flag<'a>(alloc: Global, name: &'a str, help: &'a str) -> Arg<'a> {
         .long(name)
         .help(help)
         .action(ArgAction::SetTrue)
+}
+
+/// An option with a value, which help shows so.
+pub fn valued<'a>(alloc: Global, name: &'a str, value: &'a str, help: &'a str) -> Arg<'a> {
+    Arg::new(alloc, name)
+        .long(name)
+        .value_name(value)
+        .help(help)
 }
 
 /// A command, and what help says of it before and after its arguments.

@@ -23,6 +23,7 @@ Examples:
   c104 < examples/first-network.txt   both in one text
   c104 debug network.txt              a description from a file, and a script as you type it
   c104 storm network.txt sends.txt    its packets carried by threads
+  c104 stats network.txt events.txt   how its packets and links fared, in numbers
   c104 check network.txt              whether its packets can go astray
   c104 cycles network.txt             whether they can wait for one another forever
   c104 label network.txt              which labels and registers it gives
@@ -73,6 +74,25 @@ number and the fault at which it stopped, or `audit` with what is wrong.
 
 On a terminal, or under --explain, standard error says who waits for whom, and what
 wasn't delivered.";
+
+/// Of `stats`.
+pub const STATS: &str =
+    "Does what the script asks, as run does, and prints numbers in place of the answers and of
+what arrived. Time is counted in rounds; what happens outside of rounds counts to the
+round before. Without --what it prints a summary: the rounds up to the last in which
+anything was done; how many packets were sent, arrived and are lost; their latencies,
+in rounds, from the least to the largest; how many tokens crossed wires in a round; and
+the three links over which tokens crossed in most rounds. A table has a row for each
+
+  packets  that was sent: where it arrived and when, and how long it held links in vain
+  links    port with a wire: the tokens and packets that crossed from there, and in which
+           share of the rounds
+  rounds   in which anything was done: what moved, arrived, waited and was held
+
+CSV and JSON are for programs. A network that stands still with tokens in it is said to,
+with who waits for what: behind what is for people, and else on standard error.
+
+  c104 stats --what links --format csv network.txt events.txt > links.csv";
 
 /// Of `check`.
 pub const CHECK: &str =

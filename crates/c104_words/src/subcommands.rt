@@ -11,6 +11,8 @@ pub enum Subcommand {
     Debug,
     /// A storm: a script's packets, carried by worker threads.
     Storm,
+    /// The counts of a run.
+    Stats,
     /// A check of a description's labels.
     Check,
     /// The search for a cycle of channel dependencies.
@@ -30,6 +32,8 @@ pub enum Takes {
     Files,
     /// `DESC SCRIPT [--workers N]`.
     Workers,
+    /// `DESC SCRIPT [--format F] [--what W]`.
+    Counts,
     /// `DESC`.
     Description,
     /// `DESC [--all]`.
@@ -58,7 +62,7 @@ pub struct Row {
 }
 
 /// The subcommands, in the order of help.
-pub const SUBCOMMANDS: [Row; 8] = [
+pub const SUBCOMMANDS: [Row; 9] = [
     Row {
         subcommand: Subcommand::Run,
         name: "run",
@@ -79,6 +83,13 @@ pub const SUBCOMMANDS: [Row; 8] = [
         about: "Lets worker threads carry the packets that a script sends, and audits their run",
         teaching: help::STORM,
         takes: Takes::Workers,
+    },
+    Row {
+        subcommand: Subcommand::Stats,
+        name: "stats",
+        about: "Runs a script, and prints how its packets, links and rounds fared, in numbers",
+        teaching: help::STATS,
+        takes: Takes::Counts,
     },
     Row {
         subcommand: Subcommand::Check,

@@ -2,9 +2,9 @@
 ghost use Rattle.std.specs.Prelude.{◌≤◌, ◌<◌, IfSome};
 ghost use Rattle.c104_traffic.specs.Packets.{IsTraffic};
 
-use crate::command_line::flag;
+use crate::command_line::{flag, valued};
 use c104_traffic::{MAX_DATA, MAX_PACKETS, PatternName, Traffic};
-use clap::{Arg, ArgMatches, Command, value_parser};
+use clap::{ArgMatches, Command, value_parser};
 use std::alloc::{AllocError, Global};
 
 /// What the command line says of traffic.
@@ -178,12 +178,4 @@ fn with_numbers<'a>(alloc: Global, asked: Command<'a>) -> Result<Command<'a>, Al
         1..=1_000,
     ));
     asked.arg(packets)?.arg(bytes)?.arg(seed)?.arg(load)
-}
-
-/// An option with a value, which help shows so.
-fn valued<'a>(alloc: Global, name: &'a str, value: &'a str, help: &'a str) -> Arg<'a> {
-    Arg::new(alloc, name)
-        .long(name)
-        .value_name(value)
-        .help(help)
 }

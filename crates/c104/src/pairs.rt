@@ -1,0 +1,99 @@
+//! Commands of a description's file and a script's.
+
+use crate::opening::open_both;
+use crate::told::Told;
+use c104_commands::{Format, Printing, Status, What, stats_command};
+use c104_storm_command::storm_command;
+use c104_words::{CountWords, Order};
+use std::io;
+use std::sync::Wait;
+use std::thread::Threads;
+
+/// Lets a storm go over the network of a description's file, by the threads that a handle gives.
+pub fn storm_files<H: Threads + Wait + Sync>(
+    rt: &HostRuntime,
+    threads: &H,
+    order: Order<'_>,
+    told: &mut Told<'_>,
+) -> Status {
+    let (mut description, mut script) = match open_both(
+        rt,
+        order.description,
+        order.path(1),
+        told,
+    ) {
+        Ok(sources) => sources,
+        Err(status) => return status,
+    };
+    let status = storm_command(
+        rt.alloc(),
+        threads,
+        order.worker_count(),
+        &mut description,
+        &mut script,
+        &mut io::writer(rt),
+        told,
+    );
+    told.note_fault(description.fault().or(script.fault()));
+    status
+}
+
+/// Counts a run of two files. A format or a table that there isn't is a wrong word.
+pub fn count_files(rt: &HostRuntime, order: Order<'_>, told: &mut Told<'_>) -> Status {
+    let Some(printing) = printing_of(order.counts) else {
+        let _ = rt.eprintln(
+            "error: the formats are table, csv and json, and the tables packets, links and rounds",
+        );
+        told.note_wrong_word();
+        return Status::Refused;
+    };
+    let (mut description, mut script) = match open_both(
+        rt,
+        order.description,
+        order.path(1),
+        told,
+    ) {
+        Ok(sources) => sources,
+        Err(status) => return status,
+    };
+    let status = stats_command(
+        rt.alloc(),
+        printing,
+        &mut description,
+        &mut script,
+        &mut io::writer(rt),
+        told,
+    );
+    told.note_fault(description.fault().or(script.fault()));
+    status
+}
+
+/// What is to be printed, and how. None where a word names neither.
+fn printing_of(words: CountWords<'_>) -> Option<Printing> {
+    let format = format_of(words.format.unwrap_or("table"))?;
+    let what = match words.what {
+        Some(word) => Some(what_of(word)?),
+        None => None,
+    };
+    Some(Printing { what, format })
+}
+
+/// The format of this name.
+fn format_of(word: &str) -> Option<Format> {
+    match word {
+        "table" => Some(Format::Table),
+        "csv" => Some(Format::Csv),
+        "json" => Some(Format::Json),
+        _ => None,
+    }
+}
+
+/// The table of this name.
+fn what_of(word: &str) -> Option<What> {
+    match word {
+        "packets" => Some(What::Packets),
+        "links" => Some(What::Links),
+        "rounds" => Some(What::Rounds),
+        _ => None,
+    }
+}

@@ -1,0 +1,237 @@
+"""Runs a program's `stats` over descriptions and scripts, and what it prints.
+
+The numbers are worked out by hand, round by round, from docs/FORMATS.md. What programs read is read by Python's own readers
+of CSV and of JSON, and has to be what the table for people says.
+"""
+
+import csv
+import io
+import json
+import os
+import re
+import tempfile
+
+from case_runner import CANNOT_WRITE, PLAN, SCRIPT_LIMIT, comments
+from random_networks import chance_of, network_of, packets_of
+
+# In rounds 1 to 3 a's tokens cross to A.0, in 2 to 4 from A.1 to b, and each arrives in the round in which it crosses. 5 is
+# the first round in which nothing is done.
+FIRST = b'send a 01 68 eop\nrounds 9\n'
+# A packet for b goes to a link that nothing leads on from.
+STUCK = PLAN.replace(b'row A.0 2 1', b'row A.0 2 7')
+NO_ROWS = PLAN[:PLAN.index(b'row')]
+SEEDS = range(5)
+WHATS = ('packets', 'links', 'rounds')
+
+PACKETS = ('sender', 'number', 'receiver', 'bytes', 'wires', 'sent', 'left', 'arrived', 'latency', 'idle', 'ending')
+LINKS = ('port', 'tokens', 'share', 'packets', 'longest', 'waiting')
+ROUNDS = ('round', 'waiting', 'inside', 'moved', 'arrived', 'held')
+COLUMNS = {'packets': PACKETS, 'links': LINKS, 'rounds': ROUNDS}
+SUMMARY = ('rounds', 'sent', 'arrived', 'lost', 'latency_least', 'latency_median', 'latency_95', 'latency_most',
+           'tokens_a_round', 'busiest', 'busiest_share', 'second', 'second_share', 'third', 'third_share')
+# What stands for people, and in CSV, where there is nothing: in JSON it is null.
+NOTHING = {'table': '-', 'csv': ''}
+
+# A description, a script, a table, and its rows.
+BY_HAND = {
+    'the packet of the first run': (PLAN, FIRST, 'packets', ('a 0 b 2 2 0 1 4 4 0 arrived',)),
+    'its links': (PLAN, FIRST, 'links',
+        ('A.0 0 0.000 0 0 0', 'A.1 3 0.750 1 3 1', 'a 3 0.750 1 3 3', 'b 0 0.000 0 0 0')),
+    'its rounds': (PLAN, FIRST, 'rounds',
+        ('0 3 0 0 0 0', '1 2 1 1 0 1', '2 1 1 2 1 1', '3 0 1 2 1 0', '4 0 0 1 1 0', '9 0 0 0 0 0')),
+    'events between rounds count to the round before': (PLAN,
+        b'send a 01 68 eop\nrounds 1\ncross a\nsend a 01 eop\nrounds 1\n', 'packets',
+        ('a 0 - 2 1 0 1 - - 0 unfinished', 'a 1 - 1 0 1 - - - 0 unfinished')),
+    'packets that are lost': (NO_ROWS, b'send a 01 68 eop\nsend b eop\nrounds 9\n', 'packets',
+        ('a 0 - 2 1 0 1 - - 0 sunk', 'b 0 - 0 1 0 1 - - 0 short')),
+    'a packet that goes nowhere': (STUCK, FIRST, 'packets', ('a 0 - 2 1 0 1 - - 0 unfinished',)),
+    'nothing is asked': (PLAN, b'', 'packets', ()),
+    'the round before the first': (PLAN, b'', 'rounds', ('0 0 0 0 0 0',)),
+    'no network': (b'', b'send a 01 eop\nrounds 3\n', 'links', ()),
+}
+
+# A description, a script, and the values of its summary.
+SUMMARIES = {
+    'the first run': (PLAN, FIRST, '4 1 1 0 4 4 4 4 1.500 A.1 0.750 a 0.750 - -'),
+    'nothing is asked': (PLAN, b'', '0 0 0 0 - - - - 0.000 - - - - - -'),
+    'lost packets': (NO_ROWS, b'send a 01 68 eop\nsend b eop\nrounds 9\n', '3 2 0 2 - - - - 1.333 a 1.000 b 0.333 - -'),
+}
+
+STILL = b'stands still after round 3\nA.7, which has no wire, holds 3 tokens\n'
+
+WRONG = (['--format', 'xml'], ['--format'], ['--what', 'switches'], ['--what'], ['--format', 'csv', '--format', 'json'], ['third'])
+
+
+class Files:
+    """A description in a file of its own; the script comes from standard input."""
+
+    def __init__(self, description):
+        self.room = tempfile.TemporaryDirectory()
+        self.description = os.path.join(self.room.name, 'network')
+        with open(self.description, 'wb') as file:
+            file.write(description)
+
+    def __enter__(self):
+        return self.description
+
+    def __exit__(self, *_):
+        self.room.cleanup()
+
+
+def words_of(path, what=None, form=None):
+    return ['stats', path, '-', *(['--what', what] if what else []), *(['--format', form] if form else [])]
+
+
+def cells_of(rows):
+    return [row.split() for row in rows]
+
+
+def table_text(columns, rows):
+    """Cells in columns of 8, two spaces apart; the last isn't padded."""
+    lines = [columns, *cells_of(rows)]
+    return ''.join('  '.join([it.ljust(8) for it in line[:-1]] + [line[-1]]) + '\n' for line in lines).encode()
+
+
+def csv_text(columns, rows):
+    lines = [columns, *cells_of(rows)]
+    return ''.join(','.join(NOTHING['csv'] if it == '-' else it for it in line) + '\r\n' for line in lines).encode()
+
+
+def value_of(column, cell):
+    """What JSON has for a cell: words are those of names, of ports and of endings."""
+    if cell == '-':
+        return None
+    if column in ('sender', 'receiver', 'ending', 'port', 'busiest', 'second', 'third'):
+        return cell
+    return float(cell) if '.' in cell else int(cell)
+
+
+def objects_of(columns, rows):
+    return [{name: value_of(name, it) for name, it in zip(columns, line)} for line in cells_of(rows)]
+
+
+def by_hand(runner):
+    for name, (description, script, what, rows) in BY_HAND.items():
+        columns = COLUMNS[what]
+        with Files(description) as path:
+            still = STILL if description == STUCK else b''
+            runner.case(name, table_text(columns, rows) + still, words=words_of(path, what), data=script)
+            runner.case(name + ': csv', csv_text(columns, rows), words=words_of(path, what, 'csv'), data=script)
+            read(runner, name + ': json', words_of(path, what, 'json'), script, objects_of(columns, rows))
+
+
+def summaries(runner):
+    for name, (description, script, values) in SUMMARIES.items():
+        title = 'summary of ' + name
+        lines = ''.join('%-16s%s\n' % pair for pair in zip(SUMMARY, values.split())).encode()
+        with Files(description) as path:
+            runner.case(title, lines, words=words_of(path), data=script)
+            runner.case(title + ': csv', csv_text(SUMMARY, [values]), words=words_of(path, form='csv'), data=script)
+            read(runner, title + ': json', words_of(path, form='json'), script, objects_of(SUMMARY, [values]))
+
+
+def read(runner, name, words, script, due):
+    """What JSON's reader makes of it."""
+    if not runner.wanted(name):
+        return
+    found = runner.run(words=words, data=script)
+    good = found is not None and found[0] == 0 and json.loads(found[1]) == due
+    runner.judge(name, None if good else '%.400r' % (found,))
+
+
+def standing(runner):
+    """Behind a table or a summary for people that is written; for programs it is told, whoever reads it."""
+    told = b''.join(b'c104: ' + line + b'\n' for line in STILL.splitlines())
+    with Files(STUCK) as path:
+        for form, errors in (('table', b''), ('csv', told), ('json', told)):
+            name = 'stands still: ' + form
+            if runner.wanted(name):
+                found = runner.run(words=words_of(path, form=form), data=FIRST)
+                good = found[0] == 0 and found[2] == errors and found[1].endswith(STILL) == (form == 'table')
+                runner.judge(name, None if good else '%.400r' % (found,))
+
+
+def rows_of(out, form):
+    """The rows of what is printed, as lists of words, by a reader of its format."""
+    text = out.decode()
+    if form == 'json':
+        return [['-' if it is None else it for it in row.values()] for row in json.loads(text)]
+    if form == 'csv':
+        return [[it or '-' for it in row] for row in csv.reader(io.StringIO(text, newline=''))][1:]
+    return [line.split() for line in text.splitlines()[1:]]
+
+
+def same(rows, others):
+    return [[str(it) for it in row] for row in rows] == [[str(it) for it in row] for row in others]
+
+
+def thousandths(rows):
+    """Shares as JSON's reader gives them have no trailing zeros."""
+    return [['%.3f' % it if isinstance(it, float) else it for it in row] for row in rows]
+
+
+def labels_of(runner, path):
+    """All labels of a network's terminals."""
+    _, out, _ = runner.run(words=['label', path])
+    ranges = [line.split()[2:] for line in out.splitlines() if line.startswith(b'range ')]
+    return [label for first, count in ranges for label in range(int(first), int(first) + int(count))]
+
+
+def random(runner, seed):
+    """Over a random network every format has the same rows; what arrived is what a run says, and no token is lost."""
+    name = 'random network %d' % seed
+    if not runner.wanted(name):
+        return
+    chance = chance_of(seed)
+    network = network_of(chance)
+    with Files(network.description) as path:
+        script = packets_of(chance, network, labels_of(runner, path)) + b'rounds 3000\n'
+        wrong = None
+        tables = {}
+        for what in WHATS:
+            found = {form: rows_of(runner.run(words=words_of(path, what, form), data=script)[1], form)
+                     for form in ('csv', 'json')}
+            if not same(found['csv'], thousandths(found['json'])):
+                wrong = '%s: csv and json differ' % what
+            tables[what] = found['csv']
+        _, out, _ = runner.run(words=['run', path, '-'], data=script)
+        arrived = len(re.findall(rb' from \S+ \d+$', out, re.MULTILINE))
+        if arrived != sum(row[-1] == 'arrived' for row in tables['packets']):
+            wrong = 'other packets arrived'
+        sent = sum(int(row[3]) + 1 for row in tables['packets'])
+        came = sum(int(row[4]) for row in tables['rounds'])
+        last = tables['rounds'][-1]
+        if not sent >= came + int(last[1]) + int(last[2]):
+            wrong = 'more tokens than were sent'
+        runner.judge(name, wrong)
+
+
+def randoms(runner):
+    for seed in SEEDS:
+        random(runner, seed)
+
+
+def usage(runner):
+    with Files(PLAN) as path:
+        for words in WRONG:
+            runner.case('usage of stats %s' % ' '.join(words), b'', 2, words=['stats', path, '-', *words], data=b'')
+        runner.case('usage of stats without a script', b'', 2, words=['stats', path], data=b'')
+
+
+def failures(runner):
+    """Faults of what is read and written, and what is refused."""
+    with Files(PLAN) as path:
+        runner.case('no script', b'', 3, b'c104: cannot read none\n', words=['stats', path, 'none'])
+        runner.case('no description', b'', 3, b'c104: cannot read none\n', words=['stats', 'none', '-'], data=b'')
+        runner.case('a faulty line', table_text(PACKETS, ['a 0 - 1 0 0 - - - 0 unfinished']), 1,
+                    words=words_of(path, 'packets'), data=b'frob\nsend a 01 eop\n')
+        runner.case('a script too long', table_text(PACKETS, ['a 0 - 1 0 0 - - - 0 unfinished']), 1,
+                    words=words_of(path, 'packets'), data=b'send a 01 eop\n' + comments(SCRIPT_LIMIT - 14) + b'send a 01 eop\n')
+        if os.path.exists('/dev/full'):
+            with open('/dev/full', 'wb') as full:
+                runner.case('an output that is full', None, 3, CANNOT_WRITE, words=words_of(path), data=FIRST, stdout=full)
+    with Files(b'switch A\nwire A.0 A.1\n') as path:
+        runner.case('a faulty description', b'description 2: 8 SelfWire\n', 1, words=words_of(path), data=FIRST)
+
+
+PARTS = [by_hand, summaries, standing, randoms, usage, failures]
