@@ -15,7 +15,7 @@ use Rattle.c104_commands.specs.Endings.{IsSetup}
 use Rattle.c104_commands.specs.StatePictures.{IsDrawnAfter, IsPictureOf, IsUndrawn, StateEnds, StateRuns}
 use Rattle.c104_commands.specs.declared.status.Status.{Status}
 
-undrawn : (kind : Halt) → IsUndrawn (halt_status kind 1)
+pub undrawn : (kind : Halt) → IsUndrawn (halt_status kind 1)
 undrawn halt.CannotRead = refl
 undrawn halt.CannotWrite = tt
 undrawn halt.NoMemory = tt

@@ -70,14 +70,15 @@ fn draw_after<S: Read, W: Write, M: Messages>(
 
 /// The picture of a network after a script.
 #[derive(Drop)]
-struct Drawn {
-    text: String,
+pub(crate) struct Drawn {
+    /// The text.
+    pub(crate) text: String,
     /// Whether the script is refused.
-    refused: bool,
+    pub(crate) refused: bool,
 }
 
 /// Writes a picture.
-fn write_drawn<W: Write>(drawn: &Drawn, writer: &mut W) -> Status
+pub(crate) fn write_drawn<W: Write>(drawn: &Drawn, writer: &mut W) -> Status
     ensures written { WritesDrawn (string_bytes drawn.now.text) drawn.now.refused
         (W.contents writer.old) (W.contents writer.new) result }
     ensures of_writer { (n : ℕ) → result ≢ status.CannotRead n }

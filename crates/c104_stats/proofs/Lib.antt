@@ -1,7 +1,7 @@
 mod LinkLaws
 mod RowSteps
-mod SenderSteps
+pub mod SenderSteps
 pub mod TakenCounts
-mod NumberSteps
+pub mod NumberSteps
 mod ConservedParts
 mod ConservedEvents

@@ -152,7 +152,15 @@ network as it then stands. Each link that a packet holds is an arrow in the pack
 colour and pattern, named by the packet's terminal and its number there; in brackets
 behind its ports stands how many tokens wait. A dotted arrow leads along each output that
 an input wants for a header. Where the network stands still, packets that wait for one
-another in a cycle are red. The exit status is 1 where a line of the script is faulty.";
+another in a cycle are red. The exit status is 1 where a line of the script is faulty.
+
+With --over-time, a script is run, and the picture shows its rounds from left to right,
+as SVG. Below each switch are the wires at it over which something goes, a row for each
+way; a packet has its colour and pattern there from its header to its end, and is hatched
+in rounds in which it holds the wire and nothing crosses. The text has at most 1 MiB: of
+more rounds a line says which --from and --to fit, and the exit status is 1.
+
+  c104 draw network.txt events.txt --over-time > run.svg";
 
 /// Of `traffic`.
 pub const TRAFFIC: &str =
