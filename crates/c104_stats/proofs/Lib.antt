@@ -3,5 +3,6 @@ mod RowSteps
 pub mod SenderSteps
 pub mod TakenCounts
 pub mod NumberSteps
+mod WiredSteps
 mod ConservedParts
 mod ConservedEvents
