@@ -1,4 +1,5 @@
-# Draws the points of points.csv: network, load, seed, and then the columns of the summary of c104 stats.
+# Draws the points of points.csv, for each of these names: network, load, seed, and then the columns of the summary of
+# c104 stats.
 set terminal svg size 720,480 background rgb 'white'
 set output 'curve.svg'
 set datafile separator ','
@@ -8,5 +9,5 @@ set ylabel 'median latency in rounds'
 set logscale y
 set grid
 median = 9
-plot for [name in 'mesh corner-tree inner-tree'] \
+plot for [name in names] \
     sprintf("< grep '^%s,' points.csv", name) using 2:median smooth unique with linespoints title name
