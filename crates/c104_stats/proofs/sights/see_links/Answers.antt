@@ -1,5 +1,4 @@
 use Rattle.std.proofs.Common.{arith}
-use Rattle.c104_crossbar.specs.Groups.{has_bit}
 use Rattle.c104_stats.specs.Sights.{wired_seen}
 use Rattle.c104_stats.proofs.NumberSteps.{none_yet}
 use Rattle.c104_stats.proofs.WiredSteps.{seen_all, seen_next}
@@ -13,7 +12,7 @@ loop-link-init c = record {
 
 pub loop-link-preserved : goal.loop-link-preserved
 loop-link-preserved c = record {
-  seen = seen_next c.args.net.now.network c.args.switch c.wires.result.now (has_bit c.linked-wired.result) c.wires.ensures
+  seen = seen_next c.args.net.now.network c.args.switch c.wires.result.now _ c.wires.ensures
       c.linked-wired.ensures.linked c.loop-link.from c.in-Some.link c.args.stats.now c.loop-link.stats c.see_link.new.stats
       c.in-Some.ensures.1.0 c.in-Some.ensures.1.1 c.loop-link.invariant.seen c.in-Some.ensures.0 c.in-Some.ensures.1.2
       c.see_link.ensures;
@@ -21,6 +20,6 @@ loop-link-preserved c = record {
 }
 
 pub returns : goal.returns
-returns c = seen_all c.args.net.now.network c.args.switch c.wires.result.now (has_bit c.linked-wired.result) c.wires.ensures
+returns c = seen_all c.args.net.now.network c.args.switch c.wires.result.now _ c.wires.ensures
     c.linked-wired.ensures.linked c.loop-link.from c.args.stats.now c.loop-link.stats c.loop-link.invariant.within
     c.loop-link.invariant.seen c.in_default.ensures.0
