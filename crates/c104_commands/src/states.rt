@@ -4,8 +4,9 @@ ghost use Rattle.std.specs.Io.KnownBytes.{prepend_known};
 ghost use Rattle.std.specs.String.{string_bytes};
 ghost use Rattle.c104_plan.specs.PlanImage.{Fits, Image as TheImage};
 ghost use Rattle.c104_plan.specs.Plans.{Plan as ThePlan};
+ghost use Rattle.c104_session.specs.AskedPictures.{IsPictureOf};
 ghost use Rattle.c104_session.specs.Shown.{new_session};
-ghost use Rattle.c104_commands.specs.StatePictures.{IsDrawnAfter, IsPictureOf, StateEnds, StateRuns, WritesDrawn};
+ghost use Rattle.c104_commands.specs.StatePictures.{IsDrawnAfter, StateEnds, StateRuns, WritesDrawn};
 ghost use Rattle.c104_commands.specs.declared.status.Status.TheVariants as status;
 
 use crate::setups::{Setup, read_setup};

@@ -10,3 +10,4 @@ pub mod CountedRuns
 pub mod Keepers
 pub mod Timed
 pub mod TimedRuns
+pub mod AskedPictures

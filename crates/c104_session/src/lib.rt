@@ -11,10 +11,12 @@
 //! and so does a failing reader or writer.
 //!
 //! A person who types a script may ask questions among its lines. To the script these are unknown words, and are
-//! answered as such; the messages give what was asked for.
+//! answered as such; the messages give what was asked for. A picture of the network that is asked for goes where the
+//! messages go, which save it.
 #![tactic(auto)]
 
 mod answering;
+mod asked_pictures;
 mod counted_runs;
 mod counting;
 mod driver;
