@@ -1,4 +1,5 @@
 pub mod Lanes
+pub mod LaneLaws
 pub mod Timelines
 pub mod Metering
 pub mod Closing

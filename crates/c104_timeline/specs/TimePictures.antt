@@ -1,7 +1,7 @@
 -- The text of a picture of a run over its rounds.
 --     picture_text plan t p      the text, of these rounds
---     IsTooLarge plan t p fits      it is too long, and these rounds fit
-use Rattle.std.specs.Prelude.{ℕ, ◌≡◌, ◌<◌, ◌≤◌, List, ◌++◌, Option, Some, None, length}
+--     IsTooLarge plan t p fits      it is too long, and these rounds fit, but not one more
+use Rattle.std.specs.Prelude.{ℕ, ◌≡◌, ◌+◌, ◌<◌, ◌≤◌, List, ◌++◌, Option, Some, None, length}
 use Rattle.c104_node.specs.declared.origins.Origin.{Origin}
 use Rattle.c104_plan.specs.Plans.{Plan}
 use Rattle.c104_timeline.specs.Timelines.{Timeline}
@@ -27,17 +27,29 @@ picture_text plan t p = framed_text plan t (frame_of plan p) (rows_of plan t p)
 abbrev pub IsTimeText : List ℕ → List ℕ → Type 0
 IsTimeText due text = (text ≡ due) × (length due ≤ TIME_TEXT_LIMIT)
 
--- rounds that fit, from the first of others on
-abbrev pub IsWider : Plan → Timeline → Period → Period → Type 0
-IsWider plan t p fits = (fits.from ≡ p.from) × (length (picture_text plan t fits) ≤ TIME_TEXT_LIMIT)
+-- the text of these rounds fits, or is too long
+abbrev pub IsShort : Plan → Timeline → Period → Type 0
+IsShort plan t p = length (picture_text plan t p) ≤ TIME_TEXT_LIMIT
 
-abbrev pub first_of : Period → Period
-first_of p = record { from = p.from; to = p.from }
+abbrev pub IsLong : Plan → Timeline → Period → Type 0
+IsLong plan t p = TIME_TEXT_LIMIT < length (picture_text plan t p)
 
+-- rounds from the first of others on, up to this one
+abbrev pub up_to : Period → ℕ → Period
+up_to p to = record { from = p.from; to = to }
+
+-- rounds from the first of others on that fit, where with one more they don't
+pub record IsWidest (plan : Plan) (t : Timeline) (p fits : Period) : Type 0 where
+  pub short : IsShort plan t fits
+  pub begins : fits.from ≡ p.from
+  pub within : fits.to < p.to
+  pub more : IsLong plan t (up_to p (fits.to + 1))
+
+-- these are such rounds; or not even the first alone fits
 abbrev pub IsFitting : Plan → Timeline → Period → Option Period → Type 0
-IsFitting plan t p None = TIME_TEXT_LIMIT < length (picture_text plan t (first_of p))
-IsFitting plan t p (Some fits) = IsWider plan t p fits
+IsFitting plan t p None = IsLong plan t (up_to p p.from)
+IsFitting plan t p (Some fits) = IsWidest plan t p fits
 
 -- the text is too long, and these rounds fit; or not even the first do
 abbrev pub IsTooLarge : Plan → Timeline → Period → Option Period → Type 0
-IsTooLarge plan t p fits = (TIME_TEXT_LIMIT < length (picture_text plan t p)) × IsFitting plan t p fits
+IsTooLarge plan t p fits = IsLong plan t p × IsFitting plan t p fits

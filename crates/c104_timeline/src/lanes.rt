@@ -2,6 +2,7 @@
 ghost use Rattle.std.specs.Prelude.{◌≡◌, ◌++◌, length, slice_get, IfOk, OnOk};
 ghost use Rattle.std.specs.Option.{option_to_list};
 ghost use Rattle.c104_stats.specs.Numbers.{few};
+ghost use Rattle.c104_timeline.specs.LaneLaws.{LaneLaw};
 ghost use Rattle.c104_timeline.specs.Lanes.{first_stretch, goes_on, held_since, is_open, lane_closed, lane_crossed, lane_settled};
 ghost use Rattle.c104_timeline.specs.Lanes.{name_if, new_lane, next_round, packet_of, rest_of, step_by, step_of};
 
@@ -237,3 +238,10 @@ fn push_if<T: Drop>(list: &mut Vec<T>, item: Option<T>) -> Result<(), NoMemory>
     }
     Ok(())
 }
+
+/// What is drawn of the wire at a port, from there, in words: at the end of a run, whatever tokens crossed one after the
+/// other. This is a law: nothing is done.
+#[tactic(auto, using(crate::proofs::LaneLaws::lane_law))]
+pub fn lane_law()
+    ensures { LaneLaw }
+{}

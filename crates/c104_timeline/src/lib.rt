@@ -22,6 +22,7 @@ mod shapes;
 mod time_pictures;
 mod timelines;
 
+pub use lanes::lane_law;
 pub use periods::{Asked, Period};
 pub use time_pictures::{TIME_TEXT_LIMIT, TimeFault, time_picture};
 pub use timelines::Timeline;

@@ -1,5 +1,5 @@
 //! The rounds that a picture shows.
-ghost use Rattle.std.specs.Prelude.{◌≡◌, None};
+ghost use Rattle.std.specs.Prelude.{◌≡◌, ◌≤◌, None};
 ghost use Rattle.c104_timeline.specs.Periods.{asked_end, asked_start, clipped, earlier, earliest, first_round, idle_in, is_in, moved_in, period_of};
 
 use crate::lanes::{Lane, Stretch};
@@ -27,7 +27,8 @@ impl Period {
     /// The rounds that are drawn of a timeline: those that are asked for, up to the last one that is drawn. Where nothing is
     /// said the first is that of the first token that crossed.
     pub fn of(timeline: &Timeline, asked: Asked) -> Self
-        ensures { result ≡ period_of timeline.now asked }
+        ensures rounds { result ≡ period_of timeline.now asked }
+        ensures forward { result.from ≤ result.to }
     {
         let from = asked_start(timeline, asked.from);
         let to = asked_end(timeline.last_round(), asked.to);

@@ -1,5 +1,5 @@
 //! The text of a picture of a run over its rounds.
-ghost use Rattle.std.specs.Prelude.{◌≡◌, ◌++◌, ◌<◌, ◌≤◌, false, length, true, IfOk, IfSome, None, Option, Err};
+ghost use Rattle.std.specs.Prelude.{◌≡◌, ◌+◌, ◌++◌, ◌<◌, ◌≤◌, false, length, true, IfOk, IfSome, None, Option, Err};
 ghost use Rattle.std.specs.String.{string_bytes};
 ghost use Rattle.c104_node.specs.declared.origins.Origin.{Origin as TheOrigin};
 ghost use Rattle.c104_timeline.specs.Frames.{frame_of};
@@ -7,7 +7,7 @@ ghost use Rattle.c104_timeline.specs.Legends.{packets_of};
 ghost use Rattle.c104_timeline.specs.Periods.{Period as ThePeriod};
 ghost use Rattle.c104_timeline.specs.Rows.{rows_of};
 ghost use Rattle.c104_timeline.specs.RowTexts.{row_lines};
-ghost use Rattle.c104_timeline.specs.TimePictures.{around, first_of, picture_text, IsFitting, IsTimeText, IsTooLarge, IsWider};
+ghost use Rattle.c104_timeline.specs.TimePictures.{around, picture_text, up_to, IsFitting, IsLong, IsShort, IsTimeText, IsTooLarge, IsWidest};
 ghost use Rattle.c104_timeline.specs.declared.time_pictures.TimeFault.TheVariants as fault;
 
 use crate::frame_texts::{add_head, add_tail};
@@ -26,13 +26,13 @@ use thiserror::Error;
 /// The most bytes of such a text: 1 MiB.
 pub const TIME_TEXT_LIMIT: usize = 1_048_576;
 
-/// How often a shorter picture is tried at most.
-const TRIALS: u32 = 32;
+// Contracts name this limit: its value is a part of what they say, so a change of it alone is refused.
+const _: () = prove!(TIME_TEXT_LIMIT == 1_048_576);
 
 /// Why a run isn't drawn.
 #[derive(Clone, Copy, Debug, PartialEq, Eq, Error)]
 pub enum TimeFault {
-    /// The text would be too long. These rounds fit; none where the first alone don't.
+    /// The text would be too long. These rounds fit, but not one more; none where the first alone doesn't.
     #[error("the picture has more than 1 MiB")]
     TooLarge(Option<Period>),
     /// Out of memory.
@@ -52,14 +52,15 @@ impl From<NoMemory> for TimeFault {
 ///
 /// A column is a round. Below the name of each switch are the wires at it over which something goes, a row for each way. A
 /// packet has a colour and a pattern, from the round of its first token that crosses a wire to that of its end; where it
-/// holds the wire and nothing crosses it is hatched. A text that would be longer is refused, by the most rounds found that
-/// fit, from the same on.
+/// holds the wire and nothing crosses it is hatched. A text that would be longer is refused, by rounds from the same on that
+/// fit, where one more doesn't.
 pub fn time_picture(
     alloc: Global,
     plan: &Plan,
     timeline: &Timeline,
     period: Period,
 ) -> Result<String, TimeFault>
+    requires { period.from ≤ period.to }
     ensures text { IfOk result (λ text. IsTimeText (picture_text plan.now timeline.now period) (string_bytes text)) }
     ensures large { (fits : Option ThePeriod) → result ≡ Err (fault.TooLarge fits)
         → IsTooLarge plan.now timeline.now period fits }
@@ -73,6 +74,8 @@ pub fn time_picture(
 
 /// Why a run isn't drawn whose text would be too long.
 fn refusal(alloc: Global, plan: &Plan, timeline: &Timeline, period: Period) -> TimeFault
+    requires long { IsLong plan.now timeline.now period }
+    requires forward { period.from ≤ period.to }
     ensures { (fits : Option ThePeriod) → result ≡ fault.TooLarge fits → IsFitting plan.now timeline.now period fits }
 {
     match fitting(alloc, plan, timeline, period) {
@@ -81,13 +84,15 @@ fn refusal(alloc: Global, plan: &Plan, timeline: &Timeline, period: Period) -> T
     }
 }
 
-/// The most rounds found, from the first on, of which a picture fits. None where that of the first alone doesn't.
+/// Rounds from the first of these on that fit, where one more doesn't. None where the first alone doesn't fit.
 fn fitting(
     alloc: Global,
     plan: &Plan,
     timeline: &Timeline,
     period: Period,
 ) -> Result<Option<Period>, NoMemory>
+    requires long { IsLong plan.now timeline.now period }
+    requires forward { period.from ≤ period.to }
     ensures { IfOk result (IsFitting plan.now timeline.now period) }
 {
     let first = Period {
@@ -97,11 +102,11 @@ fn fitting(
     if !fits(alloc, plan, timeline, first)? {
         return Ok(None);
     }
-    let best = widest(alloc, plan, timeline, first, period.to)?;
-    Ok(Some(best))
+    let widest = widest(alloc, plan, timeline, first, period.to)?;
+    Ok(Some(widest))
 }
 
-/// The most rounds found of which a picture fits, from rounds on that do, where one up to this round doesn't.
+/// Rounds from the first of these on that fit, where one more doesn't: these do, and those up to this one don't.
 fn widest(
     alloc: Global,
     plan: &Plan,
@@ -109,29 +114,34 @@ fn widest(
     first: Period,
     beyond: u32,
 ) -> Result<Period, NoMemory>
-    requires { length (picture_text plan.now timeline.now first) ≤ TIME_TEXT_LIMIT }
-    ensures { IfOk result (IsWider plan.now timeline.now first) }
+    requires short { IsShort plan.now timeline.now first }
+    requires long { IsLong plan.now timeline.now (up_to first beyond) }
+    requires before { first.to < beyond }
+    ensures { IfOk result (IsWidest plan.now timeline.now (up_to first beyond)) }
 {
     let mut best = first;
-    let mut beyond = beyond;
-    for _trial in 0..TRIALS {
-        let next = halfway(best, beyond);
+    let mut end = beyond;
+    while best.to + 1 < end {
+        let next = halfway(best, end);
         if fits(alloc, plan, timeline, next)? {
             best = next;
         } else {
-            beyond = next.to;
+            end = next.to;
         }
     }
     Ok(best)
 }
 
 /// Rounds from the same on, up to halfway to this one.
-fn halfway(best: Period, beyond: u32) -> Period
-    ensures { result.from ≡ best.from }
+fn halfway(best: Period, end: u32) -> Period
+    requires { best.to + 1 < end }
+    ensures same { result.from ≡ best.from }
+    ensures above { best.to < result.to }
+    ensures below { result.to < end }
 {
     Period {
         from: best.from,
-        to: best.to + beyond.saturating_sub(best.to) / 2,
+        to: best.to + (end - best.to) / 2,
     }
 }
 
@@ -142,8 +152,8 @@ fn fits(
     timeline: &Timeline,
     period: Period,
 ) -> Result<bool, NoMemory>
-    ensures short { IfOk result (λ fits. fits ≡ true → length (picture_text plan.now timeline.now period) ≤ TIME_TEXT_LIMIT) }
-    ensures long { IfOk result (λ fits. fits ≡ false → TIME_TEXT_LIMIT < length (picture_text plan.now timeline.now period)) }
+    ensures short { IfOk result (λ fits. fits ≡ true → IsShort plan.now timeline.now period) }
+    ensures long { IfOk result (λ fits. fits ≡ false → IsLong plan.now timeline.now period) }
 {
     let text = picture_text(alloc, plan, timeline, period)?;
     Ok(text.is_some())
@@ -159,8 +169,7 @@ fn picture_text(
 ) -> Result<Option<String>, NoMemory>
     ensures text { IfOk result (λ drawn. IfSome drawn (λ text.
         IsTimeText (picture_text plan.now timeline.now period) (string_bytes text))) }
-    ensures long { IfOk result (λ drawn. drawn ≡ None
-        → TIME_TEXT_LIMIT < length (picture_text plan.now timeline.now period)) }
+    ensures long { IfOk result (λ drawn. drawn ≡ None → IsLong plan.now timeline.now period) }
 {
     let frame = Frame::of(plan, period);
     let Lines { count, text } = lines_of(alloc, plan, timeline, frame)?;
