@@ -141,7 +141,7 @@ module _ (P : Stretch → Type 0) (Adds : Option ℕ → ℕ → ℕ → Type 0)
       let here = later from x.round l.latest order.0 before in
       let one = lane_step l x here (omega (arith, order.1)) in
       let more = rest_said l x xs (shown_after (stepped l x) xs x.round to order.2 few_rounds
-          (before_step (length l.packets) x.round l.latest here)) in (
+      (before_step (length l.packets) x.round l.latest here)) in (
         (λ it. elim (more.0 it) [
           | inl shows ↦ elim (one.0 shows) [ inl before ↦ inl before | inr adds ↦ inr (inl adds) ]
           | inr rest ↦ inr (inr rest)
@@ -276,7 +276,7 @@ module _ (xs : List Crossing) (end : ℕ) (packet : Option Origin) (order : AreI
   moved_all : (k round : ℕ) → Any (ShowsMoved k round) closed.stretches ↔ Moves k round 0 xs
   moved_all k round =
       let last = closed_shows (ShowsMoved k round) end packet (λ last n. ⊥) (λ n it. it)
-          (λ n s free is late. moved_rest k round end n s free is late few_rounds) whole whole.latest before_end in
+      (λ n s free is late. moved_rest k round end n s free is late few_rounds) whole whole.latest before_end in
       let all = shown_after (ShowsMoved k round) (AddsMoved k round) (λ last n. ⊥) (moved_step k round) new_lane xs 0 end order (omega arith) tt in
       let said = moves_said k round None 0 xs in (
         (λ it. elim (all.0 (last.0 it)) [
@@ -289,7 +289,7 @@ module _ (xs : List Crossing) (end : ℕ) (packet : Option Origin) (order : AreI
   held_all : (k round : ℕ) → Any (ShowsHeld k round) closed.stretches ↔ Holds k round end None 0 xs
   held_all k round =
       let last = closed_shows (ShowsHeld k round) end packet (HoldsOn k round end) (λ n it. it)
-          (λ n s free is late. held_rest k round end n s free is late few_rounds) whole whole.latest before_end in
+      (λ n s free is late. held_rest k round end n s free is late few_rounds) whole whole.latest before_end in
       let all = shown_after (ShowsHeld k round) (IsBetween k round) (HoldsOn k round end) (held_step k round) new_lane xs 0 end order (omega arith) tt in
       let said = holds_said k round end None 0 xs in (
         (λ it. elim (all.0 (last.0 it)) [

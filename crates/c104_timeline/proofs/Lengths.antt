@@ -10,7 +10,7 @@ use Rattle.c104_timeline.specs.TimePictures.{around}
 among : (n : ℕ) (before text behind : List ℕ) → n < length text → n < length (before ++ (text ++ behind))
 among n before text behind long =
     let all : length (before ++ (text ++ behind)) ≡ length before + (length text + length behind)
-        = length-append before (text ++ behind) ∙ ap (λ m. length before + m) (length-append text behind) in
+    = length-append before (text ++ behind) ∙ ap (λ m. length before + m) (length-append text behind) in
     omega (arith, all, long)
 
 pub too_long : (n : ℕ) (plan : Plan) (f : Frame) (rows : ℕ) (packets : List (Option Origin)) (lines : List ℕ) → n < length lines

@@ -52,12 +52,7 @@ fn add_opening(
 }
 
 /// The size of a picture joins the text.
-fn add_size(
-    alloc: Global,
-    width: u64,
-    height: u64,
-    text: &mut String,
-) -> Result<(), AllocError>
+fn add_size(alloc: Global, width: u64, height: u64, text: &mut String) -> Result<(), AllocError>
     ensures { OnOk result (string_bytes text.new ≡ string_bytes text.old ++ size_text width height) }
 {
     let size = size_text(alloc, width, height)?;
@@ -69,7 +64,9 @@ fn add_size(
 fn size_text(alloc: Global, width: u64, height: u64) -> Result<String, AllocError>
     ensures { IfOk result (λ text. string_bytes text ≡ size_text width height) }
 {
-    format!(in alloc; "<svg xmlns=\"http://www.w3.org/2000/svg\" width=\"{width}\" height=\"{height}\"")
+    format!(in alloc;
+        "<svg xmlns=\"http://www.w3.org/2000/svg\" width=\"{width}\" height=\"{height}\""
+    )
 }
 
 /// What a picture shows of the plane joins the text.
@@ -101,7 +98,9 @@ fn view_text(alloc: Global, left: u64, width: u64, height: u64) -> Result<String
 fn ground_text(alloc: Global, left: u64, width: u64, height: u64) -> Result<String, AllocError>
     ensures { IfOk result (λ text. string_bytes text ≡ ground_text left width height) }
 {
-    format!(in alloc; "<rect x=\"-{left}\" width=\"{width}\" height=\"{height}\" fill=\"white\"/>\n")
+    format!(in alloc;
+        "<rect x=\"-{left}\" width=\"{width}\" height=\"{height}\" fill=\"white\"/>\n"
+    )
 }
 
 /// The patterns of all colours join the text.
@@ -251,12 +250,7 @@ fn title_text(alloc: Global, frame: Frame) -> Result<String, AllocError>
 }
 
 /// The numbers of rounds join the text, each with a line down to here.
-fn add_ticks(
-    alloc: Global,
-    frame: Frame,
-    bottom: u64,
-    text: &mut String,
-) -> Result<(), AllocError>
+fn add_ticks(alloc: Global, frame: Frame, bottom: u64, text: &mut String) -> Result<(), AllocError>
     ensures { OnOk result (string_bytes text.new ≡ string_bytes text.old ++ ticks_text frame bottom) }
 {
     for number in 0..frame.tick_count() {

@@ -31,11 +31,7 @@ pub(crate) fn packets_of(
 }
 
 /// The packets of a lane join others. The only error is out of memory.
-fn add_lane(
-    period: Period,
-    lane: &Lane,
-    packets: &mut Vec<Option<Origin>>,
-) -> Result<(), NoMemory>
+fn add_lane(period: Period, lane: &Lane, packets: &mut Vec<Option<Origin>>) -> Result<(), NoMemory>
     ensures { OnOk result (packets.new.items
         ≡ with_stretches period lane.now packets.old.items lane.now.stretches) }
 {
@@ -74,9 +70,7 @@ fn add_new(packet: Option<Origin>, packets: &mut Vec<Option<Origin>>) -> Result<
 fn has_packet(packets: &[Option<Origin>], packet: Option<Origin>) -> bool
     ensures { result ≡ has_packet packets.now packet }
 {
-    packets
-        .iter()
-        .any(|other| is_same_packet(packet, *other))
+    packets.iter().any(|other| is_same_packet(packet, *other))
 }
 
 /// Whether two packets are the same one.

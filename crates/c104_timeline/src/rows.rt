@@ -93,7 +93,13 @@ fn drawn_ports(
 {
     let mut ports = Vec::new(alloc);
     for link in 0..LINKS {
-        add_link(plan, timeline, period, Port::Switch(switch, link), &mut ports)?;
+        add_link(
+            plan,
+            timeline,
+            period,
+            Port::Switch(switch, link),
+            &mut ports,
+        )?;
     }
     Ok(ports)
 }
@@ -144,7 +150,5 @@ fn is_drawn(timeline: &Timeline, period: Period, port: Port) -> bool
 fn has_stretch(lane: &Lane, period: Period) -> bool
     ensures { result ≡ has_stretch period lane.now }
 {
-    lane.stretches()
-        .iter()
-        .any(|stretch| period.has(*stretch))
+    lane.stretches().iter().any(|stretch| period.has(*stretch))
 }

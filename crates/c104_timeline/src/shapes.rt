@@ -116,8 +116,24 @@ fn add_bars(
     ensures { OnOk result (string_bytes text.new
         ≡ string_bytes text.old ++ packet_bars period top packet stretch) }
 {
-    add_bar(alloc, period.from, top, packet, Fill::Idle, period.idle(stretch), text)?;
-    add_bar(alloc, period.from, top, packet, Fill::Moved, period.moved(stretch), text)
+    add_bar(
+        alloc,
+        period.from,
+        top,
+        packet,
+        Fill::Idle,
+        period.idle(stretch),
+        text,
+    )?;
+    add_bar(
+        alloc,
+        period.from,
+        top,
+        packet,
+        Fill::Moved,
+        period.moved(stretch),
+        text,
+    )
 }
 
 /// Rounds join the text, if there are some, where the first that is drawn is this.
@@ -153,5 +169,7 @@ fn rect_text(
     let x = CELL * u64::from(rounds.from.saturating_sub(from));
     let y = top.saturating_add(2);
     let width = CELL * (u64::from(rounds.to.saturating_sub(rounds.from)) + 1);
-    format!(in alloc; "<rect x=\"{x}\" y=\"{y}\" width=\"{width}\" height=\"10\" fill=\"{fill}\"/>\n")
+    format!(in alloc;
+        "<rect x=\"{x}\" y=\"{y}\" width=\"{width}\" height=\"10\" fill=\"{fill}\"/>\n"
+    )
 }

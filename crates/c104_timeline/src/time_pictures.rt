@@ -146,12 +146,7 @@ fn halfway(best: Period, end: u32) -> Period
 }
 
 /// Whether a picture of these rounds fits.
-fn fits(
-    alloc: Global,
-    plan: &Plan,
-    timeline: &Timeline,
-    period: Period,
-) -> Result<bool, NoMemory>
+fn fits(alloc: Global, plan: &Plan, timeline: &Timeline, period: Period) -> Result<bool, NoMemory>
     ensures short { IfOk result (λ fits. fits ≡ true → IsShort plan.now timeline.now period) }
     ensures long { IfOk result (λ fits. fits ≡ false → IsLong plan.now timeline.now period) }
 {

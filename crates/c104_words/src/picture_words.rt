@@ -67,11 +67,13 @@ const OVER_TIME_HELP: &str = "Show the packets round by round, as SVG";
 
 const FROM: &str = "from";
 
-const FROM_HELP: &str = "The first round shown; by default that of the first token that crosses a wire";
+const FROM_HELP: &str =
+    "The first round shown; by default that of the first token that crosses a wire";
 
 const TO: &str = "to";
 
-const TO_HELP: &str = "The last round shown; by default the last one, or a few behind the last in which anything is done";
+const TO_HELP: &str =
+    "The last round shown; by default the last one, or a few behind the last in which anything is done";
 
 /// The group of what is drawn of a script.
 const DRAWN: &str = "drawn";
