@@ -4,7 +4,7 @@ use Rattle.std.proofs.KnownBytes.{Keeps-refl}
 use Rattle.c104_plan.specs.Plans.{Plan}
 use Rattle.c104_plan.specs.PlanImage.{Image}
 use Rattle.c104_stream.specs.declared.halt.Halt.{Halt}
-use Rattle.c104_timeline.specs.Periods.{Asked}
+use Rattle.c104_timeline.specs.declared.periods.Asked.{Asked}
 use Rattle.c104_commands.specs.OverTime.{OverTimeRuns}
 use Rattle.c104_commands.specs.StatePictures.{IsUndrawn}
 use Rattle.c104_commands.specs.Statuses.{halt_status}

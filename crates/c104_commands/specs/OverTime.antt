@@ -5,7 +5,7 @@ use Rattle.std.specs.Prelude.{ℕ, ◌⊎◌, Bool, List, Option, Ok}
 use Rattle.std.specs.Io.KnownBytes.{Keeps}
 use Rattle.c104_plan.specs.Plans.{Plan}
 use Rattle.c104_plan.specs.PlanImage.{Image}
-use Rattle.c104_timeline.specs.Periods.{Asked}
+use Rattle.c104_timeline.specs.declared.periods.Asked.{Asked}
 use Rattle.c104_session.specs.TimedRuns.{IsTimedPlan}
 use Rattle.c104_commands.specs.Endings.{EndsBefore, IsSetup}
 use Rattle.c104_commands.specs.StatePictures.{IsUndrawn, WritesDrawn}

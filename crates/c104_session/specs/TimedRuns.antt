@@ -8,7 +8,9 @@ use Rattle.c104_stream.specs.Scripts.{script_outcome}
 use Rattle.c104_stream.specs.declared.halt.Halt.{Halt}
 use Rattle.c104_stream.specs.declared.halt.Halt.TheVariants as halt
 use Rattle.c104_timeline.specs.Closing.{closed_all}
-use Rattle.c104_timeline.specs.Periods.{period_of, Asked, Period}
+use Rattle.c104_timeline.specs.declared.periods.Asked.{Asked}
+use Rattle.c104_timeline.specs.declared.periods.Period.{Period}
+use Rattle.c104_timeline.specs.Periods.{period_of}
 use Rattle.c104_timeline.specs.TimePictures.{picture_text, IsTimeText, IsTooLarge}
 use Rattle.c104_timeline.specs.Timelines.{new_timeline, Timeline}
 use Rattle.c104_session.specs.Driven.{driven_outcome}

@@ -25,12 +25,16 @@ abbrev pub fill_text : Option Origin → Fill → List ℕ
 fill_text packet fill.Moved = moved_fill (packet_color packet) (pattern packet)
 fill_text packet fill.Idle = codes "url(#" ++ (packet_color packet ++ codes "-idle)")
 
--- a rectangle over rounds, where the first that is drawn is this
+-- a rectangle at a place, of this width
+unfoldable pub rect_by : ℕ → ℕ → ℕ → List ℕ → List ℕ
+rect_by x y wide filled =
+    codes "<rect x=\"" ++ (decimal x ++ (codes "\" y=\"" ++ (decimal y ++ (codes "\" width=\"" ++ (decimal wide
+    ++ (codes "\" height=\"10\" fill=\"" ++ (filled ++ codes "\"/>\n")))))))
+
+-- over rounds, where the first that is drawn is this
 abbrev pub rect_text : ℕ → ℕ → List ℕ → Period → List ℕ
 rect_text from top filled rounds =
-    codes "<rect x=\"" ++ (decimal (CELL * (rounds.from - from)) ++ (codes "\" y=\"" ++ (decimal (told (top + 2))
-    ++ (codes "\" width=\"" ++ (decimal (CELL * (rounds.to - rounds.from + 1)) ++ (codes "\" height=\"10\" fill=\""
-    ++ (filled ++ codes "\"/>\n")))))))
+    rect_by (CELL * (rounds.from - from)) (told (top + 2)) (CELL * (rounds.to - rounds.from + 1)) filled
 
 abbrev pub bar_text : ℕ → ℕ → Option Origin → Fill → Option Period → List ℕ
 bar_text from top packet f None = []

@@ -5,7 +5,7 @@ ghost use Rattle.std.specs.String.{string_bytes};
 ghost use Rattle.c104_picture.specs.StateTexts.{packet_color};
 ghost use Rattle.c104_stats.specs.Numbers.{told};
 ghost use Rattle.c104_timeline.specs.Lanes.{packet_of};
-ghost use Rattle.c104_timeline.specs.Shapes.{bar_text, fill_text, line_top, moved_fill, packet_bars, rect_text, stretch_text, stretches_text};
+ghost use Rattle.c104_timeline.specs.Shapes.{bar_text, fill_text, line_top, moved_fill, packet_bars, rect_by, rect_text, stretch_text, stretches_text};
 
 use crate::lanes::{Lane, Stretch};
 use crate::periods::Period;
@@ -169,6 +169,14 @@ fn rect_text(
     let x = CELL * u64::from(rounds.from.saturating_sub(from));
     let y = top.saturating_add(2);
     let width = CELL * (u64::from(rounds.to.saturating_sub(rounds.from)) + 1);
+    rect_by(alloc, x, y, width, fill)
+}
+
+/// A rectangle at a place, of this width.
+#[tactic(auto, unfolding(crate::specs::Shapes::rect_by))]
+fn rect_by(alloc: Global, x: u64, y: u64, width: u64, fill: &str) -> Result<String, AllocError>
+    ensures { IfOk result (λ text. string_bytes text ≡ rect_by x y width fill.now) }
+{
     format!(in alloc;
         "<rect x=\"{x}\" y=\"{y}\" width=\"{width}\" height=\"10\" fill=\"{fill}\"/>\n"
     )
