@@ -12,6 +12,7 @@ pub mod StillTexts
 pub mod KeptRounds
 pub mod KeptLoops
 pub mod ToldEvents
+pub mod TimedScripts
 pub mod Leavings
 pub mod PlanRuns
 pub mod Starts

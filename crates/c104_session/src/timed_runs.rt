@@ -1,5 +1,5 @@
 //! A script, run on the network of a plan, and the picture of that over its rounds.
-ghost use Rattle.std.specs.Prelude.{◌≡◌, ◌≢◌, IfOk, Err};
+ghost use Rattle.std.specs.Prelude.{◌≡◌, ◌≢◌, ◌||◌, IfOk, Err};
 ghost use Rattle.std.specs.Io.KnownBytes.{prepend_known};
 ghost use Rattle.std.specs.String.{string_bytes};
 ghost use Rattle.c104_plan.specs.PlanImage.{Fits};
@@ -103,8 +103,15 @@ fn time_script<S: Read, M: Messages>(
     let timed = timeline_text(alloc, session.net.plan(), &timeline, asked)?;
     Ok(TimedText {
         text: timed.text,
-        is_refused: timed.is_refused || (is_long || session.faulty),
+        is_refused: is_refused(timed.is_refused, is_long, session.faulty),
     })
+}
+
+/// Whether a run is refused: for its picture, for its script's length, or for one of the lines.
+fn is_refused(is_large: bool, is_long: bool, faulty: bool) -> bool
+    ensures { result ≡ (is_large || (is_long || faulty)) }
+{
+    is_large || (is_long || faulty)
 }
 
 /// The picture of the rounds of a timeline that are asked for, or the line that refuses it. The only error is out of memory.
