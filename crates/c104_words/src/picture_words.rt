@@ -118,11 +118,13 @@ fn script_option<'a>(option: Arg<'a>) -> Result<Arg<'a>, AllocError> {
         .conflicts_with(CYCLES)
 }
 
-/// `--from R` or `--to R`.
+/// `--from R` or `--to R`. What is wanted but stands against another word isn't missed, so it is said that neither goes with
+/// `--state`.
 fn round_option<'a>(alloc: Global, name: &'a str, help: &'a str) -> Result<Arg<'a>, AllocError> {
     valued(alloc, name, "R", help)
         .value_parser(value_parser!(u32))
-        .requires_arg(OVER_TIME)
+        .requires_arg(OVER_TIME)?
+        .conflicts_with(STATE)
 }
 
 /// `--header N`.
