@@ -10,6 +10,7 @@ import tempfile
 TESTS = os.path.dirname(os.path.abspath(__file__))
 TOP = os.path.dirname(TESTS)
 CASES, EXAMPLES = os.path.join(TESTS, 'cases'), os.path.join(TOP, 'examples')
+EXAMPLE_FILES = sorted(it.name for it in os.scandir(EXAMPLES) if it.is_file())
 # Networks that the benches make are cases too.
 sys.path.insert(0, os.path.join(TESTS, 'bench'))
 

@@ -8,7 +8,7 @@ import os
 import re
 from concurrent.futures import ThreadPoolExecutor
 
-from case_runner import (DRAINS_TO_THE_TERMINATOR, EXAMPLES, FIRST_RUN, FIRST_TEXT, PLAN, RECEIVED, SCRIPT_LINE,
+from case_runner import (DRAINS_TO_THE_TERMINATOR, EXAMPLES, EXAMPLE_FILES, FIRST_RUN, FIRST_TEXT, PLAN, RECEIVED, SCRIPT_LINE,
     answers_of, difference, lines_of)
 
 ANSWER = re.compile(rb'(\d+): .*\n')
@@ -72,7 +72,7 @@ def first_run(runner):
 
 
 def examples(runner):
-    for file in sorted(os.listdir(EXAMPLES)):
+    for file in EXAMPLE_FILES:
         name = 'of %s' % file
         if not runner.wanted(name):
             continue

@@ -35,8 +35,9 @@ show SWITCH.LINK            shows a link
 show TERMINAL               shows a terminal
 show waiting                shows which outputs inputs hold and want
 where TERMINAL NUMBER       shows where a packet is: NUMBER is from 0 on, of those that the terminal sent
+draw FILE                   saves a picture of the network as it stands, for Graphviz
 A PORT is a terminal, or a switch with a link, as A.0. A `#` begins a comment.
-`help`, `show` and `where` are no words of a script, and are faults there. The end of input, Ctrl-D, ends the script.
+`help`, `show`, `where` and `draw` are no words of a script, and are faults there. The end of input, Ctrl-D, ends the script.
 '''
 
 
@@ -65,6 +66,7 @@ def terminal(name, other, *counts):
 
 
 FAREWELL = b'type Ctrl-D to end the script: it ends with the input\n'
+DRAW_FORM = b'the line is `draw FILE`, as `draw now.dot`: the file\'s name is one word, in UTF-8\n'
 IDLE = b'waits for a packet'
 FREE = b'no input owns it'
 
@@ -119,8 +121,13 @@ TYPED = [
     ('show A.32', UNKNOWN, b'a link is 0 to 31: A.32\n'),
     ('show b.0', UNKNOWN, b'a terminal is named without a link: b.0\n'),
     ('show B.0', UNKNOWN, b'the description defines no such name: B.0\n'),
+    ('draw', UNKNOWN, DRAW_FORM),
+    ('draw now.dot then.dot', UNKNOWN, DRAW_FORM),
+    ('draw .', UNKNOWN, b'.: Is a directory (os error 21)\n'),
+    ('draw none/such  # a file', UNKNOWN, b'none/such: No such file or directory (os error 2)\n'),
+    ('draw /dev/full', UNKNOWN, b'/dev/full: No space left on device (os error 28)\n'),
     ('quit', UNKNOWN, FAREWELL),
-    ('frob', UNKNOWN, b'c104: -:56: a line begins with `send`, `drain`, `cross`, `credit`, `input`, `claim`, `control`, '
+    ('frob', UNKNOWN, b'c104: -:61: a line begins with `send`, `drain`, `cross`, `credit`, `input`, `claim`, `control`, '
         b'`rounds`, `peek`, `poke`, `link`, `table` or `verify`; `help` lists them, and `show` shows a part of the '
         b'network: frob\n'),
     ('', None, b''),
@@ -410,6 +417,46 @@ def a_node_of_that_name(runner):
         runner.judge(name, None if told == wanted and asked.end() == 1 else 'found %r' % told)
 
 
+def pictures(runner):
+    """`draw` saves the picture that `draw --state` prints of the lines so far, in place of what the file held. Through a
+    pipe it saves nothing."""
+    name = 'pictures at a terminal'
+    if runner.wanted(name):
+        with tempfile.TemporaryDirectory() as folder:
+            wrong = drawn_pictures(runner, network(folder), os.path.join(folder, 'now.dot'))
+            runner.judge(name, wrong)
+    for name, words in [('a picture through a pipe', []), ('a picture through a pipe, explained', ['--explain'])]:
+        if runner.wanted(name):
+            with tempfile.TemporaryDirectory() as folder:
+                path = network(folder)
+                found = runner.run(words=[*words, 'debug', path], data=b'draw %s/now.dot\n' % folder.encode())
+                wrong = difference((*found[:2], b''), answers_of([('', UNKNOWN)]), 1, b'')
+                runner.judge(name, wrong or (None if os.listdir(folder) == [os.path.basename(path)] else 'it is saved'))
+
+
+def drawn_pictures(runner, path, saved):
+    """What is wrong of pictures that are saved in a file among the lines of the first run, or None."""
+    asked, typed, number = asked_by_person(runner.program + ['debug', path], False), b'', 1
+    asked.read(asked.errors, b'1> ')
+    with open(saved, 'wb') as file:
+        file.write(b'x' * 65536)
+    for line, _ in [('', None), *FIRST_RUN]:
+        for sent in (line.encode(), b'draw ' + saved.encode()):
+            asked.send(sent + b'\n')
+            number += 1
+            told = asked.read(asked.errors, b'%d> ' % number)
+        typed += line.encode() + b'\n'
+        with open(saved, 'rb') as file:
+            found = file.read()
+        wanted = runner.run(words=['draw', path, '-', '--state'], data=typed)[1]
+        said = b'%s: a picture of %d bytes, for `dot -Tsvg`\n%d> ' % (saved.encode(), len(wanted), number)
+        if (told, found) != (said, wanted):
+            return 'after %r: wanted %r, found %r, told %r' % (line, wanted, found, told)
+    asked.send(END_OF_INPUT)
+    asked.read(asked.output, None)
+    return None if asked.end() == 1 else 'exit status'
+
+
 def questions_as_faults(runner):
     """What is typed gives the same bytes as a run of it. The words by which a person wants to end a script don't change
     the exit status at a terminal."""
@@ -443,4 +490,4 @@ def awaited(runner):
 
 
 PARTS = [through_a_pipe, no_questions, same_as_run, at_a_terminal, what_waits, reads_and_drops,
-         where_packets_are, a_node_of_that_name, questions_as_faults, awaited]
+         where_packets_are, a_node_of_that_name, pictures, questions_as_faults, awaited]

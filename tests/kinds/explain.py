@@ -13,7 +13,7 @@ import subprocess
 import tempfile
 import threading
 
-from case_runner import CASES, EXAMPLES, PLAN, TESTS, TOP, CopiedCase
+from case_runner import CASES, EXAMPLES, EXAMPLE_FILES, PLAN, TESTS, TOP, CopiedCase
 from kinds.descriptions import REFUSED_DESCRIPTIONS
 
 TABLES = [os.path.join(TOP, 'crates', name, 'src') for name in ('c104_mistakes', 'c104_explain')]
@@ -385,7 +385,7 @@ def refused_descriptions(runner):
 
 
 def examples(runner):
-    for name in sorted(os.listdir(EXAMPLES)):
+    for name in EXAMPLE_FILES:
         if runner.wanted('example ' + name):
             path = os.path.join(EXAMPLES, name)
             with open(path, 'rb') as file:

@@ -9,9 +9,10 @@ import io
 import json
 import os
 import re
+import subprocess
 import tempfile
 
-from case_runner import CANNOT_WRITE, PLAN, SCRIPT_LIMIT, comments
+from case_runner import CANNOT_WRITE, EXAMPLES, PLAN, SCRIPT_LIMIT, comments
 from random_networks import chance_of, network_of, packets_of
 
 # In rounds 1 to 3 a's tokens cross to A.0, in 2 to 4 from A.1 to b, and each arrives in the round in which it crosses. 5 is
@@ -58,6 +59,9 @@ SUMMARIES = {
 }
 
 STILL = b'stands still after round 3\nA.7, which has no wire, holds 3 tokens\n'
+
+SWEEP = os.path.join(EXAMPLES, 'sweep')
+LOAD, SEED = '32', '7'
 
 WRONG = (['--format', 'xml'], ['--format'], ['--what', 'switches'], ['--what'], ['--format', 'csv', '--format', 'json'], ['third'])
 
@@ -234,4 +238,19 @@ def failures(runner):
         runner.case('a faulty description', b'description 2: 8 SelfWire\n', 1, words=words_of(path), data=FIRST)
 
 
-PARTS = [by_hand, summaries, standing, randoms, usage, failures]
+def sweep(runner):
+    """A point of the curve of examples/sweep is the summary of that traffic."""
+    name = 'a point of the sweep'
+    if not runner.wanted(name) or len(runner.program) > 1:
+        return
+    mesh = os.path.join(SWEEP, 'mesh.txt')
+    sent = ['--pattern', 'uniform', '--packets', '1600', '--bytes', '15', '--seed', SEED, '--load', LOAD]
+    _, script, _ = runner.run(words=['traffic', mesh, *sent])
+    _, out, _ = runner.run(words=words_of(mesh, form='csv'), data=script + b'rounds 10000\n')
+    point = [os.path.join(SWEEP, 'point'), mesh, LOAD, SEED]
+    found = subprocess.run(point, stdout=subprocess.PIPE, env={**os.environ, 'C104': os.path.abspath(runner.program[0])}).stdout
+    due = ('mesh,%s,%s,' % (LOAD, SEED)).encode() + out.splitlines(keepends=True)[-1]
+    runner.judge(name, None if found == due else '%.400r' % found)
+
+
+PARTS = [by_hand, summaries, standing, randoms, usage, failures, sweep]

@@ -15,8 +15,8 @@ mod typed;
 
 pub use c104_commands::{
     Marks, PatternName, Status, check_command, cycles_command, debug_command, draw_command,
-    draw_state_command, label_command, label_rows_command, run, run_text, stats_command,
-    traffic_command,
+    draw_over_time_command, draw_state_command, label_command, label_rows_command, run, run_text,
+    stats_command, traffic_command,
 };
 use c104_describe::read_description;
 use c104_mistakes::{About, Messages};
@@ -26,7 +26,7 @@ use c104_stream::{ReadFault, read_up_to};
 use c104_words::{Order, STANDARD_INPUT, Subcommand, Words, pattern_of};
 use clap::error::ErrorKind;
 use opening::{is_closed, open_both, open_path};
-use pairs::{count_files, storm_files};
+use pairs::{count_files, draw_files, storm_files, time_files};
 use sources::Watched;
 use std::io::{Input, IsTerminal};
 use std::process::ExitCode;
@@ -117,7 +117,8 @@ fn do_order<H: Threads + Wait + Sync>(
         Subcommand::Check => check_file(rt, order.description, told),
         Subcommand::Cycles => search_file(rt, order.description, order.all, told),
         Subcommand::Label => label_file(rt, order, told),
-        Subcommand::Draw if order.state => draw_files(rt, order, told),
+        Subcommand::Draw if order.picture.state => draw_files(rt, order, told),
+        Subcommand::Draw if order.picture.over_time => time_files(rt, order, told),
         Subcommand::Draw => draw_file(rt, order, told),
         Subcommand::Traffic => send_file(rt, order, told),
     }
@@ -224,7 +225,7 @@ fn draw_file(rt: &HostRuntime, order: Order<'_>, told: &mut Told<'_>) -> Status 
         }
     };
     let mut text = text.as_slice();
-    if let Some(header) = order.header
+    if let Some(header) = order.picture.header
         && header > LAST_SHORT_HEADER
         && has_short_headers(rt, text)
     {
@@ -241,28 +242,6 @@ fn draw_file(rt: &HostRuntime, order: Order<'_>, told: &mut Told<'_>) -> Status 
         &mut io::writer(rt),
         told,
     )
-}
-
-/// Draws the network of a description's file as it stands after a script.
-fn draw_files(rt: &HostRuntime, order: Order<'_>, told: &mut Told<'_>) -> Status {
-    let (mut description, mut script) = match open_both(
-        rt,
-        order.description,
-        order.path(1),
-        told,
-    ) {
-        Ok(sources) => sources,
-        Err(status) => return status,
-    };
-    let status = draw_state_command(
-        rt.alloc(),
-        &mut description,
-        &mut script,
-        &mut io::writer(rt),
-        told,
-    );
-    told.note_fault(description.fault().or(script.fault()));
-    status
 }
 
 /// Prints a script of traffic for the network of a description's file. A pattern that there isn't is a wrong word, and so
@@ -301,9 +280,9 @@ fn send_file(rt: &HostRuntime, order: Order<'_>, told: &mut Told<'_>) -> Status 
 
 /// What is to be marked in a picture.
 fn marks_of(order: Order<'_>) -> Marks {
-    match order.header {
+    match order.picture.header {
         Some(header) => Marks::Header(u32::from(header)),
-        None if order.cycles => Marks::Cycle,
+        None if order.picture.cycles => Marks::Cycle,
         None => Marks::Nothing,
     }
 }

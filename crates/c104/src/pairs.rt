@@ -2,9 +2,12 @@
 
 use crate::opening::open_both;
 use crate::told::Told;
-use c104_commands::{Format, Printing, Status, What, stats_command};
+use c104_commands::{
+    Asked, Format, Printing, Status, What, draw_over_time_command, draw_state_command,
+    stats_command,
+};
 use c104_storm_command::storm_command;
-use c104_words::{CountWords, Order};
+use c104_words::{CountWords, Order, PictureWords};
 use std::io;
 use std::sync::Wait;
 use std::thread::Threads;
@@ -29,6 +32,56 @@ pub fn storm_files<H: Threads + Wait + Sync>(
         rt.alloc(),
         threads,
         order.worker_count(),
+        &mut description,
+        &mut script,
+        &mut io::writer(rt),
+        told,
+    );
+    told.note_fault(description.fault().or(script.fault()));
+    status
+}
+
+/// Draws the network of a description's file as it stands after a script.
+pub fn draw_files(rt: &HostRuntime, order: Order<'_>, told: &mut Told<'_>) -> Status {
+    let (mut description, mut script) = match open_both(
+        rt,
+        order.description,
+        order.path(1),
+        told,
+    ) {
+        Ok(sources) => sources,
+        Err(status) => return status,
+    };
+    let status = draw_state_command(
+        rt.alloc(),
+        &mut description,
+        &mut script,
+        &mut io::writer(rt),
+        told,
+    );
+    told.note_fault(description.fault().or(script.fault()));
+    status
+}
+
+/// Draws a run of two files over its rounds. A first round behind the last is a wrong word.
+pub fn time_files(rt: &HostRuntime, order: Order<'_>, told: &mut Told<'_>) -> Status {
+    let Some(asked) = asked_of(order.picture) else {
+        let _ = rt.eprintln("error: --from is no round behind that of --to");
+        told.note_wrong_word();
+        return Status::Refused;
+    };
+    let (mut description, mut script) = match open_both(
+        rt,
+        order.description,
+        order.path(1),
+        told,
+    ) {
+        Ok(sources) => sources,
+        Err(status) => return status,
+    };
+    let status = draw_over_time_command(
+        rt.alloc(),
+        asked,
         &mut description,
         &mut script,
         &mut io::writer(rt),
@@ -66,6 +119,14 @@ pub fn count_files(rt: &HostRuntime, order: Order<'_>, told: &mut Told<'_>) -> S
     );
     told.note_fault(description.fault().or(script.fault()));
     status
+}
+
+/// The rounds that are asked for. None where the first is behind the last.
+fn asked_of(words: PictureWords) -> Option<Asked> {
+    match (words.from, words.to) {
+        (Some(from), Some(to)) if from > to => None,
+        (from, to) => Some(Asked { from, to }),
+    }
 }
 
 /// What is to be printed, and how. None where a word names neither.

@@ -1,4 +1,5 @@
-//! What people are told on standard error, and where that is wanted.
+//! What people are told on standard error, and where that is wanted; and pictures that they ask for.
+ghost use Rattle.std.specs.Prelude.{⊤};
 
 use c104_commands::Status;
 use c104_mistakes::{About, Messages};
@@ -139,6 +140,9 @@ fn begun(rt: &HostRuntime, line: usize) -> Option<Going> {
 }
 
 impl Messages for Told<'_> {
+    // No contract can say what a file takes.
+    ghost saves = { λ old file picture new. ⊤ };
+
     fn are_wanted(&self) -> bool {
         self.is_wanted
     }
@@ -171,6 +175,10 @@ impl Messages for Told<'_> {
         if let Ok(message) = format!(in self.rt.alloc(); "{done} of {count} {what} are done") {
             self.tell(about, message.as_str());
         }
+    }
+
+    fn save(&mut self, file: &str, picture: &str) -> io::Result<()> {
+        fs::write(self.rt, file, picture.as_bytes())
     }
 }
 

@@ -7,5 +7,6 @@ mod RowTables
 mod RowTexts
 mod RowsByHand
 mod StateLemmas
+mod OverTimeLemmas
 mod TrafficEnds
 mod CountStatuses

@@ -8,14 +8,15 @@ use Rattle.c104_stream.specs.declared.halt.Halt.{Halt}
 use Rattle.c104_stream.specs.declared.halt.Halt.TheVariants as halt
 use Rattle.c104_stream.specs.ScriptLines.{is_long}
 use Rattle.c104_stream.specs.Scripts.{AnswersScript}
+use Rattle.c104_session.specs.AskedPictures.{IsPictureOf}
 use Rattle.c104_session.specs.Shown.{line_outcome, new_session}
 use Rattle.c104_session.specs.declared.session.Session.{Session}
 use Rattle.c104_commands.specs.Statuses.{halt_status}
 use Rattle.c104_commands.specs.Endings.{IsSetup}
-use Rattle.c104_commands.specs.StatePictures.{IsDrawnAfter, IsPictureOf, IsUndrawn, StateEnds, StateRuns}
+use Rattle.c104_commands.specs.StatePictures.{IsDrawnAfter, IsUndrawn, StateEnds, StateRuns}
 use Rattle.c104_commands.specs.declared.status.Status.{Status}
 
-undrawn : (kind : Halt) → IsUndrawn (halt_status kind 1)
+pub undrawn : (kind : Halt) → IsUndrawn (halt_status kind 1)
 undrawn halt.CannotRead = refl
 undrawn halt.CannotWrite = tt
 undrawn halt.NoMemory = tt

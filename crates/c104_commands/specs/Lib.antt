@@ -14,6 +14,7 @@ pub mod RowSteps
 pub mod Advice
 pub mod Pictures
 pub mod StatePictures
+pub mod OverTime
 pub mod CycleTexts
 pub mod Cycles
 pub mod CycleAdvice

@@ -6,10 +6,10 @@ use Rattle.std.specs.Prelude.{ℕ, ◌≡◌, ◌⊎◌, ◌||◌, ⊤, Bool, tr
 use Rattle.std.specs.Io.KnownBytes.{Appends, Keeps}
 use Rattle.c104_plan.specs.Plans.{Plan}
 use Rattle.c104_plan.specs.PlanImage.{Image}
-use Rattle.c104_picture.specs.Pictures.{IsStatePicture}
 use Rattle.c104_stream.specs.ScriptLines.{is_long}
 use Rattle.c104_stream.specs.Scripts.{script_outcome}
 use Rattle.c104_stream.specs.Writing.{AppendsPrefix}
+use Rattle.c104_session.specs.AskedPictures.{IsPictureOf}
 use Rattle.c104_session.specs.Shown.{line_outcome, new_session}
 use Rattle.c104_session.specs.declared.session.Session.{Session}
 use Rattle.c104_commands.specs.Endings.{EndsBefore, IsSetup}
@@ -19,9 +19,6 @@ use Rattle.c104_commands.specs.declared.status.Status.TheVariants as status
 -- the run of a script on the network of a plan with an image, after its lines
 abbrev pub after_script : Plan → Image → List ℕ → Session
 after_script plan image script = (script_outcome line_outcome (new_session plan image) script).1
-
-abbrev pub IsPictureOf : Session → List ℕ → Type 0
-IsPictureOf session text = IsStatePicture session.image session.net text
 
 abbrev pub IsPictureAfter : Plan → Image → List ℕ → List ℕ → Type 0
 IsPictureAfter plan image script text = IsPictureOf (after_script plan image script) text

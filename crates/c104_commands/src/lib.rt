@@ -5,8 +5,8 @@
 //! `check_command` takes a description alone, and checks its labels, and `cycles_command` looks for a cycle of
 //! channel dependencies; `label_command` shows the labels, `label_rows_command` the same by `row` lines,
 //! `stats_command` counts what a run does, `draw_command` draws the network, `draw_state_command` as it stands after a
-//! script, and `traffic_command` writes a script by which its terminals send packets. Each reads no further than the limits
-//! of a description, 1 MiB, and of a script, 16 MiB.
+//! script, `draw_over_time_command` the script's run over its rounds, and `traffic_command` writes a script by which its
+//! terminals send packets. Each reads no further than the limits of a description, 1 MiB, and of a script, 16 MiB.
 //!
 //! Each of them reports what is faulty, refused, not ready or didn't arrive to what takes `Messages`; what it writes
 //! and answers is the same whatever that does. Give `Silent` to report to nobody.
@@ -28,6 +28,7 @@ mod images;
 mod label_rows;
 mod labels;
 mod mending;
+mod over_time;
 mod pictures;
 mod range_changes;
 mod row_changes;
@@ -41,7 +42,7 @@ mod trials;
 
 pub use accepted::cycle_advice;
 pub use advice::check_advice;
-pub use c104_session::{Format, Printing, What};
+pub use c104_session::{Asked, Format, Printing, What};
 pub use c104_traffic::{MAX_DATA, MAX_PACKETS, PatternName, Traffic};
 pub use checks::check_command;
 pub use counts::stats_command;
@@ -50,6 +51,7 @@ pub use draws::draw_command;
 pub use images::image_text;
 pub use label_rows::{label_rows_command, rows_text};
 pub use labels::label_command;
+pub use over_time::draw_over_time_command;
 pub use pictures::Marks;
 pub use runs::{debug_command, run, run_text};
 pub use setups::{Setup, label_fault_text, read_setup};

@@ -28,8 +28,8 @@ use std::io::{Read, Write};
 /// more: where it gives at most a line at a time, each line is answered before the next is read.
 ///
 /// It tells people of each line that is faulty, refused or not ready, and at the end of what didn't arrive. Where a
-/// person types the script, the messages also answer `help`, `show` and `where`: what is written answers them as any
-/// unknown word. What is written and how it ends are the same whatever takes the messages does.
+/// person types the script, the messages also answer `help`, `show`, `where` and `draw`: what is written answers them as
+/// any unknown word. What is written and how it ends are the same whatever takes the messages does.
 ///
 /// Reading ends at 1 MiB of a description and at 16 MiB of a script, whatever the reader. Each error
 /// of a reader or a writer is a fault at once.

@@ -4,8 +4,9 @@ ghost use Rattle.std.specs.Io.KnownBytes.{prepend_known};
 ghost use Rattle.std.specs.String.{string_bytes};
 ghost use Rattle.c104_plan.specs.PlanImage.{Fits, Image as TheImage};
 ghost use Rattle.c104_plan.specs.Plans.{Plan as ThePlan};
+ghost use Rattle.c104_session.specs.AskedPictures.{IsPictureOf};
 ghost use Rattle.c104_session.specs.Shown.{new_session};
-ghost use Rattle.c104_commands.specs.StatePictures.{IsDrawnAfter, IsPictureOf, StateEnds, StateRuns, WritesDrawn};
+ghost use Rattle.c104_commands.specs.StatePictures.{IsDrawnAfter, StateEnds, StateRuns, WritesDrawn};
 ghost use Rattle.c104_commands.specs.declared.status.Status.TheVariants as status;
 
 use crate::setups::{Setup, read_setup};
@@ -70,14 +71,15 @@ fn draw_after<S: Read, W: Write, M: Messages>(
 
 /// The picture of a network after a script.
 #[derive(Drop)]
-struct Drawn {
-    text: String,
+pub(crate) struct Drawn {
+    /// The text.
+    pub(crate) text: String,
     /// Whether the script is refused.
-    refused: bool,
+    pub(crate) refused: bool,
 }
 
 /// Writes a picture.
-fn write_drawn<W: Write>(drawn: &Drawn, writer: &mut W) -> Status
+pub(crate) fn write_drawn<W: Write>(drawn: &Drawn, writer: &mut W) -> Status
     ensures written { WritesDrawn (string_bytes drawn.now.text) drawn.now.refused
         (W.contents writer.old) (W.contents writer.new) result }
     ensures of_writer { (n : ℕ) → result ≢ status.CannotRead n }

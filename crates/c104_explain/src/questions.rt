@@ -33,8 +33,9 @@ show SWITCH.LINK            shows a link
 show TERMINAL               shows a terminal
 show waiting                shows which outputs inputs hold and want
 where TERMINAL NUMBER       shows where a packet is: NUMBER is from 0 on, of those that the terminal sent
+draw FILE                   saves a picture of the network as it stands, for Graphviz
 A PORT is a terminal, or a switch with a link, as A.0. A `#` begins a comment.
-`help`, `show` and `where` are no words of a script, and are faults there. The end of input, Ctrl-D, ends the script.";
+`help`, `show`, `where` and `draw` are no words of a script, and are faults there. The end of input, Ctrl-D, ends the script.";
 
 /// What a line `show` is.
 const SHOW_FORM: &str =
@@ -44,14 +45,18 @@ const SHOW_FORM: &str =
 const WHERE_FORM: &str =
     "the line is `where TERMINAL NUMBER`, as `where a 0` of the first packet that `a` sent";
 
+/// What a line `draw` is.
+const DRAW_FORM: &str =
+    "the line is `draw FILE`, as `draw now.dot`: the file's name is one word, in UTF-8";
+
 /// What a person is told who wants to end the script.
 const FAREWELL: &str = "type Ctrl-D to end the script: it ends with the input";
 
 /// What is shown of the inputs that wait, unless a node has this name.
 const WAITING: &[u8] = b"waiting";
 
-/// Whether a line is a question of people's, and none of a script: its first word is `help`, `show`, `where`, `quit` or
-/// `exit`.
+/// Whether a line is a question of people's, and none of a script: its first word is `help`, `show`, `where`, `draw`,
+/// `quit` or `exit`.
 #[tactic(auto, unfolding(crate::specs::Questions::is_question))]
 pub fn is_question(line: &[u8]) -> bool
     ensures { result ≡ is_question line.now }
@@ -68,6 +73,7 @@ fn asks(word: Option<&[u8]>) -> bool
             word == b"help".as_slice()
                 || word == b"show".as_slice()
                 || word == b"where".as_slice()
+                || word == b"draw".as_slice()
                 || wants_end(word)
         }
         None => false,
@@ -89,7 +95,8 @@ pub fn about_question(line: &[u8]) -> About {
     }
 }
 
-/// What answers a question about a network, which may have several lines. None when out of memory.
+/// What answers a question about a network, which may have several lines. Of `draw` it is what that line is, as for one
+/// that names no file. None when out of memory.
 pub fn question_message(alloc: Global, net: &TracedNet, line: &[u8]) -> Option<String> {
     let words = cut_words(alloc, uncommented(line)).ok()?;
     answer_text(alloc, net, words.as_slice()).ok()
@@ -102,6 +109,7 @@ fn answer_text(alloc: Global, net: &TracedNet, words: &[&[u8]]) -> Result<String
         [b"show", ..] => Mistake::new(SHOW_FORM, None).text(alloc),
         [b"where", name, number] => packet_answer(alloc, net, name, number),
         [b"where", ..] => Mistake::new(WHERE_FORM, None).text(alloc),
+        [b"draw", ..] => Mistake::new(DRAW_FORM, None).text(alloc),
         [b"quit" | b"exit", ..] => format!(in alloc; "{FAREWELL}"),
         _ => format!(in alloc; "{HELP}"),
     }

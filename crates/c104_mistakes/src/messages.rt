@@ -1,4 +1,7 @@
-//! Where messages for people go.
+//! Where messages for people go, and the pictures that they ask for.
+ghost use Rattle.std.specs.Prelude.{ℕ, List, OnOk};
+
+use std::io;
 
 /// What a message is about. Lines are counted from 1.
 #[derive(Clone, Copy, Debug)]
@@ -19,13 +22,17 @@ pub enum About {
     Run,
 }
 
-/// What takes messages for people. Nothing is promised of it, and no contract of what calls it speaks of it: a
-/// message that is lost is lost.
+/// What takes messages for people. Nothing is promised of it, and no contract of what calls it speaks of messages: one
+/// that is lost is lost. Contracts speak of the pictures that it takes.
 pub trait Messages {
+    /// What it is before and after it has saved a text as a file of a name.
+    ghost saves: { Self → List ℕ → List ℕ → Self → Type 0 };
+
     /// Whether anyone reads the messages. Where nobody does, none is made.
     fn are_wanted(&self) -> bool;
 
-    /// Whether a person types the script and reads the messages, who may ask `help`, `show` and `where` among its lines.
+    /// Whether a person types the script and reads the messages, who may ask `help`, `show`, `where` and `draw` among its
+    /// lines.
     fn are_asked(&self) -> bool;
 
     /// Takes a message, without a line feed at its end.
@@ -34,6 +41,11 @@ pub trait Messages {
     /// Takes the number of rounds done so far, of the count that a line of the script asks for. It is called again and
     /// again while they go on.
     fn progress(&mut self, line: usize, done: u32, count: u32);
+
+    /// Saves a picture that a person asks for as a file of this name, in place of one that is there. The error says why it
+    /// isn't saved, and then a part of it may be there.
+    fn save(&mut self, file: &str, picture: &str) -> io::Result<()>
+        ensures { OnOk result (saves self.old file.now picture.now self.new) };
 }
 
 /// Nobody reads the messages.
@@ -41,6 +53,8 @@ pub trait Messages {
 pub struct Silent;
 
 impl Messages for Silent {
+    ghost saves = { λ old file picture new. ⊥ };
+
     #[inline]
     fn are_wanted(&self) -> bool {
         false
@@ -56,6 +70,10 @@ impl Messages for Silent {
 
     #[inline]
     fn progress(&mut self, _line: usize, _done: u32, _count: u32) {}
+
+    fn save(&mut self, _file: &str, _picture: &str) -> io::Result<()> {
+        Err(io::Error::from(io::ErrorKind::Unsupported))
+    }
 }
 
 /// The messages of a script that follows other lines of the same text: its lines are told by their numbers in
@@ -79,6 +97,8 @@ impl<'a, M: Messages> Behind<'a, M> {
 }
 
 impl<M: Messages> Messages for Behind<'_, M> {
+    ghost saves = { λ old file picture new. M.saves old.messages.now file picture new.messages.now };
+
     #[inline]
     fn are_wanted(&self) -> bool {
         self.messages.are_wanted()
@@ -101,5 +121,9 @@ impl<M: Messages> Messages for Behind<'_, M> {
     fn progress(&mut self, line: usize, done: u32, count: u32) {
         self.messages
             .progress(line.saturating_add(self.lines), done, count);
+    }
+
+    fn save(&mut self, file: &str, picture: &str) -> io::Result<()> {
+        self.messages.save(file, picture)
     }
 }

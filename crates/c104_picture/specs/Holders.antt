@@ -1,5 +1,6 @@
 -- The packet that an input is at: by the first terminator of it or behind it, up to the terminal that sends it.
 --     packet_at r x      the packet that input x is at
+--     packet_out r p      the packet whose token goes out of a port next
 use Rattle.std.specs.Prelude.{ℕ, zero, suc, ◌+◌, ◌-◌, Option, Some, None}
 use Rattle.std.specs.Option.{option_map, option_or}
 use Rattle.c104_token.specs.Tokens.{is_end}
@@ -86,3 +87,7 @@ packet_from r (suc n) x = after_trail (trail_of r x) (packet_from r n)
 
 abbrev pub packet_at : NetRecord → SwitchPort → Option Origin
 packet_at r x = packet_from r MOST_INPUTS x
+
+-- the packet whose token goes out of a port next, or would
+abbrev pub packet_out : NetRecord → Port → Option Origin
+packet_out r p = after_trail (trail_behind r (Some p)) (packet_at r)

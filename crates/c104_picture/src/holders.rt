@@ -2,7 +2,7 @@
 ghost use Rattle.std.specs.Prelude.{◌≡◌};
 ghost use Rattle.c104_token.specs.Tokens.{is_end};
 ghost use Rattle.c104_node.specs.Tagged.{tagged_origin};
-ghost use Rattle.c104_picture.specs.Holders.{input_end, output_end, owner_trail, packet_at, sent_trail, trail_behind, trail_of, view_trail};
+ghost use Rattle.c104_picture.specs.Holders.{input_end, output_end, owner_trail, packet_at, packet_out, sent_trail, trail_behind, trail_of, view_trail};
 ghost use Rattle.c104_run.specs.NetViews.{network_link_view};
 ghost use Rattle.c104_token.specs.Kinds.{plain_kind};
 
@@ -42,6 +42,17 @@ pub(crate) fn packet_at(net: &TracedNet, input: SwitchPort) -> Option<Origin>
         }
     }
     None
+}
+
+/// The packet whose token goes out of a port next, or would, if its end is in the network.
+pub fn packet_out(net: &TracedNet, port: Port) -> Option<Origin>
+    ensures { result ≡ packet_out net.now port }
+{
+    match trail_behind(net, Some(port)) {
+        Trail::Found(origin) => Some(origin),
+        Trail::Lost => None,
+        Trail::On(input) => packet_at(net, input),
+    }
 }
 
 /// Where a packet's end is, from an input on.
@@ -132,8 +143,8 @@ fn output_end(net: &TracedNet, switch: usize, link: usize) -> Option<Origin>
     None
 }
 
-/// The packet that a terminator tells.
-fn end_of(token: TaggedToken) -> Option<Origin>
+/// The packet that a terminator tells. None of a byte.
+pub fn end_of(token: TaggedToken) -> Option<Origin>
     ensures { result ≡ tagged_origin (is_end token.token) token }
 {
     match token.plain() {

@@ -12,7 +12,7 @@ pub(crate) fn ink(packet: Option<Origin>, locked: bool) -> &'static str
 }
 
 /// The colour of a packet, by the terminal that sent it.
-fn packet_color(packet: Option<Origin>) -> &'static str
+pub fn packet_color(packet: Option<Origin>) -> &'static str
     ensures { result.now ≡ packet_color packet }
 {
     match packet {
@@ -22,7 +22,7 @@ fn packet_color(packet: Option<Origin>) -> &'static str
 }
 
 /// The colour of a number.
-fn color_by(number: usize) -> &'static str
+pub fn color_by(number: usize) -> &'static str
     ensures { result.now ≡ color_by number }
 {
     if number == 0 {
@@ -41,7 +41,7 @@ fn color_by(number: usize) -> &'static str
 }
 
 /// The pattern of a packet: plain, dashed, double, or double and dashed.
-pub(crate) fn pattern(packet: Option<Origin>) -> usize
+pub fn pattern(packet: Option<Origin>) -> usize
     ensures { result ≡ pattern packet }
 {
     match packet {

@@ -197,7 +197,7 @@ fn add_far_name(
 }
 
 /// A port joins a text, with its link.
-fn add_port(plan: &Plan, port: Port, text: &mut String) -> Result<(), AllocError>
+pub fn add_port(plan: &Plan, port: Port, text: &mut String) -> Result<(), AllocError>
     ensures { OnOk result (string_bytes text.new ≡ string_bytes text.old ++ port_text plan.now port) }
 {
     text.push_str(port_name(plan, port))?;
@@ -220,7 +220,7 @@ fn add_holder(plan: &Plan, hold: Hold, text: &mut String) -> Result<(), AllocErr
 }
 
 /// A packet joins a text: the terminal that sent it, and its number there.
-fn add_packet(plan: &Plan, packet: Option<Origin>, text: &mut String) -> Result<(), AllocError>
+pub fn add_packet(plan: &Plan, packet: Option<Origin>, text: &mut String) -> Result<(), AllocError>
     ensures { OnOk result (string_bytes text.new ≡ string_bytes text.old ++ packet_text plan.now packet) }
 {
     let Some(packet) = packet else {

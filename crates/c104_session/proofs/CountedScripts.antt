@@ -16,7 +16,7 @@ use Rattle.c104_stream.specs.Scripts.{script_outcome}
 use Rattle.c104_stream.specs.declared.halt.Halt.{Halt}
 use Rattle.c104_stream.specs.declared.halt.Halt.TheVariants as halt
 use Rattle.c104_session.specs.Counted.{counts_kept}
-use Rattle.c104_session.specs.CountedRuns.{counted_script, is_for_people, keeps_rounds, still_line, CountsPlan, CountsScript, CountsSession}
+use Rattle.c104_session.specs.CountedRuns.{counted_script, is_for_people, still_line, CountsPlan, CountsScript, CountsSession}
 use Rattle.c104_session.specs.CountedRuns.{GrewBehind, IsCountsText, IsPrinted, WritesCounts}
 use Rattle.c104_session.specs.Driven.{driven_outcome, DrivesScript}
 use Rattle.c104_session.specs.Shown.{new_session}
@@ -63,7 +63,7 @@ abbrev Ran : Type 0
 Ran = Session × Counts
 
 module _ (p : Printing) (session after : Session) (begun driven : Counts) (left held holds : Option (List ℕ))
-    (fresh : begun ≡ new_counts session.net.network.plan (keeps_rounds p.what)) where
+    (fresh : begun ≡ new_counts session.net.network.plan p.what) where
   pub script_counted : (all : Option (List ℕ)) (long : Bool) (ended : Counts) (counted : CountedText)
       → DrivesScript counts_kept session begun all left held holds after driven (Ok long) → ended ≡ counts_at_end after.net driven
       → IsPrinted p after.net ended counted.text.items → counted.is_refused ≡ (long || after.faulty)

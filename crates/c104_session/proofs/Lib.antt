@@ -9,6 +9,10 @@ pub mod CountedRounds
 pub mod CountedLoops
 pub mod CountedScripts
 pub mod StillTexts
+pub mod KeptRounds
+pub mod KeptLoops
+pub mod ToldEvents
+pub mod TimedScripts
 pub mod Leavings
 pub mod PlanRuns
 pub mod Starts

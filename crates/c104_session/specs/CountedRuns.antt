@@ -27,15 +27,10 @@ use Rattle.c104_session.specs.declared.counted_runs.CountedText.{CountedText}
 use Rattle.c104_session.specs.declared.counted_runs.Printing.{Printing}
 use Rattle.c104_session.specs.declared.session.Session.{Session}
 
--- whether the rounds that are over are to be kept
-abbrev pub keeps_rounds : Option What → Bool
-keeps_rounds (Some what.Rounds) = true
-keeps_rounds other = false
-
 -- the run of a script from a session on: the session and the counts at its end
 abbrev pub counted_script : Printing → Session → List ℕ → Session × Counts
 counted_script p session script =
-    (script_outcome (driven_outcome counts_kept) (session, new_counts session.net.network.plan (keeps_rounds p.what)) script).1
+    (script_outcome (driven_outcome counts_kept) (session, new_counts session.net.network.plan p.what) script).1
 
 -- what is printed of counts: a table, or the summary
 abbrev pub IsTextOf : Option What → Format → Plan → Counts → List ℕ → Type 0

@@ -7,3 +7,7 @@ pub mod Runs
 pub mod Told
 pub mod Counted
 pub mod CountedRuns
+pub mod Keepers
+pub mod Timed
+pub mod TimedRuns
+pub mod AskedPictures

@@ -5,7 +5,7 @@ ghost use Rattle.c104_token.specs.Kinds.{plain_kind};
 ghost use Rattle.c104_plan.specs.PlanImage.{Fits};
 ghost use Rattle.c104_run.specs.Standstill.{IsDeadlocked};
 ghost use Rattle.c104_session.specs.CountedRuns.{CountsPlan, CountsScript, CountsSession, IsCountsText, IsPrinted, WritesCounts};
-ghost use Rattle.c104_session.specs.CountedRuns.{GrewBehind, keeps_rounds};
+ghost use Rattle.c104_session.specs.CountedRuns.{GrewBehind};
 
 use crate::answering::drive_script;
 use crate::runs::{TOO_LONG, leftovers_of, tell_all};
@@ -30,15 +30,6 @@ pub struct Printing {
     pub what: Option<What>,
     /// How.
     pub format: Format,
-}
-
-impl Printing {
-    /// Whether the rounds that are over are to be kept.
-    fn keeps_rounds(self) -> bool
-        ensures { result ≡ keeps_rounds self.what }
-    {
-        matches!(self.what, Some(What::Rounds))
-    }
 }
 
 /// Runs a script on the network of a plan, started with an image that fits it, and writes what is counted of that in place
@@ -110,7 +101,7 @@ fn count_script<S: Read, M: Messages>(
 ) -> Result<CountedText, Halt>
     ensures { CountsScript printing session.old (prepend_known ahead.old (S.remaining script.old)) result }
 {
-    let mut stats = Stats::new(alloc, session.net.plan(), printing.keeps_rounds())?;
+    let mut stats = Stats::new(alloc, session.net.plan(), printing.what)?;
     let mut nowhere = io::sink();
     let is_long = match drive_script(
         alloc,

@@ -115,7 +115,7 @@ fn count_round(stats: &mut Stats, net: &mut TracedNet) -> Result<bool, EventFaul
 
 /// Whether any event was done, by how many were before and after. At the largest count, which no network comes near, that
 /// can't be told, and counts as done.
-fn is_later(before: u64, after: u64) -> bool
+pub(crate) fn is_later(before: u64, after: u64) -> bool
     ensures { result ≡ is_later before after }
 {
     before < after || u64::MAX <= before

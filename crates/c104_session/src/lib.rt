@@ -11,15 +11,18 @@
 //! and so does a failing reader or writer.
 //!
 //! A person who types a script may ask questions among its lines. To the script these are unknown words, and are
-//! answered as such; the messages give what was asked for.
+//! answered as such; the messages give what was asked for. A picture of the network that is asked for goes where the
+//! messages go, which save it.
 #![tactic(auto)]
 
 mod answering;
+mod asked_pictures;
 mod counted_runs;
 mod counting;
 mod driver;
 mod ended;
 mod explaining;
+mod keepers;
 mod probing;
 mod progress;
 mod questions;
@@ -30,12 +33,16 @@ mod starting;
 mod still;
 mod summary;
 mod tally;
+mod timed_runs;
+mod timing;
 mod tools;
 
 pub use answering::answer_script;
 pub use c104_stats::{Format, What};
+pub use c104_timeline::{Asked, Period};
 pub use counted_runs::{Printing, count_plan};
 pub use ended::EndedNet;
 pub use runs::run_plan;
 pub use session::{Ended, Session};
 pub use summary::summary_texts;
+pub use timed_runs::{TimedText, time_plan};

@@ -2,6 +2,7 @@
 ghost use Rattle.std.specs.Prelude.{◌≡◌, [], OnOk, OnErr};
 ghost use Rattle.c104_stream.specs.Writing.{AppendsAndKeeps, AppendsPrefix};
 
+use crate::asked_pictures::{asked_file, picture_message};
 use crate::explaining::ScriptLine;
 use crate::session::Session;
 use c104_explain::{about_question, is_question, question_message};
@@ -25,7 +26,7 @@ pub(crate) fn explain_fault<W: Write, M: Messages>(
     ensures prefix { OnErr result (AppendsPrefix (W.contents writer.old) (W.contents writer.new) kept.old) }
     ensures empty { OnErr result (kept.new ≡ []) }
 {
-    let (about, message) = message_of_fault(alloc, session, line, fault, messages.are_asked());
+    let (about, message) = message_of_fault(alloc, session, line, fault, messages);
     let Some(message) = message else {
         return Ok(());
     };
@@ -35,18 +36,32 @@ pub(crate) fn explain_fault<W: Write, M: Messages>(
 }
 
 /// What is told of a faulty line, of which a person who types it may ask, and what that is about. No message out of
-/// memory.
-fn message_of_fault(
+/// memory. A picture that is asked for is saved.
+fn message_of_fault<M: Messages>(
     alloc: Global,
     session: &Session,
     line: ScriptLine<'_>,
     fault: LineFault,
-    is_asked: bool,
+    messages: &mut M,
 ) -> (About, Option<String>) {
+    let is_asked = messages.are_asked();
     if is_asked && is_question(line.text) {
-        let message = question_message(alloc, &session.net, line.text);
+        let message = answer_of(alloc, session, line.text, messages);
         return (about_question(line.text), message);
     }
     let message = fault_message(alloc, line.text, fault, is_asked);
     (About::FaultyLine(line.number), message)
+}
+
+/// What answers a question. None out of memory.
+fn answer_of<M: Messages>(
+    alloc: Global,
+    session: &Session,
+    line: &[u8],
+    messages: &mut M,
+) -> Option<String> {
+    match asked_file(alloc, line) {
+        Some(file) => picture_message(alloc, session, file, messages),
+        None => question_message(alloc, &session.net, line),
+    }
 }

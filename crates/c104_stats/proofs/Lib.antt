@@ -1,7 +1,8 @@
 mod LinkLaws
 mod RowSteps
-mod SenderSteps
+pub mod SenderSteps
 pub mod TakenCounts
-mod NumberSteps
+pub mod NumberSteps
+mod WiredSteps
 mod ConservedParts
 mod ConservedEvents

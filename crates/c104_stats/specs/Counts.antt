@@ -1,5 +1,5 @@
 -- What is counted of a run: a step for each thing that is told, in the order in which it happened.
-use Rattle.std.specs.Prelude.{ℕ, ◌+◌, ◌*◌, ◌/◌, ◌&&◌, Bool, List, [], ◌∷◌, ◌++◌, Option, Some, None, if◌then◌else◌, is_some, length, map}
+use Rattle.std.specs.Prelude.{ℕ, ◌+◌, ◌*◌, ◌/◌, ◌&&◌, Bool, true, false, List, [], ◌∷◌, ◌++◌, Option, Some, None, if◌then◌else◌, is_some, length, map}
 use Rattle.std.specs.Prelude.{nat_lt, replicate, slice_get}
 use Rattle.c104_regs.specs.declared.registers.TheConstants.{LINKS}
 use Rattle.c104_plan.specs.Plans.{Plan}
@@ -7,6 +7,8 @@ use Rattle.c104_plan.specs.declared.plans.Terminal.{Terminal}
 use Rattle.c104_plan.specs.declared.ports.Port.{Port}
 use Rattle.c104_plan.specs.declared.ports.Port.TheVariants as port
 use Rattle.c104_node.specs.declared.origins.Origin.{Origin}
+use Rattle.c104_stats.specs.declared.formats.What.{What}
+use Rattle.c104_stats.specs.declared.formats.What.TheVariants as what
 use Rattle.c104_stats.specs.Numbers.{few}
 use Rattle.c104_stats.specs.Links.{link_after, link_idle, link_level, new_link, LinkRow}
 use Rattle.c104_stats.specs.Packets.{all_but_last, arrived_packet, change_at, crossed_packet, inside_packet, left_packet, sent_packet}
@@ -14,8 +16,8 @@ use Rattle.c104_stats.specs.Packets.{Arrival, PacketRow}
 use Rattle.c104_stats.specs.Rounds.{arrived_round, ended_round, later_round, moved_round, new_round, no_levels, Levels, RoundRow}
 
 pub record Counts : Type 0 where
-  -- whether rounds are kept that are over
-  pub keeps : Bool
+  -- what is to be printed of them: a table, or the summary
+  pub what : Option What
   -- the links of the switches, 32 of each, and those of the terminals
   pub links : List LinkRow
   pub wires : List LinkRow
@@ -27,10 +29,15 @@ pub record Counts : Type 0 where
   -- the last round in which something was done
   pub active : ℕ
 
+-- whether rounds are kept that are over
+abbrev pub keeps_rounds : Option What → Bool
+keeps_rounds (Some what.Rounds) = true
+keeps_rounds other = false
+
 -- before anything happens on the network of a plan
-abbrev pub new_counts : Plan → Bool → Counts
-new_counts plan keeps = record {
-  keeps = keeps;
+abbrev pub new_counts : Plan → Option What → Counts
+new_counts plan what = record {
+  what = what;
   links = replicate (length plan.switches * LINKS) new_link;
   wires = replicate (length plan.terminals) new_link;
   senders = map (λ (t : Terminal). []) plan.terminals;
@@ -105,7 +112,7 @@ counts_arrived c t ended = record c {
 -- a round begins
 abbrev pub counts_begun : Counts → Counts
 counts_begun c = record c {
-  rounds = if c.keeps then c.rounds ++ c.current ∷ [] else c.rounds;
+  rounds = if keeps_rounds c.what then c.rounds ++ c.current ∷ [] else c.rounds;
   current = new_round (few (c.current.round + 1)) c.current.levels;
 }
 

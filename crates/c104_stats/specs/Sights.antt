@@ -1,5 +1,5 @@
--- What is seen of a network where a round is over: what there is in it, and how many tokens wait at each port; and at the
--- end the packets whose terminators are there.
+-- What is seen of a network where a round is over, as far as it is printed: what there is in it, or how many tokens wait at
+-- each port that has a wire; and at the end the packets whose terminators are there.
 --     counts_of_net net c      the counts after what is there was seen
 --     counts_at_end net c      the same, with the packets that are in the network
 use Rattle.std.specs.Prelude.{ℕ, ◌+◌, List, Option, Some, None, if◌then◌else◌, length, nat_le, slice_get}
@@ -20,7 +20,10 @@ use Rattle.c104_run.specs.FinishedRecords.{record_finish}
 use Rattle.c104_run.specs.NetRecords.{NetRecord}
 use Rattle.c104_run.specs.NetViews.{network_input_token, network_link_view, network_output_token, network_terminal_view}
 use Rattle.c104_run.specs.Network.{Network}
+use Rattle.c104_run.specs.Rounds.{is_wired}
 use Rattle.c104_net.specs.TracedEnds.{traced_end}
+use Rattle.c104_stats.specs.declared.formats.What.{What}
+use Rattle.c104_stats.specs.declared.formats.What.TheVariants as what
 use Rattle.c104_stats.specs.Numbers.{each_number, told}
 use Rattle.c104_stats.specs.Counts.{counts_found, counts_level, counts_seen, Counts}
 use Rattle.c104_stats.specs.Links.{LinkRow}
@@ -89,8 +92,13 @@ abbrev pub terminal_seen : Option TerminalView → ℕ → Counts → Counts
 terminal_seen None t c = c
 terminal_seen (Some v) t c = counts_level c (port.Terminal t) v.waiting
 
+-- the same of a link of a switch, if it has a wire
+abbrev pub wired_seen : Network Token → ℕ → ℕ → Counts → Counts
+wired_seen net s l c =
+    if is_wired net.plan (port.Switch s l) then link_seen (network_link_view plain_kind net s l) s l c else c
+
 abbrev pub links_seen : Network Token → ℕ → Counts → Counts
-links_seen net s c = each_number (λ l. link_seen (network_link_view plain_kind net s l) s l) LINKS c
+links_seen net s c = each_number (wired_seen net s) LINKS c
 
 abbrev pub switches_seen : Network Token → Counts → Counts
 switches_seen net c = each_number (links_seen net) (length net.plan.switches) c
@@ -98,9 +106,15 @@ switches_seen net c = each_number (links_seen net) (length net.plan.switches) c
 abbrev pub terminals_seen : Network Token → Counts → Counts
 terminals_seen net c = each_number (λ t. terminal_seen (network_terminal_view net t) t) (length net.plan.terminals) c
 
--- the counts after a network was seen
+-- the counts after a network was seen for what is to be printed: of packets, and for the summary, nothing is looked at
+abbrev pub seen_for : Option What → Network Token → Counts → Counts
+seen_for (Some what.Rounds) net c = counts_seen c (levels_of net)
+seen_for (Some what.Links) net c = terminals_seen net (switches_seen net c)
+seen_for (Some what.Packets) net c = c
+seen_for None net c = c
+
 abbrev pub counts_of_net : Network Token → Counts → Counts
-counts_of_net net c = counts_seen (terminals_seen net (switches_seen net c)) (levels_of net)
+counts_of_net net c = seen_for c.what net c
 
 -- the packet that a token ends, if it ends one
 abbrev pub ended_by : TaggedToken → Option Origin

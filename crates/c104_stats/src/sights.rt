@@ -1,11 +1,12 @@
 //! What is seen of a network where a round is over.
-ghost use Rattle.std.specs.Prelude.{◌≡◌};
+ghost use Rattle.std.specs.Prelude.{◌≡◌, ◌<◌, length};
 ghost use Rattle.c104_token.specs.Kinds.{plain_kind};
 ghost use Rattle.c104_run.specs.NetViews.{network_link_view, network_terminal_view};
-ghost use Rattle.c104_stats.specs.Sights.{counts_of_net, header_tokens, levels_with_link, levels_with_terminal, link_levels};
-ghost use Rattle.c104_stats.specs.Sights.{link_seen, links_levels, links_seen, outputs_held, switches_levels, switches_seen};
-ghost use Rattle.c104_stats.specs.Sights.{terminal_levels, terminal_seen, terminals_levels, terminals_seen};
+ghost use Rattle.c104_stats.specs.Sights.{counts_of_net, header_tokens, levels_of, levels_with_link, levels_with_terminal};
+ghost use Rattle.c104_stats.specs.Sights.{link_levels, link_seen, links_levels, links_seen, outputs_held, switches_levels};
+ghost use Rattle.c104_stats.specs.Sights.{switches_seen, terminal_levels, terminal_seen, terminals_levels, terminals_seen};
 
+use crate::formats::What;
 use crate::numbers::added;
 use crate::rounds::Levels;
 use crate::stats::Stats;
@@ -63,73 +64,132 @@ fn outputs_held(phase: &Phase<HeaderBytes>) -> u64
     }
 }
 
+impl Levels {
+    /// What there is in a network.
+    fn of(net: &TracedNet) -> Self
+        ensures { result ≡ levels_of net.now.network }
+    {
+        let mut levels = Levels::new();
+        add_switches(&mut levels, net);
+        add_terminals(&mut levels, net);
+        levels
+    }
+}
+
+/// What there is in the switches joins the rest.
+#[tactic(auto, using(crate::proofs::NumberSteps::none_yet, crate::proofs::NumberSteps::one_more))]
+fn add_switches(levels: &mut Levels, net: &TracedNet)
+    ensures { levels.new ≡ switches_levels net.now.network levels.old }
+{
+    for switch in 0..net.plan().switches().len() {
+        add_links(levels, net, switch);
+    }
+}
+
+/// The same at the links of a switch.
+#[tactic(auto, using(crate::proofs::NumberSteps::none_yet, crate::proofs::NumberSteps::one_more))]
+fn add_links(levels: &mut Levels, net: &TracedNet, switch: usize)
+    ensures { levels.new ≡ links_levels net.now.network switch levels.old }
+{
+    for link in 0..LINKS {
+        add_link(levels, net, switch, link);
+    }
+}
+
+/// The same at a link.
+fn add_link(levels: &mut Levels, net: &TracedNet, switch: usize, link: usize)
+    ensures { levels.new ≡ link_levels (network_link_view plain_kind net.now.network switch link) levels.old }
+{
+    if let Some(view) = net.view_link(switch, link) {
+        *levels = levels.with_link(&view);
+    }
+}
+
+/// What there is at the terminals joins the rest.
+#[tactic(auto, using(crate::proofs::NumberSteps::none_yet, crate::proofs::NumberSteps::one_more))]
+fn add_terminals(levels: &mut Levels, net: &TracedNet)
+    ensures { levels.new ≡ terminals_levels net.now.network levels.old }
+{
+    for terminal in 0..net.plan().terminals().len() {
+        add_terminal(levels, net, terminal);
+    }
+}
+
+/// The same at a terminal.
+fn add_terminal(levels: &mut Levels, net: &TracedNet, terminal: usize)
+    ensures { levels.new ≡ terminal_levels (network_terminal_view net.now.network terminal) levels.old }
+{
+    if let Some(view) = net.view_terminal(terminal) {
+        *levels = levels.with_terminal(view);
+    }
+}
+
 impl Stats {
-    /// This is there in a network, before the next round begins or at the end of all.
+    /// This is there in a network, before the next round begins or at the end of all. No more of it is looked at than is to
+    /// be printed.
     pub fn see_net(&mut self, net: &TracedNet)
         ensures { self.new ≡ counts_of_net net.now.network self.old }
     {
-        let mut levels = Levels::new();
-        see_switches(self, &mut levels, net);
-        see_terminals(self, &mut levels, net);
-        self.see_levels(levels);
+        match self.what() {
+            Some(What::Rounds) => self.see_levels(Levels::of(net)),
+            Some(What::Links) => {
+                see_switches(self, net);
+                see_terminals(self, net);
+            }
+            Some(What::Packets) | None => {}
+        }
     }
 }
 
-/// The same of the switches.
+/// How many tokens wait at the wired links of the switches is seen.
 #[tactic(auto, using(crate::proofs::NumberSteps::none_yet, crate::proofs::NumberSteps::one_more))]
-fn see_switches(stats: &mut Stats, levels: &mut Levels, net: &TracedNet)
-    ensures levels { levels.new ≡ switches_levels net.now.network levels.old }
-    ensures stats { stats.new ≡ switches_seen net.now.network stats.old }
+fn see_switches(stats: &mut Stats, net: &TracedNet)
+    ensures { stats.new ≡ switches_seen net.now.network stats.old }
 {
     for switch in 0..net.plan().switches().len() {
-        see_links(stats, levels, net, switch);
+        see_links(stats, net, switch);
     }
 }
 
-/// The same of the links of a switch.
-#[tactic(auto, using(crate::proofs::NumberSteps::none_yet, crate::proofs::NumberSteps::one_more))]
-fn see_links(stats: &mut Stats, levels: &mut Levels, net: &TracedNet, switch: usize)
-    ensures levels { levels.new ≡ links_levels net.now.network switch levels.old }
-    ensures stats { stats.new ≡ links_seen net.now.network switch stats.old }
+/// The same of a switch.
+fn see_links(stats: &mut Stats, net: &TracedNet, switch: usize)
+    requires { switch < length net.now.network.plan.switches }
+    ensures { stats.new ≡ links_seen net.now.network switch stats.old }
 {
-    for link in 0..LINKS {
-        see_link(stats, levels, net, switch, link);
+    let wired = net.wires().linked(switch);
+    let mut from = 0;
+    while let Some(link) = wired.next(from, wired) {
+        see_link(stats, net, switch, link);
+        from = link + 1;
     }
 }
 
 /// The same of a link.
-fn see_link(stats: &mut Stats, levels: &mut Levels, net: &TracedNet, switch: usize, link: usize)
-    ensures levels { levels.new ≡ link_levels (network_link_view plain_kind net.now.network switch link) levels.old }
-    ensures stats { stats.new ≡
+fn see_link(stats: &mut Stats, net: &TracedNet, switch: usize, link: usize)
+    ensures { stats.new ≡
         link_seen (network_link_view plain_kind net.now.network switch link) switch link stats.old }
 {
-    let Some(view) = net.view_link(switch, link) else {
-        return;
-    };
-    *levels = levels.with_link(&view);
-    stats.see_level(Port::Switch(switch, link), view.output_level as u64);
+    if let Some(view) = net.view_link(switch, link) {
+        stats.see_level(Port::Switch(switch, link), view.output_level as u64);
+    }
 }
 
-/// The same of the terminals.
+/// How many tokens wait at the terminals is seen.
 #[tactic(auto, using(crate::proofs::NumberSteps::none_yet, crate::proofs::NumberSteps::one_more))]
-fn see_terminals(stats: &mut Stats, levels: &mut Levels, net: &TracedNet)
-    ensures levels { levels.new ≡ terminals_levels net.now.network levels.old }
-    ensures stats { stats.new ≡ terminals_seen net.now.network stats.old }
+fn see_terminals(stats: &mut Stats, net: &TracedNet)
+    ensures { stats.new ≡ terminals_seen net.now.network stats.old }
 {
     for terminal in 0..net.plan().terminals().len() {
-        see_terminal(stats, levels, net, terminal);
+        see_terminal(stats, net, terminal);
     }
 }
 
 /// The same of a terminal.
-fn see_terminal(stats: &mut Stats, levels: &mut Levels, net: &TracedNet, terminal: usize)
-    ensures levels { levels.new ≡ terminal_levels (network_terminal_view net.now.network terminal) levels.old }
-    ensures stats { stats.new ≡
+fn see_terminal(stats: &mut Stats, net: &TracedNet, terminal: usize)
+    ensures { stats.new ≡
         terminal_seen (network_terminal_view net.now.network terminal) terminal stats.old }
 {
-    let Some(view) = net.view_terminal(terminal) else {
-        return;
-    };
-    *levels = levels.with_terminal(view);
-    stats.see_level(Port::Terminal(terminal), view.waiting as u64);
+    if let Some(view) = net.view_terminal(terminal) {
+        stats.see_level(Port::Terminal(terminal), view.waiting as u64);
+    }
 }

@@ -7,10 +7,11 @@ ghost use Rattle.c104_plan.specs.declared.plans.Terminal.{Terminal as TheTermina
 ghost use Rattle.c104_plan.specs.declared.ports.Port.TheVariants as port;
 ghost use Rattle.c104_regs.specs.declared.registers.TheConstants.{LINKS};
 ghost use Rattle.c104_stats.specs.Counts.{counts_arrived, counts_begun, counts_crossed, counts_ended, counts_found, counts_level};
-ghost use Rattle.c104_stats.specs.Counts.{counts_passed, counts_seen, counts_sent, counts_taken, new_counts};
+ghost use Rattle.c104_stats.specs.Counts.{counts_passed, counts_seen, counts_sent, counts_taken, keeps_rounds, new_counts};
 ghost use Rattle.c104_stats.specs.Links.{new_link};
 ghost use Rattle.c104_stats.specs.Rounds.{new_round, no_levels};
 
+use crate::formats::What;
 use crate::links::{Crossing, LinkRow};
 use crate::numbers::{in_few, one_round_more};
 use crate::packets::{Arrival, PacketRow, Sender};
@@ -29,7 +30,7 @@ use std::marker::Model;
 /// What is counted of a run.
 #[derive(Drop)]
 pub struct Stats {
-    keeps: bool,
+    what: Option<What>,
     links: Vec<LinkRow>,
     wires: Vec<LinkRow>,
     senders: Vec<Sender>,
@@ -45,7 +46,7 @@ impl Model for Stats {
     ghost Value = { Counts };
 
     ghost view = { λ s. record {
-      keeps = s.keeps;
+      what = s.what;
       links = s.links.items;
       wires = s.wires.items;
       senders = s.senders.items;
@@ -56,14 +57,14 @@ impl Model for Stats {
 }
 
 impl Stats {
-    /// Nothing has happened yet on the network of a plan. Rounds that are over are kept if that is asked. The only error is
-    /// out of memory.
-    pub fn new(alloc: Global, plan: &Plan, keeps_rounds: bool) -> Result<Self, NoMemory>
-        ensures { IfOk result (λ stats. stats ≡ new_counts plan.now keeps_rounds) }
+    /// Nothing has happened yet on the network of a plan. What is counted beside packets and tokens is what is to be
+    /// printed: a table, or the summary. The only error is out of memory.
+    pub fn new(alloc: Global, plan: &Plan, what: Option<What>) -> Result<Self, NoMemory>
+        ensures { IfOk result (λ stats. stats ≡ new_counts plan.now what) }
     {
         let tables = Tables::of(alloc, plan)?;
         Ok(Stats {
-            keeps: keeps_rounds,
+            what,
             links: tables.links,
             wires: tables.wires,
             senders: tables.senders,
@@ -71,6 +72,13 @@ impl Stats {
             current: first_round(),
             active: 0,
         })
+    }
+
+    /// What is to be printed: a table, or the summary.
+    pub fn what(&self) -> Option<What>
+        ensures { result ≡ self.now.what }
+    {
+        self.what
     }
 
     /// The links of the switches, 32 of each.
@@ -94,7 +102,7 @@ impl Stats {
         self.senders.as_slice()
     }
 
-    /// The rounds that are over, if they are kept.
+    /// The rounds that are over, if they are to be printed.
     pub fn rounds(&self) -> &[RoundRow]
         ensures { result.now ≡ self.now.rounds }
     {
@@ -195,7 +203,7 @@ impl Stats {
         ensures kept { OnErr result (self.new ≡ self.old) }
     {
         let current = self.current;
-        keep_round(self.keeps, &mut self.rounds, current)?;
+        keep_round(keeps_rounds(self.what), &mut self.rounds, current)?;
         self.current = RoundRow::new(one_round_more(current.round), current.levels);
         Ok(())
     }
@@ -251,6 +259,13 @@ impl Stats {
     {
         find_packet(&mut self.senders, packet);
     }
+}
+
+/// Whether rounds are kept that are over.
+fn keeps_rounds(what: Option<What>) -> bool
+    ensures { result ≡ keeps_rounds what }
+{
+    matches!(what, Some(What::Rounds))
 }
 
 /// A round joins those that are over, if these are kept. The only error is out of memory, and then nothing has changed.

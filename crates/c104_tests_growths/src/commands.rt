@@ -6,8 +6,8 @@ use crate::growths::{Growing, Refusal, Sharing, is_right, is_told};
 use crate::outcomes::Outcome;
 use crate::written::{ANSWERS, Page, SCRIPT, SENDS, STORM_END, SUMMARY, TWO_ANSWERS};
 use c104_commands::{
-    Marks, Status, check_command, cycles_command, debug_command, draw_command, draw_state_command,
-    label_command, label_rows_command, run, run_text,
+    Asked, Marks, Status, check_command, cycles_command, debug_command, draw_command,
+    draw_over_time_command, draw_state_command, label_command, label_rows_command, run, run_text,
 };
 use c104_mistakes::Silent;
 use c104_storm_command::storm_command;
@@ -19,6 +19,12 @@ use std::thread::Threads;
 const TEXT: &[u8] =
     b"switch A\nterminal a A.0\nterminal b A.1\nrow A.0 2 1\nscript\nsend a 01 aa eop\n\
     rounds 9\n";
+
+/// No rounds are asked for.
+const ALL_ROUNDS: Asked = Asked {
+    from: None,
+    to: None,
+};
 
 /// Whence a run reads.
 #[derive(Clone, Copy)]
@@ -71,6 +77,7 @@ enum Command {
     Rows,
     Draw(Marks),
     State,
+    OverTime(Asked),
 }
 
 impl Command {
@@ -84,6 +91,9 @@ impl Command {
             Command::Draw(marks) => draw_command(alloc, &mut text, marks, page, &mut Silent),
             Command::State => {
                 draw_state_command(alloc, &mut text, &mut script, page, &mut Silent)
+            }
+            Command::OverTime(asked) => {
+                draw_over_time_command(alloc, asked, &mut text, &mut script, page, &mut Silent)
             }
         }
     }
@@ -159,6 +169,7 @@ fn commands(rt: HostRuntime) {
         ("draw_command", Command::Draw(Marks::Header(1))),
         ("draw_command", Command::Draw(Marks::Cycle)),
         ("draw_state_command", Command::State),
+        ("draw_over_time_command", Command::OverTime(ALL_ROUNDS)),
     ] {
         assert!(rt; is_right(&rt, name, &Commanding(command)));
     }

@@ -60,6 +60,8 @@ mod terminals;
 #[cfg(test)]
 mod texts;
 #[cfg(test)]
+mod timelines;
+#[cfg(test)]
 mod tools;
 #[cfg(test)]
 mod traced;

@@ -3,6 +3,7 @@ ghost use Rattle.std.specs.Prelude.{◌≤◌};
 
 use crate::count_words::{CountWords, with_counts};
 use crate::help;
+use crate::picture_words::{PictureWords, with_pictures};
 use crate::subcommands::{Row, SUBCOMMANDS, Subcommand, Takes};
 use crate::traffic_words::{TrafficWords, with_traffic};
 use clap::{Arg, ArgAction, ArgMatches, Command, Error, value_parser};
@@ -49,12 +50,8 @@ pub struct Order<'a> {
     pub description: &'a str,
     /// The script's path, if one is said. A run without it is one of both in one text.
     pub script: Option<&'a str>,
-    /// The header whose ways are marked in a picture, if one is.
-    pub header: Option<u16>,
-    /// Whether a cycle is marked in a picture.
-    pub cycles: bool,
-    /// Whether a picture is of the network as it stands after a script.
-    pub state: bool,
+    /// What a picture shows.
+    pub picture: PictureWords,
     /// Whether all dependencies are listed.
     pub all: bool,
     /// Whether labels are shown as a description by `row` lines.
@@ -73,9 +70,7 @@ impl<'a> Order<'a> {
         subcommand: Subcommand::Run,
         description: STANDARD_INPUT,
         script: None,
-        header: None,
-        cycles: false,
-        state: false,
+        picture: PictureWords::NONE,
         all: false,
         rows: false,
         workers: None,
@@ -95,9 +90,7 @@ impl<'a> Order<'a> {
             subcommand: row.subcommand,
             description: given.get_str(DESCRIPTION).unwrap_or(STANDARD_INPUT),
             script: given.get_str(SCRIPT),
-            header: given.get_one(HEADER),
-            cycles: given.get_flag(CYCLES),
-            state: given.get_flag(STATE),
+            picture: PictureWords::of_matches(given),
             all: given.get_flag(ALL),
             rows: given.get_flag(ROWS),
             workers: given.get_one(WORKERS),
@@ -149,22 +142,7 @@ the default on a terminal";
 /// The names of arguments, as help shows them.
 const DESCRIPTION: &str = "DESC";
 
-const SCRIPT: &str = "SCRIPT";
-
-/// The option of a header.
-const HEADER: &str = "header";
-
-const HEADER_HELP: &str = "Mark the ways of a header, 0 to 255, or 65535 with two bytes";
-
-/// The option of a cycle in a picture.
-const CYCLES: &str = "cycles";
-
-const CYCLES_HELP: &str = "Mark a cycle of channel dependencies";
-
-/// The option of a picture of the network as it stands.
-const STATE: &str = "state";
-
-const STATE_HELP: &str = "Show the packets under way at the end of the script";
+pub const SCRIPT: &str = "SCRIPT";
 
 /// The option of all dependencies.
 const ALL: &str = "all";
@@ -227,7 +205,7 @@ fn subcommand<'a>(alloc: Global, row: Row) -> Result<Command<'a>, AllocError> {
         Takes::Description => with_description(alloc, named),
         Takes::All => with_description(alloc, named)?.arg(flag(alloc, ALL, ALL_HELP)),
         Takes::Rows => with_description(alloc, named)?.arg(flag(alloc, ROWS, ROWS_HELP)),
-        Takes::Marks => with_marks(alloc, named),
+        Takes::Marks => with_pictures(alloc, with_description(alloc, named)?),
         Takes::Traffic => with_traffic(alloc, with_description(alloc, named)?),
     }
 }
@@ -251,29 +229,6 @@ fn with_both<'a>(alloc: Global, named: Command<'a>) -> Result<Command<'a>, Alloc
 /// `DESC`.
 fn with_description<'a>(alloc: Global, named: Command<'a>) -> Result<Command<'a>, AllocError> {
     named.arg(description_argument(alloc).required(true))
-}
-
-/// `DESC [--header N | --cycles | SCRIPT --state]`.
-fn with_marks<'a>(alloc: Global, named: Command<'a>) -> Result<Command<'a>, AllocError> {
-    let cycles = flag(alloc, CYCLES, CYCLES_HELP).conflicts_with(HEADER)?;
-    let marked = with_description(alloc, named)?
-        .arg(header_option(alloc))?
-        .arg(cycles)?;
-    with_state(alloc, marked)
-}
-
-/// `[SCRIPT --state]`: neither of the two stands without the other.
-fn with_state<'a>(alloc: Global, named: Command<'a>) -> Result<Command<'a>, AllocError> {
-    let script = script_argument(alloc).requires_arg(STATE)?;
-    named.arg(script)?.arg(state_option(alloc)?)
-}
-
-/// `--state`, with a script, and without what else is marked.
-fn state_option<'a>(alloc: Global) -> Result<Arg<'a>, AllocError> {
-    flag(alloc, STATE, STATE_HELP)
-        .requires_arg(SCRIPT)?
-        .conflicts_with(HEADER)?
-        .conflicts_with(CYCLES)
 }
 
 /// An option without a value.
@@ -310,7 +265,7 @@ fn description_argument<'a>(alloc: Global) -> Arg<'a> {
 }
 
 /// `SCRIPT`.
-fn script_argument<'a>(alloc: Global) -> Arg<'a> {
+pub fn script_argument<'a>(alloc: Global) -> Arg<'a> {
     Arg::new(alloc, SCRIPT).help("The script: a file, or - for standard input")
 }
 
@@ -321,13 +276,4 @@ fn workers_option<'a>(alloc: Global) -> Arg<'a> {
         .value_name("N")
         .value_parser(value_parser!(u8).range(1..=i64::from(MOST_WORKERS)))
         .help(WORKERS_HELP)
-}
-
-/// `--header N`.
-fn header_option<'a>(alloc: Global) -> Arg<'a> {
-    Arg::new(alloc, HEADER)
-        .long(HEADER)
-        .value_name("N")
-        .value_parser(value_parser!(u16))
-        .help(HEADER_HELP)
 }

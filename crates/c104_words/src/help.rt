@@ -55,9 +55,10 @@ read. Where standard input and standard error are terminals, a prompt is shown, 
 line's number, and standard error also answers questions: `help` lists the lines that
 there are, `show` shows the links of a switch, one link or a terminal, and `show waiting`
 which outputs the inputs hold and want; `where` shows where a packet is, by the terminal
-that sent it and its number. On standard output these are unknown words, as in `run`.
-The end of input, Ctrl-D, ends the script; `quit` and `exit` say so, and don't change
-the exit status.
+that sent it and its number; `draw` writes the network as it stands to a file, as
+`c104 draw --state` does. On standard output these are unknown words, as in `run`. The
+end of input, Ctrl-D, ends the script; `quit` and `exit` say so, and don't change the
+exit status.
 
 Lines can be edited and called back under rlwrap: `rlwrap c104 debug DESC`.";
 
@@ -152,7 +153,15 @@ network as it then stands. Each link that a packet holds is an arrow in the pack
 colour and pattern, named by the packet's terminal and its number there; in brackets
 behind its ports stands how many tokens wait. A dotted arrow leads along each output that
 an input wants for a header. Where the network stands still, packets that wait for one
-another in a cycle are red. The exit status is 1 where a line of the script is faulty.";
+another in a cycle are red. The exit status is 1 where a line of the script is faulty.
+
+With --over-time, a script is run, and the picture shows its rounds from left to right,
+as SVG. Below each switch are the wires at it over which something goes, a row for each
+way; a packet has its colour and pattern there from its header to its end, and is hatched
+in rounds in which it holds the wire and nothing crosses. The text has at most 1 MiB: of
+more rounds a line says which --from and --to fit, and the exit status is 1.
+
+  c104 draw network.txt events.txt --over-time > run.svg";
 
 /// Of `traffic`.
 pub const TRAFFIC: &str =

@@ -8,10 +8,12 @@
 mod command_line;
 mod count_words;
 mod help;
+mod picture_words;
 mod subcommands;
 mod traffic_words;
 
 pub use command_line::{EXPLAIN_WORD, MOST_WORKERS, Order, STANDARD_INPUT, Words};
 pub use count_words::CountWords;
+pub use picture_words::PictureWords;
 pub use subcommands::Subcommand;
 pub use traffic_words::{TrafficWords, pattern_of};

@@ -1,12 +1,14 @@
-use Rattle.std.proofs.Common.{◌≡◌}
-use Rattle.c104_token.specs.Kinds.{plain_kind}
-use Rattle.c104_run.specs.NetViews.{network_link_view}
+use Rattle.std.proofs.Common.{◌≡◌, ◌≤◌, ◌-◌}
 use Rattle.c104_stats.specs.Numbers.{each_number}
-use Rattle.c104_stats.specs.Sights.{link_levels, link_seen}
+use Rattle.c104_stats.specs.Sights.{wired_seen}
 use Rattle.c104_stats.proofs.sights.see_links.Given as goal
 
 -- those so far
 abbrev pub invariant-loop-link : goal.invariant-loop-link
-invariant-loop-link l =
-    (l.levels ≡ each_number (λ k. link_levels (network_link_view plain_kind l.net.network l.switch k)) l.link l.initial.levels)
-    × (l.stats ≡ each_number (λ k. link_seen (network_link_view plain_kind l.net.network l.switch k) l.switch k) l.link l.initial.stats)
+invariant-loop-link l = record {
+  seen : l.stats ≡ each_number (wired_seen l.net.network l.switch) l.from l.initial.stats;
+  within : l.from ≤ 32;
+}
+
+abbrev pub decreases-loop-link : goal.decreases-loop-link
+decreases-loop-link l = 32 - l.from

@@ -1,0 +1,75 @@
+//! The drawing of the run of a script over its rounds.
+ghost use Rattle.std.specs.Prelude.{ℕ, ◌≡◌};
+ghost use Rattle.c104_plan.specs.PlanImage.{Fits};
+ghost use Rattle.c104_commands.specs.OverTime.{OverTimeEnds, OverTimeRuns};
+ghost use Rattle.c104_commands.specs.declared.status.Status.TheVariants as status;
+
+use crate::setups::{Setup, read_setup};
+use crate::states::{Drawn, write_drawn};
+use crate::status::Status;
+use c104_mistakes::Messages;
+use c104_plan::{Image, Plan};
+use c104_session::{Asked, time_plan};
+use c104_stream::Ahead;
+use std::alloc::Global;
+use std::io::{Read, Write};
+
+/// Reads a description, and then reads a script and does its lines on the network, started with the image of its labels; at
+/// the end writes a picture of that over these rounds, as an SVG of at most 1 MiB. Where that is too little it writes a line
+/// in its place, which says which rounds fit, and the status is Refused. So it is where a line of the script is faulty,
+/// which is left out, and where the script is too long, of which the lines are done that end within 16 MiB.
+///
+/// It tells people of each line that is faulty, refused or not ready. What is written and how it ends are the same
+/// whatever takes the messages does.
+///
+/// Reading ends at 1 MiB of a description and at 16 MiB of a script, whatever the reader. Each error of a reader or the
+/// writer is a fault at once.
+pub fn draw_over_time_command<D: Read, S: Read, W: Write, M: Messages>(
+    alloc: Global,
+    asked: Asked,
+    description: &mut D,
+    script: &mut S,
+    writer: &mut W,
+    messages: &mut M,
+) -> Status
+    ensures ends { OverTimeEnds asked (D.remaining description.old) (S.remaining script.old)
+        (W.contents writer.old) (W.contents writer.new) result }
+    ensures of_description { result ≡ status.CannotRead 0 → script.new ≡ script.old }
+{
+    let Setup { plan, image } = match read_setup(alloc, description, writer, messages) {
+        Ok(setup) => setup,
+        Err(status) => return status,
+    };
+    draw_timed(alloc, asked, &plan, image, script, writer, messages)
+}
+
+/// The same of the network of a plan, with an image that fits it.
+#[tactic(auto, using(crate::proofs::OverTimeLemmas::timed_halts))]
+fn draw_timed<S: Read, W: Write, M: Messages>(
+    alloc: Global,
+    asked: Asked,
+    plan: &Plan,
+    image: Image,
+    script: &mut S,
+    writer: &mut W,
+    messages: &mut M,
+) -> Status
+    requires { Fits image plan.now }
+    ensures runs { OverTimeRuns asked plan.now image (S.remaining script.old)
+        (W.contents writer.old) (W.contents writer.new) result }
+    ensures of_script { (n : ℕ) → result ≡ status.CannotRead n → n ≡ 1 }
+{
+    let Ok(mut ahead) = Ahead::new(alloc) else {
+        return Status::NoMemory;
+    };
+    match time_plan(alloc, plan, image, asked, &mut ahead, script, messages) {
+        Ok(timed) => {
+            let drawn = Drawn {
+                text: timed.text,
+                refused: timed.is_refused,
+            };
+            write_drawn(&drawn, writer)
+        }
+        Err(halt) => Status::of_halt(halt, 1),
+    }
+}

@@ -1,0 +1,127 @@
+-- Rounds of which something is kept in a loop: a round as it is kept, and how the loop ends.
+use Rattle.std.proofs.Common.{◌≡◌, ◌⊎◌, ◌+◌, ◌-◌, ◌<◌, ◌∙◌, ℕ, Bool, true, false, List, [], ◌∷◌, ◌++◌, Result, Ok, Err}
+use Rattle.std.proofs.Common.{append-nil, ap, arith, inl, inr, refl, subst, sym}
+use Rattle.c104_event.specs.declared.events.Event.{Event}
+use Rattle.c104_event.specs.declared.faults.EventFault.{EventFault}
+use Rattle.c104_event.specs.declared.faults.EventFault.TheVariants as fault
+use Rattle.c104_net.proofs.RecordedRounds.{starts_stay}
+use Rattle.c104_net.specs.MeteredRecords.{at_meter, record_metered, MeteredRecord}
+use Rattle.c104_node.specs.declared.tagged.TaggedToken.{TaggedToken}
+use Rattle.c104_run.proofs.RoundRuns.{run_seen}
+use Rattle.c104_run.specs.EventRuns.{run_events, EventsEnd, Outcome}
+use Rattle.c104_run.specs.Meters.{Sees}
+use Rattle.c104_run.specs.NetRecords.{NetRecord}
+use Rattle.c104_run.specs.RecordedRuns.{record_apply}
+use Rattle.c104_run.specs.RoundParts.{PartEnds}
+use Rattle.c104_run.specs.Rounds.{round, rounds}
+use Rattle.c104_session.specs.Counted.{is_later}
+use Rattle.c104_session.specs.Driven.{DoesRounds}
+use Rattle.c104_session.specs.Keepers.{rounds_kept, Keeping, KeepsRound}
+use Rattle.c104_session.specs.Leavings.{LeavesRounds}
+use Rattle.c104_session.proofs.KeptRounds.{fault_counts, fault_ends, goes_on, idle_counts, idle_ends, round_runs, Going}
+use Rattle.c104_session.proofs.Leavings.{rounds_left}
+use Rattle.c104_session.proofs.RoundLeavings.{later_left}
+use Rattle.c104_session.proofs.StillCounts.{none_later}
+
+module _ {M : Type 0} (sees : Sees M TaggedToken) (keeps : Keeping M) where
+  same_fault : (f : EventFault) → ◌≡◌ {A = Result (Unit {0}) EventFault} (Err f) (Err fault.NoMemory) → f ≡ fault.NoMemory
+  same_fault f is = cc
+
+  -- a round that was told of
+  module _ (net after : NetRecord) (c : M) where
+    abbrev begun : MeteredRecord M
+    begun = at_meter net (keeps.begun net c)
+
+    abbrev pub RoundTold : Result Bool EventFault → M → Type 0
+    RoundTold result e = PartEnds (record_metered sees) begun (round net.network.plan) result (at_meter after e)
+
+    -- it began not, or stopped at a fault, or it is done
+    pub round_unbegun : (d : M) → KeepsRound sees keeps net c (Err fault.NoMemory) net d
+    round_unbegun d = inr (refl, ([], rounds net.network.plan 1, refl, refl))
+
+    front_left : (d : M) (front : List Event) → run_events (record_metered sees) begun front ≡ (Ok tt, at_meter after d)
+        → after ≡ (run_events record_apply net front).1
+    front_left d front stands =
+        ap (λ (o : Outcome (MeteredRecord M)). o.1.net) (sym stands)
+        ∙ ap (λ (o : Outcome NetRecord). o.1)
+        (run_seen (record_metered sees) record_apply (λ (s : MeteredRecord M). s.net) (λ s e. refl) front begun)
+
+    pub round_halted : (f : EventFault) (d : M) → RoundTold (Err f) d → KeepsRound sees keeps net c (Err f) after d
+    round_halted f d told = by_end told.ends
+      where
+        by_end : EventsEnd (record_metered sees) begun (round net.network.plan) (Err f) (at_meter after d)
+            → KeepsRound sees keeps net c (Err f) after d
+        by_end (inl due) = inl (sym due)
+        by_end (inr short) = inr (
+          same_fault f short.refused,
+          (
+            short.front,
+            short.event ∷ short.rest,
+            append-nil (round net.network.plan) ∙ short.parts,
+            front_left d short.front short.stands,
+          ),
+        )
+
+    pub round_counted : (changed done : Bool) (e d : M) → RoundTold (Ok changed) e → done ≡ is_later net.count after.count
+        → d ≡ keeps.ended e done → KeepsRound sees keeps net c (Ok done) after d
+    round_counted changed done e d told later ended = (e, told.ends.0, later, ended)
+
+  -- the loop goes on, or ends
+  module _ (start : NetRecord) (begun : M) (count i : ℕ) (net after : NetRecord) (c d : M)
+      (going : Going sees keeps start begun count i net c) (further : i < count) where
+    ends_due : (result : Result (Unit {0}) EventFault) → EventsEnd record_apply start (rounds start.network.plan count) result after
+        → DoesRounds start count result after
+    ends_due result (inl due) = inl due
+    ends_due result (inr short) = inr short.refused
+
+    abbrev Halted : EventFault → Type 0
+    Halted f = KeepsRound sees keeps net c (Err f) after d
+
+    pub halted_due : (f : EventFault) → Halted f → DoesRounds start count (Err f) after
+    halted_due f (inl is) = ends_due (Err f) (fault_ends sees keeps start begun count i net after c d going further f is)
+    halted_due f (inr short) = inr (ap Err short.0)
+
+    pub halted_left : (f : EventFault) → Halted f → LeavesRounds start count after
+    halted_left f (inl is) = rounds_left start count (Err f) after (fault_ends sees keeps start begun count i net after c d going further f is)
+    halted_left f (inr short) = later_left start net after i count further going.run going.same short.1
+
+    pub halted_counts : (f : EventFault) → Halted f
+        → (d ≡ rounds_kept sees keeps count (at_meter start begun)) ⊎ (◌≡◌ {A = Result (Unit {0}) EventFault} (Err f) (Err fault.NoMemory))
+    halted_counts f (inl is) = inl (fault_counts sees keeps start begun count i net after c d going further f is)
+    halted_counts f (inr short) = inr (ap Err short.0)
+
+    -- a round in which nothing was done is the last
+    module _ (idle : KeepsRound sees keeps net c (Ok false) after d) where
+      unchanged : after ≡ net
+      unchanged =
+          none_later (round net.network.plan) net after (round_runs sees keeps start begun count i net after c d going further false idle)
+          (sym idle.2)
+
+      idle_run : EventsEnd record_apply start (rounds start.network.plan count) (Ok tt) after
+      idle_run = idle_ends sees keeps start begun count i net after c d going further unchanged idle
+
+      pub idle_due : DoesRounds start count (Ok tt) after
+      idle_due = ends_due (Ok tt) idle_run
+
+      pub idle_left : LeavesRounds start count after
+      idle_left = rounds_left start count (Ok tt) after idle_run
+
+      pub idle_passed : keeps.passed d (count - (i + 1)) ≡ rounds_kept sees keeps count (at_meter start begun)
+      idle_passed = idle_counts sees keeps start begun count i net after c d going further idle
+
+    pub next_going : KeepsRound sees keeps net c (Ok true) after d → Going sees keeps start begun count (i + 1) after d
+    next_going came =
+        let run = round_runs sees keeps start begun count i net after c d going further true came in
+        goes_on sees keeps start begun count i net after c d going further
+        (starts_stay net after (round net.network.plan) (Ok tt) (inl (sym run))).0 came
+
+  -- all are done
+  module _ (start : NetRecord) (begun : M) (count : ℕ) (net : NetRecord) (c : M) (going : Going sees keeps start begun count count net c) where
+    pub all_due : DoesRounds start count (Ok tt) net
+    all_due = inl (sym going.run)
+
+    pub all_left : LeavesRounds start count net
+    all_left = rounds_left start count (Ok tt) net (inl (sym going.run))
+
+    pub all_counts : c ≡ rounds_kept sees keeps count (at_meter start begun)
+    all_counts = let none : count - count ≡ 0 = omega arith in sym (going.left ∙ ap (λ n. rounds_kept sees keeps n (at_meter net c)) none)

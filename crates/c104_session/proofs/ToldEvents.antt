@@ -1,0 +1,37 @@
+-- Events of which a meter is told: the network goes on as by itself, and the meter comes to what it is told.
+use Rattle.std.proofs.Common.{◌≡◌, ◌⊎◌, Result, Ok, Err, OnErr, ap, inl, inr}
+use Rattle.c104_switch.specs.Actions.{Reply}
+use Rattle.c104_event.specs.declared.events.Event.{Event}
+use Rattle.c104_event.specs.declared.faults.EventFault.{EventFault}
+use Rattle.c104_event.specs.declared.faults.EventFault.TheVariants as fault
+use Rattle.c104_net.specs.MeteredRecords.{at_meter, record_metered, MeteredRecord}
+use Rattle.c104_run.specs.EventRuns.{Answers}
+use Rattle.c104_run.specs.NetRecords.{NetRecord}
+use Rattle.c104_run.specs.RecordedRuns.{AnswersRecord}
+use Rattle.c104_timeline.specs.Metering.{watching}
+use Rattle.c104_timeline.specs.Timelines.{Timeline}
+use Rattle.c104_session.specs.Driven.{DoesEvent}
+use Rattle.c104_session.specs.Timed.{told_event}
+use Rattle.c104_session.proofs.CountedEvents.{asked_due}
+use Rattle.c104_session.proofs.Leavings.{event_kept}
+
+abbrev pub Timed : NetRecord → Timeline → Event → Result Reply EventFault → NetRecord → Timeline → Type 0
+Timed net t e answer after u = Answers (record_metered watching) (at_meter net t) e answer (at_meter after u)
+
+abbrev Ended : Type 0
+Ended = Result Reply EventFault × MeteredRecord Timeline
+
+module _ (net : NetRecord) (e : Event) (answer : Result Reply EventFault) (after : NetRecord) (t u : Timeline) where
+  of_record : Timed net t e answer after u → AnswersRecord net e answer after
+  of_record (inl due) = inl (ap (λ (x : Ended). (x.0, x.1.net)) due)
+  of_record (inr short) = inr (short.0, short.1, ap (λ (x : MeteredRecord Timeline). x.net) short.2)
+
+  pub timed_due : Timed net t e answer after u → DoesEvent net e answer after
+  timed_due told = asked_due net e answer after (of_record told)
+
+  pub timed_kept : Timed net t e answer after u → OnErr answer (after ≡ net)
+  timed_kept told = event_kept net e answer after (of_record told)
+
+  pub timed_told : Timed net t e answer after u → (u ≡ told_event t net e) ⊎ (answer ≡ Err fault.NoMemory)
+  timed_told (inl due) = inl (ap (λ (x : Ended). x.1.meter) due)
+  timed_told (inr short) = inr short.0

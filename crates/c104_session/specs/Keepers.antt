@@ -1,0 +1,45 @@
+-- What is kept of the rounds of a run, by a meter that is told of their tokens: before each round something begins, behind it
+-- is told whether anything was done, and rounds in which nothing would be done pass.
+--     rounds_kept n s      of n rounds
+use Rattle.std.specs.Prelude.{ℕ, suc, zero, ◌≡◌, ◌⊎◌, Bool, true, false, Result, Ok, Err, if◌then◌else◌}
+use Rattle.c104_event.specs.declared.faults.EventFault.{EventFault}
+use Rattle.c104_event.specs.declared.faults.EventFault.TheVariants as fault
+use Rattle.c104_node.specs.declared.tagged.TaggedToken.{TaggedToken}
+use Rattle.c104_run.specs.EventRuns.{run_events, Outcome}
+use Rattle.c104_run.specs.Meters.{Sees}
+use Rattle.c104_run.specs.NetRecords.{NetRecord}
+use Rattle.c104_run.specs.Rounds.{round}
+use Rattle.c104_net.specs.MeteredRecords.{at_meter, record_metered, MeteredRecord}
+use Rattle.c104_session.specs.Counted.{is_later}
+use Rattle.c104_session.specs.Leavings.{LeavesRounds}
+
+-- what a meter comes to before a round, behind one in which something was done or not, and as many rounds pass
+pub record Keeping (M : Type 0) : Type 0 where
+  pub begun : NetRecord → M → M
+  pub ended : M → Bool → M
+  pub passed : M → ℕ → M
+
+module _ {M : Type 0} (sees : Sees M TaggedToken) (keeps : Keeping M) where
+  -- the events of a round that has begun
+  abbrev pub round_kept : MeteredRecord M → Outcome (MeteredRecord M)
+  round_kept s = run_events (record_metered sees) (at_meter s.net (keeps.begun s.net s.meter)) (round s.net.network.plan)
+
+  -- a round that ended so, and those behind it: where nothing was done nothing is done in any of them, and they pass
+  abbrev pub kept_on : ℕ → (MeteredRecord M → M) → NetRecord → Outcome (MeteredRecord M) → M
+  kept_on left more old (Err f, s) = s.meter
+  kept_on left more old (Ok u, s) =
+      if is_later old.count s.net.count then more (at_meter s.net (keeps.ended s.meter true))
+      else keeps.passed (keeps.ended s.meter false) left
+
+  abbrev pub rounds_kept : ℕ → MeteredRecord M → M
+  rounds_kept zero s = s.meter
+  rounds_kept (suc n) s = kept_on n (rounds_kept n) s.net (round_kept s)
+
+  -- what one round comes to: as is kept of it, and whether anything was done; or a fault stops it, or there is no memory
+  -- after some of its events
+  abbrev pub KeepsRound : NetRecord → M → Result Bool EventFault → NetRecord → M → Type 0
+  KeepsRound net m (Ok done) after kept =
+      (e : M) × (round_kept (at_meter net m) ≡ (Ok tt, at_meter after e)) × (done ≡ is_later net.count after.count)
+      × (kept ≡ keeps.ended e done)
+  KeepsRound net m (Err f) after kept =
+      (round_kept (at_meter net m) ≡ (Err f, at_meter after kept)) ⊎ ((f ≡ fault.NoMemory) × LeavesRounds net 1 after)

@@ -1,0 +1,45 @@
+-- The timeline of a run: what an event that is asked of a network adds to it, and what rounds do.
+--     timed_event t net e      an event
+--     timed_rounds t net n      n rounds
+use Rattle.std.specs.Prelude.{ℕ}
+use Rattle.c104_event.specs.declared.events.Event.{Event}
+use Rattle.c104_event.specs.declared.events.Event.TheVariants as event
+use Rattle.c104_run.specs.NetRecords.{NetRecord}
+use Rattle.c104_net.specs.MeteredRecords.{at_meter, record_metered}
+use Rattle.c104_timeline.specs.Metering.{watching}
+use Rattle.c104_timeline.specs.Timelines.{timeline_begun, timeline_ended, timeline_passed, timeline_settled, Timeline}
+use Rattle.c104_session.specs.Driven.{Driving}
+use Rattle.c104_session.specs.Keepers.{rounds_kept, Keeping}
+
+-- what rounds do beside their tokens
+abbrev pub timeline_keeps : Keeping Timeline
+timeline_keeps = record {
+  begun = λ net t. timeline_begun t;
+  ended = λ t done. timeline_ended t done;
+  passed = λ t times. timeline_passed t times;
+}
+
+-- after an event, before which what crossed at its port has become part of the timeline
+abbrev pub before_event : Timeline → Event → Timeline
+before_event t (event.Cross p) = timeline_settled t p
+before_event t (event.Credit p) = t
+before_event t (event.Input s l word) = t
+before_event t (event.Claim s i o) = t
+before_event t (event.Control s bytes) = t
+before_event t (event.Send terminal packet) = t
+before_event t (event.Drain terminal) = t
+
+-- what the timeline is told of an event
+abbrev pub told_event : Timeline → NetRecord → Event → Timeline
+told_event t net e = (record_metered watching (at_meter net t) e).1.meter
+
+abbrev pub timed_event : Timeline → NetRecord → Event → Timeline
+timed_event t net e = told_event (before_event t e) net e
+
+-- after rounds
+abbrev pub timed_rounds : Timeline → NetRecord → ℕ → Timeline
+timed_rounds t net count = rounds_kept watching timeline_keeps count (at_meter net t)
+
+-- the timeline of what a network is asked
+abbrev pub timeline_kept : Driving Timeline
+timeline_kept = record { event = timed_event; rounds = timed_rounds }

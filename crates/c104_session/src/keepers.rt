@@ -1,0 +1,69 @@
+//! Rounds of which something is kept.
+ghost use Rattle.std.specs.Prelude.{◌≡◌, ◌⊎◌, Err, OnOk};
+ghost use Rattle.c104_event.specs.declared.faults.EventFault.TheVariants as fault;
+ghost use Rattle.c104_net.specs.MeteredRecords.{at_meter};
+ghost use Rattle.c104_session.specs.Driven.{DoesRounds};
+ghost use Rattle.c104_session.specs.Keepers.{rounds_kept, KeepsRound};
+ghost use Rattle.c104_session.specs.Leavings.{LeavesRounds};
+
+use crate::counting::is_later;
+use c104_event::EventFault;
+use c104_net::{Meter, MeteredNet, TaggedToken, TracedNet, Watch};
+use c104_token::NoMemory;
+
+/// Who keeps something of the rounds of a run, beside what a meter is told.
+pub(crate) trait Keeper: Meter<TaggedToken> {
+    ghost use Rattle.std.specs.Prelude.{◌≡◌, OnOk};
+    ghost use Rattle.c104_session.specs.Keepers.{Keeping};
+
+    /// What it keeps.
+    ghost keeps: { Keeping Self };
+
+    /// A round begins on a network. The only error is out of memory.
+    fn begin(&mut self, net: &TracedNet) -> Result<(), NoMemory>
+        ensures { OnOk result (self.new ≡ keeps.begun net.now self.old) };
+
+    /// The round ends, in which something was done or not.
+    fn end(&mut self, done: bool)
+        ensures { self.new ≡ keeps.ended self.old done };
+
+    /// As many rounds pass in which nothing is done.
+    fn pass(&mut self, times: u32)
+        ensures { self.new ≡ keeps.passed self.old times };
+}
+
+/// Does rounds, as `TracedNet::rounds_watched` does, and has this kept of them. Out of memory the first of their events are
+/// done.
+pub(crate) fn keep_rounds<K: Keeper, W: Watch>(
+    keeper: &mut K,
+    net: &mut TracedNet,
+    count: u32,
+    watch: &mut W,
+) -> Result<(), EventFault>
+    ensures due { DoesRounds net.old count result net.new }
+    ensures left { LeavesRounds net.old count net.new }
+    ensures kept { (keeper.new ≡ rounds_kept K.sees K.keeps count (at_meter net.old keeper.old)) ⊎ (result ≡ Err fault.NoMemory) }
+{
+    for round in 0..count {
+        let done = keep_round(keeper, net)?;
+        if !done {
+            // Nor would any further round change anything.
+            keeper.pass(count - (round + 1));
+            return Ok(());
+        }
+        watch.rounds_done(round + 1, count);
+    }
+    Ok(())
+}
+
+/// Does a round, and tells whether any event of it was done.
+fn keep_round<K: Keeper>(keeper: &mut K, net: &mut TracedNet) -> Result<bool, EventFault>
+    ensures { KeepsRound K.sees K.keeps net.old keeper.old result net.new keeper.new }
+{
+    keeper.begin(net)?;
+    let before = net.done_count();
+    net.round_told(keeper)?;
+    let done = is_later(before, net.done_count());
+    keeper.end(done);
+    Ok(done)
+}

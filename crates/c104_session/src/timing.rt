@@ -1,0 +1,75 @@
+//! A driver that keeps what crosses the wires, round by round.
+ghost use Rattle.std.specs.Prelude.{◌≡◌, ◌⊎◌, Err, OnErr, OnOk};
+ghost use Rattle.c104_event.specs.declared.faults.EventFault.TheVariants as fault;
+ghost use Rattle.c104_session.specs.Driven.{DoesEvent};
+ghost use Rattle.c104_session.specs.Timed.{before_event, told_event};
+
+use crate::driver::Driver;
+use crate::keepers::{Keeper, keep_rounds};
+use c104_event::{Event, EventFault};
+use c104_net::{MeteredNet, TracedNet, Watch};
+use c104_switch::Reply;
+use c104_timeline::Timeline;
+use c104_token::NoMemory;
+
+impl Keeper for Timeline {
+    ghost use Rattle.c104_session.specs.Timed.{timeline_keeps};
+
+    ghost keeps = { timeline_keeps };
+
+    fn begin(&mut self, _net: &TracedNet) -> Result<(), NoMemory> {
+        self.begin_round()
+    }
+
+    fn end(&mut self, done: bool) {
+        self.end_round(done);
+    }
+
+    fn pass(&mut self, times: u32) {
+        self.pass_rounds(times);
+    }
+}
+
+impl Driver for Timeline {
+    ghost use Rattle.c104_session.specs.Timed.{timeline_kept};
+
+    ghost drives = { timeline_kept };
+
+    fn event(&mut self, net: &mut TracedNet, event: &Event) -> Result<Reply, EventFault> {
+        settle_before(self, event)?;
+        do_timed(self, net, event)
+    }
+
+    fn rounds<W: Watch>(
+        &mut self,
+        net: &mut TracedNet,
+        count: u32,
+        watch: &mut W,
+    ) -> Result<(), EventFault> {
+        keep_rounds(self, net, count, watch)
+    }
+}
+
+/// Does an event, of which the timeline is told.
+#[tactic(auto, using(crate::proofs::ToldEvents::timed_due, crate::proofs::ToldEvents::timed_kept, crate::proofs::ToldEvents::timed_told))]
+fn do_timed(
+    timeline: &mut Timeline,
+    net: &mut TracedNet,
+    event: &Event,
+) -> Result<Reply, EventFault>
+    ensures due { DoesEvent net.old event.now result net.new }
+    ensures kept { OnErr result (net.new ≡ net.old) }
+    ensures told { (timeline.new ≡ told_event timeline.old net.old event.now) ⊎ (result ≡ Err fault.NoMemory) }
+{
+    net.apply_told(event, timeline)
+}
+
+/// What crossed at the port of an event becomes part of the timeline. The only error is out of memory.
+fn settle_before(timeline: &mut Timeline, event: &Event) -> Result<(), NoMemory>
+    ensures { OnOk result (timeline.new ≡ before_event timeline.old event.now) }
+{
+    match event {
+        Event::Cross(port) => timeline.settle(*port),
+        _ => Ok(()),
+    }
+}

@@ -1,0 +1,25 @@
+use Rattle.std.proofs.Common.{arith}
+use Rattle.c104_stats.specs.Sights.{wired_seen}
+use Rattle.c104_stats.proofs.NumberSteps.{none_yet}
+use Rattle.c104_stats.proofs.WiredSteps.{seen_all, seen_next}
+use Rattle.c104_stats.proofs.sights.see_links.Goals as goal
+
+pub loop-link-init : goal.loop-link-init
+loop-link-init c = record {
+  seen = none_yet (wired_seen c.args.net.now.network c.args.switch) c.args.stats.now;
+  within = omega arith;
+}
+
+pub loop-link-preserved : goal.loop-link-preserved
+loop-link-preserved c = record {
+  seen = seen_next c.args.net.now.network c.args.switch c.wires.result.now _ c.wires.ensures
+      c.linked-wired.ensures.linked c.loop-link.from c.in-Some.link c.args.stats.now c.loop-link.stats c.see_link.new.stats
+      c.in-Some.ensures.1.0 c.in-Some.ensures.1.1 c.loop-link.invariant.seen c.in-Some.ensures.0 c.in-Some.ensures.1.2
+      c.see_link.ensures;
+  within = omega (arith, c.in-Some.ensures.1.1);
+}
+
+pub returns : goal.returns
+returns c = seen_all c.args.net.now.network c.args.switch c.wires.result.now _ c.wires.ensures
+    c.linked-wired.ensures.linked c.loop-link.from c.args.stats.now c.loop-link.stats c.loop-link.invariant.within
+    c.loop-link.invariant.seen c.in_default.ensures.0

@@ -1,0 +1,10 @@
+use Rattle.std.proofs.Common.{◌≡◌, ◌++◌, List, OnOk, subst, ℕ}
+use Rattle.std.specs.String.{string_bytes}
+use Rattle.c104_timeline.specs.FrameTexts.{color_fills, fills_of}
+use Rattle.c104_timeline.proofs.frame_texts.add_numbered.Goals as goal
+
+pub returns : goal.returns
+unfolding fills_of
+returns c =
+    subst (λ color. OnOk c.add_fills.result (string_bytes c.add_fills.new.text ≡ string_bytes c.args.text.now ++ color_fills color))
+    c.color_by.ensures c.add_fills.ensures

@@ -1,0 +1,100 @@
+-- What crossed the wire at a port, from there: stretches of rounds, in each of which tokens of one packet crossed.
+--     lane_crossed l round ends      a token crosses
+--     lane_settled l      the token that crossed last has become part of a stretch
+--     lane_closed end packet l      the run is at its end
+use Rattle.std.specs.Prelude.{ℕ, ◌+◌, ◌==◌, ◌&&◌, Bool, true, false, List, [], ◌∷◌, ◌++◌, Option, Some, None, if◌then◌else◌, length, nat_le, slice_get}
+use Rattle.std.specs.Option.{option_to_list}
+use Rattle.c104_node.specs.declared.origins.Origin.{Origin}
+use Rattle.c104_stats.specs.Numbers.{few}
+pub use Rattle.c104_timeline.specs.declared.lanes.Crossing.{Crossing}
+pub use Rattle.c104_timeline.specs.declared.lanes.Step.{Step}
+pub use Rattle.c104_timeline.specs.declared.lanes.Stretch.{Stretch}
+
+pub record Lane : Type 0 where
+  -- the stretches that are past
+  pub stretches : List Stretch
+  -- the packets that have crossed to their end; at the end of the run also one that hasn't, if it is known
+  pub packets : List Origin
+  -- the latest stretch, and a token that has yet to become part of one
+  pub latest : Option Stretch
+  pub token : Option Crossing
+
+abbrev pub new_lane : Lane
+new_lane = record { stretches = []; packets = []; latest = None; token = None }
+
+-- the round behind one
+abbrev pub next_round : ℕ → ℕ
+next_round round = few (round + 1)
+
+-- whether the packet of a stretch holds the wire, where k packets have crossed to their end
+abbrev pub is_open : Stretch → ℕ → Bool
+is_open s k = s.packet == k
+
+-- whether a token of its packet crosses in its last round or the next
+abbrev pub goes_on : Stretch → ℕ → ℕ → Bool
+goes_on s k round = is_open s k && nat_le round (next_round s.last)
+
+-- since when a packet has held the wire whose token crosses in this round behind it
+abbrev pub held_since : Stretch → ℕ → ℕ → ℕ
+held_since s k round = if is_open s k then next_round s.last else round
+
+abbrev pub first_stretch : ℕ → ℕ → ℕ → Stretch
+first_stretch k since round = record { packet = k; since = since; first = round; last = round }
+
+-- the latest stretch after a token that crosses in this round, and the one before, if it is past
+abbrev pub step_by : Bool → Stretch → ℕ → ℕ → Step
+step_by true s k round = record { past = None; latest = record s { last = round } }
+step_by false s k round = record { past = Some s; latest = first_stretch k (held_since s k round) round }
+
+abbrev pub step_of : Option Stretch → ℕ → ℕ → Step
+step_of None k round = record { past = None; latest = first_stretch k round round }
+step_of (Some s) k round = step_by (goes_on s k round) s k round
+
+-- a token crosses, which ends this packet, or none
+abbrev pub lane_crossed : Lane → ℕ → Option Origin → Lane
+lane_crossed l round ends = record l { token = Some (record { round = round; ends = ends }) }
+
+-- it has become part of a stretch
+abbrev pub lane_stepped : Lane → Crossing → Step → Lane
+lane_stepped l c step = record {
+  stretches = l.stretches ++ option_to_list step.past;
+  packets = l.packets ++ option_to_list c.ends;
+  latest = Some step.latest;
+  token = None;
+}
+
+abbrev pub settled_by : Lane → Option Crossing → Lane
+settled_by l None = l
+settled_by l (Some c) = lane_stepped l c (step_of l.latest (length l.packets) c.round)
+
+abbrev pub lane_settled : Lane → Lane
+lane_settled l = settled_by l l.token
+
+-- the rounds behind a stretch, up to this one, in which its packet holds the wire and nothing crosses
+abbrev pub rest_of : Bool → ℕ → Stretch → Option Stretch
+rest_of true end s = Some (record { packet = s.packet; since = next_round s.last; first = next_round end; last = end })
+rest_of false end s = None
+
+-- the packet that holds it
+abbrev pub name_if : Bool → Option Origin → Option Origin
+name_if true packet = packet
+name_if false packet = None
+
+-- the run is at its end, and this is the last round that is drawn
+abbrev pub closed_with : ℕ → Option Origin → Lane → Bool → Stretch → Lane
+closed_with end packet l held s = record l {
+  stretches = l.stretches ++ s ∷ option_to_list (rest_of held end s);
+  packets = l.packets ++ option_to_list (name_if held packet);
+  latest = None;
+}
+
+abbrev pub closed_by : ℕ → Option Origin → Lane → Option Stretch → Lane
+closed_by end packet l None = l
+closed_by end packet l (Some s) = closed_with end packet l (is_open s (length l.packets)) s
+
+abbrev pub lane_closed : ℕ → Option Origin → Lane → Lane
+lane_closed end packet l = closed_by end packet (lane_settled l) (lane_settled l).latest
+
+-- the packet of a stretch, if its end tells it
+abbrev pub packet_of : Lane → Stretch → Option Origin
+packet_of l s = slice_get l.packets s.packet

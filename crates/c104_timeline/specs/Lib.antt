@@ -1,0 +1,13 @@
+pub mod Lanes
+pub mod LaneLaws
+pub mod Timelines
+pub mod Metering
+pub mod Closing
+pub mod Periods
+pub mod Rows
+pub mod Shapes
+pub mod Frames
+pub mod RowTexts
+pub mod Legends
+pub mod FrameTexts
+pub mod TimePictures

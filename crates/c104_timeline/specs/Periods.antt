@@ -1,0 +1,55 @@
+-- The rounds that a picture shows.
+--     period_of t asked      those that are asked for, as far as they are drawn
+use Rattle.std.specs.Prelude.{ℕ, ◌-◌, ◌&&◌, Bool, List, [], ◌∷◌, Option, Some, None, if◌then◌else◌, max, min, nat_le, nat_lt, slice_get}
+use Rattle.std.specs.Option.{unwrap_or}
+use Rattle.c104_timeline.specs.Lanes.{Lane, Stretch}
+use Rattle.c104_timeline.specs.Timelines.{last_round, Timeline}
+pub use Rattle.c104_timeline.specs.declared.periods.Asked.{Asked}
+pub use Rattle.c104_timeline.specs.declared.periods.Period.{Period}
+
+-- the earlier of a round and the first of a stretch, of which either may not be there
+abbrev pub earlier : Option ℕ → Option Stretch → Option ℕ
+earlier found None = found
+earlier None (Some s) = Some s.first
+earlier (Some round) (Some s) = Some (min round s.first)
+
+-- the round of the first token that crossed anywhere, or this one before it
+abbrev pub earliest : Option ℕ → List Lane → Option ℕ
+earliest found [] = found
+earliest found (lane ∷ lanes) = earliest (earlier found (slice_get lane.stretches 0)) lanes
+
+abbrev pub first_round : Timeline → ℕ
+first_round t = unwrap_or (earliest None t.lanes) 0
+
+-- the first round that is drawn, and the last one
+abbrev pub asked_start : Timeline → Option ℕ → ℕ
+asked_start t None = first_round t
+asked_start t (Some from) = from
+
+abbrev pub asked_end : ℕ → Option ℕ → ℕ
+asked_end last None = last
+asked_end last (Some to) = min to last
+
+abbrev pub period_of : Timeline → Asked → Period
+period_of t asked = record {
+  from = asked_start t asked.from;
+  to = max (asked_end (last_round t) asked.to) (asked_start t asked.from);
+}
+
+-- the rounds of it that are among those from one to another
+abbrev pub clipped_by : ℕ → ℕ → Option Period
+clipped_by from to = if nat_le from to then Some (record { from = from; to = to }) else None
+
+abbrev pub clipped : Period → ℕ → ℕ → Option Period
+clipped p first last = clipped_by (max first p.from) (min last p.to)
+
+-- whether any round of a stretch is among them, or of those before in which the packet held the wire
+abbrev pub is_in : Period → Stretch → Bool
+is_in p s = nat_le s.since p.to && nat_le p.from s.last
+
+-- the rounds of a stretch among them, and those before in which the packet held the wire and nothing crossed
+abbrev pub moved_in : Period → Stretch → Option Period
+moved_in p s = clipped p s.first s.last
+
+abbrev pub idle_in : Period → Stretch → Option Period
+idle_in p s = if nat_lt s.since s.first then clipped p s.since (s.first - 1) else None

@@ -1,0 +1,259 @@
+//! What crossed the wires of a network, round by round.
+//!
+//! A `Timeline` is told what happens, in order. What it makes of each thing is one step, so that what it has in the end is
+//! what the definitions say of all that happened.
+ghost use Rattle.std.specs.Prelude.{◌≡◌, ◌+◌, ◌*◌, ◌<◌, length, map, replicate, IfOk, OnOk};
+ghost use Rattle.c104_plan.specs.declared.ports.Port.TheVariants as port;
+ghost use Rattle.c104_regs.specs.declared.registers.TheConstants.{LINKS};
+ghost use Rattle.c104_stats.specs.Packets.{change_at};
+ghost use Rattle.c104_timeline.specs.Lanes.{lane_closed, lane_crossed, lane_settled, new_lane};
+ghost use Rattle.c104_timeline.specs.Timelines.{last_round, lane_count, new_timeline, place_of, port_at, timeline_begun, timeline_closed};
+ghost use Rattle.c104_timeline.specs.Timelines.{timeline_crossed, timeline_ended, timeline_passed, timeline_settled};
+
+use crate::lanes::{Lane, next_round};
+use c104_node::Origin;
+use c104_plan::{Plan, Port};
+use c104_regs::LINKS;
+use c104_token::NoMemory;
+use std::alloc::Global;
+use std::marker::Model;
+
+/// How many rounds are drawn behind the last one in which something was done, at most.
+const BEYOND: u32 = 5;
+
+/// What crossed the wires of a network, round by round.
+#[derive(Drop)]
+pub struct Timeline {
+    terminals: usize,
+    lanes: Vec<Lane>,
+    round: u32,
+    active: u32,
+}
+
+impl Model for Timeline {
+    ghost use Rattle.c104_timeline.specs.Timelines.{Timeline as TheTimeline};
+
+    ghost Value = { TheTimeline };
+
+    ghost view = { λ t. record {
+      terminals = t.terminals;
+      lanes = t.lanes.items;
+      round = t.round;
+      active = t.active;
+    } };
+}
+
+impl Timeline {
+    /// Nothing has happened yet on the network of a plan. The only error is out of memory.
+    pub fn new(alloc: Global, plan: &Plan) -> Result<Self, NoMemory>
+        ensures { IfOk result (λ timeline. timeline ≡ new_timeline plan.now) }
+    {
+        let lanes = new_lanes(alloc, lane_count(plan))?;
+        Ok(Timeline {
+            terminals: plan.terminals().len(),
+            lanes,
+            round: 0,
+            active: 0,
+        })
+    }
+
+    /// What crossed the wires, by port: first those of the terminals, and then the links of the switches, 32 of each.
+    pub(crate) fn lanes(&self) -> &[Lane]
+        ensures { result.now ≡ self.now.lanes }
+    {
+        self.lanes.as_slice()
+    }
+
+    /// The last round that is drawn.
+    pub(crate) fn last_round(&self) -> u32
+        ensures { result ≡ last_round self.now }
+    {
+        self.round.min(self.active.saturating_add(BEYOND))
+    }
+
+    /// The place of a port among the lanes.
+    pub(crate) fn place_of(&self, port: Port) -> Option<usize>
+        ensures { result ≡ place_of self.now port }
+    {
+        match port {
+            Port::Switch(switch, link) => self.link_place(switch, link),
+            Port::Terminal(terminal) if terminal < self.terminals => Some(terminal),
+            Port::Terminal(_) => None,
+        }
+    }
+
+    /// The place of the link of a switch.
+    fn link_place(&self, switch: usize, link: usize) -> Option<usize>
+        ensures { result ≡ place_of self.now (port.Switch switch link) }
+    {
+        let links = self.lanes.len().saturating_sub(self.terminals);
+        if link < LINKS && switch < links / LINKS {
+            Some(self.terminals + (switch * LINKS + link))
+        } else {
+            None
+        }
+    }
+
+    /// The port at a place.
+    pub(crate) fn port_at(&self, place: usize) -> Port
+        ensures { result ≡ port_at self.now place }
+    {
+        if place < self.terminals {
+            return Port::Terminal(place);
+        }
+        let link = place - self.terminals;
+        Port::Switch(link / LINKS, link % LINKS)
+    }
+
+    /// A token crosses the wire at a port, which ends this packet, or none. The one before there is settled by now.
+    pub fn cross(&mut self, port: Port, ended: Option<Origin>)
+        ensures { self.new ≡ timeline_crossed self.old port ended }
+    {
+        let round = self.round;
+        if let Some(place) = self.place_of(port) {
+            cross_at(&mut self.lanes, place, round, ended);
+        }
+        self.active = round;
+    }
+
+    /// The token that crossed at a port last becomes part of what crossed there. The only error is out of memory.
+    pub fn settle(&mut self, port: Port) -> Result<(), NoMemory>
+        ensures { OnOk result (self.new ≡ timeline_settled self.old port) }
+    {
+        if let Some(place) = self.place_of(port) {
+            settle_at(&mut self.lanes, place)?;
+        }
+        Ok(())
+    }
+
+    /// A round begins. The only error is out of memory.
+    pub fn begin_round(&mut self) -> Result<(), NoMemory>
+        ensures { OnOk result (self.new ≡ timeline_begun self.old) }
+    {
+        settle_all(&mut self.lanes)?;
+        self.round = next_round(self.round);
+        Ok(())
+    }
+
+    /// The round ends, in which something was done or not.
+    pub fn end_round(&mut self, done: bool)
+        ensures { self.new ≡ timeline_ended self.old done }
+    {
+        if done {
+            self.active = self.round;
+        }
+    }
+
+    /// As many rounds pass in which nothing is done.
+    pub fn pass_rounds(&mut self, times: u32)
+        ensures { self.new ≡ timeline_passed self.old times }
+    {
+        self.round = self.round.saturating_add(times);
+    }
+
+    /// The run is at its end, and this is the packet whose end has yet to cross at a place, if it is known. The only error is
+    /// out of memory.
+    pub(crate) fn close(&mut self, place: usize, packet: Option<Origin>) -> Result<(), NoMemory>
+        ensures { OnOk result (self.new ≡ timeline_closed self.old place packet) }
+    {
+        let end = self.last_round();
+        close_at(&mut self.lanes, place, end, packet)
+    }
+}
+
+/// How many ports of a plan something can go out of.
+// A plan has at most 64 switches and 256 terminals.
+fn lane_count(plan: &Plan) -> usize
+    ensures { result ≡ lane_count plan.now }
+{
+    let links = LINKS * plan.switches().len();
+    plan.terminals().len() + links
+}
+
+/// This many lanes over which nothing has crossed. The only error is out of memory.
+fn new_lanes(alloc: Global, count: usize) -> Result<Vec<Lane>, NoMemory>
+    ensures { IfOk result (λ lanes. lanes.items ≡ replicate count new_lane) }
+{
+    let mut lanes = Vec::new(alloc);
+    for _place in 0..count {
+        lanes.push(Lane::new(alloc))?;
+    }
+    Ok(lanes)
+}
+
+/// The tokens that crossed last become part of what crossed. The only error is out of memory.
+fn settle_all(lanes: &mut Vec<Lane>) -> Result<(), NoMemory>
+    ensures { OnOk result (lanes.new.items ≡ map lane_settled lanes.old.items) }
+{
+    for lane in lanes.iter_mut() {
+        lane.settle()?;
+    }
+    Ok(())
+}
+
+/// A token crosses at a place, if there is such a place.
+fn cross_at(lanes: &mut [Lane], place: usize, round: u32, ended: Option<Origin>)
+    ensures { lanes.new ≡ change_at lanes.old place (λ lane. lane_crossed lane round ended) }
+{
+    let Some(_) = lanes.get(place) else {
+        return;
+    };
+    cross_there(lanes, place, round, ended);
+}
+
+/// The same where there is.
+fn cross_there(lanes: &mut [Lane], place: usize, round: u32, ended: Option<Origin>)
+    requires inside { place < length lanes.old }
+    ensures { lanes.new ≡ change_at lanes.old place (λ lane. lane_crossed lane round ended) }
+{
+    let lane = &mut lanes[place];
+    lane.cross(round, ended);
+}
+
+/// The token that crossed last at a place, if there is such a place, becomes part of what crossed.
+fn settle_at(lanes: &mut [Lane], place: usize) -> Result<(), NoMemory>
+    ensures { OnOk result (lanes.new ≡ change_at lanes.old place lane_settled) }
+{
+    let Some(_) = lanes.get(place) else {
+        return Ok(());
+    };
+    settle_there(lanes, place)
+}
+
+/// The same where there is.
+fn settle_there(lanes: &mut [Lane], place: usize) -> Result<(), NoMemory>
+    requires inside { place < length lanes.old }
+    ensures { OnOk result (lanes.new ≡ change_at lanes.old place lane_settled) }
+{
+    let lane = &mut lanes[place];
+    lane.settle()
+}
+
+/// The run is at its end, at a place, if there is such a place.
+fn close_at(
+    lanes: &mut [Lane],
+    place: usize,
+    end: u32,
+    packet: Option<Origin>,
+) -> Result<(), NoMemory>
+    ensures { OnOk result (lanes.new ≡ change_at lanes.old place (lane_closed end packet)) }
+{
+    let Some(_) = lanes.get(place) else {
+        return Ok(());
+    };
+    close_there(lanes, place, end, packet)
+}
+
+/// The same where there is.
+fn close_there(
+    lanes: &mut [Lane],
+    place: usize,
+    end: u32,
+    packet: Option<Origin>,
+) -> Result<(), NoMemory>
+    requires inside { place < length lanes.old }
+    ensures { OnOk result (lanes.new ≡ change_at lanes.old place (lane_closed end packet)) }
+{
+    let lane = &mut lanes[place];
+    lane.close(end, packet)
+}

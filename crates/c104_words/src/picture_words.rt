@@ -1,0 +1,133 @@
+//! What the command line says of a picture.
+
+use crate::command_line::{SCRIPT, flag, script_argument, valued};
+use clap::{Arg, ArgMatches, Command, value_parser};
+use std::alloc::{AllocError, Global};
+
+/// What the command line says of a picture.
+#[derive(Clone, Copy)]
+pub struct PictureWords {
+    /// The header whose ways are marked, if one is.
+    pub header: Option<u16>,
+    /// Whether a cycle is marked.
+    pub cycles: bool,
+    /// Whether it is of the network as it stands after a script.
+    pub state: bool,
+    /// Whether it is of a script's run over its rounds.
+    pub over_time: bool,
+    /// The first of these, if it is said.
+    pub from: Option<u32>,
+    /// The last of these, if it is said.
+    pub to: Option<u32>,
+}
+
+impl PictureWords {
+    /// Nothing is said of a picture.
+    pub const NONE: PictureWords = PictureWords {
+        header: None,
+        cycles: false,
+        state: false,
+        over_time: false,
+        from: None,
+        to: None,
+    };
+
+    /// What words that were matched say.
+    pub fn of_matches(given: &ArgMatches<'_>) -> Self {
+        PictureWords {
+            header: given.get_one(HEADER),
+            cycles: given.get_flag(CYCLES),
+            state: given.get_flag(STATE),
+            over_time: given.get_flag(OVER_TIME),
+            from: given.get_one(FROM),
+            to: given.get_one(TO),
+        }
+    }
+}
+
+/// The option of a header.
+const HEADER: &str = "header";
+
+const HEADER_HELP: &str = "Mark the ways of a header, 0 to 255, or 65535 with two bytes";
+
+/// The option of a cycle.
+const CYCLES: &str = "cycles";
+
+const CYCLES_HELP: &str = "Mark a cycle of channel dependencies";
+
+/// The option of the network as it stands.
+const STATE: &str = "state";
+
+const STATE_HELP: &str = "Show the packets under way at the end of the script";
+
+/// The option of a run over its rounds, and those of the first and the last round.
+const OVER_TIME: &str = "over-time";
+
+const OVER_TIME_HELP: &str = "Show the packets round by round, as SVG";
+
+const FROM: &str = "from";
+
+const FROM_HELP: &str =
+    "The first round shown; by default that of the first token that crosses a wire";
+
+const TO: &str = "to";
+
+const TO_HELP: &str =
+    "The last round shown; by default the last one, or a few behind the last in which anything is done";
+
+/// The group of what is drawn of a script.
+const DRAWN: &str = "drawn";
+
+/// `[--header N | --cycles | SCRIPT --state | SCRIPT --over-time [--from R] [--to R]]`, behind a description.
+pub fn with_pictures<'a>(alloc: Global, named: Command<'a>) -> Result<Command<'a>, AllocError> {
+    let cycles = flag(alloc, CYCLES, CYCLES_HELP).conflicts_with(HEADER)?;
+    let marked = named.arg(header_option(alloc))?.arg(cycles)?;
+    with_script(alloc, marked)
+}
+
+/// `[SCRIPT --state | SCRIPT --over-time ..]`: no script stands without either of the two.
+fn with_script<'a>(alloc: Global, named: Command<'a>) -> Result<Command<'a>, AllocError> {
+    let script = script_argument(alloc).requires_arg(DRAWN)?;
+    let drawn = named.arg(script)?.arg(state_option(alloc)?)?;
+    with_rounds(alloc, drawn.arg(over_time_option(alloc)?)?)
+}
+
+/// `[--from R] [--to R]`, with `--over-time`.
+fn with_rounds<'a>(alloc: Global, named: Command<'a>) -> Result<Command<'a>, AllocError> {
+    let from = round_option(alloc, FROM, FROM_HELP)?;
+    let to = round_option(alloc, TO, TO_HELP)?;
+    named.arg(from)?.arg(to)
+}
+
+/// `--state`, with a script, and without what else is marked.
+fn state_option<'a>(alloc: Global) -> Result<Arg<'a>, AllocError> {
+    script_option(flag(alloc, STATE, STATE_HELP))
+}
+
+/// `--over-time`, with a script, and without what else is marked.
+fn over_time_option<'a>(alloc: Global) -> Result<Arg<'a>, AllocError> {
+    script_option(flag(alloc, OVER_TIME, OVER_TIME_HELP))?.conflicts_with(STATE)
+}
+
+/// An option of what is drawn of a script.
+fn script_option<'a>(option: Arg<'a>) -> Result<Arg<'a>, AllocError> {
+    option
+        .group(DRAWN)?
+        .requires_arg(SCRIPT)?
+        .conflicts_with(HEADER)?
+        .conflicts_with(CYCLES)
+}
+
+/// `--from R` or `--to R`. What is wanted but stands against another word isn't missed, so it is said that neither goes with
+/// `--state`.
+fn round_option<'a>(alloc: Global, name: &'a str, help: &'a str) -> Result<Arg<'a>, AllocError> {
+    valued(alloc, name, "R", help)
+        .value_parser(value_parser!(u32))
+        .requires_arg(OVER_TIME)?
+        .conflicts_with(STATE)
+}
+
+/// `--header N`.
+fn header_option<'a>(alloc: Global) -> Arg<'a> {
+    valued(alloc, HEADER, "N", HEADER_HELP).value_parser(value_parser!(u16))
+}

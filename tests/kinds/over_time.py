@@ -1,0 +1,186 @@
+"""Runs a program's drawing of runs over their rounds.
+
+A picture is read by Python's reader of XML: its rows with the rectangles in them, as rounds, and its list of packets. What
+they are is worked out by hand, round by round, from docs/FORMATS.md.
+"""
+
+import os
+import re
+import xml.etree.ElementTree as xml
+
+from case_runner import CANNOT_WRITE, EXAMPLES, MIB, PLAN, SCRIPT_LIMIT, comments
+from kinds.states import LINE
+from kinds.stats import FIRST, Files
+
+SVG = '{http://www.w3.org/2000/svg}'
+TITLE = re.compile(r'rounds (\d+) to (\d+); hatched: a packet holds the wire, and nothing crosses')
+FITS = re.compile(rb'draw 1 TooLarge: --from (\d+) --to (\d+) fits\n')
+CELL, ROW, FIRST_ROW = 8, 14, 2
+
+# The fills of the packets 0 and 1 of a, and of 0 of b; those in which nothing crosses are hatched.
+A_0, A_1, B_0 = 'blue', 'url(#blue-1)', 'url(#darkorange-1)'
+A_IDLE = 'url(#blue-idle)'
+
+# A description, a script, words, the first and the last round, and the rows: a name, or a name with what is drawn there, each
+# the packet, its fill, and the first and the last round.
+DRAWN = {
+    'the packet of the first run': (PLAN, FIRST, [], 1, 9,
+        ['A', ('a to A.0', ('a 0', A_0, 1, 3)), ('A.1 to b', ('a 0', A_0, 2, 4))]),
+    'from a round to another': (PLAN, FIRST, ['--from', '2', '--to', '3'], 2, 3,
+        ['A', ('a to A.0', ('a 0', A_0, 2, 3)), ('A.1 to b', ('a 0', A_0, 2, 3))]),
+    'a round in which one wire is still': (PLAN, FIRST, ['--from', '4'], 4, 9, ['A', ('A.1 to b', ('a 0', A_0, 4, 4))]),
+    'no more rounds than there are': (PLAN, FIRST, ['--to', '4000000000'], 1, 9,
+        ['A', ('a to A.0', ('a 0', A_0, 1, 3)), ('A.1 to b', ('a 0', A_0, 2, 4))]),
+    'rounds behind the last': (PLAN, FIRST, ['--from', '77'], 77, 77, []),
+    'nothing is asked': (PLAN, b'', [], 0, 0, []),
+    'no network': (b'', b'rounds 3\n', [], 0, 3, []),
+    'events before the first round': (PLAN, b'send a 01 68 eop\ncredit A.0\ncross a\ncross a\n', [], 0, 0,
+        ['A', ('a to A.0', ('a 0', A_0, 0, 0))]),
+    'packets one after the other': (PLAN, b'send a 01 eop\nsend a 01 eop\nrounds 9\n', ['--to', '4'], 1, 4,
+        ['A', ('a to A.0', ('a 0', A_0, 1, 2), ('a 1', A_1, 3, 4)), ('A.1 to b', ('a 0', A_0, 2, 3), ('a 1', A_1, 4, 4))]),
+    'packets that end outside of rounds': (PLAN, b'send a 01 eop\nsend a 01 eop\ncredit A.0\n' + b'cross a\n' * 3, [], 0, 0,
+        ['A', ('a to A.0', ('a 0', A_0, 0, 0), ('a 1', A_1, 0, 0))]),
+    'a token before the first round': (PLAN, b'send a 01 68 eop\ncredit A.0\ncross a\nrounds 3\n', ['--to', '1'], 0, 1,
+        ['A', ('a to A.0', ('a 0', A_0, 0, 1))]),
+    'a packet of another terminal': (PLAN, b'send b 00 eop\nrounds 9\n', ['--to', '3'], 1, 3,
+        ['A', ('A.0 to a', ('b 0', B_0, 2, 3)), ('b to A.1', ('b 0', B_0, 1, 2))]),
+}
+
+
+def rows_of(picture):
+    """The rows, and what stands in each: the packet, its fill, and the first and the last round."""
+    title = TITLE.fullmatch(next(picture.iter(SVG + 'text')).text)
+    first, last = int(title[1]), int(title[2])
+    names = [it for it in picture.findall(SVG + 'text') if it.get('text-anchor') == 'end']
+    rows = {(int(it.get('y')) - 10) // ROW: (it.text, []) for it in names}
+    for group in picture.findall(SVG + 'g'):
+        packet = group.find(SVG + 'title').text
+        for rect in group.findall(SVG + 'rect'):
+            begin = int(rect.get('x')) // CELL + first
+            width = int(rect.get('width')) // CELL
+            rows[(int(rect.get('y')) - 2) // ROW][1].append((packet, rect.get('fill'), begin, begin + width - 1))
+    assert sorted(rows) == list(range(FIRST_ROW, FIRST_ROW + len(rows))), 'rows are in order'
+    return first, last, [(name, *drawn) if drawn else name for _, (name, drawn) in sorted(rows.items())]
+
+
+def list_of(picture):
+    """The list of packets."""
+    texts = [it.text for it in picture.findall(SVG + 'text') if it.get('text-anchor') is None]
+    return texts[texts.index('packets:') + 1:]
+
+
+def unknown_fills(picture):
+    """Fills that no pattern gives."""
+    known = {'url(#%s)' % it.get('id') for it in picture.iter(SVG + 'pattern')}
+    return {it.get('fill') for it in picture.iter(SVG + 'rect')} - known - {'white', 'black', 'blue', 'darkorange', 'forestgreen',
+        'purple', 'deepskyblue', 'saddlebrown'}
+
+
+def pictured(runner, description, script, words=()):
+    """The status, what is printed, and the picture."""
+    with Files(description) as path:
+        status, out, _ = runner.run(words=['draw', path, '-', '--over-time', *words], data=script)
+    return status, out, xml.fromstring(out.decode()) if out.startswith(b'<svg') else None
+
+
+def drawn(runner):
+    for name, (description, script, words, first, last, rows) in DRAWN.items():
+        if not runner.wanted(name):
+            continue
+        status, out, picture = pictured(runner, description, script, words)
+        due = (0, first, last, rows)
+        found = (status, *rows_of(picture)) if picture is not None else (status, out)
+        wrong = None if found == due else 'wanted %s, found %s' % (due, found)
+        if wrong is None and unknown_fills(picture):
+            wrong = 'unknown fills: %s' % unknown_fills(picture)
+        packets = {it[0] for row in rows if not isinstance(row, str) for it in row[1:]}
+        if wrong is None and sorted(list_of(picture)) != sorted(packets):
+            wrong = 'packets: %s' % list_of(picture)
+        runner.judge(name, wrong)
+
+
+def blocked(runner):
+    """b's packet holds the link from B to C. a's waits for it in B, and what it holds behind is hatched once its buffers are
+    full."""
+    name = 'a packet that is blocked'
+    if runner.wanted(name):
+        script = (b'send b 02 ' + b'00 ' * 40 + b'eop\nrounds 2\nsend a 02 ' + b'00 ' * 40 + b'eop\nrounds 99\n')
+        status, _, picture = pictured(runner, LINE, script)
+        rows = {row[0]: row[1:] for row in rows_of(picture)[2] if isinstance(row, tuple)}
+        idle = [it for it in rows['A.1 to B.1'] if it[1] == A_IDLE]
+        order = list(dict.fromkeys(it[0] for it in rows['B.2 to C.1']))
+        runner.judge(name, None if status == 0 and idle and order == ['b 0', 'a 0'] else '%s' % rows)
+
+
+def ring(runner):
+    """Four packets that wait for one another: what each holds is hatched up to the end."""
+    name = 'a ring that is locked'
+    if not runner.wanted(name):
+        return
+    with open(os.path.join(EXAMPLES, 'ring.txt'), 'rb') as file:
+        description = file.read()
+    with open(os.path.join(EXAMPLES, 'ring-packets.txt'), 'rb') as file:
+        script = file.read()
+    status, _, picture = pictured(runner, description, script)
+    _, last, rows = rows_of(picture)
+    ends = {row[0]: row[-1] for row in rows if isinstance(row, tuple)}
+    held = {name: (packet, to) for name, (packet, fill, _, to) in ends.items() if fill.endswith('-idle)')}
+    due = {'%s.1 to %s.2' % pair: (pair[0].lower() + ' 0', last) for pair in zip('ABCD', 'BCDA')}
+    found = {name: it for name, it in held.items() if name in due}
+    runner.judge(name, None if (status, found) == (0, due) and sorted(list_of(picture)) == ['a 0', 'b 0', 'c 0', 'd 0']
+        else 'wanted %s, found %s' % (due, held))
+
+
+def large(runner):
+    """A picture that would be too large is refused by the most rounds that fit."""
+    name = 'a picture that is too large'
+    if not runner.wanted(name):
+        return
+    # Each packet is a group in each of two rows, of more than 80 bytes.
+    script = b'send a 01 eop\nrounds 2\n' * 9000
+    status, out, _ = pictured(runner, PLAN, script)
+    told = FITS.fullmatch(out)
+    if status != 1 or not told:
+        runner.judge(name, 'found %d %.200r' % (status, out))
+        return
+    start, end = (int(it) for it in told.groups())
+    fits = pictured(runner, PLAN, script, ['--from', str(start), '--to', str(end)])
+    more = pictured(runner, PLAN, script, ['--from', str(start), '--to', str(end + 1)])
+    good = fits[0] == 0 and len(fits[1]) <= MIB and more[0] == 1 and more[1] == out
+    runner.judge(name, None if good else 'found %d of %d bytes, %d %.200r' % (fits[0], len(fits[1]), more[0], more[1]))
+
+
+def refused(runner):
+    """A faulty line is left out; a description is answered as by `draw`."""
+    for name, script in (('a faulty line', b'frob\n' + FIRST), ('a script that is too long', FIRST + comments(SCRIPT_LIMIT))):
+        if runner.wanted(name):
+            status, _, picture = pictured(runner, PLAN, script)
+            rows = DRAWN['the packet of the first run'][5]
+            found = (status, rows_of(picture)[2])
+            runner.judge(name, None if found == (1, rows) else 'found %s' % (found,))
+    for name, description, text in (
+            ('a faulty description', b'switch A\nwire A.0 A.1\n', b'description 2: 8 SelfWire\n'),
+            ('a network that is not labelled', b'switch A\nswitch B\nlabel tree A\n', b'label 1 NotConnected\n')):
+        if runner.wanted(name):
+            found = pictured(runner, description, b'')[:2]
+            runner.judge(name, None if found == (1, text) else 'found %s' % (found,))
+
+
+def words(runner):
+    for name, given in (('no script', ['--over-time']), ('no picture of the script', ['-']), ('a state too', ['-', '--over-time', '--state']),
+                        ('a header too', ['-', '--over-time', '--header', '1']), ('a cycle too', ['-', '--over-time', '--cycles']),
+                        ('rounds alone', ['--from', '1']), ('rounds of a state', ['-', '--state', '--to', '1']),
+                        ('no number', ['-', '--over-time', '--from', 'x']), ('a first round behind the last',
+                        ['-', '--over-time', '--from', '2', '--to', '1'])):
+        runner.case(name, b'', 2, words=['draw', '/dev/null', *given])
+
+
+def devices(runner):
+    runner.case('no such script', b'', 3, b'c104: cannot read none/such\n', words=['draw', '/dev/null', 'none/such', '--over-time'])
+    runner.case('no such description', b'', 3, b'c104: cannot read none/such\n', words=['draw', 'none/such', '-', '--over-time'])
+    with open('/dev/full', 'wb') as full:
+        runner.case('a writer that fails', None, 3, CANNOT_WRITE, words=['draw', '/dev/null', '-', '--over-time'], data=b'',
+                    stdout=full)
+
+
+PARTS = [drawn, blocked, ring, large, refused, words, devices]
