@@ -66,7 +66,7 @@ pub fn draw_files(rt: &HostRuntime, order: Order<'_>, told: &mut Told<'_>) -> St
 /// Draws a run of two files over its rounds. A first round behind the last is a wrong word.
 pub fn time_files(rt: &HostRuntime, order: Order<'_>, told: &mut Told<'_>) -> Status {
     let Some(asked) = asked_of(order.picture) else {
-        let _ = rt.eprintln("error: --from is no round behind that of --to");
+        let _ = rt.eprintln("error: --from comes after --to, so no round is shown");
         told.note_wrong_word();
         return Status::Refused;
     };
