@@ -8,6 +8,9 @@ use std::marker::Model;
 /// How many words a set has: there is a bit for each place of the largest plan, with 64 switches and 256 terminals.
 const BLOCKS: usize = 10;
 
+/// After how many rounds the places are asked anew.
+const ROUNDS_TO_SETTLE: u8 = 8;
+
 /// How many places are told apart.
 const PLACES: usize = 320;
 
@@ -22,6 +25,8 @@ pub struct LivePlaces {
     // Whether it is known that all places are in the set: then it is walked without a look at bits, which is most of what
     // a small network at work would lose by the set.
     is_all: bool,
+    // How many rounds ago the places were asked last.
+    age: u8,
 }
 
 impl Model for LivePlaces {
@@ -44,7 +49,17 @@ impl LivePlaces {
         LivePlaces {
             blocks: [LinkSet::all(); BLOCKS],
             is_all: true,
+            age: 0,
         }
+    }
+
+    /// Counts a round, and tells whether the places are to be asked anew of which it is known that something may begin
+    /// there.
+    pub fn is_due(&mut self) -> bool
+        ensures { self.new ≡ self.old }
+    {
+        self.age = self.age.wrapping_add(1) % ROUNDS_TO_SETTLE;
+        self.age == 0
     }
 
     /// Puts all places into the set.

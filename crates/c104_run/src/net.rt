@@ -15,6 +15,7 @@ mod beginning;
 mod nodes;
 
 use crate::faults::PlaceFault;
+use crate::live_places::LivePlaces;
 use crate::place_views::arrived_at;
 use crate::recorded_net::RecordedNet;
 use crate::recorded_place::retire_places;
@@ -45,6 +46,7 @@ impl Net {
                 places,
                 count: 0,
                 room: frame.room,
+                live: LivePlaces::all(),
             }),
             Err(error) => {
                 retire_places(places);
@@ -82,6 +84,7 @@ impl Net {
                 places,
                 count: 0,
                 room: frame.room,
+                live: LivePlaces::all(),
             }),
             Err(error) => {
                 retire_places(places);
@@ -101,6 +104,7 @@ impl Net {
             places,
             count,
             room,
+            live: _,
         } = self;
         // The proof reads here what every plan keeps.
         let _plan = wires.plan();

@@ -12,6 +12,7 @@ mod beginning;
 mod rounds;
 
 use crate::events::happen_to;
+use crate::live_places::LivePlaces;
 use crate::meter::{Meter, Unmetered};
 use crate::recorded_place::{RecordedPlace, retire_places};
 use crate::wires::Wires;
@@ -35,13 +36,16 @@ pub struct RecordedNet<T: TokenKind, P: RecordedPlace<T>> {
     pub(crate) count: u64,
     // What such a network has beside its nodes.
     pub(crate) room: P::Room,
+    // The places at which something of a round may begin, for rounds that are done one by one.
+    pub(crate) live: LivePlaces,
 }
 
 impl<T: TokenKind, P: RecordedPlace<T>> Model for RecordedNet<T, P> {
     ghost use Rattle.std.specs.Prelude.{map};
     ghost use Rattle.c104_run.specs.NetRecords.{NetRecord};
-    ghost use Rattle.c104_node.specs.Places.{bases};
+    ghost use Rattle.c104_node.specs.Places.{bases, states};
     ghost use Rattle.c104_run.specs.KnownWires.{KnowWires};
+    ghost use Rattle.c104_run.specs.LivePlaces.{AreLive};
     ghost use Rattle.c104_run.specs.RecordedNets.{places_record, reading, IsRecordedNet};
 
     ghost Value = { NetRecord };
@@ -52,7 +56,8 @@ impl<T: TokenKind, P: RecordedPlace<T>> Model for RecordedNet<T, P> {
     ghost invariant = { λ net.
         IsRecordedNet (reading T.kind P.shown P.plain P.begun_at) net.wires net.places.items net.count
         × P.fits net.wires net.room
-        × KnowWires net.wires (bases (map P.shown net.places.items)) };
+        × KnowWires net.wires (bases (map P.shown net.places.items))
+        × AreLive T.kind net.wires net.live (states (map P.shown net.places.items)) };
 }
 
 impl<T: TokenKind, P: RecordedPlace<T>> RecordedNet<T, P> {
@@ -63,6 +68,7 @@ impl<T: TokenKind, P: RecordedPlace<T>> RecordedNet<T, P> {
             places,
             count: _,
             room: _,
+            live: _,
         } = self;
         retire_places(places);
     }
@@ -139,6 +145,7 @@ impl<T: TokenKind, P: RecordedPlace<T>> RecordedNet<T, P> {
         };
         let answer = happen_to(&self.wires, self.places.as_mut_slice(), stamp, event, meter);
         self.count = ticket_after(self.count, was_done(&answer));
+        self.live.fill();
         answer
     }
 }

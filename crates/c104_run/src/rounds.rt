@@ -25,9 +25,6 @@ use c104_node::{Place, is_idle_at};
 use c104_token::TokenKind;
 use parts::{claim_outputs, credit_ports, cross_ports, drain_terminals, turn_inputs};
 
-/// After how many rounds the places are asked again at which something may begin.
-const ROUNDS_TO_SETTLE: u32 = 8;
-
 /// Does `times` rounds at these places, which stand for the nodes of a network of this plan, and tells of each.
 /// The count is of the events that were done, from before these rounds on: it gives each its ticket.
 pub fn rounds_at<T: TokenKind, P: Place<T>, W: Watch, M: Meter<T>>(
@@ -52,28 +49,32 @@ pub fn rounds_at<T: TokenKind, P: Place<T>, W: Watch, M: Meter<T>>(
             // Nor would any further round change anything.
             return Ok(());
         }
-        settle(wires, places, &mut live, round);
+        settle(wires, places, &mut live);
         watch.rounds_done(round + 1, times);
     }
     Ok(())
 }
 
-/// Does one round at these places, and tells whether any event of it was done.
+/// Does one round at these places, and tells whether any event of it was done. Something may begin at the live ones alone.
 pub fn one_round_at<T: TokenKind, P: Place<T>, M: Meter<T>>(
     wires: &Wires,
     places: &mut [P],
+    live: &mut LivePlaces,
     count: &mut u64,
     meter: &mut M,
 ) -> Result<bool, EventFault>
     requires knows { KnowWires wires.now (bases (map P.shown places.old)) }
+    requires live { AreLive T.kind wires.now live.old (states (map P.shown places.old)) }
     ensures ends { PartEnds (metered_apply T.kind P.keeps M.sees)
         (metered_of wires.now (map P.shown places.old) count.old meter.old) (round wires.now)
         result (metered_of wires.now (map P.shown places.new) count.new meter.new) }
+    ensures live { AreLive T.kind wires.now live.new (states (map P.shown places.new)) }
     ensures kept { IsPlan wires.now }
 {
     let _plan = wires.plan();
-    let mut live = LivePlaces::all();
-    round_at(wires, places, &mut live, count, meter)
+    let changed = round_at(wires, places, live, count, meter)?;
+    settle(wires, places, live);
+    Ok(changed)
 }
 
 /// Does a round, and tells whether any event of it was done.
@@ -101,14 +102,13 @@ fn round_at<T: TokenKind, P: Place<T>, M: Meter<T>>(
 
 /// Takes the places out at which nothing can begin now. They are asked after some rounds alone, since this takes as long
 /// as a round in which little happens.
-fn settle<T: TokenKind, P: Place<T>>(wires: &Wires, places: &[P], live: &mut LivePlaces, round: u32)
+fn settle<T: TokenKind, P: Place<T>>(wires: &Wires, places: &[P], live: &mut LivePlaces)
     requires { AreLive T.kind wires.now live.old (states (map P.shown places.now)) }
     ensures { AreLive T.kind wires.now live.new (states (map P.shown places.now)) }
 {
-    if round % ROUNDS_TO_SETTLE != ROUNDS_TO_SETTLE - 1 {
-        return;
+    if live.is_due() {
+        take_out_idle(wires, places, live);
     }
-    take_out_idle(wires, places, live);
 }
 
 /// Takes the places out at which nothing can begin now, unless most would be left: then all are, since all are walked

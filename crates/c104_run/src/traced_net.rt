@@ -10,6 +10,7 @@ ghost use Rattle.c104_node.specs.declared.origins.Origin.{Origin as TheOrigin};
 mod arriving;
 mod nodes;
 
+use crate::live_places::LivePlaces;
 use crate::recorded_net::RecordedNet;
 use crate::recorded_place::retire_places;
 use crate::wires::Wires;
@@ -43,6 +44,7 @@ impl TracedNet {
                 places,
                 count: 0,
                 room: (),
+                live: LivePlaces::all(),
             }),
             Err(error) => {
                 retire_places(places);

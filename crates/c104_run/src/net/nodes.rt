@@ -66,6 +66,7 @@ impl Net {
             places,
             count,
             room: _,
+            live: _,
         } = self;
         NetParts::new(wires, places, count)
     }

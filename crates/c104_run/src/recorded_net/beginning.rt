@@ -32,6 +32,7 @@ impl<T: TokenKind, P: RecordedPlace<T>> RecordedNet<T, P> {
         }
         begin_all(self.places.as_mut_slice());
         self.count = 0;
+        self.live.fill();
         true
     }
 }

@@ -28,14 +28,16 @@ impl<T: TokenKind, P: RecordedPlace<T>> RecordedNet<T, P> {
     pub fn rounds_watched<W: Watch>(&mut self, count: u32, watch: &mut W) -> Result<(), EventFault>
         ensures { RecordsRounds self.old count result self.new }
     {
-        rounds_at(
+        let done = rounds_at(
             &self.wires,
             self.places.as_mut_slice(),
             &mut self.count,
             &mut Unmetered,
             count,
             watch,
-        )
+        );
+        self.live.fill();
+        done
     }
 
     /// Does one round, tells a meter of each token that crosses a wire and of each that arrives, and tells whether any
@@ -49,6 +51,7 @@ impl<T: TokenKind, P: RecordedPlace<T>> RecordedNet<T, P> {
         one_round_at(
             &self.wires,
             self.places.as_mut_slice(),
+            &mut self.live,
             &mut self.count,
             meter,
         )

@@ -6,6 +6,7 @@ use Rattle.c104_run.specs.RecordedNets.{reading, Reading}
 use Rattle.c104_run.specs.KnownWires.{KnowWires}
 use Rattle.c104_run.proofs.DoneEvents.{done_law}
 use Rattle.c104_run.proofs.KnownWires.{known_put}
+use Rattle.c104_run.proofs.LiveRounds.{live_all}
 use Rattle.c104_run.proofs.MeteredPlaces.{meters_on}
 use Rattle.c104_run.proofs.RecordedPlaces.{goes_on}
 use Rattle.c104_run.proofs.recorded_net.RecordedNet.apply_metered.Goals as goal
@@ -21,6 +22,7 @@ invariant_of-self g c =
       c.self.invariant.1,
       known_put v.shown c.self.inside.wires c.self.inside.places.items c.as_mut_slice.result.now c.happen_to-answer.new.places (with_items c.self.inside.places c.happen_to-answer.new.places).items c.as_mut_slice.ensures.value put_is
           (λ known. subst (KnowWires c.self.inside.wires) (sym c.happen_to-answer.ensures.done.base) known) c.self.invariant.2,
+      live_all g.T.TokenKind.kind c.self.inside.wires c.fill.new.self _ c.self.invariant.3.planned c.fill.ensures,
     )
 
 -- what the event answers and leaves

@@ -6,6 +6,7 @@ use Rattle.c104_node.specs.Nodes.{Node}
 use Rattle.c104_node.specs.Places.{bases, states}
 use Rattle.c104_run.specs.KnownWires.{KnowWires}
 use Rattle.c104_run.proofs.KnownWires.{known_by}
+use Rattle.c104_run.proofs.LiveRounds.{live_all}
 use Rattle.c104_node.specs.Quiet.{IsQuietNode}
 use Rattle.c104_run.specs.QuietNets.{network_begin, IsQuiet}
 use Rattle.c104_run.specs.RecordedNets.{begun_told, place_told, places_record, reading, IsRecordedNet, Reading}
@@ -29,6 +30,7 @@ invariant_of-self g c =
       subst (λ ps. IsRecordedNet v c.self.inside.wires ps 0) (sym placed) (net_begun_kept v reads c.self.inside.wires new old begun c.begin_all.ensures.stand c.self.invariant.0.kept.steady),
       c.self.invariant.1,
       subst (λ (ps : List g.row.P.Denot). KnowWires c.self.inside.wires (bases (map v.shown ps))) (sym placed) (known_by (bases (map v.shown new)) (bases (map v.shown old)) (wires_begun v new old begun) c.self.inside.wires c.self.invariant.2),
+      live_all g.T.TokenKind.kind c.self.inside.wires c.fill.new.self _ c.self.invariant.3.planned c.fill.ensures,
     )
 
 pub returns-clause-begun : goal.returns-clause-begun
