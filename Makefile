@@ -62,7 +62,7 @@ edits:
 	@[ -n "$(CRATE)" ] || { echo 'which crate? for example: make edits CRATE=c104_link'; exit 2; }
 	@mkdir -p build
 	@cd crates/$(CRATE) && rt lib > ../../build/edits-log 2>&1 || { tail -n 30 ../../build/edits-log; exit 1; }
-	@tests/refused_edits --only --kept build/edits $(CRATE)
+	@tests/refused_edits --only --kept "$(CURDIR)/build/edits" $(CRATE)
 
 test:
 	@tests/all

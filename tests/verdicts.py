@@ -5,7 +5,7 @@ import re
 
 BECAUSE_OF_OTHERS = re.compile(r'no proof: it calls |could not tell|depends on ')
 # A proof file that names what isn't there any more says nothing of the contract.
-ABSENT = re.compile(r'was not admitted|is not in scope|has no `')
+ABSENT = re.compile(r'was not admitted|is not in scope|has no (field (named )?)?`')
 # What the prover says of a text that it can't read, beside errors at no declaration.
 UNREADABLE = re.compile(r'is not in scope|has no field|is no name|operand is missing|expected the end|cannot continue')
 VERDICT = re.compile(r'(?:fn|struct|enum|impl|trait) (\S+): (.*)')

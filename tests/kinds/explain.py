@@ -507,6 +507,8 @@ def special(runner, seen):
          seen)
     told(runner, 'a header in hexadecimal digits', ['draw', 'first.txt', '--header', '0x1'], {'first.txt': PLAN}, b'',
          'c104: a header is a decimal number, 0 to 65535', seen)
+    told(runner, 'a picture of two files', ['draw', 'first.txt', 's.txt'], {'first.txt': PLAN, 's.txt': b''}, b'',
+         'c104: a script is drawn as it ends, by --state, or over its rounds, by --over-time', seen)
     told(runner, 'a run of one file', ['run', 'first.txt'], {'first.txt': PLAN}, b'',
          'c104: first.txt: a script is wanted after it; `c104 run first.txt SCRIPT` takes a description and its '
          'script from two files, `c104 run first.txt -` the script from standard input, and `c104 < first.txt` runs '

@@ -2,7 +2,7 @@
 //!
 //! `main` reads the command line, opens what it names, calls the function of a command and says what that
 //! function's `Status` means: a message on standard error and an exit status. The words of the command line and the texts
-//! of help are those of `c104_words`; commands of two files are in `pairs`, how files are opened in `opening`, what a path
+//! of help are those of `c104_words`; commands of two files but `run` are in `pairs`, how files are opened in `opening`, what a path
 //! stands for in `sources`, a script that is typed in `typed`, what people are told beside the answers in `told`; the
 //! functions of the commands are those of `c104_commands` and `c104_storm_command`.
 #![tactic(auto)]
@@ -107,20 +107,23 @@ fn do_order<H: Threads + Wait + Sync>(
     told: &mut Told<'_>,
 ) -> Status {
     match order.subcommand {
-        Subcommand::Run => match order.script {
-            Some(script) => run_files(rt, order.description, script, told),
-            None => run_one_text(rt, told),
-        },
+        Subcommand::Run => run_order(rt, order, told),
         Subcommand::Debug => debug_file(rt, order.description, told),
         Subcommand::Storm => storm_files(rt, threads, order, told),
         Subcommand::Stats => count_files(rt, order, told),
         Subcommand::Check => check_file(rt, order.description, told),
         Subcommand::Cycles => search_file(rt, order.description, order.all, told),
         Subcommand::Label => label_file(rt, order, told),
-        Subcommand::Draw if order.picture.state => draw_files(rt, order, told),
-        Subcommand::Draw if order.picture.over_time => time_files(rt, order, told),
-        Subcommand::Draw => draw_file(rt, order, told),
+        Subcommand::Draw => draw_order(rt, order, told),
         Subcommand::Traffic => send_file(rt, order, told),
+    }
+}
+
+/// Runs two files, or one text from standard input.
+fn run_order(rt: &HostRuntime, order: Order<'_>, told: &mut Told<'_>) -> Status {
+    match order.script {
+        Some(script) => run_files(rt, order.description, script, told),
+        None => run_one_text(rt, told),
     }
 }
 
@@ -209,6 +212,17 @@ fn label_file(rt: &HostRuntime, order: Order<'_>, told: &mut Told<'_>) -> Status
     };
     told.note_fault(description.fault());
     status
+}
+
+/// Draws a network by its description, as a script leaves it, or over the rounds of one.
+fn draw_order(rt: &HostRuntime, order: Order<'_>, told: &mut Told<'_>) -> Status {
+    if order.picture.state {
+        return draw_files(rt, order, told);
+    }
+    if order.picture.over_time {
+        return time_files(rt, order, told);
+    }
+    draw_file(rt, order, told)
 }
 
 /// Draws the network of a description's file. A header that its packets can't have is a wrong word.

@@ -197,7 +197,7 @@ pub fn tell_of_words(rt: &HostRuntime, words: &[String], error: &Error) {
         ErrorKind::MissingRequiredArgument if !has_word(words, "traffic") => tell_of_script(
             rt, words,
         ),
-        ErrorKind::ValueValidation if has_word(words, "draw") => {
+        ErrorKind::ValueValidation if has_word(words, "--header") => {
             let _ = rt.eprintln("c104: a header is a decimal number, 0 to 65535");
         }
         _ => {}
@@ -227,11 +227,17 @@ fn tell_of_command(rt: &HostRuntime, words: &[String]) {
     );
 }
 
-/// Tells of a file after a command that wants a second one.
+/// Tells of a file after a command that wants a second one, or of two of which isn't said how they are drawn.
 fn tell_of_script(rt: &HostRuntime, words: &[String]) {
     let Some(path) = file_at(rt, words, 1) else {
         return;
     };
+    if file_at(rt, words, 2).is_some() {
+        let _ = rt.eprintln(
+            "c104: a script is drawn as it ends, by --state, or over its rounds, by --over-time",
+        );
+        return;
+    }
     let _ = eprintln!(rt;
         "c104: {path}: a script is wanted after it; `c104 run {path} SCRIPT` takes a description and its script \
          from two files, `c104 run {path} -` the script from standard input, and `c104 < {path}` runs both where \

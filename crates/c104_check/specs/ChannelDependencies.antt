@@ -1,4 +1,4 @@
--- Channel dependencies, after Dally and Seitz. A channel is named by the input that reads it. One depends on another
+-- Channel dependencies. A channel is named by the input that reads it. One depends on another
 -- where a packet that came in at the one may have to wait until what came in at the other has gone on. Where random
 -- headers are put before packets, the packets go in two phases: by a random header to a portal, and from there by their
 -- own. The dependencies are those of both. Behind a portal the ways of labels alone are counted: a random header that

@@ -9,8 +9,8 @@ use c104_stream::Halt;
 pub enum Status {
     /// All was done: exit status 0. Events that were refused, or weren't ready, don't change it.
     Done,
-    /// The description, its labels, the script's length or one of its lines was refused, or a cycle of channel
-    /// dependencies was found: exit status 1.
+    /// The description, its labels, the script's length or one of its lines, a pattern of traffic, a picture of a run or a
+    /// storm was refused, or a cycle of channel dependencies was found: exit status 1.
     Refused,
     /// A read failed, of the description where the number is 0 and of the script where it is 1: exit
     /// status 3.

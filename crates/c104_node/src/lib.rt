@@ -4,7 +4,7 @@
 //! answered with NotReady. An `Entry` tells of an act that was done, in an event of some `Stamp`, and a start
 //! (`NodeStart`) where a node began. A `Node` keeps both, and a `CountedNode` how many entries these would be.
 //!
-//! A `Place` is a node and what is kept beside it. One act at one place (`act_alone`), or one at each of two
+//! A `Place` is a node and what is kept beside it. One act at one place (`attempt_at`), or one at each of two
 //! (`joint_at`), is done as a whole or changes nothing. Which nodes are joined by wires, and at which places they
 //! stand, isn't known here.
 #![tactic(auto)]

@@ -41,6 +41,7 @@ pub fn add_answer(number: usize, answer: &Answer, text: &mut Vec<u8>) -> Result<
 }
 
 /// The same, but out of memory the text may end in a part of the line.
+#[inline(always)]
 fn add_line(number: usize, answer: &Answer, text: &mut Vec<u8>) -> Result<(), NoMemory>
     ensures { OnOk result (text.new.items ≡ text.old.items ++ answer_line number answer.now) }
 {

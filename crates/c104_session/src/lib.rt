@@ -4,7 +4,8 @@
 //! line was faulty so far. It can't be dropped, and neither can what `finish` gives at its end, an `Ended` with the
 //! `EndedNet` that tells what arrived.
 //! `answer_script` answers the lines of a script as they are read, `summary_texts` tells what arrived
-//! at each terminal, and `run_plan` does both on the network of a plan.
+//! at each terminal, and `run_plan` does both on the network of a plan. `count_plan` counts such a run, and `time_plan` draws
+//! it over its rounds.
 //!
 //! Lines are answered as they are read, and all answers are written before the reader is asked for
 //! more. A faulty line changes nothing but that there was one; running out of memory ends the script,

@@ -71,7 +71,7 @@ timeline_ended t done = record t { active = if done then t.round else t.active }
 abbrev pub timeline_passed : Timeline → ℕ → Timeline
 timeline_passed t times = record t { round = few (t.round + times) }
 
--- the last round that is drawn: a few behind the last one in which something was done
+-- the last round that is drawn: a few after the last one in which something was done
 abbrev pub last_round : Timeline → ℕ
 last_round t = min t.round (few (t.active + BEYOND))
 

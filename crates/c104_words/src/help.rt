@@ -1,8 +1,5 @@
 //! The texts that help shows below the options, of the program and of each subcommand.
 
-/// What the program is for.
-pub const ABOUT: &str = "Emulates networks of IMS C104 packet routing switches, event by event";
-
 /// Of the program.
 pub const PROGRAM: &str = "A run has two inputs, which are text:
 
@@ -38,8 +35,8 @@ progress. Standard output is the same.
 
 Exit status:
   0  done, even if an event was refused
-  1  the description, its labels, a line of the script, a pattern of traffic or a storm
-     was refused, or a cycle was found
+  1  the description, its labels, a line of the script, a pattern of traffic, a picture
+     of a run or a storm was refused, or a cycle was found
   2  the command line is wrong
   3  a file can't be opened or read, or the output can't be written
   4  out of memory";

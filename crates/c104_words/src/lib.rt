@@ -1,8 +1,8 @@
 //! The command line of the program: its words, and what they ask for.
 //!
 //! [`Words`] is what the words ask for: an [`Order`], which names a [`Subcommand`] and what this takes, and whether
-//! messages are wanted. The texts of help are in `help`, the words of traffic in `traffic_words`, those of counts
-//! in `count_words`. The crate stands on no command, so that its proofs needn't wait for theirs.
+//! messages are wanted. The texts of help are in `help`, the words of pictures in `picture_words`, those of traffic in
+//! `traffic_words`, those of counts in `count_words`. The crate stands on no command, so that its proofs needn't wait for theirs.
 #![tactic(auto)]
 
 mod command_line;

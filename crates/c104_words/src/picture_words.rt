@@ -73,7 +73,7 @@ const FROM_HELP: &str =
 const TO: &str = "to";
 
 const TO_HELP: &str =
-    "The last round shown; by default the last one, or a few behind the last in which anything is done";
+    "The last round shown; by default the last one, or a few after the last in which anything was done";
 
 /// The group of what is drawn of a script.
 const DRAWN: &str = "drawn";
