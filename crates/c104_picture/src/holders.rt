@@ -18,6 +18,11 @@ pub(crate) const BUFFER_LIMIT: usize = 64;
 /// The most inputs that a network has: 64 switches of 32 links.
 pub(crate) const MOST_INPUTS: usize = 2_048;
 
+// Contracts name these: their values are a part of what they say, so a change of one alone is refused.
+const _: () = prove!(BUFFER_LIMIT == 64);
+
+const _: () = prove!(MOST_INPUTS == 2_048);
+
 /// Where a packet's end is.
 #[derive(Clone, Copy, Debug)]
 pub(crate) enum Trail {

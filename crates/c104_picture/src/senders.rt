@@ -7,6 +7,9 @@ use c104_net::TracedNet;
 /// The most packets that a terminal can have sent.
 pub(crate) const SENT_LIMIT: usize = 1_048_576;
 
+// Contracts name this limit: its value is a part of what they say, so a change of it alone is refused.
+const _: () = prove!(SENT_LIMIT == 1_048_576);
+
 /// The packet in which the token stands that goes out of a terminal next.
 #[derive(Clone, Copy, Debug, PartialEq, Eq)]
 pub(crate) struct Sending {

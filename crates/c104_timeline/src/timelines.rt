@@ -21,6 +21,9 @@ use std::marker::Model;
 /// How many rounds are drawn behind the last one in which something was done, at most.
 const BEYOND: u32 = 5;
 
+// Contracts name this number: its value is a part of what they say, so a change of it alone is refused.
+const _: () = prove!(BEYOND == 5);
+
 /// What crossed the wires of a network, round by round.
 #[derive(Drop)]
 pub struct Timeline {
