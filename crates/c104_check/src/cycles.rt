@@ -1,8 +1,8 @@
 //! Cycles of channel dependencies: inputs each of which may have to wait for the next, and the last for the first.
-ghost use Rattle.std.specs.Prelude.{◌≡◌, ◌≢◌, ◌<◌, ◌≤◌, ◌+◌, ◌*◌, ℕ, [], true, false, length, position, IfOk, MatchOption};
+ghost use Rattle.std.specs.Prelude.{◌≡◌, ◌<◌, ◌≤◌, ◌+◌, ◌*◌, ℕ, true, false, length, position, IfOk, MatchOption};
 ghost use Rattle.c104_plan.specs.PlanImage.{Fits};
 ghost use Rattle.c104_check.specs.ChannelDependencies.{AreByLabels, AreNeverBoth};
-ghost use Rattle.c104_check.specs.Cycles.{AllLeadToRanked, AreRanksOrCycle, IsDependencyOf, ArePartialRanks, IsRankingPass, LeadsToUnranked, LeadInside, unranked_count};
+ghost use Rattle.c104_check.specs.Cycles.{AllLeadToRanked, AreRanksOrCycle, IsDependencyOf, ArePartialRanks, IsRankingPass, LeadsToUnranked, LeadInside};
 ghost use Rattle.c104_check.specs.Dependencies.{Dependency as TheDependency};
 ghost use Rattle.c104_check.specs.Ranks.{rank_at, rank_in};
 ghost use Rattle.c104_check.specs.Routes.{IsAccepted, routes_of};

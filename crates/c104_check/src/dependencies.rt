@@ -1,5 +1,5 @@
 //! The dependencies of all inputs on one another, in a table.
-ghost use Rattle.std.specs.Prelude.{◌≡◌, ◌<◌, ◌≤◌};
+ghost use Rattle.std.specs.Prelude.{◌≡◌};
 
 use crate::ports::SwitchPort;
 use crate::routes::Routes;

@@ -1,7 +1,7 @@
 //! Descriptions: whole texts.
-ghost use Rattle.std.specs.Prelude.{◌≡◌, ◌<◌, ◌⊎◌, length, map, Err, Ok, MatchResult, IfErr, IfOk};
+ghost use Rattle.std.specs.Prelude.{◌≡◌, ◌<◌, length, map, Err, Ok, IfErr, IfOk};
 ghost use Rattle.c104_describe.specs.declared.faults.PlanFaultKind.TheVariants.{TooLong};
-ghost use Rattle.c104_describe.specs.PlanFaults.{fault_at, no_memory};
+ghost use Rattle.c104_describe.specs.PlanFaults.{fault_at};
 ghost use Rattle.c104_describe.specs.PlanText.{read_description, empty_draft, read_plan_lines};
 ghost use Rattle.c104_plan.specs.TextCut.{most_bytes, lines};
 ghost use Rattle.c104_describe.specs.PlanText.{AreFaultless, GivesDraftOrNoMemory, GivesPlanOrNoMemory, IsDue, ReadsLines};

@@ -1,8 +1,8 @@
 //! What is told of an event that isn't ready.
-ghost use Rattle.std.specs.Prelude.{◌≡◌, ◌++◌, IfOk, IfSome, OnOk};
+ghost use Rattle.std.specs.Prelude.{◌≡◌, IfOk, IfSome};
 ghost use Rattle.std.specs.String.{string_bytes};
 ghost use Rattle.c104_plan.specs.PortTexts.{port_text};
-ghost use Rattle.c104_explain.specs.Reasons.{other_port, other_text, owned_text, owner_text, port_beside, reason_text, sentence_text};
+ghost use Rattle.c104_explain.specs.Reasons.{other_port, owned_text, owner_text, port_beside, reason_text, sentence_text};
 
 use crate::reason_sentences::reason_sentence;
 use c104_net::Reason;

@@ -2,7 +2,6 @@
 ghost use Rattle.std.specs.Prelude.{◌≡◌, ◌<◌, ◌≤◌, ◌-◌, ◌++◌, ◌∷◌, ℕ, [], false, length, true, IfErr, IfOk, MatchOption, OnOk};
 ghost use Rattle.std.specs.List.{range_with_len};
 ghost use Rattle.c104_regs.specs.declared.registers.TheConstants.{LINKS as LINK_COUNT};
-ghost use Rattle.c104_plan.specs.Plans.{IsPlan};
 ghost use Rattle.c104_label.specs.Forests.{AreSwitches, Grown, IsConnected, IsDepthFirst, IsSpanning, ends_of, is_met, switches};
 ghost use Rattle.c104_label.specs.Trees.{IsTreeCause, forest_of, unvisited};
 

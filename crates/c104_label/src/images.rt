@@ -3,7 +3,6 @@ ghost use Rattle.std.specs.Prelude.{◌≡◌, ◌↔◌, [], All, false, length
 ghost use Rattle.c104_regs.specs.Ranges.{IsTableInRange};
 ghost use Rattle.c104_plan.specs.LabelledImages.{labelled_image};
 ghost use Rattle.c104_plan.specs.PlanImage.{Fits, range_of};
-ghost use Rattle.c104_plan.specs.Plans.{IsPlan};
 ghost use Rattle.c104_check.specs.Routes.{IsAccepted, routes_of};
 ghost use Rattle.c104_check.specs.ChannelDependencies.{IsAcyclic, IsNeverRandomized};
 ghost use Rattle.c104_label.specs.Crossings.{AreCrossings};

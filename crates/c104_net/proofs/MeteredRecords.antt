@@ -1,5 +1,5 @@
 -- What a meter is told of a network of tagged tokens, by its record.
-use Rattle.std.proofs.Common.{◌≡◌, ◌∙◌, Bool, true, List, Some, Result, Ok, Err, map, inl, refl, sym, ap, subst}
+use Rattle.std.proofs.Common.{◌≡◌, ◌∙◌, Bool, true, List, Result, Ok, Err, inl, refl, sym, ap, subst}
 use Rattle.c104_token.specs.declared.tokens.Token.{Token}
 use Rattle.c104_switch.specs.Actions.{Reply}
 use Rattle.c104_plan.specs.Plans.{IsPlan}

@@ -1,8 +1,7 @@
 -- The origins that the tagged tokens of a network tell are those of its run.
-use Rattle.std.proofs.Common.{◌≡◌, ◌∙◌, ◌≤◌, ◌++◌, ◌<◌, ◌+◌, ℕ, zero, suc, All, List, [], ◌∷◌, Option, Some, None, Result, get_or, length, map, slice_get, take, refl, sym, ap, subst, arith, append-nil, inl, inr}
+use Rattle.std.proofs.Common.{◌≡◌, ◌∙◌, ◌≤◌, ◌++◌, ◌<◌, ◌+◌, ℕ, zero, suc, All, List, [], ◌∷◌, Some, None, get_or, length, map, slice_get, take, refl, sym, ap, subst, arith, append-nil, inl, inr}
 use Rattle.std.proofs.lemmas.Bool.{cases_eq}
 use Rattle.std.proofs.lemmas.List.{map-append, map_more}
-use Rattle.c104_token.specs.declared.tokens.Token.{Token}
 use Rattle.c104_plan.specs.Plans.{Plan, IsPlan}
 use Rattle.c104_node.specs.declared.acts.Entry.{Entry}
 use Rattle.c104_node.specs.declared.node.NodeOf.TheVariants as node

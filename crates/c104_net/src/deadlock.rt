@@ -1,6 +1,6 @@
 //! The theorem that a network without a cycle of channel dependencies has no deadlock, of a network as it stands
 //! and of a finished run.
-ghost use Rattle.std.specs.Prelude.{All, ℕ};
+ghost use Rattle.std.specs.Prelude.{All};
 ghost use Rattle.c104_net.specs.DeadlockFreedom.{EndsWithoutDeadlock, IsFreeOfDeadlock};
 ghost use Rattle.c104_node.specs.Records.{IsRecorded, NodeRecord, NodeRoom};
 

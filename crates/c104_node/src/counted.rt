@@ -2,7 +2,7 @@
 //!
 //! A trace has room for a fixed number of entries, and an event is refused where it is full. To know that, a count is
 //! enough.
-ghost use Rattle.std.specs.Prelude.{◌≡◌, All, [], ◌∷◌};
+ghost use Rattle.std.specs.Prelude.{◌≡◌, All, []};
 ghost use Rattle.std.specs.Option.{option_copied};
 ghost use Rattle.c104_node.specs.Starts.{start_node, start_of};
 ghost use Rattle.c104_node.specs.Quiet.{IsQuietNode, node_begin};

@@ -1,7 +1,7 @@
 -- The packet that an input is at: by the first terminator of it or behind it, up to the terminal that sends it.
 --     packet_at r x      the packet that input x is at
 --     packet_out r p      the packet whose token goes out of a port next
-use Rattle.std.specs.Prelude.{ℕ, zero, suc, ◌+◌, ◌-◌, Option, Some, None}
+use Rattle.std.specs.Prelude.{ℕ, zero, suc, ◌+◌, Option, Some, None}
 use Rattle.std.specs.Option.{option_map, option_or}
 use Rattle.c104_token.specs.Tokens.{is_end}
 use Rattle.c104_token.specs.Kinds.{plain_kind}

@@ -2,7 +2,7 @@
 --     ways r still      the links of each switch, and then the terminals
 --     wishes r still      what inputs want
 --     IsNetState r state      both, where still tells whether the network stands still
-use Rattle.std.specs.Prelude.{ℕ, zero, suc, ◌≡◌, ◌↔◌, ◌+◌, ◌*◌, ◌==◌, ◌&&◌, Bool, true, false, not, IsTrue, List, [], ◌∷◌, ◌++◌, length, map, min, Option, Some, None, if◌then◌else◌}
+use Rattle.std.specs.Prelude.{ℕ, ◌≡◌, ◌↔◌, ◌+◌, ◌*◌, ◌==◌, ◌&&◌, Bool, true, false, IsTrue, List, [], ◌∷◌, ◌++◌, length, map, min, Option, Some, None, if◌then◌else◌}
 use Rattle.std.specs.List.{flat_map, range_with_len}
 use Rattle.c104_token.specs.Kinds.{plain_kind}
 use Rattle.c104_regs.specs.declared.registers.TheConstants.{LINKS}

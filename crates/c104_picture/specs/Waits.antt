@@ -2,7 +2,7 @@
 --     wait_of r x o      how an output stands that an input wants for its header
 --     blocker r x      the input that input x waits for
 --     is_locked r x      input x waits for itself, over others
-use Rattle.std.specs.Prelude.{ℕ, zero, suc, ◌+◌, ◌==◌, ◌&&◌, ◌||◌, Bool, false, Option, Some, None}
+use Rattle.std.specs.Prelude.{ℕ, zero, suc, ◌+◌, ◌||◌, Bool, false, Option, Some, None}
 use Rattle.c104_token.specs.Kinds.{plain_kind}
 use Rattle.c104_regs.specs.declared.registers.TheConstants.{LINKS}
 use Rattle.c104_plan.specs.declared.ports.Port.{Port}

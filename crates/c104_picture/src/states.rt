@@ -1,8 +1,8 @@
 //! What is drawn of a network as it stands: each port from which something goes out, and each output that an input wants.
 ghost use Rattle.std.specs.Prelude.{◌≡◌, ◌≤◌, ◌++◌, ◌*◌, ◌&&◌, IfOk, OnOk, length, map};
-ghost use Rattle.std.specs.List.{flat_map, range_with_len};
+ghost use Rattle.std.specs.List.{range_with_len};
 ghost use Rattle.c104_check.specs.Routes.{port_at};
-ghost use Rattle.c104_picture.specs.States.{IsNetState, before, behind, header_count, hold_by, hold_of, link_count, link_way, no_hold, sent_hold, terminal_way, view_hold, wants, way_of, ways, wish_of, wishes, wishes_by, wishes_if, wishes_of};
+ghost use Rattle.c104_picture.specs.States.{IsNetState, before, behind, header_count, hold_by, hold_of, link_count, link_way, sent_hold, terminal_way, view_hold, wants, way_of, ways, wish_of, wishes, wishes_by, wishes_of};
 ghost use Rattle.c104_picture.specs.Waits.{is_locked};
 ghost use Rattle.c104_regs.specs.declared.registers.TheConstants.{LINKS};
 ghost use Rattle.c104_run.specs.NetViews.{network_link_view};

@@ -1,5 +1,5 @@
 //! Images: what is to be loaded into a network's switches.
-ghost use Rattle.std.specs.Prelude.{◌≡◌, ◌≢◌, ◌⊎◌, ◌↔◌, ℕ, List, All, Err, IfOk, IfSome, IsTrue, Ok, OnErr, OnOk, Some, length, map, option_map, slice_get};
+ghost use Rattle.std.specs.Prelude.{◌≡◌, ◌≢◌, ◌⊎◌, ◌↔◌, ℕ, List, All, Err, IfOk, IfSome, IsTrue, Ok, OnErr, OnOk, Some, map, option_map, slice_get};
 ghost use Rattle.std.specs.Option.{option_copied};
 ghost use Rattle.c104_regs.specs.declared.faults.RegFault.{RegFault as TheRegFault};
 ghost use Rattle.c104_regs.specs.KeptValues.{IsMapOf, kept_values};

@@ -1,5 +1,5 @@
 //! The image of a plan whose switches have tables that are given.
-ghost use Rattle.std.specs.Prelude.{◌≡◌, ◌<◌, ℕ, All, length, map, IfOk};
+ghost use Rattle.std.specs.Prelude.{◌≡◌, All, length, map, IfOk};
 ghost use Rattle.std.specs.List.{range_with_len};
 ghost use Rattle.c104_regs.specs.Ranges.{IsTableInRange};
 ghost use Rattle.c104_plan.specs.Plans.{IsPlan, IsRange, is_continued, rows_of};

@@ -1,5 +1,5 @@
 //! What stands at an address, and what may be written there.
-ghost use Rattle.std.specs.Prelude.{◌≡◌, ◌↔◌, ◌<◌, Some, IfSome, IsTrue};
+ghost use Rattle.std.specs.Prelude.{◌≡◌, ◌↔◌, Some, IfSome, IsTrue};
 ghost use Rattle.c104_regs.specs.Registers.{waits};
 ghost use Rattle.c104_regs.specs.Addresses.{IsAddress, IsRegister, address_number, address_of, is_writable_address, register_takes, register_properties, register_at};
 

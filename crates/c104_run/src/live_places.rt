@@ -1,5 +1,5 @@
 //! Which places of a network may begin something of a round.
-ghost use Rattle.std.specs.Prelude.{◌≡◌, ◌≢◌, ◌<◌, ◌≤◌, ◌⊎◌, ℕ, false, true, unwrap_or, IfSome};
+ghost use Rattle.std.specs.Prelude.{◌≡◌, ◌≢◌, ◌<◌, ◌≤◌, ℕ, false, true, unwrap_or, IfSome};
 ghost use Rattle.c104_run.specs.LivePlaces.{is_live, told_places};
 
 use c104_switch::{LINKS, LinkSet};

@@ -1,5 +1,5 @@
 //! What a network comes to that is taken apart.
-ghost use Rattle.std.specs.Prelude.{◌≡◌, ◌≤◌, length};
+ghost use Rattle.std.specs.Prelude.{◌≡◌, ◌≤◌};
 ghost use Rattle.c104_plan.specs.Plans.{IsPlan};
 ghost use Rattle.c104_run.specs.NetParts.{AreParts};
 ghost use Rattle.c104_run.specs.NodeRuns.{TellRun};

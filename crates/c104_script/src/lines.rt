@@ -1,7 +1,6 @@
 //! A script, line by line.
 ghost use Rattle.std.specs.Prelude.{◌≡◌, map};
-ghost use Rattle.c104_script.specs.Script.{claim_line, control_line, credit_line, cross_line, drain_line, input_line, number_word, read_script_line, request_of, rounds_line, send_line, verb_line, read_script_words, GivesLineOrNoMemory};
-ghost use Rattle.c104_event.specs.declared.events.Event.TheVariants as event;
+ghost use Rattle.c104_script.specs.Script.{claim_line, control_line, credit_line, cross_line, drain_line, input_line, read_script_line, rounds_line, send_line, verb_line, read_script_words, GivesLineOrNoMemory};
 
 use crate::faults::LineFault;
 use crate::places::{Request, find_input, find_port, find_switch, find_terminal};

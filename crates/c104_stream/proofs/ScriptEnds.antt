@@ -1,11 +1,11 @@
 -- The ends of a script that is read and answered, whatever is known of it. These lemmas are for the crates above.
-use Rattle.std.proofs.Common.{◌≡◌, ℕ, ◌<◌, ◌≤◌, false, true, List, [], ◌∷◌, ◌++◌, Option, None, Some, Result, Ok, Err, IsErr, IsErrAnd, Bool, length, sym, ap, ◌∙◌, refl, subst, arith}
+use Rattle.std.proofs.Common.{◌≡◌, ℕ, ◌<◌, false, true, List, [], ◌∷◌, ◌++◌, Option, None, Some, Result, Ok, Err, IsErr, IsErrAnd, Bool, sym, ap, ◌∙◌, refl, subst, arith}
 use Rattle.std.proofs.lemmas.List.{append-nil}
 use Rattle.std.specs.Io.KnownBytes.{Appends, Consumes, Keeps, IsAtEnd, prepend_known}
 use Rattle.c104_stream.specs.Writing.{AppendsAndKeeps, AppendsPrefix}
 use Rattle.c104_stream.specs.declared.halt.Halt.{Halt}
 use Rattle.c104_stream.specs.declared.halt.Halt.TheVariants as halt
-use Rattle.c104_stream.specs.Scripts.{Answering, AnswersLine, AnswersLines, AnswersScript, LineStops, ReadStops, lines_outcome, script_outcome}
+use Rattle.c104_stream.specs.Scripts.{Answering, AnswersLine, AnswersLines, AnswersScript, LineStops, ReadStops, script_outcome}
 use Rattle.c104_stream.proofs.Growing.{grew_kept, grew_none, grew_prefix, grew_text, grew_then, read_grew, text_grew}
 use Rattle.c104_stream.proofs.Prefixes.{kept_all, kept_fails, kept_none, kept_on, kept_only, none_short}
 use Rattle.std.proofs.KnownBytes.{Appends-nil, Appends-trans}

@@ -1,5 +1,5 @@
 //! The input side of one link.
-ghost use Rattle.std.specs.Prelude.{option_to_list, ◌≡◌, ◌==◌, length, slice_get, IfOk, is_some};
+ghost use Rattle.std.specs.Prelude.{option_to_list, ◌≡◌, length, slice_get, IfOk, is_some};
 ghost use Rattle.std.specs.Option.{option_copied};
 ghost use Rattle.c104_link.specs.Buffers.{IsValidCap, IsWithinCap};
 ghost use Rattle.c104_link.specs.Steps.{bool_outcome};

@@ -1,5 +1,5 @@
 //! The output sides of all links.
-ghost use Rattle.std.specs.Prelude.{◌≡◌, ◌<◌, ◌&&◌, All, map, replicate, slice_get, IfOk, is_some};
+ghost use Rattle.std.specs.Prelude.{◌≡◌, ◌&&◌, All, map, replicate, slice_get, IfOk, is_some};
 ghost use Rattle.std.specs.Option.{option_copied};
 ghost use Rattle.c104_link.specs.Buffers as buffer;
 ghost use Rattle.c104_link.specs.Buffers.{Outgoing, empty_outgoing, outgoing_clear};

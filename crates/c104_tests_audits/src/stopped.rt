@@ -1,5 +1,4 @@
 //! Workers that stop after any number of turns.
-ghost use Rattle.std.specs.Prelude.{◌≤◌, length};
 ghost use Rattle.c104_workers.specs.Fabrics.{AreSeatsOf};
 
 use crate::networks::{CUBE, MESH, PLAN, busy_fabric, fabric_of, is_run, network};

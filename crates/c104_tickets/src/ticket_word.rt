@@ -1,5 +1,5 @@
 //! The word of tickets, and the passes to it.
-ghost use Rattle.std.specs.Prelude.{◌≡◌, ◌<◌, ◌≤◌, ◌*◌, ℕ, All, length, IfOk};
+ghost use Rattle.std.specs.Prelude.{◌≡◌, ◌<◌, ◌≤◌, ◌*◌, All, length, IfOk};
 ghost use Rattle.c104_tickets.specs.declared.TheConstants.{FIRST_LIMIT, SEAT_LIMIT, TICKET_LIMIT};
 ghost use Rattle.c104_tickets.specs.Tickets.{AreNoneTwice, AreOnce, after_draw, after_join, after_split, first_view, new_seat};
 

@@ -1,5 +1,5 @@
 //! What crosses a wire between two nodes.
-ghost use Rattle.std.specs.Prelude.{◌≡◌, ◌<◌, Some, false, true, is_some, OnOk};
+ghost use Rattle.std.specs.Prelude.{◌≡◌, ◌<◌, Some, false, true, is_some};
 ghost use Rattle.c104_node.specs.ActLinks.{port_link};
 ghost use Rattle.c104_node.specs.PortActs.{IsAnswerOf, far_act, near_act};
 ghost use Rattle.c104_node.specs.Records.{after_act, crossed, is_full, pair_step, recorded_step};

@@ -1,5 +1,5 @@
 //! Whether a network's run began with its switches started.
-ghost use Rattle.std.specs.Prelude.{◌≡◌, ◌↔◌, map, All, IsTrue};
+ghost use Rattle.std.specs.Prelude.{◌↔◌, map, All, IsTrue};
 ghost use Rattle.c104_node.specs.Records.{node_start};
 ghost use Rattle.c104_node.specs.Starts.{IsStartedStart};
 

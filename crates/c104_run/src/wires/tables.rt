@@ -2,11 +2,10 @@
 //!
 //! Each wire is looked at once. Wires are taken from the last to the first, and those of terminals after the others, so
 //! that at a port the first wire is the one that stays.
-ghost use Rattle.std.specs.Prelude.{◌≡◌, ◌<◌, ◌≤◌, ◌*◌, ℕ, [], None, Option, length, replicate, IfOk};
+ghost use Rattle.std.specs.Prelude.{◌≡◌, ◌<◌, ◌*◌, ℕ, [], None, Option, length, replicate, IfOk};
 ghost use Rattle.c104_crossbar.specs.Groups.{has_bit};
 ghost use Rattle.c104_plan.specs.declared.ports.Port.{Port as ThePort};
 ghost use Rattle.c104_plan.specs.declared.ports.Port.TheVariants as port;
-ghost use Rattle.c104_plan.specs.Plans.{most_switches};
 ghost use Rattle.c104_plan.specs.Ports.{IsSwitchPort};
 ghost use Rattle.c104_node.specs.declared.ends.End.{End as TheEnd};
 ghost use Rattle.c104_run.specs.FarEnds.{end_by, ends_by, link_ends, terminal_ends, with_end};

@@ -1,5 +1,5 @@
 //! What an input keeps of its phase.
-ghost use Rattle.std.specs.Prelude.{◌≡◌, ◌<◌, List, None, option_to_list};
+ghost use Rattle.std.specs.Prelude.{◌≡◌, None};
 ghost use Rattle.c104_switch.specs.Stages.{stage_output};
 
 use c104_crossbar::Claim;

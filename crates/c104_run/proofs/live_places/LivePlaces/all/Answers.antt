@@ -1,4 +1,4 @@
-use Rattle.std.proofs.Common.{◌∙◌, ap, arith, replicate}
+use Rattle.std.proofs.Common.{◌∙◌, ap, replicate}
 use Rattle.c104_crossbar.specs.Groups.{has_bit}
 use Rattle.c104_run.proofs.LivePlaces.{all_told, get_or-replicated}
 use Rattle.c104_run.proofs.live_places.LivePlaces.all.Goals as goal

@@ -1,4 +1,4 @@
-use Rattle.std.proofs.Common.{◌≡◌, ◌+◌, arith, false, true, subst, sym}
+use Rattle.std.proofs.Common.{◌≡◌, ◌+◌, arith, false, subst}
 use Rattle.c104_run.specs.LivePlaces.{is_live}
 use Rattle.c104_run.proofs.rounds.ports.next_terminal.Goals as goal
 

@@ -1,5 +1,4 @@
-use Rattle.std.proofs.Common.{◌≡◌, ◌+◌, ◌-◌, ◌*◌, ◌<◌, ◌++◌, List, ℕ, length, sym, ap, ◌∙◌, arith}
-use Rattle.c104_plan.specs.declared.ports.Port.TheVariants as port
+use Rattle.std.proofs.Common.{◌≡◌, ◌+◌, ◌-◌, ◌<◌, ◌++◌, List, length, sym, ap, ◌∙◌, arith}
 use Rattle.c104_plan.specs.declared.plans.Terminal.{Terminal}
 use Rattle.c104_plan.specs.Wiring.{terminal_wires}
 use Rattle.c104_run.specs.FarEnds.{end_by, ends_by, with_end}

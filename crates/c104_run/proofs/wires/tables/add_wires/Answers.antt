@@ -1,4 +1,4 @@
-use Rattle.std.proofs.Common.{◌≡◌, ◌+◌, ◌-◌, ◌*◌, ◌<◌, List, ℕ, drop, get_or, length, sym, ap, ◌∙◌, arith}
+use Rattle.std.proofs.Common.{◌≡◌, ◌+◌, ◌-◌, ◌<◌, List, drop, get_or, length, sym, ap, ◌∙◌, arith}
 use Rattle.c104_plan.specs.declared.ports.Wire.{Wire}
 use Rattle.c104_run.specs.FarEnds.{end_by, ends_by, with_end}
 use Rattle.c104_run.proofs.EndTables.{ends_counted, none_left, wire_added}

@@ -1,4 +1,4 @@
-use Rattle.std.proofs.Common.{◌≡◌, length, ap, ◌∙◌}
+use Rattle.std.proofs.Common.{length, ap, ◌∙◌}
 use Rattle.c104_regs.specs.Registers.{RegisterBank}
 use Rattle.c104_switch.proofs.SoundnessMethods.{sound_made}
 use Rattle.c104_switch.proofs.switches.SwitchOf.placed.Goals as goal

@@ -1,4 +1,4 @@
-use Rattle.std.proofs.Common.{◌≡◌, ◌∙◌, ◌<◌, ◌≤◌, ℕ, List, None, Some, ap, arith, length, map, slice_get, slice_index_or, sym}
+use Rattle.std.proofs.Common.{◌∙◌, ◌<◌, ◌≤◌, ℕ, List, Some, ap, arith, length, map, slice_get, slice_index_or, sym}
 use Rattle.std.proofs.lemmas.Option.{slice_get-get_or, slice_get_past}
 use Rattle.c104_token.specs.Kinds.{byte_token}
 use Rattle.c104_node.specs.Arrivals.{overlaid, OtherOf}
