@@ -1,14 +1,14 @@
 -- Lists of calls whose tickets rise, and whether a ticket stands in both.
-use Rattle.c104_audit.proofs.KeptElements.{drop_all, drop_next}
+use Rattle.c104_audit.proofs.KeptElements.{drop_next}
 use Rattle.c104_net.proofs.RoundMembers.{IsIn, in_right}
 use Rattle.c104_plan.proofs.RangeLists.{each_append}
 use Rattle.c104_audit.proofs.Merging.{each_in, in_each}
 use Rattle.c104_audit.specs.Audits.{HaveOtherTickets}
 use Rattle.c104_audit.specs.Leads.{AreRising, list_at}
 use Rattle.std.specs.List.{AllByRecursion}
-use Rattle.c104_audit.specs.Tests.{IsNotBelow, Skips, StandsFirst}
+use Rattle.c104_audit.specs.Tests.{IsNotBelow, StandsFirst}
 use Rattle.c104_audit.specs.declared.calls.Call.{Call}
-use Rattle.std.proofs.Common.{Bool, IsTrue, List, Some, [], ap, arith, drop, false, inl, inr, length, nat_eq, refl, slice_get, subst, sym, true, unwrap_or, ℕ, ◌++◌, ◌+◌, ◌<◌, ◌∙◌, ◌∷◌, ◌≡◌, ◌≢◌, ◌≤◌, ◌↔◌, ◌⊎◌, append_assoc}
+use Rattle.std.proofs.Common.{Bool, IsTrue, List, Some, [], ap, arith, drop, false, inl, inr, nat_eq, refl, slice_get, subst, sym, true, unwrap_or, ℕ, ◌++◌, ◌+◌, ◌<◌, ◌∙◌, ◌∷◌, ◌≡◌, ◌≢◌, ◌↔◌, ◌⊎◌, append_assoc}
 use Rattle.std.proofs.lemmas.Bool.Decides.{nat_tests}
 
 in_either : (x : Call) (xs ys : List Call) → IsIn x (xs ++ ys) → IsIn x xs ⊎ IsIn x ys
@@ -28,9 +28,6 @@ pub record AreLeft (all every ps qs : List Call) : Type 0 where
   pub apart : HaveOtherTickets ps qs ↔ HaveOtherTickets all every
   pub calls : AreRising (λ (c : Call). c.ticket) ps
   pub others : AreRising (λ (c : Call). c.ticket) qs
-
-pub left_first : (all every : List Call) → AreRising (λ (c : Call). c.ticket) all → AreRising (λ (c : Call). c.ticket) every → AreLeft all every all every
-left_first all every calls others = record { apart = (λ is. is, λ is. is); calls = calls; others = others }
 
 rising_back : (xs ys : List Call) → AreRising (λ (c : Call). c.ticket) (xs ++ ys) → AreRising (λ (c : Call). c.ticket) ys
 rising_back [] ys rising = rising
@@ -81,17 +78,6 @@ left_next all every ps qs rest more gone c first second below next other left = 
 never : {A : Type 0} → IsTrue false → A
 never is = absurd (let not_so : false ≡ true = is in cc)
 
--- a call whose ticket is in the other list
-pub left_fails : (all every ps qs rest more gone : List Call) (c : Call) → ps ≡ c ∷ rest → qs ≡ gone ++ more → StandsFirst c.ticket more → AreLeft all every ps qs → IsTrue false ↔ HaveOtherTickets all every
-left_fails all every ps qs rest more gone c first second stands left = (λ is. never is, λ whole. absurd (by_more more second stands (left.apart.1 whole)))
-  where
-    by_more : (zs : List Call) → qs ≡ gone ++ zs → StandsFirst c.ticket zs → HaveOtherTickets ps qs → ⊥
-    by_more [] is stands apart = stands
-    by_more (d ∷ zs) is stands apart = apart_in (c ∷ rest) (gone ++ d ∷ zs) (subst (λ us. HaveOtherTickets (c ∷ rest) us) is (subst (λ us. HaveOtherTickets us qs) first apart)) c d (inl refl) (in_right d gone (d ∷ zs) (inl refl)) (sym stands)
-
-pub left_ends : (all every ps qs : List Call) → ps ≡ [] → AreLeft all every ps qs → IsTrue true ↔ HaveOtherTickets all every
-left_ends all every ps qs first left = (λ is. left.apart.0 (subst (λ zs. HaveOtherTickets zs qs) (sym first) tt), λ whole. refl)
-
 -- those that were skipped so far
 pub record AreSkipped (calls : List Call) (from at t : ℕ) : Type 0 where
   pub gone : List Call
@@ -105,14 +91,6 @@ skip_next calls from at t c here less so =
       split = so.split ∙ ap (λ zs. so.gone ++ zs) (drop_next calls at c here) ∙ sym (append_assoc so.gone (c ∷ []) (drop (at + 1) calls));
       below = each_append (λ (d : Call). d.ticket < t) so.gone (c ∷ []) so.below (less, tt);
     }
-
-pub skip_found : (calls : List Call) (from at t : ℕ) (c : Call) → slice_get calls at ≡ Some c → t ≤ c.ticket → AreSkipped calls from at t → Skips calls from at t
-skip_found calls from at t c here more so = record { gone = so.gone; split = so.split; below = so.below; next = subst (IsNotBelow t) (sym (drop_next calls at c here)) more }
-
-pub skip_end : (calls : List Call) (from at t : ℕ) → length calls ≤ at → AreSkipped calls from at t → Skips calls from (length calls) t
-skip_end calls from at t past so =
-    let none : drop (length calls) calls ≡ [] = drop_all calls (length calls) (omega arith) in
-    record { gone = so.gone; split = so.split ∙ ap (λ zs. so.gone ++ zs) (drop_all calls at past ∙ sym none); below = so.below; next = subst (IsNotBelow t) (sym none) tt }
 
 -- what is found of lists as they were lent is so of them
 pub apart_by : (T : Type 0) (all every calls others : List Call) → all ≡ calls → every ≡ others → (T ↔ HaveOtherTickets calls others) → (T ↔ HaveOtherTickets all every)

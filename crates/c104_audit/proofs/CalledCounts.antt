@@ -10,9 +10,8 @@ use Rattle.c104_audit.specs.declared.lists.Lists.{Lists}
 use Rattle.c104_net.specs.declared.leading.Lead.{Lead as Leading}
 use Rattle.c104_node.proofs.WireEnds.{get_set_other, get_set_same}
 use Rattle.c104_node.specs.declared.acts.Entry.{Entry}
-use Rattle.std.proofs.Common.{Bool, IsTrue, List, None, Option, Some, ap, arith, false, get_or, length, map, nat_eq, nat_le, refl, replicate, slice_get, slice_set, subst, sym, true, ℕ, ◌+◌, ◌<◌, ◌≤◌, ◌∙◌, ◌≡◌, ◌≢◌, ◌↔◌}
+use Rattle.std.proofs.Common.{Bool, IsTrue, List, None, Option, Some, ap, arith, false, get_or, length, map, nat_eq, nat_le, refl, slice_get, slice_set, subst, sym, true, ℕ, ◌+◌, ◌<◌, ◌≤◌, ◌∙◌, ◌≡◌, ◌≢◌, ◌↔◌}
 use Rattle.std.proofs.lemmas.Bool.Decides.{nat_tests}
-use Rattle.std.proofs.lemmas.List.{get_or-replicate, length-replicate}
 use Rattle.std.proofs.lemmas.Option.{slice_get-get_or, slice_get_within}
 
 other_number : (s : ℕ) (o : Option ℕ) → (o ≡ Some s → ⊥) → is_number s o ≡ false
@@ -53,28 +52,6 @@ module _ (lists : Lists) (leads : List Leading) where
           let there = call_there lists s leads i l.place x met (list_at lists.calls s) n next.1 in
           subst (λ k. IsTold lists leads (i + 1) s (Some k)) (sym next.0)
           (equal_next (Whole s) (Left lists s leads i) (Left lists s leads (i + 1)) (list_at lists.calls s) n (told_call lists met.event x) met.here there told.0, place_inside (list_at lists.calls s) n (told_call lists met.event x) there)
-
-  -- before the first that leads
-  pub counts_first : AreLeads lists leads → (n : ℕ) (counts : List (Option ℕ)) → counts ≡ replicate n (Some 0) → AreTold lists leads 0 counts
-  counts_first all n counts is s o there = by_zero (Some 0) is refl
-    where
-      whole : calls_told lists s (map (lead_in lists.traces) leads) ≡ calls_told lists s (lists_leads lists)
-      whole = ap (calls_told lists s) all
-
-      by_zero : (z : Option ℕ) → counts ≡ replicate n z → z ≡ Some 0 → IsTold lists leads 0 s o
-      by_zero z same zero = subst (λ p. IsTold lists leads 0 s p) (sym zero ∙ only) ((λ told. sym whole ∙ told, λ told. whole ∙ told), omega arith)
-        where
-          read : slice_get (replicate n z) s ≡ Some o
-          read = ap (λ xs. slice_get xs s) (sym same) ∙ there
-
-          inside : s < length (replicate n z)
-          inside = slice_get_within (replicate n z) s o read
-
-          below : s < n
-          below = subst (λ m. s < m) (length-replicate n z) inside
-
-          only : z ≡ o
-          only = let both : Some z ≡ Some o = sym (slice_get-get_or (replicate n z) s z inside ∙ ap Some (get_or-replicate n s z z below)) ∙ read in cc
 
   -- the next that leads is a seat's that is counted
   counts_next : AreLeads lists leads → (i t : ℕ) (l : Leading) (x : Entry) (counts : List (Option ℕ)) (o p : Option ℕ) → slice_get leads i ≡ Some l → lead_seat lists l ≡ Some t → (lead_in lists.traces l).1.entry ≡ x →

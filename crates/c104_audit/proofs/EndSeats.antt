@@ -1,8 +1,8 @@
 -- The first seat that entries at two ends carry unlike.
-use Rattle.c104_audit.proofs.FirstFailures.{below_all, below_next, first_both, first_same, lower_again, none_there}
+use Rattle.c104_audit.proofs.FirstFailures.{below_all, below_next, first_both, first_same, none_there}
 use Rattle.c104_audit.specs.Audits.{AgreeOneByOne, CarryAtEnds, carries, is_number, passing_at}
 use Rattle.c104_audit.specs.Firsts.{IsFirst, lower_of}
-use Rattle.c104_audit.specs.Tests.{CarryAtAllEnds, CarryAtEndsTo, HasNext, IsOddBy, odd_of, odd_seat}
+use Rattle.c104_audit.specs.Tests.{CarryAtAllEnds, CarryAtEndsTo, odd_of, odd_seat}
 use Rattle.c104_audit.specs.declared.lists.Lists.{Lists}
 use Rattle.c104_node.specs.declared.acts.Entry.{Entry}
 use Rattle.c104_plan.specs.declared.ports.Wire.{Wire}
@@ -51,36 +51,6 @@ odds_first (e ∷ es) (d ∷ others) agree =
 pub record AreOddsLeft (all others ps qs : List Entry) (first : Option ℕ) : Type 0 where
   pub agree : AgreeOneByOne ps qs
   pub odd : lower_of first (odd_of ps qs) ≡ odd_of all others
-
-pub odds_all : (all others : List Entry) → AgreeOneByOne all others → AreOddsLeft all others all others None
-odds_all all others agree = record { agree = agree; odd = refl }
-
-pub odds_over : (all others ps qs rest : List Entry) (first : Option ℕ) → ps ≡ rest → AreOddsLeft all others ps qs first → AreOddsLeft all others rest qs first
-odds_over all others ps qs rest first is left = subst (λ zs. AreOddsLeft all others zs qs first) is left
-
--- what passes at the one end has another half at the other
-pub next_there : (all others ps qs rest : List Entry) (x : Entry) (first : Option ℕ) → ps ≡ x ∷ rest → AreOddsLeft all others ps qs first → HasNext qs
-next_there all others ps qs rest x first is left = by_others qs (subst (λ zs. AgreeOneByOne zs qs) is left.agree)
-  where
-    by_others : (zs : List Entry) → AgreeOneByOne (x ∷ rest) zs → HasNext zs
-    by_others [] agree = absurd agree
-    by_others (y ∷ ys) agree = (y, ys, refl)
-
-pub odds_next : (all others ps qs rest more : List Entry) (x : Entry) (first odd : Option ℕ) → ps ≡ x ∷ rest → IsOddBy x odd qs more → AreOddsLeft all others ps qs first → AreOddsLeft all others rest more (lower_of first odd)
-odds_next all others ps qs rest more x first odd is found left = record {
-  agree = both.agree.1;
-  odd = ap (λ o. lower_of (lower_of first o) (odd_of rest more)) found.2 ∙ lower_again first (odd_seat x.seat found.0.seat) (odd_of rest more) ∙ both.odd;
-}
-  where
-    both : AreOddsLeft all others (x ∷ rest) (found.0 ∷ more) first
-    both = subst (λ zs. AreOddsLeft all others (x ∷ rest) zs first) found.1 (subst (λ zs. AreOddsLeft all others zs qs first) is left)
-
-none_last : (o : Option ℕ) → lower_of o None ≡ o
-none_last None = refl
-none_last (Some s) = refl
-
-pub odds_end : (all others ps qs : List Entry) (first : Option ℕ) → ps ≡ [] → AreOddsLeft all others ps qs first → first ≡ odd_of all others
-odds_end all others ps qs first is left = sym (none_last first) ∙ (subst (λ zs. AreOddsLeft all others zs qs first) is left).odd
 
 -- the entries at the two ends of a wire carry the number of a seat alike
 abbrev AreAlike : Lists → Wire → ℕ → Type 0

@@ -57,20 +57,3 @@ first_both P Q (Some k) (Some j) first second = by_test (nat_le k j) refl
     by_test false is =
         let less : j < k = grind (arith, nat_tests) in
         record { lower = λ i below. (first.lower i (omega (arith, below, less)), second.lower i below); fails = λ both. second.fails both.1 }
-
--- the lowest of three numbers, if there are any
-pub lower_again : (a b c : Option ℕ) → lower_of (lower_of a b) c ≡ lower_of a (lower_of b c)
-lower_again None b c = refl
-lower_again (Some k) None c = refl
-lower_again (Some k) (Some j) None = by_test (nat_le k j)
-  where
-    by_test : (b : Bool) → lower_of (if b then Some k else Some j) None ≡ (if b then Some k else Some j)
-    by_test true = refl
-    by_test false = refl
-lower_again (Some k) (Some j) (Some i) = by_tests (nat_le k j) (nat_le j i) refl refl
-  where
-    by_tests : (b c : Bool) → nat_le k j ≡ b → nat_le j i ≡ c → lower_of (if b then Some k else Some j) (Some i) ≡ lower_of (Some k) (if c then Some j else Some i)
-    by_tests true true first second = let test : nat_le k i ≡ true = grind (arith, nat_tests) in rw (test, first) refl
-    by_tests true false first second = refl
-    by_tests false true first second = rw (first, second) refl
-    by_tests false false first second = let test : nat_le k i ≡ false = grind (arith, nat_tests) in rw (test, second) refl

@@ -23,14 +23,3 @@ no_half All ps qs rest x first none same = (λ is. never is, λ all. absurd (by_
     by_others : (zs : List Entry) → HasNoHalf x zs → AgreeOneByOne (x ∷ rest) zs → ⊥
     by_others [] none agree = agree
     by_others (y ∷ ys) none agree = none y ys refl agree.0
-
--- at the end of the one the other must have ended
-pub agree_ends : (All : Type 0) (ps qs : List Entry) → ps ≡ [] → qs ≡ [] → (AgreeOneByOne ps qs ↔ All) → IsTrue true ↔ All
-agree_ends All ps qs first second same =
-    let both : AgreeOneByOne [] [] ↔ All = subst (λ zs. AgreeOneByOne [] zs ↔ All) second (subst (λ zs. AgreeOneByOne zs qs ↔ All) first same) in
-    (λ is. both.0 tt, λ all. refl)
-
-pub one_more : (All : Type 0) (ps qs others : List Entry) (y : Entry) → ps ≡ [] → qs ≡ y ∷ others → (AgreeOneByOne ps qs ↔ All) → IsTrue false ↔ All
-one_more All ps qs others y first second same =
-    let both : AgreeOneByOne [] (y ∷ others) ↔ All = subst (λ zs. AgreeOneByOne [] zs ↔ All) second (subst (λ zs. AgreeOneByOne zs qs ↔ All) first same) in
-    (λ is. never is, λ all. absurd (both.1 all))

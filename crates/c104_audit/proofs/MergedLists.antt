@@ -49,14 +49,6 @@ module _ {X : Type 0} (ticket : X → ℕ) (leads : ℕ → X → Bool) (far : �
       by_near rest true at = let same : m.1.place ≡ k = grind (arith, nat_tests) in (all m (inl refl) m.1.entry (inl (same, refl)), by_far rest (far m.1.place m.1.entry) refl)
       by_near rest false at = by_far rest (far m.1.place m.1.entry) refl
 
-  at_append : (k : ℕ) (ds es : List (ℕ × X)) → at_place k (ds ++ es) ≡ at_place k ds ++ at_place k es
-  at_append k [] es = refl
-  at_append k (d ∷ ds) es = by_place (at_append k ds es) (nat_eq d.0 k)
-    where
-      by_place : at_place k (ds ++ es) ≡ at_place k ds ++ at_place k es → (b : Bool) → (if b then d.1 ∷ at_place k (ds ++ es) else at_place k (ds ++ es)) ≡ (if b then d.1 ∷ at_place k ds else at_place k ds) ++ at_place k es
-      by_place rest true = ap (λ xs. d.1 ∷ xs) rest
-      by_place rest false = rest
-
   -- a thing with a place is at its place
   in_place : (k : ℕ) (z : X) (ds : List (ℕ × X)) → IsIn (k, z) ds → IsIn z (at_place k ds)
   in_place k z [] has = absurd has

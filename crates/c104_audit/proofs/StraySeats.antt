@@ -1,20 +1,20 @@
 -- The first seat past all lists that entries carry which lead.
 use Rattle.c104_audit.proofs.CalledLeads.{leads_named}
-use Rattle.c104_audit.proofs.FirstFailures.{first_both, first_same, lower_again}
-use Rattle.c104_audit.proofs.KeptElements.{drop_all, drop_next}
+use Rattle.c104_audit.proofs.FirstFailures.{first_both, first_same}
+use Rattle.c104_audit.proofs.KeptElements.{drop_all}
 use Rattle.c104_audit.proofs.Merging.{in_each}
 use Rattle.c104_audit.specs.Audits.{carries, is_number, led_call, led_event, lists_leads}
 use Rattle.c104_audit.specs.Calls.{call_of}
 use Rattle.c104_audit.specs.Firsts.{IsFirst, lower_of}
 use Rattle.c104_audit.specs.Leads.{Lead}
 use Rattle.std.specs.List.{AllByRecursion}
-use Rattle.c104_audit.specs.Tests.{HasNoStray, calls_told, lead_in, lead_seat, past_seat, strays}
+use Rattle.c104_audit.specs.Tests.{HasNoStray, calls_told, lead_in, past_seat, strays}
 use Rattle.c104_audit.specs.declared.calls.Call.{Call}
 use Rattle.c104_audit.specs.declared.lists.Lists.{Lists}
 use Rattle.c104_net.specs.declared.leading.Lead.{Lead as Leading}
 use Rattle.c104_event.specs.declared.events.Event.{Event}
 use Rattle.c104_node.specs.declared.acts.Entry.{Entry}
-use Rattle.std.proofs.Common.{Bool, List, None, Option, Some, [], ap, arith, drop, false, if◌then◌else◌, is_some, length, map, nat_eq, nat_le, refl, slice_get, subst, sym, true, ℕ, ◌++◌, ◌+◌, ◌∙◌, ◌∷◌, ◌≡◌, ◌≤◌}
+use Rattle.std.proofs.Common.{Bool, List, None, Option, Some, [], ap, arith, drop, false, if◌then◌else◌, is_some, length, map, nat_eq, nat_le, refl, subst, sym, true, ℕ, ◌++◌, ◌+◌, ◌∙◌, ◌∷◌, ◌≡◌, ◌≤◌}
 use Rattle.std.proofs.lemmas.Bool.Decides.{nat_tests}
 use Rattle.std.specs.Option.{option_map, option_to_list}
 
@@ -65,18 +65,6 @@ module _ (lists : Lists) (count : ℕ) where
 
 strays_first : (lists : Lists) (count : ℕ) (o : Option ℕ) → o ≡ strays count (lists_leads lists) → IsFirst (HasNoStray lists count) o
 strays_first lists count o is = subst (IsFirst (HasNoStray lists count)) (sym is) (strays_of lists count (lists_leads lists) (in_each (Named lists count) (lists_leads lists) (leads_named lists)))
-
--- the first of what is left
-abbrev Rest : Lists → ℕ → List Leading → ℕ → Option ℕ
-Rest lists count leads j = strays count (map (lead_in lists.traces) (drop j leads))
-
--- one more that leads
-pub strays_next : (lists : Lists) (count : ℕ) (leads : List Leading) (i : ℕ) (l : Leading) (first odd all : Option ℕ) → slice_get leads i ≡ Some l → odd ≡ past_seat count (lead_seat lists l) →
-    lower_of first (strays count (map (lead_in lists.traces) (drop i leads))) ≡ all → lower_of (lower_of first odd) (strays count (map (lead_in lists.traces) (drop (i + 1) leads))) ≡ all
-strays_next lists count leads i l first odd all at is before =
-    ap (λ o. lower_of (lower_of first o) (Rest lists count leads (i + 1))) is
-    ∙ lower_again first (past_seat count (lead_seat lists l)) (Rest lists count leads (i + 1))
-    ∙ ap (λ ls. lower_of first (strays count (map (lead_in lists.traces) ls))) (sym (drop_next leads i l at)) ∙ before
 
 -- none is left
 pub strays_end : (lists : Lists) (count : ℕ) (leads : List Leading) (i : ℕ) (first : Option ℕ) → length leads ≤ i → lower_of first (strays count (map (lead_in lists.traces) (drop i leads))) ≡ strays count (lists_leads lists) → IsFirst (HasNoStray lists count) first

@@ -7,11 +7,10 @@ use Rattle.std.proofs.Math.Seq.{take-append_seam}
 use Rattle.std.specs.List.{AllByRecursion}
 use Rattle.c104_regs.proofs.RegisterLemmas.{get_or-same}
 use Rattle.c104_crossbar.specs.declared.group.Group.{Group}
-use Rattle.c104_interval.specs.declared.intervals.Select.TheVariants.{Link}
 use Rattle.c104_check.specs.Dependencies.{AreDependencies, AreListedBelow, Dependency, IsDependencyAt, IsExtended, AreListedAsOwn, AreListedAsRandom, AreListedAt, AreListedFor, AreListedFrom, IsListedOver, dependency_at, dependency_place}
 use Rattle.c104_check.specs.Parts.{AreJust, IsReachedAsOwn, IsReachedAsRandom}
 use Rattle.c104_check.specs.Reach.{IsSelected}
-use Rattle.c104_check.specs.Routes.{Routes, SwitchPort, is_in_group, owner, select, to_port}
+use Rattle.c104_check.specs.Routes.{Routes, SwitchPort, is_in_group, owner, to_port}
 use Rattle.c104_check.specs.Trails.{IsInput, Reaches}
 use Rattle.c104_check.specs.ChannelDependencies.{DependsBy, IsBeginningBy, IsNeverRandomized, MayComeBy}
 use Rattle.c104_check.specs.Walks.{port_of}
@@ -21,9 +20,6 @@ use Rattle.c104_check.proofs.ReachLemmas.{all_just, all_taken_next}
 use Rattle.c104_check.proofs.RouteLemmas.{Some-Link-same}
 use Rattle.c104_check.proofs.StartLemmas.{random_is_randomized}
 use Rattle.c104_check.proofs.TrailLemmas.{All-found, All-map}
-
-pub extended_none : (routes : Routes) (table : List (Option Dependency)) → IsExtended routes table table
-extended_none routes table = record { room = refl; dependencies = λ is. is; kept = λ k is. is }
 
 -- one after another
 pub extended_more : (routes : Routes) (old now new : List (Option Dependency)) → IsExtended routes old now → IsExtended routes now new → IsExtended routes old new
@@ -65,9 +61,6 @@ module _ (routes : Routes) (old : List (Option Dependency)) (at : SwitchPort) (o
     ];
   }
 
-  pub listed_here : is_some (dependency_at filled (dependency_place at o)) ≡ true
-  listed_here = ap is_some here
-
 -- what is listed stays so
 pub over_kept : (routes : Routes) (now new : List (Option Dependency)) (at link : SwitchPort) → IsExtended routes now new → IsListedOver routes now at link → IsListedOver routes new at link
 over_kept routes now new at link kept is q leads = let one = is q leads in (one.0, kept.kept (dependency_place at link.link) one.1)
@@ -106,9 +99,6 @@ from_all routes table h group p end last selected all q (g, o, selects, inside, 
     let within = run_within group.first group.last o (sym (selected.members o) ∙ ap (λ k. is_in_group routes p.switch k o) (sym link) ∙ inside) in
     let high = within.1 in
     all o within.0 (omega (arith, last, high)) q wired
-
-pub from_none : (routes : Routes) (table : List (Option Dependency)) (h : ℕ) (p : SwitchPort) → ((g : ℕ) → select routes p.switch p.link h ≢ Some (Link g)) → AreListedAt routes table h p
-from_none routes table h p none q (g, o, selects, inside, wired) = absurd (none g selects)
 
 -- at one input more
 pub at_next : (routes : Routes) (h : ℕ) (xs : List SwitchPort) (k : ℕ) (d : SwitchPort) (now new : List (Option Dependency)) → k < length xs → IsExtended routes now new → AllByRecursion (AreListedAt routes now h) (take k xs) → AreListedAt routes new h (slice_index_or xs k d) → AllByRecursion (AreListedAt routes new h) (take (k + 1) xs)

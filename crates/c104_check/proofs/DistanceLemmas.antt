@@ -1,9 +1,8 @@
 -- How far terminals are, by tables of the switches that are no farther.
 use Rattle.std.proofs.Common.{◌≡◌, ◌↔◌, ℕ, zero, suc, ◌<◌, ◌+◌, inl, inr, Bool, true, false, List, [], ◌∷◌, ◌++◌, length, Option, Some, None, refl, sym, ap, subst, ◌∙◌, arith}
-use Rattle.std.proofs.Math.ListN.{replicate}
 use Rattle.std.proofs.Math.Seq.{get_or-append_seam}
 use Rattle.std.proofs.lemmas.Bool.{cases_lt}
-use Rattle.std.proofs.lemmas.List.{get_or-replicate, get_or_append_left, length-append, length-replicate}
+use Rattle.std.proofs.lemmas.List.{get_or_append_left, length-append}
 use Rattle.c104_regs.specs.Groups.{continues_at}
 use Rattle.c104_plan.specs.declared.ports.Port.{Port}
 use Rattle.c104_plan.specs.declared.ports.Port.TheVariants as port
@@ -25,9 +24,6 @@ arrives_so P Q t (Some (port.Switch s i)) so arrives = so s i refl arrives
 
 -- Tables
 
-pub marked_none : (P : ℕ → Type 0) → AreMarked P 0 []
-marked_none P = record { count = refl; marked = λ s below. absurd (omega (arith, below)) }
-
 pub marked_more : (P : ℕ → Type 0) (n : ℕ) (marks : List Bool) (b : Bool) → AreMarked P n marks → (b ≡ true) ↔ P n → AreMarked P (n + 1) (marks ++ (b ∷ []))
 marked_more P n marks b are is = record {
   count = length-append marks (b ∷ []) ∙ ap (λ k. k + 1) are.count;
@@ -48,15 +44,6 @@ marked_more P n marks b are is = record {
 module _ (routes : Routes) (net : IsNetwork routes) (t : ℕ) where
   abbrev N : ℕ
   N = length routes.settings
-
-  -- none is within no link
-  pub none_within : (marks : List Bool) → marks ≡ replicate N false → AreMarked (IsWithin routes t 0) N marks
-  none_within marks is = record {
-    count = ap length is ∙ length-replicate N false;
-    marked = λ s below.
-        let off : is_marked marks s ≡ false = ap (λ (xs : List Bool). is_marked xs s) is ∙ get_or-replicate N s false false below in
-        ((λ on. let clash : true ≡ false = sym on ∙ off in absurd cc), (λ within. absurd within));
-  }
 
   -- an end of a link's wire
   pub near_is : (k : ℕ) (marks : List Bool) (s o : ℕ) → AreMarked (IsWithin routes t k) N marks → Arrives (IsMarked marks) t (routes.peer (port.Switch s o)) → Arrives (λ s i. IsWithin routes t k s) t (routes.peer (port.Switch s o))

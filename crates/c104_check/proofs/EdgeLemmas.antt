@@ -1,68 +1,12 @@
 -- The edges of a table of dependencies, one by one; and that they are those of the network.
-use Rattle.std.proofs.Common.{◌≡◌, ℕ, zero, suc, ◌<◌, ◌+◌, ◌*◌, ◌/◌, ◌⊎◌, inl, inr, List, [], ◌∷◌, ◌++◌, Option, None, Some, length, slice_get, refl, sym, ap, subst, ◌∙◌, arith}
-use Rattle.std.proofs.lemmas.Bool.{cases_lt}
+use Rattle.std.proofs.Common.{◌≡◌, ℕ, ◌<◌, ◌+◌, ◌*◌, ◌/◌, List, Option, Some, length, slice_get, sym, ap, subst, ◌∙◌, arith}
 use Rattle.c104_check.specs.ChannelDependencies.{Depends, DependsBy}
-use Rattle.c104_check.specs.Dependencies.{AreDependencies, AreListedBelow, Dependency, dependency_at, dependency_place}
+use Rattle.c104_check.specs.Dependencies.{AreDependencies, AreListedBelow, Dependency, dependency_place}
 use Rattle.c104_check.specs.Edges.{AreAllEdges, AreEdgesBefore, DependencyEdge, HasEdge, edge_of}
 use Rattle.c104_check.specs.Routes.{IsAccepted, Routes, SwitchPort, header_count, place, port_at}
 use Rattle.c104_check.specs.Trails.{IsInput, IsNetwork}
 use Rattle.c104_check.proofs.LinkLemmas.{at_place, place_below}
 use Rattle.c104_check.proofs.TableRanks.{find_listed}
-
-get_last : (xs : List DependencyEdge) (x : DependencyEdge) → slice_get (xs ++ x ∷ []) (length xs) ≡ Some x
-get_last [] x = refl
-get_last (y ∷ xs) x = get_last xs x
-
-get_kept : (xs : List DependencyEdge) (x e : DependencyEdge) (k : ℕ) → slice_get xs k ≡ Some e → slice_get (xs ++ x ∷ []) k ≡ Some e
-get_kept [] x e k is = absurd cc
-get_kept (y ∷ xs) x e zero is = is
-get_kept (y ∷ xs) x e (suc k) is = get_kept xs x e k is
-
-get_more : (xs : List DependencyEdge) (x e : DependencyEdge) (k : ℕ) → slice_get (xs ++ x ∷ []) k ≡ Some e → (slice_get xs k ≡ Some e) ⊎ (e ≡ x)
-get_more [] x e zero is = inr (same_edge e x (sym is))
-  where
-    same_edge : (e x : DependencyEdge) → Some e ≡ Some x → e ≡ x
-    same_edge e x is = cc
-get_more [] x e (suc k) is = absurd cc
-get_more (y ∷ xs) x e zero is = inl is
-get_more (y ∷ xs) x e (suc k) is = get_more xs x e k is
-
-pub no_edges : (table : List (Option Dependency)) → AreEdgesBefore table 0 []
-no_edges table = record {
-  each = λ k e is. absurd cc;
-  all = λ j d below is. absurd (omega (arith, below));
-}
-
--- a place without a dependency
-pub edges_skip : (table : List (Option Dependency)) (at : ℕ) (edges : List DependencyEdge) → dependency_at table at ≡ None → AreEdgesBefore table at edges → AreEdgesBefore table (at + 1) edges
-edges_skip table at edges none before = record {
-  each = before.each;
-  all = λ j d below is. elim (cases_lt j at) [
-    | inl lower ↦ before.all j d lower is
-    | inr not ↦
-        let same : at ≡ j = omega (arith, below, not) in
-        absurd (let clash : None ≡ Some d = sym none ∙ ap (dependency_at table) same ∙ is in cc)
-  ];
-}
-
-same_dependency : (c d : Dependency) → Some c ≡ Some d → c ≡ d
-same_dependency c d is = cc
-
--- a place with one
-pub edges_more : (table : List (Option Dependency)) (at : ℕ) (c : Dependency) (edges : List DependencyEdge) → dependency_at table at ≡ Some c → AreEdgesBefore table at edges → AreEdgesBefore table (at + 1) (edges ++ edge_of at c ∷ [])
-edges_more table at c edges there before = record {
-  each = λ k e is. elim (get_more edges (edge_of at c) e k is) [
-    | inl older ↦ before.each k e older
-    | inr new ↦ (at, c, there, new)
-  ];
-  all = λ j d below is. elim (cases_lt j at) [
-    | inl lower ↦ let found = before.all j d lower is in (found.0, get_kept edges (edge_of at c) (edge_of j d) found.0 found.1)
-    | inr not ↦
-        let same : at ≡ j = omega (arith, below, not) in
-        let one : c ≡ d = same_dependency c d (sym there ∙ ap (dependency_at table) same ∙ is) in
-        (length edges, get_last edges (edge_of at c) ∙ ap Some (ap (λ k. edge_of k c) same ∙ ap (edge_of j) one))
-  ];
-}
 
 -- the input of what stands at a place
 edge_input : (n : ℕ) (p : SwitchPort) (o : ℕ) → IsInput n p → o < 32 → port_at ((place p * 32 + o) / 32) ≡ p

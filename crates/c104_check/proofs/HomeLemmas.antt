@@ -41,13 +41,6 @@ home_next routes p h before here r below random =
           subst (λ n. Homes routes n (most_hops routes) p.switch p.link) (sym same) (here (subst (IsRandomAt routes p) same random))
     ]
 
--- a header that isn't random there
-pub plain_next : (routes : Routes) (p : SwitchPort) (h : ℕ) → is_random_at routes p h ≡ false → HomeBelow routes p h → HomeBelow routes p (h + 1)
-plain_next routes p h not before = home_next routes p h before (λ random. let clash : true ≡ false = sym (random_at_told routes p h random) ∙ not in absurd cc)
-
-pub plain_met : (routes : Routes) (p : SwitchPort) (h : ℕ) (old : List SwitchPort) → is_random_at routes p h ≡ false → old ≡ add_all old (met_here routes p h)
-plain_met routes p h old not = rw not refl
-
 -- one that is no break
 All-right : {X : Type 0} (P : X → Type 0) (xs ys : List X) → AllByRecursion P (xs ++ ys) → AllByRecursion P ys
 All-right P [] ys all = all
@@ -95,9 +88,6 @@ pub walked_result : (routes : Routes) (t : ℕ) (p : SwitchPort) (h : ℕ) (resu
 walked_result routes t p h (Ok found) below random before is = walked_next routes t p h found below random before is
 walked_result routes t p h (Err x) below random before is = tt
 
-pub walked_met : (routes : Routes) (p : SwitchPort) (h : ℕ) (old new : List SwitchPort) → is_random_at routes p h ≡ true → new ≡ add_all old (met_from routes h (most_hops routes) p) → new ≡ add_all old (met_here routes p h)
-walked_met routes p h old new random is = is ∙ sym (ap (λ b. add_all old (met_if b (met_from routes h (most_hops routes) p))) random)
-
 -- Header by header
 
 pub met_next : (routes : Routes) (p : SwitchPort) (h : ℕ) (init old new : List SwitchPort) → old ≡ add_all init (met_below routes p h) → new ≡ add_all old (met_here routes p h) → new ≡ add_all init (met_below routes p (h + 1))
@@ -107,14 +97,6 @@ met_next routes p h init old new before is =
 
 pub known_all : (init now xs : List SwitchPort) → now ≡ add_all init xs → AreKnown now xs
 known_all init now xs is = subst (λ (ys : List SwitchPort). AreKnown ys xs) (sym is) (add_in xs init)
-
-pub first_kept : (routes : Routes) (t : ℕ) (p : SwitchPort) (h : ℕ) (found : Option Refusal) (P : Type 0) → is_some found ≡ true → MatchOption found (HomeBelow routes p h) (IsFirstRandomAt routes t p) → MatchOption found P (IsFirstRandomAt routes t p)
-first_kept routes t p h None P some is = absurd cc
-first_kept routes t p h (Some refusal) P some is = is
-
-pub none_kept : (A B : Type 0) (found : Option Refusal) → is_some found ≡ true → (found ≡ None → A) → found ≡ None → B
-none_kept A B None some is none = absurd cc
-none_kept A B (Some refusal) some is none = absurd cc
 
 pub home_none : (routes : Routes) (t : ℕ) (p : SwitchPort) (h : ℕ) (found : Option Refusal) → is_some found ≡ false → MatchOption found (HomeBelow routes p h) (IsFirstRandomAt routes t p) → HomeBelow routes p h
 home_none routes t p h None none is = is

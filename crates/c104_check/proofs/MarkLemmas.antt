@@ -1,17 +1,16 @@
 -- Headers that are marked.
-use Rattle.std.proofs.Common.{◌≡◌, ◌↔◌, ℕ, zero, suc, ◌<◌, ◌≤◌, ◌+◌, ◌*◌, ◌%◌, ◌⊎◌, inl, inr, Bool, true, false, List, [], ◌∷◌, ◌++◌, length, slice_index_or, slice_set, slice_get, drop, take, is_some, Option, Some, None, refl, sym, ap, subst, ◌∙◌, arith}
+use Rattle.std.proofs.Common.{◌≡◌, ◌↔◌, ℕ, zero, suc, ◌<◌, ◌≤◌, ◌+◌, ◌*◌, ◌⊎◌, inl, inr, Bool, true, false, List, [], ◌∷◌, ◌++◌, length, slice_index_or, slice_get, drop, take, is_some, Option, Some, None, refl, sym, ap, subst, ◌∙◌, arith}
 use Rattle.std.proofs.lemmas.Bool.{cases_eq}
-use Rattle.std.proofs.lemmas.Grind.{get_or-set_at}
-use Rattle.std.proofs.lemmas.List.{append-nil, drop_all, get_or-set_other, length-set, take_all, take_more}
+use Rattle.std.proofs.lemmas.List.{append-nil, drop_all, take_all, take_more}
 use Rattle.std.proofs.lemmas.Option.{slice_get-get_or, slice_get_within}
 use Rattle.std.specs.List.{Contains}
 use Rattle.c104_interval.specs.Segments.{AreSegmentsBelow}
 use Rattle.c104_interval.specs.declared.intervals.Table.{Table}
 use Rattle.c104_regs.specs.declared.settings.Settings.{Settings}
 use Rattle.c104_plan.specs.declared.ports.Port.{Port}
-use Rattle.c104_check.specs.Routes.{Routes, SwitchPort, header_count, link_settings, place, port_at, random_count, to_port}
+use Rattle.c104_check.specs.Routes.{Routes, SwitchPort, header_count, link_settings, place, port_at, to_port}
 use Rattle.c104_check.specs.Trails.{IsInput, IsNetwork}
-use Rattle.c104_check.specs.Breaks.{AddsMarks, AreBreaks, BoundsLabels, BoundsRandom, BoundsRandomAt, BoundsRange, BreaksAt, ChangesSelect, ChangesSelectAt, IsBreak, IsWired, is_marked}
+use Rattle.c104_check.specs.Breaks.{AddsMarks, AreBreaks, BoundsLabels, BoundsRandomAt, BoundsRange, BreaksAt, ChangesSelect, ChangesSelectAt, IsBreak, IsWired, is_marked}
 use Rattle.c104_check.proofs.BreakLemmas.{change_starts}
 use Rattle.c104_check.proofs.LinkLemmas.{at_place, input_at, place_at}
 use Rattle.c104_check.proofs.RouteLemmas.{is_input}
@@ -47,22 +46,6 @@ marks_same a b X Z (same, first) are = (
     (λ may. elim may [ inl was ↦ (first h below).1 (inl was) | inr z ↦ (first h below).1 (inr ((are h below).0 z)) ]),
   ),
 )
-
--- one header
-pub mark_one : (old : List Bool) (n : ℕ) → n < length old → AddsMarks old (slice_set old n true) (λ h. h ≡ n)
-mark_one old n inside = (
-  length-set old n true,
-  λ h below. elim (cases_eq h n) [
-    | inl same ↦ ((λ is. inr same), (λ may. get_or-set_at old n h true false same inside))
-    | inr differ ↦ let other = get_or-set_other old n h true false differ in (
-      (λ is. inl (sym other ∙ is)),
-      (λ may. elim may [ inl was ↦ other ∙ was | inr same ↦ absurd (differ same) ]),
-    )
-  ],
-)
-
-pub mark_past : (old : List Bool) (n : ℕ) → length old ≤ n → AddsMarks old old (λ h. h ≡ n)
-mark_past old n past = (refl, λ h below. ((λ was. inl was), (λ may. elim may [ inl was ↦ was | inr same ↦ absurd (omega (arith, below, past, same)) ])))
 
 -- Some headers, one after another
 
@@ -116,17 +99,6 @@ changes_next t a b c xs i d x inside is before one =
 
 pub changes_all : (t : Table) (a b : List Bool) (xs : List ℕ) (i : ℕ) → length xs ≤ i → AddsMarks a b (ChangeAmong t (take i xs)) → AddsMarks a b (ChangeAmong t xs)
 changes_all t a b xs i past are = subst (λ (ys : List ℕ). AddsMarks a b (ChangeAmong t ys)) (take_all i xs past) are
-
-pub changes_begin : (t : Table) (a : List Bool) (xs : List ℕ) → AddsMarks a a (ChangeAmong t (take 0 xs))
-changes_begin t a xs = marks_none a (ChangeAmong t (take 0 xs)) (λ h is. Contains-none h is.1)
-
--- one of them
-pub change_one : (t : Table) (a b : List Bool) (x : ℕ) → ChangesSelect t x → AddsMarks a b (λ h. h ≡ x) → AddsMarks a b (λ h. ChangesSelect t h × (h ≡ x))
-change_one t a b x changes one =
-    marks_same a b (λ h. h ≡ x) (λ h. ChangesSelect t h × (h ≡ x)) one (λ h below. ((λ is. is.1), (λ same. (subst (ChangesSelect t) (sym same) changes, same))))
-
-pub change_none : (t : Table) (a : List Bool) (x : ℕ) → (ChangesSelect t x → ⊥) → AddsMarks a a (λ h. ChangesSelect t h × (h ≡ x))
-change_none t a x alike = marks_none a (λ h. ChangesSelect t h × (h ≡ x)) (λ h is. alike (subst (ChangesSelect t) is.1 is.0))
 
 -- Range by range
 
@@ -223,24 +195,6 @@ unwired_marks routes a p none =
     marks_none a (ChangesSelectAt routes p) (λ h is. let clash : None ≡ Some is.1.0 = sym none ∙ is.1.1 in cc)
 
 -- The bounds of random headers
-
-pub random_marks : (routes : Routes) (a b c : List Bool) (p : SwitchPort) (x : Settings) (first end : ℕ) → link_settings routes.settings p ≡ Some x → x.randomize ≡ true → first ≡ x.random_base % header_count routes → end ≡ (x.random_base + random_count x) % header_count routes → AddsMarks a b (λ h. h ≡ first) → AddsMarks b c (λ h. h ≡ end) → AddsMarks a c (BoundsRandomAt routes p)
-random_marks routes a b c p x first end set random low high one two =
-    marks_both a b c (λ h. h ≡ first) (λ h. h ≡ end) (BoundsRandomAt routes p) one two
-    (λ h below. (
-      (λ bounds.
-          let same = Some-settings bounds.0 x (sym bounds.1 ∙ set) in
-          elim (subst (λ (y : Settings). BoundsRandom (header_count routes) y h) same bounds.2).1 [ inl is ↦ inl (is ∙ sym low) | inr is ↦ inr (is ∙ sym high) ]),
-      (λ may. elim may [ inl is ↦ (x, set, (random, inl (is ∙ low))) | inr is ↦ (x, set, (random, inr (is ∙ high))) ]),
-    ))
-
-pub plain_marks : (routes : Routes) (a : List Bool) (p : SwitchPort) (x : Settings) → link_settings routes.settings p ≡ Some x → x.randomize ≡ false → AddsMarks a a (BoundsRandomAt routes p)
-plain_marks routes a p x set plain =
-    marks_none a (BoundsRandomAt routes p)
-    (λ h bounds.
-    let same = Some-settings bounds.0 x (sym bounds.1 ∙ set) in
-    let random : x.randomize ≡ true = subst (λ (y : Settings). y.randomize ≡ true) same bounds.2.0 in
-    let clash : true ≡ false = sym random ∙ plain in cc)
 
 -- Both of an input
 pub input_marks : (routes : Routes) (a b c : List Bool) (p : SwitchPort) → AddsMarks a b (ChangesSelectAt routes p) → AddsMarks b c (BoundsRandomAt routes p) → AddsMarks a c (BreaksAt routes p)

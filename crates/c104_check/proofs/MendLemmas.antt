@@ -9,13 +9,12 @@ use Rattle.std.proofs.lemmas.Option.{get_or_from_slice_get, slice_get-get_or}
 use Rattle.c104_interval.specs.declared.intervals.Select.{Select}
 use Rattle.c104_interval.specs.declared.intervals.Select.TheVariants.{Link}
 use Rattle.c104_plan.specs.declared.ports.Port.{Port}
-use Rattle.c104_plan.specs.declared.ports.Port.TheVariants as port
 use Rattle.c104_check.specs.declared.faults.Shown.{Shown}
 use Rattle.c104_check.specs.declared.walks.Halt.{Halt}
 use Rattle.c104_check.specs.declared.walks.Halt.TheVariants.{Fault}
 use Rattle.c104_check.specs.Distances.{IsNearest, IsNearestBy, IsNearestMend}
-use Rattle.c104_check.specs.Mends.{IsFirstWay, IsFollowedBy, IsMisstep, IsThere, IsWalkKind, IsWrongWay, LandsBy, Mend, Misstep, NoGroupLeads, NoMend, NoMisstep, NoStepFrom, NoWrongWay, WalkKind, goal_of, is_wrong}
-use Rattle.c104_check.specs.Routes.{Routes, SwitchPort, is_in_group, owner, select}
+use Rattle.c104_check.specs.Mends.{IsFirstWay, IsFollowedBy, IsMisstep, IsWalkKind, IsWrongWay, LandsBy, Mend, Misstep, NoGroupLeads, NoMend, NoMisstep, NoStepFrom, NoWrongWay, WalkKind, goal_of}
+use Rattle.c104_check.specs.Routes.{Routes, SwitchPort, owner, select}
 use Rattle.c104_check.specs.Shown.{Comes}
 use Rattle.c104_check.specs.Trails.{IsInput, IsNetwork}
 use Rattle.c104_check.specs.Walking.{IsHalt, fault_on}
@@ -51,44 +50,6 @@ last_is walk xs p d same is =
 
 pub between_true : (first last o : ℕ) → first ≤ o → o ≤ last → (nat_le first o && nat_le o last) ≡ true
 between_true first last o low high = rw (le-leb first o low, le-leb o last high) refl
-
-pub between_parts : (first last o : ℕ) → (nat_le first o && nat_le o last) ≡ true → (first ≤ o) × (o ≤ last)
-between_parts first last o is = (grind (arith, nat_tests), grind (arith, nat_tests))
-
-pub wrong_end : (last : SwitchPort) (goal : Option Goal) → is_wrong last goal None ≡ true
-wrong_end last None = refl
-wrong_end last (Some goal) = refl
-
-pub no_link : (routes : Routes) (h : ℕ) (goal : Option Goal) (at last : SwitchPort) → ((g : ℕ) → select routes at.switch at.link h ≡ Some (Link g) → ⊥) → (IsThere routes h goal at → ⊥) → IsWrongWay routes h goal at last None None
-no_link routes h goal at last none away = ((none, away), wrong_end last goal)
-
-pub by_link : (routes : Routes) (h : ℕ) (goal : Option Goal) (at last : SwitchPort) (g first high link : ℕ) (other : Option Port) → select routes at.switch at.link h ≡ Some (Link g) → ((l : ℕ) → is_in_group routes at.switch g l ≡ (nat_le first l && nat_le l high)) → first ≤ link → link ≤ high → other ≡ routes.peer (port.Switch at.switch link) → is_wrong last goal (routes.peer (port.Switch at.switch link)) ≡ true → IsWrongWay routes h goal at last (Some link) other
-by_link routes h goal at last g first high link other selects members low top wired wrong =
-    ((g, selects, members link ∙ between_true first high link low top, sym wired), ap (is_wrong last goal) wired ∙ wrong)
-
--- of the links of a group below one none is
-pub first_way : (routes : Routes) (h : ℕ) (goal : Option Goal) (at last : SwitchPort) (g first high link : ℕ) → select routes at.switch at.link h ≡ Some (Link g) → ((l : ℕ) → is_in_group routes at.switch g l ≡ (nat_le first l && nat_le l high)) → ((l : ℕ) → first ≤ l → l < link → is_wrong last goal (routes.peer (port.Switch at.switch l)) ≡ false) → IsFirstWay routes h goal at last (Some link)
-first_way routes h goal at last g first high link selects members right = λ l other low leaves.
-    let both : Some (Link g) ≡ Some (Link leaves.0) = sym selects ∙ leaves.1 in
-    let same : leaves.0 ≡ g = cc in
-    let member : (nat_le first l && nat_le l high) ≡ true = sym (members l) ∙ ap (λ x. is_in_group routes at.switch x l) (sym same) ∙ leaves.2 in
-    let within = between_parts first high l member in
-    ap (is_wrong last goal) (sym leaves.3) ∙ right l within.0 low
-
--- an input that selects no link, where it should come
-pub none_there : (routes : Routes) (h : ℕ) (goal : Option Goal) (at last : SwitchPort) → ((g : ℕ) → select routes at.switch at.link h ≡ Some (Link g) → ⊥) → IsThere routes h goal at → NoWrongWay routes h goal at last
-none_there routes h goal at last none there None other leaves = absurd (leaves.1 there)
-none_there routes h goal at last none there (Some l) other leaves = absurd (none leaves.0 leaves.1)
-
--- an input that selects a link, over none of whose group it comes where it shouldn't
-pub not_wrong : (routes : Routes) (h : ℕ) (goal : Option Goal) (at last : SwitchPort) (g first high : ℕ) → select routes at.switch at.link h ≡ Some (Link g) → ((l : ℕ) → is_in_group routes at.switch g l ≡ (nat_le first l && nat_le l high)) → ((l : ℕ) → first ≤ l → l ≤ high → is_wrong last goal (routes.peer (port.Switch at.switch l)) ≡ false) → NoWrongWay routes h goal at last
-not_wrong routes h goal at last g first high selects members right None other leaves = absurd (leaves.0 g selects)
-not_wrong routes h goal at last g first high selects members right (Some l) other leaves =
-    let both : Some (Link g) ≡ Some (Link leaves.0) = sym selects ∙ leaves.1 in
-    let same : leaves.0 ≡ g = cc in
-    let member : (nat_le first l && nat_le l high) ≡ true = sym (members l) ∙ ap (λ x. is_in_group routes at.switch x l) (sym same) ∙ leaves.2 in
-    let within = between_parts first high l member in
-    ap (is_wrong last goal) (sym leaves.3) ∙ right l within.0 within.1
 
 -- a step that is wrong, and none where its input and the walk's last are these
 pub is_misstep : (routes : Routes) (shown : Shown) (n : ℕ) (kind : WalkKind) (o : Option ℕ) (goal : Option Goal) (at last : SwitchPort) (link : Option ℕ) (other : Option Port) → IsWalkKind routes shown kind → o ≡ owner routes shown.header → goal ≡ goal_of kind o → IsFollowedBy shown.walk n at → IsFollowedBy shown.walk 0 last → IsWrongWay routes shown.header goal at last link other × IsFirstWay routes shown.header goal at last link → IsMisstep routes shown n (record { kind = kind; owner = o; at = at; link = link; peer = other })

@@ -1,5 +1,5 @@
 -- Ranks of more inputs, one by one.
-use Rattle.std.proofs.Common.{◌≡◌, ◌≢◌, ℕ, zero, suc, ◌<◌, ◌≤◌, ◌+◌, ◌-◌, ◌*◌, ◌||◌, inl, inr, Bool, true, false, List, [], ◌∷◌, Option, None, Some, length, replicate, slice_set, refl, sym, ap, subst, ◌∙◌, arith}
+use Rattle.std.proofs.Common.{◌≡◌, ◌≢◌, ℕ, zero, suc, ◌<◌, ◌≤◌, ◌+◌, ◌-◌, ◌*◌, inl, inr, true, false, List, [], ◌∷◌, Option, None, Some, length, replicate, slice_set, refl, sym, ap, subst, ◌∙◌, arith}
 use Rattle.std.proofs.lemmas.Bool.{cases_lt}
 use Rattle.std.proofs.lemmas.Bool.Decides.{eqb_tells}
 use Rattle.std.proofs.lemmas.List.{get_or-set_other, get_or-set_same, length-set}
@@ -33,33 +33,6 @@ unranked_set (zero ∷ xs) zero (suc v) inside none some = refl
 unranked_set (suc x ∷ xs) zero (suc v) inside none some = absurd (omega (arith, none))
 unranked_set (zero ∷ xs) (suc k) v inside none some = ap suc (unranked_set xs k v (omega (arith, inside)) none some)
 unranked_set (suc x ∷ xs) (suc k) v inside none some = unranked_set xs k v (omega (arith, inside)) none some
-
-pub pass_none : (table : List (Option Dependency)) (ranks : List ℕ) → ArePartialRanks table ranks → IsRankingPass table ranks ranks false
-pass_none table ranks part = record {
-  room = refl;
-  part = part;
-  fewer = omega arith;
-  less = λ is. absurd (let clash : false ≡ true = is in cc);
-  same = λ _. refl;
-}
-
--- one pass after another
-pub pass_more : (table : List (Option Dependency)) (old now new : List ℕ) (a b : Bool) → IsRankingPass table old now a → IsRankingPass table now new b → IsRankingPass table old new (a || b)
-pass_more table old now new a b before here = record {
-  room = here.room ∙ before.room;
-  part = here.part;
-  fewer = (let x = before.fewer in let y = here.fewer in omega (arith, x, y));
-  less = less a b before.less here.less;
-  same = same a b before.same here.same;
-}
-  where
-    less : (a b : Bool) → (a ≡ true → unranked_count now < unranked_count old) → (b ≡ true → unranked_count new < unranked_count now) → (a || b) ≡ true → unranked_count new < unranked_count old
-    less true b first later is = (let x = first refl in let y = here.fewer in omega (arith, x, y))
-    less false b first later is = (let x = later is in let y = before.fewer in omega (arith, x, y))
-
-    same : (a b : Bool) → (a ≡ false → now ≡ old) → (b ≡ false → new ≡ now) → (a || b) ≡ false → new ≡ old
-    same true b first later is = absurd (let clash : true ≡ false = is in cc)
-    same false b first later is = later is ∙ first refl
 
 -- one input is ranked
 module _ (table : List (Option Dependency)) (old : List ℕ) (at most : ℕ) (inside : at < length old) (none : rank_at old at ≡ 0) (part : ArePartialRanks table old) (ranked : AllLeadToRanked table old at) (above : (d : Dependency) → IsDependencyOf table at d → rank_in old d.next ≤ most) (least : (limit : ℕ) → ((k : ℕ) → rank_at old k ≤ limit) → most ≤ limit) where

@@ -82,13 +82,6 @@ owned_spared routes h t start own spared = let clash : Some t ≡ None = sym own
 
 -- Start by start
 
-pub lands_next : (routes : Routes) (starts : List Start) (h n : ℕ) → LandsBefore routes starts h n → LandsFrom routes starts h n → LandsBefore routes starts h (n + 1)
-lands_next routes starts h n before here k start below at =
-    elim (cases_lt k n) [
-      | inl lower ↦ before k start lower at
-      | inr not ↦ let same : k ≡ n = omega (arith, below, not) in here start (ap (slice_get starts) (sym same) ∙ at)
-    ]
-
 pub first_of_starts : (routes : Routes) (starts : List Start) (h k n : ℕ) (refusal : Refusal) → k < n → LandsBefore routes starts h k → IsRefusal routes starts h k refusal → IsFirstOf routes starts h n refusal
 first_of_starts routes starts h k n refusal below before refused =
     let at = refused.number in

@@ -274,10 +274,6 @@ first_random_of routes starts t p (Some refusal) some wired covers is P = record
   refused = is.refused;
 }
 
-pub all_home_of : (routes : Routes) (t : ℕ) (p : SwitchPort) (found : Option Refusal) → is_some found ≡ false → MatchOption found (AllHome routes p) (IsFirstRandomAt routes t p) → AllHome routes p
-all_home_of routes t p None none is = is
-all_home_of routes t p (Some refusal) none is = absurd cc
-
 some_same : (x y : Settings) → Some x ≡ Some y → x ≡ y
 some_same x y is = cc
 

@@ -4,7 +4,7 @@ use Rattle.std.proofs.lemmas.List.{length-map, take_more}
 use Rattle.std.proofs.lemmas.List.FromFn.{get_or-map-range_with_len, length-map-range_with_len}
 use Rattle.std.proofs.lemmas.Option.{get_or_from_slice_get, slice_get-get_or, slice_get-map, slice_get_read, slice_get_within}
 use Rattle.std.specs.Int.{bit_at}
-use Rattle.c104_interval.specs.declared.intervals.Select.TheVariants.{Link, Discard}
+use Rattle.c104_interval.specs.declared.intervals.Select.TheVariants.{Link}
 use Rattle.c104_crossbar.specs.Groups.{AreMembers, group_contains, has_bit}
 use Rattle.c104_regs.specs.Groups.{continue_bits, continues_at}
 use Rattle.c104_regs.specs.Settings.{header_length}
@@ -15,7 +15,6 @@ use Rattle.c104_check.specs.Checks.{DeletesInside, HasLarge, IsMixed, IsRandomIn
 use Rattle.c104_check.specs.Routes.{IsRandomized, Routes, SwitchPort, has_label, is_in_group, header_count, length_at, length_or_one, link_peers, link_settings, or_no_settings, place, port_at, select, settings_at, settings_in, to_port}
 use Rattle.c104_check.specs.Trails.{AreWays, IsInput, IsNetwork}
 use Rattle.c104_check.specs.Walks.{Goal, peers_that, ways_of}
-use Rattle.c104_check.specs.declared.walks.Goal.TheVariants.{Portal}
 use Rattle.c104_check.proofs.LinkLemmas.{at_place, place_below}
 use Rattle.c104_check.proofs.RangeLemmas.{is_large, large_is, owns_has}
 use Rattle.c104_check.proofs.RouteLemmas.{is_input}
@@ -80,10 +79,6 @@ ways_link routes h t g first last p at members order below =
       below = omega (arith, below);
       are = ap (ways_of routes t p.switch) at ∙ ap (λ test. Some (peers_that routes p.switch test 0 32)) same ∙ ap Some (run_is routes p.switch first last below order);
     }
-
--- a portal, which has no ways on
-pub ways_portal : (routes : Routes) (h : ℕ) (p : SwitchPort) → select routes p.switch p.link h ≡ Some Discard → AreWays routes h Portal p 0 0
-ways_portal routes h p at = record { below = omega arith; are = ap (ways_of routes Portal p.switch) at }
 
 -- Labels, over what is read of the ranges
 

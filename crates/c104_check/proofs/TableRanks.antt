@@ -1,6 +1,6 @@
 -- What the table of dependencies, and ranks that fall along those in it, tell of a network.
 use Rattle.std.proofs.Common.{◌≡◌, ℕ, ◌<◌, ◌+◌, ◌*◌, inl, inr, true, List, Option, None, Some, is_some, length, refl, sym, ap, subst, ◌∙◌, arith}
-use Rattle.c104_check.specs.Cycles.{ArePartialRanks, LeadInside}
+use Rattle.c104_check.specs.Cycles.{ArePartialRanks}
 use Rattle.c104_check.specs.Dependencies.{AreDependencies, AreListedBelow, Dependency, dependency_at, dependency_place}
 use Rattle.c104_check.specs.Ranks.{rank_at, rank_in}
 use Rattle.c104_check.specs.Routes.{IsAccepted, Routes, SwitchPort, header_count, place, port_at, to_port}
@@ -12,14 +12,6 @@ use Rattle.c104_check.proofs.LinkLemmas.{at_place, place_below}
 use Rattle.c104_check.proofs.OwnerLemmas.{owner_owns}
 use Rattle.c104_check.proofs.RandomLemmas.{random_header}
 use Rattle.c104_check.proofs.ReachLemmas.{input_same}
-
-pub lead_inside : (routes : Routes) (table : List (Option Dependency)) (n : ℕ) → IsNetwork routes → AreDependencies routes table → n ≡ length routes.settings * 32 → LeadInside table n
-lead_inside routes table n net dependencies size k d there =
-    let entry = dependencies k d there in
-    let p : SwitchPort = entry.0 in
-    let input = net.inputs (to_port (port_of p.switch entry.1)) d.next entry.5 in
-    let below = place_below (length routes.settings) d.next input in
-    (omega (arith, below, size), input.1)
 
 some_dependency : (o : Option Dependency) → is_some o ≡ true → (d : Dependency) × (o ≡ Some d)
 some_dependency None is = absurd cc

@@ -1,12 +1,10 @@
 -- Which headers refused walks are of.
-use Rattle.std.proofs.Common.{◌≡◌, ◌↔◌, ℕ, ◌<◌, Bool, true, false, not, IsTrue, [], length, Option, Some, refl, sym, ap, subst, ◌∙◌, arith}
-use Rattle.std.proofs.lemmas.Option.{slice_get_within}
-use Rattle.c104_regs.specs.declared.settings.Settings.{Settings}
+use Rattle.std.proofs.Common.{◌≡◌, ◌↔◌, ℕ, ◌<◌, Bool, true, false, not, IsTrue, Option, Some, refl, sym, subst, ◌∙◌}
 use Rattle.c104_check.specs.declared.faults.Shown.{Shown}
 use Rattle.c104_check.specs.declared.walk_kinds.WalkKind.TheVariants.{Own, Random, Behind}
 use Rattle.c104_check.specs.Mends.{WalkKind, WalkBeginsAt, IsWalkKind, IsHomeless, IsRandomWalk, IsWalkBehind, goal_of}
 use Rattle.c104_check.specs.Portals.{is_random_at}
-use Rattle.c104_check.specs.Routes.{Homes, IsEntryOf, IsRandomAt, IsRandomized, Routes, SwitchPort, header_count, link_settings}
+use Rattle.c104_check.specs.Routes.{Homes, IsEntryOf, IsRandomAt, IsRandomized, Routes, SwitchPort, header_count}
 use Rattle.c104_check.proofs.RandomLemmas.{random_at_tells}
 use Rattle.c104_check.proofs.RefusalLemmas.{entry_same}
 
@@ -34,21 +32,6 @@ one_goal routes shown (Random p) (Behind q) o here there = absurd (there.0 p her
 one_goal routes shown (Behind q) Own o here there = refl
 one_goal routes shown (Behind q) (Random p) o here there = absurd (here.0 p there)
 one_goal routes shown (Behind q) (Behind p) o here there = refl
-
--- a walk of no input
-pub no_walk : (routes : Routes) (shown : Shown) → shown.walk ≡ [] → IsWalkKind routes shown Own
-no_walk routes shown empty q (p, wired, random, begins) =
-    let inside = slice_get_within shown.walk 0 q begins in
-    let none : length shown.walk ≡ 0 = ap length empty in
-    absurd (omega (arith, inside, none))
-
--- random headers aren't put before packets where it isn't set
-pub not_randomized : (routes : Routes) (p : SwitchPort) (x : Settings) → link_settings routes.settings p ≡ Some x → x.randomize ≡ false → IsRandomized routes p → ⊥
-not_randomized routes p x set not (y, also, random) =
-    let both : Some x ≡ Some y = sym set ∙ also in
-    let same : x ≡ y = cc in
-    let clash : true ≡ false = sym random ∙ ap (λ (z : Settings). z.randomize) (sym same) ∙ not in
-    absurd cc
 
 pub own_walk : (routes : Routes) (shown : Shown) (p : SwitchPort) → IsEntryOf routes shown.entry p → (IsRandomized routes p → ⊥) → IsWalkKind routes shown Own
 own_walk routes shown p wired plain q (other, also, random, begins) =

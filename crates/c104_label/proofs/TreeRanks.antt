@@ -12,7 +12,7 @@ use Rattle.c104_plan.specs.declared.ports.Port.{Port}
 use Rattle.c104_plan.specs.declared.ports.Port.TheVariants as port
 use Rattle.c104_plan.specs.PlanImage.{Image}
 use Rattle.c104_plan.specs.Plans.{IsPlan, IsTreePlan, Plan}
-use Rattle.c104_plan.specs.Wiring.{IsWiring, peer}
+use Rattle.c104_plan.specs.Wiring.{peer}
 use Rattle.c104_plan.proofs.Wires.{wiring}
 use Rattle.c104_check.specs.declared.ports.SwitchPort.{SwitchPort}
 use Rattle.c104_check.specs.Reach.{IsReached}
@@ -90,12 +90,6 @@ module _ (plan : Plan) (kept : IsPlan plan) (root : ℕ) (is_tree : IsTreePlan r
 
   abbrev At : ℕ → Place → Type 0
   At s p = Stands (ends_of plan) (own_labels (net_of plan)) root forest s p
-
-  abbrev bs : ℕ → ℕ
-  bs s = below_switch plan root forest s
-
-  wires : IsWiring plan
-  wires = wiring plan kept
 
   bs_is : (s : ℕ) (p : Place) → At s p → below_switch plan root forest s ≡ size p.below
   bs_is s p at = ap size_at at.found

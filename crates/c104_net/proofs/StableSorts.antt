@@ -105,10 +105,6 @@ module _ {X : Type 0} where
           let heads : y ≡ z = cc in
           ap (λ x. x ∷ ys) heads ∙ ap (λ xs. z ∷ xs) (again (left heads))
 
-not_less : (e : Bool) → not (is_lt (cond e Equal Greater)) ≡ true
-not_less true = refl
-not_less false = refl
-
 -- two tickets tie where they are equal
 ties_are : (a b : ℕ) → (not (is_lt (nat_cmp a b)) && not (is_lt (nat_cmp b a))) ≡ nat_eq a b
 ties_are a b = by_less (nat_lt a b) refl (nat_lt b a) refl

@@ -13,7 +13,7 @@ use Rattle.c104_run.proofs.BalanceWires.{peer_back, switch_inside}
 use Rattle.c104_net.proofs.Channels.{IsChannel}
 use Rattle.c104_net.proofs.LinkEvents.{world_of}
 use Rattle.c104_net.proofs.NodeViews.{ins, node_phase, outs, phases, terminal_fresh}
-use Rattle.c104_net.proofs.PacketInvariant.{Ghost, IsChosen, IsHeld, IsLabelled, IsPiece, IsWired, Suits, World, beside, group_at}
+use Rattle.c104_net.proofs.PacketInvariant.{Ghost, IsChosen, IsLabelled, IsPiece, IsWired, Suits, World, beside, group_at}
 use Rattle.c104_net.proofs.PlanWires.{wired}
 use Rattle.c104_net.proofs.Promises.{IsSettled, IsStart, each, starts}
 use Rattle.c104_net.proofs.RunSteps.{header_cases, header_positive}
@@ -148,9 +148,6 @@ module _ (plan : Plan) (image : Image) (is_plan : IsPlan plan) (labelled : IsLab
 
   abbrev g : Ghost
   g = good.holds.0
-
-  abbrev inv : IsHeld (routes_of plan image) (world_of plan image nodes) good.holds.0
-  inv = good.holds.1
 
   bound : ℕ
   bound = total (λ s. total (λ l. rank (port_of s l)) 32) (length plan.switches)

@@ -11,7 +11,7 @@ use Rattle.c104_net.proofs.NodeViews.{ins, outs, phases}
 use Rattle.c104_run.proofs.UnreadyEvents.{StandsAt, switch_there, terminal_there, unready_answered}
 use Rattle.c104_run.specs.Balance.{IsSteady, credit_at, granted_at}
 use Rattle.c104_run.specs.Ends.{end_of}
-use Rattle.c104_run.specs.Network.{Network, network_of, terminal_place}
+use Rattle.c104_run.specs.Network.{network_of, terminal_place}
 use Rattle.c104_node.specs.Nodes.{Node}
 use Rattle.c104_run.specs.ReasonMeanings.{IsCreditInReason, IsCreditOutReason, IsEnterReason, IsEventReason, IsLeaveReason, IsSaidAt}
 use Rattle.c104_run.specs.Reasons.{is_unready, network_why}
@@ -115,9 +115,6 @@ module _ {A : Type 0} (S : Switch A) (started : IsStartedSwitch S) where
   no_claim i g b p q is_input is_output below wants none few u r = absurd (rw is_input at r)
 
 module _ {A : Type 0} (kind : Kind A) (plan : Plan) (is_plan : IsPlan plan) (nodes : List (Node A)) (steady : IsSteady (network_of plan nodes)) (started : IsStarted (network_of plan nodes)) (still : IsStill kind (network_of plan nodes)) where
-  abbrev net : Network A
-  net = network_of plan nodes
-
   -- an event that isn't ready has its reason
   reason_of : (e : Event) → IsUnready kind (network_of plan nodes) e → (r : Reason) × IsEventReason (network_of plan nodes) e r
   reason_of e is = by_why (network_why (network_of plan nodes) e) refl

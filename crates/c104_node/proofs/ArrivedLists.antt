@@ -69,12 +69,6 @@ module _ {A : Type 0} where
   inside_more [] o n inside here = (here, tt)
   inside_more (p ∷ os) o n inside here = (inside.0, inside_more os o n inside.1 here)
 
-  -- the place of each is inside
-  pub inside_at : (os : List (OtherOf A)) (n k : ℕ) (o : OtherOf A) → AreInside n os → slice_get os k ≡ Some o → o.place < n
-  inside_at [] n k o inside is = cc
-  inside_at (p ∷ os) n zero o inside is = let same : p ≡ o = cc in subst (λ (q : OtherOf A). q.place < n) same inside.0
-  inside_at (p ∷ os) n (suc k) o inside is = inside_at os n k o inside.1 is
-
   -- a token that is laid over another place, or over this one
   pub other_elsewhere : (os : List (OtherOf A)) (o : OtherOf A) (xs : List A) (k : ℕ) (x : A) → (o.place ≡ k → ⊥) → slice_get (overlaid os xs) k ≡ Some x → slice_get (overlaid (os ++ o ∷ []) xs) k ≡ Some x
   other_elsewhere os o xs k x differ is = ap (λ (ys : List A). slice_get ys k) (overlaid_more os o xs) ∙ set_elsewhere (overlaid os xs) o.place k o.token differ ∙ is

@@ -61,9 +61,6 @@ module _ (plan : Plan) where
   pub linked_more : (nodes more : List (NodeRecord × NodeRoom)) (n : NodeRecord × NodeRoom) → AreLinkedNodes plan nodes → ((l : ℕ) → has_link n.0.wired l ≡ is_linked_end plan (length nodes) l) → more ≡ nodes ++ n ∷ [] → AreLinkedNodes plan more
   linked_more nodes more n before own is = λ k m here. each_more (λ i x. (l : ℕ) → has_link x.0.wired l ≡ is_linked_end plan i l) nodes n before own k m (subst (λ ns. slice_get ns k ≡ Some m) is here)
 
-  pub linked_none : AreLinkedNodes plan []
-  linked_none = λ k n here. absurd (let no : ⊥ = cc in no)
-
 module _ (plan : Plan) (is_plan : IsPlan plan) (nodes : List (NodeRecord × NodeRoom)) (linked : AreLinkedNodes plan nodes) where
   linked_port : (p : Port) → IsPlanPort plan p → is_linked_end plan (port_place plan p) (port_link p) ≡ is_wired plan p
   linked_port (port.Switch s l) inside = let here : nat_lt s (length plan.switches) ≡ true = grind (arith, nat_tests, inside.0) in rw here refl

@@ -1,10 +1,9 @@
 -- Sets of places: what a change of one place changes, and what is passed over; and what they say of nodes.
-use Rattle.std.proofs.Common.{zero, suc, ◌≡◌, ◌≢◌, ◌∙◌, ◌+◌, ◌-◌, ◌/◌, ◌%◌, ◌<◌, ◌≤◌, ◌||◌, ◌&&◌, ◌∷◌, [], ℕ, Bool, true, false, List, Option, get_or, length, nat_le, replicate, slice_set, unwrap_or, refl, ap, inl, inr, arith}
+use Rattle.std.proofs.Common.{zero, suc, ◌≡◌, ◌≢◌, ◌∙◌, ◌-◌, ◌/◌, ◌%◌, ◌<◌, ◌≤◌, ◌||◌, ◌∷◌, [], ℕ, Bool, true, false, List, get_or, length, nat_le, replicate, slice_set, refl, ap, inl, inr, arith}
 use Rattle.std.proofs.lemmas.Bool.{cases_eq, cases_lt}
 use Rattle.std.proofs.lemmas.Bool.Decides.{nat_tests}
 use Rattle.std.proofs.lemmas.List.{get_or-set_other, get_or-set_same}
 use Rattle.c104_crossbar.specs.Groups.{has_bit}
-use Rattle.c104_switch.specs.Claims.{IsNextLink}
 use Rattle.c104_run.specs.LivePlaces.{is_live}
 
 pub get_or-replicated : {X : Type 0} (n i : ℕ) (x d : X) → i < n → get_or (replicate n x) i d ≡ x
@@ -51,27 +50,3 @@ module _ (blocks : List ℕ) where
           rw same (rw at (ap (λ c. nat_le 320 k || c) (others (k % 32) low bit)))
       | inr differs ↦ ap (λ w. nat_le 320 k || has_bit w (k % 32)) (get_or-set_other blocks (place / 32) (k / 32) block 0 differs)
     ]
-
-  -- of the places of a word those are passed over whose bits are, from one on
-  module _ (at : ℕ) (inside : at < 320) (found : Option ℕ) where
-    abbrev word : ℕ
-    word = get_or blocks (at / 32) 0
-
-    unset : (b : Bool) → (b && b) ≡ false → b ≡ false
-    unset true is = is
-    unset false is = refl
-
-    both : (b : Bool) → (b && b) ≡ true → b ≡ true
-    both true is = refl
-    both false is = is
-
-    pub word_passed : IsNextLink (λ l. has_bit word l && has_bit word l) (at % 32) found → (k : ℕ) → at ≤ k → k < at - at % 32 + unwrap_or found 32 → unwrap_or found 32 ≤ 32 → is_live blocks k ≡ false
-    word_passed next k from below last =
-        let same_word : k / 32 ≡ at / 32 = omega arith in
-        told_by k (omega arith) ∙ ap (λ b. has_bit (get_or blocks b 0) (k % 32)) same_word ∙ unset (has_bit word (k % 32)) (next.0 (k % 32) (omega arith) (omega arith))
-
-    pub word_found : (l : ℕ) → l < 32 → (has_bit word l && has_bit word l) ≡ true → is_live blocks (at - at % 32 + l) ≡ true
-    word_found l below is =
-        let same_word : (at - at % 32 + l) / 32 ≡ at / 32 = omega arith in
-        let same_link : (at - at % 32 + l) % 32 ≡ l = omega arith in
-        told_by (at - at % 32 + l) (omega arith) ∙ ap (λ b. has_bit (get_or blocks b 0) ((at - at % 32 + l) % 32)) same_word ∙ ap (has_bit word) same_link ∙ both (has_bit word l) is

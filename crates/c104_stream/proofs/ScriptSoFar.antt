@@ -1,5 +1,5 @@
 -- A script as it is read and answered: how far it is, and what it comes to.
-use Rattle.std.proofs.Common.{◌≡◌, ℕ, zero, suc, ◌+◌, ◌-◌, ◌<◌, ◌≤◌, ◌==◌, false, true, List, [], ◌∷◌, ◌++◌, length, nat_lt, take, Option, Some, None, Ok, Err, sym, ap, ◌∙◌, refl, subst, arith}
+use Rattle.std.proofs.Common.{◌≡◌, ℕ, zero, suc, ◌+◌, ◌-◌, ◌<◌, ◌≤◌, ◌==◌, false, true, List, [], ◌∷◌, ◌++◌, length, nat_lt, take, Option, Some, None, Ok, Err, sym, ap, ◌∙◌, subst, arith}
 use Rattle.std.proofs.lemmas.Bool.Decides.{nat_tests}
 use mathlib.Core.List.{append-nil, append_assoc}
 use Rattle.std.proofs.lemmas.List.{length-append}
@@ -10,8 +10,8 @@ use Rattle.c104_stream.specs.declared.halt.Halt.TheVariants as halt
 use Rattle.c104_stream.specs.ScriptLines.{JoinsLine, whole_lines, last_line, lines_within, script_lines, most_script}
 use Rattle.c104_stream.specs.Scripts.{Answering, LinesEnd, LineStops, lines_outcome}
 use Rattle.c104_stream.specs.Writing.{AppendsAndKeeps, AppendsPrefix}
-use Rattle.std.proofs.KnownBytes.{Consumes-trans, Consumes-nil}
-use Rattle.c104_stream.proofs.Prefixes.{kept_next, kept_on, kept_only, kept_stops, kept_fails, prefix_longer}
+use Rattle.std.proofs.KnownBytes.{Consumes-trans}
+use Rattle.c104_stream.proofs.Prefixes.{kept_next, kept_on, kept_stops, kept_fails, prefix_longer}
 use Rattle.c104_stream.proofs.ScriptLines.{HasNoFeed, before_feed, whole_piece, last_piece, whole_feed, last_feed, lines_after, shown_after, text_on, state_on}
 
 -- one more line after these
@@ -60,9 +60,6 @@ pub record Reached {S : Type 0} (answer : Answering S) (all now held holds : Opt
 -- the line by another name
 pub reached_text : {S : Type 0} {answer : Answering S} {all now held holds : Option (List ℕ)} {kept : List ℕ} {start state : S} {number left : ℕ} (line text : List ℕ) → text ≡ line → Reached answer all now held holds kept start state number line left → Reached answer all now held holds kept start state number text left
 reached_text line text is reached = record { read = reached.read; consumed = reached.consumed; counted = reached.counted; is_line = is ∙ reached.is_line; is_number = reached.is_number; is_state = reached.is_state; wrote = reached.wrote; few = reached.few }
-
-pub reached_first : {S : Type 0} (answer : Answering S) (all held : Option (List ℕ)) (kept : List ℕ) (start : S) → kept ≡ [] → Reached answer all all held held kept start start 1 [] most_script
-reached_first answer all held kept start none = record { read = []; consumed = Consumes-nil all; counted = omega arith; is_line = refl; is_number = refl; is_state = refl; wrote = subst (λ xs. AppendsAndKeeps held held kept xs) none (kept_only held kept); few = omega arith }
 
 module _ {S : Type 0} {answer : Answering S} {all now held holds : Option (List ℕ)} {kept : List ℕ} {start state : S} {number left : ℕ} {line : List ℕ} (reached : Reached answer all now held holds kept start state number line left) where
   abbrev so_far : List ℕ × S

@@ -2,7 +2,6 @@
 use Rattle.c104_plan.specs.Plans.{Plan}
 use Rattle.c104_event.specs.declared.events.Event.{Event}
 use Rattle.c104_event.specs.declared.faults.EventFault.{EventFault}
-use Rattle.c104_run.specs.NodeParts.{round_part}
 use Rattle.c104_switch.specs.Actions.{Reply, is_ready}
 use Rattle.c104_tickets.specs.Tickets.{TableId}
 use Rattle.c104_workers.specs.Calls.{IsSameSeat, SeatView}
@@ -13,9 +12,9 @@ use Rattle.c104_workers.specs.SeatGrowth.{Grew, GrewBy}
 use Rattle.c104_workers.specs.Working.{HasWorked, IsOwnEvent}
 use Rattle.c104_audit.specs.declared.calls.Call.{Call}
 use Rattle.c104_workers.proofs.SeatGrowth.{same_on, same_seat, same_self}
-use Rattle.std.proofs.Common.{All, Bool, Err, List, Ok, Option, Result, [], ap, arith, false, length, slice_index_or, subst, suc, sym, true, zero, ℕ, ◌%◌, ◌++◌, ◌<◌, ◌∙◌, ◌∷◌, ◌≡◌}
+use Rattle.std.proofs.Common.{Bool, Err, List, Ok, Result, [], ap, arith, false, length, slice_index_or, subst, suc, sym, true, zero, ℕ, ◌++◌, ◌<◌, ◌∙◌, ◌∷◌, ◌≡◌}
 use Rattle.std.proofs.lemmas.List.{append-nil, append_assoc}
-use Rattle.std.proofs.lemmas.List.Elements.{All-append, All-cons, All-contains_itself, All-nil}
+use Rattle.std.proofs.lemmas.List.Elements.{All-append, All-cons, All-nil}
 
 -- what holds of all seats holds of each, and the other way round
 pub seat_at : (word_id : TableId) (seats : List (SeatView × ℕ)) (i : ℕ) (d : SeatView × ℕ) → AreSeatsOf word_id seats → i < length seats → IsSeatOf word_id (slice_index_or seats i d)
@@ -28,10 +27,6 @@ seats_all word_id [] each = tt
 seats_all word_id (s ∷ seats) each = (each 0 s (omega arith), seats_all word_id seats (λ i d inside. each (suc i) d (omega (arith, inside))))
 
 module _ (plan : Plan) (n i : ℕ) where
-  -- the events of a node of its own are a worker's
-  pub part_own : (k : ℕ) → k % n ≡ i → All (IsOwnEvent plan n i) (round_part plan k)
-  part_own k own = λ j d inside. record { node = k; own = own; part = All-contains_itself (round_part plan k) j d inside }
-
   -- nothing was done
   pub none_worked : (s : SeatView) → HasWorked plan n i s s
   none_worked s = record { same = same_self s; more = []; listed = sym (append-nil s.calls); own = All-nil (λ (c : Call). IsOwnEvent plan n i c.event) }
@@ -58,10 +53,6 @@ module _ (plan : Plan) (n i : ℕ) where
       }
       by_ready same false is = subst (HasWorked plan n i s) (sym is) (none_worked s)
   event_worked s t e (Err f) own same = subst (HasWorked plan n i s) (sym same) (none_worked s)
-
-  -- that a seat keeps why its worker stopped changes nothing of it
-  pub stop_worked : (s t u : SeatView) (end : Option EventFault) → HasWorked plan n i s t → u ≡ record t { stopped = end } → HasWorked plan n i s u
-  stop_worked s t u end worked is = subst (HasWorked plan n i s) (sym is) (record { same = record { word_id = worked.same.word_id; terms = worked.same.terms; number = worked.same.number }; more = worked.more; listed = worked.listed; own = worked.own })
 
   -- the seat of a worker stays one of the fabric
   pub seat_stays : (word_id : TableId) (before argument left after : SeatView × ℕ) → argument ≡ before → HasWorked plan n i argument.0 left.0 → left ≡ after → IsSeatOf word_id before → IsSeatOf word_id after
