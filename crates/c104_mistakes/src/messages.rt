@@ -38,8 +38,8 @@ pub trait Messages {
     /// Takes a message, without a line feed at its end.
     fn tell(&mut self, about: About, message: &str);
 
-    /// Takes the number of rounds done so far, of the count that a line of the script asks for. It is called again and
-    /// again while they go on.
+    /// Takes the number of rounds done so far, of the count that a line of the script asks for; or, where the line is 0, of
+    /// a storm's turns. It is called again and again while they go on.
     fn progress(&mut self, line: usize, done: u32, count: u32);
 
     /// Saves a picture that a person asks for as a file of this name, in place of one that is there. The error says why it

@@ -21,7 +21,7 @@ pub fn packet_color(packet: Option<Origin>) -> &'static str
     }
 }
 
-/// The colour of a number.
+/// The colour of a number, 0 to 5; of a larger one that of 5.
 pub fn color_by(number: usize) -> &'static str
     ensures { result.now ≡ color_by number }
 {
@@ -40,7 +40,7 @@ pub fn color_by(number: usize) -> &'static str
     }
 }
 
-/// The pattern of a packet: plain, dashed, double, or double and dashed.
+/// The pattern of a packet, 0 to 3: plain, dashed, double, or double and dashed.
 pub fn pattern(packet: Option<Origin>) -> usize
     ensures { result ≡ pattern packet }
 {

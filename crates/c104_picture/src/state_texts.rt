@@ -196,7 +196,7 @@ fn add_far_name(
     }
 }
 
-/// A port joins a text, with its link.
+/// A port joins a text, with its link. The only error is out of memory.
 pub fn add_port(plan: &Plan, port: Port, text: &mut String) -> Result<(), AllocError>
     ensures { OnOk result (string_bytes text.new ≡ string_bytes text.old ++ port_text plan.now port) }
 {
@@ -219,7 +219,8 @@ fn add_holder(plan: &Plan, hold: Hold, text: &mut String) -> Result<(), AllocErr
     text.push_str("\\n")
 }
 
-/// A packet joins a text: the terminal that sent it, and its number there.
+/// A packet joins a text: the terminal that sent it, and its number there, or `?` where it isn't known. The only error is
+/// out of memory.
 pub fn add_packet(plan: &Plan, packet: Option<Origin>, text: &mut String) -> Result<(), AllocError>
     ensures { OnOk result (string_bytes text.new ≡ string_bytes text.old ++ packet_text plan.now packet) }
 {

@@ -24,7 +24,9 @@ pub enum Asked<'a, T> {
     Joint(usize, usize, Joint),
 }
 
-/// What an event asks; or why it can't happen, whatever the nodes hold: NoNode, NoLink, NotWired or TooLong.
+/// What an event asks; or why it can't happen, whatever the nodes hold: NoNode where the plan has no such switch or
+/// terminal, NoLink where a link's number is 32 or more, NotWired where a port has no wire, or TooLong for a packet or a
+/// command that has too many bytes.
 #[inline(always)]
 pub fn acts_of<'a, T: TokenKind>(
     wires: &Wires,

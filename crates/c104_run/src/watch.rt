@@ -2,7 +2,7 @@
 
 /// Who is told of each round as it is done. Nothing is promised of it, and no contract speaks of it.
 pub trait Watch {
-    /// Takes the number of rounds done so far, of this count.
+    /// Takes the number of rounds done so far, 1 to `count`, of this count.
     fn rounds_done(&mut self, done: u32, count: u32);
 }
 

@@ -56,7 +56,7 @@ pub struct Order<'a> {
     pub all: bool,
     /// Whether labels are shown as a description by `row` lines.
     pub rows: bool,
-    /// How many workers a storm is to have, if that is said.
+    /// How many workers a storm is to have, 1 to 64, if that is said.
     pub workers: Option<u8>,
     /// The traffic of which a script is to be printed.
     pub traffic: TrafficWords<'a>,
@@ -142,6 +142,7 @@ the default on a terminal";
 /// The names of arguments, as help shows them.
 const DESCRIPTION: &str = "DESC";
 
+/// The same of a script, which other words are bound to.
 pub const SCRIPT: &str = "SCRIPT";
 
 /// The option of all dependencies.

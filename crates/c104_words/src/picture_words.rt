@@ -15,9 +15,9 @@ pub struct PictureWords {
     pub state: bool,
     /// Whether it is of a script's run over its rounds.
     pub over_time: bool,
-    /// The first of these, if it is said.
+    /// The first of these that is drawn, from 0 for what comes before the first round, if it is said.
     pub from: Option<u32>,
-    /// The last of these, if it is said.
+    /// The last of these that is drawn, if it is said.
     pub to: Option<u32>,
 }
 

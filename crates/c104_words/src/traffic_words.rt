@@ -115,7 +115,7 @@ const PATTERNS: [PatternRow; 6] = [
     },
 ];
 
-/// The pattern of this name.
+/// The pattern of this name. None where there is no such pattern.
 pub fn pattern_of(word: &str) -> Option<PatternName> {
     for row in PATTERNS {
         if row.word == word {
