@@ -11,9 +11,9 @@ ghost use Rattle.c104_node.specs.declared.acts.Entry.{Entry as TheEntry};
 
 use c104_control::ControlBytes;
 use c104_event::{Event, Port};
-use c104_node::{Act, Entry, SentPacket};
+use c104_node::{Act, Entry};
 use c104_switch::{Action, ActionOf};
-use c104_token::{Items, NoMemory, Packet};
+use c104_token::{Items, NoMemory};
 use std::alloc::Global;
 
 /// An entry that leads: its ticket, the place of its node, and its place in the trace there.

@@ -13,7 +13,7 @@ use crate::live_places::LivePlaces;
 use crate::recorded_net::RecordedNet;
 use crate::recorded_place::retire_places;
 use crate::wires::Wires;
-use c104_node::{CountedNode, Origin, TaggedToken, tagged_origins};
+use c104_node::{CountedNode, TaggedToken};
 use c104_plan::Plan;
 use c104_token::NoMemory;
 use nodes::add_new_nodes;

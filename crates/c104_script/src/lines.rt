@@ -7,7 +7,7 @@ use crate::places::{Request, find_input, find_port, find_switch, find_terminal};
 use crate::probe_lines::read_probe;
 use crate::words::{Verb, read_bytes, read_number_word, read_place, read_verb};
 use c104_control::MAX_CONTROL_BYTES;
-use c104_event::{Event, Port};
+use c104_event::Event;
 use c104_plan::{Plan, cut_words, is_plain, uncommented};
 use c104_token::parse_words;
 use std::alloc::Global;

@@ -13,7 +13,7 @@ use crate::acts::ActOf;
 use crate::node::NodeOf;
 use crate::port_part::PortPart;
 use crate::terminal::SpareOf;
-use c104_switch::{ActionOf, LinkSet, ReplyOf};
+use c104_switch::{LinkSet, ReplyOf};
 use c104_token::{NoMemory, TokenKind};
 
 impl<T: TokenKind> NodeOf<T> {

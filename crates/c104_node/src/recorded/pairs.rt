@@ -10,7 +10,6 @@ use super::{Node, has_link};
 use crate::crossings::{Joint, can_far, can_near, far_act, near_act};
 use c104_event::Port;
 use c104_switch::Reply;
-use c104_token::NoMemory;
 
 impl Node {
     /// Whether the act at the near port of what crosses a wire would be done, if no limit refuses it.
