@@ -25,7 +25,7 @@ pub use c104_storm_command::storm_command;
 use c104_stream::{ReadFault, read_up_to};
 use c104_words::{Order, STANDARD_INPUT, Subcommand, Words, pattern_of};
 use clap::error::ErrorKind;
-use opening::{is_closed, open_both, open_path};
+use opening::{HostSource, is_closed, open_both, open_path};
 use pairs::{count_files, draw_files, storm_files, time_files};
 use sources::Watched;
 use std::io::{Input, IsTerminal};
@@ -164,19 +164,40 @@ fn debug_file(rt: &HostRuntime, description: &str, told: &mut Told<'_>) -> Statu
     let Some(mut description) = open_path(rt, description, told) else {
         return Status::CannotRead(0);
     };
-    let mut script = Watched::new(rt.reader());
-    let mut writer = io::writer(rt);
     let status = if told.are_asked() {
-        let mut typed = Typed::new(rt, script);
-        debug_command(rt.alloc(), &mut description, &mut typed, &mut writer, told)
+        debug_typed(rt, &mut description, told)
     } else {
-        let status = debug_command(rt.alloc(), &mut description, &mut script, &mut writer, told);
-        told.note_fault(script.fault());
-        status
+        debug_lines(rt, &mut description, told)
     };
     if description.fault().is_some() {
         told.note_fault(description.fault());
     }
+    status
+}
+
+/// Runs a description and a script that a person types.
+fn debug_typed(rt: &HostRuntime, description: &mut HostSource, told: &mut Told<'_>) -> Status {
+    let mut script = Typed::new(rt, Watched::new(rt.reader()));
+    debug_command(
+        rt.alloc(),
+        description,
+        &mut script,
+        &mut io::writer(rt),
+        told,
+    )
+}
+
+/// Runs a description and a script that nobody types.
+fn debug_lines(rt: &HostRuntime, description: &mut HostSource, told: &mut Told<'_>) -> Status {
+    let mut script = Watched::new(rt.reader());
+    let status = debug_command(
+        rt.alloc(),
+        description,
+        &mut script,
+        &mut io::writer(rt),
+        told,
+    );
+    told.note_fault(script.fault());
     status
 }
 
