@@ -10,7 +10,7 @@ returns-in-Some-clause-refused c = (
     some = subst (λ (senders : List ℕ). 0 < length senders) c.in_ok-senders.ensures
         (some_items c.in_ok-senders.senders.len c.in_ok-senders.senders.items c.in_ok-senders.senders.ok.0 (sym c.is_empty.ensures ∙ c.if-is_empty.false));
   },
-  c.in-Some.ensures,
+  c.in-Some.ensures.labels,
 )
 
 pub returns-in-None-clause-schedule : goal.returns-in-None-clause-schedule
@@ -20,4 +20,5 @@ returns-in-None-clause-schedule c = record {
   senders = c.in_ok-senders.ensures;
   some = some_items c.in_ok-senders.senders.len c.in_ok-senders.senders.items c.in_ok-senders.senders.ok.0 (sym c.is_empty.ensures ∙ c.if-is_empty.false);
   labels = c.in-None.ensures.labels;
+  ranges = c.in-None.ensures.ranges;
 }
