@@ -20,7 +20,8 @@ use Rattle.c104_commands.specs.declared.status.Status.{Status}
 use Rattle.c104_commands.specs.declared.status.Status.TheVariants as status
 
 -- the script of traffic of a network that can have the pattern of this name: some terminal sends by it, and each has a
--- header that leads to it. A script's reader reads just these packets of it, and each goes from a terminal to a terminal
+-- header that leads to it. A script's reader reads just these packets of it, and each goes from a terminal to a terminal,
+-- by a label that this owns
 pub record IsScript (name : PatternName) (target : List ℕ) (traffic : Traffic) (plan : Plan) (image : Image) (text : List ℕ) : Type 0 where
   pub pattern : Pattern
   pub named : IsPatternOf plan name target pattern

@@ -1,6 +1,7 @@
 //! The command that writes a script of traffic for a description's network.
 ghost use Rattle.std.specs.Prelude.{◌≡◌, true, false, Ok, Result, count_by};
 ghost use Rattle.c104_plan.specs.Plans.{Plan as ThePlan};
+ghost use Rattle.c104_plan.specs.PlanImage.{Fits};
 ghost use Rattle.c104_describe.specs.declared.faults.PlanFault.{PlanFault as ThePlanFault};
 ghost use Rattle.c104_traffic.specs.declared.faults.TrafficFault.TheVariants as the_fault;
 ghost use Rattle.c104_traffic.specs.Packets.{IsTraffic};
@@ -59,7 +60,8 @@ fn write_setup<W: Write, M: Messages>(
     writer: &mut W,
     messages: &mut M,
 ) -> Status
-    requires { IsTraffic traffic }
+    requires traffic { IsTraffic traffic }
+    requires fits { Fits setup.now.image setup.now.plan }
     ensures { (due : Result ThePlan ThePlanFault) → ComesTo due (Ok (setup.now.plan, setup.now.image))
         → CommandEnds (PrintsTraffic name target.now traffic) due (W.contents writer.old) (W.contents writer.new) result }
 {
@@ -87,6 +89,7 @@ fn write_schedule<W: Write>(
 ) -> Status
     requires traffic { IsTraffic traffic }
     requires schedule { IsSchedule setup.now.plan setup.now.image traffic.own schedule.now }
+    requires fits { Fits setup.now.image setup.now.plan }
     ensures ends { ScriptEnds (traffic_text setup.now.plan setup.now.image schedule.now.pattern traffic)
         (W.contents writer.old) (W.contents writer.new) result }
     ensures read { IsReadAs setup.now.plan (traffic_text setup.now.plan setup.now.image schedule.now.pattern traffic)

@@ -75,7 +75,7 @@ impl Growing for Writing<'_> {
     }
 }
 
-/// Writes a script by a schedule that is found before. None where there is none.
+/// Writes a script by a schedule that is found before. None where there is none, or the image is for another plan.
 fn write(
     alloc: Global,
     plan: &Plan,
@@ -83,6 +83,9 @@ fn write(
     refusal: Refusal,
     page: &mut Page,
 ) -> Option<Result<(), Halt>> {
+    if !image.fits(plan) {
+        return None;
+    }
     let schedule = neighbours(alloc, plan, image).ok()?;
     refusal.begin(alloc);
     let written = write_traffic(alloc, plan, image, two_packets(), &schedule, page);

@@ -1,18 +1,21 @@
 -- Where the packets of traffic go: from a terminal to a terminal, which is another one unless that is asked for.
-use Rattle.std.proofs.Common.{◌≡◌, ◌≢◌, ◌⊎◌, inl, inr, ℕ, zero, suc, ◌+◌, ◌-◌, ◌*◌, ◌/◌, ◌%◌, ◌^◌, ◌<◌, ◌≤◌, ◌==◌, ◌||◌, Bool, true, false, cond, not, List, [], ◌∷◌, filter, length, map, take, All, nat_lt, sym, subst, ap, ◌∙◌, refl, arith}
+use Rattle.std.proofs.Common.{◌≡◌, ◌≢◌, ◌⊎◌, inl, inr, ℕ, zero, suc, ◌+◌, ◌-◌, ◌*◌, ◌/◌, ◌%◌, ◌^◌, ◌<◌, ◌≤◌, ◌==◌, ◌||◌, Bool, true, false, cond, not, List, [], ◌∷◌, filter, length, map, get_or, slice_get, take, All, nat_lt, Some, IfSome, sym, subst, ap, ◌∙◌, refl, arith}
 use Rattle.std.specs.List.{range_with_len}
 use Rattle.std.proofs.lemmas.Bool.{cases_lt}
 use Rattle.std.proofs.lemmas.Bool.Decides.{nat_tests}
 use Rattle.std.proofs.lemmas.List.Elements.{filter_passes}
 use Rattle.std.proofs.lemmas.Nat.{mod_below}
-use Rattle.std.proofs.lemmas.Option.{unwrap_or-slice_get}
+use Rattle.std.proofs.lemmas.Option.{slice_get-get_or, unwrap_or-slice_get}
+use Rattle.std.specs.Option.{option_map_or}
 use Rattle.c104_switch.specs.Headers.{header_number}
-use Rattle.c104_plan.specs.Plans.{IsPlan, Plan}
-use Rattle.c104_plan.specs.PlanImage.{Image}
+use Rattle.c104_plan.specs.Plans.{IsPlan, IsRange, Plan}
+use Rattle.c104_plan.specs.PlanImage.{Fits, Image}
+use Rattle.c104_check.specs.Routes.{Owns, has_label, routes_of}
+use Rattle.c104_check.proofs.RangeLemmas.{is_has}
 use Rattle.c104_traffic.specs.Packets.{Traffic, byte_at, first_label, header_values, packet_of, packet_word, sender_at, target_at}
 use Rattle.c104_traffic.specs.Patterns.{IsPatternFor, Pattern}
 use Rattle.c104_traffic.specs.Requests.{AreDirected}
-use Rattle.c104_traffic.specs.Schedules.{AreLabelled}
+use Rattle.c104_traffic.specs.Schedules.{AreLabelled, HaveRanges}
 use Rattle.c104_traffic.specs.Targets.{behind, choices, is_sender, pick, senders_of, target_of}
 use Rattle.c104_traffic.specs.declared.patterns.Pattern.TheVariants as pattern
 use Rattle.c104_traffic.proofs.SentReads.{packet_size}
@@ -83,18 +86,31 @@ header_is (suc (suc zero)) bytes label number some few small =
     ap (λ n. header_number (take 2 (map (byte_at 2 label number) (range_with_len 0 n)))) longer ∙ omega arith
 header_is (suc (suc (suc header))) bytes label number some few small = absurd (omega arith)
 
-pub are_directed : (plan : Plan) (image : Image) (p : Pattern) (traffic : Traffic) → IsPlan plan → IsPatternFor (length plan.terminals) p → 0 < length (senders_of p traffic.own (length plan.terminals)) → AreLabelled plan image → AreDirected plan image p traffic
-are_directed plan image p traffic kept fits some labels number inside =
+-- a terminal owns its first label, where the image has a range for it
+owns_first : (plan : Plan) (image : Image) (t : ℕ) → HaveRanges plan image → Fits image plan → t < length plan.terminals → Owns (routes_of plan image) t (first_label image t)
+owns_first plan image t ranges for_plan inside =
+    let range = get_or image.ranges t (0, 0) in
+    let at : slice_get image.ranges t ≡ Some range = slice_get-get_or image.ranges t (0, 0) (omega (arith, inside, for_plan.ranges)) in
+    let is : IsRange range.0 range.1 = subst (λ found. IfSome found (λ (r : ℕ × ℕ). IsRange r.0 r.1)) at (ranges t inside) in
+    let first : first_label image t ≡ range.0 = ap (λ found. option_map_or (λ (r : ℕ × ℕ). r.0) found 0) at in
+    (range, at, subst (λ h. has_label range h ≡ true) (sym first) (is_has range range.0 (omega arith) (omega (arith, is.0))))
+
+pub are_directed : (plan : Plan) (image : Image) (p : Pattern) (traffic : Traffic) → IsPlan plan → IsPatternFor (length plan.terminals) p → 0 < length (senders_of p traffic.own (length plan.terminals)) → AreLabelled plan image → HaveRanges plan image → Fits image plan
+    → AreDirected plan image p traffic
+are_directed plan image p traffic kept fits some labels ranges for_plan number inside =
     let count = length plan.terminals in
     let senders = senders_of p traffic.own count in
     let s = sender_at senders number in
     let from : s < count = sender_inside p traffic.own count senders number refl some in
     let to : target_at p traffic count senders number < count = target_inside p traffic.own count s (number / length senders) (packet_word traffic.seed number) fits from in
-    let label = first_label image (target_at p traffic count senders number) in
+    let target = target_at p traffic count senders number in
+    let label = first_label image target in
+    let header : header_number (take plan.header (packet_of plan traffic.bytes label number).bytes) ≡ label = header_is plan.header traffic.bytes label number kept.header.0 kept.header.1 (labels target to) in
     record {
       from = from;
       to = to;
-      header = header_is plan.header traffic.bytes label number kept.header.0 kept.header.1 (labels (target_at p traffic count senders number) to);
+      header = header;
+      owned = subst (λ h. Owns (routes_of plan image) target h) (sym header) (owns_first plan image target ranges for_plan to);
       size = packet_size plan traffic.bytes label number;
       apart = λ other. by_own traffic.own other (sends_apart p traffic.own count s (sender_passes p traffic.own count number some) other) from;
     }

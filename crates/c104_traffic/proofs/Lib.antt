@@ -8,5 +8,6 @@ mod TerminalNames
 mod ScriptNumbers
 mod ScriptLines
 mod SentReads
+mod ScriptCut
 mod Directions
 mod Scripts

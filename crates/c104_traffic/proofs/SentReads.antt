@@ -26,7 +26,7 @@ use Rattle.c104_script.specs.declared.faults.LineFault.TheVariants as fault
 use Rattle.c104_script.specs.declared.places.Request.{Request}
 use Rattle.c104_script.specs.declared.places.Request.TheVariants.{Asked, Rounds}
 use Rattle.c104_traffic.specs.Packets.{Sent, byte_at, packet_of}
-use Rattle.c104_traffic.specs.Requests.{IsReadAs, read_as, rounds_requests, sent_requests}
+use Rattle.c104_traffic.specs.Requests.{AreReadAs, read_as, rounds_requests, sent_requests}
 use Rattle.c104_traffic.specs.Texts.{hex_word, rounds_text, send_text, sent_text}
 use Rattle.c104_traffic.proofs.ScriptLines.{dots_none, first_line, first_word, in_line, is_line_byte, is_word_byte, last_word, name_long, name_word, packet_words_are, read_by_words, read_nothing}
 use Rattle.c104_traffic.proofs.ScriptNumbers.{decimal_digits, decimal_long, read_decimal}
@@ -186,7 +186,7 @@ sent_reads plan kept bytes number sent rest few rounds inside =
 
 -- those of a range of numbers, of which each is read so
 pub all_read : (plan : Plan) (text : ℕ → List ℕ) (asks : ℕ → List Request) → ((k : ℕ) (rest : List ℕ) → map (read_script_line plan) (lines (text k ++ rest)) ≡ map read_as (asks k) ++ map (read_script_line plan) (lines rest))
-    → (first count : ℕ) → IsReadAs plan (flat_map text (range_with_len first count)) (flat_map asks (range_with_len first count))
+    → (first count : ℕ) → AreReadAs plan (lines (flat_map text (range_with_len first count))) (flat_map asks (range_with_len first count))
 all_read plan text asks each first zero = ap (λ read. read ∷ []) (read_nothing plan)
 all_read plan text asks each first (suc count) =
     let rest = flat_map text (range_with_len (first + 1) count) in

@@ -57,11 +57,18 @@ pub record HasNoSender (plan : Plan) (name : PatternName) (target : List ℕ) (o
   pub named : IsPatternOf plan name target pattern
   pub none : senders_of pattern own (length plan.terminals) ≡ []
 
--- this is why a network has no schedule for a pattern of this name
+-- the network can have the pattern, and some terminal sends by it
+pub record HasSender (plan : Plan) (name : PatternName) (target : List ℕ) (own : Bool) : Type 0 where
+  pub pattern : Pattern
+  pub named : IsPatternOf plan name target pattern
+  pub some : 0 < length (senders_of pattern own (length plan.terminals))
+
+-- this is why a network has no schedule for a pattern of this name: the first of several faults. That a label is no header
+-- is told only of a pattern that the network can have, and by which some terminal sends
 abbrev pub IsTrafficFault : Plan → Image → PatternName → List ℕ → Bool → TrafficFault → Type 0
 IsTrafficFault plan image name target own fault.NotSquare = IsNoPattern plan name target fault.NotSquare
 IsTrafficFault plan image name target own fault.NotPowerOfTwo = IsNoPattern plan name target fault.NotPowerOfTwo
 IsTrafficFault plan image name target own fault.NoTerminal = IsNoPattern plan name target fault.NoTerminal
 IsTrafficFault plan image name target own fault.NoTarget = HasNoSender plan name target own
-IsTrafficFault plan image name target own (fault.NoLabel t) = IsFirstUnlabelled plan image t
+IsTrafficFault plan image name target own (fault.NoLabel t) = HasSender plan name target own × IsFirstUnlabelled plan image t
 IsTrafficFault plan image name target own fault.NoMemory = ⊤

@@ -8,6 +8,8 @@ use Rattle.c104_switch.specs.Headers.{header_number}
 use Rattle.c104_plan.specs.Plans.{Plan}
 use Rattle.c104_plan.specs.PlanImage.{Image}
 use Rattle.c104_plan.specs.TextCut.{lines}
+use Rattle.c104_check.specs.Routes.{Owns, routes_of}
+use Rattle.c104_stream.specs.ScriptLines.{most_script, script_lines}
 use Rattle.c104_event.specs.declared.events.Event.TheVariants as event
 use Rattle.c104_script.specs.Script.{read_script_line}
 use Rattle.c104_script.specs.declared.faults.LineFault.{LineFault}
@@ -40,16 +42,23 @@ traffic_requests plan image pattern traffic =
 abbrev pub read_as : Request → Result (Option Request) LineFault
 read_as request = Ok (Some request)
 
--- read line by line, a text asks these requests in order, and nothing behind its last line feed
-abbrev pub IsReadAs : Plan → List ℕ → List Request → Type 0
-IsReadAs plan text requests = map (read_script_line plan) (lines text) ≡ map read_as requests ++ Ok None ∷ []
+-- lines ask these requests in order, and the last one nothing
+abbrev pub AreReadAs : Plan → List (List ℕ) → List Request → Type 0
+AreReadAs plan cut requests = map (read_script_line plan) cut ≡ map read_as requests ++ Ok None ∷ []
 
--- a packet goes from a terminal to a terminal: its header is the first label of that, and a given number of bytes is
--- behind it; and the two are different ones, unless a terminal may send to itself
+-- read line by line, a text asks these requests in order, and nothing behind its last line feed; and if it is no longer than
+-- a script may be, so do the lines that the reader of scripts has of it
+pub record IsReadAs (plan : Plan) (text : List ℕ) (requests : List Request) : Type 0 where
+  pub by_lines : AreReadAs plan (lines text) requests
+  pub as_script : length text ≤ most_script → AreReadAs plan (script_lines text) requests
+
+-- a packet goes from a terminal to a terminal: its header is the first label of that, which that terminal owns, and a given
+-- number of bytes is behind it; and the two are different ones, unless a terminal may send to itself
 pub record IsDirected (plan : Plan) (image : Image) (own : Bool) (bytes sender target : ℕ) (packet : Packet) : Type 0 where
   pub from : sender < length plan.terminals
   pub to : target < length plan.terminals
   pub header : header_number (take plan.header packet.bytes) ≡ first_label image target
+  pub owned : Owns (routes_of plan image) target (header_number (take plan.header packet.bytes))
   pub size : length packet.bytes ≡ plan.header + bytes
   pub apart : own ≡ false → target ≢ sender
 

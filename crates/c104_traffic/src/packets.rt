@@ -1,5 +1,6 @@
 //! The packets of traffic: from which terminal each comes, to which it goes, and when it is sent.
-ghost use Rattle.std.specs.Prelude.{◌≡◌, ◌<◌, ◌≤◌, IfSome, length};
+ghost use Rattle.std.specs.Prelude.{ℕ, ◌≡◌, ◌<◌, ◌≤◌, IfSome, length, slice_get};
+ghost use Rattle.c104_plan.specs.Plans.{IsRange};
 ghost use Rattle.c104_plan.specs.PortTexts.{terminal_name};
 ghost use Rattle.c104_traffic.specs.Packets.{IsTraffic, byte_at, first_label, header_values, packet_word, rounds_before, rounds_by, sender_at, sent_at};
 ghost use Rattle.c104_traffic.specs.Schedules.{IsSchedule};
@@ -86,7 +87,8 @@ fn rounds_by(load: Option<usize>, senders: usize, number: usize) -> usize
 
 /// The first label of a terminal.
 pub(crate) fn first_label(image: &Image, terminal: usize) -> u32
-    ensures { result ≡ first_label image.now terminal }
+    ensures label { result ≡ first_label image.now terminal }
+    ensures range { IfSome (slice_get image.now.ranges terminal) (λ (range : ℕ × ℕ). IsRange range.0 range.1) }
 {
     match image.range(terminal) {
         Some((first, _)) => first,

@@ -1,9 +1,9 @@
 //! Who sends by a pattern in a network.
-ghost use Rattle.std.specs.Prelude.{◌≡◌, IfErr, IfOk, MatchOption, length};
+ghost use Rattle.std.specs.Prelude.{◌≡◌, IfErr, IfNone, IfOk, MatchOption, length};
 ghost use Rattle.c104_plan.specs.Plans.{IsPlan};
 ghost use Rattle.c104_traffic.specs.Faults.{IsFirstUnlabelled, IsTrafficFault};
 ghost use Rattle.c104_traffic.specs.Patterns.{IsPatternFor, IsPatternOf};
-ghost use Rattle.c104_traffic.specs.Schedules.{AreLabelled, IsSchedule};
+ghost use Rattle.c104_traffic.specs.Schedules.{AreLabelled, HaveRanges, IsSchedule};
 ghost use Rattle.c104_traffic.specs.Targets.{senders_of};
 
 use crate::faults::TrafficFault;
@@ -79,6 +79,7 @@ fn find_senders(
 /// The first terminal whose first label is no header.
 fn find_unlabelled(plan: &Plan, image: &Image) -> Option<usize>
     ensures labels { MatchOption result (AreLabelled plan.now image.now) (λ terminal. IsFirstUnlabelled plan.now image.now terminal) }
+    ensures ranges { IfNone result (HaveRanges plan.now image.now) }
     ensures kept { IsPlan plan.now }
 {
     for terminal in 0..plan.terminals().len() {

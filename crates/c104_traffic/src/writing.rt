@@ -2,6 +2,7 @@
 ghost use Rattle.std.specs.Prelude.{◌≡◌, ◌≤◌, ◌+◌, ◌++◌, count_by, flat_map, MatchResult, OnErr, OnOk};
 ghost use Rattle.std.specs.List.{range_with_len};
 ghost use Rattle.std.specs.Io.KnownBytes.{Appends};
+ghost use Rattle.c104_plan.specs.PlanImage.{Fits};
 ghost use Rattle.c104_stream.specs.Writing.{AppendsAndKeeps, AppendsPrefix};
 ghost use Rattle.c104_traffic.specs.Packets.{IsTraffic, byte_at, packet_of};
 ghost use Rattle.c104_traffic.specs.Requests.{AreDirected, IsReadAs, is_send, traffic_requests};
@@ -23,7 +24,8 @@ use std::alloc::Global;
 use std::io::Write;
 
 /// Writes the script of traffic by a schedule: for each packet a `send` line, and before it, where the traffic has a
-/// load, a `rounds` line if rounds are due. The packets go to the first labels of their targets.
+/// load, a `rounds` line if rounds are due. The packets go to the first labels of their targets, which own these. The image
+/// is to be one for this plan.
 ///
 /// Out of memory comes before anything is written. Each error of the writer is a fault at once, and then a prefix is
 /// written.
@@ -37,6 +39,7 @@ pub fn write_traffic<W: Write>(
 ) -> Result<(), Halt>
     requires traffic { IsTraffic traffic }
     requires schedule { IsSchedule plan.now image.now traffic.own schedule.now }
+    requires fits { Fits image.now plan.now }
     ensures script { MatchResult result
         (λ _. Appends (W.contents writer.old) (W.contents writer.new)
         (traffic_text plan.now image.now schedule.now.pattern traffic))

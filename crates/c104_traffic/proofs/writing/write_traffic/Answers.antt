@@ -15,4 +15,4 @@ returns-clause-sends g c = sends_all c.args.plan.now c.args.image.now c.args.sch
 pub returns-clause-directed : goal.returns-clause-directed
 returns-clause-directed g c =
     are_directed c.args.plan.now c.args.image.now c.args.schedule.now.pattern c.args.traffic c.requires.schedule.kept c.requires.schedule.fits
-    (subst (λ senders. 0 < length senders) c.requires.schedule.senders c.requires.schedule.some) c.requires.schedule.labels
+    (subst (λ senders. 0 < length senders) c.requires.schedule.senders c.requires.schedule.some) c.requires.schedule.labels c.requires.schedule.ranges c.requires.fits
