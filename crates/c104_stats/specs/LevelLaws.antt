@@ -1,5 +1,5 @@
 -- What rounds print of the tokens in a network, and how many there are.
---     IsWhole net      what every network keeps, as far as this goes
+--     IsWhole net      each node is at its place, and each switch has its links, as in every network
 --     network_waiting net      how many tokens wait to leave terminals
 --     LevelsLaw      what is seen waiting and what is seen inside are together all tokens of a network
 use Rattle.std.specs.Prelude.{ℕ, ◌+◌, ◌≡◌, Some, length, slice_get}
@@ -18,7 +18,7 @@ abbrev pub HasLinks : Node Token → Type 0
 HasLinks (node.Switch s) = (length s.inputs ≡ LINKS) × (length s.outputs ≡ LINKS)
 HasLinks (node.Terminal t) = Unit {0}
 
--- the node at a place, if there is one
+-- the same of the node at a place, if there is one
 abbrev pub HasLinksAt : Network Token → ℕ → Type 0
 HasLinksAt net k = (n : Node Token) → slice_get net.nodes k ≡ Some n → HasLinks n
 
@@ -41,6 +41,7 @@ AreAllSeen net =
     × ((levels_of net).waiting ≡ told (network_waiting net))
     × ((levels_of net).inside ≡ told inside)
 
--- so it is in every network
+-- so it is in each network that is whole, as every network is: its type keeps that its nodes are at their places, which
+-- `told_plan` tells, and the type of a switch keeps its links, which `SwitchOf::started` tells
 unfoldable pub LevelsLaw : Type 0
 LevelsLaw = (net : Network Token) → IsWhole net → AreAllSeen net
