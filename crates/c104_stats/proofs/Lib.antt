@@ -6,3 +6,4 @@ pub mod NumberSteps
 mod WiredSteps
 mod ConservedParts
 mod ConservedEvents
+mod LevelSums

@@ -9,4 +9,5 @@ pub mod Tables
 pub mod Summaries
 pub mod Conservation
 pub mod Sights
+pub mod LevelLaws
 pub mod Metering

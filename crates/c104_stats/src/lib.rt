@@ -27,7 +27,7 @@ mod summary_texts;
 mod tables;
 mod tops;
 
-pub use conservation::conservation_law;
+pub use conservation::{conservation_law, levels_law};
 pub use endings::Ending;
 pub use formats::{Format, What};
 pub use link_rows::links_text;
