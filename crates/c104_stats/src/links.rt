@@ -19,7 +19,7 @@ pub struct Holder {
 pub struct LinkRow {
     /// How many tokens have crossed.
     pub tokens: u64,
-    /// In how many rounds one did.
+    /// In how many rounds one did, what happens before the first round not counted.
     pub busy: u64,
     /// How many packets have crossed to their end.
     pub packets: u64,
@@ -136,11 +136,12 @@ impl LinkRow {
         }
     }
 
-    /// In how many rounds a token has crossed, with one that does in this round.
+    /// In how many rounds a token has crossed, with one that does in this round. What happens before the first round isn't
+    /// in any.
     fn busy_after(self, round: u32) -> u64
         ensures { result ≡ busy_after self round }
     {
-        if self.is_in(round) {
+        if self.is_in(round) || round == 0 {
             self.busy
         } else {
             one_more(self.busy)
