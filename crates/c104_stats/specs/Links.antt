@@ -48,6 +48,10 @@ longest_with longest (Some h) round = max longest (span h round)
 abbrev pub longest_at : LinkRow → ℕ → ℕ
 longest_at row round = longest_with row.longest row.holder round
 
+-- a link that no packet holds from this round on: one that held it until now counts
+abbrev pub link_cut : ℕ → LinkRow → LinkRow
+link_cut round row = record row { longest = longest_at row round; holder = None }
+
 -- how many tokens wait there where a round is over
 abbrev pub link_level : ℕ → LinkRow → LinkRow
 link_level level row = record row { waiting = max row.waiting level }

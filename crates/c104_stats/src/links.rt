@@ -1,7 +1,7 @@
 //! What is counted of a link: of the wire at one port, and the tokens that cross from there.
 ghost use Rattle.std.specs.Prelude.{◌≡◌, false, true};
-ghost use Rattle.c104_stats.specs.Links.{LinkLaw, busy_after, held_after, holder_after, is_in, link_after, link_idle, link_level};
-ghost use Rattle.c104_stats.specs.Links.{link_span, longest_at, new_link, span};
+ghost use Rattle.c104_stats.specs.Links.{LinkLaw, busy_after, held_after, holder_after, is_in, link_after, link_cut, link_idle};
+ghost use Rattle.c104_stats.specs.Links.{link_level, link_span, longest_at, new_link, span};
 
 use crate::numbers::{larger, one_more, one_round_more};
 
@@ -113,6 +113,17 @@ impl LinkRow {
         match self.holder {
             Some(holder) => larger(self.longest, holder.span(round)),
             None => self.longest,
+        }
+    }
+
+    /// The link that no packet holds from this round on. One that held it until now counts.
+    pub fn cut(self, round: u32) -> Self
+        ensures { result ≡ link_cut round self }
+    {
+        LinkRow {
+            longest: self.longest_at(round),
+            holder: None,
+            ..self
         }
     }
 

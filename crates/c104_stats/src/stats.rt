@@ -6,8 +6,8 @@ ghost use Rattle.std.specs.Prelude.{◌≡◌, ◌*◌, ◌++◌, ◌∷◌, [],
 ghost use Rattle.c104_plan.specs.declared.plans.Terminal.{Terminal as TheTerminal};
 ghost use Rattle.c104_plan.specs.declared.ports.Port.TheVariants as port;
 ghost use Rattle.c104_regs.specs.declared.registers.TheConstants.{LINKS};
-ghost use Rattle.c104_stats.specs.Counts.{counts_arrived, counts_begun, counts_crossed, counts_ended, counts_found, counts_level};
-ghost use Rattle.c104_stats.specs.Counts.{counts_passed, counts_seen, counts_sent, counts_taken, keeps_rounds, new_counts};
+ghost use Rattle.c104_stats.specs.Counts.{counts_arrived, counts_begun, counts_crossed, counts_cut, counts_ended, counts_found};
+ghost use Rattle.c104_stats.specs.Counts.{counts_level, counts_passed, counts_seen, counts_sent, counts_taken, keeps_rounds, new_counts};
 ghost use Rattle.c104_stats.specs.Links.{new_link};
 ghost use Rattle.c104_stats.specs.Rounds.{new_round, no_levels};
 
@@ -17,8 +17,8 @@ use crate::numbers::{in_few, one_round_more};
 use crate::packets::{Arrival, PacketRow, Sender};
 use crate::rounds::{Levels, RoundRow};
 use crate::steps::{
-    arrive_packet, cross_link, cross_out, cross_packet, find_packet, level_link, level_wire,
-    send_from, take_back,
+    arrive_packet, cross_link, cross_out, cross_packet, cut_links, find_packet, level_link,
+    level_wire, send_from, take_back,
 };
 use c104_node::Origin;
 use c104_plan::{Plan, Port, Terminal};
@@ -195,6 +195,13 @@ impl Stats {
         arrive_packet(&mut self.senders, arrival, ended);
         self.active = self.current.round;
         self.current = self.current.arrived();
+    }
+
+    /// A switch throws away what it holds: the packets that held its links hold them no more.
+    pub fn cut(&mut self, switch: usize)
+        ensures { self.new ≡ counts_cut self.old switch }
+    {
+        cut_links(&mut self.links, switch, self.current.round);
     }
 
     /// A round begins. The only error is out of memory, and then nothing has changed.
