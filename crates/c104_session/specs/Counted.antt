@@ -1,7 +1,7 @@
 -- The counts of a run: what an event that is asked of a network adds to them, and what rounds do.
 --     counted_event c net e      an event
 --     counted_rounds c net n      n rounds
-use Rattle.std.specs.Prelude.{ℕ, suc, zero, ◌≡◌, ◌⊎◌, ◌||◌, Bool, true, false, Result, Ok, Err, if◌then◌else◌, length, nat_le, nat_lt}
+use Rattle.std.specs.Prelude.{ℕ, suc, zero, ◌≡◌, ◌⊎◌, ◌&&◌, ◌||◌, Bool, true, false, Result, Ok, Err, if◌then◌else◌, length, nat_le, nat_lt}
 use Rattle.c104_event.specs.declared.events.Event.{Event}
 use Rattle.c104_event.specs.declared.events.Event.TheVariants as event
 use Rattle.c104_event.specs.declared.faults.EventFault.{EventFault}
@@ -11,11 +11,12 @@ use Rattle.c104_run.specs.NetRecords.{is_done, largest_ticket, NetRecord}
 use Rattle.c104_run.specs.RecordedRuns.{record_apply}
 use Rattle.c104_run.specs.Rounds.{round}
 use Rattle.c104_net.specs.MeteredRecords.{at_meter, record_metered, MeteredRecord}
-use Rattle.c104_stats.specs.Counts.{counts_begun, counts_ended, counts_passed, counts_sent, Counts}
+use Rattle.c104_stats.specs.Counts.{counts_begun, counts_cut, counts_ended, counts_passed, counts_sent, Counts}
 use Rattle.c104_stats.specs.Metering.{counting}
 use Rattle.c104_stats.specs.Sights.{counts_of_net}
 use Rattle.c104_session.specs.Driven.{Driving}
 use Rattle.c104_session.specs.Leavings.{LeavesRounds}
+use Rattle.c104_session.specs.Resets.{is_reset}
 
 -- a network with its record, and what is counted of its run
 abbrev pub Counted : Type 0
@@ -30,10 +31,17 @@ sent_if false c t bytes = c
 abbrev pub counts_told : Counts → NetRecord → Event → Counts
 counts_told c net e = (record_metered counting (at_meter net c) e).1.meter
 
+-- the counts after a command of a switch, where it was a Reset that was done
+abbrev pub cut_if : Bool → Counts → ℕ → Counts
+cut_if true c s = counts_cut c s
+cut_if false c s = c
+
 -- after an event
 abbrev pub counted_event : Counts → NetRecord → Event → Counts
 counted_event c net (event.Send t packet) =
     sent_if (is_done (record_apply net (event.Send t packet)).0) c t (length packet.bytes)
+counted_event c net (event.Control s bytes) =
+    cut_if (is_done (record_apply net (event.Control s bytes)).0 && is_reset bytes) (counts_told c net (event.Control s bytes)) s
 counted_event c net e = counts_told c net e
 
 -- the events of a round, after what is there was seen and the round has begun
