@@ -9,9 +9,9 @@ use Rattle.c104_run.specs.NetRecords.{is_done, NetRecord}
 use Rattle.c104_run.specs.RecordedRuns.{record_apply, AnswersRecord}
 use Rattle.c104_net.specs.MeteredRecords.{at_meter, record_metered}
 use Rattle.c104_stats.proofs.TakenCounts.{taken_back}
-use Rattle.c104_stats.specs.Counts.{counts_sent, counts_taken, Counts}
+use Rattle.c104_stats.specs.Counts.{counts_noted, counts_sent, counts_taken, Counts}
 use Rattle.c104_stats.specs.Metering.{counting}
-use Rattle.c104_session.specs.Counted.{counts_told, cut_if, sent_if, Counted}
+use Rattle.c104_session.specs.Counted.{counted_event, counts_told, cut_if, event_counts, sent_if, Counted}
 use Rattle.c104_session.specs.Driven.{DoesEvent}
 use Rattle.c104_session.proofs.Leavings.{event_kept}
 
@@ -55,6 +55,16 @@ module _ (net : NetRecord) (e : Event) (answer : Result Reply EventFault) (after
         ∙ ap (λ (x : Result Reply EventFault × NetRecord). cut_if (is_done x.0 && reset) (counts_told c net e) s) due)
     reset_counts s reset b (inr short) told is = inr short
     reset_counts s reset b (inl due) (inr short) is = inr short
+
+    -- and whether it was done is noted
+    pub noted_counts : (b : Counts) → DoesEvent net e answer after
+        → (d ≡ event_counts c net e) ⊎ (answer ≡ Err fault.NoMemory) → b ≡ counts_noted d (is_done answer)
+        → (b ≡ counted_event c net e) ⊎ (answer ≡ Err fault.NoMemory)
+    noted_counts b (inl due) (inl counted) is =
+        inl (is ∙ ap (λ (m : Counts). counts_noted m (is_done answer)) counted
+        ∙ ap (λ (x : Result Reply EventFault × NetRecord). counts_noted (event_counts c net e) (is_done x.0)) due)
+    noted_counts b (inr short) counted is = inr short
+    noted_counts b (inl due) (inr short) is = inr short
 
 -- what was counted of a packet before it was sent is taken back
 pub sent_kept : (c before : Counts) (t bytes : ℕ) → c ≡ counts_sent before t bytes → counts_taken c t ≡ before

@@ -4,7 +4,7 @@ ghost use Rattle.c104_event.specs.declared.faults.EventFault.TheVariants as faul
 ghost use Rattle.c104_run.specs.NetRecords.{is_done};
 ghost use Rattle.c104_run.specs.RecordedRuns.{record_apply};
 ghost use Rattle.c104_stats.specs.Counts.{counts_sent, Counts};
-ghost use Rattle.c104_session.specs.Counted.{counts_told, cut_if, is_later, sent_if, CountsRound};
+ghost use Rattle.c104_session.specs.Counted.{counts_told, cut_if, event_counts, is_later, sent_if, CountsRound};
 ghost use Rattle.c104_session.specs.Driven.{DoesEvent};
 ghost use Rattle.c104_session.specs.Resets.{is_reset};
 
@@ -20,17 +20,11 @@ impl Driver for Stats {
 
     ghost drives = { counts_kept };
 
+    #[tactic(auto, using(crate::proofs::CountedEvents::noted_counts))]
     fn event(&mut self, net: &mut TracedNet, event: &Event) -> Result<Reply, EventFault> {
-        match event {
-            Event::Send { terminal, packet } => {
-                let bytes = packet.bytes.as_slice().len() as u64;
-                send_counted(self, net, event, *terminal, bytes)
-            }
-            Event::Control { switch, bytes } => {
-                command_counted(self, net, event, *switch, bytes.as_slice())
-            }
-            _ => do_counted(self, net, event),
-        }
+        let answer = count_event(self, net, event);
+        self.note_done(was_done(&answer));
+        answer
     }
 
     fn rounds<W: Watch>(
@@ -49,6 +43,24 @@ impl Driver for Stats {
             watch.rounds_done(round + 1, count);
         }
         Ok(())
+    }
+}
+
+/// Does an event that is counted, but for whether it was done.
+fn count_event(stats: &mut Stats, net: &mut TracedNet, event: &Event) -> Result<Reply, EventFault>
+    ensures due { DoesEvent net.old event.now result net.new }
+    ensures kept { OnErr result (net.new ≡ net.old) }
+    ensures counted { (stats.new ≡ event_counts stats.old net.old event.now) ⊎ (result ≡ Err fault.NoMemory) }
+{
+    match event {
+        Event::Send { terminal, packet } => {
+            let bytes = packet.bytes.as_slice().len() as u64;
+            send_counted(stats, net, event, *terminal, bytes)
+        }
+        Event::Control { switch, bytes } => {
+            command_counted(stats, net, event, *switch, bytes.as_slice())
+        }
+        _ => do_counted(stats, net, event),
     }
 }
 
@@ -144,7 +156,7 @@ fn count_round(stats: &mut Stats, net: &mut TracedNet) -> Result<bool, EventFaul
     let before = net.done_count();
     net.round_told(stats)?;
     let done = is_later(before, net.done_count());
-    stats.end_round(done);
+    stats.note_done(done);
     Ok(done)
 }
 

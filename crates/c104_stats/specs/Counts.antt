@@ -124,9 +124,9 @@ counts_begun c = record c {
   current = new_round (few (c.current.round + 1)) c.current.levels;
 }
 
--- the round ended, in which something was done or not
-abbrev pub counts_ended : Counts → Bool → Counts
-counts_ended c done = record c { active = if done then c.current.round else c.active }
+-- something was done in the round that began last, or not
+abbrev pub counts_noted : Counts → Bool → Counts
+counts_noted c done = record c { active = if done then c.current.round else c.active }
 
 -- this is there before the next round begins, or at the end of all
 abbrev pub counts_seen : Counts → Levels → Counts

@@ -6,8 +6,8 @@ ghost use Rattle.std.specs.Prelude.{◌≡◌, ◌*◌, ◌++◌, ◌∷◌, [],
 ghost use Rattle.c104_plan.specs.declared.plans.Terminal.{Terminal as TheTerminal};
 ghost use Rattle.c104_plan.specs.declared.ports.Port.TheVariants as port;
 ghost use Rattle.c104_regs.specs.declared.registers.TheConstants.{LINKS};
-ghost use Rattle.c104_stats.specs.Counts.{counts_arrived, counts_begun, counts_crossed, counts_cut, counts_ended, counts_found};
-ghost use Rattle.c104_stats.specs.Counts.{counts_level, counts_passed, counts_seen, counts_sent, counts_taken, keeps_rounds, new_counts};
+ghost use Rattle.c104_stats.specs.Counts.{counts_arrived, counts_begun, counts_crossed, counts_cut, counts_found, counts_level};
+ghost use Rattle.c104_stats.specs.Counts.{counts_noted, counts_passed, counts_seen, counts_sent, counts_taken, keeps_rounds, new_counts};
 ghost use Rattle.c104_stats.specs.Links.{new_link};
 ghost use Rattle.c104_stats.specs.Rounds.{new_round, no_levels};
 
@@ -215,9 +215,9 @@ impl Stats {
         Ok(())
     }
 
-    /// The round ends, in which something was done or not.
-    pub fn end_round(&mut self, done: bool)
-        ensures { self.new ≡ counts_ended self.old done }
+    /// Something was done in the round that began last, or not.
+    pub fn note_done(&mut self, done: bool)
+        ensures { self.new ≡ counts_noted self.old done }
     {
         self.active = active_after(done, self.current.round, self.active);
     }
@@ -288,7 +288,7 @@ fn keep_round(keeps: bool, rounds: &mut Vec<RoundRow>, round: RoundRow) -> Resul
     Ok(())
 }
 
-/// The last round in which something was done, after one in which something was, or not.
+/// The last round in which something was done, with this one in which something was, or not.
 fn active_after(done: bool, round: u32, active: u32) -> u32
     ensures { result ≡ (if done then round else active) }
 {
