@@ -21,6 +21,10 @@ FIRST = b'send a 01 68 eop\nrounds 9\n'
 # A packet for b goes to a link that nothing leads on from.
 STUCK = PLAN.replace(b'row A.0 2 1', b'row A.0 2 7')
 NO_ROWS = PLAN[:PLAN.index(b'row')]
+# Of a's packet 68 is in A, behind 01, when A is reset in round 2; its terminator leaves a in round 3. Once its row is set and
+# it is started, A finds a packet without a header in that.
+RESET = b'send a 01 68 eop\nrounds 2\ncontrol A 02\n'
+RESTART = RESET + b'control A 05 40 01 02 00 00 00\ncontrol A 05 80 01 01 00 00 00\ncontrol A 01\n'
 SEEDS = range(5)
 WHATS = ('packets', 'links', 'rounds')
 
@@ -43,6 +47,12 @@ BY_HAND = {
     'events between rounds count to the round before': (PLAN,
         b'send a 01 68 eop\nrounds 1\ncross a\nsend a 01 eop\nrounds 1\n', 'packets',
         ('a 0 - 2 1 0 1 - - 0 unfinished', 'a 1 - 1 0 1 - - - 0 unfinished')),
+    'a token before the first round crosses in none': (PLAN, b'send a 01 68 eop\ncredit A.0\ncross a\nrounds 1\n', 'links',
+        ('A.0 0 0.000 0 0 0', 'A.1 0 0.000 0 0 1', 'a 2 1.000 0 2 2', 'b 0 0.000 0 0 0')),
+    'a Reset ends how long links were held': (PLAN, RESET + b'rounds 9\nsend b 00 eop\n', 'links',
+        ('A.0 0 0.000 0 0 0', 'A.1 1 0.090 0 1 1', 'a 3 0.272 1 3 3', 'b 0 0.000 0 0 2')),
+    'a packet behind a Reset': (PLAN, RESTART + b'send a 01 69 eop\nrounds 9\n', 'packets',
+        ('a 0 - 2 1 0 1 - - 0 sunk', 'a 1 b 2 2 2 4 7 5 0 arrived')),
     'packets that are lost': (NO_ROWS, b'send a 01 68 eop\nsend b eop\nrounds 9\n', 'packets',
         ('a 0 - 2 1 0 1 - - 0 sunk', 'b 0 - 0 1 0 1 - - 0 short')),
     'a packet that goes nowhere': (STUCK, FIRST, 'packets', ('a 0 - 2 1 0 1 - - 0 unfinished',)),
@@ -54,6 +64,8 @@ BY_HAND = {
 # A description, a script, and the values of its summary.
 SUMMARIES = {
     'the first run': (PLAN, FIRST, '4 1 1 0 4 4 4 4 1.500 A.1 0.750 a 0.750 - -'),
+    'the first run, with a packet behind it': (PLAN, FIRST + b'send b 00 eop\n',
+        '9 2 1 0 4 4 4 4 0.666 A.1 0.333 a 0.333 - -'),
     'nothing is asked': (PLAN, b'', '0 0 0 0 - - - - 0.000 - - - - - -'),
     'lost packets': (NO_ROWS, b'send a 01 68 eop\nsend b eop\nrounds 9\n', '3 2 0 2 - - - - 1.333 a 1.000 b 0.333 - -'),
 }

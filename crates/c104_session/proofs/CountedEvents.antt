@@ -1,5 +1,5 @@
 -- Events that are counted: the network goes on as by itself, and what is told of it is counted.
-use Rattle.std.proofs.Common.{◌≡◌, ◌⊎◌, ◌∙◌, ℕ, Result, Ok, Err, OnErr, ap, inl, inr}
+use Rattle.std.proofs.Common.{◌≡◌, ◌⊎◌, ◌∙◌, ◌&&◌, ℕ, Bool, Result, Ok, Err, OnErr, ap, inl, inr}
 use Rattle.c104_switch.specs.Actions.{Reply}
 use Rattle.c104_event.specs.declared.events.Event.{Event}
 use Rattle.c104_event.specs.declared.faults.EventFault.{EventFault}
@@ -9,9 +9,9 @@ use Rattle.c104_run.specs.NetRecords.{is_done, NetRecord}
 use Rattle.c104_run.specs.RecordedRuns.{record_apply, AnswersRecord}
 use Rattle.c104_net.specs.MeteredRecords.{at_meter, record_metered}
 use Rattle.c104_stats.proofs.TakenCounts.{taken_back}
-use Rattle.c104_stats.specs.Counts.{counts_sent, counts_taken, Counts}
+use Rattle.c104_stats.specs.Counts.{counts_noted, counts_sent, counts_taken, Counts}
 use Rattle.c104_stats.specs.Metering.{counting}
-use Rattle.c104_session.specs.Counted.{counts_told, sent_if, Counted}
+use Rattle.c104_session.specs.Counted.{counted_event, counts_told, cut_if, event_counts, sent_if, Counted}
 use Rattle.c104_session.specs.Driven.{DoesEvent}
 use Rattle.c104_session.proofs.Leavings.{event_kept}
 
@@ -45,6 +45,26 @@ module _ (net : NetRecord) (e : Event) (answer : Result Reply EventFault) (after
     sent_counts t bytes (inl due) is =
         inl (is ∙ ap (λ (x : Result Reply EventFault × NetRecord). sent_if (is_done x.0) c t bytes) due)
     sent_counts t bytes (inr short) is = inr short.0
+
+    -- a switch that was reset is cut
+    pub reset_counts : (s : ℕ) (reset : Bool) (b : Counts) → DoesEvent net e answer after
+        → (d ≡ counts_told c net e) ⊎ (answer ≡ Err fault.NoMemory) → b ≡ cut_if (is_done answer && reset) d s
+        → (b ≡ cut_if (is_done (record_apply net e).0 && reset) (counts_told c net e) s) ⊎ (answer ≡ Err fault.NoMemory)
+    reset_counts s reset b (inl due) (inl told) is =
+        inl (is ∙ ap (λ (m : Counts). cut_if (is_done answer && reset) m s) told
+        ∙ ap (λ (x : Result Reply EventFault × NetRecord). cut_if (is_done x.0 && reset) (counts_told c net e) s) due)
+    reset_counts s reset b (inr short) told is = inr short
+    reset_counts s reset b (inl due) (inr short) is = inr short
+
+    -- and whether it was done is noted
+    pub noted_counts : (b : Counts) → DoesEvent net e answer after
+        → (d ≡ event_counts c net e) ⊎ (answer ≡ Err fault.NoMemory) → b ≡ counts_noted d (is_done answer)
+        → (b ≡ counted_event c net e) ⊎ (answer ≡ Err fault.NoMemory)
+    noted_counts b (inl due) (inl counted) is =
+        inl (is ∙ ap (λ (m : Counts). counts_noted m (is_done answer)) counted
+        ∙ ap (λ (x : Result Reply EventFault × NetRecord). counts_noted (event_counts c net e) (is_done x.0)) due)
+    noted_counts b (inr short) counted is = inr short
+    noted_counts b (inl due) (inr short) is = inr short
 
 -- what was counted of a packet before it was sent is taken back
 pub sent_kept : (c before : Counts) (t bytes : ℕ) → c ≡ counts_sent before t bytes → counts_taken c t ≡ before

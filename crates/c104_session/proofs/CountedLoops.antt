@@ -12,7 +12,7 @@ use Rattle.c104_run.specs.NetRecords.{NetRecord}
 use Rattle.c104_run.specs.RecordedRuns.{record_apply}
 use Rattle.c104_run.specs.RoundParts.{PartEnds}
 use Rattle.c104_run.specs.Rounds.{round, rounds}
-use Rattle.c104_stats.specs.Counts.{counts_begun, counts_ended, counts_passed, Counts}
+use Rattle.c104_stats.specs.Counts.{counts_begun, counts_noted, counts_passed, Counts}
 use Rattle.c104_stats.specs.Metering.{counting}
 use Rattle.c104_stats.specs.Sights.{counts_of_net}
 use Rattle.c104_session.specs.Counted.{counted_rounds, is_later, Counted, CountsRound}
@@ -62,7 +62,7 @@ module _ (net after : NetRecord) (c : Counts) where
       )
 
   pub round_counted : (changed done : Bool) (e d : Counts) → RoundTold (Ok changed) e → done ≡ is_later net.count after.count
-      → d ≡ counts_ended e done → CountsRound net c (Ok done) after d
+      → d ≡ counts_noted e done → CountsRound net c (Ok done) after d
   round_counted changed done e d told later ended = (e, told.ends.0, later, ended)
 
 -- the loop goes on, or ends

@@ -10,7 +10,7 @@ use Rattle.c104_run.specs.RecordedRuns.{record_apply}
 use Rattle.c104_run.specs.Rounds.{round, rounds}
 use Rattle.c104_run.proofs.RoundRuns.{run_seen}
 use Rattle.c104_run.proofs.RoundsTaken.{round_idle, round_refused, round_taken}
-use Rattle.c104_stats.specs.Counts.{counts_begun, counts_ended, counts_passed, Counts}
+use Rattle.c104_stats.specs.Counts.{counts_begun, counts_noted, counts_passed, Counts}
 use Rattle.c104_stats.specs.Metering.{counting}
 use Rattle.c104_stats.specs.Sights.{counts_of_net}
 use Rattle.c104_session.specs.Counted.{counted_on, counted_round, is_later, rounds_counted, Counted, CountsRound}
@@ -63,7 +63,7 @@ module _ (start : NetRecord) (begun : Counts) (count i : ℕ) (net after : NetRe
   -- what is counted where the round ended so
   abbrev by_later : Counts → Bool → Counts
   by_later e later =
-      if later then rounds_counted rest (at_meter after (counts_ended e true)) else counts_passed (counts_ended e false) rest
+      if later then rounds_counted rest (at_meter after (counts_noted e true)) else counts_passed (counts_noted e false) rest
 
   -- something was done in it
   pub goes_on : after.network.plan ≡ net.network.plan → CountsRound net c (Ok true) after d

@@ -1,7 +1,7 @@
 -- The counts of a run: what an event that is asked of a network adds to them, and what rounds do.
 --     counted_event c net e      an event
 --     counted_rounds c net n      n rounds
-use Rattle.std.specs.Prelude.{ℕ, suc, zero, ◌≡◌, ◌⊎◌, ◌||◌, Bool, true, false, Result, Ok, Err, if◌then◌else◌, length, nat_le, nat_lt}
+use Rattle.std.specs.Prelude.{ℕ, suc, zero, ◌≡◌, ◌⊎◌, ◌&&◌, ◌||◌, Bool, true, false, Result, Ok, Err, if◌then◌else◌, length, nat_le, nat_lt}
 use Rattle.c104_event.specs.declared.events.Event.{Event}
 use Rattle.c104_event.specs.declared.events.Event.TheVariants as event
 use Rattle.c104_event.specs.declared.faults.EventFault.{EventFault}
@@ -11,11 +11,12 @@ use Rattle.c104_run.specs.NetRecords.{is_done, largest_ticket, NetRecord}
 use Rattle.c104_run.specs.RecordedRuns.{record_apply}
 use Rattle.c104_run.specs.Rounds.{round}
 use Rattle.c104_net.specs.MeteredRecords.{at_meter, record_metered, MeteredRecord}
-use Rattle.c104_stats.specs.Counts.{counts_begun, counts_ended, counts_passed, counts_sent, Counts}
+use Rattle.c104_stats.specs.Counts.{counts_begun, counts_cut, counts_noted, counts_passed, counts_sent, Counts}
 use Rattle.c104_stats.specs.Metering.{counting}
 use Rattle.c104_stats.specs.Sights.{counts_of_net}
 use Rattle.c104_session.specs.Driven.{Driving}
 use Rattle.c104_session.specs.Leavings.{LeavesRounds}
+use Rattle.c104_session.specs.Resets.{is_reset}
 
 -- a network with its record, and what is counted of its run
 abbrev pub Counted : Type 0
@@ -30,11 +31,22 @@ sent_if false c t bytes = c
 abbrev pub counts_told : Counts → NetRecord → Event → Counts
 counts_told c net e = (record_metered counting (at_meter net c) e).1.meter
 
+-- the counts after a command of a switch, where it was a Reset that was done
+abbrev pub cut_if : Bool → Counts → ℕ → Counts
+cut_if true c s = counts_cut c s
+cut_if false c s = c
+
+-- after an event, before it is noted whether it was done
+abbrev pub event_counts : Counts → NetRecord → Event → Counts
+event_counts c net (event.Send t packet) =
+    sent_if (is_done (record_apply net (event.Send t packet)).0) c t (length packet.bytes)
+event_counts c net (event.Control s bytes) =
+    cut_if (is_done (record_apply net (event.Control s bytes)).0 && is_reset bytes) (counts_told c net (event.Control s bytes)) s
+event_counts c net e = counts_told c net e
+
 -- after an event
 abbrev pub counted_event : Counts → NetRecord → Event → Counts
-counted_event c net (event.Send t packet) =
-    sent_if (is_done (record_apply net (event.Send t packet)).0) c t (length packet.bytes)
-counted_event c net e = counts_told c net e
+counted_event c net e = counts_noted (event_counts c net e) (is_done (record_apply net e).0)
 
 -- the events of a round, after what is there was seen and the round has begun
 abbrev pub counted_round : Counted → Outcome Counted
@@ -51,8 +63,8 @@ is_later before after = nat_lt before after || nat_le largest_ticket before
 abbrev pub counted_on : ℕ → (Counted → Counts) → NetRecord → Outcome Counted → Counts
 counted_on left more old (Err f, s) = s.meter
 counted_on left more old (Ok u, s) =
-    if is_later old.count s.net.count then more (at_meter s.net (counts_ended s.meter true))
-    else counts_passed (counts_ended s.meter false) left
+    if is_later old.count s.net.count then more (at_meter s.net (counts_noted s.meter true))
+    else counts_passed (counts_noted s.meter false) left
 
 abbrev pub rounds_counted : ℕ → Counted → Counts
 rounds_counted zero s = s.meter
@@ -71,6 +83,6 @@ counts_kept = record { event = counted_event; rounds = counted_rounds }
 abbrev pub CountsRound : NetRecord → Counts → Result Bool EventFault → NetRecord → Counts → Type 0
 CountsRound net c (Ok done) after counted =
     (e : Counts) × (counted_round (at_meter net c) ≡ (Ok tt, at_meter after e)) × (done ≡ is_later net.count after.count)
-    × (counted ≡ counts_ended e done)
+    × (counted ≡ counts_noted e done)
 CountsRound net c (Err f) after counted =
     (counted_round (at_meter net c) ≡ (Err f, at_meter after counted)) ⊎ ((f ≡ fault.NoMemory) × LeavesRounds net 1 after)

@@ -2,6 +2,7 @@ pub mod Lines
 pub mod Probing
 pub mod Shown
 pub mod Leavings
+pub mod Resets
 pub mod Driven
 pub mod Runs
 pub mod Told

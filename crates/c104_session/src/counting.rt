@@ -1,13 +1,15 @@
 //! A driver that counts what it does.
-ghost use Rattle.std.specs.Prelude.{ℕ, ◌≡◌, ◌⊎◌, Err, OnErr};
+ghost use Rattle.std.specs.Prelude.{ℕ, ◌≡◌, ◌⊎◌, ◌&&◌, Err, OnErr};
 ghost use Rattle.c104_event.specs.declared.faults.EventFault.TheVariants as fault;
 ghost use Rattle.c104_run.specs.NetRecords.{is_done};
 ghost use Rattle.c104_run.specs.RecordedRuns.{record_apply};
 ghost use Rattle.c104_stats.specs.Counts.{counts_sent, Counts};
-ghost use Rattle.c104_session.specs.Counted.{counts_told, is_later, sent_if, CountsRound};
+ghost use Rattle.c104_session.specs.Counted.{counts_told, cut_if, event_counts, is_later, sent_if, CountsRound};
 ghost use Rattle.c104_session.specs.Driven.{DoesEvent};
+ghost use Rattle.c104_session.specs.Resets.{is_reset};
 
 use crate::driver::Driver;
+use crate::resets::is_reset;
 use c104_event::{Event, EventFault};
 use c104_net::{MeteredNet, TracedNet, Watch};
 use c104_stats::Stats;
@@ -18,14 +20,11 @@ impl Driver for Stats {
 
     ghost drives = { counts_kept };
 
+    #[tactic(auto, using(crate::proofs::CountedEvents::noted_counts))]
     fn event(&mut self, net: &mut TracedNet, event: &Event) -> Result<Reply, EventFault> {
-        match event {
-            Event::Send { terminal, packet } => {
-                let bytes = packet.bytes.as_slice().len() as u64;
-                send_counted(self, net, event, *terminal, bytes)
-            }
-            _ => do_counted(self, net, event),
-        }
+        let answer = count_event(self, net, event);
+        self.note_done(was_done(&answer));
+        answer
     }
 
     fn rounds<W: Watch>(
@@ -47,6 +46,24 @@ impl Driver for Stats {
     }
 }
 
+/// Does an event that is counted, but for whether it was done.
+fn count_event(stats: &mut Stats, net: &mut TracedNet, event: &Event) -> Result<Reply, EventFault>
+    ensures due { DoesEvent net.old event.now result net.new }
+    ensures kept { OnErr result (net.new ≡ net.old) }
+    ensures counted { (stats.new ≡ event_counts stats.old net.old event.now) ⊎ (result ≡ Err fault.NoMemory) }
+{
+    match event {
+        Event::Send { terminal, packet } => {
+            let bytes = packet.bytes.as_slice().len() as u64;
+            send_counted(stats, net, event, *terminal, bytes)
+        }
+        Event::Control { switch, bytes } => {
+            command_counted(stats, net, event, *switch, bytes.as_slice())
+        }
+        _ => do_counted(stats, net, event),
+    }
+}
+
 /// Does an event, of which the counts are told.
 #[tactic(auto, using(crate::proofs::CountedEvents::told_due, crate::proofs::CountedEvents::told_kept, crate::proofs::CountedEvents::told_counts))]
 fn do_counted(stats: &mut Stats, net: &mut TracedNet, event: &Event) -> Result<Reply, EventFault>
@@ -55,6 +72,36 @@ fn do_counted(stats: &mut Stats, net: &mut TracedNet, event: &Event) -> Result<R
     ensures counted { (stats.new ≡ counts_told stats.old net.old event.now) ⊎ (result ≡ Err fault.NoMemory) }
 {
     net.apply_told(event, stats)
+}
+
+/// Gives a switch this command, of which the counts are told. A Reset throws away what the switch holds.
+#[tactic(auto, using(crate::proofs::CountedEvents::reset_counts))]
+fn command_counted(
+    stats: &mut Stats,
+    net: &mut TracedNet,
+    event: &Event,
+    switch: usize,
+    bytes: &[u8],
+) -> Result<Reply, EventFault>
+    ensures due { DoesEvent net.old event.now result net.new }
+    ensures kept { OnErr result (net.new ≡ net.old) }
+    ensures counted { (stats.new ≡ cut_if (is_done (record_apply net.old event.now).0 && is_reset bytes.now)
+        (counts_told stats.old net.old event.now) switch) ⊎ (result ≡ Err fault.NoMemory) }
+{
+    let answer = do_counted(stats, net, event);
+    let done = was_done(&answer);
+    let resets = is_reset(bytes);
+    cut_counted(stats, switch, done && resets);
+    answer
+}
+
+/// The packets that held the links of a switch hold them no more, where it was reset.
+fn cut_counted(stats: &mut Stats, switch: usize, reset: bool)
+    ensures { stats.new ≡ cut_if reset stats.old switch }
+{
+    if reset {
+        stats.cut(switch);
+    }
 }
 
 /// Asks a terminal to send a packet of this many bytes. It is counted before, when there may be no memory for that, and
@@ -109,7 +156,7 @@ fn count_round(stats: &mut Stats, net: &mut TracedNet) -> Result<bool, EventFaul
     let before = net.done_count();
     net.round_told(stats)?;
     let done = is_later(before, net.done_count());
-    stats.end_round(done);
+    stats.note_done(done);
     Ok(done)
 }
 

@@ -1,6 +1,6 @@
 -- What is counted of a link is what its definitions say of the tokens that crossed.
-use Rattle.std.proofs.Common.{◌≡◌, ◌∙◌, ◌+◌, ◌-◌, ◌≤◌, ℕ, Bool, true, false, List, [], ◌∷◌, Option, Some, None, if◌then◌else◌, length, max}
-use Rattle.std.proofs.Common.{refl, ap, arith}
+use Rattle.std.proofs.Common.{◌≡◌, ◌∙◌, ◌+◌, ◌-◌, ◌≤◌, ◌||◌, ℕ, Bool, true, false, List, [], ◌∷◌, Option, Some, None, if◌then◌else◌}
+use Rattle.std.proofs.Common.{ap, arith, length, max, nat_eq, refl}
 use Rattle.c104_stats.specs.Numbers.{told}
 use Rattle.c104_stats.specs.Links.{changes, count_ends, first_of, held_after, holder_after, is_in, link_after, link_after_all, link_span}
 use Rattle.c104_stats.specs.Links.{longest_span, new_link, Crossing, Holder, LinkLaw, LinkRow}
@@ -29,8 +29,8 @@ busy_told : (xs : List Crossing) (row : LinkRow) → row.busy ≤ 18446744073709
     → (link_after_all row xs).busy ≡ told (row.busy + changes row.last xs)
 busy_told [] row few = kept_told row.busy few
 busy_told (x ∷ xs) row few =
-    busy_told xs (link_after row x) (busy_few row.busy (is_in row.last x.round) few)
-    ∙ busy_one row.busy (is_in row.last x.round) (changes (Some x.round) xs)
+    busy_told xs (link_after row x) (busy_few row.busy (is_in row.last x.round || nat_eq x.round 0) few)
+    ∙ busy_one row.busy (is_in row.last x.round || nat_eq x.round 0) (changes (Some x.round) xs)
 
 ends_one : (packets : ℕ) (ends : Bool) (n : ℕ)
     → told ((if ends then told (packets + 1) else packets) + n) ≡ told (packets + ((if ends then 1 else 0) + n))

@@ -9,8 +9,8 @@ use Rattle.c104_plan.specs.declared.ports.Port.TheVariants as port
 use Rattle.c104_node.specs.declared.origins.Origin.{Origin}
 use Rattle.c104_stats.specs.declared.formats.What.{What}
 use Rattle.c104_stats.specs.declared.formats.What.TheVariants as what
-use Rattle.c104_stats.specs.Numbers.{few}
-use Rattle.c104_stats.specs.Links.{link_after, link_idle, link_level, new_link, LinkRow}
+use Rattle.c104_stats.specs.Numbers.{each_number, few}
+use Rattle.c104_stats.specs.Links.{link_after, link_cut, link_idle, link_level, new_link, LinkRow}
 use Rattle.c104_stats.specs.Packets.{all_but_last, arrived_packet, change_at, crossed_packet, inside_packet, left_packet, sent_packet}
 use Rattle.c104_stats.specs.Packets.{Arrival, PacketRow}
 use Rattle.c104_stats.specs.Rounds.{arrived_round, ended_round, later_round, moved_round, new_round, no_levels, Levels, RoundRow}
@@ -56,6 +56,10 @@ link_row links s l = if has_link links s l then slice_get links (s * LINKS + l) 
 
 abbrev pub change_link : List LinkRow → ℕ → ℕ → (LinkRow → LinkRow) → List LinkRow
 change_link links s l f = if has_link links s l then change_at links (s * LINKS + l) f else links
+
+-- the links, those of a switch cut in this round
+abbrev pub links_cut : ℕ → ℕ → List LinkRow → List LinkRow
+links_cut round s links = each_number (λ l rows. change_link rows s l (link_cut round)) LINKS links
 
 -- for how many rounds nothing moved over a link of the packet whose token crosses there in this round
 abbrev pub idle_of : Option LinkRow → ℕ → ℕ
@@ -109,6 +113,10 @@ counts_arrived c t ended = record c {
   active = c.current.round;
 }
 
+-- the packets that held the links of a switch hold them no more
+abbrev pub counts_cut : Counts → ℕ → Counts
+counts_cut c s = record c { links = links_cut c.current.round s c.links }
+
 -- a round begins
 abbrev pub counts_begun : Counts → Counts
 counts_begun c = record c {
@@ -116,9 +124,9 @@ counts_begun c = record c {
   current = new_round (few (c.current.round + 1)) c.current.levels;
 }
 
--- the round ended, in which something was done or not
-abbrev pub counts_ended : Counts → Bool → Counts
-counts_ended c done = record c { active = if done then c.current.round else c.active }
+-- something was done in the round that began last, or not
+abbrev pub counts_noted : Counts → Bool → Counts
+counts_noted c done = record c { active = if done then c.current.round else c.active }
 
 -- this is there before the next round begins, or at the end of all
 abbrev pub counts_seen : Counts → Levels → Counts

@@ -1,7 +1,7 @@
 -- What is counted of a link, by the tokens that cross at its port, one after the other.
 --     link_after row x      what is counted after one token more
 --     LinkLaw      what that comes to after any of them, in words
-use Rattle.std.specs.Prelude.{ℕ, ◌+◌, ◌-◌, ◌≡◌, Bool, true, false, List, [], ◌∷◌, Option, Some, None, if◌then◌else◌, length, max, nat_eq}
+use Rattle.std.specs.Prelude.{ℕ, ◌+◌, ◌-◌, ◌≡◌, ◌||◌, Bool, true, false, List, [], ◌∷◌, Option, Some, None, if◌then◌else◌, length, max, nat_eq}
 use Rattle.c104_stats.specs.Numbers.{few, told}
 pub use Rattle.c104_stats.specs.declared.links.Crossing.{Crossing}
 pub use Rattle.c104_stats.specs.declared.links.Holder.{Holder}
@@ -16,9 +16,9 @@ abbrev pub is_in : Option ℕ → ℕ → Bool
 is_in None round = false
 is_in (Some last) round = nat_eq last round
 
--- in how many rounds a token crossed, with one in this round
+-- in how many rounds a token crossed, with one in this round; what happens before the first round isn't in any
 abbrev pub busy_after : LinkRow → ℕ → ℕ
-busy_after row round = if is_in row.last round then row.busy else told (row.busy + 1)
+busy_after row round = if is_in row.last round || nat_eq round 0 then row.busy else told (row.busy + 1)
 
 -- the packet that holds a link, with one token more in this round: it begins there, or has held it already
 abbrev pub held_after : Option Holder → Bool → ℕ → Holder
@@ -48,6 +48,10 @@ longest_with longest (Some h) round = max longest (span h round)
 abbrev pub longest_at : LinkRow → ℕ → ℕ
 longest_at row round = longest_with row.longest row.holder round
 
+-- a link that no packet holds from this round on: one that held it until now counts
+abbrev pub link_cut : ℕ → LinkRow → LinkRow
+link_cut round row = record row { longest = longest_at row round; holder = None }
+
 -- how many tokens wait there where a round is over
 abbrev pub link_level : ℕ → LinkRow → LinkRow
 link_level level row = record row { waiting = max row.waiting level }
@@ -69,10 +73,10 @@ abbrev pub link_after_all : LinkRow → List Crossing → LinkRow
 link_after_all row [] = row
 link_after_all row (x ∷ xs) = link_after_all (link_after row x) xs
 
--- how many tokens crossed in another round than the one before
+-- how many tokens crossed in another round than the one before, of those that crossed in a round
 abbrev pub changes : Option ℕ → List Crossing → ℕ
 changes last [] = 0
-changes last (x ∷ xs) = (if is_in last x.round then 0 else 1) + changes (Some x.round) xs
+changes last (x ∷ xs) = (if is_in last x.round || nat_eq x.round 0 then 0 else 1) + changes (Some x.round) xs
 
 -- how many of them end a packet
 abbrev pub count_ends : List Crossing → ℕ

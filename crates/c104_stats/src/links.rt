@@ -1,7 +1,7 @@
 //! What is counted of a link: of the wire at one port, and the tokens that cross from there.
 ghost use Rattle.std.specs.Prelude.{◌≡◌, false, true};
-ghost use Rattle.c104_stats.specs.Links.{LinkLaw, busy_after, held_after, holder_after, is_in, link_after, link_idle, link_level};
-ghost use Rattle.c104_stats.specs.Links.{link_span, longest_at, new_link, span};
+ghost use Rattle.c104_stats.specs.Links.{LinkLaw, busy_after, held_after, holder_after, is_in, link_after, link_cut, link_idle};
+ghost use Rattle.c104_stats.specs.Links.{link_level, link_span, longest_at, new_link, span};
 
 use crate::numbers::{larger, one_more, one_round_more};
 
@@ -19,7 +19,7 @@ pub struct Holder {
 pub struct LinkRow {
     /// How many tokens have crossed.
     pub tokens: u64,
-    /// In how many rounds one did.
+    /// In how many rounds one did, what happens before the first round not counted.
     pub busy: u64,
     /// How many packets have crossed to their end.
     pub packets: u64,
@@ -116,6 +116,17 @@ impl LinkRow {
         }
     }
 
+    /// The link that no packet holds from this round on. One that held it until now counts.
+    pub fn cut(self, round: u32) -> Self
+        ensures { result ≡ link_cut round self }
+    {
+        LinkRow {
+            longest: self.longest_at(round),
+            holder: None,
+            ..self
+        }
+    }
+
     /// The link where this many tokens wait to cross where a round is over.
     pub fn with_level(self, level: u64) -> Self
         ensures { result ≡ link_level level self }
@@ -136,11 +147,12 @@ impl LinkRow {
         }
     }
 
-    /// In how many rounds a token has crossed, with one that does in this round.
+    /// In how many rounds a token has crossed, with one that does in this round. What happens before the first round isn't
+    /// in any.
     fn busy_after(self, round: u32) -> u64
         ensures { result ≡ busy_after self round }
     {
-        if self.is_in(round) {
+        if self.is_in(round) || round == 0 {
             self.busy
         } else {
             one_more(self.busy)

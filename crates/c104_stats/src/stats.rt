@@ -6,8 +6,8 @@ ghost use Rattle.std.specs.Prelude.{◌≡◌, ◌*◌, ◌++◌, ◌∷◌, [],
 ghost use Rattle.c104_plan.specs.declared.plans.Terminal.{Terminal as TheTerminal};
 ghost use Rattle.c104_plan.specs.declared.ports.Port.TheVariants as port;
 ghost use Rattle.c104_regs.specs.declared.registers.TheConstants.{LINKS};
-ghost use Rattle.c104_stats.specs.Counts.{counts_arrived, counts_begun, counts_crossed, counts_ended, counts_found, counts_level};
-ghost use Rattle.c104_stats.specs.Counts.{counts_passed, counts_seen, counts_sent, counts_taken, keeps_rounds, new_counts};
+ghost use Rattle.c104_stats.specs.Counts.{counts_arrived, counts_begun, counts_crossed, counts_cut, counts_found, counts_level};
+ghost use Rattle.c104_stats.specs.Counts.{counts_noted, counts_passed, counts_seen, counts_sent, counts_taken, keeps_rounds, new_counts};
 ghost use Rattle.c104_stats.specs.Links.{new_link};
 ghost use Rattle.c104_stats.specs.Rounds.{new_round, no_levels};
 
@@ -17,8 +17,8 @@ use crate::numbers::{in_few, one_round_more};
 use crate::packets::{Arrival, PacketRow, Sender};
 use crate::rounds::{Levels, RoundRow};
 use crate::steps::{
-    arrive_packet, cross_link, cross_out, cross_packet, find_packet, level_link, level_wire,
-    send_from, take_back,
+    arrive_packet, cross_link, cross_out, cross_packet, cut_links, find_packet, level_link,
+    level_wire, send_from, take_back,
 };
 use c104_node::Origin;
 use c104_plan::{Plan, Port, Terminal};
@@ -197,6 +197,13 @@ impl Stats {
         self.current = self.current.arrived();
     }
 
+    /// A switch throws away what it holds: the packets that held its links hold them no more.
+    pub fn cut(&mut self, switch: usize)
+        ensures { self.new ≡ counts_cut self.old switch }
+    {
+        cut_links(&mut self.links, switch, self.current.round);
+    }
+
     /// A round begins. The only error is out of memory, and then nothing has changed.
     pub fn begin_round(&mut self) -> Result<(), NoMemory>
         ensures begun { OnOk result (self.new ≡ counts_begun self.old) }
@@ -208,9 +215,9 @@ impl Stats {
         Ok(())
     }
 
-    /// The round ends, in which something was done or not.
-    pub fn end_round(&mut self, done: bool)
-        ensures { self.new ≡ counts_ended self.old done }
+    /// Something was done in the round that began last, or not.
+    pub fn note_done(&mut self, done: bool)
+        ensures { self.new ≡ counts_noted self.old done }
     {
         self.active = active_after(done, self.current.round, self.active);
     }
@@ -281,7 +288,7 @@ fn keep_round(keeps: bool, rounds: &mut Vec<RoundRow>, round: RoundRow) -> Resul
     Ok(())
 }
 
-/// The last round in which something was done, after one in which something was, or not.
+/// The last round in which something was done, with this one in which something was, or not.
 fn active_after(done: bool, round: u32, active: u32) -> u32
     ensures { result ≡ (if done then round else active) }
 {

@@ -1,7 +1,7 @@
 //! The steps of what is counted, each on one list.
 ghost use Rattle.std.specs.Prelude.{◌≡◌, ◌<◌, ◌++◌, ◌∷◌, [], length, slice_get, OnErr, OnOk};
-ghost use Rattle.c104_stats.specs.Counts.{arrived_senders, change_link, crossed_senders, idle_of, left_senders, link_row};
-ghost use Rattle.c104_stats.specs.Links.{link_after, link_level};
+ghost use Rattle.c104_stats.specs.Counts.{arrived_senders, change_link, crossed_senders, idle_of, left_senders, link_row, links_cut};
+ghost use Rattle.c104_stats.specs.Links.{link_after, link_cut, link_level};
 ghost use Rattle.c104_stats.specs.Packets.{all_but_last, arrived_packet, change_at, crossed_packet, inside_packet, left_packet};
 
 use crate::links::{Crossing, LinkRow};
@@ -56,6 +56,35 @@ pub(crate) fn level_wire(links: &mut [LinkRow], place: usize, level: u64)
         return;
     };
     links[place] = row.with_level(level);
+}
+
+/// The packets that hold the links of a switch in this round hold them no more.
+#[tactic(auto, using(crate::proofs::NumberSteps::none_yet, crate::proofs::NumberSteps::one_more))]
+pub(crate) fn cut_links(links: &mut [LinkRow], switch: usize, round: u32)
+    ensures { links.new ≡ links_cut round switch links.old }
+{
+    for link in 0..LINKS {
+        cut_link(links, switch, link, round);
+    }
+}
+
+/// The same of a link of the switch.
+fn cut_link(links: &mut [LinkRow], switch: usize, link: usize, round: u32)
+    ensures { links.new ≡ change_link links.old switch link (link_cut round) }
+{
+    if link < LINKS && switch < links.len() / LINKS {
+        cut_wire(links, switch * LINKS + link, round);
+    }
+}
+
+/// The same at a place among links.
+fn cut_wire(links: &mut [LinkRow], place: usize, round: u32)
+    ensures { links.new ≡ change_at links.old place (link_cut round) }
+{
+    let Some(row) = links.get(place).copied() else {
+        return;
+    };
+    links[place] = row.cut(round);
 }
 
 /// A terminal sends a packet. The only error is out of memory, and then nothing has changed.

@@ -1,0 +1,13 @@
+//! Commands that reset a switch.
+ghost use Rattle.std.specs.Prelude.{◌≡◌};
+ghost use Rattle.c104_session.specs.Resets.{is_reset};
+
+/// Whether these bytes are the command that resets a switch.
+pub(crate) fn is_reset(bytes: &[u8]) -> bool
+    ensures { result ≡ is_reset bytes.now }
+{
+    match bytes {
+        [code] => *code == 0x02,
+        _ => false,
+    }
+}
