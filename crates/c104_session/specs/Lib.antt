@@ -8,6 +8,7 @@ pub mod Told
 pub mod Counted
 pub mod CountedRuns
 pub mod Keepers
+pub mod Resets
 pub mod Timed
 pub mod TimedRuns
 pub mod AskedPictures

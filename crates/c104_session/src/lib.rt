@@ -27,6 +27,7 @@ mod keepers;
 mod probing;
 mod progress;
 mod questions;
+mod resets;
 mod runs;
 mod session;
 mod standing;

@@ -1,9 +1,7 @@
 //! What the lines of a run have done, as far as messages tell of it.
 
+use crate::resets::is_reset;
 use c104_event::Event;
-
-/// The bytes of the command that resets a switch.
-const RESET: [u8; 1] = [0x02];
 
 /// What the lines of a run have done.
 #[derive(Drop)]
@@ -42,7 +40,7 @@ impl Tally {
     pub(crate) fn note(&mut self, event: &Event) {
         match event {
             Event::Send { .. } => self.note_packet(),
-            Event::Control { bytes, .. } if bytes.as_slice() == RESET.as_slice() => self.forget(),
+            Event::Control { bytes, .. } if is_reset(bytes.as_slice()) => self.forget(),
             _ => {}
         }
     }
