@@ -17,15 +17,27 @@ TITLE = re.compile(r'rounds (\d+) to (\d+); hatched: a packet holds the wire, an
 FITS = re.compile(rb'draw 1 TooLarge: --from (\d+) --to (\d+) fits\n')
 CELL, ROW, FIRST_ROW = 8, 14, 2
 
-# The fills of the packets 0 and 1 of a, and of 0 of b; those in which nothing crosses are hatched.
-A_0, A_1, B_0 = 'blue', 'url(#blue-1)', 'url(#darkorange-1)'
-A_IDLE = 'url(#blue-idle)'
+# The fills of the packets 0 and 1 of a, and of 0 of b, and of one that has no name; those in which nothing crosses are hatched.
+A_0, A_1, B_0, UNNAMED = 'blue', 'url(#blue-1)', 'url(#darkorange-1)', 'black'
+A_IDLE, UNNAMED_IDLE = 'url(#blue-idle)', 'url(#black-idle)'
+
+# The packet of the first run, and what is drawn of it.
+FIRST_ROWS = ['A', ('a to A.0', ('a 0', A_0, 1, 3)), ('A.1 to b', ('a 0', A_0, 2, 4))]
+
+# Two switches. Packets that come to the second go to a link that nothing leads on from.
+STUCK = (b'buffer 8\nswitch A\nswitch B\nwire A.1 B.1\nterminal a A.0\nrow A.0 1 1\nrow B.1 1 7\n')
+# Of a packet of 24 tokens 16 cross to B, up to round 17: as many as the input and the output there have room for. The other
+# eight wait in A's output, so that the last comes to A in round 24.
+STUCK_PACKET = b'send a 00' + b' 11' * 22 + b' eop\nrounds 30\n'
+# Resets A, lets it send everything by link 1 again, and has B throw everything away.
+RESET = b'control A 02\npoke A 0140 1\npoke A 0180 1\ncontrol A 01\ncontrol B 02\ncontrol B 01\n'
 
 # A description, a script, words, the first and the last round, and the rows: a name, or a name with what is drawn there, each
 # the packet, its fill, and the first and the last round.
 DRAWN = {
-    'the packet of the first run': (PLAN, FIRST, [], 1, 9,
-        ['A', ('a to A.0', ('a 0', A_0, 1, 3)), ('A.1 to b', ('a 0', A_0, 2, 4))]),
+    'the packet of the first run': (PLAN, FIRST, [], 1, 9, FIRST_ROWS),
+    'an event behind the last token': (PLAN, FIRST + b'rounds 11\nsend b 00 eop\n', [], 1, 20, FIRST_ROWS),
+    'an event that is not done': (PLAN, FIRST + b'rounds 11\ncross a\nclaim A 0 9\n', [], 1, 9, FIRST_ROWS),
     'from a round to another': (PLAN, FIRST, ['--from', '2', '--to', '3'], 2, 3,
         ['A', ('a to A.0', ('a 0', A_0, 2, 3)), ('A.1 to b', ('a 0', A_0, 2, 3))]),
     'a round in which one wire is still': (PLAN, FIRST, ['--from', '4'], 4, 9, ['A', ('A.1 to b', ('a 0', A_0, 4, 4))]),
@@ -42,6 +54,18 @@ DRAWN = {
         ['A', ('a to A.0', ('a 0', A_0, 0, 0), ('a 1', A_1, 0, 0))]),
     'a token before the first round': (PLAN, b'send a 01 68 eop\ncredit A.0\ncross a\nrounds 3\n', ['--to', '1'], 0, 1,
         ['A', ('a to A.0', ('a 0', A_0, 0, 1))]),
+    # Its end is in A's output at the Reset. Behind that the end of the next packet crosses from A to B in round 33, and then
+    # nothing is left to do.
+    'a packet that a reset cuts': (STUCK, STUCK_PACKET + RESET + b'send a 00 eop\nrounds 9\n', [], 1, 38,
+        ['A', ('a to A.0', ('a 0', A_0, 1, 24), ('a 1', A_1, 31, 32)),
+            ('A.1 to B.1', ('?', UNNAMED, 2, 17), ('?', UNNAMED_IDLE, 18, 30), ('a 1', A_1, 32, 33))]),
+    'the end of a run behind a reset': (STUCK, STUCK_PACKET + b'control A 02\n', ['--from', '29'], 29, 30,
+        ['A', ('A.1 to B.1', ('?', UNNAMED_IDLE, 29, 30))]),
+    # The end of the packet comes to A behind the Reset, without a header.
+    'a packet that is cut on its way in': (PLAN, b'send a 01 aa eop\nrounds 2\ncontrol A 02\npoke A 0140 2\npoke A 0180 1\n'
+        b'control A 01\nsend a 01 cc eop\nrounds 9\n', ['--to', '8'], 1, 8,
+        ['A', ('a to A.0', ('a 0', A_0, 1, 3), ('a 1', A_1, 4, 6)), ('A.1 to b', ('?', UNNAMED, 2, 2), ('a 1', A_1, 5, 7))]),
+    'a reset behind the end of a packet': (PLAN, FIRST + b'control A 02\nrounds 9\n', ['--to', '9'], 1, 9, FIRST_ROWS),
     'a packet of another terminal': (PLAN, b'send b 00 eop\nrounds 9\n', ['--to', '3'], 1, 3,
         ['A', ('A.0 to a', ('b 0', B_0, 2, 3)), ('b to A.1', ('b 0', B_0, 1, 2))]),
 }

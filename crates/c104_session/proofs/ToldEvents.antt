@@ -1,15 +1,15 @@
 -- Events of which a meter is told: the network goes on as by itself, and the meter comes to what it is told.
-use Rattle.std.proofs.Common.{◌≡◌, ◌⊎◌, Result, Ok, Err, OnErr, ap, inl, inr}
+use Rattle.std.proofs.Common.{◌≡◌, ◌⊎◌, ◌∙◌, Result, Ok, Err, OnErr, ap, inl, inr}
 use Rattle.c104_switch.specs.Actions.{Reply}
 use Rattle.c104_event.specs.declared.events.Event.{Event}
 use Rattle.c104_event.specs.declared.faults.EventFault.{EventFault}
 use Rattle.c104_event.specs.declared.faults.EventFault.TheVariants as fault
 use Rattle.c104_net.specs.MeteredRecords.{at_meter, record_metered, MeteredRecord}
 use Rattle.c104_run.specs.EventRuns.{Answers}
-use Rattle.c104_run.specs.NetRecords.{NetRecord}
+use Rattle.c104_run.specs.NetRecords.{is_done, NetRecord}
 use Rattle.c104_run.specs.RecordedRuns.{AnswersRecord}
 use Rattle.c104_timeline.specs.Metering.{watching}
-use Rattle.c104_timeline.specs.Timelines.{Timeline}
+use Rattle.c104_timeline.specs.Timelines.{timeline_ended, Timeline}
 use Rattle.c104_session.specs.Driven.{DoesEvent}
 use Rattle.c104_session.specs.Timed.{told_event}
 use Rattle.c104_session.proofs.CountedEvents.{asked_due}
@@ -32,6 +32,8 @@ module _ (net : NetRecord) (e : Event) (answer : Result Reply EventFault) (after
   pub timed_kept : Timed net t e answer after u → OnErr answer (after ≡ net)
   timed_kept told = event_kept net e answer after (of_record told)
 
-  pub timed_told : Timed net t e answer after u → (u ≡ told_event t net e) ⊎ (answer ≡ Err fault.NoMemory)
-  timed_told (inl due) = inl (ap (λ (x : Ended). x.1.meter) due)
-  timed_told (inr short) = inr short.0
+  -- and then whether it was done
+  pub timed_told : (v : Timeline) → Timed net t e answer after u → v ≡ timeline_ended u (is_done answer)
+      → (v ≡ told_event t net e) ⊎ (answer ≡ Err fault.NoMemory)
+  timed_told v (inl due) is = inl (is ∙ ap (λ (x : Ended). timeline_ended x.1.meter (is_done x.0)) due)
+  timed_told v (inr short) is = inr short.0

@@ -1,15 +1,17 @@
 -- The timeline of a run: what an event that is asked of a network adds to it, and what rounds do.
 --     timed_event t net e      an event
 --     timed_rounds t net n      n rounds
-use Rattle.std.specs.Prelude.{ℕ}
+use Rattle.std.specs.Prelude.{ℕ, List, if◌then◌else◌}
 use Rattle.c104_event.specs.declared.events.Event.{Event}
 use Rattle.c104_event.specs.declared.events.Event.TheVariants as event
-use Rattle.c104_run.specs.NetRecords.{NetRecord}
+use Rattle.c104_run.specs.NetRecords.{is_done, NetRecord}
+use Rattle.c104_run.specs.RecordedRuns.{record_apply}
 use Rattle.c104_net.specs.MeteredRecords.{at_meter, record_metered}
 use Rattle.c104_timeline.specs.Metering.{watching}
-use Rattle.c104_timeline.specs.Timelines.{timeline_begun, timeline_ended, timeline_passed, timeline_settled, Timeline}
+use Rattle.c104_timeline.specs.Timelines.{timeline_begun, timeline_cut, timeline_ended, timeline_passed, timeline_settled, Timeline}
 use Rattle.c104_session.specs.Driven.{Driving}
 use Rattle.c104_session.specs.Keepers.{rounds_kept, Keeping}
+use Rattle.c104_session.specs.Resets.{is_reset}
 
 -- what rounds do beside their tokens
 abbrev pub timeline_keeps : Keeping Timeline
@@ -19,20 +21,26 @@ timeline_keeps = record {
   passed = λ t times. timeline_passed t times;
 }
 
--- after an event, before which what crossed at its port has become part of the timeline
+-- before a control command: where it resets a switch the tokens in that are thrown away
+abbrev pub before_command : Timeline → ℕ → List ℕ → Timeline
+before_command t s bytes = if is_reset bytes then timeline_cut t s else t
+
+-- before an event: what crossed at its port has become part of the timeline
 abbrev pub before_event : Timeline → Event → Timeline
 before_event t (event.Cross p) = timeline_settled t p
 before_event t (event.Credit p) = t
 before_event t (event.Input s l word) = t
 before_event t (event.Claim s i o) = t
-before_event t (event.Control s bytes) = t
+before_event t (event.Control s bytes) = before_command t s bytes
 before_event t (event.Send terminal packet) = t
 before_event t (event.Drain terminal) = t
 
--- what the timeline is told of an event
+-- what the timeline is told of an event: what crosses, and whether anything was done
 abbrev pub told_event : Timeline → NetRecord → Event → Timeline
-told_event t net e = (record_metered watching (at_meter net t) e).1.meter
+told_event t net e =
+    timeline_ended (record_metered watching (at_meter net t) e).1.meter (is_done (record_apply net e).0)
 
+-- after an event
 abbrev pub timed_event : Timeline → NetRecord → Event → Timeline
 timed_event t net e = told_event (before_event t e) net e
 

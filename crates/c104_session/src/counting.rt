@@ -137,7 +137,7 @@ fn keep_sent(stats: &mut Stats, terminal: usize, done: bool)
 }
 
 /// Whether an event that was answered so was done.
-fn was_done(answer: &Result<Reply, EventFault>) -> bool
+pub(crate) fn was_done(answer: &Result<Reply, EventFault>) -> bool
     ensures { result ≡ is_done answer.now }
 {
     match answer {

@@ -2,10 +2,12 @@
 ghost use Rattle.std.specs.Prelude.{◌≡◌, ◌⊎◌, Err, OnErr, OnOk};
 ghost use Rattle.c104_event.specs.declared.faults.EventFault.TheVariants as fault;
 ghost use Rattle.c104_session.specs.Driven.{DoesEvent};
-ghost use Rattle.c104_session.specs.Timed.{before_event, told_event};
+ghost use Rattle.c104_session.specs.Timed.{before_command, before_event, told_event};
 
+use crate::counting::was_done;
 use crate::driver::Driver;
 use crate::keepers::{Keeper, keep_rounds};
+use crate::resets::is_reset;
 use c104_event::{Event, EventFault};
 use c104_net::{MeteredNet, TracedNet, Watch};
 use c104_switch::Reply;
@@ -36,7 +38,7 @@ impl Driver for Timeline {
     ghost drives = { timeline_kept };
 
     fn event(&mut self, net: &mut TracedNet, event: &Event) -> Result<Reply, EventFault> {
-        settle_before(self, event)?;
+        prepare(self, event)?;
         do_timed(self, net, event)
     }
 
@@ -50,7 +52,7 @@ impl Driver for Timeline {
     }
 }
 
-/// Does an event, of which the timeline is told.
+/// Does an event, of which the timeline is told, and whether it was done.
 #[tactic(auto, using(crate::proofs::ToldEvents::timed_due, crate::proofs::ToldEvents::timed_kept, crate::proofs::ToldEvents::timed_told))]
 fn do_timed(
     timeline: &mut Timeline,
@@ -61,15 +63,29 @@ fn do_timed(
     ensures kept { OnErr result (net.new ≡ net.old) }
     ensures told { (timeline.new ≡ told_event timeline.old net.old event.now) ⊎ (result ≡ Err fault.NoMemory) }
 {
-    net.apply_told(event, timeline)
+    let answer = net.apply_told(event, timeline);
+    timeline.end_round(was_done(&answer));
+    answer
 }
 
-/// What crossed at the port of an event becomes part of the timeline. The only error is out of memory.
-fn settle_before(timeline: &mut Timeline, event: &Event) -> Result<(), NoMemory>
+/// What is due before an event: what crossed at its port becomes part of the timeline, and where it resets a switch the tokens
+/// in that are thrown away. The only error is out of memory.
+fn prepare(timeline: &mut Timeline, event: &Event) -> Result<(), NoMemory>
     ensures { OnOk result (timeline.new ≡ before_event timeline.old event.now) }
 {
     match event {
         Event::Cross(port) => timeline.settle(*port),
+        Event::Control { switch, bytes } => cut_before(timeline, *switch, bytes.as_slice()),
         _ => Ok(()),
     }
+}
+
+/// The same before a control command.
+fn cut_before(timeline: &mut Timeline, switch: usize, bytes: &[u8]) -> Result<(), NoMemory>
+    ensures { OnOk result (timeline.new ≡ before_command timeline.old switch bytes.now) }
+{
+    if is_reset(bytes) {
+        timeline.cut(switch)?;
+    }
+    Ok(())
 }

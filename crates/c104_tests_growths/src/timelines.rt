@@ -14,6 +14,7 @@ use std::alloc::Global;
 enum Call {
     New,
     Settle,
+    Cut,
     Begin,
     Close,
     Draw,
@@ -24,6 +25,7 @@ impl Call {
         match self {
             Call::New => Outcome::of(Timeline::new(alloc, net.plan())),
             Call::Settle => Outcome::of(timeline.settle(Port::Terminal(0))),
+            Call::Cut => Outcome::of(timeline.cut(0)),
             Call::Begin => Outcome::of(timeline.begin_round()),
             Call::Close => Outcome::of(timeline.close_all(net)),
             Call::Draw => {
@@ -34,7 +36,8 @@ impl Call {
     }
 }
 
-/// Something is asked of the timeline of a network over whose first terminal's wire the end of a packet has crossed.
+/// Something is asked of the timeline of a network over whose first terminal's wire the end of a packet has crossed, and over
+/// that out of a link the header of another.
 #[derive(Drop)]
 struct Timing<'a> {
     net: &'a TracedNet,
@@ -51,6 +54,7 @@ impl Timing<'_> {
                 number: 0,
             }),
         );
+        timeline.cross(Port::Switch(0, 1), None);
         if let Call::Draw = self.call {
             timeline.close_all(self.net).ok()?;
         }
@@ -83,6 +87,7 @@ impl Suite for TimelineCalls {
         for (name, call) in [
             ("Timeline::new", Call::New),
             ("Timeline::settle", Call::Settle),
+            ("Timeline::cut", Call::Cut),
             ("Timeline::begin_round", Call::Begin),
             ("Timeline::close_all", Call::Close),
             ("time_picture", Call::Draw),

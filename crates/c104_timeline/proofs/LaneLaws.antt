@@ -6,7 +6,7 @@ use Rattle.std.proofs.lemmas.List.{length-append}
 use Rattle.std.specs.Option.{option_to_list}
 use Rattle.c104_node.specs.declared.origins.Origin.{Origin}
 use Rattle.c104_stats.specs.Numbers.{few}
-use Rattle.c104_timeline.specs.Lanes.{closed_by, is_open, lane_closed, lane_crossed, lane_settled, lane_stepped, name_if, new_lane, rest_of, step_of, Crossing, Lane, Step, Stretch}
+use Rattle.c104_timeline.specs.Lanes.{as_ended, closed_by, is_open, lane_closed, lane_crossed, lane_settled, lane_stepped, name_if, new_lane, rest_of, step_of, Crossing, Lane, Step, Stretch}
 use Rattle.c104_timeline.specs.LaneLaws.{ended, lane_after, names, open_after, open_name, Any, AreInOrder, Crosses, Holds, IsBetween, IsShown, LaneLaw, Moves, ShowsHeld, ShowsMoved}
 use Rattle.c104_timeline.proofs.LaneSteps.{before_step, held_step, moved_step, open_by, open_of, open_step, same_number, AddsMoved, IsBefore, LatestShows, StepShows}
 
@@ -23,9 +23,9 @@ settled_after l [] = refl
 settled_after l (x ∷ xs) = settled_after (lane_crossed (lane_settled l) x.round x.ends) xs
 
 -- how many packets have ended behind it
-more_ended : (packets : List Origin) (ends : Option Origin) → length (packets ++ option_to_list ends) ≡ ended (length packets) ends
+more_ended : (packets : List (Option Origin)) (ends : Option Origin) → length (packets ++ as_ended ends) ≡ ended (length packets) ends
 more_ended packets None = ap length (append-nil packets)
-more_ended packets (Some packet) = length-append packets (packet ∷ []) ∙ omega arith
+more_ended packets (Some packet) = length-append packets (Some packet ∷ []) ∙ omega arith
 
 -- what some stretches show, or others
 module _ (P : Stretch → Type 0) where
@@ -239,28 +239,28 @@ still_then k round end from last n (x ∷ xs) order (inr more) (inr crosses) =
 
 -- packets are named by their ends
 module _ (packet : Option Origin) where
-  abbrev all_names : Lane → List Origin
-  all_names l = l.packets ++ option_to_list (open_name (open_of l.latest (length l.packets)) packet)
+  abbrev all_names : Lane → List (Option Origin)
+  all_names l = l.packets ++ as_ended (open_name (open_of l.latest (length l.packets)) packet)
 
   named_after : (l : Lane) (xs : List Crossing)
       → all_names (all_stepped l xs) ≡ l.packets ++ names packet (open_of l.latest (length l.packets)) xs
   named_after l [] = refl
   named_after l (x ∷ xs) =
       named_after (stepped l x) xs
-      ∙ ap (λ n. (l.packets ++ option_to_list x.ends) ++ names packet (open_of (stepped l x).latest n) xs) (more_ended l.packets x.ends)
-      ∙ ap (λ last. (l.packets ++ option_to_list x.ends) ++ names packet last xs)
+      ∙ ap (λ n. (l.packets ++ as_ended x.ends) ++ names packet (open_of (stepped l x).latest n) xs) (more_ended l.packets x.ends)
+      ∙ ap (λ last. (l.packets ++ as_ended x.ends) ++ names packet last xs)
       (open_step (length l.packets) x.round l.latest x.ends)
-      ∙ append_assoc l.packets (option_to_list x.ends) (names packet (open_after x.round x.ends) xs)
+      ∙ append_assoc l.packets (as_ended x.ends) (names packet (open_after x.round x.ends) xs)
 
   name_by : (s : Stretch) (free : Bool) → name_if free packet ≡ open_name (open_by free s) packet
   name_by s true = refl
   name_by s false = refl
 
   closed_names : (end : ℕ) (l : Lane) (o : Option Stretch)
-      → (closed_by end packet l o).packets ≡ l.packets ++ option_to_list (open_name (open_of o (length l.packets)) packet)
+      → (closed_by end packet l o).packets ≡ l.packets ++ as_ended (open_name (open_of o (length l.packets)) packet)
   closed_names end l None = sym (append-nil l.packets)
   closed_names end l (Some s) =
-      ap (λ name. l.packets ++ option_to_list name) (name_by s (is_open s (length l.packets)))
+      ap (λ name. l.packets ++ as_ended name) (name_by s (is_open s (length l.packets)))
 
 -- all of it
 module _ (xs : List Crossing) (end : ℕ) (packet : Option Origin) (order : AreInOrder 0 end xs) (few_rounds : end < 4294967295) where

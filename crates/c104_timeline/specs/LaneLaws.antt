@@ -1,9 +1,8 @@
 -- What is drawn of the wire at a port, from there, in words: at the end of a run, whatever tokens crossed.
 --     LaneLaw      of any tokens that crossed, one after the other
 use Rattle.std.specs.Prelude.{ℕ, suc, ◌≡◌, ◌+◌, ◌<◌, ◌≤◌, ◌⊎◌, ◌↔◌, ⊤, List, [], ◌∷◌, ◌++◌, Option, Some, None}
-use Rattle.std.specs.Option.{option_to_list}
 use Rattle.c104_node.specs.declared.origins.Origin.{Origin}
-use Rattle.c104_timeline.specs.Lanes.{lane_closed, lane_crossed, lane_settled, new_lane, Crossing, Lane, Stretch}
+use Rattle.c104_timeline.specs.Lanes.{as_ended, lane_closed, lane_crossed, lane_settled, new_lane, Crossing, Lane, Stretch}
 
 -- tokens that cross one after the other, from this round on, up to this one
 abbrev pub AreInOrder : ℕ → ℕ → List Crossing → Type 0
@@ -62,9 +61,9 @@ abbrev pub open_name : Option ℕ → Option Origin → Option Origin
 open_name None packet = None
 open_name (Some last) packet = packet
 
-abbrev pub names : Option Origin → Option ℕ → List Crossing → List Origin
-names packet last [] = option_to_list (open_name last packet)
-names packet last (x ∷ xs) = option_to_list x.ends ++ names packet (open_after x.round x.ends) xs
+abbrev pub names : Option Origin → Option ℕ → List Crossing → List (Option Origin)
+names packet last [] = as_ended (open_name last packet)
+names packet last (x ∷ xs) = as_ended x.ends ++ names packet (open_after x.round x.ends) xs
 
 -- what is shown at the end of a run, where these crossed, this is the last round that is drawn, and this the packet whose
 -- end has yet to cross

@@ -1,9 +1,10 @@
 -- What crossed the wire at a port, from there: stretches of rounds, in each of which tokens of one packet crossed.
 --     lane_crossed l round ends      a token crosses
 --     lane_settled l      the token that crossed last has become part of a stretch
+--     lane_cut round l      the tokens behind it are thrown away
 --     lane_closed end packet l      the run is at its end
-use Rattle.std.specs.Prelude.{ℕ, ◌+◌, ◌==◌, ◌&&◌, Bool, true, false, List, [], ◌∷◌, ◌++◌, Option, Some, None, if◌then◌else◌, length, nat_le, slice_get}
-use Rattle.std.specs.Option.{option_to_list}
+use Rattle.std.specs.Prelude.{ℕ, ◌+◌, ◌==◌, ◌&&◌, Bool, true, false, List, [], ◌∷◌, ◌++◌, Option, Some, None, if◌then◌else◌, length, nat_le, nat_lt, slice_get}
+use Rattle.std.specs.Option.{option_to_list, unwrap_or}
 use Rattle.c104_node.specs.declared.origins.Origin.{Origin}
 use Rattle.c104_stats.specs.Numbers.{few}
 pub use Rattle.c104_timeline.specs.declared.lanes.Crossing.{Crossing}
@@ -13,8 +14,9 @@ pub use Rattle.c104_timeline.specs.declared.lanes.Stretch.{Stretch}
 pub record Lane : Type 0 where
   -- the stretches that are past
   pub stretches : List Stretch
-  -- the packets that have crossed to their end; at the end of the run also one that hasn't, if it is known
-  pub packets : List Origin
+  -- the packets that have ended: those that crossed to their end, and without a name those that were cut, whose rest was
+  -- thrown away; at the end of the run also one that hasn't ended, if it is known
+  pub packets : List (Option Origin)
   -- the latest stretch, and a token that has yet to become part of one
   pub latest : Option Stretch
   pub token : Option Crossing
@@ -26,7 +28,12 @@ new_lane = record { stretches = []; packets = []; latest = None; token = None }
 abbrev pub next_round : ℕ → ℕ
 next_round round = few (round + 1)
 
--- whether the packet of a stretch holds the wire, where k packets have crossed to their end
+-- a packet that crosses to its end, if one does, as one of those that have ended
+abbrev pub as_ended : Option Origin → List (Option Origin)
+as_ended None = []
+as_ended (Some packet) = Some packet ∷ []
+
+-- whether the packet of a stretch holds the wire, where k packets have ended
 abbrev pub is_open : Stretch → ℕ → Bool
 is_open s k = s.packet == k
 
@@ -58,7 +65,7 @@ lane_crossed l round ends = record l { token = Some (record { round = round; end
 abbrev pub lane_stepped : Lane → Crossing → Step → Lane
 lane_stepped l c step = record {
   stretches = l.stretches ++ option_to_list step.past;
-  packets = l.packets ++ option_to_list c.ends;
+  packets = l.packets ++ as_ended c.ends;
   latest = Some step.latest;
   token = None;
 }
@@ -75,6 +82,22 @@ abbrev pub rest_of : Bool → ℕ → Stretch → Option Stretch
 rest_of true end s = Some (record { packet = s.packet; since = next_round s.last; first = next_round end; last = end })
 rest_of false end s = None
 
+-- a packet that holds the wire is cut in this round: it has held the wire up to then, and has ended without a name
+abbrev pub cut_with : ℕ → Lane → Bool → Stretch → Lane
+cut_with round l true s = record l {
+  stretches = l.stretches ++ s ∷ option_to_list (rest_of (nat_lt s.last round) round s);
+  packets = l.packets ++ None ∷ [];
+  latest = None;
+}
+cut_with round l false s = l
+
+abbrev pub cut_by : ℕ → Lane → Option Stretch → Lane
+cut_by round l None = l
+cut_by round l (Some s) = cut_with round l (is_open s (length l.packets)) s
+
+abbrev pub lane_cut : ℕ → Lane → Lane
+lane_cut round l = cut_by round (lane_settled l) (lane_settled l).latest
+
 -- the packet that holds it
 abbrev pub name_if : Bool → Option Origin → Option Origin
 name_if true packet = packet
@@ -84,7 +107,7 @@ name_if false packet = None
 abbrev pub closed_with : ℕ → Option Origin → Lane → Bool → Stretch → Lane
 closed_with end packet l held s = record l {
   stretches = l.stretches ++ s ∷ option_to_list (rest_of held end s);
-  packets = l.packets ++ option_to_list (name_if held packet);
+  packets = l.packets ++ as_ended (name_if held packet);
   latest = None;
 }
 
@@ -97,4 +120,4 @@ lane_closed end packet l = closed_by end packet (lane_settled l) (lane_settled l
 
 -- the packet of a stretch, if its end tells it
 abbrev pub packet_of : Lane → Stretch → Option Origin
-packet_of l s = slice_get l.packets s.packet
+packet_of l s = unwrap_or (slice_get l.packets s.packet) None

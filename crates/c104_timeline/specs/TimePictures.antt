@@ -42,6 +42,7 @@ up_to p to = record { from = p.from; to = to }
 pub record IsWidest (plan : Plan) (t : Timeline) (p fits : Period) : Type 0 where
   pub short : IsShort plan t fits
   pub begins : fits.from ≡ p.from
+  pub forward : fits.from ≤ fits.to
   pub within : fits.to < p.to
   pub more : IsLong plan t (up_to p (fits.to + 1))
 

@@ -5,9 +5,9 @@ use Rattle.c104_plan.specs.Plans.{Plan}
 use Rattle.c104_plan.specs.declared.ports.Port.{Port}
 use Rattle.c104_plan.specs.declared.ports.Port.TheVariants as port
 use Rattle.c104_node.specs.declared.origins.Origin.{Origin}
-use Rattle.c104_stats.specs.Numbers.{few}
+use Rattle.c104_stats.specs.Numbers.{each_number, few}
 use Rattle.c104_stats.specs.Packets.{change_at}
-use Rattle.c104_timeline.specs.Lanes.{lane_closed, lane_crossed, lane_settled, new_lane, next_round, Lane}
+use Rattle.c104_timeline.specs.Lanes.{lane_closed, lane_crossed, lane_cut, lane_settled, new_lane, next_round, Lane}
 use Rattle.c104_timeline.specs.declared.timelines.TheConstants.{BEYOND}
 
 pub record Timeline : Type 0 where
@@ -59,11 +59,18 @@ timeline_crossed t p ended =
 abbrev pub timeline_settled : Timeline → Port → Timeline
 timeline_settled t p = changed t (place_of t p) lane_settled
 
+-- the tokens in a switch are thrown away: a packet that holds the wire at this link of it is cut, and so is one at any link
+abbrev pub link_cut : ℕ → ℕ → Timeline → Timeline
+link_cut s l t = changed t (place_of t (port.Switch s l)) (lane_cut t.round)
+
+abbrev pub timeline_cut : Timeline → ℕ → Timeline
+timeline_cut t s = each_number (link_cut s) LINKS t
+
 -- a round begins
 abbrev pub timeline_begun : Timeline → Timeline
 timeline_begun t = record t { lanes = map lane_settled t.lanes; round = next_round t.round }
 
--- the round ended, in which something was done or not
+-- the round ended, or an event outside of rounds, and something was done or not
 abbrev pub timeline_ended : Timeline → Bool → Timeline
 timeline_ended t done = record t { active = if done then t.round else t.active }
 

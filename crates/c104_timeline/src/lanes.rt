@@ -1,10 +1,10 @@
 //! What crossed one wire, one way.
-ghost use Rattle.std.specs.Prelude.{◌≡◌, ◌++◌, length, slice_get, IfOk, OnOk};
+ghost use Rattle.std.specs.Prelude.{◌≡◌, ◌++◌, length, nat_lt, slice_get, IfOk, OnOk};
 ghost use Rattle.std.specs.Option.{option_to_list};
 ghost use Rattle.c104_stats.specs.Numbers.{few};
 ghost use Rattle.c104_timeline.specs.LaneLaws.{LaneLaw};
-ghost use Rattle.c104_timeline.specs.Lanes.{first_stretch, goes_on, held_since, is_open, lane_closed, lane_crossed, lane_settled};
-ghost use Rattle.c104_timeline.specs.Lanes.{name_if, new_lane, next_round, packet_of, rest_of, step_by, step_of};
+ghost use Rattle.c104_timeline.specs.Lanes.{as_ended, first_stretch, goes_on, held_since, is_open, lane_closed, lane_crossed, lane_cut};
+ghost use Rattle.c104_timeline.specs.Lanes.{lane_settled, name_if, new_lane, next_round, packet_of, rest_of, step_by, step_of};
 
 use c104_node::Origin;
 use c104_token::NoMemory;
@@ -44,7 +44,8 @@ pub(crate) struct Step {
 #[derive(Drop)]
 pub(crate) struct Lane {
     stretches: Vec<Stretch>,
-    packets: Vec<Origin>,
+    // One that was cut has no name.
+    packets: Vec<Option<Origin>>,
     latest: Option<Stretch>,
     token: Option<Crossing>,
 }
@@ -86,7 +87,7 @@ impl Lane {
     pub(crate) fn packet_of(&self, stretch: Stretch) -> Option<Origin>
         ensures { result ≡ packet_of self.now stretch }
     {
-        self.packets.get(stretch.packet).copied()
+        self.packets.get(stretch.packet).copied().unwrap_or(None)
     }
 
     /// A token crosses in this round, which ends this packet, or none. The token before is part of a stretch by now.
@@ -105,9 +106,31 @@ impl Lane {
         };
         let step = step_of(self.latest, self.packets.len(), crossing.round);
         push_if(&mut self.stretches, step.past)?;
-        push_if(&mut self.packets, crossing.ends)?;
+        push_ended(&mut self.packets, crossing.ends)?;
         self.latest = Some(step.latest);
         self.token = None;
+        Ok(())
+    }
+
+    /// The tokens that have yet to cross are thrown away in this round. A packet that holds the wire has held it up to then,
+    /// and has no name. The only error is out of memory.
+    pub(crate) fn cut(&mut self, round: u32) -> Result<(), NoMemory>
+        ensures { OnOk result (self.new ≡ lane_cut round self.old) }
+    {
+        self.settle()?;
+        let Some(latest) = self.latest else {
+            return Ok(());
+        };
+        if !latest.is_open(self.packets.len()) {
+            return Ok(());
+        }
+        self.stretches.push(latest)?;
+        push_if(
+            &mut self.stretches,
+            rest_of(latest.last < round, round, latest),
+        )?;
+        self.packets.push(None)?;
+        self.latest = None;
         Ok(())
     }
 
@@ -123,7 +146,7 @@ impl Lane {
         let held = latest.is_open(self.packets.len());
         self.stretches.push(latest)?;
         push_if(&mut self.stretches, rest_of(held, end, latest))?;
-        push_if(&mut self.packets, name_if(held, packet))?;
+        push_ended(&mut self.packets, name_if(held, packet))?;
         self.latest = None;
         Ok(())
     }
@@ -142,7 +165,7 @@ impl Stretch {
         }
     }
 
-    /// Whether its packet holds the wire, where this many packets have crossed to their end.
+    /// Whether its packet holds the wire, where this many packets have ended.
     fn is_open(self, packets: usize) -> bool
         ensures { result ≡ is_open self packets }
     {
@@ -235,6 +258,16 @@ fn push_if<T: Drop>(list: &mut Vec<T>, item: Option<T>) -> Result<(), NoMemory>
 {
     if let Some(item) = item {
         list.push(item)?;
+    }
+    Ok(())
+}
+
+/// A packet that crosses to its end, if one does, joins those that have ended. The only error is out of memory.
+fn push_ended(packets: &mut Vec<Option<Origin>>, packet: Option<Origin>) -> Result<(), NoMemory>
+    ensures { OnOk result (packets.new.items ≡ packets.old.items ++ as_ended packet) }
+{
+    if let Some(packet) = packet {
+        packets.push(Some(packet))?;
     }
     Ok(())
 }

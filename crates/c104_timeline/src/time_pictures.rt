@@ -117,6 +117,7 @@ fn widest(
     requires short { IsShort plan.now timeline.now first }
     requires long { IsLong plan.now timeline.now (up_to first beyond) }
     requires before { first.to < beyond }
+    requires forward { first.from ≤ first.to }
     ensures { IfOk result (IsWidest plan.now timeline.now (up_to first beyond)) }
 {
     let mut best = first;

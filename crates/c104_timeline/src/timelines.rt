@@ -6,9 +6,9 @@ ghost use Rattle.std.specs.Prelude.{◌≡◌, ◌+◌, ◌*◌, ◌<◌, length
 ghost use Rattle.c104_plan.specs.declared.ports.Port.TheVariants as port;
 ghost use Rattle.c104_regs.specs.declared.registers.TheConstants.{LINKS};
 ghost use Rattle.c104_stats.specs.Packets.{change_at};
-ghost use Rattle.c104_timeline.specs.Lanes.{lane_closed, lane_crossed, lane_settled, new_lane};
-ghost use Rattle.c104_timeline.specs.Timelines.{last_round, lane_count, new_timeline, place_of, port_at, timeline_begun, timeline_closed};
-ghost use Rattle.c104_timeline.specs.Timelines.{timeline_crossed, timeline_ended, timeline_passed, timeline_settled};
+ghost use Rattle.c104_timeline.specs.Lanes.{lane_closed, lane_crossed, lane_cut, lane_settled, new_lane};
+ghost use Rattle.c104_timeline.specs.Timelines.{last_round, lane_count, link_cut, new_timeline, place_of, port_at, timeline_begun};
+ghost use Rattle.c104_timeline.specs.Timelines.{timeline_closed, timeline_crossed, timeline_cut, timeline_ended, timeline_passed, timeline_settled};
 
 use crate::lanes::{Lane, next_round};
 use c104_node::Origin;
@@ -129,6 +129,29 @@ impl Timeline {
         Ok(())
     }
 
+    /// The tokens in a switch are thrown away, as by a reset of it. A packet that holds the wire out of one of its links has
+    /// held it up to now, and has no name. The only error is out of memory.
+    #[tactic(auto, using(c104_stats::proofs::NumberSteps::none_yet, c104_stats::proofs::NumberSteps::one_more))]
+    pub fn cut(&mut self, switch: usize) -> Result<(), NoMemory>
+        ensures { OnOk result (self.new ≡ timeline_cut self.old switch) }
+    {
+        for link in 0..LINKS {
+            self.cut_link(switch, link)?;
+        }
+        Ok(())
+    }
+
+    /// The same of one of its links.
+    fn cut_link(&mut self, switch: usize, link: usize) -> Result<(), NoMemory>
+        ensures { OnOk result (self.new ≡ link_cut switch link self.old) }
+    {
+        let round = self.round;
+        if let Some(place) = self.link_place(switch, link) {
+            cut_at(&mut self.lanes, place, round)?;
+        }
+        Ok(())
+    }
+
     /// A round begins. The only error is out of memory.
     pub fn begin_round(&mut self) -> Result<(), NoMemory>
         ensures { OnOk result (self.new ≡ timeline_begun self.old) }
@@ -138,7 +161,7 @@ impl Timeline {
         Ok(())
     }
 
-    /// The round ends, in which something was done or not.
+    /// The round ends, or an event outside of rounds, which counts to the round before. Something was done or not.
     pub fn end_round(&mut self, done: bool)
         ensures { self.new ≡ timeline_ended self.old done }
     {
@@ -230,6 +253,25 @@ fn settle_there(lanes: &mut [Lane], place: usize) -> Result<(), NoMemory>
 {
     let lane = &mut lanes[place];
     lane.settle()
+}
+
+/// The tokens that have yet to cross at a place, if there is such a place, are thrown away in this round.
+fn cut_at(lanes: &mut [Lane], place: usize, round: u32) -> Result<(), NoMemory>
+    ensures { OnOk result (lanes.new ≡ change_at lanes.old place (lane_cut round)) }
+{
+    let Some(_) = lanes.get(place) else {
+        return Ok(());
+    };
+    cut_there(lanes, place, round)
+}
+
+/// The same where there is.
+fn cut_there(lanes: &mut [Lane], place: usize, round: u32) -> Result<(), NoMemory>
+    requires inside { place < length lanes.old }
+    ensures { OnOk result (lanes.new ≡ change_at lanes.old place (lane_cut round)) }
+{
+    let lane = &mut lanes[place];
+    lane.cut(round)
 }
 
 /// The run is at its end, at a place, if there is such a place.

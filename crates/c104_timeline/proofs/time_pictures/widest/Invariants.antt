@@ -7,6 +7,7 @@ abbrev pub invariant-loop-best : goal.invariant-loop-best
 invariant-loop-best l = record {
   short : IsShort l.plan l.timeline l.best;
   begins : l.best.from ≡ l.initial.best.from;
+  forward : l.best.from ≤ l.best.to;
   above : l.best.to < l.end;
   within : l.end ≤ l.beyond;
   long : IsLong l.plan l.timeline (up_to l.initial.best l.end);

@@ -1,0 +1,8 @@
+use Rattle.c104_stats.proofs.SenderSteps.{changed_if}
+use Rattle.c104_timeline.specs.Lanes.{lane_cut}
+use Rattle.c104_timeline.proofs.timelines.cut_there.Goals as goal
+
+pub returns : goal.returns
+returns c =
+    changed_if c.args.lanes.now c.args.place c.index-lanes-place.result (lane_cut c.args.round) c.cut.new.self c.cut.result
+    c.requires.inside c.cut.ensures
