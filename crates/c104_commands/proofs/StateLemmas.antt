@@ -1,6 +1,5 @@
 -- The picture of a network after a script: what is drawn by the answers of the script, and how it ends where nothing is.
-use Rattle.std.proofs.Common.{◌≡◌, ◌||◌, ℕ, Bool, List, Option, None, Some, Err, Ok, inl, inr, refl, ap, subst, sym, ◌∙◌}
-use Rattle.std.specs.Io.KnownBytes.{Keeps}
+use Rattle.std.proofs.Common.{◌≡◌, ◌||◌, ℕ, Bool, List, Option, None, Some, Ok, inl, inr, refl, ap, subst, sym, ◌∙◌}
 use Rattle.std.proofs.KnownBytes.{Keeps-refl}
 use Rattle.c104_plan.specs.Plans.{Plan}
 use Rattle.c104_plan.specs.PlanImage.{Image}

@@ -1,5 +1,5 @@
 -- How `traffic` ends, by what it writes of a network.
-use Rattle.std.proofs.Common.{◌≡◌, ℕ, List, true, false, length, Option, Result, Ok, refl}
+use Rattle.std.proofs.Common.{ℕ, List, true, false, Option, Result, Ok, refl}
 use Rattle.c104_plan.specs.Plans.{Plan}
 use Rattle.c104_plan.specs.PlanImage.{Image}
 use Rattle.c104_describe.specs.declared.faults.PlanFault.{PlanFault}

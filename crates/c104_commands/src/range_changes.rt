@@ -1,5 +1,5 @@
 //! The lines of a description by which a terminal has other labels.
-ghost use Rattle.std.specs.Prelude.{◌≡◌, ◌⊎◌, ⊤, ◌+◌, ◌≤◌, ◌<◌, true, false, IfOk, MatchOption};
+ghost use Rattle.std.specs.Prelude.{◌≡◌, ⊤, ◌+◌, ◌<◌, true, false, IfOk, MatchOption};
 ghost use Rattle.std.specs.String.{string_bytes};
 ghost use Rattle.c104_commands.specs.RangeChanges.{AreApart, IsApart, IsFreeRange, TellsRange, range_text};
 

@@ -1,7 +1,6 @@
 -- Rounds that are counted, one by one: what is counted of them, and how the network goes on beside that.
-use Rattle.std.proofs.Common.{◌≡◌, ◌⊎◌, ◌+◌, ◌-◌, ◌<◌, ◌≤◌, ◌∙◌, ℕ, zero, suc, Bool, true, false, List, [], ◌∷◌, ◌++◌, Result, Ok, Err}
-use Rattle.std.proofs.Common.{if◌then◌else◌, ap, arith, inl, inr, refl, subst, sym}
-use Rattle.c104_event.specs.declared.events.Event.{Event}
+use Rattle.std.proofs.Common.{◌≡◌, ◌+◌, ◌-◌, ◌<◌, ◌∙◌, ℕ, suc, Bool, true, false, Result, Ok, Err}
+use Rattle.std.proofs.Common.{if◌then◌else◌, ap, arith, inl, refl, sym}
 use Rattle.c104_event.specs.declared.faults.EventFault.{EventFault}
 use Rattle.c104_net.specs.MeteredRecords.{at_meter, record_metered}
 use Rattle.c104_run.specs.EventRuns.{run_events, EventsEnd, Outcome}
@@ -13,7 +12,7 @@ use Rattle.c104_run.proofs.RoundsTaken.{round_idle, round_refused, round_taken}
 use Rattle.c104_stats.specs.Counts.{counts_begun, counts_noted, counts_passed, Counts}
 use Rattle.c104_stats.specs.Metering.{counting}
 use Rattle.c104_stats.specs.Sights.{counts_of_net}
-use Rattle.c104_session.specs.Counted.{counted_on, counted_round, is_later, rounds_counted, Counted, CountsRound}
+use Rattle.c104_session.specs.Counted.{counted_on, counted_round, rounds_counted, Counted, CountsRound}
 
 -- the network of a round that is counted goes on as by itself
 record_of : (net : NetRecord) (c : Counts)

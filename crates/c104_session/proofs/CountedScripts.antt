@@ -1,7 +1,6 @@
 -- What is printed of the counts of a run, and how the run ends.
-use Rattle.std.proofs.Common.{◌≡◌, ◌≢◌, ◌||◌, ◌∙◌, ℕ, Bool, true, false, List, [], ◌++◌, Option, None, Some, Result, Ok, Err, OnOk}
+use Rattle.std.proofs.Common.{◌≡◌, ◌||◌, ◌∙◌, ℕ, Bool, true, false, List, [], ◌++◌, Option, None, Some, Result, Ok, Err, OnOk}
 use Rattle.std.proofs.Common.{append-nil, ap, inl, inr, refl, subst, sym}
-use Rattle.std.specs.Io.KnownBytes.{Appends}
 use Rattle.c104_token.specs.Kinds.{plain_kind}
 use Rattle.c104_plan.specs.Plans.{Plan}
 use Rattle.c104_plan.specs.PlanImage.{Image}

@@ -2,7 +2,7 @@
 use Rattle.std.proofs.Common.{◌≡◌, ℕ, suc, Bool, List, [], ◌∷◌, ◌++◌, Option, None, Some, Result, Ok, Err, ap, ◌∙◌, refl, subst}
 use Rattle.std.specs.Io.KnownBytes.{Appends}
 use Rattle.c104_stream.specs.ScriptLines.{script_lines, whole_lines}
-use Rattle.c104_stream.specs.Scripts.{AnswersLine, AnswersScript, lines_outcome, script_outcome}
+use Rattle.c104_stream.specs.Scripts.{AnswersLine, AnswersScript, lines_outcome}
 use Rattle.c104_stream.specs.Writing.{AppendsPrefix}
 use Rattle.c104_stream.specs.declared.halt.Halt.{Halt}
 use Rattle.c104_stream.specs.declared.halt.Halt.TheVariants as halt

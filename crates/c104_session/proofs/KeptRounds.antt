@@ -1,7 +1,6 @@
 -- Rounds of which something is kept, one by one: what is kept of them, and how the network goes on beside that.
-use Rattle.std.proofs.Common.{◌≡◌, ◌⊎◌, ◌+◌, ◌-◌, ◌<◌, ◌≤◌, ◌∙◌, ℕ, zero, suc, Bool, true, false, List, [], ◌∷◌, Result, Ok, Err}
-use Rattle.std.proofs.Common.{if◌then◌else◌, ap, arith, inl, inr, refl, subst, sym}
-use Rattle.c104_event.specs.declared.events.Event.{Event}
+use Rattle.std.proofs.Common.{◌≡◌, ◌+◌, ◌-◌, ◌<◌, ◌∙◌, ℕ, suc, Bool, true, false, Result, Ok, Err}
+use Rattle.std.proofs.Common.{if◌then◌else◌, ap, arith, inl, refl, sym}
 use Rattle.c104_event.specs.declared.faults.EventFault.{EventFault}
 use Rattle.c104_net.specs.MeteredRecords.{at_meter, record_metered, MeteredRecord}
 use Rattle.c104_node.specs.declared.tagged.TaggedToken.{TaggedToken}
@@ -12,7 +11,6 @@ use Rattle.c104_run.specs.RecordedRuns.{record_apply}
 use Rattle.c104_run.specs.Rounds.{round, rounds}
 use Rattle.c104_run.proofs.RoundRuns.{run_seen}
 use Rattle.c104_run.proofs.RoundsTaken.{round_idle, round_refused, round_taken}
-use Rattle.c104_session.specs.Counted.{is_later}
 use Rattle.c104_session.specs.Keepers.{kept_on, round_kept, rounds_kept, Keeping, KeepsRound}
 
 module _ {M : Type 0} (sees : Sees M TaggedToken) (keeps : Keeping M) where

@@ -1,5 +1,5 @@
 -- The ends of a run on the network of a plan.
-use Rattle.std.proofs.Common.{◌≡◌, ℕ, Bool, false, true, List, [], ◌++◌, Option, None, Some, Result, Ok, Err, inl, inr, sym, ap, ◌∙◌, refl, subst}
+use Rattle.std.proofs.Common.{◌≡◌, ℕ, Bool, false, true, List, ◌++◌, Option, None, Some, Result, Ok, Err, inl, inr, sym, ap, ◌∙◌, refl, subst}
 use Rattle.std.specs.Io.KnownBytes.{Appends, prepend_known}
 use Rattle.c104_plan.specs.Plans.{Plan}
 use Rattle.c104_plan.specs.PlanImage.{Image}

@@ -1,5 +1,5 @@
 -- A new network into which an image was loaded begins a run as the network that is placed with the image.
-use Rattle.std.proofs.Common.{◌≡◌, ◌↔◌, Bool, IsTrue, Option, Some, Result, Ok, Err, MatchResult, length, sym, subst}
+use Rattle.std.proofs.Common.{◌≡◌, ◌↔◌, Bool, IsTrue, Some, Result, Ok, Err, MatchResult, length, sym, subst}
 use Rattle.c104_plan.specs.PlanImage.{Fits, Image}
 use Rattle.c104_plan.specs.Plans.{IsPlan, Plan}
 use Rattle.c104_event.specs.declared.faults.EventFault.TheVariants as event_fault

@@ -1,5 +1,5 @@
 -- The picture of the run of a script, by what its parts come to.
-use Rattle.std.proofs.Common.{◌≡◌, ◌||◌, ◌∙◌, ℕ, Bool, List, Option, None, Some, Result, Ok, ap, subst}
+use Rattle.std.proofs.Common.{◌≡◌, ◌||◌, ◌∙◌, ℕ, Bool, List, Option, None, Some, Ok, ap, subst}
 use Rattle.c104_plan.specs.Plans.{Plan}
 use Rattle.c104_stream.specs.ScriptLines.{is_long}
 use Rattle.c104_stream.specs.Scripts.{script_outcome}

@@ -1,5 +1,5 @@
 -- Events of which a meter is told: the network goes on as by itself, and the meter comes to what it is told.
-use Rattle.std.proofs.Common.{◌≡◌, ◌⊎◌, ◌∙◌, Result, Ok, Err, OnErr, ap, inl, inr}
+use Rattle.std.proofs.Common.{◌≡◌, ◌⊎◌, ◌∙◌, Result, Err, OnErr, ap, inl, inr}
 use Rattle.c104_switch.specs.Actions.{Reply}
 use Rattle.c104_event.specs.declared.events.Event.{Event}
 use Rattle.c104_event.specs.declared.faults.EventFault.{EventFault}

@@ -1,12 +1,10 @@
 -- The picture of the run of a script over its rounds.
-use Rattle.std.specs.Prelude.{ℕ, ◌≡◌, ◌≢◌, ◌||◌, ⊤, Bool, true, false, List, ◌++◌, codes, decimal, Option, Some, None, Result, Ok, Err}
+use Rattle.std.specs.Prelude.{ℕ, ◌≡◌, ◌||◌, ⊤, Bool, true, false, List, ◌++◌, codes, Option, Some, None}
 use Rattle.c104_plan.specs.Plans.{Plan}
 use Rattle.c104_plan.specs.PlanImage.{Image}
 use Rattle.c104_run.specs.NetRecords.{NetRecord}
 use Rattle.c104_stream.specs.ScriptLines.{is_long}
 use Rattle.c104_stream.specs.Scripts.{script_outcome}
-use Rattle.c104_stream.specs.declared.halt.Halt.{Halt}
-use Rattle.c104_stream.specs.declared.halt.Halt.TheVariants as halt
 use Rattle.c104_timeline.specs.Closing.{closed_all}
 use Rattle.c104_timeline.specs.declared.periods.Asked.{Asked}
 use Rattle.c104_timeline.specs.declared.periods.Period.{Period}

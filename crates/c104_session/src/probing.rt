@@ -4,7 +4,7 @@ ghost use Rattle.c104_run.specs.NetRecords.{NetRecord as TheNet};
 ghost use Rattle.c104_script.specs.declared.answers.Answer.{Answer as TheAnswer};
 ghost use Rattle.c104_session.specs.Probing.{difference_answer, link_answer, link_outcome, probe_answer, register_fault_at, set_answer};
 ghost use Rattle.c104_session.specs.Probing.{stopped_answer, table_outcome, tool_outcome, value_answer, verified_answer};
-ghost use Rattle.c104_tools.specs.NetOutcomes.{net_link, net_poke, net_table, net_verify};
+ghost use Rattle.c104_tools.specs.NetOutcomes.{net_poke, net_verify};
 
 use crate::tools::{link_of_net, poke_net, table_of_net, verify_net};
 use c104_event::EventFault;

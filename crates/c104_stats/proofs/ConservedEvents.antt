@@ -1,6 +1,6 @@
 -- No token comes or goes but by a send, a random header, an arrival, a header that is deleted and what is dropped: by event.
-use Rattle.std.proofs.Common.{◌≡◌, ◌+◌, ◌-◌, ◌∙◌, ℕ, zero, suc, not, Bool, true, false, List, [], ◌∷◌, ◌++◌, Option, Some, None}
-use Rattle.std.proofs.Common.{Result, Ok, Err, if◌then◌else◌, length, map, slice_get, slice_set, refl, sym, ap, subst, arith}
+use Rattle.std.proofs.Common.{◌≡◌, ◌+◌, ◌-◌, ◌∙◌, ℕ, suc, not, Bool, true, false, List, [], ◌∷◌, Option, Some, None}
+use Rattle.std.proofs.Common.{Result, Ok, Err, if◌then◌else◌, length, map, slice_get, refl, sym, ap, subst, arith}
 use Rattle.std.proofs.lemmas.List.{length-append, length-map}
 use Rattle.c104_token.specs.Kinds.{plain_kind, Kind}
 use Rattle.c104_token.specs.Packets.{packet_tokens}
@@ -39,9 +39,9 @@ use Rattle.c104_plan.specs.declared.ports.Port.TheVariants as port
 use Rattle.c104_event.specs.declared.events.Event.{Event}
 use Rattle.c104_event.specs.declared.events.Event.TheVariants as event
 use Rattle.c104_event.specs.declared.faults.EventFault.{EventFault}
-use Rattle.c104_node.specs.Acts.{node_act, nodes_act, plain_reply}
+use Rattle.c104_node.specs.Acts.{node_act, nodes_act}
 use Rattle.c104_node.specs.Nodes.{node_claim, node_credit_in, node_credit_out, node_drain, node_enter, node_input, node_leave, Node}
-use Rattle.c104_node.specs.PortActs.{far_act, joint_step, near_act, port_credit_in, port_credit_out, port_enter, port_leave}
+use Rattle.c104_node.specs.PortActs.{far_act, joint_step, port_credit_in, port_credit_out, port_enter, port_leave}
 use Rattle.c104_node.specs.Terminals.{sent_from, sent_tokens, terminal_credit_in, terminal_credit_out, terminal_drain, terminal_enter}
 use Rattle.c104_node.specs.Terminals.{terminal_leave, Terminal}
 use Rattle.c104_node.specs.declared.acts.ActOf.{ActOf}
@@ -50,12 +50,12 @@ use Rattle.c104_node.specs.declared.crossings.Crossing.TheVariants as crossing
 use Rattle.c104_node.specs.declared.node.NodeOf.TheVariants as node
 use Rattle.c104_run.proofs.RecordSteps.{done_made}
 use Rattle.c104_run.specs.EventActs.{acts_step, crossing_acts, port_place}
-use Rattle.c104_run.specs.Network.{network_apply, network_step, told_step, with_nodes, Network}
+use Rattle.c104_run.specs.Network.{network_apply, network_step, told_step, Network}
 use Rattle.c104_run.specs.Runs.{IsDoneRun}
-use Rattle.c104_stats.specs.Conservation.{claim_flow, claimed_flow, command_flow, control_flow, deleted_flow, dropped_flow, event_flow}
-use Rattle.c104_stats.specs.Conservation.{flow_of, flows_added, header_held, input_flow, input_held, network_held, no_flow, node_held, obeyed_flow}
+use Rattle.c104_stats.specs.Conservation.{claim_flow, claimed_flow, command_flow, control_flow, deleted_flow, event_flow}
+use Rattle.c104_stats.specs.Conservation.{flow_of, header_held, input_flow, input_held, network_held, no_flow, node_held, obeyed_flow}
 use Rattle.c104_stats.specs.Conservation.{output_held, run_flow, sum_of, switch_held, turn_flow, Conserves, ConservationLaw, Flow}
-use Rattle.c104_stats.proofs.ConservedParts.{at_some, entered, gets_credit, grants, held_in, inner, input_turned, joins, leaves, put_all, side_changed}
+use Rattle.c104_stats.proofs.ConservedParts.{at_some, entered, gets_credit, grants, inner, input_turned, leaves, put_all, side_changed}
 use Rattle.c104_stats.proofs.ConservedParts.{accepted, credited, emitted, granted, held_by, step_sum, sum_set, taken, yield_sum, Sides}
 
 module _ {A : Type 0} where

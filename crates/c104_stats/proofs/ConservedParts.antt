@@ -1,39 +1,28 @@
 -- No token comes or goes but by a send, a random header, an arrival, a header that is deleted and what is dropped.
-use Rattle.std.proofs.Common.{◌≡◌, ◌+◌, ◌&&◌, ◌∙◌, ℕ, zero, suc, not, Bool, true, false, List, [], ◌∷◌, ◌++◌, Option, Some, None}
-use Rattle.std.proofs.Common.{Result, Ok, Err, if◌then◌else◌, drop, length, map, nat_le, nat_lt, slice_get, slice_set, refl, sym, ap, subst, arith}
+use Rattle.std.proofs.Common.{◌≡◌, ◌+◌, ◌&&◌, ℕ, zero, suc, not, Bool, true, false, List, [], ◌∷◌, ◌++◌, Option, Some}
+use Rattle.std.proofs.Common.{if◌then◌else◌, drop, length, nat_le, nat_lt, slice_get, slice_set, refl, sym, ap, subst, arith}
 use Rattle.std.proofs.lemmas.List.{length-append}
-use Rattle.c104_token.specs.Kinds.{plain_kind, Kind}
-use Rattle.c104_token.specs.Packets.{packet_tokens}
-use Rattle.c104_token.specs.Tokens.{end_token, is_end}
-use Rattle.c104_token.specs.declared.packets.Packet.{Packet}
-use Rattle.c104_token.specs.declared.tokens.Token.{Token}
+use Rattle.c104_token.specs.Kinds.{Kind}
+use Rattle.c104_token.specs.Tokens.{is_end}
 use Rattle.c104_link.proofs.MadeSteps.{at_place_made, from_place_made, given, required, with_place_made}
 use Rattle.c104_link.specs.Buffers as buffer
-use Rattle.c104_link.specs.Buffers.{Incoming, Outgoing, outgoing_clear, without_first}
+use Rattle.c104_link.specs.Buffers.{Incoming, Outgoing}
 use Rattle.c104_link.specs.declared.TheConstants.{TOKENS_OF_A_GRANT}
 use Rattle.c104_link.specs.declared.outgoing.TheConstants.{CREDIT_LIMIT, OUTPUT_CAP}
-use Rattle.c104_link.specs.Steps.{◌>>=◌, step_at, yield_step_at, joint_step_at}
+use Rattle.c104_link.specs.Steps.{step_at, yield_step_at, joint_step_at}
 use Rattle.c104_interval.specs.Selection.{select}
 use Rattle.c104_interval.specs.declared.intervals.Select.{Select}
 use Rattle.c104_interval.specs.declared.intervals.Select.TheVariants.{Link, Discard, Sink}
 use Rattle.c104_regs.specs.Settings.{header_length}
 use Rattle.c104_regs.specs.declared.settings.Settings.{Settings}
-use Rattle.c104_control.specs.Reading.{read_command}
-use Rattle.c104_control.specs.declared.commands.Command.{Command}
-use Rattle.c104_control.specs.declared.commands.Command.TheVariants.{Start, Reset, Identify, CPeek, CPoke}
-use Rattle.c104_control.specs.declared.faults.CommandFault.{CommandFault}
-use Rattle.c104_switch.specs.Claims.{input_claim, put_header}
-use Rattle.c104_switch.specs.Commands.{input_reset}
-use Rattle.c104_switch.specs.Control.{switch_obey, switch_obey_if_read}
 use Rattle.c104_switch.specs.Headers.{decided_phase, header_value, is_sink, phase_after_header, random_header}
 use Rattle.c104_switch.specs.declared.phase.Phase.{Phase}
 use Rattle.c104_switch.specs.declared.phase.Phase.TheVariants.{Fresh, Head, Want, Stream, Sinking}
-use Rattle.c104_switch.specs.Switch.{Input, Switch, input_accept, input_grant}
-use Rattle.c104_switch.specs.Turns.{header_turn, input_after_token, input_turn, inputs_turn, phase_after_token, random_turn, turn_by_phase}
-use Rattle.c104_switch.specs.declared.actions.ReplyOf.{ReplyOf}
-use Rattle.c104_stats.specs.Conservation.{claimed_flow, command_flow, deleted_flow, dropped_flow, flow_of, flows_added, header_flow}
-use Rattle.c104_stats.specs.Conservation.{header_held, input_flow, input_held, network_held, no_flow, node_held, output_held, phase_flow}
-use Rattle.c104_stats.specs.Conservation.{random_flow, read_flow, selected_flow, sum_of, switch_held, Conserves, Flow}
+use Rattle.c104_switch.specs.Switch.{Input, input_accept, input_grant}
+use Rattle.c104_switch.specs.Turns.{header_turn, input_after_token, input_turn, random_turn, turn_by_phase}
+use Rattle.c104_stats.specs.Conservation.{dropped_flow, flow_of, header_flow}
+use Rattle.c104_stats.specs.Conservation.{header_held, input_flow, input_held, no_flow, output_held, phase_flow}
+use Rattle.c104_stats.specs.Conservation.{random_flow, read_flow, selected_flow, sum_of, Conserves, Flow}
 
 -- what is the same is so inside
 pub inner : {X : Type 0} (x y : X) → Some x ≡ Some y → x ≡ y

@@ -2,7 +2,7 @@
 --     network_held net      how many tokens are in a network
 --     event_flow kind net e      how many tokens an event brings and takes away, where it is done
 --     ConservationLaw      whatever is done, no other token comes or goes
-use Rattle.std.specs.Prelude.{ℕ, ◌+◌, ◌≡◌, ◌&&◌, not, Bool, true, false, List, [], ◌∷◌, ◌++◌, Option, Some, None, Result, Ok, Err}
+use Rattle.std.specs.Prelude.{ℕ, ◌+◌, ◌≡◌, ◌&&◌, not, List, [], ◌∷◌, ◌++◌, Option, Some, None, Result, Ok, Err}
 use Rattle.std.specs.Prelude.{if◌then◌else◌, length, nat_le, slice_get}
 use Rattle.c104_token.specs.Kinds.{plain_kind, Kind}
 use Rattle.c104_token.specs.Tokens.{is_end}

@@ -1,5 +1,5 @@
 //! The columns of what is printed.
-ghost use Rattle.std.specs.Prelude.{◌≡◌, codes};
+ghost use Rattle.std.specs.Prelude.{◌≡◌};
 ghost use Rattle.c104_stats.specs.Columns.{column_name};
 
 /// A column of a table.

@@ -1,5 +1,5 @@
 //! What became of packets.
-ghost use Rattle.std.specs.Prelude.{◌≡◌, codes};
+ghost use Rattle.std.specs.Prelude.{◌≡◌};
 ghost use Rattle.c104_stats.specs.Tables.{ending_of, ending_word};
 
 use crate::packets::PacketRow;

@@ -1,5 +1,5 @@
 //! How counts are printed, and which.
-ghost use Rattle.std.specs.Prelude.{◌≡◌, codes};
+ghost use Rattle.std.specs.Prelude.{◌≡◌};
 ghost use Rattle.c104_stats.specs.Cells.{close_text, nothing_text, open_text, row_close, row_open};
 
 /// How rows are printed.

@@ -1,6 +1,6 @@
 //! What is counted of a link: of the wire at one port, and the tokens that cross from there.
 ghost use Rattle.std.specs.Prelude.{◌≡◌, false, true};
-ghost use Rattle.c104_stats.specs.Links.{LinkLaw, busy_after, held_after, holder_after, is_in, link_after, link_cut, link_idle};
+ghost use Rattle.c104_stats.specs.Links.{LinkLaw, busy_after, holder_after, is_in, link_after, link_cut, link_idle};
 ghost use Rattle.c104_stats.specs.Links.{link_level, link_span, longest_at, new_link, span};
 
 use crate::numbers::{larger, one_more, one_round_more};

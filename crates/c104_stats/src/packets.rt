@@ -1,5 +1,5 @@
 //! What is counted of packets, and the packets of a terminal.
-ghost use Rattle.std.specs.Prelude.{◌≡◌, ◌++◌, ◌∷◌, [], slice_get, OnErr, OnOk};
+ghost use Rattle.std.specs.Prelude.{◌≡◌, ◌++◌, ◌∷◌, [], OnErr, OnOk};
 ghost use Rattle.c104_stats.specs.Links.{first_of};
 ghost use Rattle.c104_stats.specs.Packets.{all_but_last, arrived_packet, change_at, crossed_packet, inside_packet, latency};
 ghost use Rattle.c104_stats.specs.Packets.{left_packet, sent_packet};

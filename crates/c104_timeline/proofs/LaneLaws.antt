@@ -1,12 +1,11 @@
 -- What the stretches of a lane show is what crossed.
-use Rattle.std.proofs.Common.{◌≡◌, ◌↔◌, ◌⊎◌, ◌+◌, ◌<◌, ◌≤◌, ◌∙◌, ℕ, zero, suc, Bool, true, false, List, [], ◌∷◌, ◌++◌, Option, Some, None, length}
+use Rattle.std.proofs.Common.{◌≡◌, ◌↔◌, ◌⊎◌, ◌+◌, ◌<◌, ◌≤◌, ◌∙◌, ℕ, Bool, true, false, List, [], ◌∷◌, ◌++◌, Option, Some, None, length}
 use Rattle.std.proofs.Common.{append-nil, append_assoc, inl, inr, refl, sym, ap, subst, arith}
 use Rattle.std.specs.Prelude.{⊤}
 use Rattle.std.proofs.lemmas.List.{length-append}
 use Rattle.std.specs.Option.{option_to_list}
 use Rattle.c104_node.specs.declared.origins.Origin.{Origin}
-use Rattle.c104_stats.specs.Numbers.{few}
-use Rattle.c104_timeline.specs.Lanes.{as_ended, closed_by, is_open, lane_closed, lane_crossed, lane_settled, lane_stepped, name_if, new_lane, rest_of, step_of, Crossing, Lane, Step, Stretch}
+use Rattle.c104_timeline.specs.Lanes.{as_ended, closed_by, is_open, lane_closed, lane_crossed, lane_settled, lane_stepped, name_if, new_lane, rest_of, step_of, Crossing, Lane, Stretch}
 use Rattle.c104_timeline.specs.LaneLaws.{ended, lane_after, names, open_after, open_name, Any, AreInOrder, Crosses, Holds, IsBetween, IsShown, LaneLaw, Moves, ShowsHeld, ShowsMoved}
 use Rattle.c104_timeline.proofs.LaneSteps.{before_step, held_step, moved_step, open_by, open_of, open_step, same_number, AddsMoved, IsBefore, LatestShows, StepShows}
 

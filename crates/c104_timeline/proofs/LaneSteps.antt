@@ -1,12 +1,11 @@
 -- What a token adds to what the stretches of a lane show.
-use Rattle.std.proofs.Common.{◌≡◌, ◌↔◌, ◌⊎◌, ◌+◌, ◌<◌, ◌≤◌, ◌==◌, ◌&&◌, ◌∙◌, ℕ, zero, suc, Bool, true, false, List, [], ◌∷◌, ◌++◌, Option, Some, None}
-use Rattle.std.proofs.Common.{if◌then◌else◌, nat_le, inl, inr, refl, sym, ap, subst, arith}
+use Rattle.std.proofs.Common.{◌≡◌, ◌↔◌, ◌⊎◌, ◌+◌, ◌<◌, ◌≤◌, ◌==◌, ◌&&◌, ◌∙◌, ℕ, suc, Bool, true, false, Option, Some, None}
+use Rattle.std.proofs.Common.{if◌then◌else◌, nat_le, inl, inr, refl, sym, ap, arith}
 use Rattle.std.specs.Prelude.{⊤}
 use Rattle.std.proofs.lemmas.Bool.Decides.{nat_tests}
 use Rattle.std.specs.Option.{option_to_list}
 use Rattle.c104_node.specs.declared.origins.Origin.{Origin}
-use Rattle.c104_stats.specs.Numbers.{few}
-use Rattle.c104_timeline.specs.Lanes.{first_stretch, goes_on, held_since, is_open, next_round, rest_of, step_by, step_of, Crossing, Lane, Step, Stretch}
+use Rattle.c104_timeline.specs.Lanes.{first_stretch, goes_on, is_open, next_round, step_by, step_of, Step, Stretch}
 use Rattle.c104_timeline.specs.LaneLaws.{ended, open_after, Any, IsBetween, ShowsHeld, ShowsMoved}
 
 -- the latest stretch is no later than this round

@@ -1,7 +1,7 @@
 -- The rows of a picture: for each switch its name, and then the wires at it, by link: what a terminal there sends, and what
 -- goes out of the link. A wire over which nothing goes has no row, nor has a switch at which none does.
 --     rows_of plan t p      the rows
-use Rattle.std.specs.Prelude.{ℕ, Bool, true, false, List, [], ◌∷◌, ◌++◌, Option, Some, None, if◌then◌else◌, length, map, slice_get}
+use Rattle.std.specs.Prelude.{ℕ, Bool, false, List, [], ◌∷◌, ◌++◌, Option, Some, None, if◌then◌else◌, length, map, slice_get}
 use Rattle.std.specs.List.{flat_map, list_any, range_with_len}
 use Rattle.c104_plan.specs.Plans.{Plan}
 use Rattle.c104_plan.specs.Wiring.{peer}

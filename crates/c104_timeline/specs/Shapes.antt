@@ -1,6 +1,6 @@
 -- What is drawn of stretches, in SVG: a rectangle in the packet's colour and pattern over rounds in which its tokens crossed,
 -- and a hatched one over rounds in which it held the wire and nothing crossed.
-use Rattle.std.specs.Prelude.{ℕ, ◌+◌, ◌-◌, ◌*◌, ◌==◌, Bool, List, [], ◌++◌, codes, Option, Some, None, if◌then◌else◌}
+use Rattle.std.specs.Prelude.{ℕ, ◌+◌, ◌-◌, ◌*◌, ◌==◌, List, [], ◌++◌, codes, Option, Some, None, if◌then◌else◌}
 use Rattle.std.specs.Fmt.{decimal}
 use Rattle.std.specs.List.{flat_map}
 use Rattle.c104_node.specs.declared.origins.Origin.{Origin}

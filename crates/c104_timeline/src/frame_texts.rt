@@ -1,6 +1,5 @@
 //! What stands around the rows of a picture, in SVG.
 ghost use Rattle.std.specs.Prelude.{◌≡◌, ◌++◌, IfOk, OnOk};
-ghost use Rattle.std.specs.List.{flat_map, range_with_len};
 ghost use Rattle.std.specs.String.{string_bytes};
 ghost use Rattle.c104_picture.specs.StateTexts.{color_by};
 ghost use Rattle.c104_timeline.specs.FrameTexts.{color_fills, colors_text, fill_by, fills_of, ground_text, head_text, list_title, opening_text};

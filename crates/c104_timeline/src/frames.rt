@@ -1,6 +1,5 @@
 //! How large a picture is, and where its parts stand.
 ghost use Rattle.std.specs.Prelude.{◌≡◌};
-ghost use Rattle.c104_plan.specs.Plans.{Plan as ThePlan};
 ghost use Rattle.c104_timeline.specs.Frames.{bottom_line, columns, entry_width, frame_of, height, last_line, left, longest_name, longest_switch, longest_terminal, round_count, tick_count, tick_step, total_width, width};
 
 use crate::periods::Period;

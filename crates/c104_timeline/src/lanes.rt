@@ -1,7 +1,6 @@
 //! What crossed one wire, one way.
-ghost use Rattle.std.specs.Prelude.{◌≡◌, ◌++◌, length, nat_lt, slice_get, IfOk, OnOk};
+ghost use Rattle.std.specs.Prelude.{◌≡◌, ◌++◌, nat_lt, OnOk};
 ghost use Rattle.std.specs.Option.{option_to_list};
-ghost use Rattle.c104_stats.specs.Numbers.{few};
 ghost use Rattle.c104_timeline.specs.LaneLaws.{LaneLaw};
 ghost use Rattle.c104_timeline.specs.Lanes.{as_ended, first_stretch, goes_on, held_since, is_open, lane_closed, lane_crossed, lane_cut};
 ghost use Rattle.c104_timeline.specs.Lanes.{lane_settled, name_if, new_lane, next_round, packet_of, rest_of, step_by, step_of};

@@ -1,6 +1,5 @@
 //! The packets of a picture, and the list of them in SVG.
 ghost use Rattle.std.specs.Prelude.{◌≡◌, ◌++◌, IfOk, OnOk};
-ghost use Rattle.std.specs.List.{list_any};
 ghost use Rattle.std.specs.String.{string_bytes};
 ghost use Rattle.c104_timeline.specs.Legends.{entry_lines, entry_mark, entry_text, has_packet, is_same_packet, mark_text, packets_of, with_packet, with_stretch, with_stretches};
 

@@ -1,13 +1,9 @@
 //! The rows of a picture: for each switch its name, and then the wires at it.
-ghost use Rattle.std.specs.Prelude.{◌≡◌, ◌++◌, length, slice_get, IfOk, OnOk};
-ghost use Rattle.std.specs.List.{flat_map, list_any, range_with_len};
+ghost use Rattle.std.specs.Prelude.{◌≡◌, ◌++◌, IfOk, OnOk};
 ghost use Rattle.std.specs.Option.{option_copied};
 ghost use Rattle.c104_plan.specs.Wiring.{peer};
 ghost use Rattle.c104_plan.specs.declared.ports.Port.TheVariants as port;
-ghost use Rattle.c104_run.specs.Rounds.{link_numbers};
-ghost use Rattle.c104_timeline.specs.Lanes.{Stretch as TheStretch};
-ghost use Rattle.c104_timeline.specs.Periods.{is_in};
-ghost use Rattle.c104_timeline.specs.Rows.{drawn_at, drawn_if, drawn_in, drawn_ports, group_rows, has_stretch, is_drawn, lane_at, rows_of, switch_rows};
+ghost use Rattle.c104_timeline.specs.Rows.{drawn_at, drawn_if, drawn_ports, group_rows, has_stretch, is_drawn, lane_at, rows_of, switch_rows};
 
 use crate::lanes::Lane;
 use crate::periods::Period;

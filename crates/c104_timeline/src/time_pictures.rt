@@ -1,8 +1,6 @@
 //! The text of a picture of a run over its rounds.
-ghost use Rattle.std.specs.Prelude.{◌≡◌, ◌+◌, ◌++◌, ◌<◌, ◌≤◌, false, length, true, IfOk, IfSome, None, Option, Err};
+ghost use Rattle.std.specs.Prelude.{◌≡◌, ◌+◌, ◌<◌, ◌≤◌, false, length, true, IfOk, IfSome, None, Option, Err};
 ghost use Rattle.std.specs.String.{string_bytes};
-ghost use Rattle.c104_node.specs.declared.origins.Origin.{Origin as TheOrigin};
-ghost use Rattle.c104_timeline.specs.Frames.{frame_of};
 ghost use Rattle.c104_timeline.specs.Legends.{packets_of};
 ghost use Rattle.c104_timeline.specs.Periods.{Period as ThePeriod};
 ghost use Rattle.c104_timeline.specs.Rows.{rows_of};

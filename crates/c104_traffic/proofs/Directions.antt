@@ -1,5 +1,5 @@
 -- Where the packets of traffic go: from a terminal to a terminal, which is another one unless that is asked for.
-use Rattle.std.proofs.Common.{◌≡◌, ◌≢◌, ◌⊎◌, inl, inr, ℕ, zero, suc, ◌+◌, ◌-◌, ◌*◌, ◌/◌, ◌%◌, ◌^◌, ◌<◌, ◌≤◌, ◌==◌, ◌||◌, Bool, true, false, cond, not, List, [], ◌∷◌, filter, length, map, get_or, slice_get, take, All, nat_lt, Some, IfSome, sym, subst, ap, ◌∙◌, refl, arith}
+use Rattle.std.proofs.Common.{◌≡◌, ◌≢◌, ◌⊎◌, inl, inr, ℕ, zero, suc, ◌+◌, ◌-◌, ◌*◌, ◌/◌, ◌%◌, ◌<◌, ◌≤◌, Bool, true, false, cond, length, map, get_or, slice_get, take, nat_lt, Some, IfSome, sym, subst, ap, ◌∙◌, refl, arith}
 use Rattle.std.specs.List.{range_with_len}
 use Rattle.std.proofs.lemmas.Bool.{cases_lt}
 use Rattle.std.proofs.lemmas.Bool.Decides.{nat_tests}
@@ -12,7 +12,7 @@ use Rattle.c104_plan.specs.Plans.{IsPlan, IsRange, Plan}
 use Rattle.c104_plan.specs.PlanImage.{Fits, Image}
 use Rattle.c104_check.specs.Routes.{Owns, has_label, routes_of}
 use Rattle.c104_check.proofs.RangeLemmas.{is_has}
-use Rattle.c104_traffic.specs.Packets.{Traffic, byte_at, first_label, header_values, packet_of, packet_word, sender_at, target_at}
+use Rattle.c104_traffic.specs.Packets.{Traffic, byte_at, first_label, packet_of, packet_word, sender_at, target_at}
 use Rattle.c104_traffic.specs.Patterns.{IsPatternFor, Pattern}
 use Rattle.c104_traffic.specs.Requests.{AreDirected}
 use Rattle.c104_traffic.specs.Schedules.{AreLabelled, HaveRanges}

@@ -2,7 +2,7 @@
 use Rattle.std.proofs.Common.{◌≡◌, ℕ, zero, suc, ◌+◌, ◌-◌, ◌*◌, ◌/◌, ◌<◌, ◌≤◌, Option, Some, None, IfSome, arith}
 use Rattle.std.proofs.lemmas.Nat.{div_below, mul-le}
 use Rattle.c104_plan.proofs.LayoutNumbers.{next_above}
-use Rattle.c104_traffic.specs.Packets.{rounds_before, rounds_by}
+use Rattle.c104_traffic.specs.Packets.{rounds_before}
 
 -- a number that is larger by at most 1,000 has a quotient that is, too
 quotient_grows : (a b d : ℕ) → 0 < d → a ≤ b + 1000 → a / d ≤ b / d + 1000

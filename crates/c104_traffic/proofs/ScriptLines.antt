@@ -1,11 +1,10 @@
 -- A line of a script that is printed is cut into its words again.
-use Rattle.std.proofs.Common.{◌≡◌, ℕ, ◌+◌, ◌<◌, ◌≤◌, ◌&&◌, ◌||◌, ◌==◌, Bool, true, false, not, cond, if◌then◌else◌, List, [], ◌∷◌, ◌++◌, length, map, filter, nat_le, nat_lt, codes, All, Option, Some, None, Result, Ok, Err, refl, sym, ap, ◌∙◌, arith, length-append}
+use Rattle.std.proofs.Common.{◌≡◌, ℕ, ◌+◌, ◌<◌, ◌≤◌, ◌&&◌, ◌||◌, ◌==◌, Bool, true, false, not, cond, if◌then◌else◌, List, [], ◌∷◌, ◌++◌, length, filter, nat_le, nat_lt, All, Some, None, Ok, Err, refl, ap, ◌∙◌, arith}
 use Rattle.std.proofs.lemmas.Bool.{and_parts}
 use Rattle.std.proofs.lemmas.Bool.Decides.{nat_tests}
 use Rattle.std.specs.List.{list_all, onto_first, prefix_len, position_or_len, slice_split}
 use Rattle.std.proofs.lemmas.List.{take_all}
 use Rattle.std.proofs.lemmas.List.Elements.{All-cons, All-nil}
-use Rattle.std.proofs.lemmas.List.Folds.{list_all-append}
 use Rattle.std.proofs.lemmas.List.Splits.{slice_split_at, slice_split_none}
 use Rattle.c104_token.specs.Text.{packet_words}
 use Rattle.c104_plan.specs.TextCut.{is_plain_line, line_words, lines, parts_words, uncommented_line}
@@ -14,7 +13,6 @@ use Rattle.c104_plan.specs.declared.text.Dots.TheVariants.{Without}
 use Rattle.c104_plan.proofs.NameText.{name_bytes}
 use Rattle.c104_plan.proofs.TextBytes.{list_all-weaker}
 use Rattle.c104_script.specs.Script.{read_script_line, read_script_words}
-use Rattle.c104_script.specs.declared.faults.LineFault.{LineFault}
 use Rattle.c104_script.specs.declared.faults.LineFault.TheVariants as fault
 
 -- a printable byte that begins no comment

@@ -1,5 +1,5 @@
 -- What is printed of traffic is read back, line by line.
-use Rattle.std.proofs.Common.{◌≡◌, ℕ, zero, suc, ◌+◌, ◌*◌, ◌/◌, ◌%◌, ◌<◌, ◌≤◌, ◌&&◌, ◌==◌, Bool, true, false, cond, List, [], ◌∷◌, ◌++◌, length, map, flat_map, nat_le, codes, All, Option, Some, None, Result, Ok, Err, refl, sym, ap, ◌∙◌, arith, length-append}
+use Rattle.std.proofs.Common.{◌≡◌, ℕ, zero, suc, ◌+◌, ◌*◌, ◌/◌, ◌%◌, ◌<◌, ◌≤◌, ◌&&◌, ◌==◌, Bool, true, false, cond, List, [], ◌∷◌, ◌++◌, length, map, flat_map, nat_le, codes, All, Some, None, Ok, refl, sym, ap, ◌∙◌, arith, length-append}
 use mathlib.Core.List.{append_assoc}
 use Rattle.std.specs.Fmt.{decimal}
 use Rattle.std.specs.List.{list_all, range_with_len}
@@ -21,7 +21,6 @@ use Rattle.c104_plan.specs.TextCut.{line_words, lines}
 use Rattle.c104_plan.specs.TextWords.{is_digit, is_name}
 use Rattle.c104_plan.proofs.TextBytes.{list_all-weaker}
 use Rattle.c104_script.specs.Script.{node_with, packet_of as read_packet, place_at, read_script_line, read_script_words, request_of, some_request, terminal_at}
-use Rattle.c104_script.specs.declared.faults.LineFault.{LineFault}
 use Rattle.c104_script.specs.declared.faults.LineFault.TheVariants as fault
 use Rattle.c104_script.specs.declared.places.Request.{Request}
 use Rattle.c104_script.specs.declared.places.Request.TheVariants.{Asked, Rounds}

@@ -1,7 +1,7 @@
 -- The patterns by which terminals choose where their packets go, and which of them a network can have.
 --     IsPatternOf plan name target pattern      what the pattern of this name is in a network
 --     IsNoPattern plan name target why      it can't have that pattern
-use Rattle.std.specs.Prelude.{◌≡◌, ◌≢◌, ⊤, ℕ, ◌*◌, ◌^◌, ◌<◌, List, length, Option, Some, None}
+use Rattle.std.specs.Prelude.{◌≡◌, ◌≢◌, ⊤, ℕ, ◌*◌, ◌^◌, ◌<◌, List, length, Some, None}
 use Rattle.c104_plan.specs.Plans.{Plan, terminal_number}
 pub use Rattle.c104_traffic.specs.declared.patterns.Pattern.{Pattern}
 use Rattle.c104_traffic.specs.declared.patterns.Pattern.TheVariants as pattern

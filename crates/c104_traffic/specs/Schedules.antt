@@ -1,5 +1,5 @@
 -- Who sends by a pattern in a network.
-use Rattle.std.specs.Prelude.{◌≡◌, ℕ, ◌<◌, Bool, List, length, slice_get, IfSome}
+use Rattle.std.specs.Prelude.{◌≡◌, ℕ, ◌<◌, Bool, length, slice_get, IfSome}
 use Rattle.c104_plan.specs.Plans.{IsPlan, IsRange, Plan}
 use Rattle.c104_plan.specs.PlanImage.{Image}
 pub use Rattle.c104_traffic.specs.declared.schedules.Schedule.{Schedule}

@@ -7,7 +7,7 @@ ghost use Rattle.c104_stream.specs.Writing.{AppendsAndKeeps, AppendsPrefix};
 ghost use Rattle.c104_traffic.specs.Packets.{IsTraffic, byte_at, packet_of};
 ghost use Rattle.c104_traffic.specs.Requests.{AreDirected, IsReadAs, is_send, traffic_requests};
 ghost use Rattle.c104_traffic.specs.Schedules.{IsSchedule};
-ghost use Rattle.c104_traffic.specs.Texts.{hex_word, numbered_text, rounds_text, send_text, sent_text, traffic_text};
+ghost use Rattle.c104_traffic.specs.Texts.{hex_word, rounds_text, send_text, sent_text, traffic_text};
 ghost use Rattle.c104_traffic.specs.Writing.{StopsWriting};
 
 use crate::amounts::Traffic;

@@ -1,4 +1,4 @@
-use Rattle.std.proofs.Common.{◌≡◌, ◌++◌, List, OnOk, subst, ℕ}
+use Rattle.std.proofs.Common.{◌≡◌, ◌++◌, OnOk, subst}
 use Rattle.std.specs.String.{string_bytes}
 use Rattle.c104_timeline.specs.FrameTexts.{color_fills, fills_of}
 use Rattle.c104_timeline.proofs.frame_texts.add_numbered.Goals as goal

@@ -1,5 +1,4 @@
 use Rattle.std.proofs.Common.{◌<◌, length, subst}
-use Rattle.c104_traffic.specs.Targets.{senders_of}
 use Rattle.c104_traffic.proofs.Directions.{are_directed}
 use Rattle.c104_traffic.proofs.Scripts.{script_read, sends_all}
 use Rattle.c104_traffic.proofs.writing.write_traffic.Goals as goal
