@@ -1,6 +1,5 @@
 -- What is told of rows that change has its law.
 use Rattle.std.proofs.Common.{◌≡◌, ℕ, ◌+◌, ◌-◌, ◌<◌, ◌⊎◌, inl, inr, List, length, ◌≤◌, map, take, filter, get_or, true, false, All, arith, subst, sym, ap, ◌∙◌}
-use Rattle.std.proofs.lemmas.Bool.{cases_lt}
 use Rattle.std.proofs.lemmas.List.{take_all}
 use Rattle.std.proofs.lemmas.List.Elements.{All-more, All-weaker}
 use Rattle.c104_interval.specs.declared.intervals.TheConstants.{ROWS}
@@ -73,13 +72,6 @@ none_lower h next other t lower (inr begins) = inr (omega arith)
 pub none_up_to : (plan : Plan) (h next other : ℕ) → other ≤ next → NoneBegins plan h next → NoneBegins plan h other
 none_up_to plan h next other lower none =
     All-weaker (λ (t : Terminal). (t.first ≤ h) ⊎ (next ≤ t.first)) (λ (t : Terminal). (t.first ≤ h) ⊎ (other ≤ t.first)) (λ t. none_lower h next other t lower) plan.terminals none
-
--- nor does any between a header and the next
-none_between : (h other : ℕ) (t : Terminal) → other ≤ h + 1 → (t.first ≤ h) ⊎ (other ≤ t.first)
-none_between h other t next = elim (cases_lt h t.first) [ inl high ↦ inr (omega arith) | inr low ↦ inl low ]
-
-pub none_to_next : (plan : Plan) (h other : ℕ) → other ≤ h + 1 → NoneBegins plan h other
-none_to_next plan h other next = λ k d inside. none_between h other (get_or plan.terminals k d) next
 
 -- with the range of one terminal more
 pub none_next : (h next other : ℕ) (terminals : List Terminal) (i : ℕ) (t : Terminal) → i < length terminals → t ≡ get_or terminals i t → other ≤ next → (t.first ≤ h) ⊎ (other ≤ t.first)

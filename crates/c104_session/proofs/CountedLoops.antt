@@ -1,6 +1,6 @@
 -- Rounds that are counted in a loop: a round as it is counted, and how the loop ends.
-use Rattle.std.proofs.Common.{◌≡◌, ◌⊎◌, ◌+◌, ◌-◌, ◌<◌, ◌∙◌, ℕ, Bool, true, false, List, [], ◌∷◌, Result, Ok, Err}
-use Rattle.std.proofs.Common.{append-nil, ap, arith, inl, inr, refl, sym}
+use Rattle.std.proofs.Common.{◌≡◌, ◌+◌, ◌-◌, ◌<◌, ◌∙◌, ℕ, Bool, true, false, List, ◌∷◌, Result, Ok, Err}
+use Rattle.std.proofs.Common.{append-nil, ap, inl, inr, refl, sym}
 use Rattle.c104_event.specs.declared.events.Event.{Event}
 use Rattle.c104_event.specs.declared.faults.EventFault.{EventFault}
 use Rattle.c104_event.specs.declared.faults.EventFault.TheVariants as fault
@@ -12,13 +12,13 @@ use Rattle.c104_run.specs.NetRecords.{NetRecord}
 use Rattle.c104_run.specs.RecordedRuns.{record_apply}
 use Rattle.c104_run.specs.RoundParts.{PartEnds}
 use Rattle.c104_run.specs.Rounds.{round, rounds}
-use Rattle.c104_stats.specs.Counts.{counts_begun, counts_noted, counts_passed, Counts}
+use Rattle.c104_stats.specs.Counts.{counts_begun, counts_passed, Counts}
 use Rattle.c104_stats.specs.Metering.{counting}
 use Rattle.c104_stats.specs.Sights.{counts_of_net}
-use Rattle.c104_session.specs.Counted.{counted_rounds, is_later, Counted, CountsRound}
+use Rattle.c104_session.specs.Counted.{counted_rounds, Counted, CountsRound}
 use Rattle.c104_session.specs.Driven.{DoesRounds}
 use Rattle.c104_session.specs.Leavings.{LeavesRounds}
-use Rattle.c104_session.proofs.CountedRounds.{fault_counts, fault_ends, goes_on, idle_counts, idle_ends, round_runs, Going}
+use Rattle.c104_session.proofs.CountedRounds.{fault_ends, goes_on, idle_counts, idle_ends, round_runs, Going}
 use Rattle.c104_session.proofs.Leavings.{rounds_left}
 use Rattle.c104_session.proofs.RoundLeavings.{later_left}
 use Rattle.c104_session.proofs.StillCounts.{none_later}
@@ -33,10 +33,6 @@ module _ (net after : NetRecord) (c : Counts) where
 
   abbrev pub RoundTold : Result Bool EventFault → Counts → Type 0
   RoundTold result e = PartEnds (record_metered counting) begun (round net.network.plan) result (at_meter after e)
-
-  -- it began not, or stopped at a fault, or it is done
-  pub round_unbegun : (d : Counts) → CountsRound net c (Err fault.NoMemory) net d
-  round_unbegun d = inr (refl, ([], rounds net.network.plan 1, refl, refl))
 
   front_left : (d : Counts) (front : List Event) → run_events (record_metered counting) begun front ≡ (Ok tt, at_meter after d)
       → after ≡ (run_events record_apply net front).1
@@ -61,10 +57,6 @@ module _ (net after : NetRecord) (c : Counts) where
         ),
       )
 
-  pub round_counted : (changed done : Bool) (e d : Counts) → RoundTold (Ok changed) e → done ≡ is_later net.count after.count
-      → d ≡ counts_noted e done → CountsRound net c (Ok done) after d
-  round_counted changed done e d told later ended = (e, told.ends.0, later, ended)
-
 -- the loop goes on, or ends
 module _ (start : NetRecord) (begun : Counts) (count i : ℕ) (net after : NetRecord) (c d : Counts)
     (going : Going start begun count i net c) (further : i < count) where
@@ -83,11 +75,6 @@ module _ (start : NetRecord) (begun : Counts) (count i : ℕ) (net after : NetRe
   pub halted_left : (f : EventFault) → Halted f → LeavesRounds start count after
   halted_left f (inl is) = rounds_left start count (Err f) after (fault_ends start begun count i net after c d going further f is)
   halted_left f (inr short) = later_left start net after i count further going.run going.same short.1
-
-  pub halted_counts : (f : EventFault) → Halted f
-      → (d ≡ counted_rounds begun start count) ⊎ (◌≡◌ {A = Result (Unit {0}) EventFault} (Err f) (Err fault.NoMemory))
-  halted_counts f (inl is) = inl (fault_counts start begun count i net after c d going further f is)
-  halted_counts f (inr short) = inr (ap Err short.0)
 
   -- a round in which nothing was done is the last
   module _ (idle : CountsRound net c (Ok false) after d) where
@@ -113,14 +100,3 @@ module _ (start : NetRecord) (begun : Counts) (count i : ℕ) (net after : NetRe
       let run = round_runs start begun count i net after c d going further true came in
       goes_on start begun count i net after c d going further
       (starts_stay net after (round net.network.plan) (Ok tt) (inl (sym run))).0 came
-
--- all are done
-module _ (start : NetRecord) (begun : Counts) (count : ℕ) (net : NetRecord) (c : Counts) (going : Going start begun count count net c) where
-  pub all_due : DoesRounds start count (Ok tt) net
-  all_due = inl (sym going.run)
-
-  pub all_left : LeavesRounds start count net
-  all_left = rounds_left start count (Ok tt) net (inl (sym going.run))
-
-  pub all_counts : c ≡ counted_rounds begun start count
-  all_counts = let none : count - count ≡ 0 = omega arith in sym (going.left ∙ ap (λ n. counted_rounds c net n) none)

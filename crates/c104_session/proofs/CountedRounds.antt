@@ -28,13 +28,6 @@ pub record Going (start : NetRecord) (begun : Counts) (count i : ℕ) (net : Net
   pub same : net.network.plan ≡ start.network.plan
   pub left : rounds_counted count (at_meter start begun) ≡ rounds_counted (count - i) (at_meter net c)
 
-pub going_at_first : (start : NetRecord) (begun : Counts) (count : ℕ) → Going start begun count 0 start begun
-going_at_first start begun count = record {
-  run = refl;
-  same = refl;
-  left = (let all : count ≡ count - 0 = omega arith in ap (λ n. rounds_counted n (at_meter start begun)) all);
-}
-
 module _ (start : NetRecord) (begun : Counts) (count i : ℕ) (net after : NetRecord) (c d : Counts)
     (going : Going start begun count i net c) (further : i < count) where
   abbrev rest : ℕ
@@ -88,11 +81,6 @@ module _ (start : NetRecord) (begun : Counts) (count i : ℕ) (net after : NetRe
   idle_ends unchanged came =
       round_idle record_apply start net after start.network.plan (round net.network.plan) i count plan_is further going.run
       (ends_so (Ok tt) came.0 came.1) unchanged
-
-  -- a fault stopped it
-  pub fault_counts : (f : EventFault) → counted_round (at_meter net c) ≡ (Err f, at_meter after d)
-      → d ≡ rounds_counted count (at_meter start begun)
-  fault_counts f is = sym (next_left ∙ ap (λ (o : Outcome Counted). counted_on rest (rounds_counted rest) net o) is)
 
   pub fault_ends : (f : EventFault) → counted_round (at_meter net c) ≡ (Err f, at_meter after d)
       → EventsEnd record_apply start (rounds start.network.plan count) (Err f) after

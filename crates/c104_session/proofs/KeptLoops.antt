@@ -1,6 +1,6 @@
 -- Rounds of which something is kept in a loop: a round as it is kept, and how the loop ends.
-use Rattle.std.proofs.Common.{◌≡◌, ◌⊎◌, ◌+◌, ◌-◌, ◌<◌, ◌∙◌, ℕ, Bool, true, false, List, [], ◌∷◌, Result, Ok, Err}
-use Rattle.std.proofs.Common.{append-nil, ap, arith, inl, inr, refl, sym}
+use Rattle.std.proofs.Common.{◌≡◌, ◌+◌, ◌-◌, ◌<◌, ◌∙◌, ℕ, Bool, true, false, List, [], ◌∷◌, Result, Ok, Err}
+use Rattle.std.proofs.Common.{append-nil, ap, inl, inr, refl, sym}
 use Rattle.c104_event.specs.declared.events.Event.{Event}
 use Rattle.c104_event.specs.declared.faults.EventFault.{EventFault}
 use Rattle.c104_event.specs.declared.faults.EventFault.TheVariants as fault
@@ -14,11 +14,10 @@ use Rattle.c104_run.specs.NetRecords.{NetRecord}
 use Rattle.c104_run.specs.RecordedRuns.{record_apply}
 use Rattle.c104_run.specs.RoundParts.{PartEnds}
 use Rattle.c104_run.specs.Rounds.{round, rounds}
-use Rattle.c104_session.specs.Counted.{is_later}
 use Rattle.c104_session.specs.Driven.{DoesRounds}
 use Rattle.c104_session.specs.Keepers.{rounds_kept, Keeping, KeepsRound}
 use Rattle.c104_session.specs.Leavings.{LeavesRounds}
-use Rattle.c104_session.proofs.KeptRounds.{fault_counts, fault_ends, goes_on, idle_counts, idle_ends, round_runs, Going}
+use Rattle.c104_session.proofs.KeptRounds.{fault_ends, goes_on, idle_counts, idle_ends, round_runs, Going}
 use Rattle.c104_session.proofs.Leavings.{rounds_left}
 use Rattle.c104_session.proofs.RoundLeavings.{later_left}
 use Rattle.c104_session.proofs.StillCounts.{none_later}
@@ -62,10 +61,6 @@ module _ {M : Type 0} (sees : Sees M TaggedToken) (keeps : Keeping M) where
           ),
         )
 
-    pub round_counted : (changed done : Bool) (e d : M) → RoundTold (Ok changed) e → done ≡ is_later net.count after.count
-        → d ≡ keeps.ended e done → KeepsRound sees keeps net c (Ok done) after d
-    round_counted changed done e d told later ended = (e, told.ends.0, later, ended)
-
   -- the loop goes on, or ends
   module _ (start : NetRecord) (begun : M) (count i : ℕ) (net after : NetRecord) (c d : M)
       (going : Going sees keeps start begun count i net c) (further : i < count) where
@@ -84,11 +79,6 @@ module _ {M : Type 0} (sees : Sees M TaggedToken) (keeps : Keeping M) where
     pub halted_left : (f : EventFault) → Halted f → LeavesRounds start count after
     halted_left f (inl is) = rounds_left start count (Err f) after (fault_ends sees keeps start begun count i net after c d going further f is)
     halted_left f (inr short) = later_left start net after i count further going.run going.same short.1
-
-    pub halted_counts : (f : EventFault) → Halted f
-        → (d ≡ rounds_kept sees keeps count (at_meter start begun)) ⊎ (◌≡◌ {A = Result (Unit {0}) EventFault} (Err f) (Err fault.NoMemory))
-    halted_counts f (inl is) = inl (fault_counts sees keeps start begun count i net after c d going further f is)
-    halted_counts f (inr short) = inr (ap Err short.0)
 
     -- a round in which nothing was done is the last
     module _ (idle : KeepsRound sees keeps net c (Ok false) after d) where
@@ -114,14 +104,3 @@ module _ {M : Type 0} (sees : Sees M TaggedToken) (keeps : Keeping M) where
         let run = round_runs sees keeps start begun count i net after c d going further true came in
         goes_on sees keeps start begun count i net after c d going further
         (starts_stay net after (round net.network.plan) (Ok tt) (inl (sym run))).0 came
-
-  -- all are done
-  module _ (start : NetRecord) (begun : M) (count : ℕ) (net : NetRecord) (c : M) (going : Going sees keeps start begun count count net c) where
-    pub all_due : DoesRounds start count (Ok tt) net
-    all_due = inl (sym going.run)
-
-    pub all_left : LeavesRounds start count net
-    all_left = rounds_left start count (Ok tt) net (inl (sym going.run))
-
-    pub all_counts : c ≡ rounds_kept sees keeps count (at_meter start begun)
-    all_counts = let none : count - count ≡ 0 = omega arith in sym (going.left ∙ ap (λ n. rounds_kept sees keeps n (at_meter net c)) none)

@@ -28,13 +28,6 @@ module _ {M : Type 0} (sees : Sees M TaggedToken) (keeps : Keeping M) where
     pub same : net.network.plan ≡ start.network.plan
     pub left : rounds_kept sees keeps count (at_meter start begun) ≡ rounds_kept sees keeps (count - i) (at_meter net c)
 
-  pub going_at_first : (start : NetRecord) (begun : M) (count : ℕ) → Going start begun count 0 start begun
-  going_at_first start begun count = record {
-    run = refl;
-    same = refl;
-    left = (let all : count ≡ count - 0 = omega arith in ap (λ n. rounds_kept sees keeps n (at_meter start begun)) all);
-  }
-
   module _ (start : NetRecord) (begun : M) (count i : ℕ) (net after : NetRecord) (c d : M)
       (going : Going start begun count i net c) (further : i < count) where
     abbrev rest : ℕ
@@ -88,11 +81,6 @@ module _ {M : Type 0} (sees : Sees M TaggedToken) (keeps : Keeping M) where
     idle_ends unchanged came =
         round_idle record_apply start net after start.network.plan (round net.network.plan) i count plan_is further going.run
         (ends_so (Ok tt) came.0 came.1) unchanged
-
-    -- a fault stopped it
-    pub fault_counts : (f : EventFault) → round_kept sees keeps (at_meter net c) ≡ (Err f, at_meter after d)
-        → d ≡ rounds_kept sees keeps count (at_meter start begun)
-    fault_counts f is = sym (next_left ∙ ap (λ (o : Outcome (MeteredRecord M)). kept_on sees keeps rest (rounds_kept sees keeps rest) net o) is)
 
     pub fault_ends : (f : EventFault) → round_kept sees keeps (at_meter net c) ≡ (Err f, at_meter after d)
         → EventsEnd record_apply start (rounds start.network.plan count) (Err f) after
