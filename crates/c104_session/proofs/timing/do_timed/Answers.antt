@@ -3,5 +3,5 @@ use Rattle.c104_session.proofs.timing.do_timed.Goals as goal
 
 pub returns-clause-kept : goal.returns-clause-kept
 returns-clause-kept c =
-    timed_kept c.args.net.now c.args.event.now c.apply_told.result c.apply_told.new.self c.args.timeline.now c.apply_told.new.meter
-    c.apply_told.ensures
+    timed_kept c.args.net.now c.args.event.now c.apply_told-answer.result c.apply_told-answer.new.self c.args.timeline.now
+    c.apply_told-answer.new.meter c.apply_told-answer.ensures
