@@ -83,6 +83,9 @@ SAYS = {
     },
     'c104_commands': {
         'CommandRuns': 'nothing is written, or the line that tells why; where the writer fails a prefix',
+        'RefusalEnds': 'the line that tells why is written, or out of memory nothing; where the writer fails a prefix',
+    },
+    'c104_run_commands': {
         'RunsParts': 'what is written are the answers to the first lines, each whole, or to all, and no summary; where the '
                      'writer fails a prefix',
         'RunsText': 'the same of one text',

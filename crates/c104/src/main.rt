@@ -4,7 +4,7 @@
 //! function's `Status` means: a message on standard error and an exit status. The words of the command line and the texts
 //! of help are those of `c104_words`; commands of two files but `run` are in `pairs`, how files are opened in `opening`, what a path
 //! stands for in `sources`, a script that is typed in `typed`, what people are told beside the answers in `told`; the
-//! functions of the commands are those of `c104_commands` and `c104_storm_command`.
+//! functions of the commands are those of `c104_commands`, `c104_run_commands` and `c104_storm_command`.
 #![tactic(auto)]
 
 mod opening;
@@ -14,13 +14,15 @@ mod told;
 mod typed;
 
 pub use c104_commands::{
-    Marks, PatternName, Status, check_command, cycles_command, debug_command, draw_command,
-    draw_over_time_command, draw_state_command, label_command, label_rows_command, run, run_text,
-    stats_command, traffic_command,
+    Marks, PatternName, Status, check_command, cycles_command, draw_command, label_command,
+    label_rows_command, traffic_command,
 };
 use c104_describe::read_description;
 use c104_mistakes::{About, Messages};
 use c104_plan::MAX_DESCRIPTION;
+pub use c104_run_commands::{
+    debug_command, draw_over_time_command, draw_state_command, run, run_text, stats_command,
+};
 pub use c104_storm_command::storm_command;
 use c104_stream::{ReadFault, read_up_to};
 use c104_words::{Order, STANDARD_INPUT, Subcommand, Words, pattern_of};

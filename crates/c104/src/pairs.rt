@@ -2,9 +2,9 @@
 
 use crate::opening::open_both;
 use crate::told::Told;
-use c104_commands::{
-    Asked, Format, Printing, Status, What, draw_over_time_command, draw_state_command,
-    stats_command,
+use c104_commands::Status;
+use c104_run_commands::{
+    Asked, Format, Printing, What, draw_over_time_command, draw_state_command, stats_command,
 };
 use c104_storm_command::storm_command;
 use c104_words::{CountWords, Order, PictureWords};

@@ -1,12 +1,8 @@
 mod Refusals
 mod ImageLines
-mod ReadFaults
 mod CycleLemmas
 mod RowLemmas
 mod RowTables
 mod RowTexts
 mod RowsByHand
-mod StateLemmas
-mod OverTimeLemmas
 mod TrafficEnds
-mod CountStatuses

@@ -12,7 +12,6 @@ use Rattle.c104_commands.specs.Setups.{ComesTo, IsOutOfMemory, RefusalEnds, refu
 use Rattle.c104_commands.specs.Checks.{IsRefusedBy, LabelRefusalEnds, PrintsCheck}
 use Rattle.c104_commands.specs.Cycles.{PrintsCycles}
 use Rattle.c104_commands.specs.Endings.{CommandEnds, CommandRuns, EndsBefore, IsSetup}
-use Rattle.c104_commands.specs.Runs.{DescriptionEnds, RunsDescription}
 
 -- what any command prints of a network
 abbrev pub Printed : Type 1
@@ -36,17 +35,6 @@ runs_before prints (Some description) held holds status.NoMemory ends = ends
 pub runs_on : (prints : Printed) (known held before holds : Option (List ℕ)) (plan : Plan) (image : Image) (ended : Status) → held ≡ before → IsSetup known (Ok (plan, image)) → ((due : Result Plan PlanFault) → ComesTo due (Ok (plan, image)) → CommandEnds prints due before holds ended) → CommandRuns prints known held holds ended
 runs_on prints None held before holds plan image ended same is ends = tt
 runs_on prints (Some description) held before holds plan image ended same is ends = rw same (ends (read_description description) is)
-
-description_refused : (due : Result Plan PlanFault) (why : SetupFault) (script : List ℕ) (left held holds : Option (List ℕ)) (ended : Status) → ((IsOutOfMemory why → ⊥) → ComesTo due (Err why)) → RefusalEnds why held holds ended → DescriptionEnds due script left held holds ended
-description_refused due why script left held holds status.Done comes ends = absurd ends
-description_refused due why script left held holds status.Refused comes ends = (Err why, comes ends.0, ends.1, refl)
-description_refused due why script left held holds (status.CannotRead n) comes ends = absurd ends
-description_refused due why script left held holds status.CannotWrite comes ends = (Err why, comes ends.0, ends.1)
-description_refused due why script left held holds status.NoMemory comes ends = inl ends
-
-pub run_refused : (due : Result Plan PlanFault) (why : SetupFault) (script left held holds : Option (List ℕ)) (ended : Status) → ((IsOutOfMemory why → ⊥) → ComesTo due (Err why)) → RefusalEnds why held holds ended → RunsDescription due script left held holds ended
-run_refused due why None left held holds ended comes ends = tt
-run_refused due why (Some script) left held holds ended comes ends = description_refused due why script left held holds ended comes ends
 
 -- refused labels end any command that prints them as `check` does
 labels_refused : (prints : Printed) (due : Result Plan PlanFault) (plan : Plan) (image : Image) (held holds : Option (List ℕ)) (ended : Status) → ((text : List ℕ) → IsRefusedBy plan image text → prints plan image text true) → ComesTo due (Ok (plan, image)) → LabelRefusalEnds plan image held holds ended → CommandEnds prints due held holds ended

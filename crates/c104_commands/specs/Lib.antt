@@ -1,5 +1,4 @@
 pub mod Statuses
-pub mod Runs
 pub mod CheckTexts
 pub mod Setups
 pub mod Endings
@@ -13,9 +12,6 @@ pub mod RowChanges
 pub mod RowSteps
 pub mod Advice
 pub mod Pictures
-pub mod StatePictures
-pub mod OverTime
 pub mod CycleTexts
 pub mod Cycles
 pub mod CycleAdvice
-pub mod Counts

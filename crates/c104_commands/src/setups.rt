@@ -31,15 +31,16 @@ pub struct Setup {
 
 /// Why a description gives no network with labels.
 #[derive(Clone, Copy, Debug)]
-pub(crate) enum SetupFault {
+pub enum SetupFault {
     /// The description is faulty.
     Description(PlanFault),
     /// Its network can't be labelled.
     Labels(LabelFault),
 }
 
-/// Reads a description and labels its network.
-pub(crate) fn set_up(alloc: Global, description: &[u8]) -> Result<Setup, SetupFault>
+/// Reads a description and labels its network. The error is the first fault of the description or of its labels, or out of
+/// memory.
+pub fn set_up(alloc: Global, description: &[u8]) -> Result<Setup, SetupFault>
     ensures network { IfOk result (λ setup.
         ComesTo (read_description description.now) (Ok (setup.plan, setup.image))) }
     ensures fits { IfOk result (λ setup. Fits setup.image setup.plan) }
@@ -115,10 +116,11 @@ fn set_up_text<W: Write, M: Messages>(
 }
 
 /// Drops a plan. A function of its own, so that all that a plan owns is dropped in one place.
-pub(crate) fn drop_plan(_plan: Plan) {}
+fn drop_plan(_plan: Plan) {}
 
-/// Tells why a description gives no network with labels, which ends any command.
-pub(crate) fn refuse<W: Write, M: Messages>(
+/// Writes why a description gives no network with labels, and tells people of it, which ends any command. Out of memory
+/// nothing is written.
+pub fn refuse<W: Write, M: Messages>(
     alloc: Global,
     description: &[u8],
     fault: SetupFault,

@@ -6,10 +6,12 @@ use crate::growths::{Growing, Refusal, Sharing, is_right, is_told};
 use crate::outcomes::Outcome;
 use crate::written::{ANSWERS, Page, SCRIPT, SENDS, STORM_END, SUMMARY, TWO_ANSWERS};
 use c104_commands::{
-    Asked, Marks, Status, check_command, cycles_command, debug_command, draw_command,
-    draw_over_time_command, draw_state_command, label_command, label_rows_command, run, run_text,
+    Marks, Status, check_command, cycles_command, draw_command, label_command, label_rows_command,
 };
 use c104_mistakes::Silent;
+use c104_run_commands::{
+    Asked, debug_command, draw_over_time_command, draw_state_command, run, run_text,
+};
 use c104_storm_command::storm_command;
 use std::alloc::Global;
 use std::sync::Wait;

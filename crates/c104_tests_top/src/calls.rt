@@ -1,7 +1,8 @@
 //! The calls that tests make of the commands, with nothing promised: the prover would compute what is written of
 //! literal texts.
-use c104_commands::{Status, run};
+use c104_commands::Status;
 use c104_mistakes::Silent;
+use c104_run_commands::run;
 use std::alloc::Global;
 use std::io::{Read, Write};
 

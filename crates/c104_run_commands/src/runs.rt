@@ -11,10 +11,9 @@ ghost use Rattle.c104_session.specs.Lines.{AreOnlyLines};
 ghost use Rattle.c104_stream.specs.ScriptLines.{script_lines};
 ghost use Rattle.c104_commands.specs.declared.status.Status.TheVariants as status;
 ghost use Rattle.c104_commands.specs.Setups.{ComesTo};
-ghost use Rattle.c104_commands.specs.Runs.{RunsParts, RunsDescription, RunsText};
+ghost use Rattle.c104_run_commands.specs.Runs.{RunsParts, RunsDescription, RunsText};
 
-use crate::setups::{Setup, drop_plan, refuse, set_up};
-use crate::status::Status;
+use c104_commands::{Setup, Status, refuse, set_up};
 use c104_mistakes::{Behind, Messages};
 use c104_plan::{Image, MAX_DESCRIPTION, Plan};
 use c104_script::read_first_part;
@@ -132,7 +131,7 @@ pub fn run_text<R: Read, W: Write, M: Messages>(
 }
 
 /// Runs a script on the network of a description that is read.
-#[tactic(auto, using(crate::proofs::Refusals::run_refused))]
+#[tactic(auto, using(crate::proofs::RunRefusals::run_refused))]
 fn run_description<S: Read, W: Write, M: Messages>(
     alloc: Global,
     description: &[u8],
@@ -173,6 +172,9 @@ fn run_setup<S: Read, W: Write, M: Messages>(
     drop_plan(plan);
     status
 }
+
+/// Drops a plan. A function of its own, so that all that a plan owns is dropped in one place.
+fn drop_plan(_plan: Plan) {}
 
 /// The same of a plan and an image that fits it.
 fn run_image<S: Read, W: Write, M: Messages>(

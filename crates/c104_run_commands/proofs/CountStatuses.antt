@@ -7,7 +7,7 @@ use Rattle.c104_stream.specs.declared.halt.Halt.TheVariants as halt
 use Rattle.c104_session.specs.CountedRuns.{CountsPlan}
 use Rattle.c104_session.specs.declared.counted_runs.Printing.{Printing}
 use Rattle.c104_commands.specs.Statuses.{halt_status}
-use Rattle.c104_commands.specs.Counts.{CountingRuns}
+use Rattle.c104_run_commands.specs.Counts.{CountingRuns}
 use Rattle.c104_commands.specs.declared.status.Status.{Status}
 
 by_halt : (p : Printing) (plan : Plan) (image : Image) (script held holds : Option (List ℕ)) (kind : Halt) → CountsPlan p plan image script held holds (Err kind) → CountingRuns p plan image script held holds (halt_status kind 1)

@@ -8,7 +8,7 @@ use Rattle.c104_plan.specs.PlanImage.{Image}
 use Rattle.c104_timeline.specs.declared.periods.Asked.{Asked}
 use Rattle.c104_session.specs.TimedRuns.{IsTimedPlan}
 use Rattle.c104_commands.specs.Endings.{EndsBefore, IsSetup}
-use Rattle.c104_commands.specs.StatePictures.{IsUndrawn, WritesDrawn}
+use Rattle.c104_run_commands.specs.StatePictures.{IsUndrawn, WritesDrawn}
 use Rattle.c104_commands.specs.declared.status.Status.{Status}
 
 -- what is written where a script was run on the network of a plan with an image: the picture, or the line that refuses it, or

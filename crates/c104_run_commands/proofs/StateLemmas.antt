@@ -12,7 +12,7 @@ use Rattle.c104_session.specs.Shown.{line_outcome, new_session}
 use Rattle.c104_session.specs.declared.session.Session.{Session}
 use Rattle.c104_commands.specs.Statuses.{halt_status}
 use Rattle.c104_commands.specs.Endings.{IsSetup}
-use Rattle.c104_commands.specs.StatePictures.{IsDrawnAfter, IsUndrawn, StateEnds, StateRuns}
+use Rattle.c104_run_commands.specs.StatePictures.{IsDrawnAfter, IsUndrawn, StateEnds, StateRuns}
 use Rattle.c104_commands.specs.declared.status.Status.{Status}
 
 pub undrawn : (kind : Halt) → IsUndrawn (halt_status kind 1)

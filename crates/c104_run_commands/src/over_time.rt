@@ -1,12 +1,11 @@
 //! The drawing of the run of a script over its rounds.
 ghost use Rattle.std.specs.Prelude.{ℕ, ◌≡◌};
 ghost use Rattle.c104_plan.specs.PlanImage.{Fits};
-ghost use Rattle.c104_commands.specs.OverTime.{OverTimeEnds, OverTimeRuns};
+ghost use Rattle.c104_run_commands.specs.OverTime.{OverTimeEnds, OverTimeRuns};
 ghost use Rattle.c104_commands.specs.declared.status.Status.TheVariants as status;
 
-use crate::setups::{Setup, read_setup};
 use crate::states::{Drawn, write_drawn};
-use crate::status::Status;
+use c104_commands::{Setup, Status, read_setup};
 use c104_mistakes::Messages;
 use c104_plan::{Image, Plan};
 use c104_session::{Asked, time_plan};

@@ -1,5 +1,5 @@
-use Rattle.c104_commands.proofs.StateLemmas.{state_ends}
-use Rattle.c104_commands.proofs.states.draw_state_command.Goals as goal
+use Rattle.c104_run_commands.proofs.StateLemmas.{state_ends}
+use Rattle.c104_run_commands.proofs.states.draw_state_command.Goals as goal
 
 pub returns-clause-ends : goal.returns-clause-ends
 returns-clause-ends g c =

@@ -2,10 +2,9 @@
 ghost use Rattle.std.specs.Prelude.{ℕ, ◌≡◌};
 ghost use Rattle.c104_plan.specs.PlanImage.{Fits};
 ghost use Rattle.c104_commands.specs.declared.status.Status.TheVariants as status;
-ghost use Rattle.c104_commands.specs.Counts.{CountingRuns, CountsEnd};
+ghost use Rattle.c104_run_commands.specs.Counts.{CountingRuns, CountsEnd};
 
-use crate::setups::{Setup, read_setup};
-use crate::status::Status;
+use c104_commands::{Setup, Status, read_setup};
 use c104_mistakes::Messages;
 use c104_plan::{Image, Plan};
 use c104_session::{Printing, count_plan};

@@ -1,5 +1,5 @@
-use Rattle.c104_commands.proofs.OverTimeLemmas.{over_time_ends}
-use Rattle.c104_commands.proofs.over_time.draw_over_time_command.Goals as goal
+use Rattle.c104_run_commands.proofs.OverTimeLemmas.{over_time_ends}
+use Rattle.c104_run_commands.proofs.over_time.draw_over_time_command.Goals as goal
 
 pub returns-clause-ends : goal.returns-clause-ends
 returns-clause-ends g c =

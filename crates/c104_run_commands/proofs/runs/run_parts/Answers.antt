@@ -1,6 +1,6 @@
 use Rattle.std.proofs.Common.{length, ap, arith}
-use Rattle.c104_commands.proofs.ReadFaults.{read_to_end}
-use Rattle.c104_commands.proofs.runs.run_parts.Goals as goal
+use Rattle.c104_run_commands.proofs.ReadFaults.{read_to_end}
+use Rattle.c104_run_commands.proofs.runs.run_parts.Goals as goal
 
 pub returns-clause-of_script : goal.returns-clause-of_script
 returns-clause-of_script g c is =

@@ -6,11 +6,10 @@ ghost use Rattle.c104_plan.specs.PlanImage.{Fits, Image as TheImage};
 ghost use Rattle.c104_plan.specs.Plans.{Plan as ThePlan};
 ghost use Rattle.c104_session.specs.AskedPictures.{IsPictureOf};
 ghost use Rattle.c104_session.specs.Shown.{new_session};
-ghost use Rattle.c104_commands.specs.StatePictures.{IsDrawnAfter, StateEnds, StateRuns, WritesDrawn};
+ghost use Rattle.c104_run_commands.specs.StatePictures.{IsDrawnAfter, StateEnds, StateRuns, WritesDrawn};
 ghost use Rattle.c104_commands.specs.declared.status.Status.TheVariants as status;
 
-use crate::setups::{Setup, read_setup};
-use crate::status::Status;
+use c104_commands::{Setup, Status, read_setup};
 use c104_mistakes::Messages;
 use c104_picture::state_text;
 use c104_plan::{Image, Plan};

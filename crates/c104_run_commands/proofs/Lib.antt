@@ -1,0 +1,5 @@
+mod RunRefusals
+mod ReadFaults
+mod StateLemmas
+mod OverTimeLemmas
+mod CountStatuses

@@ -1,0 +1,4 @@
+pub mod Runs
+pub mod StatePictures
+pub mod OverTime
+pub mod Counts
