@@ -1,5 +1,5 @@
 -- How a run ends where a description gives no network with labels.
-use Rattle.std.proofs.Common.{◌≡◌, ℕ, List, Option, None, Some, Result, Err, refl, inl}
+use Rattle.std.proofs.Common.{ℕ, List, Option, None, Some, Result, Err, refl, inl}
 use Rattle.c104_plan.specs.Plans.{Plan}
 use Rattle.c104_describe.specs.declared.faults.PlanFault.{PlanFault}
 use Rattle.c104_commands.specs.declared.setups.SetupFault.{SetupFault}
