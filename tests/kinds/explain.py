@@ -37,7 +37,7 @@ DESCRIPTIONS = [
         '`continue`, `delete`, `random`, `header`, `buffer`, `label`, `mesh` or `cube`: frobnicate'),
     (PAIR + b'randm A.0 2 1\n', 3, 'a line begins with `switch`, `terminal`, `wire`, `row`, `base`, `continue`, '
         '`delete`, `random`, `header`, `buffer`, `label`, `mesh` or `cube`: randm; did you mean random?'),
-    (b'switch A\nlabel A\n', 2, 'the line is `label tree SWITCH`'),
+    (b'switch A\nlabel A\n', 2, 'the line is `label tree SWITCH` or `label up-down SWITCH`'),
     (b'mesh 2 2\n', 1, 'the line is `mesh COLUMNS ROWS TERMINALS`'),
     (b'cube 1\n', 1, 'the line is `cube DIMENSIONS TERMINALS`'),
     (b'mesh 0 2 1\n', 1, 'a mesh has 1 to 64 columns, 1 to 64 rows, and 1 to 28 terminals at each switch'),

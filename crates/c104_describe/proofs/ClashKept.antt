@@ -1,5 +1,5 @@
 -- What lines that were read say together of their kinds, by what each begins with.
-use Rattle.std.proofs.Common.{◌≡◌, ℕ, ◌+◌, ◌||◌, Bool, true, false, not, List, [], ◌∷◌, is_some, bytes_eq, codes, Option, Some, None, Result, Ok, Err, sym, ◌∙◌, ap, subst, refl}
+use Rattle.std.proofs.Common.{◌≡◌, ℕ, ◌+◌, ◌||◌, Bool, true, false, not, List, [], ◌∷◌, is_some, Option, Some, None, Result, Ok, Err, sym, ◌∙◌, ap, subst, refl}
 use Rattle.std.specs.List.{list_any}
 use Rattle.c104_describe.specs.declared.words.Keyword.TheVariants as keyword
 use Rattle.c104_describe.specs.declared.faults.PlanFaultKind.TheVariants.{BadName, BadNumber, BadShape, MixedStyle, Twice, UnknownName, UnknownWord}
@@ -11,7 +11,7 @@ use Rattle.c104_describe.specs.PlanWords.{Keyword, keyword_of, number_within, ra
 use Rattle.c104_plan.specs.Plans.{Plan, is_buffer_size, most_header_bytes, switch_number}
 use Rattle.c104_describe.specs.PlanDrafts.{Draft, is_begun, is_by_hand, is_mixed}
 use Rattle.c104_plan.specs.PlanParts.{has_settings, has_some}
-use Rattle.c104_describe.specs.PlanLines.{after_from, buffer_line, header_line, in_draft, keyword_line, label_line, read_plan_line, read_plan_words, terminal_line}
+use Rattle.c104_describe.specs.PlanLines.{after_from, buffer_line, header_line, in_draft, keyword_line, is_labeller, label_line, labelled_shape, read_plan_line, read_plan_words, terminal_line}
 use Rattle.c104_describe.specs.PlanText.{draft_after_line, read_plan_lines}
 use Rattle.c104_describe.specs.EarlierLines.{asks_labels, gives_switches, gives_whole, opening, opening_by, says_begin, sets_labels, words_opening}
 use Rattle.c104_describe.proofs.PlanLinesKept.{found, given, held}
@@ -21,7 +21,7 @@ use Rattle.c104_describe.proofs.ClashSteps.{Adds, across, between, switch_line-a
 pub record Says (w s a t : Bool) (draft next : Draft) : Type 0 where
   pub whole : not (is_by_hand next.plan.shape) ≡ (w || not (is_by_hand draft.plan.shape))
   pub switches : has_some next.plan.switches ≡ (s || has_some draft.plan.switches)
-  pub asks : is_some next.root ≡ (a || is_some draft.root)
+  pub asks : is_some next.labels ≡ (a || is_some draft.labels)
   pub sets : (next.from_said || has_settings next.plan) ≡ (t || (draft.from_said || has_settings draft.plan))
 
 -- after a line that begins so
@@ -39,7 +39,7 @@ module _ (draft next : Draft) where
       subst (SaysLine k false draft) same (record {
         whole = more.whole;
         switches = more.switches;
-        asks = ap (λ b. b || is_some draft.root) (sym none);
+        asks = ap (λ b. b || is_some draft.labels) (sym none);
         sets = ap (λ b. draft.from_said || b) more.sets ∙ across draft.from_said (sets_labels k false) (has_settings draft.plan);
       }))
 
@@ -73,11 +73,11 @@ module _ (draft next : Draft) where
 
   label : (style name : List ℕ) → label_line draft style name ≡ Ok next → SaysLine keyword.Label false draft next
   label style name is =
-      held (bytes_eq style (codes "tree")) BadShape _ next (SaysLine keyword.Label false draft next) is (λ shaped is1.
+      held (is_labeller style) BadShape _ next (SaysLine keyword.Label false draft next) is (λ shaped is1.
       held (is_name name) BadName _ next (SaysLine keyword.Label false draft next) is1 (λ named is2.
       given (value_or_fault (switch_number draft.plan name) UnknownName) _ next (SaysLine keyword.Label false draft next) is2 (λ root known is3.
-      held (not (is_some draft.root)) Twice _ next (SaysLine keyword.Label false draft next) is3 (λ once is4.
-      let same : record draft { root = Some root } ≡ next = cc in
+      held (not (is_some draft.labels)) Twice _ next (SaysLine keyword.Label false draft next) is3 (λ once is4.
+      let same : record draft { labels = Some (labelled_shape style root) } ≡ next = cc in
       subst (SaysLine keyword.Label false draft) same (record { whole = refl; switches = refl; asks = refl; sets = refl })))))
 
   keyword_line-says : (k : Keyword) (rest : List (List ℕ)) → keyword_line k draft rest ≡ Ok next → SaysLine k (says_begin k rest) draft next

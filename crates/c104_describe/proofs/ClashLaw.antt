@@ -70,15 +70,15 @@ all o (line ∷ list) = ap₂ (λ x y. x || y) (one o (opening line)) (all o lis
 
 -- by what the draft holds
 mixed : (draft : Draft) (k : Keyword) (rest : List (List ℕ)) → is_mixed draft k rest
-    ≡ mixes (k, says_begin k rest) (not (is_by_hand draft.plan.shape)) (has_some draft.plan.switches) (is_some draft.root) (draft.from_said || has_settings draft.plan)
+    ≡ mixes (k, says_begin k rest) (not (is_by_hand draft.plan.shape)) (has_some draft.plan.switches) (is_some draft.labels) (draft.from_said || has_settings draft.plan)
 unfolding mixes
 mixed draft keyword.Switch rest = sym (or_none (not (is_by_hand draft.plan.shape)))
-mixed draft keyword.Terminal rest = ap (λ b. not (is_by_hand draft.plan.shape) || b) (and_flips (is_some draft.root) (says_from rest) ∙ sym (or_none (says_from rest && is_some draft.root)))
+mixed draft keyword.Terminal rest = ap (λ b. not (is_by_hand draft.plan.shape) || b) (and_flips (is_some draft.labels) (says_from rest) ∙ sym (or_none (says_from rest && is_some draft.labels)))
 mixed draft keyword.Wire rest = sym (or_none (not (is_by_hand draft.plan.shape)))
-mixed draft keyword.Continue rest = ap (λ b. not (is_by_hand draft.plan.shape) || b) (sym (or_none (is_some draft.root)))
-mixed draft keyword.Base rest = ap (λ b. not (is_by_hand draft.plan.shape) || b) (sym (or_none (is_some draft.root)))
-mixed draft keyword.Row rest = ap (λ b. not (is_by_hand draft.plan.shape) || b) (sym (or_none (is_some draft.root)))
-mixed draft keyword.Random rest = ap (λ b. not (is_by_hand draft.plan.shape) || b) (sym (or_none (is_some draft.root)))
+mixed draft keyword.Continue rest = ap (λ b. not (is_by_hand draft.plan.shape) || b) (sym (or_none (is_some draft.labels)))
+mixed draft keyword.Base rest = ap (λ b. not (is_by_hand draft.plan.shape) || b) (sym (or_none (is_some draft.labels)))
+mixed draft keyword.Row rest = ap (λ b. not (is_by_hand draft.plan.shape) || b) (sym (or_none (is_some draft.labels)))
+mixed draft keyword.Random rest = ap (λ b. not (is_by_hand draft.plan.shape) || b) (sym (or_none (is_some draft.labels)))
 mixed draft keyword.Label rest = refl
 mixed draft keyword.Mesh rest = sym (or_none (has_some draft.plan.switches))
 mixed draft keyword.Cube rest = sym (or_none (has_some draft.plan.switches))
@@ -100,8 +100,8 @@ module _ (before : List (List ℕ)) (draft : Draft) (read : read_plan_lines 1 be
       let a = said.asks ∙ or_none _ in
       let t = said.sets ∙ or_none _ in
       mixed draft k rest
-      ∙ ap (λ x. mixes (k, says_begin k rest) x (has_some draft.plan.switches) (is_some draft.root) (draft.from_said || has_settings draft.plan)) w
-      ∙ ap (λ x. mixes (k, says_begin k rest) (any (λ k from. gives_whole k) before) x (is_some draft.root) (draft.from_said || has_settings draft.plan)) s
+      ∙ ap (λ x. mixes (k, says_begin k rest) x (has_some draft.plan.switches) (is_some draft.labels) (draft.from_said || has_settings draft.plan)) w
+      ∙ ap (λ x. mixes (k, says_begin k rest) (any (λ k from. gives_whole k) before) x (is_some draft.labels) (draft.from_said || has_settings draft.plan)) s
       ∙ ap₂ (λ x y. mixes (k, says_begin k rest) (any (λ k from. gives_whole k) before) (any (λ k from. gives_switches k) before) x y) a t
       ∙ sym (all (k, says_begin k rest) before)
 

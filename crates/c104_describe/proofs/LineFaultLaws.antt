@@ -24,7 +24,7 @@ use Rattle.c104_plan.specs.declared.plans.PlanRandom.{PlanRandom}
 use Rattle.c104_plan.specs.Checks.{◌>>=◌, ◌>>◌, require, value_or_fault}
 use Rattle.c104_describe.specs.PlanWords.{Keyword, keyword_of, range_words, select_word, number_within}
 use Rattle.c104_describe.specs.PlanDrafts.{Draft, is_mixed}
-use Rattle.c104_describe.specs.PlanLines.{label_line, mesh_line, cube_line, after_from, switch_line, terminal_line, wire_line, continue_line, delete_line, base_line, row_line, random_line, header_line, buffer_line, in_draft, keyword_line, read_plan_words, read_plan_line}
+use Rattle.c104_describe.specs.PlanLines.{is_labeller, label_line, mesh_line, cube_line, after_from, switch_line, terminal_line, wire_line, continue_line, delete_line, base_line, row_line, random_line, header_line, buffer_line, in_draft, keyword_line, read_plan_words, read_plan_line}
 use Rattle.c104_describe.specs.LineFaults.{LineParts, keyword_parts, terminal_parts, first_word_parts, line_parts, port_name, port_link, named_port, names_port, row_count, number_said, value_said, is_from_to, is_bad_number, selected_link, has_fault, IsLeastFault, IsFaultless}
 use Rattle.c104_describe.proofs.FaultOrder.{all_faults, applies, none_lesser, none_at_all}
 use Rattle.c104_describe.proofs.MixedLast.{first_fault, mixed_last}
@@ -224,10 +224,10 @@ module _ (draft : Draft) where
 
   label_law : (style name : List ℕ) → error_of (label_line draft style name) ≡ of_keyword (keyword_parts draft keyword.Label (style ∷ name ∷ []))
   label_law style name =
-      holds _ _ (bytes_eq style (codes "tree")) BadShape _ (λ shaped.
+      holds _ _ (is_labeller style) BadShape _ (λ shaped.
       holds _ _ (is_name name) BadName _ (λ named.
       value _ _ (switch_number draft.plan name) UnknownName _ (λ root known.
-      lone _ (is_some draft.root) (is_some draft.root) Twice _ refl refl)))
+      lone _ (is_some draft.labels) (is_some draft.labels) Twice _ refl refl)))
 
   mesh_law : (width height terminals : List ℕ) → error_of (in_draft draft (mesh_line draft.plan width height terminals)) ≡ of_keyword (keyword_parts draft keyword.Mesh (width ∷ height ∷ terminals ∷ []))
   mesh_law width height terminals =

@@ -1,16 +1,41 @@
--- A plan to be labelled as a tree keeps what every plan does.
-use Rattle.std.proofs.Common.{◌≡◌, ℕ, ◌<◌, ◌+◌, List, [], ◌∷◌, ◌++◌, map, length, All, sym, subst, ap, refl, arith}
+-- A plan to be labelled from a root keeps what every plan does.
+use Rattle.std.proofs.Common.{◌≡◌, ℕ, ◌<◌, ◌≤◌, ◌+◌, List, [], ◌∷◌, ◌++◌, map, length, All, sym, subst, ap, refl, arith}
 use Rattle.std.proofs.lemmas.List.{length-map}
 use Rattle.std.proofs.lemmas.List.Elements.{All-map, All-weaker}
-use Rattle.c104_plan.specs.declared.plans.Shape.TheVariants.{Tree}
+use Rattle.c104_plan.specs.declared.plans.Shape.{Shape}
+use Rattle.c104_plan.specs.declared.plans.Shape.TheVariants.{Hand, Tree, UpDown, Mesh, Cube}
 use Rattle.c104_plan.specs.Distinctness.{AreDistinct}
 use Rattle.c104_plan.specs.Ports.{is_port, both_ends, IsSwitchPort}
 use Rattle.c104_plan.specs.PlanParts.{without_first}
-use Rattle.c104_plan.specs.Plans.{Plan, AreNames, AreTerminals, IsPlan, IsRange, IsUnset, host_port, next_first, total_count}
+use Rattle.c104_plan.specs.Plans.{Plan, AreNames, AreTerminals, IsOfShape, IsPlan, IsRange, IsTreePlan, IsUnset, host_port, next_first, total_count}
 use Rattle.c104_plan.specs.declared.plans.Terminal.{Terminal}
 use Rattle.c104_plan.proofs.PlanRanges.{next_first-le}
 use Rattle.std.proofs.lemmas.Simd.{map-map}
 use Rattle.c104_plan.proofs.NamesKept.{same_names}
+
+-- a plan of so many switches is labelled as this shape from one of them
+abbrev pub IsRootIn : ℕ → Shape → Type 0
+IsRootIn n Hand = ⊥
+IsRootIn n (Tree root) = root < n
+IsRootIn n (UpDown root) = root < n
+IsRootIn n (Mesh w h p) = ⊥
+IsRootIn n (Cube d p) = ⊥
+
+-- and so is one of more
+pub root_in_more : (n m : ℕ) (shape : Shape) → n ≤ m → IsRootIn n shape → IsRootIn m shape
+root_in_more n m Hand le is = absurd is
+root_in_more n m (Tree root) le is = omega (arith, le, is)
+root_in_more n m (UpDown root) le is = omega (arith, le, is)
+root_in_more n m (Mesh w h p) le is = absurd is
+root_in_more n m (Cube d p) le is = absurd is
+
+-- but none of no switches
+pub root_in_none : (n : ℕ) (shape : Shape) → n ≡ 0 → IsRootIn n shape → ⊥
+root_in_none n Hand none is = is
+root_in_none n (Tree root) none is = absurd (omega (arith, none, is))
+root_in_none n (UpDown root) none is = absurd (omega (arith, none, is))
+root_in_none n (Mesh w h p) none is = is
+root_in_none n (Cube d p) none is = is
 
 total_same : (terminals : List Terminal) → total_count (map without_first terminals) ≡ total_count terminals
 total_same [] = refl
@@ -33,17 +58,32 @@ module _ (plan : Plan) (kept : IsPlan plan) where
         (All-weaker (λ (t : Terminal). IsRange t.first t.count) (λ (t : Terminal). IsRange 0 t.count) (λ (t : Terminal) is. (is.0, omega (arith, is.1))) plan.terminals kept.terminals.ranges);
   }
 
-  pub rooted_kept : (root : ℕ) → root < length plan.switches → next_first plan.terminals ≡ total_count plan.terminals → IsUnset plan → IsPlan (record plan { shape = Tree root; terminals = map without_first plan.terminals })
-  unfolding counts
-  rooted_kept root inside counted unset = record {
+  asked : Shape → Plan
+  asked shape = record plan { shape = shape; terminals = map without_first plan.terminals }
+
+  tree_plan : (shape : Shape) (root : ℕ) → root < length plan.switches → next_first plan.terminals ≡ total_count plan.terminals → IsUnset plan → IsTreePlan root (asked shape)
+  unfolding counts asked
+  tree_plan shape root inside counted unset = record {
+    inside = inside;
+    firsts = All-map (λ (t : Terminal). t.first ≡ 0) without_first plan.terminals (λ k d within. refl);
+    counts = omega (arith, total_same plan.terminals, counted, next_first-le plan.terminals kept.terminals.ranges);
+    unset = record { continues = unset.continues; bases = unset.bases; rows = unset.rows; randoms = unset.randoms };
+  }
+
+  of_root : (shape : Shape) → IsRootIn (length plan.switches) shape → next_first plan.terminals ≡ total_count plan.terminals → IsUnset plan → IsOfShape shape (asked shape)
+  unfolding counts asked
+  of_root Hand inside counted unset = absurd inside
+  of_root (Tree root) inside counted unset = tree_plan (Tree root) root inside counted unset
+  of_root (UpDown root) inside counted unset = tree_plan (UpDown root) root inside counted unset
+  of_root (Mesh w h p) inside counted unset = absurd inside
+  of_root (Cube d p) inside counted unset = absurd inside
+
+  pub rooted_kept : (shape : Shape) → IsRootIn (length plan.switches) shape → next_first plan.terminals ≡ total_count plan.terminals → IsUnset plan → IsPlan (record plan { shape = shape; terminals = map without_first plan.terminals })
+  unfolding counts asked
+  rooted_kept shape inside counted unset = record {
     header = kept.header;
     cap = kept.cap;
-    shape = record {
-      inside = inside;
-      firsts = All-map (λ (t : Terminal). t.first ≡ 0) without_first plan.terminals (λ k d within. refl);
-      counts = omega (arith, total_same plan.terminals, counted, next_first-le plan.terminals kept.terminals.ranges);
-      unset = record { continues = unset.continues; bases = unset.bases; rows = unset.rows; randoms = unset.randoms };
-    };
+    shape = of_root shape inside counted unset;
     few_switches = kept.few_switches;
     names = subst AreNames (ap (λ names. plan.switches ++ names) (sym (same_names plan.terminals))) kept.names;
     terminals = counts_are;

@@ -3,7 +3,7 @@ use Rattle.std.proofs.Common.{◌≡◌, ℕ, ◌≤◌, true, false, List, ◌�
 use Rattle.std.proofs.lemmas.Bool.Decides.{nat_tests}
 use Rattle.std.specs.Fmt.{decimal}
 use Rattle.c104_describe.specs.declared.faults.PlanFaultKind.TheVariants.{TooLong}
-use Rattle.c104_plan.specs.declared.plans.Shape.TheVariants.{Hand, Tree, Mesh, Cube}
+use Rattle.c104_plan.specs.declared.plans.Shape.TheVariants.{Hand, Tree, UpDown, Mesh, Cube}
 use Rattle.c104_plan.specs.TextCut.{lines, most_bytes}
 use Rattle.c104_plan.specs.TextWords.{read_number}
 use Rattle.c104_describe.specs.PlanFaults.{fault_at}
@@ -24,12 +24,12 @@ use Rattle.c104_describe.proofs.PrintedTrees.{read_tree}
 use Rattle.c104_describe.proofs.PrintedFills.{read_cube, read_mesh}
 
 module _ (plan : Plan) (kept : IsPlan plan) where
-  header_read : read_plan_words empty_draft true (header_words plan.header) ≡ Ok (record { plan = record empty_plan { header = plan.header }; header_said = true; buffer_said = false; from_said = false; root = None })
+  header_read : read_plan_words empty_draft true (header_words plan.header) ≡ Ok (record { plan = record empty_plan { header = plan.header }; header_said = true; buffer_said = false; from_said = false; labels = None })
   header_read =
       let bytes : number_within 1 most_header_bytes (decimal plan.header) ≡ Ok plan.header = number_within-decimal 1 most_header_bytes plan.header kept.header.0 kept.header.1 (omega (arith, kept.header.1)) in
       rw bytes refl
 
-  buffer_read : read_plan_words (record { plan = record empty_plan { header = plan.header }; header_said = true; buffer_said = false; from_said = false; root = None }) true (buffer_words plan.cap) ≡ Ok (draft_with false None (record empty_plan { header = plan.header; cap = plan.cap }))
+  buffer_read : read_plan_words (record { plan = record empty_plan { header = plan.header }; header_said = true; buffer_said = false; from_said = false; labels = None }) true (buffer_words plan.cap) ≡ Ok (draft_with false None (record empty_plan { header = plan.header; cap = plan.cap }))
   buffer_read =
       let size : read_number (decimal plan.cap) ≡ Some plan.cap = read_number-decimal plan.cap (omega (arith, small_buffer plan.cap kept.cap)) in
       rw (size, kept.cap) refl
@@ -37,7 +37,8 @@ module _ (plan : Plan) (kept : IsPlan plan) where
   -- the network, by the plan's shape, and what is behind it
   network_read : (shape : Shape) → plan.shape ≡ shape → IsOfShape shape plan → plan_of_draft (read_lines_of_words 3 (network_lines plan shape ++ lines_after_network plan) (draft_with false None (record empty_plan { header = plan.header; cap = plan.cap }))) ≡ Ok plan
   network_read Hand is_shape is = read_by_hand plan kept is_shape 3
-  network_read (Tree root) is_shape is = read_tree plan kept root is_shape is 3
+  network_read (Tree root) is_shape is = read_tree plan kept false root is_shape is 3
+  network_read (UpDown root) is_shape is = read_tree plan kept true root is_shape is 3
   network_read (Mesh w h p) is_shape is = read_mesh plan kept w h p is_shape is.0 is.1 3
   network_read (Cube d p) is_shape is = read_cube plan kept d p is_shape is.0 is.1 3
 

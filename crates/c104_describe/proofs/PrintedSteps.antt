@@ -27,6 +27,7 @@ use Rattle.c104_describe.specs.PlanDrafts.{Draft, is_by_hand}
 use Rattle.c104_plan.specs.PlanParts.{has_some}
 use Rattle.c104_describe.specs.PlanLines.{read_plan_words}
 use Rattle.c104_describe.specs.PlanPrint.{switch_words, terminal_words, wire_words, continue_words, delete_words, base_words, row_words, random_words}
+use Rattle.c104_plan.specs.declared.plans.Shape.{Shape}
 use Rattle.c104_plan.specs.PortTexts.{terminal_name, port_text, select_text}
 use Rattle.c104_describe.proofs.DistinctPlaces.{All-here, fresh, distinct_front, distinct_back, distinct_mapped, position_at}
 use Rattle.c104_plan.proofs.PortLemmas.{is_port-refl}
@@ -37,8 +38,8 @@ pub bytes_eq-refl : (xs : List ℕ) → bytes_eq xs xs ≡ true
 bytes_eq-refl xs = (bytes_eq-Decides xs xs).1 refl
 
 -- a draft of this plan, behind the lines of the header length and of the buffer size
-abbrev pub draft_with : Bool → Option ℕ → Plan → Draft
-draft_with from_said root plan = record { plan = plan; header_said = true; buffer_said = true; from_said = from_said; root = root }
+abbrev pub draft_with : Bool → Option Shape → Plan → Draft
+draft_with from_said labels plan = record { plan = plan; header_said = true; buffer_said = true; from_said = from_said; labels = labels }
 
 -- one of a plan that is made line by line, whose terminals' lines say where ranges begin if there are any
 abbrev pub draft_by_hand : List Terminal → Plan → Draft
@@ -237,10 +238,10 @@ module _ (plan : Plan) (kept : IsPlan plan) where
   pub delete_printed : (terminal : ℕ) (d : Terminal) → terminal < length plan.terminals → terminal_name plan terminal ≡ (get_or plan.terminals terminal d).name
   delete_printed terminal d known = ap (λ found. option_map_or (λ (t : Terminal). t.name) found []) (slice_get-get_or plan.terminals terminal d known)
 
-  pub delete_step : (said : Bool) (root : Option ℕ) (done : List ℕ) (terminal : ℕ) (more : List ℕ) → done ++ terminal ∷ more ≡ plan.deletes
-      → read_plan_words (draft_with said root (with_deletes done)) true (delete_words plan terminal) ≡ Ok (draft_with said root (with_deletes (done ++ terminal ∷ [])))
+  pub delete_step : (said : Bool) (labels : Option Shape) (done : List ℕ) (terminal : ℕ) (more : List ℕ) → done ++ terminal ∷ more ≡ plan.deletes
+      → read_plan_words (draft_with said labels (with_deletes done)) true (delete_words plan terminal) ≡ Ok (draft_with said labels (with_deletes (done ++ terminal ∷ [])))
   unfolding is_deleted terminal_number
-  delete_step said root done terminal more is =
+  delete_step said labels done terminal more is =
       let d : Terminal = record { name = []; switch = 0; link = 0; first = 0; count = 0 } in
       let known : terminal < length plan.terminals = All-here (λ t. t < length plan.terminals) plan.deletes done terminal more is kept.deletes.known in
       let name : List ℕ = (get_or plan.terminals terminal d).name in

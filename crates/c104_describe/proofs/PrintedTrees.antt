@@ -1,18 +1,17 @@
--- What is printed of a network to be labelled as a tree is read back.
-use Rattle.std.proofs.Common.{◌≡◌, ℕ, ◌+◌, true, false, List, [], ◌∷◌, ◌++◌, length, map, position, bytes_eq, nat_le, nat_lt, Some, None, Ok, refl, sym, ap, ◌∙◌, arith, append_assoc, length-append}
+-- What is printed of a network to be labelled from a root, as a tree or up and down, is read back.
+use Rattle.std.proofs.Common.{◌≡◌, ℕ, ◌+◌, Bool, true, false, List, [], ◌∷◌, ◌++◌, length, map, position, bytes_eq, nat_le, nat_lt, Some, None, Ok, refl, sym, ap, ◌∙◌, arith, append_assoc, length-append}
 use Rattle.std.specs.Fmt.{decimal}
 use Rattle.std.proofs.lemmas.Bool.Decides.{nat_tests}
-use Rattle.c104_plan.specs.declared.plans.Shape.TheVariants.{Tree}
 use Rattle.c104_plan.specs.TextWords.{is_name}
 use Rattle.c104_plan.specs.Ports.{IsSwitchPort}
 use Rattle.c104_plan.specs.Plans.{Plan, IsPlan, IsRange, IsTreePlan, IsUnset, host_port, is_linked, is_taken, label_count, next_first, switch_number}
 use Rattle.c104_plan.specs.declared.plans.Terminal.{Terminal}
 use Rattle.c104_describe.specs.PlanDrafts.{is_by_hand, rooted}
 use Rattle.c104_describe.specs.PlanWords.{number_within}
-use Rattle.c104_describe.specs.PlanLines.{read_plan_words}
+use Rattle.c104_describe.specs.PlanLines.{is_labeller, labelled_shape, read_plan_words}
 use Rattle.c104_describe.specs.PlanText.{draft_after_line, plan_of_draft}
 use Rattle.c104_plan.specs.PlanParts.{empty_plan}
-use Rattle.c104_describe.specs.PlanPrint.{counted_words, delete_words, label_words, network_lines, switch_words, wire_words}
+use Rattle.c104_describe.specs.PlanPrint.{counted_words, delete_words, label_words, labelled_lines, labeller, switch_words, wire_words}
 use Rattle.c104_describe.proofs.CountedPlans.{begins_there, counted, counted_kept, counts_again, same_deletes, same_terminals, same_wires}
 use Rattle.c104_describe.proofs.DistinctPlaces.{All-here, position_at}
 use Rattle.c104_describe.proofs.PrintedText.{read_kind, read_lines_of_words}
@@ -37,7 +36,12 @@ module _ (plan : Plan) (kept : IsPlan plan) (done : List Terminal) (t : Terminal
       let ends : nat_le (t.first + t.count) label_count ≡ true = grind (arith, nat_tests, range.1) in
       rw (port_read plan kept t.switch t.link on_switch, count_read, begins, named, port_named plan kept t.switch t.link on_switch, name_free plan kept done t more is, port_number plan kept t.switch t.link on_switch, host_free plan kept done t more is, room, ends, hand) refl
 
-module _ (plan : Plan) (kept : IsPlan plan) (root : ℕ) (shape : plan.shape ≡ Tree root) (tree : IsTreePlan root plan) where
+-- each such word is one by which labels may be asked for
+labels_asked : (up_down : Bool) → is_labeller (labeller up_down) ≡ true
+labels_asked false = refl
+labels_asked true = refl
+
+module _ (plan : Plan) (kept : IsPlan plan) (up_down : Bool) (root : ℕ) (shape : plan.shape ≡ labelled_shape (labeller up_down) root) (tree : IsTreePlan root plan) where
   abbrev read : Plan
   read = counted plan
 
@@ -48,51 +52,51 @@ module _ (plan : Plan) (kept : IsPlan plan) (root : ℕ) (shape : plan.shape ≡
   unset = record { continues = tree.unset.continues; bases = tree.unset.bases; rows = tree.unset.rows; randoms = tree.unset.randoms }
 
   -- the line of the root, and then there are the deletes alone
-  root_step : read_plan_words (draft_with false None (with_wires read read_kept plan.wires)) true (label_words plan root) ≡ Ok (draft_with false (Some root) (with_wires read read_kept plan.wires))
+  root_step : read_plan_words (draft_with false None (with_wires read read_kept plan.wires)) true (label_words plan up_down root) ≡ Ok (draft_with false (Some (labelled_shape (labeller up_down) root)) (with_wires read read_kept plan.wires))
   unfolding switch_number
   root_step =
       let named : is_name (name_of plan kept root) ≡ true = switch_named plan kept root [] tree.inside in
       let number : position (λ switch. bytes_eq switch (name_of plan kept root)) plan.switches ≡ Some root = position_at bytes_eq bytes_eq-refl plan.switches root [] tree.inside (switches_differ plan kept) in
-      rw (root_printed plan kept root tree.inside, named, number) refl
+      rw (labels_asked up_down, root_printed plan kept root tree.inside, named, number) refl
 
   begins_deletes : with_wires read read_kept plan.wires ≡ with_deletes read read_kept []
   begins_deletes = λ i. record (with_wires read read_kept plan.wires) { continues = sym tree.unset.continues i }
 
   -- the plan of the draft that was read
-  ends : rooted (Some root) read ≡ plan
+  ends : rooted (Some (labelled_shape (labeller up_down) root)) read ≡ plan
   ends = λ i. record plan { shape = sym shape i; terminals = counts_again 0 plan.terminals tree.firsts i }
 
   -- from the line of number n on
   lists_read : (n : ℕ) → plan_of_draft (read_lines_of_words n
-      (map switch_words read.switches ++ (map (counted_words read) read.terminals ++ (map (wire_words read) read.wires ++ (label_words plan root ∷ (map (delete_words read) plan.deletes ++ [])))))
+      (map switch_words read.switches ++ (map (counted_words read) read.terminals ++ (map (wire_words read) read.wires ++ (label_words plan up_down root ∷ (map (delete_words read) plan.deletes ++ [])))))
       (draft_with false None (with_switches read read_kept []))) ≡ Ok plan
   lists_read n =
       let at_terminals : ℕ = length read.switches + n in
       let at_wires : ℕ = length read.terminals + at_terminals in
       let at_root : ℕ = length read.wires + at_wires in
       let deletes = map (delete_words read) plan.deletes ++ [] in
-      let behind_wires = label_words plan root ∷ deletes in
+      let behind_wires = label_words plan up_down root ∷ deletes in
       ap plan_of_draft (
       read_kind switch_words (λ done. draft_with false None (with_switches read read_kept done)) read.switches (switch_step read read_kept refl) n [] read.switches (map (counted_words read) read.terminals ++ (map (wire_words read) read.wires ++ behind_wires)) refl
       ∙ read_kind (counted_words read) (λ done. draft_with false None (with_terminals read read_kept done)) read.terminals (λ done t more is. counted_step read read_kept done t more is refl (begins_there plan.terminals done t more is)) at_terminals [] read.terminals (map (wire_words read) read.wires ++ behind_wires) refl
       ∙ read_kind (wire_words read) (λ done. draft_with false None (with_wires read read_kept done)) read.wires (wire_step read read_kept false refl) at_wires [] read.wires behind_wires refl
       ∙ ap (λ r. draft_after_line at_root r (λ next. read_lines_of_words (at_root + 1) deletes next)) root_step
-      ∙ ap (λ p. read_lines_of_words (at_root + 1) deletes (draft_with false (Some root) p)) begins_deletes
-      ∙ deletes_read read read_kept unset (at_root + 1) false (Some root))
+      ∙ ap (λ p. read_lines_of_words (at_root + 1) deletes (draft_with false (Some (labelled_shape (labeller up_down) root)) p)) begins_deletes
+      ∙ deletes_read read read_kept unset (at_root + 1) false (Some (labelled_shape (labeller up_down) root)))
       ∙ ap Ok ends
 
   -- the lines of the plan, in the order in which they are read
-  lines_are : network_lines plan (Tree root) ++ lines_after_network plan ≡ map switch_words read.switches ++ (map (counted_words read) read.terminals ++ (map (wire_words read) read.wires ++ (label_words plan root ∷ (map (delete_words read) plan.deletes ++ []))))
+  lines_are : labelled_lines plan up_down root ++ lines_after_network plan ≡ map switch_words read.switches ++ (map (counted_words read) read.terminals ++ (map (wire_words read) read.wires ++ (label_words plan up_down root ∷ (map (delete_words read) plan.deletes ++ []))))
   lines_are =
       let switches = map switch_words plan.switches in
       let terminals = map (counted_words plan) plan.terminals in
       let wires = map (wire_words plan) plan.wires in
-      let label = label_words plan root ∷ [] in
+      let label = label_words plan up_down root ∷ [] in
       append_assoc (switches ++ terminals ++ wires) label (lines_after_network plan)
       ∙ append_assoc (switches ++ terminals) wires (label ++ lines_after_network plan)
       ∙ append_assoc switches terminals (wires ++ (label ++ lines_after_network plan))
-      ∙ (λ i. switches ++ (sym (same_terminals plan 0 plan.terminals) i ++ (sym (same_wires plan plan.wires) i ++ (label_words plan root ∷ deletes_alone plan kept tree.unset i))))
-      ∙ (λ i. switches ++ (map (counted_words read) read.terminals ++ (map (wire_words read) read.wires ++ (label_words plan root ∷ (sym (same_deletes plan plan.deletes) i ++ [])))))
+      ∙ (λ i. switches ++ (sym (same_terminals plan 0 plan.terminals) i ++ (sym (same_wires plan plan.wires) i ++ (label_words plan up_down root ∷ deletes_alone plan kept tree.unset i))))
+      ∙ (λ i. switches ++ (map (counted_words read) read.terminals ++ (map (wire_words read) read.wires ++ (label_words plan up_down root ∷ (sym (same_deletes plan plan.deletes) i ++ [])))))
 
-  pub read_tree : (n : ℕ) → plan_of_draft (read_lines_of_words n (network_lines plan (Tree root) ++ lines_after_network plan) (draft_with false None (record empty_plan { header = plan.header; cap = plan.cap }))) ≡ Ok plan
+  pub read_tree : (n : ℕ) → plan_of_draft (read_lines_of_words n (labelled_lines plan up_down root ++ lines_after_network plan) (draft_with false None (record empty_plan { header = plan.header; cap = plan.cap }))) ≡ Ok plan
   read_tree n = ap (λ lines. plan_of_draft (read_lines_of_words n lines (draft_with false None (with_switches read read_kept [])))) lines_are ∙ lists_read n

@@ -1,5 +1,5 @@
 -- Every printed line is one of words.
-use Rattle.std.proofs.Common.{◌≡◌, ℕ, ◌<◌, ◌≤◌, ◌&&◌, true, List, [], ◌∷◌, ◌++◌, length, map, get_or, nat_le, All, refl, ap, ◌∙◌, arith}
+use Rattle.std.proofs.Common.{◌≡◌, ℕ, ◌<◌, ◌≤◌, ◌&&◌, Bool, true, false, List, [], ◌∷◌, ◌++◌, length, map, get_or, nat_le, All, refl, ap, ◌∙◌, arith}
 use Rattle.std.proofs.lemmas.Bool.{and_parts, leb-true}
 use Rattle.std.specs.List.{list_all}
 use Rattle.std.specs.Option.{unwrap_or}
@@ -7,18 +7,18 @@ use Rattle.std.proofs.lemmas.List.Elements.{All-head, All-tail}
 use Rattle.std.proofs.lemmas.List.Folds.{list_all-append}
 use Rattle.std.proofs.lemmas.Option.{slice_get-get_or}
 use Rattle.c104_plan.specs.declared.ports.Port.TheVariants as port
-use Rattle.c104_plan.specs.declared.plans.Shape.TheVariants.{Hand, Tree, Mesh, Cube}
+use Rattle.c104_plan.specs.declared.plans.Shape.TheVariants.{Hand, Tree, UpDown, Mesh, Cube}
 use Rattle.c104_plan.specs.TextWords.{is_name}
 use Rattle.c104_plan.specs.Ports.{IsSwitchPort}
 use Rattle.c104_plan.specs.declared.ports.Port.{Port}
 use Rattle.c104_plan.specs.declared.ports.Wire.{Wire}
-use Rattle.c104_plan.specs.Plans.{Plan, IsOfShape, IsPlan, IsPlanSelect, IsPlanWire, IsLaterPort, IsRange, host_port, label_count, is_buffer_size}
+use Rattle.c104_plan.specs.Plans.{Plan, IsOfShape, IsPlan, IsPlanSelect, IsTreePlan, IsPlanWire, IsLaterPort, IsRange, host_port, label_count, is_buffer_size}
 use Rattle.c104_plan.specs.declared.plans.PlanBase.{PlanBase}
 use Rattle.c104_plan.specs.declared.plans.PlanRandom.{PlanRandom}
 use Rattle.c104_plan.specs.declared.plans.PlanRow.{PlanRow}
 use Rattle.c104_plan.specs.declared.plans.Shape.{Shape}
 use Rattle.c104_plan.specs.declared.plans.Terminal.{Terminal}
-use Rattle.c104_describe.specs.PlanPrint.{switch_words, terminal_words, counted_words, wire_words, label_words, network_lines, continue_words, delete_words, base_words, row_words, random_words}
+use Rattle.c104_describe.specs.PlanPrint.{switch_words, terminal_words, counted_words, wire_words, label_words, labelled_lines, labeller, network_lines, continue_words, delete_words, base_words, row_words, random_words}
 use Rattle.c104_plan.specs.PortTexts.{port_text, switch_name}
 use Rattle.c104_describe.proofs.PrintedText.{are_words, is_word}
 use Rattle.c104_describe.proofs.PrintedParts.{lines_by_kinds, lines_after_rows, lines_after_bases, lines_after_continues, lines_after_deletes, lines_after_network}
@@ -83,13 +83,27 @@ module _ (plan : Plan) (kept : IsPlan plan) where
   pub root_printed : (root : ℕ) → root < length plan.switches → switch_name plan root ≡ name_of plan kept root
   root_printed root inside = ap (λ name. unwrap_or name []) (slice_get-get_or plan.switches root [] inside)
 
-  words_label : (root : ℕ) → root < length plan.switches → list_all is_word (label_words plan root) ≡ true
-  words_label root inside =
+  word-labeller : (up_down : Bool) → is_word (labeller up_down) ≡ true
+  word-labeller false = refl
+  word-labeller true = refl
+
+  words_label : (up_down : Bool) (root : ℕ) → root < length plan.switches → list_all is_word (label_words plan up_down root) ≡ true
+  words_label up_down root inside =
       let word = ap is_word (root_printed root inside) ∙ word-name (name_of plan kept root) (switch_named plan kept root [] inside) in
-      λ i. word i && true
+      rw (word-labeller up_down) (λ i. word i && true)
 
   all_printed : All IsPrinted plan.terminals
   all_printed = λ k d inside. (terminal_named plan kept k d inside, kept.terminals.on_switches k d inside, kept.terminals.ranges k d inside)
+
+  words_labelled : (up_down : Bool) (root : ℕ) → IsTreePlan root plan → are_words (labelled_lines plan up_down root) ≡ true
+  words_labelled up_down root is =
+      words_both (map switch_words plan.switches ++ map (counted_words plan) plan.terminals ++ map (wire_words plan) plan.wires) (label_words plan up_down root ∷ [])
+      (words_both (map switch_words plan.switches ++ map (counted_words plan) plan.terminals) (map (wire_words plan) plan.wires)
+      (words_both (map switch_words plan.switches) (map (counted_words plan) plan.terminals)
+      (words_kind switch_words (λ name. is_name name ≡ true) words_switch plan.switches (switch_named plan kept))
+      (words_kind (counted_words plan) IsPrinted words_counted plan.terminals all_printed))
+      (words_kind (wire_words plan) (IsPlanWire (length plan.switches)) words_wire plan.wires kept.wires))
+      (λ i. words_label up_down root is.inside i && true)
 
   words_network : (shape : Shape) → IsOfShape shape plan → are_words (network_lines plan shape) ≡ true
   words_network Hand is =
@@ -98,14 +112,8 @@ module _ (plan : Plan) (kept : IsPlan plan) where
       (words_kind switch_words (λ name. is_name name ≡ true) words_switch plan.switches (switch_named plan kept))
       (words_kind (terminal_words plan) IsPrinted words_terminal plan.terminals all_printed))
       (words_kind (wire_words plan) (IsPlanWire (length plan.switches)) words_wire plan.wires kept.wires)
-  words_network (Tree root) is =
-      words_both (map switch_words plan.switches ++ map (counted_words plan) plan.terminals ++ map (wire_words plan) plan.wires) (label_words plan root ∷ [])
-      (words_both (map switch_words plan.switches ++ map (counted_words plan) plan.terminals) (map (wire_words plan) plan.wires)
-      (words_both (map switch_words plan.switches) (map (counted_words plan) plan.terminals)
-      (words_kind switch_words (λ name. is_name name ≡ true) words_switch plan.switches (switch_named plan kept))
-      (words_kind (counted_words plan) IsPrinted words_counted plan.terminals all_printed))
-      (words_kind (wire_words plan) (IsPlanWire (length plan.switches)) words_wire plan.wires kept.wires))
-      (λ i. words_label root is.inside i && true)
+  words_network (Tree root) is = words_labelled false root is
+  words_network (UpDown root) is = words_labelled true root is
   words_network (Mesh w h p) is =
       let sizes = is.0 in
       let wide = word-decimal w (omega (arith, sizes.wide.1)) in

@@ -22,7 +22,7 @@ pub record IsSaid (b : Bool) (Q : Type 0) : Type 0 where
 pub record Holds (P : Sayings) (draft : Draft) : Type 0 where
   pub header : IsSaid draft.header_said (P keyword.Header [] 0)
   pub buffer : IsSaid draft.buffer_said (P keyword.Buffer [] 0)
-  pub label : IsSaid (is_some draft.root) (P keyword.Label [] 0)
+  pub label : IsSaid (is_some draft.labels) (P keyword.Label [] 0)
   pub continues : AreSaid (λ (q : Port). q) draft.plan draft.plan.continues (P keyword.Continue)
   pub bases : AreSaid (λ (b : PlanBase). b.port) draft.plan draft.plan.bases (P keyword.Base)
   pub randoms : AreSaid (λ (r : PlanRandom). r.port) draft.plan draft.plan.randoms (P keyword.Random)
@@ -40,7 +40,7 @@ ports port_of plan next Q R xs ys same keep to from all = subst (λ zs. AreSaid 
 
 -- a draft that holds the same of what was said, by other words for it
 pub moved : (P R : Sayings) (draft next : Draft) → ((k : Keyword) (n : List ℕ) (l : ℕ) → P k n l → R k n l) → ((k : Keyword) (n : List ℕ) (l : ℕ) → R k n l → P k n l)
-    → next.header_said ≡ draft.header_said → next.buffer_said ≡ draft.buffer_said → next.root ≡ draft.root → next.plan.continues ≡ draft.plan.continues → next.plan.bases ≡ draft.plan.bases
+    → next.header_said ≡ draft.header_said → next.buffer_said ≡ draft.buffer_said → next.labels ≡ draft.labels → next.plan.continues ≡ draft.plan.continues → next.plan.bases ≡ draft.plan.bases
     → next.plan.randoms ≡ draft.plan.randoms → next.plan.deletes ≡ draft.plan.deletes → KeepSwitches draft.plan next.plan → KeepTerminals draft.plan next.plan → Holds P draft → Holds R next
 moved P R draft next to from header buffer root continues bases randoms deletes switches terminals all = record {
   header = flag _ _ _ _ header (to keyword.Header [] 0) (from keyword.Header [] 0) all.header;
@@ -88,7 +88,7 @@ module _ (P : Sayings) (k0 : Keyword) (n0 : List ℕ) (l0 : ℕ) where
     pub buffer_other : (k0 ≡ keyword.Buffer → ⊥) → next.buffer_said ≡ draft.buffer_said → IsSaid next.buffer_said (After keyword.Buffer [] 0)
     buffer_other differs same = flag _ _ _ _ same (λ said. inl said) (other keyword.Buffer differs [] 0) all.buffer
 
-    pub label_other : (k0 ≡ keyword.Label → ⊥) → next.root ≡ draft.root → IsSaid (is_some next.root) (After keyword.Label [] 0)
+    pub label_other : (k0 ≡ keyword.Label → ⊥) → next.labels ≡ draft.labels → IsSaid (is_some next.labels) (After keyword.Label [] 0)
     label_other differs same = flag _ _ _ _ (ap is_some same) (λ said. inl said) (other keyword.Label differs [] 0) all.label
 
     pub continues_other : (k0 ≡ keyword.Continue → ⊥) → next.plan.continues ≡ draft.plan.continues → KeepSwitches draft.plan next.plan → AreSaid (λ (q : Port). q) next.plan next.plan.continues (After keyword.Continue)

@@ -109,7 +109,7 @@ module _ (P : Sayings) (draft : Draft) (held : Holds P draft) where
   by_keyword keyword.Random (a ∷ b ∷ c ∷ d ∷ more) = never P
   by_keyword keyword.Label [] = never P
   by_keyword keyword.Label (a ∷ []) = never P
-  by_keyword keyword.Label (style ∷ name ∷ []) = by_flag P (is_some draft.root) keyword.Label [] 0 held.label.is held.label.was
+  by_keyword keyword.Label (style ∷ name ∷ []) = by_flag P (is_some draft.labels) keyword.Label [] 0 held.label.is held.label.was
   by_keyword keyword.Label (a ∷ b ∷ c ∷ more) = never P
   by_keyword keyword.Mesh [] = never P
   by_keyword keyword.Mesh (a ∷ []) = never P

@@ -1,5 +1,5 @@
 -- What each line says that may be said once, the draft after it holds.
-use Rattle.std.proofs.Common.{◌≡◌, inl, inr, ℕ, true, not, List, [], ◌∷◌, ◌++◌, is_some, bytes_eq, codes, Some, None, Result, Ok, subst, refl}
+use Rattle.std.proofs.Common.{◌≡◌, inl, inr, ℕ, true, not, List, [], ◌∷◌, ◌++◌, is_some, Some, None, Result, Ok, subst, refl}
 use Rattle.c104_plan.specs.declared.ports.Port.TheVariants as port
 use Rattle.c104_describe.specs.declared.words.Keyword.TheVariants as keyword
 use Rattle.c104_describe.specs.declared.faults.PlanFaultKind.TheVariants.{BadName, BadNumber, BadShape, Twice, UnknownName}
@@ -12,7 +12,7 @@ use Rattle.c104_plan.specs.Plans.{Plan, is_buffer_size, most_header_bytes, switc
 use Rattle.c104_plan.specs.declared.plans.PlanBase.{PlanBase}
 use Rattle.c104_plan.specs.declared.plans.PlanRandom.{PlanRandom}
 use Rattle.c104_describe.specs.PlanDrafts.{Draft}
-use Rattle.c104_describe.specs.PlanLines.{base_line, buffer_line, continue_line, delete_line, header_line, in_draft, label_line, random_line}
+use Rattle.c104_describe.specs.PlanLines.{base_line, buffer_line, continue_line, delete_line, header_line, in_draft, is_labeller, label_line, labelled_shape, random_line}
 use Rattle.c104_describe.specs.LineFaults.{port_link, port_name, value_said}
 use Rattle.c104_describe.specs.RepeatedLines.{keyword_saying}
 use Rattle.c104_describe.proofs.LineMakes.{base_made, continue_made, delete_made, random_made}
@@ -70,11 +70,11 @@ module _ (P : Sayings) (draft next : Draft) (all : Holds P draft) where
 
   pub label : (style name : List ℕ) → label_line draft style name ≡ Ok next → Holds (Plus P (Some (keyword.Label, [], 0))) next
   label style name is =
-      held (bytes_eq style (codes "tree")) BadShape _ next (Holds (Plus P (Some (keyword.Label, [], 0))) next) is (λ shaped is1.
+      held (is_labeller style) BadShape _ next (Holds (Plus P (Some (keyword.Label, [], 0))) next) is (λ shaped is1.
       held (is_name name) BadName _ next (Holds (Plus P (Some (keyword.Label, [], 0))) next) is1 (λ named is2.
       given (value_or_fault (switch_number draft.plan name) UnknownName) _ next (Holds (Plus P (Some (keyword.Label, [], 0))) next) is2 (λ root known is3.
-      held (not (is_some draft.root)) Twice _ next (Holds (Plus P (Some (keyword.Label, [], 0))) next) is3 (λ once is4.
-      let after : Draft = record draft { root = Some root } in
+      held (not (is_some draft.labels)) Twice _ next (Holds (Plus P (Some (keyword.Label, [], 0))) next) is3 (λ once is4.
+      let after : Draft = record draft { labels = Some (labelled_shape style root) } in
       let same : after ≡ next = cc in
       subst (Holds (Plus P (Some (keyword.Label, [], 0)))) same (record {
         header = header_other P keyword.Label [] 0 draft after all (λ e. cc) refl;

@@ -17,6 +17,7 @@ use Rattle.c104_plan.specs.TextWords.{read_number, is_name, dots}
 use Rattle.c104_describe.specs.PlanFaults.{PlanFaultKind, plan_fault_number}
 use Rattle.c104_plan.specs.Ports.{is_any_at}
 use Rattle.c104_plan.specs.declared.ports.Port.{Port}
+use Rattle.c104_describe.specs.PlanLines.{is_labeller}
 use Rattle.c104_describe.specs.PlanWords.{Keyword, keyword_of, range_words}
 use Rattle.c104_describe.specs.PlanDrafts.{Draft, is_mixed}
 use Rattle.c104_plan.specs.Plans.{Plan, switch_number, terminal_number, is_taken, is_linked, is_continued, is_deleted, rows_of, next_first}
@@ -180,9 +181,9 @@ keyword_parts draft keyword.Random (at ∷ base ∷ range ∷ []) = record no_pa
   is_said = names_port draft.plan (is_any_at (λ (r : PlanRandom). r.port) draft.plan.randoms) at;
 }
 keyword_parts draft keyword.Label (style ∷ name ∷ []) = record no_parts {
-  is_shaped = bytes_eq style (codes "tree");
+  is_shaped = is_labeller style;
   switches = name ∷ [];
-  is_said = is_some draft.root;
+  is_said = is_some draft.labels;
 }
 keyword_parts draft keyword.Mesh (width ∷ height ∷ terminals ∷ []) = record no_parts {
   numbers = (Some width, is_from_to 1 64) ∷ (Some height, is_from_to 1 64) ∷ (Some terminals, is_from_to 1 28) ∷ [];

@@ -1,7 +1,7 @@
 -- Drafts: what the lines of a description have said so far, the plan that this gives, and which further
 -- lines go with it.
 use Rattle.std.specs.Prelude.{ℕ, ◌&&◌, ◌||◌, Bool, true, false, not, List, [], ◌∷◌, map, is_some, Option, Some, None, Result, Ok, Err}
-use Rattle.c104_plan.specs.declared.plans.Shape.TheVariants.{Hand, Tree, Mesh, Cube}
+use Rattle.c104_plan.specs.declared.plans.Shape.TheVariants.{Hand, Tree, UpDown, Mesh, Cube}
 use Rattle.c104_describe.specs.declared.words.Keyword.TheVariants as keyword
 use Rattle.c104_describe.specs.PlanFaults.{PlanFaultKind}
 use Rattle.c104_describe.specs.PlanWords.{Keyword, range_words}
@@ -12,28 +12,29 @@ use Rattle.c104_describe.specs.declared.drafts.Draft as kept
 use Rattle.c104_plan.specs.PlanParts.{plan_of, without_first, has_some, has_settings}
 
 -- a plan, of which the shape is that of a mesh or a cube once a line gave one; whether lines have said its
--- header length, its buffer size, and where the range of some terminal begins; and the root of a tree, if a
--- line asks for its labels
+-- header length, its buffer size, and where the range of some terminal begins; and the shape as which a line asks it
+-- to be labelled, if one does
 pub record Draft : Type 0 where
   pub plan : Plan
   pub header_said : Bool
   pub buffer_said : Bool
   pub from_said : Bool
-  pub root : Option ℕ
+  pub labels : Option Shape
 
--- a plan, to be labelled as a tree if it has a root: then its terminals carry counts alone
-abbrev pub rooted : Option ℕ → Plan → Plan
+-- a plan, to be labelled as a shape if one is asked for: then its terminals carry counts alone
+abbrev pub rooted : Option Shape → Plan → Plan
 rooted None plan = plan
-rooted (Some root) plan = record plan { shape = Tree root; terminals = map without_first plan.terminals }
+rooted (Some shape) plan = record plan { shape = shape; terminals = map without_first plan.terminals }
 
 -- the plan of a draft
 abbrev pub finished : Draft → Plan
-finished draft = rooted draft.root draft.plan
+finished draft = rooted draft.labels draft.plan
 
 -- whether a plan is made line by line
 abbrev pub is_by_hand : Shape → Bool
 is_by_hand Hand = true
 is_by_hand (Tree root) = false
+is_by_hand (UpDown root) = false
 is_by_hand (Mesh w h p) = false
 is_by_hand (Cube d p) = false
 
@@ -53,12 +54,12 @@ says_from (name ∷ at ∷ rest) = is_begun (range_words rest)
 -- of a network but its headers, buffers and deletes. Each line of another kind gives or names a switch.
 abbrev pub is_mixed : Draft → Keyword → List (List ℕ) → Bool
 is_mixed draft keyword.Switch rest = not (is_by_hand draft.plan.shape)
-is_mixed draft keyword.Terminal rest = not (is_by_hand draft.plan.shape) || (is_some draft.root && says_from rest)
+is_mixed draft keyword.Terminal rest = not (is_by_hand draft.plan.shape) || (is_some draft.labels && says_from rest)
 is_mixed draft keyword.Wire rest = not (is_by_hand draft.plan.shape)
-is_mixed draft keyword.Continue rest = not (is_by_hand draft.plan.shape) || is_some draft.root
-is_mixed draft keyword.Base rest = not (is_by_hand draft.plan.shape) || is_some draft.root
-is_mixed draft keyword.Row rest = not (is_by_hand draft.plan.shape) || is_some draft.root
-is_mixed draft keyword.Random rest = not (is_by_hand draft.plan.shape) || is_some draft.root
+is_mixed draft keyword.Continue rest = not (is_by_hand draft.plan.shape) || is_some draft.labels
+is_mixed draft keyword.Base rest = not (is_by_hand draft.plan.shape) || is_some draft.labels
+is_mixed draft keyword.Row rest = not (is_by_hand draft.plan.shape) || is_some draft.labels
+is_mixed draft keyword.Random rest = not (is_by_hand draft.plan.shape) || is_some draft.labels
 is_mixed draft keyword.Label rest = not (is_by_hand draft.plan.shape) || (draft.from_said || has_settings draft.plan)
 is_mixed draft keyword.Mesh rest = has_some draft.plan.switches
 is_mixed draft keyword.Cube rest = has_some draft.plan.switches
@@ -73,5 +74,5 @@ draft_of draft = record {
   header_said = draft.header_said;
   buffer_said = draft.buffer_said;
   from_said = draft.from_said;
-  root = draft.root;
+  labels = draft.labels;
 }

@@ -1,7 +1,7 @@
 -- The grammar of a description: what a line says after the lines before it. Of all that is wrong
 -- with a line the fault of the least number is answered, so each line's conditions stand in the
 -- order of the faults' numbers.
-use Rattle.std.specs.Prelude.{ℕ, ◌+◌, ◌*◌, ◌^◌, ◌==◌, ◌&&◌, ◌||◌, Bool, true, not, List, [], ◌∷◌, ◌++◌, length, nat_le, nat_lt, bytes_eq}
+use Rattle.std.specs.Prelude.{ℕ, ◌+◌, ◌*◌, ◌^◌, ◌==◌, ◌&&◌, ◌||◌, Bool, true, not, List, [], ◌∷◌, ◌++◌, length, nat_le, nat_lt, bytes_eq, if◌then◌else◌}
 use Rattle.std.specs.Prelude.{codes, is_some, Option, Some, Result, Ok, Err}
 use Rattle.c104_interval.specs.declared.intervals.TheConstants.{ROWS}
 use Rattle.c104_plan.specs.declared.ports.Port.TheVariants as port
@@ -14,7 +14,7 @@ use Rattle.c104_plan.specs.TextWords.{read_number, is_name}
 use Rattle.c104_describe.specs.PlanFaults.{PlanFaultKind}
 use Rattle.c104_plan.specs.Ports.{is_any_at}
 use Rattle.c104_describe.specs.PlanWords.{Keyword, keyword_of, number_within, number_or, select_word, port_sides, port_word, range_words}
-use Rattle.c104_plan.specs.declared.plans.Shape.TheVariants.{Mesh, Cube}
+use Rattle.c104_plan.specs.declared.plans.Shape.TheVariants.{Tree, UpDown, Mesh, Cube}
 use Rattle.c104_plan.specs.Layouts.{Layout, mesh, cube, filled_switches, filled_terminals, filled_wires}
 pub use Rattle.c104_describe.specs.PlanDrafts.{Draft}
 use Rattle.c104_describe.specs.PlanDrafts.{is_mixed}
@@ -151,14 +151,22 @@ buffer_line draft size = do
   require (not draft.buffer_said) Twice
   Ok (record draft { plan = record (draft.plan) { cap = size }; buffer_said = true })
 
--- `label tree S`: labels are to be those of a tree from a switch on, the root
+-- labels may be asked for by this word
+abbrev pub is_labeller : List ℕ → Bool
+is_labeller style = bytes_eq style (codes "tree") || bytes_eq style (codes "up-down")
+
+-- the shape that is asked for by such a word, with this root
+abbrev pub labelled_shape : List ℕ → ℕ → Shape
+labelled_shape style root = if bytes_eq style (codes "tree") then Tree root else UpDown root
+
+-- `label tree S` and `label up-down S`: labels are to be those of a tree from a switch on, the root, or up and down from it
 abbrev pub label_line : Draft → List ℕ → List ℕ → Result Draft PlanFaultKind
 label_line draft style name = do
-  require (bytes_eq style (codes "tree")) BadShape
+  require (is_labeller style) BadShape
   require (is_name name) BadName
   root ← value_or_fault (switch_number draft.plan name) UnknownName
-  require (not (is_some draft.root)) Twice
-  Ok (record draft { root = Some root })
+  require (not (is_some draft.labels)) Twice
+  Ok (record draft { labels = Some (labelled_shape style root) })
 
 -- the plan with the switches, terminals and wires of a layout
 abbrev pub filled_plan : Shape → Layout → ℕ → Plan → Plan

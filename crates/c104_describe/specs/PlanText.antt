@@ -24,7 +24,7 @@ read_plan_lines line (text ∷ more) draft =
 
 -- the draft of no line
 abbrev pub empty_draft : Draft
-empty_draft = record { plan = empty_plan; header_said = false; buffer_said = false; from_said = false; root = None }
+empty_draft = record { plan = empty_plan; header_said = false; buffer_said = false; from_said = false; labels = None }
 
 -- the plan of a draft
 abbrev pub plan_of_draft : Result Draft PlanFault → Result Plan PlanFault

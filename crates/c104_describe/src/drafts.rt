@@ -19,8 +19,8 @@ pub(crate) struct Draft {
     pub(crate) buffer_said: bool,
     /// Whether a line has said where the range of a terminal begins.
     pub(crate) from_said: bool,
-    /// The root of the tree whose labels a line asks for.
-    pub(crate) root: Option<usize>,
+    /// The shape as which a line asks the plan to be labelled, with its root.
+    pub(crate) labels: Option<Shape>,
 }
 
 impl Draft {
@@ -34,7 +34,7 @@ impl Draft {
             header_said: false,
             buffer_said: false,
             from_said: false,
-            root: None,
+            labels: None,
         })
     }
 
@@ -46,9 +46,9 @@ impl Draft {
         match keyword {
             Keyword::Header | Keyword::Buffer | Keyword::Delete => false,
             Keyword::Switch | Keyword::Wire => is_filled,
-            Keyword::Terminal => is_filled || (self.root.is_some() && says_from(rest)),
+            Keyword::Terminal => is_filled || (self.labels.is_some() && says_from(rest)),
             Keyword::Continue | Keyword::Base | Keyword::Row | Keyword::Random => {
-                is_filled || self.root.is_some()
+                is_filled || self.labels.is_some()
             }
             Keyword::Label => is_filled || self.from_said || self.parts.has_settings(),
             Keyword::Mesh | Keyword::Cube => self.parts.switches.len() != 0,
@@ -63,13 +63,13 @@ impl Draft {
         Plan::new(self.into_parts())
     }
 
-    /// The parts of the plan that the lines give. With a tree's root terminals carry counts alone.
+    /// The parts of the plan that the lines give. Where it is to be labelled, terminals carry counts alone.
     fn into_parts(self) -> Parts
         ensures { plan_of result ≡ finished (draft_of self) }
     {
         let mut parts = self.parts;
-        if let Some(root) = self.root {
-            parts.shape = Shape::Tree(root);
+        if let Some(shape) = self.labels {
+            parts.shape = shape;
             parts.terminals.forget_ranges();
         }
         parts

@@ -1,7 +1,7 @@
 //! Descriptions, line by line.
 ghost use Rattle.std.specs.Prelude.{◌≡◌, [], ◌∷◌, map, option_map};
 ghost use Rattle.c104_describe.specs.PlanLines.{read_plan_line, read_plan_words, keyword_line, header_line, buffer_line};
-ghost use Rattle.c104_describe.specs.PlanLines.{delete_line, label_line, switch_line, terminal_line, wire_line};
+ghost use Rattle.c104_describe.specs.PlanLines.{delete_line, is_labeller, label_line, labelled_shape, switch_line, terminal_line, wire_line};
 ghost use Rattle.c104_plan.specs.PlanParts.{plan_of};
 ghost use Rattle.c104_describe.specs.PlanDrafts.{draft_of};
 ghost use Rattle.c104_plan.specs.Plans.{IsPlan};
@@ -17,8 +17,8 @@ use crate::words::{
     read_port, read_range,
 };
 use c104_plan::{
-    LABELS, MAX_HEADER_BYTES, MAX_SWITCHES, MAX_TERMINALS, Name, Parts, Port, Terminal, Wire,
-    cut_words, is_buffer_size, is_name, is_plain, read_number, uncommented,
+    LABELS, MAX_HEADER_BYTES, MAX_SWITCHES, MAX_TERMINALS, Name, Parts, Port, Shape, Terminal,
+    Wire, cut_words, is_buffer_size, is_name, is_plain, read_number, uncommented,
 };
 use std::alloc::Global;
 
@@ -131,7 +131,7 @@ fn read_two_words(
     match keyword {
         Keyword::Wire => add_wire(&mut draft.parts, first, second),
         Keyword::Base => add_base(&mut draft.parts, first, second),
-        Keyword::Label => set_root(draft, first, second),
+        Keyword::Label => set_labels(draft, first, second),
         Keyword::Cube => set_cube(alloc, &mut draft.parts, first, second),
         _ => Err(PlanFaultKind::BadShape),
     }
@@ -268,12 +268,12 @@ fn add_delete(parts: &mut Parts, name: &[u8]) -> Result<(), PlanFaultKind>
     Ok(())
 }
 
-/// Reads `label tree S`.
-fn set_root(draft: &mut Draft, style: &[u8], name: &[u8]) -> Result<(), PlanFaultKind>
+/// Reads `label tree S` or `label up-down S`.
+fn set_labels(draft: &mut Draft, style: &[u8], name: &[u8]) -> Result<(), PlanFaultKind>
     ensures { ReadsLine result (draft_of draft.new)
         (label_line (draft_of draft.old) style.now name.now) }
 {
-    if style != b"tree".as_slice() {
+    if !is_labeller(style) {
         return Err(PlanFaultKind::BadShape);
     }
     if !is_name(name) {
@@ -282,11 +282,29 @@ fn set_root(draft: &mut Draft, style: &[u8], name: &[u8]) -> Result<(), PlanFaul
     let Some(root) = draft.parts.switch_number(name) else {
         return Err(PlanFaultKind::UnknownName);
     };
-    if draft.root.is_some() {
+    if draft.labels.is_some() {
         return Err(PlanFaultKind::Twice);
     }
-    draft.root = Some(root);
+    draft.labels = Some(labelled_shape(style, root));
     Ok(())
+}
+
+/// Whether labels may be asked for by this word.
+fn is_labeller(style: &[u8]) -> bool
+    ensures { result ≡ is_labeller style.now }
+{
+    style == b"tree".as_slice() || style == b"up-down".as_slice()
+}
+
+/// The shape that is asked for by such a word, with this root.
+fn labelled_shape(style: &[u8], root: usize) -> Shape
+    ensures { result ≡ labelled_shape style.now root }
+{
+    if style == b"tree".as_slice() {
+        Shape::Tree(root)
+    } else {
+        Shape::UpDown(root)
+    }
 }
 
 /// Reads `header n`.

@@ -1,8 +1,8 @@
 //! What a plan is printed as.
 ghost use Rattle.std.specs.Prelude.{◌≡◌, ◌≤◌, ◌++◌, ◌∷◌, [], length, map, IfOk, OnOk, Ok};
 ghost use Rattle.std.specs.String.{string_bytes};
-ghost use Rattle.c104_plan.specs.declared.plans.Shape.TheVariants.{Hand, Tree};
-ghost use Rattle.c104_describe.specs.PlanPrint.{buffer_words, counted_words, header_words, label_words, network_lines, plan_text, sentence};
+ghost use Rattle.c104_plan.specs.declared.plans.Shape.TheVariants.{Hand};
+ghost use Rattle.c104_describe.specs.PlanPrint.{buffer_words, counted_words, header_words, label_words, labelled_lines, labeller, network_lines, plan_text, sentence};
 ghost use Rattle.c104_describe.specs.PlanPrint.{switch_words, text_of};
 ghost use Rattle.c104_plan.specs.PortTexts.{port_text, select_text, switch_name, terminal_name};
 ghost use Rattle.c104_describe.specs.PlanPrint.{terminal_words, wire_words, continue_words, delete_words, base_words, random_words};
@@ -57,7 +57,8 @@ fn add_network(alloc: Global, text: &mut String, plan: &Plan) -> Result<(), Allo
 {
     match plan.shape() {
         Shape::Hand => add_by_hand(alloc, text, plan),
-        Shape::Tree(root) => add_tree(alloc, text, plan, root),
+        Shape::Tree(root) => add_labelled(alloc, text, plan, root, false),
+        Shape::UpDown(root) => add_labelled(alloc, text, plan, root, true),
         Shape::Mesh(width, height, terminals) => {
             let line = format!(in alloc; "mesh {width} {height} {terminals}\n")?;
             text.push_str(line.as_str())
@@ -80,26 +81,46 @@ fn add_by_hand(alloc: Global, text: &mut String, plan: &Plan) -> Result<(), Allo
     Ok(())
 }
 
-/// The lines of a network that is to be labelled as a tree from a switch on join the text.
-fn add_tree(alloc: Global, text: &mut String, plan: &Plan, root: usize) -> Result<(), AllocError>
+/// The lines of a network that is to be labelled from a switch on, as a tree or up and down, join the text.
+fn add_labelled(
+    alloc: Global,
+    text: &mut String,
+    plan: &Plan,
+    root: usize,
+    up_down: bool,
+) -> Result<(), AllocError>
     ensures { OnOk result (string_bytes text.new ≡
-        string_bytes text.old ++ text_of (network_lines plan.now (Tree root))) }
+        string_bytes text.old ++ text_of (labelled_lines plan.now up_down root)) }
 {
     add_switches(alloc, text, plan)?;
     add_counted_terminals(alloc, text, plan)?;
     add_wires(alloc, text, plan)?;
-    add_root(alloc, text, plan, root)?;
+    add_root(alloc, text, plan, root, up_down)?;
     Ok(())
 }
 
-/// The line of a tree's root joins the text.
-fn add_root(alloc: Global, text: &mut String, plan: &Plan, root: usize) -> Result<(), AllocError>
+/// The line of the root joins the text.
+fn add_root(
+    alloc: Global,
+    text: &mut String,
+    plan: &Plan,
+    root: usize,
+    up_down: bool,
+) -> Result<(), AllocError>
     ensures { OnOk result (string_bytes text.new ≡
-        string_bytes text.old ++ text_of (label_words plan.now root ∷ [])) }
+        string_bytes text.old ++ text_of (label_words plan.now up_down root ∷ [])) }
 {
+    let style = labeller(up_down);
     let name = switch_name(plan, root);
-    let line = format!(in alloc; "label tree {name}\n")?;
+    let line = format!(in alloc; "label {style} {name}\n")?;
     text.push_str(line.as_str())
+}
+
+/// The word by which labels are asked for.
+fn labeller(up_down: bool) -> &'static str
+    ensures { result.now ≡ labeller up_down }
+{
+    if up_down { "up-down" } else { "tree" }
 }
 
 /// The lines of the switches join the text.

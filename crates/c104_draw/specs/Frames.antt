@@ -20,6 +20,7 @@ hangs (frame.Hanging depths) = true
 abbrev pub IsFrameOf : Shape → Frame → Type 0
 IsFrameOf shape.Hand f = IsTrue (hangs f)
 IsFrameOf (shape.Tree root) f = IsTrue (hangs f)
+IsFrameOf (shape.UpDown root) f = IsTrue (hangs f)
 IsFrameOf (shape.Mesh columns rows terminals) f = f ≡ frame.Grid columns rows terminals
 IsFrameOf (shape.Cube dimensions terminals) f = f ≡ frame.Cube terminals
 

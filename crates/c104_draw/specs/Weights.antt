@@ -19,6 +19,7 @@ use Rattle.c104_draw.specs.Edges.{are_mates}
 abbrev pub is_tree : Shape → Bool
 is_tree shape.Hand = false
 is_tree (shape.Tree root) = true
+is_tree (shape.UpDown root) = false
 is_tree (shape.Mesh columns rows terminals) = false
 is_tree (shape.Cube dimensions terminals) = false
 

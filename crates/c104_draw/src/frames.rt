@@ -92,6 +92,7 @@ impl Frame {
             Shape::Mesh(columns, rows, terminals) => Ok(Frame::Grid(columns, rows, terminals)),
             Shape::Cube(_, terminals) => Ok(Frame::Cube(terminals)),
             Shape::Tree(root) => Ok(Frame::Hanging(depths(alloc, plan, root)?)),
+            Shape::UpDown(root) => Ok(Frame::Hanging(depths(alloc, plan, root)?)),
             Shape::Hand => Ok(Frame::Hanging(depths(alloc, plan, 0)?)),
         }
     }

@@ -88,7 +88,7 @@ pub settings_plain : (plan : Plan) (p : Port) → plan.randoms ≡ [] → (setti
 unfolding settings_of
 settings_plain plan p unset = ap (λ randoms. (with_random (find (is_random_of p) randoms) (plain_settings_of plan p)).randomize) unset
 
-plain_own : (plan : Plan) (t : Table) (p : Port) → plan.randoms ≡ [] → (labelled_settings plan t p).randomize ≡ false
+pub plain_own : (plan : Plan) (t : Table) (p : Port) → plan.randoms ≡ [] → (labelled_settings plan t p).randomize ≡ false
 unfolding labelled_settings
 plain_own plan t p unset = with_table_randomizes (is_some (peer plan p)) _ t ∙ settings_plain plan p unset
 

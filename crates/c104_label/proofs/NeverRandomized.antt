@@ -11,11 +11,12 @@ use Rattle.c104_plan.specs.PlanImage.{Image, hand_image, range_of, settings_of, 
 use Rattle.c104_plan.specs.Plans.{IsOfShape, IsPlan, IsUnset, Plan}
 use Rattle.c104_plan.specs.declared.ports.Port.TheVariants as port
 use Rattle.c104_plan.specs.declared.plans.Shape.{Shape}
-use Rattle.c104_plan.specs.declared.plans.Shape.TheVariants.{Hand, Tree, Mesh, Cube}
+use Rattle.c104_plan.specs.declared.plans.Shape.TheVariants.{Hand, Tree, UpDown, Mesh, Cube}
 use Rattle.c104_label.proofs.LabelledRoutes.{not_randomized, settings_plain}
 use Rattle.c104_label.proofs.MappedRanges.{map_at, map_was}
+use Rattle.c104_label.proofs.PortRoutes.{port_not_randomized}
 use Rattle.c104_label.specs.CubeLabels.{cube_table}
-use Rattle.c104_label.specs.Images.{IsImageBy, is_labelled_shape}
+use Rattle.c104_label.specs.Images.{IsImageBy, IsUpDownImage, is_labelled_shape}
 use Rattle.c104_label.specs.MeshLabels.{mesh_table}
 use Rattle.c104_label.specs.Forests.{Forest}
 use Rattle.c104_label.specs.TreeImages.{IsTreeImage}
@@ -27,6 +28,7 @@ use Rattle.c104_regs.specs.declared.settings.Settings.{Settings}
 unset_by : (plan : Plan) (shape : Shape) → is_labelled_shape shape ≡ true → IsOfShape shape plan → IsUnset plan
 unset_by plan Hand is of = absurd cc
 unset_by plan (Tree root) is of = of.unset
+unset_by plan (UpDown root) is of = of.unset
 unset_by plan (Mesh w h p) is of = of.1.unset
 unset_by plan (Cube d p) is of = of.1.unset
 
@@ -54,6 +56,8 @@ pub never_by : (plan : Plan) (image : Image) (shape : Shape) → plan.randoms �
 never_by plan image Hand none is = subst (λ (i : Image). IsNeverRandomized (routes_of plan i)) (sym is) (hand_plain plan none)
 never_by plan image (Tree root) none made = subst (λ (i : Image). IsNeverRandomized (routes_of plan i)) (sym made.1.is)
     (λ q random. not_randomized plan (map (tree_range plan root made.0) plan.terminals) (map (switch_table plan root made.0) (range_with_len 0 (length plan.switches))) q none random)
+never_by plan image (UpDown root) none made = subst (λ (i : Image). IsNeverRandomized (routes_of plan i)) (sym made.1.is)
+    (λ q random. port_not_randomized plan (map (tree_range plan root made.0) plan.terminals) made.1.tables q none random)
 never_by plan image (Mesh w h p) none made = subst (λ (i : Image). IsNeverRandomized (routes_of plan i)) (sym made.is)
     (λ q random. not_randomized plan (map range_of plan.terminals) (map (mesh_table w h p) (range_with_len 0 (w * h))) q none random)
 never_by plan image (Cube d p) none made = subst (λ (i : Image). IsNeverRandomized (routes_of plan i)) (sym made.is)
@@ -67,3 +71,8 @@ by_shape plan image shape kept same is made = never_by plan image shape (none_ra
 pub result_plain : (plan : Plan) (root : ℕ) (r : Result Image LabelFault) → IsPlan plan → Tree root ≡ plan.shape → IfOk r (λ image. (forest : Forest) × IsTreeImage plan root forest image) → IfOk r (λ image. IsNeverRandomized (routes_of plan image))
 result_plain plan root (Ok image) kept same made = by_shape plan image (Tree root) kept same refl made
 result_plain plan root (Err why) kept same made = tt
+
+-- and what the labeller up and down answers
+pub up_down_plain : (plan : Plan) (root : ℕ) (r : Result Image LabelFault) → IsPlan plan → UpDown root ≡ plan.shape → IfOk r (λ image. (forest : Forest) × IsUpDownImage plan root forest image) → IfOk r (λ image. IsNeverRandomized (routes_of plan image))
+up_down_plain plan root (Ok image) kept same made = by_shape plan image (UpDown root) kept same refl made
+up_down_plain plan root (Err why) kept same made = tt

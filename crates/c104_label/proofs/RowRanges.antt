@@ -10,7 +10,7 @@ use Rattle.c104_regs.specs.Ranges.{IsTableInRange}
 use Rattle.c104_regs.proofs.RangeNumbers.{IsSelectable, IsTableInRange-from}
 use Rattle.c104_label.specs.LabelRows.{AreLabelRows, AreRising, IsLinkRow, label_table, last_limit}
 
-abbrev IsRowInRange : Row → Type 0
+abbrev pub IsRowInRange : Row → Type 0
 IsRowInRange row = (row.limit ≤ 65536) × IsSelectable row.select
 
 below_last : (low : ℕ) (rows : List Row) → AreRising low rows → low ≤ last_limit low rows
@@ -31,7 +31,7 @@ rows_within low (r ∷ rows) rising are small =
     let e = below_last r.limit rows rising.1 in
     ((omega (arith, e, small), selectable r are.0), rows_within r.limit rows rising.1 are.1 small)
 
-at_any : (rows : List Row) (n k : ℕ) → AllByRecursion IsRowInRange rows → IsRowInRange (get_or (rows ++ replicate n reset_row) k reset_row)
+pub at_any : (rows : List Row) (n k : ℕ) → AllByRecursion IsRowInRange rows → IsRowInRange (get_or (rows ++ replicate n reset_row) k reset_row)
 at_any [] n k all = reset_at n k
   where
     reset_at : (n k : ℕ) → IsRowInRange (get_or (replicate n reset_row) k reset_row)

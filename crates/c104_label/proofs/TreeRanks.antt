@@ -324,7 +324,7 @@ rank_by_low plan root forest s (Some (port.Switch r b)) = by_test (nat_lt (below
     by_test true = omega arith
     by_test false = omega (arith, small)
 
-spanning_acyclic : (plan : Plan) (kept : IsPlan plan) (root : ℕ) (is_tree : IsTreePlan root plan) (forest : Forest) (spans : IsSpanning plan root forest) → plan_labels plan root forest ≤ most_labels plan → IsAcyclic (tree_routes plan root forest)
+pub spanning_acyclic : (plan : Plan) (kept : IsPlan plan) (root : ℕ) (is_tree : IsTreePlan root plan) (forest : Forest) (spans : IsSpanning plan root forest) → plan_labels plan root forest ≤ most_labels plan → IsAcyclic (tree_routes plan root forest)
 spanning_acyclic plan kept root is_tree forest spans few =
     acyclic_by (tree_routes plan root forest) (tree_rank plan root forest) (is_network plan kept root is_tree forest spans few)
     (plain_ranking (tree_routes plan root forest) (tree_rank plan root forest) (λ q random. not_randomized plan (all_ranges plan root forest) (all_tables plan root forest) q is_tree.unset.randoms random) (spanning_ranked plan kept root is_tree forest spans few)) low

@@ -6,7 +6,7 @@ use Rattle.c104_interval.specs.declared.intervals.Select.TheVariants.{Link}
 use Rattle.c104_plan.specs.declared.ports.Port.{Port}
 use Rattle.c104_plan.specs.declared.ports.Port.TheVariants as port
 use Rattle.c104_plan.specs.declared.plans.Shape.{Shape}
-use Rattle.c104_plan.specs.declared.plans.Shape.TheVariants.{Hand, Tree, Mesh, Cube}
+use Rattle.c104_plan.specs.declared.plans.Shape.TheVariants.{Hand, Tree, UpDown, Mesh, Cube}
 use Rattle.c104_check.specs.declared.ports.SwitchPort.{SwitchPort}
 use Rattle.c104_check.specs.Routes.{IsEntryOf, Routes, is_in_group, select}
 use Rattle.c104_label.specs.CubeLabels.{bit}
@@ -50,5 +50,6 @@ AllCross routes labels p distance =
 abbrev pub AreCrossings : Shape → Routes → Type 0
 AreCrossings Hand routes = Unit {0}
 AreCrossings (Tree root) routes = Unit {0}
+AreCrossings (UpDown root) routes = Unit {0}
 AreCrossings (Mesh width height terminals) routes = AllCross routes (width * height * terminals) terminals (mesh_distance width)
 AreCrossings (Cube dimensions terminals) routes = AllCross routes (2 ^ dimensions * terminals) terminals (cube_distance dimensions)

@@ -3,15 +3,19 @@ use Rattle.std.specs.Prelude.{ℕ, ◌≡◌, ◌*◌, ◌^◌, Bool, false, tru
 use Rattle.std.specs.List.{range_with_len}
 use Rattle.c104_plan.specs.Plans.{Plan}
 use Rattle.c104_plan.specs.declared.plans.Shape.{Shape}
-use Rattle.c104_plan.specs.declared.plans.Shape.TheVariants.{Hand, Tree, Mesh, Cube}
-use Rattle.c104_plan.specs.LabelledImages.{labelled_image}
+use Rattle.c104_plan.specs.declared.plans.Shape.TheVariants.{Hand, Tree, UpDown, Mesh, Cube}
+use Rattle.c104_interval.specs.declared.intervals.Table.{Table}
+use Rattle.c104_plan.specs.LabelledImages.{labelled_image, port_labelled_image}
 use Rattle.c104_plan.specs.PlanImage.{Image, hand_image, range_of}
 use Rattle.c104_label.specs.declared.faults.LabelFault.{LabelFault}
 use Rattle.c104_label.specs.declared.faults.LabelFault.TheVariants as fault
-use Rattle.c104_label.specs.Forests.{Forest}
+use Rattle.c104_check.specs.ChannelDependencies.{IsAcyclic}
+use Rattle.c104_check.specs.Routes.{IsAccepted, routes_of}
+use Rattle.c104_label.specs.Forests.{Forest, IsSpanning}
 use Rattle.c104_label.specs.CubeLabels.{AreCubeTables, cube_table}
 use Rattle.c104_label.specs.MeshLabels.{AreMeshTables, mesh_table}
-use Rattle.c104_label.specs.TreeImages.{IsLabelCause, IsTreeImage}
+use Rattle.c104_label.specs.TreeImages.{IsLabelCause, IsTreeImage, plan_labels, total_count}
+use Rattle.c104_label.specs.TreeLabels.{AreInOrder, net_of, own_labels, tree_range}
 
 -- the image of a plan whose switches have the tables of a mesh, which are right
 pub record IsMeshImage (plan : Plan) (width height terminals : ℕ) (image : Image) : Type 0 where
@@ -23,10 +27,23 @@ pub record IsCubeImage (plan : Plan) (dimensions terminals : ℕ) (image : Image
   pub is : image ≡ labelled_image plan (map range_of plan.terminals) (map (cube_table dimensions terminals) (range_with_len 0 (2 ^ dimensions)))
   pub tables : AreCubeTables dimensions terminals
 
+-- the image of a plan whose packets go up towards a root and then down: the labels are those of the root's tree, each
+-- port that has a wire has a table of its own, and all else is as the plan's own lines say. Of the tables it is said
+-- that by them each label comes to its terminal, and that no inputs depend on one another in a cycle.
+pub record IsUpDownImage (plan : Plan) (root : ℕ) (forest : Forest) (image : Image) : Type 0 where
+  pub tree : IsSpanning plan root forest
+  pub tables : ℕ → ℕ → Table
+  pub is : image ≡ port_labelled_image plan (map (tree_range plan root forest) plan.terminals) tables
+  pub labels : plan_labels plan root forest ≡ total_count plan.terminals
+  pub order : AreInOrder (own_labels (net_of plan)) root forest
+  pub accepted : IsAccepted (routes_of plan image)
+  pub acyclic : IsAcyclic (routes_of plan image)
+
 -- an image of a plan that is to be of this shape
 abbrev pub IsImageBy : Shape → Plan → Image → Type 0
 IsImageBy Hand plan image = image ≡ hand_image plan
 IsImageBy (Tree root) plan image = (forest : Forest) × IsTreeImage plan root forest image
+IsImageBy (UpDown root) plan image = (forest : Forest) × IsUpDownImage plan root forest image
 IsImageBy (Mesh width height terminals) plan image = IsMeshImage plan width height terminals image
 IsImageBy (Cube dimensions terminals) plan image = IsCubeImage plan dimensions terminals image
 
@@ -34,22 +51,32 @@ IsImageBy (Cube dimensions terminals) plan image = IsCubeImage plan dimensions t
 abbrev pub IsImageOf : Plan → Image → Type 0
 IsImageOf plan image = IsImageBy plan.shape plan image
 
--- whether a plan of this shape is to be labelled as a tree, as a mesh, as a cube
+-- whether a plan of this shape is to be labelled as a tree, up and down, as a mesh, as a cube
 abbrev pub is_tree_shape : Shape → Bool
 is_tree_shape Hand = false
 is_tree_shape (Tree root) = true
+is_tree_shape (UpDown root) = false
 is_tree_shape (Mesh width height terminals) = false
 is_tree_shape (Cube dimensions terminals) = false
+
+abbrev pub is_up_down_shape : Shape → Bool
+is_up_down_shape Hand = false
+is_up_down_shape (Tree root) = false
+is_up_down_shape (UpDown root) = true
+is_up_down_shape (Mesh width height terminals) = false
+is_up_down_shape (Cube dimensions terminals) = false
 
 abbrev pub is_mesh_shape : Shape → Bool
 is_mesh_shape Hand = false
 is_mesh_shape (Tree root) = false
+is_mesh_shape (UpDown root) = false
 is_mesh_shape (Mesh width height terminals) = true
 is_mesh_shape (Cube dimensions terminals) = false
 
 abbrev pub is_cube_shape : Shape → Bool
 is_cube_shape Hand = false
 is_cube_shape (Tree root) = false
+is_cube_shape (UpDown root) = false
 is_cube_shape (Mesh width height terminals) = false
 is_cube_shape (Cube dimensions terminals) = true
 
@@ -57,6 +84,7 @@ is_cube_shape (Cube dimensions terminals) = true
 abbrev pub is_labelled_shape : Shape → Bool
 is_labelled_shape Hand = false
 is_labelled_shape (Tree root) = true
+is_labelled_shape (UpDown root) = true
 is_labelled_shape (Mesh width height terminals) = true
 is_labelled_shape (Cube dimensions terminals) = true
 
@@ -71,6 +99,7 @@ IsNoMemory fault.NoMemory = Unit {0}
 abbrev pub IsCauseBy : Shape → Plan → LabelFault → Type 0
 IsCauseBy Hand plan why = IsNoMemory why
 IsCauseBy (Tree root) plan why = IsLabelCause plan root why
+IsCauseBy (UpDown root) plan why = IsLabelCause plan root why
 IsCauseBy (Mesh width height terminals) plan why = IsNoMemory why
 IsCauseBy (Cube dimensions terminals) plan why = IsNoMemory why
 

@@ -8,3 +8,4 @@ pub mod TreeLabels
 pub mod TreeImages
 pub mod Images
 pub mod Crossings
+pub mod UpDownLabels

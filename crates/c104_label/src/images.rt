@@ -6,25 +6,26 @@ ghost use Rattle.c104_plan.specs.PlanImage.{Fits, range_of};
 ghost use Rattle.c104_check.specs.Routes.{IsAccepted, routes_of};
 ghost use Rattle.c104_check.specs.ChannelDependencies.{IsAcyclic, IsNeverRandomized};
 ghost use Rattle.c104_label.specs.Crossings.{AreCrossings};
-ghost use Rattle.c104_label.specs.Images.{IsImageCause, IsImageOf, IsShapeCause, is_cube_shape, is_labelled_shape, is_mesh_shape, is_tree_shape};
+ghost use Rattle.c104_label.specs.Images.{IsImageCause, IsImageOf, IsShapeCause, is_cube_shape, is_labelled_shape, is_mesh_shape, is_tree_shape, is_up_down_shape};
 ghost use Rattle.c104_label.specs.declared.faults.LabelFault.TheVariants as fault;
 
 use crate::cubes::cube_image;
 use crate::faults::LabelFault;
 use crate::meshes::mesh_image;
 use crate::trees::tree_image;
+use crate::up_down::up_down_image;
 use c104_interval::Table;
 use c104_plan::{Image, Plan, Shape, hand_image};
 use c104_token::NoMemory;
 use std::alloc::Global;
 
 /// The image of a plan: that of its own lines where its labels are made by hand, and else that of the labels of its
-/// shape, a tree, a mesh or a cube.
+/// shape, a tree, up and down from a root, a mesh or a cube.
 ///
-/// A tree alone may be refused: NotConnected where wires don't lead from its root to each switch, then TooManyLabels
-/// where its terminals have more labels than there are headers. Any plan may fail with NoMemory. The labels of a tree,
-/// a mesh and a cube need no check, and by them no inputs depend on one another in a cycle. No link puts random headers
-/// before packets where no line of the plan says so.
+/// What is labelled from a root alone may be refused: NotConnected where wires don't lead from its root to each switch,
+/// then TooManyLabels where its terminals have more labels than there are headers. Any plan may fail with NoMemory. Such
+/// labels need no check, nor do those of a mesh and a cube, and by them no inputs depend on one another in a cycle. No
+/// link puts random headers before packets where no line of the plan says so.
 pub fn image_of(alloc: Global, plan: &Plan) -> Result<Image, LabelFault>
     ensures image { IfOk result (λ image. IsImageOf plan.now image) }
     ensures fits { IfOk result (λ image. Fits image plan.now) }
@@ -40,6 +41,7 @@ pub fn image_of(alloc: Global, plan: &Plan) -> Result<Image, LabelFault>
             Ok(image)
         }
         Shape::Tree(_) => label_tree(alloc, plan),
+        Shape::UpDown(_) => label_up_down(alloc, plan),
         Shape::Mesh(_, _, _) => label_mesh(alloc, plan),
         Shape::Cube(_, _) => label_cube(alloc, plan),
     }
@@ -68,7 +70,37 @@ pub fn label_tree(alloc: Global, plan: &Plan) -> Result<Image, LabelFault>
 {
     match plan.shape() {
         Shape::Tree(root) => tree_image(alloc, plan, root),
+        Shape::UpDown(_) => Err(LabelFault::WrongShape),
         Shape::Hand => Err(LabelFault::WrongShape),
+        Shape::Mesh(_, _, _) => Err(LabelFault::WrongShape),
+        Shape::Cube(_, _) => Err(LabelFault::WrongShape),
+    }
+}
+
+/// The image of a plan that is to be labelled so that packets go up towards a root, and then down, over all wires.
+///
+/// The labels of terminals are those that `label_tree` gives them by the same root. A wire leads up to the switch that
+/// the depth-first visit met first, and each port that has a wire has a table of its own: what came down goes down, and
+/// all else goes up or down, by a shortest such way where the tables have room for it. Where they have no room, or
+/// aren't accepted, they are those of the tree. All else is as the plan's own lines say. The labels need no check: they
+/// are accepted, whatever else the plan says, and by them no inputs depend on one another in a cycle.
+///
+/// WrongShape exactly where the plan is to be labelled otherwise; then NotConnected where wires don't lead from
+/// the root to each switch; then TooManyLabels where the terminals have more labels than there are headers, 256, or
+/// 65536 of two bytes; and NoMemory.
+pub fn label_up_down(alloc: Global, plan: &Plan) -> Result<Image, LabelFault>
+    ensures image { IfOk result (λ image. IsImageOf plan.now image) }
+    ensures fits { IfOk result (λ image. Fits image plan.now) }
+    ensures accepted { IfOk result (λ image. IsAccepted (routes_of plan.now image)) }
+    ensures acyclic { IfOk result (λ image. IsAcyclic (routes_of plan.now image)) }
+    ensures never_randomized { IfOk result (λ image. IsNeverRandomized (routes_of plan.now image)) }
+    ensures shape { IsErrOf result fault.WrongShape ↔ (is_up_down_shape plan.now.shape ≡ false) }
+    ensures refused { IfErr result (IsShapeCause (is_up_down_shape plan.now.shape) plan.now) }
+{
+    match plan.shape() {
+        Shape::UpDown(root) => up_down_image(alloc, plan, root),
+        Shape::Hand => Err(LabelFault::WrongShape),
+        Shape::Tree(_) => Err(LabelFault::WrongShape),
         Shape::Mesh(_, _, _) => Err(LabelFault::WrongShape),
         Shape::Cube(_, _) => Err(LabelFault::WrongShape),
     }
@@ -99,6 +131,7 @@ pub fn label_mesh(alloc: Global, plan: &Plan) -> Result<Image, LabelFault>
         }
         Shape::Hand => Err(LabelFault::WrongShape),
         Shape::Tree(_) => Err(LabelFault::WrongShape),
+        Shape::UpDown(_) => Err(LabelFault::WrongShape),
         Shape::Cube(_, _) => Err(LabelFault::WrongShape),
     }
 }
@@ -129,6 +162,7 @@ pub fn label_cube(alloc: Global, plan: &Plan) -> Result<Image, LabelFault>
         }
         Shape::Hand => Err(LabelFault::WrongShape),
         Shape::Tree(_) => Err(LabelFault::WrongShape),
+        Shape::UpDown(_) => Err(LabelFault::WrongShape),
         Shape::Mesh(_, _, _) => Err(LabelFault::WrongShape),
     }
 }

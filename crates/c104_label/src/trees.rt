@@ -43,7 +43,7 @@ pub(crate) fn tree_image(alloc: Global, plan: &Plan, root: usize) -> Result<Imag
 }
 
 /// How many labels a plan may have: as many as there are headers.
-fn most_labels(plan: &Plan) -> u32
+pub(crate) fn most_labels(plan: &Plan) -> u32
     ensures value { result ≡ most_labels plan.now }
     ensures kept { IsPlan plan.now }
 {
@@ -62,7 +62,12 @@ struct Tree<'a> {
 }
 
 /// The image of a plan that is labelled by its tree.
-fn forest_image(alloc: Global, plan: &Plan, root: usize, forest: &Forest) -> Result<Image, NoMemory>
+pub(crate) fn forest_image(
+    alloc: Global,
+    plan: &Plan,
+    root: usize,
+    forest: &Forest,
+) -> Result<Image, NoMemory>
     requires tree { IsSpanning plan.now root (forest_of forest.now) }
     requires few { total_count plan.now.terminals ≤ 65536 }
     ensures image { IfOk result (IsTreeImage plan.now root (forest_of forest.now)) }

@@ -95,7 +95,9 @@ impl DescriptionMistake {
             DescriptionMistake::BaseLine => "the line is `base SWITCH.LINK FIRST`",
             DescriptionMistake::RowLine => "the line is `row SWITCH.LINK LIMIT SELECT`",
             DescriptionMistake::RandomLine => "the line is `random SWITCH.LINK BASE RANGE`",
-            DescriptionMistake::LabelLine => "the line is `label tree SWITCH`",
+            DescriptionMistake::LabelLine => {
+                "the line is `label tree SWITCH` or `label up-down SWITCH`"
+            }
             DescriptionMistake::MeshLine => "the line is `mesh COLUMNS ROWS TERMINALS`",
             DescriptionMistake::CubeLine => "the line is `cube DIMENSIONS TERMINALS`",
             DescriptionMistake::NoPort => {

@@ -1,5 +1,5 @@
 -- What is set at the links of switches whose tables are given.
-use Rattle.std.proofs.Common.{◌≡◌, ℕ, ◌<◌, Bool, true, false, if◌then◌else◌, List, length, map, get_or, All, ap, ◌∙◌, arith, is_some}
+use Rattle.std.proofs.Common.{◌≡◌, ℕ, ◌<◌, ◌+◌, ◌*◌, Bool, true, false, if◌then◌else◌, List, length, map, get_or, All, ap, refl, ◌∙◌, arith, is_some}
 use Rattle.std.proofs.lemmas.List.{get_or_default}
 use Rattle.std.proofs.lemmas.List.Elements.{All-map, All-same}
 use Rattle.std.proofs.lemmas.List.FromFn.{get_or-range_with_len, length-range_with_len, length-map-range_with_len}
@@ -14,7 +14,7 @@ use Rattle.c104_plan.specs.Ports.{Port}
 use Rattle.c104_plan.specs.Plans.{IsPlan, IsRange, Plan}
 use Rattle.c104_plan.specs.PlanImage.{AreSettings, Fits, Image, IsImage, settings_of}
 use Rattle.c104_plan.specs.Wiring.{peer}
-use Rattle.c104_plan.specs.LabelledImages.{labelled_settings, labelled_switch, table_in}
+use Rattle.c104_plan.specs.LabelledImages.{labelled_image, labelled_settings, labelled_switch, port_labelled_image, port_labelled_switch, port_table, table_in}
 use Rattle.c104_plan.proofs.PlanSettings.{random_in_range, settings_in_range}
 
 -- what is set at a link of a switch with a table
@@ -74,3 +74,62 @@ labelled_fits plan tables image ranges settings = record {
   ranges = ranges;
   settings = ap length settings ∙ length-map-range_with_len (switch_by plan tables) 0 (length plan.switches);
 }
+
+-- Where each link has a table of its own
+
+abbrev pub port_labelled_at : Plan → (ℕ → Table) → ℕ → ℕ → Settings
+port_labelled_at plan tables switch link = labelled_settings plan (tables link) (port.Switch switch link)
+
+-- the settings of all links, after the last
+pub port_labelled_last : (plan : Plan) (tables : ℕ → Table) (switch links : ℕ) → links ≡ 32 → map (port_labelled_at plan tables switch) (range_with_len 0 links) ≡ port_labelled_switch plan tables switch
+unfolding port_labelled_switch
+port_labelled_last plan tables switch links all = ap (λ n. map (port_labelled_at plan tables switch) (range_with_len 0 n)) all
+
+-- what is made of the table of one link
+pub port_link_here : (plan : Plan) (tables : List Table) (switch link : ℕ) (d : Table) (settings : Settings) → switch < length plan.switches → link < 32 → length tables ≡ length plan.switches * 32
+    → settings ≡ labelled_settings plan (get_or tables (switch * 32 + link) d) (port.Switch switch link) → settings ≡ port_labelled_at plan (port_table tables switch) switch link
+port_link_here plan tables switch link d settings inside low many is = is ∙ ap (λ (t : Table). labelled_settings plan t (port.Switch switch link)) (get_or_default tables (switch * 32 + link) d reset_table (omega (arith, inside, low, many)))
+
+-- a table of a link among those of all links
+pub link_in_range : (tables : List Table) (n s l : ℕ) → length tables ≡ n * 32 → All IsTableInRange tables → s < n → l < 32 → IsTableInRange (port_table tables s l)
+link_in_range tables n s l many all switch link = all (s * 32 + l) reset_table (omega (arith, many, switch, link))
+
+pub are_port_labelled : (plan : Plan) (tables : List Table) (switch : ℕ) → IsPlan plan → length tables ≡ length plan.switches * 32 → All IsTableInRange tables → switch < length plan.switches → AreSettings (port_labelled_switch plan (port_table tables switch) switch)
+unfolding port_labelled_switch
+are_port_labelled plan tables switch kept many all inside = (
+  length-map-range_with_len (port_labelled_at plan (port_table tables switch) switch) 0 32,
+  All-map IsInRange (port_labelled_at plan (port_table tables switch) switch) (range_with_len 0 32) (λ k d below. at_link k d (omega (arith, below, length-range_with_len 0 32))),
+)
+  where
+    at_link : (k d : ℕ) → k < 32 → IsInRange (port_labelled_at plan (port_table tables switch) switch (get_or (range_with_len 0 32) k d))
+    at_link k d below =
+        let at : get_or (range_with_len 0 32) k d ≡ k = get_or-range_with_len 0 32 k d below ∙ omega arith in
+        rw at (labelled_in_range plan (port.Switch switch k) (port_table tables switch k) kept (link_in_range tables (length plan.switches) switch k many all inside below))
+
+abbrev pub port_switch_by : Plan → List Table → ℕ → List Settings
+port_switch_by plan tables switch = port_labelled_switch plan (port_table tables switch) switch
+
+port_switch_at : (plan : Plan) (tables : List Table) (n k d : ℕ) → IsPlan plan → n ≡ length plan.switches → length tables ≡ n * 32 → All IsTableInRange tables → k < length (range_with_len 0 n) → AreSettings (port_switch_by plan tables (get_or (range_with_len 0 n) k d))
+port_switch_at plan tables n k d kept count many all inside =
+    let below : k < n = omega (arith, inside, length-range_with_len 0 n) in
+    let at : get_or (range_with_len 0 n) k d ≡ k = get_or-range_with_len 0 n k d below ∙ omega arith in
+    rw at (are_port_labelled plan tables k kept (omega (arith, many, count)) all (omega (arith, below, count)))
+
+pub port_labelled_kept : (plan : Plan) (ranges : List (ℕ × ℕ)) (tables : List Table) (settings : List (List Settings)) → IsPlan plan → All (λ (range : ℕ × ℕ). IsRange range.0 range.1) ranges → length tables ≡ length plan.switches * 32 → All IsTableInRange tables
+    → settings ≡ map (port_switch_by plan tables) (range_with_len 0 (length plan.switches)) → IsImage (record { ranges = ranges; settings = settings })
+port_labelled_kept plan ranges tables settings kept are many all same = record {
+  switches = All-same AreSettings settings (map (port_switch_by plan tables) (range_with_len 0 (length plan.switches))) same
+      (All-map AreSettings (port_switch_by plan tables) (range_with_len 0 (length plan.switches)) (λ k d inside. port_switch_at plan tables (length plan.switches) k d kept refl many all inside));
+  ranges = are;
+}
+
+pub port_labelled_fits : (plan : Plan) (tables : List Table) (image : Image) → length image.ranges ≡ length plan.terminals → image.settings ≡ map (port_switch_by plan tables) (range_with_len 0 (length plan.switches)) → Fits image plan
+port_labelled_fits plan tables image ranges settings = record {
+  ranges = ranges;
+  settings = ap length settings ∙ length-map-range_with_len (port_switch_by plan tables) 0 (length plan.switches);
+}
+
+-- one table for all links of a switch is such a table for each of them
+pub labelled_by_port : (plan : Plan) (ranges : List (ℕ × ℕ)) (tables : List Table) → labelled_image plan ranges tables ≡ port_labelled_image plan ranges (λ switch link. table_in tables switch)
+unfolding labelled_switch port_labelled_switch
+labelled_by_port plan ranges tables = refl

@@ -10,7 +10,7 @@ use Rattle.c104_plan.specs.Distinctness.{AreDistinct}
 use Rattle.c104_plan.specs.TextWords.{is_name}
 use Rattle.c104_plan.specs.declared.ports.Port.TheVariants as port
 use Rattle.c104_plan.specs.Ports.{Port, Wire, is_port, both_ends, is_any_at, IsSwitchPort}
-use Rattle.c104_plan.specs.declared.plans.Shape.TheVariants.{Hand, Tree, Mesh, Cube}
+use Rattle.c104_plan.specs.declared.plans.Shape.TheVariants.{Hand, Tree, UpDown, Mesh, Cube}
 use Rattle.c104_plan.specs.Plans.{Plan, PlanBase, PlanRandom, PlanRow, Shape, Terminal, IsOfShape, IsPlan, AreNames, AreTerminals, AreContinues, AreDeletes, AreBases, AreRandoms, AreRows, IsPlanWire, IsLaterPort, IsRange, IsPlanSelect, names, host_port, linked_ports, is_taken, is_linked, is_continued, is_deleted, is_row_of, rows_of, is_buffer_size, label_count, most_switches, most_terminals, most_header_bytes}
 use Rattle.c104_plan.proofs.Distinct.{distinct_inserted, distinct_pushed}
 use Rattle.c104_plan.proofs.PortLemmas.{is_port-flips, is_port-true, once-pushed}
@@ -175,6 +175,7 @@ module _ (plan : Plan) (kept : IsPlan plan) where
   of_shape : (header cap : ℕ) (deletes : List ℕ) (shape : Shape) → IsOfShape shape plan → IsOfShape shape (record plan { header = header; cap = cap; deletes = deletes })
   of_shape header cap deletes Hand is = tt
   of_shape header cap deletes (Tree root) is = record { inside = is.inside; firsts = is.firsts; counts = is.counts; unset = record { continues = is.unset.continues; bases = is.unset.bases; rows = is.unset.rows; randoms = is.unset.randoms } }
+  of_shape header cap deletes (UpDown root) is = record { inside = is.inside; firsts = is.firsts; counts = is.counts; unset = record { continues = is.unset.continues; bases = is.unset.bases; rows = is.unset.rows; randoms = is.unset.randoms } }
   of_shape header cap deletes (Mesh w h p) is = (is.0, record { switches = is.1.switches; terminals = is.1.terminals; wires = is.1.wires; unset = record { continues = is.1.unset.continues; bases = is.1.unset.bases; rows = is.1.unset.rows; randoms = is.1.unset.randoms } })
   of_shape header cap deletes (Cube d p) is = (is.0, record { switches = is.1.switches; terminals = is.1.terminals; wires = is.1.wires; unset = record { continues = is.1.unset.continues; bases = is.1.unset.bases; rows = is.1.unset.rows; randoms = is.1.unset.randoms } })
 

@@ -9,7 +9,7 @@ use Rattle.c104_plan.specs.declared.ports.Port.TheVariants as port
 use Rattle.c104_plan.specs.Ports.{Port, is_any_at, is_port}
 use Rattle.c104_plan.specs.Plans.{IsLaterPort, IsPlan, Plan, PlanRandom, Terminal, deletes_at, host_port, is_continued, is_on}
 use Rattle.c104_plan.specs.PlanImage.{Fits, Image, IsImage, hand_image, is_random_of, plain_settings_of, settings_of, switch_settings, with_random}
-use Rattle.c104_plan.specs.LabelledImages.{labelled_image, labelled_settings, labelled_switch, table_in}
+use Rattle.c104_plan.specs.LabelledImages.{labelled_settings, port_labelled_image, port_labelled_switch}
 use Rattle.c104_plan.specs.RowPlans.{IsOfNetwork, IsSayable, IsSayableImage, row_plan, settings_at}
 use Rattle.c104_plan.specs.Wiring.{peer}
 use Rattle.c104_plan.proofs.DeleteLines.{any_gives}
@@ -113,10 +113,10 @@ hand_sayable plan other kept of_network s l inside is_link =
     })
 
 -- and that of labels
-labels_sayable : (plan : Plan) (ranges : List (ℕ × ℕ)) (tables : List Table) → IsPlan plan → IsSayableImage plan (labelled_image plan ranges tables)
-unfolding labelled_switch
+labels_sayable : (plan : Plan) (ranges : List (ℕ × ℕ)) (tables : ℕ → ℕ → Table) → IsPlan plan → IsSayableImage plan (port_labelled_image plan ranges tables)
+unfolding port_labelled_switch
 labels_sayable plan ranges tables kept s l inside is_link =
-    subst (IsSayable plan s l) (sym (link_of (λ switch. labelled_at plan (table_in tables switch) switch) ranges (length plan.switches) s l inside is_link)) (labelled_sayable plan kept s l (table_in tables s))
+    subst (IsSayable plan s l) (sym (link_of (λ switch link. labelled_at plan (tables switch link) switch link) ranges (length plan.switches) s l inside is_link)) (labelled_sayable plan kept s l (tables s l))
 
 -- so the plan by hand has each such image, and no other image is one of the network's
 module _ (plan : Plan) (image : Image) (kept : IsPlan plan) (is_image : IsImage image) (fits : Fits image plan) where
@@ -133,6 +133,6 @@ module _ (plan : Plan) (image : Image) (kept : IsPlan plan) (is_image : IsImage 
   pub own_back : image ≡ hand_image plan → hand_image (row_plan plan image) ≡ image
   own_back same = other_back plan kept (record { header = refl; cap = refl; switches = refl; names = refl; hosts = refl; wires = refl }) (sym same)
 
-  pub labels_back : (ranges : List (ℕ × ℕ)) (tables : List Table) → image ≡ labelled_image plan ranges tables → hand_image (row_plan plan image) ≡ image
+  pub labels_back : (ranges : List (ℕ × ℕ)) (tables : ℕ → ℕ → Table) → image ≡ port_labelled_image plan ranges tables → hand_image (row_plan plan image) ≡ image
   labels_back ranges tables same =
       image_back plan image kept is_image fits (subst (IsSayableImage plan) (sym same) (labels_sayable plan ranges tables kept))

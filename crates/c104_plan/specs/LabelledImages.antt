@@ -1,6 +1,6 @@
 -- The image of a plan whose switches have tables that are given, as those of labels: the tables, the ranges of
 -- the terminals, and all else as the plan's own lines say.
-use Rattle.std.specs.Prelude.{ℕ, List, length, map, if◌then◌else◌, is_some, slice_index_or}
+use Rattle.std.specs.Prelude.{ℕ, ◌+◌, ◌*◌, List, length, map, if◌then◌else◌, is_some, slice_index_or}
 use Rattle.std.specs.List.{range_with_len}
 use Rattle.c104_interval.specs.declared.intervals.Table.{Table}
 use Rattle.c104_interval.specs.Selection.{reset_table}
@@ -26,6 +26,22 @@ labelled_switch plan table switch =
 -- the table of a switch among those of all switches
 abbrev pub table_in : List Table → ℕ → Table
 table_in tables switch = slice_index_or tables switch reset_table
+
+-- what is set at the links of a switch that have these tables
+unfoldable pub port_labelled_switch : Plan → (ℕ → Table) → ℕ → List Settings
+port_labelled_switch plan tables switch =
+    map (λ link. labelled_settings plan (tables link) (port.Switch switch link)) (range_with_len 0 LINKS)
+
+-- the table of a link of a switch among those of all links, by switch and then by link
+abbrev pub port_table : List Table → ℕ → ℕ → Table
+port_table tables switch link = slice_index_or tables (switch * LINKS + link) reset_table
+
+-- the image with these ranges, and at each port that has a wire its own table, by switch and link
+abbrev pub port_labelled_image : Plan → List (ℕ × ℕ) → (ℕ → ℕ → Table) → Image
+port_labelled_image plan ranges tables = record {
+  ranges = ranges;
+  settings = map (λ switch. port_labelled_switch plan (tables switch) switch) (range_with_len 0 (length plan.switches));
+}
 
 -- the image with these ranges, and these tables at the ports that have a wire
 abbrev pub labelled_image : Plan → List (ℕ × ℕ) → List Table → Image

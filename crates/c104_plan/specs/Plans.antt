@@ -12,7 +12,7 @@ use Rattle.c104_plan.specs.declared.limits.TheConstants.{MAX_SWITCHES, MAX_TERMI
 use Rattle.c104_plan.specs.Ports.{Port, Wire, is_port, both_ends, is_any_at, AreOncePerPort, IsSwitchPort, AreApart}
 use Rattle.c104_plan.specs.declared.ports.Port.TheVariants as port
 pub use Rattle.c104_plan.specs.declared.plans.Shape.{Shape}
-use Rattle.c104_plan.specs.declared.plans.Shape.TheVariants.{Hand, Tree, Mesh, Cube}
+use Rattle.c104_plan.specs.declared.plans.Shape.TheVariants.{Hand, Tree, UpDown, Mesh, Cube}
 pub use Rattle.c104_plan.specs.declared.plans.Terminal.{Terminal}
 pub use Rattle.c104_plan.specs.declared.plans.PlanBase.{PlanBase}
 pub use Rattle.c104_plan.specs.declared.plans.PlanRow.{PlanRow}
@@ -193,7 +193,7 @@ abbrev pub total_count : List Terminal → ℕ
 total_count [] = 0
 total_count (t ∷ terminals) = t.count + total_count terminals
 
--- a plan to be labelled as a tree from one of its switches: its terminals carry counts alone
+-- a plan to be labelled from one of its switches, the root: its terminals carry counts alone
 pub record IsTreePlan (root : ℕ) (plan : Plan) : Type 0 where
   pub inside : root < length plan.switches
   pub firsts : All (λ (t : Terminal). t.first ≡ 0) plan.terminals
@@ -211,6 +211,7 @@ pub record IsFilled (layout : Layout) (p : ℕ) (plan : Plan) : Type 0 where
 abbrev pub IsOfShape : Shape → Plan → Type 0
 IsOfShape Hand plan = Unit {0}
 IsOfShape (Tree root) plan = IsTreePlan root plan
+IsOfShape (UpDown root) plan = IsTreePlan root plan
 IsOfShape (Mesh w h p) plan = IsMesh w h p × IsFilled (mesh w h) p plan
 IsOfShape (Cube d p) plan = IsCube d p × IsFilled (cube d) p plan
 

@@ -1,11 +1,12 @@
 //! The image of a plan whose switches have tables that are given.
-ghost use Rattle.std.specs.Prelude.{◌≡◌, All, length, map, IfOk};
+ghost use Rattle.std.specs.Prelude.{◌≡◌, ◌<◌, ◌*◌, All, length, map, IfOk};
 ghost use Rattle.std.specs.List.{range_with_len};
+ghost use Rattle.c104_regs.specs.declared.registers.TheConstants.{LINKS as LINK_COUNT};
 ghost use Rattle.c104_regs.specs.Ranges.{IsTableInRange};
 ghost use Rattle.c104_plan.specs.Plans.{IsPlan, IsRange, is_continued, rows_of};
 ghost use Rattle.c104_plan.specs.Ports.{is_any_at};
 ghost use Rattle.c104_plan.specs.PlanImage.{AreSettings, Fits};
-ghost use Rattle.c104_plan.specs.LabelledImages.{labelled_image, labelled_settings, labelled_switch, table_in};
+ghost use Rattle.c104_plan.specs.LabelledImages.{labelled_image, labelled_settings, labelled_switch, port_labelled_image, port_labelled_switch, port_table, table_in};
 
 use crate::hand::{continues_of_switch, rows_of_switch, settings_of};
 use crate::image::{Image, ranges};
@@ -52,6 +53,88 @@ impl Image {
         let switches = labelled_switches(alloc, plan, tables)?;
         Ok(Image { ranges, switches })
     }
+
+    /// The image of a plan with the ranges of this one, and with a table for each link of each switch, by switch and
+    /// then by link: a port that has a wire has its own table, and all else is as the plan's own lines say, as in
+    /// `hand_image`. The only error is out of memory.
+    pub fn with_port_tables(
+        &self,
+        alloc: Global,
+        plan: &Plan,
+        tables: &[Table],
+    ) -> Result<Self, NoMemory>
+        requires terminals { length self.now.ranges ≡ length plan.now.terminals }
+        requires ports { length tables.now ≡ length plan.now.switches * LINK_COUNT }
+        requires tables { All IsTableInRange tables.now }
+        ensures image { IfOk result (λ image. image
+            ≡ port_labelled_image plan.now self.now.ranges (port_table tables.now)) }
+        ensures fits { IfOk result (λ image. Fits image plan.now) }
+    {
+        let switches = port_labelled_switches(alloc, plan, tables)?;
+        let ranges = Vec::from_slice(alloc, self.ranges.as_slice())?;
+        Ok(Image { ranges, switches })
+    }
+}
+
+/// What each switch is to hold, whose links have tables of their own.
+fn port_labelled_switches(
+    alloc: Global,
+    plan: &Plan,
+    tables: &[Table],
+) -> Result<Vec<SwitchImage>, AllocError>
+    requires ports { length tables.now ≡ length plan.now.switches * LINK_COUNT }
+    requires tables { All IsTableInRange tables.now }
+    ensures settings { IfOk result (λ switches. switches.items
+        ≡ map (λ s. port_labelled_switch plan.now (port_table tables.now s) s) (range_with_len 0 (length plan.now.switches))) }
+    ensures kept { IsPlan plan.now }
+{
+    let mut switches = Vec::new(alloc);
+    for switch in 0..plan.switches().len() {
+        switches.push(port_labelled_switch(alloc, plan, tables, switch)?)?;
+    }
+    Ok(switches)
+}
+
+/// What a switch is to hold, whose links have tables of their own.
+fn port_labelled_switch(
+    alloc: Global,
+    plan: &Plan,
+    tables: &[Table],
+    switch: usize,
+) -> Result<SwitchImage, AllocError>
+    requires switch { switch < length plan.now.switches }
+    requires ports { length tables.now ≡ length plan.now.switches * LINK_COUNT }
+    requires tables { All IsTableInRange tables.now }
+    ensures { IfOk result (λ image. image ≡ port_labelled_switch plan.now (port_table tables.now switch) switch) }
+{
+    let settings = port_labelled_links(alloc, plan, tables, switch)?;
+    SwitchImage::with_settings(alloc, settings.as_slice())
+}
+
+/// What is set at the links of a switch, which have tables of their own.
+fn port_labelled_links(
+    alloc: Global,
+    plan: &Plan,
+    tables: &[Table],
+    switch: usize,
+) -> Result<Vec<Settings>, AllocError>
+    requires switch { switch < length plan.now.switches }
+    requires ports { length tables.now ≡ length plan.now.switches * LINK_COUNT }
+    requires tables { All IsTableInRange tables.now }
+    ensures settings { IfOk result (λ settings. settings.items ≡ port_labelled_switch plan.now (port_table tables.now switch) switch) }
+    ensures all { IfOk result (λ settings. AreSettings settings.items) }
+{
+    let rows = rows_of_switch(alloc, plan, switch)?;
+    let continues = continues_of_switch(alloc, plan, switch)?;
+    let mut settings = Vec::new(alloc);
+    for link in 0..LINKS {
+        let port = Port::Switch(switch, link);
+        let rows = rows.as_slice();
+        let continues = continues.as_slice();
+        let table = tables[switch * LINKS + link];
+        settings.push(labelled_settings(plan, rows, continues, table, port))?;
+    }
+    Ok(settings)
 }
 
 /// What each switch is to hold.

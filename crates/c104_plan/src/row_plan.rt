@@ -5,7 +5,7 @@ ghost use Rattle.c104_regs.specs.declared.registers.TheConstants.{LINKS as link_
 ghost use Rattle.c104_plan.specs.declared.ports.Port.TheVariants as port_kind;
 ghost use Rattle.c104_plan.specs.Ports.{IsSwitchPort};
 ghost use Rattle.c104_plan.specs.Plans.{Plan as ThePlan, IsPlan, most_switches};
-ghost use Rattle.c104_plan.specs.LabelledImages.{labelled_image};
+ghost use Rattle.c104_plan.specs.LabelledImages.{port_labelled_image};
 ghost use Rattle.c104_plan.specs.PlanImage.{AreSettings, Fits, IsImage, hand_image};
 ghost use Rattle.c104_plan.specs.PlanParts.{plan_of};
 ghost use Rattle.c104_plan.specs.declared.plans.Shape.TheVariants.{Hand as by_hand};
@@ -29,7 +29,7 @@ use std::alloc::{AllocError, Global};
 impl Image {
     ghost use Rattle.std.specs.Prelude.{◌≡◌, ◌↔◌, ℕ, List, None, is_some, IfOk, IfSome, IsTrue};
     ghost use Rattle.c104_interval.specs.declared.intervals.Table.{Table as TheTable};
-    ghost use Rattle.c104_plan.specs.LabelledImages.{labelled_image};
+    ghost use Rattle.c104_plan.specs.LabelledImages.{port_labelled_image};
     ghost use Rattle.c104_plan.specs.PlanImage.{Fits, hand_image};
     ghost use Rattle.c104_plan.specs.declared.plans.Shape.TheVariants.{Hand as by_hand};
     ghost use Rattle.c104_plan.specs.RowPlans.{IsOfNetwork, IsSayableImage, NoPlanHas, row_plan};
@@ -52,8 +52,8 @@ impl Image {
         ensures sayable { IfOk result (λ made. IsTrue (is_some made) ↔ IsSayableImage plan.now self.now) }
         ensures none { IfOk result (λ made. made ≡ None → NoPlanHas plan.now self.now) }
         ensures own { IfOk result (λ made. self.now ≡ hand_image plan.now → IsTrue (is_some made)) }
-        ensures labels { IfOk result (λ made. (ranges : List (ℕ × ℕ)) (tables : List TheTable) →
-            self.now ≡ labelled_image plan.now ranges tables → IsTrue (is_some made)) }
+        ensures labels { IfOk result (λ made. (ranges : List (ℕ × ℕ)) (tables : ℕ → ℕ → TheTable) →
+            self.now ≡ port_labelled_image plan.now ranges tables → IsTrue (is_some made)) }
     {
         let rows = row_plan(alloc, self, plan)?;
         if has_image(alloc, &rows, self)? {
@@ -82,8 +82,8 @@ fn row_plan(alloc: Global, image: &Image, plan: &Plan) -> Result<Plan, AllocErro
     ensures others { IfOk result (λ rows. (other : ThePlan) → IsPlan other → IsOfNetwork plan.now other →
         hand_image other ≡ image.now → hand_image rows ≡ image.now) }
     ensures own { IfOk result (λ rows. image.now ≡ hand_image plan.now → hand_image rows ≡ image.now) }
-    ensures labels { IfOk result (λ rows. (ranges : List (ℕ × ℕ)) (tables : List TheTable) →
-        image.now ≡ labelled_image plan.now ranges tables → hand_image rows ≡ image.now) }
+    ensures labels { IfOk result (λ rows. (ranges : List (ℕ × ℕ)) (tables : ℕ → ℕ → TheTable) →
+        image.now ≡ port_labelled_image plan.now ranges tables → hand_image rows ≡ image.now) }
 {
     let parts = row_parts(alloc, image, plan)?;
     Ok(Plan { parts })

@@ -10,8 +10,8 @@ use c104_check::{
     first_randomized,
 };
 use c104_label::{
-    cube_tables, image_of, is_cube, is_mesh, label_cube, label_mesh, label_tree, mesh_tables,
-    spanning_tree,
+    cube_tables, image_of, is_cube, is_mesh, label_cube, label_mesh, label_tree, label_up_down,
+    mesh_tables, spanning_tree,
 };
 use c104_plan::{Image, Plan};
 use std::alloc::Global;
@@ -19,6 +19,10 @@ use std::alloc::Global;
 /// A root with two children.
 const TREE: &[u8] = b"switch A\nswitch B\nswitch C\nwire A.1 B.0\nwire A.2 C.5\n\
     terminal a A.3 labels 2\nterminal b B.4\nterminal c B.2 labels 3\nterminal d C.0\nlabel tree A\n";
+
+/// Three switches in a ring.
+const UP_DOWN: &[u8] = b"switch A\nswitch B\nswitch C\nwire A.1 B.0\nwire B.1 C.0\nwire C.1 A.0\n\
+    terminal a A.2\nterminal b B.2\nterminal c C.2\nlabel up-down A\n";
 
 const CUBE: &[u8] = b"cube 2 1\n";
 
@@ -31,6 +35,7 @@ pub const REFUSED: &[u8] = b"switch A\nterminal a A.0\nterminal b A.1\n\
 enum Labeller {
     Any,
     Tree,
+    UpDown,
     Mesh,
     Cube,
 }
@@ -45,6 +50,7 @@ impl Growing for Labelling<'_> {
         let result = match self.1 {
             Labeller::Any => image_of(alloc, self.0),
             Labeller::Tree => label_tree(alloc, self.0),
+            Labeller::UpDown => label_up_down(alloc, self.0),
             Labeller::Mesh => label_mesh(alloc, self.0),
             Labeller::Cube => label_cube(alloc, self.0),
         };
@@ -286,6 +292,7 @@ fn labellers(rt: HostRuntime) {
     for (name, text, labeller) in [
         ("image_of", CUBE, Labeller::Any),
         ("label_tree", TREE, Labeller::Tree),
+        ("label_up_down", UP_DOWN, Labeller::UpDown),
         ("label_mesh", MESH, Labeller::Mesh),
         ("label_cube", CUBE, Labeller::Cube),
     ] {

@@ -1,7 +1,7 @@
 //! The calls that tests make of plans and images, with nothing promised. What their contracts say would be facts of
 //! every later goal of a test, and the prover would compute with literal texts. A test fails where a call does.
 use c104_describe::{print_plan, read_description};
-use c104_label::{LabelFault, image_of, label_cube, label_mesh, label_tree};
+use c104_label::{LabelFault, image_of, label_cube, label_mesh, label_tree, label_up_down};
 use c104_plan::{Image, Plan, Port, hand_image};
 use c104_regs::PackedSettings;
 use std::alloc::Global;
@@ -31,8 +31,9 @@ pub enum Maker {
     Empty,
     /// The plan's own lines.
     Lines,
-    /// The labels of a tree, a mesh or a cube.
+    /// The labels of a tree, up and down, of a mesh or of a cube.
     Tree,
+    UpDown,
     Mesh,
     Cube,
     /// The labels of what it is.
@@ -45,6 +46,7 @@ pub fn image(alloc: Global, plan: &Plan, maker: Maker) -> Result<Image, LabelFau
         Maker::Empty => Ok(Image::new(alloc, plan)?),
         Maker::Lines => Ok(hand_image(alloc, plan)?),
         Maker::Tree => label_tree(alloc, plan),
+        Maker::UpDown => label_up_down(alloc, plan),
         Maker::Mesh => label_mesh(alloc, plan),
         Maker::Cube => label_cube(alloc, plan),
         Maker::Any => image_of(alloc, plan),

@@ -75,6 +75,14 @@ fn prints_a_tree(rt: HostRuntime) {
     assert!(rt; prints(rt.alloc(), text, expected));
 }
 
+/// So is one that is labelled up and down.
+#[test]
+fn prints_up_down(rt: HostRuntime) {
+    let text = b"switch A\nlabel up-down A\nterminal a A.0\n";
+    let expected = "header 1\nbuffer 16\nswitch A\nterminal a A.0 labels 1\nlabel up-down A\n";
+    assert!(rt; prints(rt.alloc(), text, expected));
+}
+
 /// A mesh and a cube are printed by their sizes.
 #[test]
 fn prints_sizes(rt: HostRuntime) {

@@ -8,6 +8,10 @@ use std::alloc::Global;
 const TREE: &[u8] = b"switch A\nswitch B\nswitch C\nwire A.1 B.0\nwire A.2 C.5\n\
     terminal a A.3 labels 2\nterminal b B.4\nterminal c B.2 labels 3\nterminal d C.0\nlabel tree A\n";
 
+/// Three switches in a ring.
+const UP_DOWN: &[u8] = b"switch A\nswitch B\nswitch C\nwire A.1 B.0\nwire B.1 C.0\nwire C.1 A.0\n\
+    terminal a A.2\nterminal b B.2\nterminal c C.2\nlabel up-down A\n";
+
 const MESH: &[u8] = b"mesh 3 2 1\n";
 
 const CUBE: &[u8] = b"cube 3 1\n";
@@ -113,10 +117,12 @@ fn tables(rt: HostRuntime) {
 /// Each labeller refuses the shapes of the others, and a network that is labelled by hand.
 #[test]
 fn wrong_shape(rt: HostRuntime) {
-    let others = [MESH, CUBE, BY_HAND];
+    let others = [UP_DOWN, MESH, CUBE, BY_HAND];
     assert!(rt; refuses_shapes(rt.alloc(), others.as_slice(), Maker::Tree));
-    let others = [TREE, CUBE, BY_HAND];
+    let others = [TREE, MESH, CUBE, BY_HAND];
+    assert!(rt; refuses_shapes(rt.alloc(), others.as_slice(), Maker::UpDown));
+    let others = [TREE, UP_DOWN, CUBE, BY_HAND];
     assert!(rt; refuses_shapes(rt.alloc(), others.as_slice(), Maker::Mesh));
-    let others = [TREE, MESH, BY_HAND];
+    let others = [TREE, UP_DOWN, MESH, BY_HAND];
     assert!(rt; refuses_shapes(rt.alloc(), others.as_slice(), Maker::Cube));
 }

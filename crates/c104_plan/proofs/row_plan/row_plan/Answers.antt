@@ -1,6 +1,6 @@
 use Rattle.std.proofs.Common.{◌≡◌, ◌↔◌, ℕ, List, sym, subst}
 use Rattle.c104_interval.specs.declared.intervals.Table.{Table}
-use Rattle.c104_plan.specs.LabelledImages.{labelled_image}
+use Rattle.c104_plan.specs.LabelledImages.{port_labelled_image}
 use Rattle.c104_plan.specs.PlanImage.{hand_image}
 use Rattle.c104_plan.specs.Plans.{IsPlan, Plan}
 use Rattle.c104_plan.specs.declared.plans.Shape.TheVariants.{Hand}
@@ -38,5 +38,5 @@ returns-clause-own c =
 
 pub returns-clause-labels : goal.returns-clause-labels
 returns-clause-labels c =
-    subst (λ (rows : Plan). (ranges : List (ℕ × ℕ)) (tables : List Table) → c.args.image.now ≡ labelled_image c.args.plan.now ranges tables → hand_image rows ≡ c.args.image.now) (sym c.in_ok-parts.ensures.parts)
+    subst (λ (rows : Plan). (ranges : List (ℕ × ℕ)) (tables : ℕ → ℕ → Table) → c.args.image.now ≡ port_labelled_image c.args.plan.now ranges tables → hand_image rows ≡ c.args.image.now) (sym c.in_ok-parts.ensures.parts)
     (labels_back c.args.plan.now c.args.image.now c.row_parts.ensures.kept c.in_ok-parts.ensures.image c.requires)

@@ -1,5 +1,5 @@
 use Rattle.c104_describe.proofs.PrintedParts.{both_kinds}
-use Rattle.c104_describe.proofs.print.add_tree.Goals as goal
+use Rattle.c104_describe.proofs.print.add_labelled.Goals as goal
 
 -- one kind after the other
 pub returns : goal.returns

@@ -1,0 +1,39 @@
+-- How the tables are found by which packets go up and then down: they are believed only after a check.
+use Rattle.std.specs.Prelude.{◌≡◌, ℕ, ◌*◌, ◌&&◌, Bool, false, List, length, nat_le, nat_lt, All}
+use Rattle.c104_interval.specs.declared.intervals.Row.{Row}
+use Rattle.c104_interval.specs.declared.intervals.Select.{Select}
+use Rattle.c104_interval.specs.declared.intervals.Select.TheVariants.{Discard, Link, Sink}
+use Rattle.c104_interval.specs.declared.intervals.Table.{Table}
+use Rattle.c104_regs.specs.Ranges.{IsTableInRange}
+use Rattle.c104_regs.specs.declared.registers.TheConstants.{LINKS}
+use Rattle.c104_plan.specs.LabelledImages.{port_labelled_image}
+use Rattle.c104_plan.specs.PlanImage.{Fits, Image}
+use Rattle.c104_plan.specs.Plans.{Plan}
+use Rattle.c104_check.specs.ChannelDependencies.{IsAcyclic}
+use Rattle.c104_check.specs.Routes.{IsAccepted, routes_of}
+
+-- a row selects a link of a switch, with a limit that registers can hold
+abbrev pub is_link_row : Row → Bool
+is_link_row row = selects_link row.select && nat_le row.limit 65536
+  where
+    selects_link : Select → Bool
+    selects_link (Link link) = nat_lt link LINKS
+    selects_link Discard = false
+    selects_link Sink = false
+
+-- a table for each link of a plan's switches, within the ranges of registers
+pub record ArePortTables (plan : Plan) (tables : List Table) : Type 0 where
+  pub count : length tables ≡ length plan.switches * LINKS
+  pub within : All IsTableInRange tables
+
+-- each label comes to its terminal, and no inputs depend on one another in a cycle
+pub record IsSound (plan : Plan) (image : Image) : Type 0 where
+  pub accepted : IsAccepted (routes_of plan image)
+  pub acyclic : IsAcyclic (routes_of plan image)
+
+-- an image with the ranges of another, in which each port that has a wire has a table of its own
+pub record IsRelabelled (plan : Plan) (ranges : Image) (image : Image) : Type 0 where
+  pub tables : ℕ → ℕ → Table
+  pub is : image ≡ port_labelled_image plan ranges.ranges tables
+  pub fits : Fits image plan
+  pub sound : IsSound plan image
