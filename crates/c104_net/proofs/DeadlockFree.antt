@@ -7,10 +7,13 @@ use Rattle.c104_plan.specs.PlanImage.{Image}
 use Rattle.c104_plan.specs.Plans.{IsPlan, Plan}
 use Rattle.c104_event.specs.declared.events.Event.{Event}
 use Rattle.c104_net.proofs.BeginsStarted.{starts_are_started}
-use Rattle.c104_net.proofs.RecordedRounds.{done_after, done_of, plain_run, starts_stay}
+use Rattle.c104_net.proofs.PacketInvariant.{IsLabelled}
+use Rattle.c104_net.proofs.Promises.{each, starts}
+use Rattle.c104_net.proofs.RecordedRounds.{applied_plain, done_after, done_of, plain_run, starts_stay}
 use Rattle.c104_net.proofs.RoundsEnd.{rounds_deliver, run_plain, work_map}
-use Rattle.c104_net.proofs.RunOrigins.{still_steady, traces_fit}
-use Rattle.c104_net.proofs.SentBytes.{AreBytesSent, run_bytes}
+use Rattle.c104_net.proofs.RunOrigins.{still_steady}
+use Rattle.c104_net.proofs.RunSteps.{header_positive}
+use Rattle.c104_net.proofs.SentBytes.{AreBytesSent}
 use Rattle.c104_net.proofs.StandingRuns.{run_steady, stands_quiet, started_traced}
 use Rattle.c104_run.proofs.NodeMaps.{quiet_map}
 use Rattle.c104_net.proofs.StartMaps.{starts_are}
@@ -19,10 +22,12 @@ use Rattle.c104_net.proofs.TracedRuns.{token_of, traced_from}
 use Rattle.c104_net.proofs.UndoneRounds.{undone_stands}
 use Rattle.c104_net.proofs.FullWork.{plain_work, random_within}
 use Rattle.c104_net.proofs.WorkBounds.{bound_by_tokens}
+use Rattle.c104_net.proofs.WorkEvents.{event_less}
+use Rattle.c104_net.proofs.WorkRounds.{falling}
 use Rattle.c104_net.specs.DeadlockFreedom.{HasFullInbox, HasFullTrace, HasNoDeadlock, IsAcyclicNet, IsAllDelivered, NothingDone, RoundsDeliver, IsAcyclicRun}
 use Rattle.c104_net.specs.Deliveries.{Promise}
 use Rattle.c104_run.specs.EventRuns.{Outcome, StopsShort, run_events}
-use Rattle.c104_run.specs.NetRecords.{IsNetRecord, NetRecord}
+use Rattle.c104_run.specs.NetRecords.{IsNetRecord, NetRecord, is_done}
 use Rattle.c104_run.specs.Network.{Network, network_apply, network_of}
 use Rattle.c104_node.specs.Quiet.{IsQuietNode}
 use Rattle.c104_run.specs.QuietNets.{IsQuiet}
@@ -32,20 +37,23 @@ use Rattle.c104_run.specs.Runs.{IsDoneRun}
 use Rattle.c104_run.specs.Standstill.{StandsStill}
 use Rattle.c104_node.specs.Starts.{start_node}
 use Rattle.c104_node.specs.Traced.{traced_kind}
-use Rattle.c104_node.specs.Traces.{seatless}
 use Rattle.c104_run.specs.TracedRuns.{map_network}
 use Rattle.c104_node.specs.MappedNodes.{map_node}
-use Rattle.c104_run.specs.WiredActs.{IsRecordedAt}
-use Rattle.c104_net.specs.HeaderWork.{random_work}
+use Rattle.c104_net.specs.HeaderWork.{random_ahead, random_work}
+use Rattle.c104_net.specs.RoundEvents.{IsOfRound}
+use Rattle.c104_event.specs.declared.faults.EventFault.{EventFault}
+use Rattle.c104_run.proofs.RecordSteps.{done_made}
+use Rattle.c104_run.proofs.RoundRuns.{Applied}
+use Rattle.c104_run.proofs.StepMaps.{apply_map}
 use Rattle.c104_net.specs.Work.{highest_rank}
 use Rattle.c104_node.specs.declared.traced.Traced.{Traced}
 use Rattle.c104_switch.specs.Actions.{Reply}
 use Rattle.c104_token.specs.Kinds.{plain_kind}
 use Rattle.c104_token.specs.declared.tokens.Token.{Token}
-use Rattle.std.proofs.Common.{List, Ok, ap, arith, get_or, inl, inr, length, map, subst, sym, ℕ, ⊎_elim, ◌*◌, ◌++◌, ◌<◌, ◌∙◌, ◌≡◌, ◌≤◌, ◌⊎◌}
+use Rattle.std.proofs.Common.{Err, List, Ok, Result, refl, true, ap, arith, get_or, inl, inr, length, map, subst, sym, ℕ, ⊎_elim, ◌*◌, ◌++◌, ◌<◌, ◌∙◌, ◌≡◌, ◌≤◌, ◌⊎◌}
 use Rattle.std.proofs.lemmas.List.Elements.{All-map}
 
-module _ (net : NetRecord) (is_plan : IsPlan net.network.plan) (kept : IsNetRecord net) (recorded : (k : ℕ) → IsRecordedAt net k) (image : Image) (is : IsAcyclicNet image net) where
+module _ (net : NetRecord) (is_plan : IsPlan net.network.plan) (kept : IsNetRecord net) (sent : AreBytesSent kept.told.0) (image : Image) (is : IsAcyclicNet image net) where
   abbrev plan : Plan
   plan = net.network.plan
 
@@ -54,9 +62,6 @@ module _ (net : NetRecord) (is_plan : IsPlan net.network.plan) (kept : IsNetReco
 
   abbrev events : List (Event × Reply)
   events = kept.told.0
-
-  sent : AreBytesSent events
-  sent = run_bytes plan seatless (map start_node net.starts) net.network.nodes net.traces net.count kept.told.0 kept.started.in_place kept.told.1 (traces_fit net recorded)
 
   acyclic_run : IsAcyclicRun plan image net.starts events net.network.nodes
   acyclic_run = record {
@@ -125,11 +130,38 @@ module _ (net : NetRecord) (is_plan : IsPlan net.network.plan) (kept : IsNetReco
       (λ (short : StopsShort record_apply net (rounds plan n) (Ok tt) after). let no = short.refused in absurd (cc))
       ends
 
+  -- an event of a round that is done leaves less work: over tokens that tell where they came from it is done too, and
+  -- there leaves less
+  lessens : (rank : SwitchPort → ℕ) → IsRanking routes rank → (e : Event) → IsOfRound e → is_done (record_apply net e).0 ≡ true → random_work plan routes rank (record_apply net e).1.network.nodes < random_work plan routes rank net.network.nodes
+  lessens rank falls e of done = by_answer (record_apply net e).0 refl done
+    where
+      by_answer : (answer : Result Reply EventFault) → (record_apply net e).0 ≡ answer → is_done answer ≡ true → random_work plan routes rank (record_apply net e).1.network.nodes < random_work plan routes rank net.network.nodes
+      by_answer (Err f) told ready = absurd (cc ready)
+      by_answer (Ok x) told ready =
+          let found = traced_from plan net.starts net.network.nodes events kept.told.1.run in
+          let mid : Network Traced = network_of plan found.0 in
+          let labelled : IsLabelled routes = record { accepted = is.accepted; positive = header_positive plan image } in
+          let k = each plan image is_plan labelled (map start_node net.starts) mid events found.1.run (is.unchanged events kept.told.1) sent (starts plan image is_plan labelled (map start_node net.starts) (starts_are plan image net.starts is.set)) in
+          let after : Network Token = (record_apply net e).1.network in
+          let next : Network Traced = (network_apply traced_kind mid e).1 in
+          let due : ◌≡◌ {A = Applied (Network Token)} (Ok x, after) (network_apply plain_kind net.network e) = applied_plain net e x told in
+          let both : ◌≡◌ {A = Applied (Network Token)} ((network_apply traced_kind mid e).0, map_network token_of next) (Ok x, after) =
+          sym (apply_map token_of traced_kind plain_kind (λ x. refl) (λ j b. refl) (λ t n j x. refl) mid e) ∙ ap (λ ns. network_apply plain_kind (network_of plan ns) e) found.1.plain ∙ sym due in
+          let answered : ◌≡◌ {A = Applied (Network Traced)} (Ok x, next) (network_apply traced_kind mid e) = ap (λ (o : Result Reply EventFault). (o, next)) (sym (ap (λ (z : Applied (Network Token)). z.0) both)) in
+          let made = done_made traced_kind (network_of plan k.0) next x e (answered ∙ ap (λ n. network_apply traced_kind n e) (sym k.1)) ready in
+          let less = event_less traced_kind plan is_plan rank (random_ahead routes rank) k.0 k.2.placed (falling plan image is_plan labelled rank falls k.0 k.2) e x next of made in
+          let before : random_work plan routes rank k.0 ≡ random_work plan routes rank net.network.nodes =
+          ap (λ (n : Network Traced). random_work plan routes rank n.nodes) k.1 ∙ sym (work_map token_of plan routes rank found.0) ∙ ap (random_work plan routes rank) found.1.plain in
+          let later : random_work plan routes rank next.nodes ≡ random_work plan routes rank after.nodes =
+          sym (work_map token_of plan routes rank next.nodes) ∙ ap (λ (z : Applied (Network Token)). random_work plan routes rank z.1.nodes) both in
+          omega (arith, less, before, later)
+
   pub has_no_deadlock : HasNoDeadlock image net
   has_no_deadlock = record {
     no_deadlock = nothing_done;
     never = λ locked. locked.1 (stands locked.0);
     stands_quiet = stands;
+    lessens = lessens;
     rounds_deliver = rounds_law;
     rounds_suffice = λ n few.
         (let within : (p : SwitchPort) → is.acyclic.0 p ≤ 32 * length plan.switches = λ p. subst (λ m. is.acyclic.0 p ≤ 32 * m) is.fits.settings (is.acyclic.2 p) in

@@ -122,7 +122,7 @@ module _ (plan : Plan) (rank ahead : SwitchPort → ℕ) (none : (p : SwitchPort
         let items = ap (λ n. weigh n T.input.items) weight in
         omega (arith, out, items)
 
-    full_same : (nodes : List (Node A)) → full_work plan rank ahead nodes ≡ work plan rank nodes
+    pub full_same : (nodes : List (Node A)) → full_work plan rank ahead nodes ≡ work plan rank nodes
     full_same nodes = sum_same (full_node plan rank ahead) (node_work plan rank) node_same 0 nodes
 
 -- where no link puts random headers before packets, the work is that of the tokens that there are

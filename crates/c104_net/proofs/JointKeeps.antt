@@ -7,6 +7,7 @@ use Rattle.c104_node.specs.Acts.{done_by, node_act, nodes_act, plain_reply, toke
 use Rattle.c104_plan.specs.Wiring.{peer}
 use Rattle.c104_event.specs.declared.events.Event.{Event}
 use Rattle.c104_event.specs.declared.events.Event.TheVariants as event
+pub use Rattle.c104_net.specs.RoundEvents.{IsOfRound}
 use Rattle.c104_run.specs.EventActs.{Ask, acts_step, ask_acts, crossing_acts, event_acts, event_ask, port_place}
 use Rattle.c104_node.specs.PortActs.{Acts, far_act, near_act}
 use Rattle.c104_run.specs.Network.{Network, network_of, network_step}
@@ -22,12 +23,6 @@ use Rattle.c104_switch.specs.declared.actions.ReplyOf.{ReplyOf}
 use Rattle.c104_switch.specs.declared.actions.ReplyOf.TheVariants as reply
 use Rattle.c104_token.specs.Kinds.{Kind}
 use Rattle.std.proofs.Common.{IfSome, List, None, Option, Some, length, refl, slice_get, slice_set, subst, ℕ, ◌-◌, ◌≡◌}
-
--- an event of a round: no packet is sent, and no command is given
-abbrev pub IsOfRound : Event → Type 0
-IsOfRound (event.Send t p) = ⊥
-IsOfRound (event.Control s bytes) = ⊥
-IsOfRound e = Unit {0}
 
 -- an act of such an event
 abbrev pub IsPlainAct : {A : Type 0} → ActOf A → Type 0

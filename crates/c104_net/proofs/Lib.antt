@@ -56,3 +56,4 @@ pub mod MeteredRecords
 pub mod TracedTokens
 pub mod RandomOwners
 pub mod RandomHeaders
+pub mod PlainWork

@@ -78,7 +78,7 @@ module _ {A B : Type 0} (f : A → B) where
     ) refl
     node_map k (node.Terminal T) = rw (incoming_map 0 0 T.input, weigh_map (8 * level plan rank (peer plan (port.Terminal (k - length plan.switches))) + 4 + ahead_at plan rank ahead (peer plan (port.Terminal (k - length plan.switches)))) T.output.items) refl
 
-    full_map : (nodes : List (Node A)) → full_work plan rank ahead (map (map_node f) nodes) ≡ full_work plan rank ahead nodes
+    pub full_map : (nodes : List (Node A)) → full_work plan rank ahead (map (map_node f) nodes) ≡ full_work plan rank ahead nodes
     full_map nodes = sum_map (map_node f) (full_node plan rank ahead) (full_node plan rank ahead) node_map 0 nodes
 
   pub work_map : (plan : Plan) (routes : Routes) (rank : SwitchPort → ℕ) (nodes : List (Node A)) → random_work plan routes rank (map (map_node f) nodes) ≡ random_work plan routes rank nodes

@@ -70,7 +70,7 @@ fit_on nodes i n there fit before = λ k m below at.
       | inr differs ↦ before k m (omega (arith, below, differs)) at
     ]
 
-fit_there : (nodes : List TracedRecord) → ((k : ℕ) (m : TracedRecord) → slice_get nodes k ≡ Some m → All IsFit m.trace) → (k : ℕ) (trace : List Entry) → slice_get (map traced_trace nodes) k ≡ Some trace → All IsFitEntry trace
+pub fit_there : (nodes : List TracedRecord) → ((k : ℕ) (m : TracedRecord) → slice_get nodes k ≡ Some m → All IsFit m.trace) → (k : ℕ) (trace : List Entry) → slice_get (map traced_trace nodes) k ≡ Some trace → All IsFitEntry trace
 fit_there [] fit k trace at = cc
 fit_there (n ∷ nodes) fit zero trace at = let same : n.trace ≡ trace = cc in subst (λ (t : List Entry). All IsFitEntry t) same (fit 0 n refl)
 fit_there (n ∷ nodes) fit (suc k) trace at = fit_there nodes (λ j m here. fit (suc j) m here) k trace at

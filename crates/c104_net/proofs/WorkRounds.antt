@@ -89,7 +89,7 @@ module _ (plan : Plan) (image : Image) (is_plan : IsPlan plan) (labelled : IsLab
   none_far s o (port.Terminal t) wire = rw wire refl
   none_far s o (port.Switch s' i') wire = rw wire (ahead_inner s' i' s o (peer_back plan is_plan (port.Switch s o) (port.Switch s' i') wire))
 
-  falling : (nodes : List (Node Traced)) → IsSettled plan image is_plan labelled nodes → AreFalling plan rank (random_ahead (routes_of plan image) rank) nodes
+  pub falling : (nodes : List (Node Traced)) → IsSettled plan image is_plan labelled nodes → AreFalling plan rank (random_ahead (routes_of plan image) rank) nodes
   falling nodes good = record { puts = puts; streams = streams; wants = wants }
     where
       puts : (s i : ℕ) (S : Switch Traced) (t : Settings) → slice_get nodes s ≡ Some (node.Switch S) → slice_get S.settings i ≡ Some t → t.randomize ≡ true → random_ahead (routes_of plan image) rank (port_of s i) ≡ header_length t * (8 * own plan rank (port.Switch s i)) + 1

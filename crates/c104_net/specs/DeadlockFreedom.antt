@@ -32,6 +32,7 @@ use Rattle.c104_node.specs.declared.stamps.Stamp.{Stamp}
 use Rattle.c104_node.specs.MappedNodes.{map_node}
 use Rattle.c104_net.specs.Unchanged.{AreStartsOf, IsUnchanged}
 use Rattle.c104_net.specs.HeaderWork.{random_bound, random_work}
+use Rattle.c104_net.specs.RoundEvents.{IsOfRound}
 use Rattle.c104_net.specs.Work.{most_weight, room_held, tokens_held, work, work_bound}
 use Rattle.c104_switch.specs.Actions.{Reply}
 use Rattle.c104_token.specs.Kinds.{plain_kind}
@@ -91,6 +92,12 @@ pub record HasNoDeadlock (image : Image) (net : NetRecord) : Type 0 where
   -- where each is answered with NotReady, it is quiet
   pub never : IsDeadlocked plain_kind net.network → ⊥
   pub stands_quiet : StandsStill plain_kind net.network → IsQuiet net.network
+  -- each event of a kind that rounds have, where it is done, leaves less work: so as many as there is work can be done, in
+  -- whatever rounds or order they come
+  pub lessens : (rank : SwitchPort → ℕ) → IsRanking (routes_of net.network.plan image) rank → (e : Event) → IsOfRound e →
+      is_done (record_apply net e).0 ≡ true →
+      random_work net.network.plan (routes_of net.network.plan image) rank (record_apply net e).1.network.nodes
+      < random_work net.network.plan (routes_of net.network.plan image) rank net.network.nodes
   -- more rounds than work, by any ranks that fall along the dependencies, deliver all
   pub rounds_deliver : (rank : SwitchPort → ℕ) → IsRanking (routes_of net.network.plan image) rank → (n : ℕ) →
       random_work net.network.plan (routes_of net.network.plan image) rank net.network.nodes < n →

@@ -9,4 +9,5 @@ pub mod Replays
 pub mod RunOrigins
 pub mod Work
 pub mod HeaderWork
+pub mod RoundEvents
 pub mod DeadlockFreedom

@@ -3,9 +3,10 @@
 ghost use Rattle.std.specs.Prelude.{All};
 ghost use Rattle.c104_net.specs.DeadlockFreedom.{EndsWithoutDeadlock, IsFreeOfDeadlock};
 ghost use Rattle.c104_node.specs.Records.{IsRecorded, NodeRecord, NodeRoom};
+ghost use Rattle.c104_node.specs.TracedRecords.{IsFit, TracedRecord};
 
-use c104_node::Node;
-use c104_run::{Net, Run};
+use c104_node::{CountedNode, Node};
+use c104_run::{Net, Run, TracedNet};
 
 /// What the theorem says of a value.
 pub trait NoDeadlock {
@@ -38,6 +39,22 @@ impl NoDeadlock for Net {
     }
 }
 
+impl NoDeadlock for TracedNet {
+    ghost use Rattle.c104_net.specs.DeadlockFreedom.{IsFreeOfDeadlock};
+
+    ghost theorem = { IsFreeOfDeadlock };
+
+    /// The same of a network whose tokens tell their packets, as the program runs it.
+    fn has_no_deadlock(&self)
+        ensures { IsFreeOfDeadlock self.now }
+    {
+        // The proof reads by these names what every plan, and every such network, keeps.
+        let plan = self.plan();
+        let _switches = plan.switches();
+        read_counts(self.places());
+    }
+}
+
 impl NoDeadlock for Run {
     ghost use Rattle.c104_net.specs.DeadlockFreedom.{EndsWithoutDeadlock};
 
@@ -63,5 +80,14 @@ fn read_records(nodes: &[Node])
 {
     for node in nodes {
         let _trace = node.trace();
+    }
+}
+
+/// What each of these nodes did is within the limits of a packet. The proof reads it here.
+fn read_counts(nodes: &[CountedNode])
+    ensures { All (λ (n : TracedRecord). All IsFit n.trace) nodes.now }
+{
+    for node in nodes {
+        let _arrived = node.arrived();
     }
 }

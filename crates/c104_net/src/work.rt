@@ -7,7 +7,7 @@ ghost use Rattle.c104_check.specs.Ranks.{rank_in};
 ghost use Rattle.c104_check.specs.Walks.{port_of};
 ghost use Rattle.c104_check.specs.declared.ports.SwitchPort.{SwitchPort as TheInput};
 ghost use Rattle.c104_plan.specs.Wiring.{peer};
-ghost use Rattle.c104_node.specs.Records.{node_state};
+ghost use Rattle.c104_node.specs.Places.{states};
 ghost use Rattle.c104_node.specs.Traces.{part};
 ghost use Rattle.c104_token.specs.declared.tokens.Token.{Token as TheToken};
 ghost use Rattle.c104_run.specs.Network.{Network};
@@ -17,11 +17,11 @@ ghost use Rattle.c104_regs.specs.declared.registers.TheConstants.{LINKS};
 
 use c104_check::{Ranks, SwitchPort};
 use c104_event::Port;
-use c104_node::{Node, NodeOf, Place, TerminalOf};
+use c104_node::{NodeOf, Place, TerminalOf};
 use c104_plan::Plan;
-use c104_run::Net;
+use c104_run::{RecordedNet, RecordedPlace};
 use c104_switch::{HeaderBytes, LINKS, Phase, SwitchOf};
-use c104_token::Token;
+use c104_token::TokenKind;
 
 /// The work that is left in a network.
 pub trait LeftWork {
@@ -45,7 +45,8 @@ pub trait LeftWork {
         ensures { result ≡ told_work (work_bound (network self.now).plan (network self.now).nodes) };
 }
 
-impl LeftWork for Net {
+/// Of a network that keeps its traces, and of one whose tokens tell their packets.
+impl<T: TokenKind, P: RecordedPlace<T>> LeftWork for RecordedNet<T, P> {
     ghost use Rattle.c104_run.specs.NetRecords.{NetRecord};
 
     ghost network = { λ (r : NetRecord). r.network };
@@ -117,8 +118,8 @@ fn highest_rank(plan: &Plan) -> u32
 }
 
 /// The work of nodes, by their places.
-fn work_of_nodes<R: Ranking>(plan: &Plan, ranks: &R, nodes: &[Node]) -> u64
-    ensures { result ≡ told_work (work plan.now (R.rank ranks.now) (map node_state nodes.now)) }
+fn work_of_nodes<T: TokenKind, P: Place<T>, R: Ranking>(plan: &Plan, ranks: &R, nodes: &[P]) -> u64
+    ensures { result ≡ told_work (work plan.now (R.rank ranks.now) (states (map P.shown nodes.now))) }
 {
     let mut sum = 0;
     for place in 0..nodes.len() {
@@ -129,7 +130,12 @@ fn work_of_nodes<R: Ranking>(plan: &Plan, ranks: &R, nodes: &[Node]) -> u64
 }
 
 /// The work of the node at a place.
-fn work_of_node<R: Ranking>(plan: &Plan, ranks: &R, place: usize, node: &NodeOf<Token>) -> u64
+fn work_of_node<T: TokenKind, R: Ranking>(
+    plan: &Plan,
+    ranks: &R,
+    place: usize,
+    node: &NodeOf<T>,
+) -> u64
     ensures { result ≡ told_work (node_work plan.now (R.rank ranks.now) place node.now) }
 {
     match node {
@@ -139,7 +145,12 @@ fn work_of_node<R: Ranking>(plan: &Plan, ranks: &R, place: usize, node: &NodeOf<
 }
 
 /// The work of a switch, link by link.
-fn work_of_switch<R: Ranking>(plan: &Plan, ranks: &R, place: usize, switch: &SwitchOf<Token>) -> u64
+fn work_of_switch<T: TokenKind, R: Ranking>(
+    plan: &Plan,
+    ranks: &R,
+    place: usize,
+    switch: &SwitchOf<T>,
+) -> u64
     ensures { result ≡ told_work (inputs_work plan.now (R.rank ranks.now) place switch.now.inputs
         + outputs_work plan.now (R.rank ranks.now) place switch.now.outputs) }
 {
@@ -154,12 +165,12 @@ fn work_of_switch<R: Ranking>(plan: &Plan, ranks: &R, place: usize, switch: &Swi
 }
 
 /// The work of both sides of a link of a switch.
-fn work_of_link<R: Ranking>(
+fn work_of_link<T: TokenKind, R: Ranking>(
     plan: &Plan,
     ranks: &R,
     place: usize,
     link: usize,
-    switch: &SwitchOf<Token>,
+    switch: &SwitchOf<T>,
 ) -> u64
     requires { link < LINKS }
     ensures { result ≡ told_work
@@ -181,11 +192,11 @@ fn work_of_link<R: Ranking>(
 }
 
 /// The work of a terminal, which stands at a place among the nodes.
-fn work_of_terminal<R: Ranking>(
+fn work_of_terminal<T: TokenKind, R: Ranking>(
     plan: &Plan,
     ranks: &R,
     place: usize,
-    terminal: &TerminalOf<Token>,
+    terminal: &TerminalOf<T>,
 ) -> u64
     ensures { result ≡ told_work (terminal_work plan.now (R.rank ranks.now) place terminal.now) }
 {

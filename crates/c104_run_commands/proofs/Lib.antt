@@ -3,3 +3,4 @@ mod ReadFaults
 mod StateLemmas
 mod OverTimeLemmas
 mod CountStatuses
+pub mod PrintedRunsLaw

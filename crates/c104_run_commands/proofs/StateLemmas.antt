@@ -1,5 +1,5 @@
 -- The picture of a network after a script: what is drawn by the answers of the script, and how it ends where nothing is.
-use Rattle.std.proofs.Common.{◌≡◌, ◌||◌, ℕ, Bool, List, Option, None, Some, Ok, inl, inr, refl, ap, subst, sym, ◌∙◌}
+use Rattle.std.proofs.Common.{◌≡◌, ◌≢◌, ◌||◌, ℕ, Bool, List, Option, None, Some, Result, Ok, Err, inl, inr, refl, ap, subst, sym, ◌∙◌}
 use Rattle.std.proofs.KnownBytes.{Keeps-refl}
 use Rattle.c104_plan.specs.Plans.{Plan}
 use Rattle.c104_plan.specs.PlanImage.{Image}
@@ -15,13 +15,13 @@ use Rattle.c104_commands.specs.Endings.{IsSetup}
 use Rattle.c104_run_commands.specs.StatePictures.{IsDrawnAfter, IsUndrawn, StateEnds, StateRuns}
 use Rattle.c104_commands.specs.declared.status.Status.{Status}
 
-pub undrawn : (kind : Halt) → IsUndrawn (halt_status kind 1)
-undrawn halt.CannotRead = refl
-undrawn halt.CannotWrite = tt
-undrawn halt.NoMemory = tt
+pub undrawn : {X : Type 0} (kind : Halt) → ◌≢◌ {A = Result X Halt} (Err kind) (Err halt.CannotWrite) → IsUndrawn (halt_status kind 1)
+undrawn halt.CannotRead wrote = refl
+undrawn halt.CannotWrite wrote = wrote refl
+undrawn halt.NoMemory wrote = tt
 
-pub state_halts : (plan : Plan) (image : Image) (script held : Option (List ℕ)) (kind : Halt) (ended : Status) → ended ≡ halt_status kind 1 → StateRuns plan image script held held ended
-state_halts plan image script held kind ended is = inl (subst IsUndrawn (sym is) (undrawn kind), Keeps-refl held)
+pub state_halts : {X : Type 0} (plan : Plan) (image : Image) (script held : Option (List ℕ)) (kind : Halt) (ended : Status) → ◌≢◌ {A = Result X Halt} (Err kind) (Err halt.CannotWrite) → ended ≡ halt_status kind 1 → StateRuns plan image script held held ended
+state_halts plan image script held kind ended wrote is = inl (subst IsUndrawn (sym is) (undrawn kind wrote), Keeps-refl held)
 
 -- where there is a network, and nothing was written before, all ends as for that network
 pub state_ends : (description script held now holds : Option (List ℕ)) (plan : Plan) (image : Image) (ended : Status) → IsSetup description (Ok (plan, image)) → held ≡ now → StateRuns plan image script now holds ended → StateEnds description script held holds ended

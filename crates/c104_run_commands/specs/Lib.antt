@@ -2,3 +2,4 @@ pub mod Runs
 pub mod StatePictures
 pub mod OverTime
 pub mod Counts
+pub mod PrintedRuns

@@ -43,12 +43,12 @@ WritesDrawn text refused held holds status.CannotWrite = AppendsPrefix held hold
 WritesDrawn text refused held holds status.NoMemory = ⊥
 
 -- it has drawn nothing: the script can't be read, or it is out of memory. The writer of answers takes all of them and
--- keeps nothing, so that a failed write counts as nothing drawn too
+-- keeps nothing, so only that of the picture can fail
 abbrev pub IsUndrawn : Status → Type 0
 IsUndrawn status.Done = ⊥
 IsUndrawn status.Refused = ⊥
 IsUndrawn (status.CannotRead n) = n ≡ 1
-IsUndrawn status.CannotWrite = ⊤
+IsUndrawn status.CannotWrite = ⊥
 IsUndrawn status.NoMemory = ⊤
 
 -- what is written where a script was run on the network of a plan with an image: the picture or a prefix of it, or

@@ -11,6 +11,7 @@ ghost use Rattle.c104_session.specs.Lines.{AreOnlyLines};
 ghost use Rattle.c104_stream.specs.ScriptLines.{script_lines};
 ghost use Rattle.c104_commands.specs.declared.status.Status.TheVariants as status;
 ghost use Rattle.c104_commands.specs.Setups.{ComesTo};
+ghost use Rattle.c104_run_commands.specs.PrintedRuns.{PrintsAllOf, PrintsPacketsOf};
 ghost use Rattle.c104_run_commands.specs.Runs.{RunsParts, RunsDescription, RunsText};
 
 use c104_commands::{Setup, Status, refuse, set_up};
@@ -32,7 +33,7 @@ use std::io::{Read, Write};
 ///
 /// Reading ends at 1 MiB of a description and at 16 MiB of a script, whatever the reader. Each error
 /// of a reader or a writer is a fault at once.
-#[tactic(auto, using(c104_session::proofs::LinesLaw::lines_law))]
+#[tactic(auto, using(c104_session::proofs::LinesLaw::lines_law, crate::proofs::PrintedRunsLaw::printed_runs, crate::proofs::PrintedRunsLaw::delivered_runs))]
 pub fn run<D: Read, S: Read, W: Write, M: Messages>(
     alloc: Global,
     description: &mut D,
@@ -51,6 +52,11 @@ pub fn run<D: Read, S: Read, W: Write, M: Messages>(
 
     // What the lines of a script are, in words.
     ensures lines { (script : List ℕ) → AreOnlyLines script (script_lines script) }
+
+    // What is printed behind the answers, of packets: lines of packets that were sent, each whole and none twice; and,
+    // with rounds enough where no channel depends on itself, of all that were sent to a terminal.
+    ensures packets { (text script : List ℕ) → PrintsPacketsOf text script }
+    ensures all { (text script : List ℕ) → PrintsAllOf text script }
 {
     run_parts(alloc, description, script, writer, messages)
 }
@@ -69,6 +75,8 @@ pub fn debug_command<D: Read, S: Read, W: Write, M: Messages>(
     ensures of_description { result ≡ status.CannotRead 0 → script.new ≡ script.old }
     ensures of_script { result ≡ status.CannotRead 1 → IsAtEnd (D.remaining description.new) }
     ensures lines { (script : List ℕ) → AreOnlyLines script (script_lines script) }
+    ensures packets { (text script : List ℕ) → PrintsPacketsOf text script }
+    ensures all { (text script : List ℕ) → PrintsAllOf text script }
 {
     run(alloc, description, script, writer, messages)
 }
@@ -100,7 +108,7 @@ fn run_parts<D: Read, S: Read, W: Write, M: Messages>(
 /// The same of one text: its description ends at the first line whose only word is `script`, and the
 /// script follows that line. Where there is no such line the script is empty, and where it hasn't
 /// ended within 1 MiB the description is too long. Messages name the lines of the text.
-#[tactic(auto, using(c104_script::proofs::PartsLaw::parts_law, c104_session::proofs::LinesLaw::lines_law))]
+#[tactic(auto, using(c104_script::proofs::PartsLaw::parts_law, c104_session::proofs::LinesLaw::lines_law, crate::proofs::PrintedRunsLaw::printed_runs, crate::proofs::PrintedRunsLaw::delivered_runs))]
 pub fn run_text<R: Read, W: Write, M: Messages>(
     alloc: Global,
     text: &mut R,
@@ -117,6 +125,11 @@ pub fn run_text<R: Read, W: Write, M: Messages>(
     // What the parts of a text and the lines of a script are, in words.
     ensures parted { (text : List ℕ) → AreOnlyParts text (parts text) }
     ensures lines { (script : List ℕ) → AreOnlyLines script (script_lines script) }
+
+    // What is printed behind the answers, of packets: lines of packets that were sent, each whole and none twice; and,
+    // with rounds enough where no channel depends on itself, of all that were sent to a terminal.
+    ensures packets { (text : List ℕ) → PrintsPacketsOf (parts text).description (parts text).script }
+    ensures all { (text : List ℕ) → PrintsAllOf (parts text).description (parts text).script }
 {
     let Ok(mut ahead) = Ahead::new(alloc) else {
         return Status::NoMemory;

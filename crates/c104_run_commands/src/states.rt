@@ -1,10 +1,11 @@
 //! The drawing of a description's network as it stands after a script.
-ghost use Rattle.std.specs.Prelude.{ℕ, ◌≡◌, ◌≢◌, ◌||◌, Bool, IfOk, Ok};
+ghost use Rattle.std.specs.Prelude.{ℕ, ◌≡◌, ◌≢◌, ◌||◌, Bool, Err, IfOk, Ok};
 ghost use Rattle.std.specs.Io.KnownBytes.{prepend_known};
 ghost use Rattle.std.specs.String.{string_bytes};
 ghost use Rattle.c104_plan.specs.PlanImage.{Fits, Image as TheImage};
 ghost use Rattle.c104_plan.specs.Plans.{Plan as ThePlan};
 ghost use Rattle.c104_session.specs.AskedPictures.{IsPictureOf};
+ghost use Rattle.c104_stream.specs.declared.halt.Halt.TheVariants as halt;
 ghost use Rattle.c104_session.specs.Shown.{new_session};
 ghost use Rattle.c104_run_commands.specs.StatePictures.{IsDrawnAfter, StateEnds, StateRuns, WritesDrawn};
 ghost use Rattle.c104_commands.specs.declared.status.Status.TheVariants as status;
@@ -102,8 +103,9 @@ fn drawn_after<S: Read, M: Messages>(
     messages: &mut M,
 ) -> Result<Drawn, Halt>
     requires { Fits image plan.now }
-    ensures { IfOk result (λ drawn.
+    ensures drawn { IfOk result (λ drawn.
         IsDrawnAfter plan.now image (S.remaining script.old) (string_bytes drawn.text) drawn.refused) }
+    ensures unwritten { result ≢ Err halt.CannotWrite }
 {
     let mut ahead = Ahead::new(alloc)?;
     let session = Session::new(alloc, plan, image)?;
@@ -119,9 +121,10 @@ fn drawn_session<S: Read, M: Messages>(
     script: &mut S,
     messages: &mut M,
 ) -> Result<Drawn, Halt>
-    ensures { (plan : ThePlan) (image : TheImage) → session ≡ new_session plan image →
+    ensures drawn { (plan : ThePlan) (image : TheImage) → session ≡ new_session plan image →
         IfOk result (λ drawn. IsDrawnAfter plan image (prepend_known ahead.old (S.remaining script.old))
         (string_bytes drawn.text) drawn.refused) }
+    ensures unwritten { result ≢ Err halt.CannotWrite }
 {
     let mut session = session;
     let answered = answer_script(
@@ -139,10 +142,16 @@ fn drawn_session<S: Read, M: Messages>(
 
 /// The same of a network on which a script was answered so.
 fn drawn_of(alloc: Global, session: &Session, answered: Result<bool, Halt>) -> Result<Drawn, Halt>
-    ensures { IfOk result (λ drawn. (long : Bool) × (answered ≡ Ok long)
+    ensures drawn { IfOk result (λ drawn. (long : Bool) × (answered ≡ Ok long)
         × IsPictureOf session.now (string_bytes drawn.text) × (drawn.refused ≡ (long || session.now.faulty))) }
+    ensures unwritten { result ≢ Err halt.CannotWrite }
 {
-    let is_long = answered?;
+    let is_long = match answered {
+        Ok(is_long) => is_long,
+        // What takes all bytes doesn't fail, but no contract says that.
+        Err(Halt::CannotWrite) => return Err(Halt::NoMemory),
+        Err(halt) => return Err(halt),
+    };
     let text = state_text(alloc, &session.net, &session.image)?;
     Ok(Drawn {
         text,

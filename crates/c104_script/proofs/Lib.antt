@@ -4,3 +4,4 @@ pub mod ControlLine
 pub mod HexNumbers
 pub mod ResetRows
 pub mod PartsLaw
+pub mod ScriptBytes

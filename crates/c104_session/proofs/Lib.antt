@@ -17,3 +17,11 @@ pub mod Leavings
 pub mod PlanRuns
 pub mod Starts
 pub mod TextsWritten
+pub mod SentLists
+pub mod UnchangedNets
+pub mod PeekedNets
+pub mod PlacedNets
+pub mod UnchangedScripts
+pub mod PrintedLaw
+pub mod DeliveredLaw
+pub mod WorkGrowth

@@ -12,3 +12,5 @@ pub mod Keepers
 pub mod Timed
 pub mod TimedRuns
 pub mod AskedPictures
+pub mod PrintedPackets
+pub mod DeliveredRuns

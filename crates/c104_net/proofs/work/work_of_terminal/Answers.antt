@@ -7,7 +7,6 @@ use Rattle.c104_net.specs.Work.{incoming_work, level, output_work, told_work, we
 use Rattle.c104_node.specs.declared.terminal.views.TerminalView.{TerminalView}
 use Rattle.c104_net.proofs.WorkBounds.{added_told, incoming_told, weigh_is}
 use Rattle.c104_switch.specs.Rooms.{room_left}
-use Rattle.c104_token.specs.declared.tokens.Token.{Token}
 use Rattle.c104_plan.specs.declared.ports.Port.TheVariants as port
 use Rattle.c104_net.proofs.work.work_of_terminal.Goals as goal
 
@@ -15,7 +14,7 @@ pub returns : goal.returns
 returns g c =
     let plan : Plan = c.args.plan.now in
     let rank : SwitchPort → ℕ = g.R.Ranking.rank c.args.ranks.now in
-    let t : Terminal Token = c.args.terminal.now in
+    let t : Terminal g.row.T.Denot = c.args.terminal.now in
     let counted = ap length c.switches.ensures.switches in
     let number : c.saturating_sub-number.result ≡ c.args.place - length plan.switches = omega (arith, counted, c.saturating_sub-number.ensures) in
     let far : ℕ = level plan rank (peer plan (port.Terminal (c.args.place - length plan.switches))) in

@@ -1,7 +1,11 @@
-use Rattle.std.proofs.Common.{subst}
+use Rattle.std.proofs.Common.{map, subst}
 use Rattle.c104_plan.specs.Plans.{IsPlan}
 use Rattle.c104_net.specs.DeadlockFreedom.{IsFreeOfDeadlock}
-use Rattle.c104_run.specs.NetRecords.{NetRecord, net_record}
+use Rattle.c104_node.specs.Starts.{start_node}
+use Rattle.c104_node.specs.Traces.{seatless}
+use Rattle.c104_net.proofs.RunOrigins.{traces_fit}
+use Rattle.c104_net.proofs.SentBytes.{AreBytesSent, run_bytes}
+use Rattle.c104_run.specs.NetRecords.{IsNetRecord, NetRecord, net_record}
 use Rattle.c104_net.proofs.DeadlockFree.{has_no_deadlock}
 use Rattle.c104_run.proofs.WiredTraces.{all_recorded, traces_wired}
 use Rattle.c104_net.proofs.deadlock.NetNoDeadlock.has_no_deadlock.Goals as goal
@@ -10,5 +14,7 @@ pub returns : goal.returns
 returns c =
     let is_plan : IsPlan c.args.self.now.network.plan = subst IsPlan c.plan-plan.ensures c.switches-switches.ensures.kept in
     let net : NetRecord = net_record c.args.self.now.network.plan c.places.result.now c.args.self.now.count in
-    subst IsFreeOfDeadlock c.places.ensures.shown (λ image is. has_no_deadlock net is_plan c.places.ensures.kept.kept
-    (all_recorded c.args.self.now.network.plan c.places.result.now c.args.self.now.count (traces_wired net is_plan c.places.ensures.kept.kept) c.read_records.ensures) image is)
+    let kept : IsNetRecord net = c.places.ensures.kept.kept in
+    let recorded = all_recorded c.args.self.now.network.plan c.places.result.now c.args.self.now.count (traces_wired net is_plan kept) c.read_records.ensures in
+    let sent : AreBytesSent kept.told.0 = run_bytes net.network.plan seatless (map start_node net.starts) net.network.nodes net.traces net.count kept.told.0 kept.started.in_place kept.told.1 (traces_fit net recorded) in
+    subst IsFreeOfDeadlock c.places.ensures.shown (λ image is. has_no_deadlock net is_plan kept sent image is)

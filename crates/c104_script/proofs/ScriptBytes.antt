@@ -1,0 +1,164 @@
+-- What a line of a script sends is bytes, since two digits spell each.
+use Rattle.std.proofs.Common.{◌&&◌, ◌≡◌, ◌∙◌, ◌+◌, ◌*◌, ◌++◌, ◌<◌, ◌≤◌, ◌⊎◌, ℕ, Bool, true, false, All, List, [], ◌∷◌, Option, Some, None, Result, Ok, Err, IfOk, if◌then◌else◌, inl, inr, length, map, nat_le, refl, sym, ap, subst, arith}
+use Rattle.std.proofs.lemmas.List.Elements.{All-cons, All-nil}
+use Rattle.c104_token.specs.declared.faults.TokenFault.{TokenFault}
+use Rattle.c104_token.specs.declared.faults.TokenFault.TheVariants as token_fault
+use Rattle.c104_token.specs.declared.packets.Packet.{Packet}
+use Rattle.c104_token.specs.Text.{IsHexDigit, SpellBytes, SpellsByte, parse_words, word_of}
+use Rattle.c104_token.proofs.Spelling.{Spelled, accepted}
+use Rattle.c104_control.specs.declared.bytes.TheConstants.{MAX_CONTROL_BYTES}
+use Rattle.c104_plan.specs.Checks.{◌>>=◌, ◌>>◌, require, value_or_fault}
+use Rattle.c104_plan.specs.Plans.{Plan}
+use Rattle.c104_plan.specs.TextCut.{is_plain_line, line_words, uncommented_line}
+use Rattle.c104_event.specs.declared.events.Event.{Event}
+use Rattle.c104_event.specs.declared.events.Event.TheVariants as event
+use Rattle.c104_event.specs.declared.faults.EventFault.{EventFault}
+use Rattle.c104_script.specs.HexWords.{address_word, register_word}
+use Rattle.c104_script.specs.Script.{bytes_after, claim_line, control_line, credit_line, cross_line, drain_line, input_at, input_line, link_line, most_line, most_rounds, number_word, packet_of, peek_line, place_word, poke_line, port_at, probe_line, probe_of, read_script_line, read_script_words, request_of, rounds_line, send_line, some_request, switch_at, table_line, terminal_at, verb_line, verb_of}
+use Rattle.c104_script.specs.declared.faults.LineFault.{LineFault}
+use Rattle.c104_script.specs.declared.faults.LineFault.TheVariants as fault
+use Rattle.c104_script.specs.declared.places.Request.{Request}
+use Rattle.c104_script.specs.declared.places.Request.TheVariants as ask
+use Rattle.c104_script.specs.declared.probes.Probe.{Probe}
+use Rattle.c104_script.specs.declared.words.ProbeVerb.{ProbeVerb}
+use Rattle.c104_script.specs.declared.words.ProbeVerb.TheVariants as asks
+use Rattle.c104_script.specs.declared.words.Verb.{Verb}
+use Rattle.c104_script.specs.declared.words.Verb.TheVariants as verb
+
+-- what an event sends, if it sends something, is bytes
+abbrev pub SendsBytes : Event → Type 0
+SendsBytes (event.Send t p) = All (λ (b : ℕ). b < 256) p.bytes
+SendsBytes e = Unit {0}
+
+-- a digit's value
+digit_small : (c v : ℕ) → IsHexDigit c v → v < 16
+digit_small c v (inl low) = let less = low.1 in omega (arith, less)
+digit_small c v (inr high) = high.2
+
+byte_small : (w : List ℕ) (b : ℕ) → SpellsByte w b → b < 256
+byte_small w b s =
+    let high = digit_small s.high s.high_value s.is_high in
+    let low = digit_small s.low s.low_value s.is_low in
+    omega (arith, s.valued, high, low)
+
+bytes_small : (spelling : List (List ℕ)) (bytes : List ℕ) → SpellBytes spelling bytes → All (λ (b : ℕ). b < 256) bytes
+bytes_small [] [] spells = All-nil (λ (b : ℕ). b < 256)
+bytes_small [] (b ∷ bytes) spells = absurd spells
+bytes_small (w ∷ spelling) [] spells = absurd spells
+bytes_small (w ∷ spelling) (b ∷ bytes) spells = All-cons (λ (b : ℕ). b < 256) b bytes (byte_small w b spells.0) (bytes_small spelling bytes spells.1)
+
+packet_small : (list : List (List ℕ)) (packet : Packet) → parse_words list ≡ Ok packet → All (λ (b : ℕ). b < 256) packet.bytes
+packet_small list packet is =
+    let spelled : Spelled list [] packet = accepted list [] packet (omega arith) is in
+    subst (λ (bytes : List ℕ). All (λ (b : ℕ). b < 256) bytes) (sym spelled.bytes_are) (bytes_small spelled.spelling spelled.rest spelled.spelled)
+
+-- what a request sends is bytes
+abbrev RequestBytes : Request → Type 0
+RequestBytes (ask.Asked e) = SendsBytes e
+RequestBytes it = Unit {0}
+
+-- the value that is read is of use
+chained : {X Y F : Type 0} (P : Y → Type 0) (r : Result X F) (f : X → Result Y F) → ((x : X) → r ≡ Ok x → IfOk (f x) P) → IfOk (r >>= f) P
+chained P (Ok x) f each = each x refl
+chained P (Err kind) f each = tt
+
+checked : {Y F : Type 0} (P : Y → Type 0) (b : Bool) (kind : F) (r : Result Y F) → IfOk r P → IfOk (require b kind >> r) P
+checked P true kind r is = is
+checked P false kind r is = tt
+
+abbrev Fine : Result Request LineFault → Type 0
+Fine r = IfOk r RequestBytes
+
+asked : {X : Type 0} (x : Result X EventFault) (f : X → Event) → ((y : X) → SendsBytes (f y)) → RequestBytes (request_of x f)
+asked (Ok y) f each = each y
+asked (Err kind) f each = tt
+
+probed : {X : Type 0} (x : Result X EventFault) (f : X → Probe) → RequestBytes (probe_of x f)
+probed (Ok y) f = tt
+probed (Err kind) f = tt
+
+was_packet : (r : Result Packet TokenFault) (packet : Packet) → packet_of r ≡ Ok packet → r ≡ Ok packet
+was_packet (Ok p) packet is = let same : p ≡ packet = cc in ap Ok same
+was_packet (Err kind) packet is = cc
+
+module _ (plan : Plan) where
+  send_fine : (place : List ℕ) (list : List (List ℕ)) → Fine (send_line plan place list)
+  send_fine place list = chained RequestBytes (place_word place) _ (λ at was. chained RequestBytes (packet_of (parse_words list)) _ (λ packet is.
+      asked (terminal_at plan at) (λ t. event.Send t packet) (λ t. packet_small list packet (was_packet (parse_words list) packet is))))
+
+  drain_fine : (place : List ℕ) → Fine (drain_line plan place)
+  drain_fine place = chained RequestBytes (place_word place) _ (λ at was. asked (terminal_at plan at) event.Drain (λ t. tt))
+
+  cross_fine : (place : List ℕ) → Fine (cross_line plan place)
+  cross_fine place = chained RequestBytes (place_word place) _ (λ at was. asked (port_at plan at) event.Cross (λ p. tt))
+
+  credit_fine : (place : List ℕ) → Fine (credit_line plan place)
+  credit_fine place = chained RequestBytes (place_word place) _ (λ at was. asked (port_at plan at) event.Credit (λ p. tt))
+
+  input_fine : (place : List ℕ) (handed : Result ℕ LineFault) → Fine (input_line plan place handed)
+  input_fine place handed = chained RequestBytes (place_word place) _ (λ at was. chained RequestBytes handed _ (λ word is. asked (input_at plan at) (λ r. event.Input r.0 r.1 word) (λ r. tt)))
+
+  claim_fine : (place a b : List ℕ) → Fine (claim_line plan place a b)
+  claim_fine place a b = chained RequestBytes (place_word place) _ (λ at was. chained RequestBytes (number_word a) _ (λ i is. chained RequestBytes (number_word b) _ (λ o is'. asked (switch_at plan at) (λ s. event.Claim s i o) (λ s. tt))))
+
+  control_fine : (place : List ℕ) (list : List (List ℕ)) → Fine (control_line plan place list)
+  control_fine place list = checked RequestBytes (nat_le (length list) MAX_CONTROL_BYTES) fault.BadShape _ (chained RequestBytes (place_word place) _ (λ at was. chained RequestBytes (bytes_after [] list) _ (λ bytes is. asked (switch_at plan at) (λ s. event.Control s bytes) (λ s. tt))))
+
+  rounds_fine : (word : List ℕ) → Fine (rounds_line word)
+  rounds_fine word = chained RequestBytes (number_word word) _ (λ count is. checked RequestBytes (nat_le 1 count && nat_le count most_rounds) fault.BadNumber (Ok (ask.Rounds count)) tt)
+
+  peek_fine : (place addr : List ℕ) → Fine (peek_line plan place addr)
+  peek_fine place addr = chained RequestBytes (place_word place) _ (λ at was. chained RequestBytes (address_word addr) _ (λ a is. probed (switch_at plan at) _))
+
+  poke_fine : (place addr value : List ℕ) → Fine (poke_line plan place addr value)
+  poke_fine place addr value = chained RequestBytes (place_word place) _ (λ at was. chained RequestBytes (address_word addr) _ (λ a is. chained RequestBytes (register_word value) _ (λ v is'. probed (switch_at plan at) _)))
+
+  link_fine : (place : List ℕ) → Fine (link_line plan place)
+  link_fine place = chained RequestBytes (place_word place) _ (λ at was. probed (input_at plan at) _)
+
+  table_fine : (place : List ℕ) → Fine (table_line plan place)
+  table_fine place = chained RequestBytes (place_word place) _ (λ at was. probed (input_at plan at) _)
+
+  probe_fine : (word : ProbeVerb) (rest : List (List ℕ)) → Fine (probe_line word plan rest)
+  probe_fine asks.Peek (place ∷ addr ∷ []) = peek_fine place addr
+  probe_fine asks.Poke (place ∷ addr ∷ value ∷ []) = poke_fine place addr value
+  probe_fine asks.Link (place ∷ []) = link_fine place
+  probe_fine asks.Table (place ∷ []) = table_fine place
+  probe_fine asks.Verify [] = tt
+  probe_fine word rest = tt
+
+  verb_fine : (word : Verb) (rest : List (List ℕ)) → Fine (verb_line word plan rest)
+  verb_fine verb.Send (place ∷ list) = send_fine place list
+  verb_fine verb.Drain (place ∷ []) = drain_fine place
+  verb_fine verb.Cross (place ∷ []) = cross_fine place
+  verb_fine verb.Credit (place ∷ []) = credit_fine place
+  verb_fine verb.Input (place ∷ []) = input_fine place (Ok 0)
+  verb_fine verb.Input (place ∷ word ∷ []) = input_fine place (number_word word)
+  verb_fine verb.Claim (place ∷ a ∷ b ∷ []) = claim_fine place a b
+  verb_fine verb.Control (place ∷ list) = control_fine place list
+  verb_fine verb.Rounds (word ∷ []) = rounds_fine word
+  verb_fine (verb.Probe word) rest = probe_fine word rest
+  verb_fine word rest = tt
+
+  -- what a line asks sends bytes
+  abbrev pub AskedBytes : Option Request → Type 0
+  AskedBytes None = Unit {0}
+  AskedBytes (Some (ask.Asked e)) = SendsBytes e
+  AskedBytes (Some it) = Unit {0}
+
+  some_fine : (r : Result Request LineFault) → Fine r → IfOk (some_request r) AskedBytes
+  some_fine (Ok (ask.Asked e)) fine = fine
+  some_fine (Ok it) fine = tt
+  some_fine (Err kind) fine = tt
+
+  words_fine : (is_plain : Bool) (list : List (List ℕ)) → IfOk (read_script_words plan is_plain list) AskedBytes
+  words_fine is_plain [] = tt
+  words_fine is_plain (first ∷ rest) = chained AskedBytes (value_or_fault (verb_of first) fault.UnknownWord) _ (λ word is. checked AskedBytes is_plain fault.BadShape _ (some_fine (verb_line word plan rest) (verb_fine word rest)))
+
+  pub line_bytes : (line : List ℕ) → IfOk (read_script_line plan line) AskedBytes
+  unfolding read_script_line
+  line_bytes line = by_test (nat_le (length line) most_line)
+    where
+      by_test : (b : Bool) → IfOk (if b then read_script_words plan (is_plain_line (uncommented_line line)) (line_words (uncommented_line line)) else Err fault.LineTooLong) AskedBytes
+      by_test true = words_fine (is_plain_line (uncommented_line line)) (line_words (uncommented_line line))
+      by_test false = tt

@@ -1,0 +1,190 @@
+-- A network that nobody changed, with what its terminals have sent: by an event, by rounds, and by the debugger's peeks.
+use Rattle.std.proofs.Common.{◌≡◌, ◌∙◌, ◌+◌, ◌++◌, ◌&&◌, ℕ, suc, zero, Bool, true, false, List, [], ◌∷◌, Result, Ok, Err, append-nil, if◌then◌else◌, map, refl, sym, ap, subst, inl, arith, ◌≤◌}
+use Rattle.std.specs.List.{AllByRecursion}
+use Rattle.c104_token.specs.declared.packets.Packet.{Packet}
+use Rattle.c104_token.specs.declared.tokens.Token.{Token}
+use Rattle.c104_token.specs.Kinds.{plain_kind}
+use Rattle.c104_switch.specs.Actions.{Reply, is_ready}
+use Rattle.c104_plan.specs.Plans.{IsPlan, Plan}
+use Rattle.c104_plan.proofs.RangeLists.{each_append}
+use Rattle.c104_check.specs.Routes.{Routes}
+use Rattle.c104_event.specs.declared.events.Event.{Event}
+use Rattle.c104_event.specs.declared.events.Event.TheVariants as event
+use Rattle.c104_event.specs.declared.faults.EventFault.{EventFault}
+use Rattle.c104_event.specs.declared.faults.EventFault.TheVariants as fault
+use Rattle.c104_node.specs.declared.starts.NodeStart.{NodeStart}
+use Rattle.c104_node.specs.Starts.{start_node}
+use Rattle.c104_node.specs.Traces.{noted_all, seatless}
+use Rattle.c104_run.specs.EventDeeds.{event_deeds}
+use Rattle.c104_run.specs.EventRuns.{run_events, unless_fault}
+use Rattle.c104_run.specs.NetRecords.{IsNetRecord, NetRecord, is_done, ticket_after}
+use Rattle.c104_run.specs.Network.{Network, network_apply, network_of}
+use Rattle.c104_run.specs.RecordedRuns.{record_apply, record_at, record_stage}
+use Rattle.c104_run.specs.Rounds.{round, rounds}
+use Rattle.c104_run.specs.Runs.{IsRunRecord}
+use Rattle.c104_run.specs.Stages.{stage_after, stage_full}
+use Rattle.c104_run.proofs.RecordSteps.{done_made, same_record, ticket_left}
+use Rattle.c104_run.proofs.RecordedRuns.{record_kept}
+use Rattle.c104_run.proofs.RoundJoins.{apply_plan}
+use Rattle.c104_run.proofs.RoundRuns.{Applied, undone_left}
+use Rattle.c104_run.proofs.RunRecords.{record_on, seatless_order}
+use Rattle.c104_run.proofs.UndoneEvents.{undone_deeds}
+use Rattle.c104_net.specs.Deliveries.{sent_at}
+use Rattle.c104_net.specs.Unchanged.{IsUnchanged, MayHappen}
+use Rattle.c104_net.proofs.JointKeeps.{IsOfRound}
+use Rattle.c104_net.proofs.RoundMembers.{each_of_round}
+use Rattle.c104_net.proofs.SentBytes.{AreBytesSent, SendsBytes}
+use Rattle.c104_node.specs.Nodes.{Node}
+use Rattle.c104_session.specs.DeliveredRuns.{sends_weight}
+use Rattle.c104_session.specs.PrintedPackets.{event_sends, packets_of}
+use Rattle.c104_session.proofs.SentLists.{packets_append, sent_after}
+
+-- a number of nodes that an event makes larger by no more than what it sends weighs
+pub record Measure : Type 0 where
+  pub work : List (Node Token) → ℕ
+  pub first : ℕ
+  pub weight : ℕ
+
+-- a network with its record that nobody changed in a run from these starts, and whose terminals sent these packets
+pub record IsUnchangedNet (routes : Routes) (plan : Plan) (starts : List NodeStart) (m : Measure) (sends : List (ℕ × Packet)) (net : NetRecord) : Type 0 where
+  pub same_plan : net.network.plan ≡ plan
+  pub same_starts : net.starts ≡ starts
+  pub kept : IsNetRecord net
+  pub events : List (Event × Reply)
+  pub told : IsRunRecord plain_kind net.network.plan seatless (map start_node net.starts) net.network.nodes net.traces net.count events
+  pub bytes : AreBytesSent events
+  pub unchanged : IsUnchanged routes events
+  pub sent : (t : ℕ) → sent_at net.network t ≡ packets_of t sends
+  pub worked : m.work net.network.nodes ≤ m.first + sends_weight m.weight sends
+
+-- each event that may happen does so to a measure
+abbrev pub Grows : Routes → Plan → List NodeStart → Measure → Type 0
+Grows routes plan starts m = (sends : List (ℕ × Packet)) (net : NetRecord) (e : Event) (r : Reply) (next : Network Token) →
+    IsUnchangedNet routes plan starts m sends net → ◌≡◌ {A = Applied (Network Token)} (Ok r, next) (network_apply plain_kind net.network e) →
+    is_ready r ≡ true → MayHappen routes e r → SendsBytes e →
+    m.work next.nodes ≤ m.work net.network.nodes + sends_weight m.weight (event_sends e)
+
+pub weight_parts : (w : ℕ) (xs ys : List (ℕ × Packet)) → sends_weight w (xs ++ ys) ≡ sends_weight w xs + sends_weight w ys
+weight_parts w [] ys = omega arith
+weight_parts w (x ∷ xs) ys = let rest = weight_parts w xs ys in omega (arith, rest)
+
+unchanged_on : (routes : Routes) (events : List (Event × Reply)) (e : Event) (r : Reply) → IsUnchanged routes events → MayHappen routes e r → IsUnchanged routes (events ++ (e, r) ∷ [])
+unchanged_on routes [] e r all may = (may, tt)
+unchanged_on routes (d ∷ events) e r all may = (all.0, unchanged_on routes events e r all.1 may)
+
+-- what an event sends, where it was done
+abbrev pub sends_if : Bool → Event → List (ℕ × Packet)
+sends_if done e = if done then event_sends e else []
+
+module _ (routes : Routes) (plan : Plan) (is_plan : IsPlan plan) (starts : List NodeStart) (m : Measure) (grows : Grows routes plan starts m) where
+  abbrev Is : List (ℕ × Packet) → NetRecord → Type 0
+  Is sends net = IsUnchangedNet routes plan starts m sends net
+
+  -- one event
+  module _ (sends : List (ℕ × Packet)) (net : NetRecord) (e : Event) (bytes : SendsBytes e) (was : IsUnchangedNet routes plan starts m sends net) where
+    here_plan : IsPlan net.network.plan
+    here_plan = subst IsPlan (sym was.same_plan) is_plan
+
+    -- the record after an event that came to this in the network
+    abbrev after : Applied (Network Token) → NetRecord
+    after due = record_at net.starts (stage_after true (record_stage net) e due).1
+
+    abbrev IsDue : Applied (Network Token) → Type 0
+    IsDue due = due ≡ network_apply plain_kind net.network e
+
+    abbrev IsAfter : Applied (Network Token) → Type 0
+    IsAfter due = Is (sends ++ sends_if (is_done due.0) e) (after due)
+
+    none_more : {X : Type 0} (xs : List X) → xs ≡ xs ++ []
+    none_more xs = sym (append-nil xs)
+
+    -- it was done
+    done : (r : Reply) (next : Network Token) → IsDue (Ok r, next) → is_ready r ≡ true → MayHappen routes e r → IsNetRecord (after (Ok r, next)) → Is (sends ++ event_sends e) (after (Ok r, next))
+    done r next due ready may kept =
+        let same : next.plan ≡ net.network.plan = ap (λ (d : Applied (Network Token)). d.1.plan) due ∙ apply_plan plain_kind net.network e in
+        let whole : next ≡ network_of net.network.plan next.nodes = ap (λ p. network_of p next.nodes) same in
+        let there : ◌≡◌ {A = Applied (Network Token)} (Ok r, network_of net.network.plan next.nodes) (network_apply plain_kind net.network e) = ap (λ (n : Network Token). (Ok r, n)) (sym whole) ∙ due in
+        let on = record_on plain_kind net.network.plan seatless (map start_node net.starts) net.network.nodes next.nodes net.traces (noted_all true net.traces (event_deeds net.network.plan (seatless net.count) e r)) net.count was.events false e r was.kept.steady.in_place was.told (inl there) ready refl (seatless_order net.network.plan 0 (was.events ++ (e, r) ∷ [])) in
+        let counted : net.count + 1 ≡ ticket_after net.count (is_ready r) = ticket_left net (after (Ok r, next)) here_plan same was.kept e ∙ ap (ticket_after net.count) (sym ready) in
+        let step = done_made plain_kind net.network (network_of net.network.plan next.nodes) r e there ready in
+        record {
+          same_plan = same ∙ was.same_plan;
+          same_starts = was.same_starts;
+          kept = kept;
+          events = was.events ++ (e, r) ∷ [];
+          told = subst (λ p. IsRunRecord plain_kind p seatless (map start_node net.starts) next.nodes (after (Ok r, next)).traces (after (Ok r, next)).count (was.events ++ (e, r) ∷ [])) (sym same)
+              (subst (λ n. IsRunRecord plain_kind net.network.plan seatless (map start_node net.starts) next.nodes (after (Ok r, next)).traces n (was.events ++ (e, r) ∷ [])) counted on);
+          bytes = each_append (λ (x : Event × Reply). SendsBytes x.0) was.events ((e, r) ∷ []) was.bytes (bytes, tt);
+          unchanged = unchanged_on routes was.events e r was.unchanged may;
+          sent = λ t.
+              ap (λ (n : Network Token). sent_at n t) whole
+              ∙ sent_after plain_kind net.network.plan net.network.nodes next.nodes e r step t
+              ∙ ap (λ ps. ps ++ packets_of t (event_sends e)) (was.sent t)
+              ∙ sym (packets_append t sends (event_sends e));
+          worked =
+              let more = grows sends net e r next was due ready may bytes in
+              let all = weight_parts m.weight sends (event_sends e) in
+              omega (arith, more, all, was.worked);
+        }
+
+    -- it wasn't
+    undone : (answer : Result Reply EventFault) (next : Network Token) → IsDue (answer, next) → is_done answer ≡ false → Is sends (after (answer, next))
+    undone answer next due not =
+        let same : next ≡ net.network = ap (λ (d : Applied (Network Token)). d.1) due ∙ undone_left plain_kind net.network e (ap (λ (d : Applied (Network Token)). is_done d.0) (sym due) ∙ not) in
+        let traces : (after (answer, next)).traces ≡ net.traces = ap (noted_all true net.traces) (undone_deeds net.network.plan (seatless net.count) e answer not) in
+        let count : (after (answer, next)).count ≡ net.count = ap (ticket_after net.count) not in
+        subst (Is sends) (sym (same_record (after (answer, next)) net same refl traces count)) was
+
+    by_answer : (answer : Result Reply EventFault) (next : Network Token) → IsDue (answer, next) → ((r : Reply) → answer ≡ Ok r → MayHappen routes e r) → IsNetRecord (after (answer, next)) → IsAfter (answer, next)
+    by_answer (Err f) next due may kept = subst (λ (s : List (ℕ × Packet)). Is s (after (Err f, next))) (none_more sends) (undone (Err f) next due refl)
+    by_answer (Ok r) next due may kept = by_ready (is_ready r) refl
+      where
+        by_ready : (b : Bool) → is_ready r ≡ b → Is (sends ++ sends_if b e) (after (Ok r, next))
+        by_ready true ready = done r next due ready (may r refl) kept
+        by_ready false not = subst (λ (s : List (ℕ × Packet)). Is s (after (Ok r, next))) (none_more sends) (undone (Ok r) next due not)
+
+    abbrev or_full : Bool → Applied (Network Token)
+    or_full full = if full then (Err fault.TraceFull, net.network) else network_apply plain_kind net.network e
+
+    -- what an event leaves that may happen
+    pub event_leaves : ((r : Reply) → (record_apply net e).0 ≡ Ok r → MayHappen routes e r) → Is (sends ++ sends_if (is_done (record_apply net e).0) e) (record_apply net e).1
+    event_leaves may = by_full (stage_full true (record_stage net) e && is_done (network_apply plain_kind net.network e).0) may (record_kept net e here_plan was.kept)
+      where
+        by_full : (full : Bool) → ((r : Reply) → (or_full full).0 ≡ Ok r → MayHappen routes e r) → IsNetRecord (after (or_full full)) → IsAfter (or_full full)
+        by_full true may kept = subst (λ (s : List (ℕ × Packet)). Is s net) (none_more sends) was
+        by_full false may kept = by_answer (network_apply plain_kind net.network e).0 (network_apply plain_kind net.network e).1 refl may kept
+
+  -- events of a round send nothing, and may happen
+  none_sent : (e : Event) → IsOfRound e → (b : Bool) → sends_if b e ≡ []
+  none_sent (event.Send t p) of b = absurd of
+  none_sent (event.Control s bytes) of b = absurd of
+  none_sent e of true = refl
+  none_sent e of false = refl
+
+  no_bytes : (e : Event) → IsOfRound e → SendsBytes e
+  no_bytes (event.Send t p) of = absurd of
+  no_bytes e of = tt
+
+  may_happen : (e : Event) → IsOfRound e → (r : Reply) → MayHappen routes e r
+  may_happen (event.Send t p) of r = absurd of
+  may_happen (event.Control s bytes) of r = absurd of
+  may_happen e of r = tt
+
+  round_event : (sends : List (ℕ × Packet)) (net : NetRecord) (e : Event) → IsOfRound e → Is sends net → Is sends (record_apply net e).1
+  round_event sends net e of was =
+      subst (λ (s : List (ℕ × Packet)). Is s (record_apply net e).1) (ap (λ (s : List (ℕ × Packet)). sends ++ s) (none_sent e of (is_done (record_apply net e).0)) ∙ append-nil sends)
+      (event_leaves sends net e (no_bytes e of) was (λ r is. may_happen e of r))
+
+  -- what events of rounds leave
+  pub events_leave : (sends : List (ℕ × Packet)) (events : List Event) (net : NetRecord) → AllByRecursion IsOfRound events → Is sends net → Is sends (run_events record_apply net events).1
+  events_leave sends [] net of was = was
+  events_leave sends (e ∷ events) net of was = by_fault (λ next left. events_leave sends events next of.1 left) (record_apply net e).0 (record_apply net e).1 (round_event sends net e of.0 was)
+    where
+      by_fault : ((next : NetRecord) → Is sends next → Is sends (run_events record_apply next events).1) → (answer : Result Reply EventFault) (next : NetRecord) → Is sends next → Is sends (unless_fault answer next (λ n. run_events record_apply n events)).1
+      by_fault more (Ok r) next left = more next left
+      by_fault more (Err f) next left = left
+
+-- all events of rounds are events of a round
+pub of_rounds : (plan : Plan) (n : ℕ) → AllByRecursion IsOfRound (rounds plan n)
+of_rounds plan zero = tt
+of_rounds plan (suc n) = each_append IsOfRound (round plan) (rounds plan n) (each_of_round plan IsOfRound (λ p q wire. tt) (λ p q wire. tt) (λ s l q wire. tt) (λ s i o inside input output. tt) (λ t inside. tt)) (of_rounds plan n)

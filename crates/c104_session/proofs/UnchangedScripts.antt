@@ -1,0 +1,88 @@
+-- A script that changes nothing leaves a network that nobody changed, whose terminals sent what its lines sent.
+use Rattle.std.proofs.Common.{◌≡◌, ◌∙◌, ◌++◌, ℕ, suc, Bool, true, false, IfOk, List, [], ◌∷◌, Option, Some, None, Result, Ok, Err, append-nil, append_assoc, if◌then◌else◌, refl, sym, ap, subst}
+use Rattle.c104_token.specs.declared.packets.Packet.{Packet}
+use Rattle.c104_switch.specs.Actions.{Reply}
+use Rattle.c104_plan.specs.Plans.{IsPlan, Plan}
+use Rattle.c104_check.specs.Routes.{Routes}
+use Rattle.c104_event.specs.declared.events.Event.{Event}
+use Rattle.c104_event.specs.declared.faults.EventFault.{EventFault}
+use Rattle.c104_node.specs.declared.starts.NodeStart.{NodeStart}
+use Rattle.c104_run.specs.NetRecords.{NetRecord, is_done}
+use Rattle.c104_run.specs.RecordedRuns.{record_apply}
+use Rattle.c104_run.specs.Rounds.{rounds}
+use Rattle.c104_net.specs.Unchanged.{MayHappen}
+use Rattle.c104_net.proofs.SentBytes.{SendsBytes}
+use Rattle.c104_stream.specs.Scripts.{lines_outcome}
+use Rattle.c104_script.specs.Script.{read_script_line}
+use Rattle.c104_script.specs.declared.faults.LineFault.{LineFault}
+use Rattle.c104_script.specs.declared.places.Request.{Request}
+use Rattle.c104_script.specs.declared.places.Request.TheVariants as ask
+use Rattle.c104_script.specs.declared.probes.Probe.{Probe}
+use Rattle.c104_script.specs.declared.probes.Probe.TheVariants as probe
+use Rattle.c104_session.specs.PrintedPackets.{LeaveUnchanged, MayAsk, asked_sends, line_sends, lines_sent, was_done}
+use Rattle.c104_session.specs.Shown.{answer_of_read, event_answer, line_answer, line_outcome}
+use Rattle.c104_session.specs.declared.session.Session.{Session}
+use Rattle.c104_session.proofs.PeekedNets.{IsNoPoke, probe_leaves}
+use Rattle.c104_script.proofs.ScriptBytes.{AskedBytes, line_bytes}
+use Rattle.c104_session.proofs.UnchangedNets.{Grows, IsUnchangedNet, Measure, event_leaves, events_leave, of_rounds, sends_if}
+
+done_same : (a : Result Reply EventFault) → is_done a ≡ was_done (Some (event_answer a))
+done_same (Ok r) = refl
+done_same (Err f) = refl
+
+may_of : (routes : Routes) (e : Event) (a : Result Reply EventFault) → MayAsk routes (Ok (Some (ask.Asked e))) (Some (event_answer a)) → (r : Reply) → a ≡ Ok r → MayHappen routes e r
+may_of routes e (Ok q) may r is = let same : q ≡ r = cc in subst (MayHappen routes e) same may
+may_of routes e (Err f) may r is = absurd (cc is)
+
+none_if : {X : Type 0} (b : Bool) → ◌≡◌ {A = List X} (if b then [] else []) []
+none_if true = refl
+none_if false = refl
+
+module _ (routes : Routes) (plan : Plan) (is_plan : IsPlan plan) (starts : List NodeStart) (m : Measure) (grows : Grows routes plan starts m) where
+  abbrev Is : List (ℕ × Packet) → NetRecord → Type 0
+  Is sends net = IsUnchangedNet routes plan starts m sends net
+
+  -- what is read of a line sends this, where it is answered so
+  abbrev read_sends : Session → Result (Option Request) LineFault → List (ℕ × Packet)
+  read_sends session asked = if was_done (answer_of_read session asked).0 then asked_sends asked else []
+
+  module _ (sends : List (ℕ × Packet)) (session : Session) (was : IsUnchangedNet routes plan starts m sends session.net) where
+    abbrev IsAfter : Result (Option Request) LineFault → Type 0
+    IsAfter asked = Is (sends ++ read_sends session asked) (answer_of_read session asked).1.net
+
+    nothing : (b : Bool) (net : NetRecord) → Is sends net → Is (sends ++ (if b then [] else [])) net
+    nothing b net left = subst (λ (l : List (ℕ × Packet)). Is l net) (sym (ap (λ (l : List (ℕ × Packet)). sends ++ l) (none_if b) ∙ append-nil sends)) left
+
+    event_done : (e : Event) → SendsBytes e → MayAsk routes (Ok (Some (ask.Asked e))) (answer_of_read session (Ok (Some (ask.Asked e)))).0 → IsAfter (Ok (Some (ask.Asked e)))
+    event_done e bytes may =
+        subst (λ b. Is (sends ++ sends_if b e) (record_apply session.net e).1) (done_same (record_apply session.net e).0)
+        (event_leaves routes plan is_plan starts m grows sends session.net e bytes was (may_of routes e (record_apply session.net e).0 may))
+
+    poked : (it : Probe) → MayAsk routes (Ok (Some (ask.Probed it))) (answer_of_read session (Ok (Some (ask.Probed it)))).0 → IsNoPoke routes plan is_plan starts m grows sends it
+    poked (probe.Poke switch addr value) may = may
+    poked it may = tt
+
+    read_leaves : (asked : Result (Option Request) LineFault) → IfOk asked (AskedBytes plan) → MayAsk routes asked (answer_of_read session asked).0 → IsAfter asked
+    read_leaves (Ok None) bytes may = nothing false session.net was
+    read_leaves (Ok (Some (ask.Asked e))) bytes may = event_done e bytes may
+    read_leaves (Ok (Some (ask.Rounds count))) bytes may = nothing (was_done (answer_of_read session (Ok (Some (ask.Rounds count)))).0) _ (events_leave routes plan is_plan starts m grows sends (rounds session.net.network.plan count) session.net (of_rounds session.net.network.plan count) was)
+    read_leaves (Ok (Some (ask.Probed it))) bytes may = nothing (was_done (answer_of_read session (Ok (Some (ask.Probed it)))).0) _ (probe_leaves routes plan is_plan starts m grows sends session.net session.image it (poked it may) was)
+    read_leaves (Ok (Some (ask.Refused kind))) bytes may = nothing false session.net was
+    read_leaves (Err kind) bytes may = nothing false session.net was
+
+    -- a line that changes nothing
+    line_leaves : (line : List ℕ) → MayAsk routes (read_script_line session.net.network.plan line) (line_answer session line).0 → Is (sends ++ line_sends session line) (line_answer session line).1.net
+    unfolding line_answer
+    line_leaves line may = read_leaves (read_script_line session.net.network.plan line) (bytes (line_bytes session.net.network.plan line)) may
+      where
+        bytes : IfOk (read_script_line session.net.network.plan line) (AskedBytes session.net.network.plan) → IfOk (read_script_line session.net.network.plan line) (AskedBytes plan)
+        bytes is = subst (λ p. IfOk (read_script_line session.net.network.plan line) (AskedBytes p)) was.same_plan is
+
+  -- lines in turn
+  pub lines_leave : (lines : List (List ℕ)) (number : ℕ) (sends : List (ℕ × Packet)) (session : Session) → LeaveUnchanged routes session lines → Is sends session.net → Is (sends ++ lines_sent session lines) (lines_outcome line_outcome number session lines).1.net
+  unfolding line_outcome
+  lines_leave [] number sends session all was = subst (λ (l : List (ℕ × Packet)). Is l session.net) (sym (append-nil sends)) was
+  lines_leave (line ∷ lines) number sends session all was =
+      let after : Session = (line_answer session line).1 in
+      subst (λ (l : List (ℕ × Packet)). Is l (lines_outcome line_outcome (suc number) after lines).1.net) (append_assoc sends (line_sends session line) (lines_sent after lines))
+      (lines_leave lines (suc number) (sends ++ line_sends session line) after all.1 (line_leaves sends session was line all.0))

@@ -1,0 +1,210 @@
+-- An event that may happen makes the work that is left larger by no more than the weight of the tokens that it sends.
+use Rattle.std.proofs.Common.{◌≡◌, ◌∙◌, ◌+◌, ◌*◌, ◌-◌, ◌≤◌, ◌<◌, ℕ, suc, zero, true, false, List, [], ◌∷◌, Option, Some, None, Result, Ok, arith, length, length-append, map, refl, slice_get, slice_set, sym, ap, subst, ⊎_elim}
+use Rattle.std.proofs.Math.Nat.{suc-mul, zero-mul}
+use Rattle.std.proofs.lemmas.Bool.{cases_Bool}
+use Rattle.std.proofs.lemmas.List.{length-map}
+use Rattle.std.proofs.lemmas.Option.{some_pair_parts}
+use Rattle.c104_token.specs.Kinds.{Kind, plain_kind}
+use Rattle.c104_token.specs.Packets.{packet_tokens}
+use Rattle.c104_token.specs.Tokens.{end_token}
+use Rattle.c104_token.specs.declared.packets.Packet.{Packet}
+use Rattle.c104_token.specs.declared.tokens.Token.{Token}
+use Rattle.c104_token.specs.declared.tokens.Token.TheVariants.{Byte}
+use Rattle.c104_control.specs.Reading.{read_command}
+use Rattle.c104_regs.specs.declared.settings.Settings.{Settings}
+use Rattle.c104_link.specs.Steps.{step_at, yield_step_at}
+use Rattle.c104_link.proofs.MadeSteps.{at_place_made, from_place_made, given}
+use Rattle.c104_switch.specs.Actions.{Reply, is_ready}
+use Rattle.c104_switch.specs.Control.{switch_control}
+use Rattle.c104_switch.specs.declared.actions.ReplyOf.TheVariants as reply
+use Rattle.c104_check.specs.ChannelDependencies.{IsRanking}
+use Rattle.c104_check.specs.Routes.{IsAccepted, Routes, link_settings, routes_of}
+use Rattle.c104_check.specs.Walks.{port_of}
+use Rattle.c104_check.specs.declared.ports.SwitchPort.{SwitchPort}
+use Rattle.c104_plan.specs.PlanImage.{Image}
+use Rattle.c104_plan.specs.Plans.{IsPlan, Plan}
+use Rattle.c104_plan.specs.Wiring.{peer}
+use Rattle.c104_plan.specs.declared.ports.Port.{Port}
+use Rattle.c104_plan.specs.declared.ports.Port.TheVariants as port
+use Rattle.c104_event.specs.declared.events.Event.{Event}
+use Rattle.c104_event.specs.declared.events.Event.TheVariants as event
+use Rattle.c104_event.specs.declared.faults.EventFault.{EventFault}
+use Rattle.c104_node.specs.Nodes.{Node, node_control, node_send}
+use Rattle.c104_node.specs.Starts.{start_node}
+use Rattle.c104_node.specs.Terminals.{sent_from, sent_tokens, terminal_send}
+use Rattle.c104_node.specs.Traced.{traced_kind}
+use Rattle.c104_node.specs.declared.node.NodeOf.TheVariants as node
+use Rattle.c104_node.specs.declared.starts.NodeStart.{NodeStart}
+use Rattle.c104_node.specs.declared.traced.Traced.{Traced}
+use Rattle.c104_run.specs.Network.{Network, network_apply, network_of, network_step, placed_network, terminal_place}
+use Rattle.c104_run.specs.Runs.{IsDoneRun}
+use Rattle.c104_run.specs.TracedRuns.{map_network}
+use Rattle.c104_run.proofs.EventSteps.{control_named, send_named}
+use Rattle.c104_run.proofs.RecordSteps.{done_made}
+use Rattle.c104_run.proofs.RoundRuns.{Applied}
+use Rattle.c104_run.proofs.StepMaps.{apply_map}
+use Rattle.c104_net.specs.HeaderWork.{ahead_at, ahead_by, full_node, random_ahead, random_bound, random_work}
+use Rattle.c104_net.specs.RoundEvents.{IsOfRound}
+use Rattle.c104_net.specs.Unchanged.{AreStartsOf, IsHarmless, IsUnchanged, MayHappen}
+use Rattle.c104_net.specs.Work.{level, weigh}
+use Rattle.c104_net.proofs.CommandEvents.{read_sides}
+use Rattle.c104_net.proofs.PacketInvariant.{IsLabelled}
+use Rattle.c104_net.proofs.Promises.{each, starts}
+use Rattle.c104_net.proofs.RoundsEnd.{work_map}
+use Rattle.c104_net.proofs.RunSteps.{header_positive}
+use Rattle.c104_net.proofs.SentBytes.{AreBytesSent, SendsBytes}
+use Rattle.c104_net.proofs.StartMaps.{starts_are}
+use Rattle.c104_net.proofs.TracedRuns.{token_of, traced_from}
+use Rattle.c104_net.proofs.WorkBounds.{weigh_is, weigh_more}
+use Rattle.c104_net.proofs.WorkEvents.{event_less}
+use Rattle.c104_net.proofs.WorkRounds.{falling}
+use Rattle.c104_net.proofs.WorkSteps.{sum_set, weigh-append}
+use Rattle.c104_session.specs.DeliveredRuns.{sends_weight, token_weight}
+use Rattle.c104_session.specs.PrintedPackets.{event_sends}
+use Rattle.c104_session.proofs.UnchangedNets.{Grows, Measure}
+
+times_more : (n a b : ℕ) → a ≤ b → n * a ≤ n * b
+times_more zero a b less = let one = zero-mul a in let other = zero-mul b in omega (arith, one, other)
+times_more (suc n) a b less =
+    let rest = times_more n a b less in
+    let one = suc-mul n a in
+    let other = suc-mul n b in
+    omega (arith, rest, one, other, less)
+
+length_sent : {A : Type 0} (kind : Kind A) (t n j : ℕ) (xs : List Token) → length (sent_from kind t n j xs) ≡ length xs
+length_sent kind t n j [] = refl
+length_sent kind t n j (x ∷ xs) = ap suc (length_sent kind t n (suc j) xs)
+
+length_tokens : (t n : ℕ) (p : Packet) → length (sent_tokens plain_kind t n p) ≡ length p.bytes + 1
+length_tokens t n p =
+    length_sent plain_kind t n 0 (packet_tokens p) ∙ length-append (map Byte p.bytes) (end_token p.mark ∷ []) ∙ ap (λ k. k + 1) (length-map p.bytes Byte)
+
+-- the work by ranks, from its bound at the start on
+abbrev pub work_measure : Plan → Image → (SwitchPort → ℕ) → Measure
+work_measure plan image rank = record {
+  work = random_work plan (routes_of plan image) rank;
+  first = random_bound {A = Token} plan (routes_of plan image) (placed_network plan image).nodes;
+  weight = token_weight plan (routes_of plan image);
+}
+
+module _ (plan : Plan) (image : Image) (is_plan : IsPlan plan) (accepted : IsAccepted (routes_of plan image)) (first : List NodeStart) (set : AreStartsOf plan image first) (rank : SwitchPort → ℕ) (falls : IsRanking (routes_of plan image) rank)
+    (within : (p : SwitchPort) → rank p ≤ 32 * length plan.switches) where
+  abbrev routes : Routes
+  routes = routes_of plan image
+
+  abbrev ahead : SwitchPort → ℕ
+  ahead = random_ahead routes rank
+
+  abbrev weight : ℕ
+  weight = token_weight plan routes
+
+  -- no token that waits weighs more
+  ahead_low : (p : SwitchPort) (x : Option Settings) → ahead_by routes.header (rank p) x ≤ routes.header * (8 * (32 * length plan.switches + 1)) + 1
+  ahead_low p None = omega arith
+  ahead_low p (Some x) = ⊎_elim
+      (λ (k : x.randomize ≡ true). rw k (let low = within p in let more = times_more routes.header (8 * (rank p + 1)) (8 * (32 * length plan.switches + 1)) (omega (arith, low)) in omega (arith, more)))
+      (λ (k : x.randomize ≡ false). rw k (omega arith))
+      (cases_Bool x.randomize)
+
+  port_low : (q : Option Port) → 8 * level plan rank q + 4 + ahead_at plan rank ahead q ≤ weight
+  port_low None = omega arith
+  port_low (Some (port.Terminal t)) = omega arith
+  port_low (Some (port.Switch s l)) =
+      let low = within (port_of s l) in
+      let more = ahead_low (port_of s l) (link_settings routes.settings (port_of s l)) in
+      omega (arith, low, more)
+
+  module _ (nodes : List (Node Token)) (next : Network Token) (r : Reply) where
+    abbrev work : List (Node Token) → ℕ
+    work ns = random_work plan routes rank ns
+
+    abbrev Step : Event → Type 0
+    Step e = network_step plain_kind (network_of plan nodes) e ≡ Some (r, next)
+
+    abbrev IsGrown : Event → Type 0
+    IsGrown e = work next.nodes ≤ work nodes + sends_weight weight (event_sends e)
+
+    -- a packet is sent
+    send_grows : (t : ℕ) (p : Packet) → Step (event.Send t p) → IsGrown (event.Send t p)
+    send_grows t p is =
+        given (step_at nodes (terminal_place plan t) (node_send plain_kind t p)) _ (r, next) (send_named plain_kind (network_of plan nodes) t p ∙ is) (λ after made last.
+        at_place_made nodes (terminal_place plan t) (node_send plain_kind t p) after made (λ n m here sent put.
+        (let same : network_of plan after ≡ next = (some_pair_parts reply.Done r (network_of plan after) next last).1 in
+        subst (λ (net : Network Token). work net.nodes ≤ work nodes + sends_weight weight (event_sends (event.Send t p))) same
+        (subst (λ ns. work ns ≤ work nodes + sends_weight weight (event_sends (event.Send t p))) put (by_node n m here sent)))))
+      where
+        by_node : (n m : Node Token) → slice_get nodes (terminal_place plan t) ≡ Some n → node_send plain_kind t p n ≡ Some m → work (slice_set nodes (terminal_place plan t) m) ≤ work nodes + sends_weight weight (event_sends (event.Send t p))
+        by_node (node.Switch S) m here sent = absurd (cc)
+        by_node (node.Terminal T) m here sent =
+            let same : node.Terminal (terminal_send plain_kind t p T) ≡ m = cc in
+            let k : ℕ = terminal_place plan t in
+            let q : Option Port = peer plan (port.Terminal (k - length plan.switches)) in
+            let each : ℕ = 8 * level plan rank q + 4 + ahead_at plan rank ahead q in
+            let tokens : List Token = sent_tokens plain_kind t (length T.sent) p in
+            let all = sum_set (full_node plan rank ahead) nodes k (node.Terminal T) (node.Terminal (terminal_send plain_kind t p T)) here in
+            let more = weigh-append each T.output.items tokens in
+            let heavy = weigh_more each weight (port_low q) tokens in
+            let counted : weigh weight tokens ≡ (length p.bytes + 1) * weight = sym (weigh_is weight tokens) ∙ ap (λ n. n * weight) (length_tokens t (length T.sent) p) in
+            subst (λ n. work (slice_set nodes k n) ≤ work nodes + sends_weight weight (event_sends (event.Send t p))) same (omega (arith, all, more, heavy, counted))
+
+    -- a command is harmless
+    control_grows : (s : ℕ) (bytes : List ℕ) → IsHarmless bytes r → Step (event.Control s bytes) → IsGrown (event.Control s bytes)
+    control_grows s bytes may is =
+        given (yield_step_at nodes s (node_control bytes)) _ (r, next) (control_named plain_kind (network_of plan nodes) s bytes ∙ is) (λ v ev e2.
+        from_place_made nodes s (node_control bytes) v ev (λ n y en ey hv. by_node n y en ey v hv e2))
+      where
+        by_node : (n : Node Token) (y : List ℕ × Node Token) → slice_get nodes s ≡ Some n → node_control bytes n ≡ Some y → (v : List ℕ × List (Node Token)) → ◌≡◌ {A = List ℕ × List (Node Token)} (y.0, slice_set nodes s y.1) v → ◌≡◌ {A = Option (Reply × Network Token)} (Some (reply.Control v.0, network_of plan v.1)) (Some (r, next)) → IsGrown (event.Control s bytes)
+        by_node (node.Terminal T) y en ey v hv e2 = absurd (cc)
+        by_node (node.Switch S) y en ey v hv e2 =
+            let parts = some_pair_parts (reply.Control v.0) r (network_of plan v.1) next e2 in
+            let made = switch_control S bytes in
+            let dy : ◌≡◌ {A = List ℕ × Node Token} (made.0, node.Switch made.1) y = cc in
+            let told : reply.Control made.0 ≡ r = ap (λ (z : List ℕ × Node Token). reply.Control z.0) dy ∙ ap (λ (z : List ℕ × List (Node Token)). reply.Control z.0) hv ∙ parts.0 in
+            let same = read_sides S (read_command bytes) may.0 (λ e. may.1 (sym told ∙ ap reply.Control e)) in
+            let dv : slice_set nodes s (node.Switch made.1) ≡ v.1 = ap (λ (w : List ℕ × Node Token). slice_set nodes s w.1) dy ∙ ap (λ (w : List ℕ × List (Node Token)). w.1) hv in
+            let all = sum_set (full_node plan rank ahead) nodes s (node.Switch S) (node.Switch made.1) en in
+            let inputs : full_node plan rank ahead s (node.Switch made.1) ≡ full_node plan rank ahead s (node.Switch (record S { outputs = made.1.outputs })) = ap (λ ps. full_node plan rank ahead s (node.Switch (record S { inputs = ps; outputs = made.1.outputs }))) same.inputs in
+            let outputs : full_node plan rank ahead s (node.Switch (record S { outputs = made.1.outputs })) ≡ full_node plan rank ahead s (node.Switch S) = ap (λ qs. full_node plan rank ahead s (node.Switch (record S { outputs = qs }))) same.outputs in
+            subst (λ (net : Network Token). work net.nodes ≤ work nodes + 0) parts.1 (subst (λ ns. work ns ≤ work nodes + 0) dv (omega (arith, all, inputs, outputs)))
+
+  -- an event of a round leaves less
+  module _ (nodes : List (Node Token)) (events : List (Event × Reply)) (run : IsDoneRun plain_kind (network_of plan (map start_node first)) events (network_of plan nodes)) (unchanged : IsUnchanged routes events) (bytes : AreBytesSent events) where
+    round_less : (e : Event) (x : Reply) (after : Network Token) → IsOfRound e → ◌≡◌ {A = Applied (Network Token)} (Ok x, after) (network_apply plain_kind (network_of plan nodes) e) → is_ready x ≡ true → random_work plan routes rank after.nodes < random_work plan routes rank nodes
+    round_less e x after of due ready =
+        let found = traced_from plan first nodes events run in
+        let mid : Network Traced = network_of plan found.0 in
+        let labelled : IsLabelled routes = record { accepted = accepted; positive = header_positive plan image } in
+        let k = each plan image is_plan labelled (map start_node first) mid events found.1.run unchanged bytes (starts plan image is_plan labelled (map start_node first) (starts_are plan image first set)) in
+        let next : Network Traced = (network_apply traced_kind mid e).1 in
+        let both : ◌≡◌ {A = Applied (Network Token)} ((network_apply traced_kind mid e).0, map_network token_of next) (Ok x, after) =
+        sym (apply_map token_of traced_kind plain_kind (λ x. refl) (λ j b. refl) (λ t n j x. refl) mid e) ∙ ap (λ ns. network_apply plain_kind (network_of plan ns) e) found.1.plain ∙ sym due in
+        let answered : ◌≡◌ {A = Applied (Network Traced)} (Ok x, next) (network_apply traced_kind mid e) = ap (λ (o : Result Reply EventFault). (o, next)) (sym (ap (λ (z : Applied (Network Token)). z.0) both)) in
+        let made = done_made traced_kind (network_of plan k.0) next x e (answered ∙ ap (λ n. network_apply traced_kind n e) (sym k.1)) ready in
+        let less = event_less traced_kind plan is_plan rank ahead k.0 k.2.placed (falling plan image is_plan labelled rank falls k.0 k.2) e x next of made in
+        let before : random_work plan routes rank k.0 ≡ random_work plan routes rank nodes =
+        ap (λ (n : Network Traced). random_work plan routes rank n.nodes) k.1 ∙ sym (work_map token_of plan routes rank found.0) ∙ ap (random_work plan routes rank) found.1.plain in
+        let later : random_work plan routes rank next.nodes ≡ random_work plan routes rank after.nodes =
+        sym (work_map token_of plan routes rank next.nodes) ∙ ap (λ (z : Applied (Network Token)). random_work plan routes rank z.1.nodes) both in
+        omega (arith, less, before, later)
+
+  pub work_grows : Grows routes plan first (work_measure plan image rank)
+  work_grows sends net e r next was due ready may bytes = by_event e due may bytes
+    where
+      nodes : List (Node Token)
+      nodes = net.network.nodes
+
+      there : (e : Event) → ◌≡◌ {A = Applied (Network Token)} (Ok r, next) (network_apply plain_kind net.network e) → ◌≡◌ {A = Applied (Network Token)} (Ok r, next) (network_apply plain_kind (network_of plan net.network.nodes) e)
+      there e due = due ∙ ap (λ p. network_apply plain_kind (network_of p net.network.nodes) e) was.same_plan
+
+      step : (e : Event) → ◌≡◌ {A = Applied (Network Token)} (Ok r, next) (network_apply plain_kind net.network e) → network_step plain_kind (network_of plan net.network.nodes) e ≡ Some (r, next)
+      step e due = done_made plain_kind (network_of plan net.network.nodes) next r e (there e due) ready
+
+      run : IsDoneRun plain_kind (network_of plan (map start_node first)) was.events (network_of plan net.network.nodes)
+      run =
+          subst (λ ss. IsDoneRun plain_kind (network_of plan (map start_node ss)) was.events (network_of plan net.network.nodes)) was.same_starts
+          (subst (λ p. IsDoneRun plain_kind (network_of p (map start_node net.starts)) was.events (network_of p net.network.nodes)) was.same_plan was.told.run)
+
+      by_event : (e : Event) → ◌≡◌ {A = Applied (Network Token)} (Ok r, next) (network_apply plain_kind net.network e) → MayHappen routes e r → SendsBytes e → random_work plan routes rank next.nodes ≤ random_work plan routes rank net.network.nodes + sends_weight weight (event_sends e)
+      by_event (event.Send t p) due may bytes = send_grows net.network.nodes next r t p (step (event.Send t p) due)
+      by_event (event.Control s command) due may bytes = control_grows net.network.nodes next r s command may (step (event.Control s command) due)
+      by_event e due may bytes = let less = round_less net.network.nodes was.events run was.unchanged was.bytes e r next tt (there e due) ready in omega (arith, less)

@@ -1,0 +1,89 @@
+-- What a run prints where its script leaves the network as it was set up, no channel depends on itself, and the script ends
+-- with rounds enough: each packet that was sent with a whole header that a terminal owns.
+--     EndsWithRounds plan image script      there are rounds enough
+--     PrintsAllSent plan image script      what follows
+use Rattle.std.specs.Prelude.{ℕ, ◌+◌, ◌*◌, ◌≡◌, ◌<◌, true, length, List, [], ◌∷◌, ◌++◌, slice_get, Option, Some, None, Result, Ok}
+use Rattle.c104_plan.specs.Plans.{Plan}
+use Rattle.c104_plan.specs.PlanImage.{Image}
+use Rattle.c104_check.specs.ChannelDependencies.{IsAcyclic}
+use Rattle.c104_check.specs.Routes.{Routes, routes_of}
+use Rattle.c104_regs.specs.declared.registers.TheConstants.{LINKS}
+use Rattle.c104_run.specs.Network.{placed_network}
+use Rattle.c104_token.specs.declared.packets.Packet.{Packet}
+use Rattle.c104_token.specs.declared.tokens.Token.{Token}
+use Rattle.c104_net.specs.HeaderWork.{random_bound}
+use Rattle.c104_node.specs.declared.origins.Origin.{Origin}
+use Rattle.c104_stream.specs.ScriptLines.{script_lines}
+use Rattle.c104_stream.specs.Scripts.{lines_outcome}
+use Rattle.c104_script.specs.Script.{read_script_line}
+use Rattle.c104_script.specs.declared.answers.Answer.{Answer}
+use Rattle.c104_script.specs.declared.faults.LineFault.{LineFault}
+use Rattle.c104_script.specs.declared.places.Request.{Request}
+use Rattle.c104_script.specs.declared.places.Request.TheVariants as ask
+use Rattle.c104_session.specs.PrintedPackets.{IsSentTo, IsUnchangedRun, PrintsPackets, script_sent, was_done}
+use Rattle.c104_session.specs.Shown.{line_answer, line_outcome, new_session}
+use Rattle.c104_session.specs.declared.session.Session.{Session}
+
+-- a line that has no words, or asks for rounds, all of which were done
+abbrev pub IsRoundsLine : Result (Option Request) LineFault → Option Answer → Type 0
+IsRoundsLine (Ok None) answer = Unit {0}
+IsRoundsLine (Ok (Some (ask.Rounds count))) answer = was_done answer ≡ true
+IsRoundsLine asked answer = ⊥
+
+-- how many rounds it asks for
+abbrev pub rounds_asked : Result (Option Request) LineFault → ℕ
+rounds_asked (Ok (Some (ask.Rounds count))) = count
+rounds_asked asked = 0
+
+-- each of these lines is one
+abbrev pub AreRoundsLines : Session → List (List ℕ) → Type 0
+AreRoundsLines session [] = Unit {0}
+AreRoundsLines session (line ∷ more) =
+    IsRoundsLine (read_script_line session.net.network.plan line) (line_answer session line).0
+    × AreRoundsLines (line_answer session line).1 more
+
+-- how many rounds they ask for in all
+abbrev pub rounds_in : Plan → List (List ℕ) → ℕ
+rounds_in plan [] = 0
+rounds_in plan (line ∷ more) = rounds_asked (read_script_line plan line) + rounds_in plan more
+
+-- the session after the first lines of a script
+abbrev pub session_after : Plan → Image → List (List ℕ) → Session
+session_after plan image lines = (lines_outcome line_outcome 1 (new_session plan image) lines).1
+
+-- the most that a token weighs in the work that is left: eight for each input that it may pass, and a little more; and as much
+-- for each byte of the random header that may be put before it
+abbrev pub token_weight : Plan → Routes → ℕ
+token_weight plan routes =
+    8 * (LINKS * length plan.switches + 1) + 4 + (routes.header * (8 * (LINKS * length plan.switches + 1)) + 1)
+
+-- as much for each token of these packets, their terminators too
+abbrev pub sends_weight : ℕ → List (ℕ × Packet) → ℕ
+sends_weight weight [] = 0
+sends_weight weight (s ∷ sends) = (length s.1.bytes + 1) * weight + sends_weight weight sends
+
+-- more rounds than this are enough: the room that all buffers may grant at the start, and the weight of what a script sends
+abbrev pub rounds_enough : Plan → Image → List ℕ → ℕ
+rounds_enough plan image script =
+    random_bound {A = Token} plan (routes_of plan image) (placed_network plan image).nodes
+    + sends_weight (token_weight plan (routes_of plan image)) (script_sent plan image script)
+
+-- a script ends with rounds, on however many lines, and they are enough in all
+pub record EndsWithRounds (plan : Plan) (image : Image) (script : List ℕ) : Type 0 where
+  pub front : List (List ℕ)
+  pub back : List (List ℕ)
+  pub lines : script_lines script ≡ front ++ back
+  pub rounds : AreRoundsLines (session_after plan image front) back
+  pub enough : rounds_enough plan image script < rounds_in plan back
+
+-- what is printed behind the answers are the lines of the packets that were sent, each with a whole header that a terminal
+-- owns, and of these each once
+pub record PrintsAllPackets (plan : Plan) (image : Image) (script : List ℕ) : Type 0 where
+  pub prints : PrintsPackets plan image script
+  pub all : (t : ℕ) (o : Origin) → IsSentTo (routes_of plan image) (script_sent plan image script) t o →
+      (k : ℕ) × (slice_get (prints.shown t) k ≡ Some o)
+
+-- the theorem about deadlock, of what a run prints
+abbrev pub PrintsAllSent : Plan → Image → List ℕ → Type 0
+PrintsAllSent plan image script = IsUnchangedRun plan image script → IsAcyclic (routes_of plan image) →
+    EndsWithRounds plan image script → PrintsAllPackets plan image script
