@@ -21,7 +21,8 @@ use c104_describe::read_description;
 use c104_mistakes::{About, Messages};
 use c104_plan::MAX_DESCRIPTION;
 pub use c104_run_commands::{
-    debug_command, draw_over_time_command, draw_state_command, run, run_text, stats_command,
+    debug_command, draw_over_time_command, draw_state_command, lockup_command, run, run_text,
+    stats_command,
 };
 pub use c104_storm_command::storm_command;
 use c104_stream::{ReadFault, read_up_to};
@@ -114,6 +115,7 @@ fn do_order<H: Threads + Wait + Sync>(
         Subcommand::Storm => storm_files(rt, threads, order, told),
         Subcommand::Stats => count_files(rt, order, told),
         Subcommand::Check => check_file(rt, order.description, told),
+        Subcommand::Cycles if order.lockup => lock_file(rt, order.description, told),
         Subcommand::Cycles => search_file(rt, order.description, order.all, told),
         Subcommand::Label => label_file(rt, order, told),
         Subcommand::Draw => draw_order(rt, order, told),
@@ -219,6 +221,16 @@ fn search_file(rt: &HostRuntime, description: &str, all: bool, told: &mut Told<'
         return Status::CannotRead(0);
     };
     let status = cycles_command(rt.alloc(), &mut description, all, &mut io::writer(rt), told);
+    told.note_fault(description.fault());
+    status
+}
+
+/// Looks for a script that locks up the network of a description's file.
+fn lock_file(rt: &HostRuntime, description: &str, told: &mut Told<'_>) -> Status {
+    let Some(mut description) = open_path(rt, description, told) else {
+        return Status::CannotRead(0);
+    };
+    let status = lockup_command(rt.alloc(), &mut description, &mut io::writer(rt), told);
     told.note_fault(description.fault());
     status
 }

@@ -1,6 +1,6 @@
-mod Refusals
+pub mod Refusals
 mod ImageLines
-mod CycleLemmas
+pub mod CycleLemmas
 mod RowLemmas
 mod RowTables
 mod RowTexts

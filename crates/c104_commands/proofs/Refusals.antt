@@ -37,7 +37,7 @@ runs_on prints None held before holds plan image ended same is ends = tt
 runs_on prints (Some description) held before holds plan image ended same is ends = rw same (ends (read_description description) is)
 
 -- refused labels end any command that prints them as `check` does
-labels_refused : (prints : Printed) (due : Result Plan PlanFault) (plan : Plan) (image : Image) (held holds : Option (List ℕ)) (ended : Status) → ((text : List ℕ) → IsRefusedBy plan image text → prints plan image text true) → ComesTo due (Ok (plan, image)) → LabelRefusalEnds plan image held holds ended → CommandEnds prints due held holds ended
+pub labels_refused : (prints : Printed) (due : Result Plan PlanFault) (plan : Plan) (image : Image) (held holds : Option (List ℕ)) (ended : Status) → ((text : List ℕ) → IsRefusedBy plan image text → prints plan image text true) → ComesTo due (Ok (plan, image)) → LabelRefusalEnds plan image held holds ended → CommandEnds prints due held holds ended
 labels_refused prints due plan image held holds status.Done printed comes ends = absurd ends
 labels_refused prints due plan image held holds status.Refused printed comes ends = (Ok (plan, image), comes, ends.0, printed ends.0 ends.1, ends.2)
 labels_refused prints due plan image held holds (status.CannotRead n) printed comes ends = absurd ends

@@ -99,8 +99,9 @@ fn tell_of_cycles<M: Messages>(alloc: Global, setup: &Setup, messages: &mut M)
     tell_lines(advice.as_str(), messages);
 }
 
-/// Tells why the labels of a network are refused, which ends any command that checks them.
-pub(crate) fn refuse_labels<W: Write, M: Messages>(
+/// Tells why the labels of a network are refused, which ends any command that checks them: first it writes that, and then it
+/// tells people of it. Out of memory nothing is written.
+pub fn refuse_labels<W: Write, M: Messages>(
     alloc: Global,
     setup: &Setup,
     fault: &CheckFault,

@@ -8,8 +8,8 @@ use c104_check::{ChannelDependency, DependencyEdge, SwitchPort};
 use c104_plan::Plan;
 use std::alloc::{AllocError, Global};
 
-/// The line of a network without a cycle.
-pub(crate) fn acyclic_text(alloc: Global) -> Result<String, AllocError>
+/// The line of a network without a cycle. The only error is out of memory.
+pub fn acyclic_text(alloc: Global) -> Result<String, AllocError>
     ensures { IfOk result (λ text. string_bytes text ≡ acyclic_text) }
 {
     format!(in alloc; "acyclic\n")

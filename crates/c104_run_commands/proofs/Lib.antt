@@ -4,3 +4,4 @@ mod StateLemmas
 mod OverTimeLemmas
 mod CountStatuses
 pub mod PrintedRunsLaw
+mod LockupLemmas

@@ -3,3 +3,4 @@ pub mod StatePictures
 pub mod OverTime
 pub mod Counts
 pub mod PrintedRuns
+pub mod Lockups

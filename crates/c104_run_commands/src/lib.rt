@@ -11,12 +11,14 @@
 #![tactic(auto)]
 
 mod counts;
+mod lockups;
 mod over_time;
 mod runs;
 mod states;
 
 pub use c104_session::{Asked, Format, Printing, What};
 pub use counts::stats_command;
+pub use lockups::lockup_command;
 pub use over_time::draw_over_time_command;
 pub use runs::{debug_command, run, run_text};
 pub use states::draw_state_command;

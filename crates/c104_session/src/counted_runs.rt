@@ -184,7 +184,7 @@ fn add_behind<M: Messages>(
 }
 
 /// Whether a network stands still with tokens in it.
-fn is_locked(net: &TracedNet) -> bool
+pub fn is_locked(net: &TracedNet) -> bool
     ensures { IsTrue result ↔ IsDeadlocked plain_kind net.now.network }
 {
     net.stands_still() && !net.quiet()

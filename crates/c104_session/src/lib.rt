@@ -42,7 +42,7 @@ mod tools;
 pub use answering::answer_script;
 pub use c104_stats::{Format, What};
 pub use c104_timeline::{Asked, Period};
-pub use counted_runs::{Printing, count_plan};
+pub use counted_runs::{Printing, count_plan, is_locked};
 pub use ended::EndedNet;
 pub use runs::run_plan;
 pub use session::{Ended, Session};

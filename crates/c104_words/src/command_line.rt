@@ -54,6 +54,8 @@ pub struct Order<'a> {
     pub picture: PictureWords,
     /// Whether all dependencies are listed.
     pub all: bool,
+    /// Whether a script is looked for that locks the network up.
+    pub lockup: bool,
     /// Whether labels are shown as a description by `row` lines.
     pub rows: bool,
     /// How many workers a storm is to have, 1 to 64, if that is said.
@@ -72,6 +74,7 @@ impl<'a> Order<'a> {
         script: None,
         picture: PictureWords::NONE,
         all: false,
+        lockup: false,
         rows: false,
         workers: None,
         traffic: TrafficWords::NONE,
@@ -92,6 +95,7 @@ impl<'a> Order<'a> {
             script: given.get_str(SCRIPT),
             picture: PictureWords::of_matches(given),
             all: given.get_flag(ALL),
+            lockup: given.get_flag(LOCKUP),
             rows: given.get_flag(ROWS),
             workers: given.get_one(WORKERS),
             traffic: TrafficWords::of_matches(given),
@@ -150,6 +154,11 @@ const ALL: &str = "all";
 
 const ALL_HELP: &str = "List each dependency first";
 
+/// The option of a script that locks the network up.
+const LOCKUP: &str = "script";
+
+const LOCKUP_HELP: &str = "Print a script that locks the network up, if one is found";
+
 /// The option of labels by `row` lines.
 const ROWS: &str = "rows";
 
@@ -204,7 +213,7 @@ fn subcommand<'a>(alloc: Global, row: Row) -> Result<Command<'a>, AllocError> {
         Takes::Workers => with_workers(alloc, named),
         Takes::Counts => with_counts(alloc, with_both(alloc, named)?),
         Takes::Description => with_description(alloc, named),
-        Takes::All => with_description(alloc, named)?.arg(flag(alloc, ALL, ALL_HELP)),
+        Takes::All => with_cycles(alloc, with_description(alloc, named)?),
         Takes::Rows => with_description(alloc, named)?.arg(flag(alloc, ROWS, ROWS_HELP)),
         Takes::Marks => with_pictures(alloc, with_description(alloc, named)?),
         Takes::Traffic => with_traffic(alloc, with_description(alloc, named)?),
@@ -215,6 +224,12 @@ fn subcommand<'a>(alloc: Global, row: Row) -> Result<Command<'a>, AllocError> {
 fn with_files<'a>(alloc: Global, named: Command<'a>) -> Result<Command<'a>, AllocError> {
     let description = description_argument(alloc).requires_arg(SCRIPT)?;
     named.arg(description)?.arg(script_argument(alloc))
+}
+
+/// `[--all | --script]`, behind a description.
+fn with_cycles<'a>(alloc: Global, named: Command<'a>) -> Result<Command<'a>, AllocError> {
+    let lockup = flag(alloc, LOCKUP, LOCKUP_HELP).conflicts_with(ALL)?;
+    named.arg(flag(alloc, ALL, ALL_HELP))?.arg(lockup)
 }
 
 /// `DESC SCRIPT [--workers N]`.

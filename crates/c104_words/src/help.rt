@@ -23,6 +23,7 @@ Examples:
   c104 stats network.txt events.txt   how its packets and links fared, in numbers
   c104 check network.txt              whether its packets can go astray
   c104 cycles network.txt             whether they can wait for one another forever
+  c104 cycles --script network.txt    a script after which they do
   c104 label network.txt              which labels and registers it gives
   c104 label --rows network.txt       the same labels, as row lines
   c104 draw network.txt | dot -Tsvg   its picture
@@ -119,7 +120,10 @@ input that discards it, and from there by their own: the dependencies are those 
 both. What is said of `rounds` holds as long as no such packet begins with a random
 header itself.
 
-With --all each dependency comes first, on a line of its own.";
+With --all each dependency comes first, on a line of its own. With --script a network
+with a cycle is answered by a script in place of the cycle: after it no event of a round
+can be done, though tokens are left. It was run before it is printed. Where no such
+script is found, `none found` is printed, and that says nothing of the network.";
 
 /// Of `label`.
 pub const LABEL: &str =

@@ -36,7 +36,7 @@ pub enum Takes {
     Counts,
     /// `DESC`.
     Description,
-    /// `DESC [--all]`.
+    /// `DESC [--all | --script]`.
     All,
     /// `DESC [--rows]`.
     Rows,

@@ -1,0 +1,57 @@
+//! In which order the packets of a set come to their inputs, none past one that stands.
+
+use crate::paths::{Path, find_path};
+use crate::sets::{WaitSet, count_of, header_at};
+use crate::ways::Ways;
+use c104_token::NoMemory;
+use std::alloc::Global;
+
+/// The ways of the packets of a set, from the last to the first; None where there is no such order.
+///
+/// What can come to its input past all others is the last: this takes no choice from the others. So an order is found if
+/// there is one.
+pub(crate) fn backward_paths(
+    alloc: Global,
+    ways: &Ways<'_>,
+    set: &mut WaitSet,
+) -> Result<Option<Vec<Path>>, NoMemory> {
+    let mut paths = Vec::new(alloc);
+    for _ in 0..count_of(set) {
+        match last_path(alloc, ways, set)? {
+            Some(path) => paths.push(path)?,
+            None => return Ok(None),
+        }
+    }
+    Ok(Some(paths))
+}
+
+/// The way of a packet past all others of a set, which it leaves.
+fn last_path(alloc: Global, ways: &Ways<'_>, set: &mut WaitSet) -> Result<Option<Path>, NoMemory> {
+    for place in 0..ways.place_count() {
+        if let Some(header) = header_at(set, place) {
+            let blocked = others(alloc, set, place)?;
+            let path = find_path(alloc, ways, place, header, blocked.as_slice())?;
+            if path.is_some() {
+                leave(set, place);
+                return Ok(path);
+            }
+        }
+    }
+    Ok(None)
+}
+
+/// An input leaves a set.
+fn leave(set: &mut WaitSet, place: usize) {
+    if let Some(slot) = set.headers.get_mut(place) {
+        *slot = None;
+    }
+}
+
+/// All inputs of a set but one.
+fn others(alloc: Global, set: &WaitSet, place: usize) -> Result<Vec<bool>, NoMemory> {
+    let mut marks = Vec::new(alloc);
+    for (number, header) in set.headers.iter().enumerate() {
+        marks.push(header.is_some() && number != place)?;
+    }
+    Ok(marks)
+}

@@ -1,0 +1,199 @@
+//! Attempts event by event: packets are brought one after the other to where they are to wait, while all else rests.
+//!
+//! A packet has just as many tokens as the wire into its input holds, in the buffers of both ends, and so it stands
+//! nowhere else, and nothing can follow it.
+
+use crate::attempts::OUTPUT_ROOM;
+use crate::paths::Path;
+use crate::texts::{add_send, last_rounds};
+use crate::ways::{Hop, Ways};
+use c104_plan::Plan;
+use c104_regs::LINKS;
+use c104_token::NoMemory;
+use std::alloc::Global;
+
+/// How many tokens a grant is of.
+const GRANT: usize = 8;
+
+/// The script that brings packets to their inputs, the last way of the list first.
+pub(crate) fn placing_script(
+    alloc: Global,
+    ways: &Ways<'_>,
+    backward: &[Path],
+) -> Result<String, NoMemory> {
+    let mut text = String::new(alloc);
+    let mut passed = vec![in alloc; 0usize; ways.place_count()]?;
+    for path in backward.iter().rev() {
+        add_path(alloc, ways, path, &mut passed, &mut text)?;
+    }
+    last_rounds(alloc, &mut text)?;
+    Ok(text)
+}
+
+/// The lines join a text that send a packet and bring it along its way. Beside it stands how many tokens have passed into
+/// each input.
+fn add_path(
+    alloc: Global,
+    ways: &Ways<'_>,
+    path: &Path,
+    passed: &mut Vec<usize>,
+    text: &mut String,
+) -> Result<(), NoMemory> {
+    let Some(last) = path.hops.as_slice().last() else {
+        return Ok(());
+    };
+    let tokens = tokens_of(ways, path, passed_at(passed.as_slice(), last.next));
+    note_passed(ways, path, tokens, passed);
+    add_send(
+        alloc,
+        ways.plan,
+        path.terminal,
+        path.label,
+        tokens.saturating_sub(1),
+        text,
+    )?;
+    let hops = path.hops.len();
+    let sweeps = tokens
+        .saturating_add(hops.saturating_mul(6))
+        .saturating_add(16);
+    for _ in 0..sweeps {
+        add_sweep(alloc, ways, path, last.next, text)?;
+    }
+    Ok(())
+}
+
+/// How many tokens have passed into an input.
+fn passed_at(passed: &[usize], place: usize) -> usize {
+    match passed.get(place) {
+        Some(count) => *count,
+        None => 0,
+    }
+}
+
+/// How many tokens a packet has that fills the last wire of its way: what its input was granted, and what that is granted
+/// once its header is read, and what an output holds.
+fn tokens_of(ways: &Ways<'_>, path: &Path, passed: usize) -> usize {
+    let header = ways.plan.header();
+    let hops = path.hops.len();
+    let rides = path.word.is_some() && path.portal.unwrap_or(hops) >= hops;
+    let read = if path.portal == Some(hops) {
+        header.saturating_mul(2)
+    } else {
+        header
+    };
+    let used = passed % GRANT;
+    let mut room = ways.plan.cap().saturating_sub(used);
+    if used.saturating_add(read) >= GRANT {
+        room = room.saturating_add(GRANT);
+    }
+    let all = room.saturating_add(OUTPUT_ROOM);
+    if rides {
+        all.saturating_sub(header)
+    } else {
+        all
+    }
+}
+
+/// A packet's tokens pass into the inputs of its way, and those of a random header up to where it is discarded.
+fn note_passed(ways: &Ways<'_>, path: &Path, tokens: usize, passed: &mut Vec<usize>) {
+    let header = ways.plan.header();
+    for (number, hop) in path.hops.iter().enumerate() {
+        let rides = path.word.is_some() && number < path.portal.unwrap_or(path.hops.len());
+        if let Some(count) = passed.get_mut(hop.next) {
+            let random = if rides { header } else { 0 };
+            *count = count.saturating_add(tokens).saturating_add(random);
+        }
+    }
+}
+
+/// The lines join a text that move a packet on by one step everywhere, from its input back to its terminal. At its input its
+/// header is read, and no output is claimed.
+fn add_sweep(
+    alloc: Global,
+    ways: &Ways<'_>,
+    path: &Path,
+    goal: usize,
+    text: &mut String,
+) -> Result<(), NoMemory> {
+    add_input(alloc, ways.plan, goal, None, text)?;
+    for (number, hop) in path.hops.iter().enumerate().rev() {
+        let word = if number == 0 { path.word } else { None };
+        add_hop(alloc, ways.plan, *hop, word, text)?;
+    }
+    let Some(terminal) = ways.plan.terminals().get(path.terminal) else {
+        return Ok(());
+    };
+    let Some(switch) = ways.plan.switches().get(terminal.switch) else {
+        return Ok(());
+    };
+    let switch = switch.as_str();
+    let link = terminal.link;
+    let name = terminal.name.as_str();
+    let line = format!(in alloc; "credit {switch}.{link}\ncross {name}\n")?;
+    text.push_str(line.as_str())?;
+    Ok(())
+}
+
+/// The lines join a text that move a token over a hop's wire, and another from its input to its output.
+fn add_hop(
+    alloc: Global,
+    plan: &Plan,
+    hop: Hop,
+    word: Option<u32>,
+    text: &mut String,
+) -> Result<(), NoMemory> {
+    add_wire(alloc, plan, hop, text)?;
+    add_input(alloc, plan, hop.place, word, text)?;
+    add_claim(alloc, plan, hop, text)
+}
+
+/// The lines join a text that grant credit at the far end of a hop's wire, and move a token over it.
+fn add_wire(alloc: Global, plan: &Plan, hop: Hop, text: &mut String) -> Result<(), NoMemory> {
+    let Some(here) = plan.switches().get(hop.place / LINKS) else {
+        return Ok(());
+    };
+    let Some(there) = plan.switches().get(hop.next / LINKS) else {
+        return Ok(());
+    };
+    let here = here.as_str();
+    let there = there.as_str();
+    let output = hop.link;
+    let input = hop.next % LINKS;
+    let lines = format!(in alloc; "credit {there}.{input}\ncross {here}.{output}\n")?;
+    text.push_str(lines.as_str())?;
+    Ok(())
+}
+
+/// The line of an input's turn joins a text.
+fn add_input(
+    alloc: Global,
+    plan: &Plan,
+    place: usize,
+    word: Option<u32>,
+    text: &mut String,
+) -> Result<(), NoMemory> {
+    let Some(switch) = plan.switches().get(place / LINKS) else {
+        return Ok(());
+    };
+    let switch = switch.as_str();
+    let link = place % LINKS;
+    let line = match word {
+        Some(word) => format!(in alloc; "input {switch}.{link} {word}\n")?,
+        None => format!(in alloc; "input {switch}.{link}\n")?,
+    };
+    text.push_str(line.as_str())?;
+    Ok(())
+}
+
+/// The line joins a text by which an input claims an output.
+fn add_claim(alloc: Global, plan: &Plan, hop: Hop, text: &mut String) -> Result<(), NoMemory> {
+    let Some(switch) = plan.switches().get(hop.place / LINKS) else {
+        return Ok(());
+    };
+    let switch = switch.as_str();
+    let input = hop.place % LINKS;
+    let output = hop.link;
+    let line = format!(in alloc; "claim {switch} {input} {output}\n")?;
+    text.push_str(line.as_str())?;
+    Ok(())
+}

@@ -1,0 +1,324 @@
+//! The ways of headers through a network, by the places of its inputs: those of the first switch's links, then of the
+//! next one's.
+ghost use Rattle.std.specs.Prelude.{◌<◌};
+
+use c104_check::SwitchPort;
+use c104_crossbar::Group;
+use c104_interval::Select;
+use c104_plan::{Image, Plan, Port};
+use c104_regs::{LINKS, PackedSettings, continues_of};
+use c104_token::NoMemory;
+use std::alloc::Global;
+
+/// Where headers go in a network.
+#[derive(Drop)]
+pub(crate) struct Ways<'a> {
+    /// The network.
+    pub(crate) plan: &'a Plan,
+    /// What is set in it.
+    pub(crate) image: &'a Image,
+    // The input that each link leads to, if it is a switch's.
+    far: Vec<Option<usize>>,
+    // The links of each switch that continue a group.
+    continues: Vec<u32>,
+}
+
+/// A hop of a packet: from an input over a link's wire to the next input.
+#[derive(Clone, Copy)]
+pub(crate) struct Hop {
+    /// The input.
+    pub(crate) place: usize,
+    /// The link of that input's switch.
+    pub(crate) link: usize,
+    /// The next input.
+    pub(crate) next: usize,
+}
+
+/// Links of a switch: those from the first up to the end.
+#[derive(Clone, Copy)]
+struct LinkRange {
+    first: usize,
+    end: usize,
+}
+
+/// No link.
+const NO_LINKS: LinkRange = LinkRange { first: 0, end: 0 };
+
+impl<'a> Ways<'a> {
+    /// The ways in the network of a plan with an image.
+    pub(crate) fn new(
+        alloc: Global,
+        plan: &'a Plan,
+        image: &'a Image,
+    ) -> Result<Ways<'a>, NoMemory> {
+        let far = far_inputs(alloc, plan)?;
+        let continues = all_continues(alloc, image)?;
+        Ok(Ways {
+            plan,
+            image,
+            far,
+            continues,
+        })
+    }
+
+    /// How many headers there are.
+    pub(crate) fn header_count(&self) -> u32
+        ensures { 0 < result }
+    {
+        if self.plan.header() > 1 {
+            0x10000
+        } else {
+            0x100
+        }
+    }
+
+    /// A table with nothing at any input.
+    pub(crate) fn nowhere(&self, alloc: Global) -> Result<Vec<Option<usize>>, NoMemory> {
+        let table = vec![in alloc; None; self.far.len()]?;
+        Ok(table)
+    }
+
+    /// What is set at an input.
+    pub(crate) fn settings(&self, place: usize) -> Option<&PackedSettings> {
+        let switch = self.image.settings(place / LINKS)?;
+        switch.get(place % LINKS)
+    }
+
+    /// Whether an input drops this header alone, as a portal does.
+    pub(crate) fn is_discarded(&self, place: usize, header: u32) -> bool {
+        match self.settings(place) {
+            Some(settings) => settings.select(header) == Select::Discard,
+            None => false,
+        }
+    }
+
+    /// Whether a header goes on from an input over wires alone, each to an input that is marked.
+    pub(crate) fn leads_into(&self, place: usize, header: u32, marks: &[bool]) -> bool {
+        let links = self.links(place, header);
+        for link in links.first..links.end {
+            let next = self.far_input(place / LINKS, link);
+            if !is_some_marked(marks, next) {
+                return false;
+            }
+        }
+        links.first < links.end
+    }
+
+    /// How many of the inputs to which a header goes on aren't marked.
+    pub(crate) fn count_unmarked(&self, place: usize, header: u32, marks: &[bool]) -> usize {
+        let mut count = 0usize;
+        let links = self.links(place, header);
+        for link in links.first..links.end {
+            let next = self.far_input(place / LINKS, link);
+            if !is_some_marked(marks, next) {
+                count = count.saturating_add(1);
+            }
+        }
+        count
+    }
+
+    /// The inputs to which a header goes on are marked; and whether one of them wasn't.
+    pub(crate) fn mark_next(&self, place: usize, header: u32, marks: &mut Vec<bool>) -> bool {
+        let mut more = false;
+        let links = self.links(place, header);
+        for link in links.first..links.end {
+            if let Some(next) = self.far_input(place / LINKS, link)
+                && let Some(mark) = marks.get_mut(next)
+                && !*mark
+            {
+                *mark = true;
+                more = true;
+            }
+        }
+        more
+    }
+
+    /// All inputs are marked to which a header comes from those that are.
+    pub(crate) fn mark_ways(&self, header: u32, marks: &mut Vec<bool>) {
+        for _ in 0..self.far.len() {
+            let mut more = false;
+            for place in 0..self.far.len() {
+                let here = is_marked(marks.as_slice(), place);
+                more = more | (here && self.mark_next(place, header, marks));
+            }
+            if !more {
+                return;
+            }
+        }
+    }
+
+    /// How many inputs there are.
+    pub(crate) fn place_count(&self) -> usize {
+        self.far.len()
+    }
+
+    /// Each input from where a header comes to one that has a number gets a number too, one more for each wire. Inputs that
+    /// are blocked get none.
+    pub(crate) fn spread(&self, header: u32, blocked: &[bool], table: &mut Vec<Option<usize>>) {
+        for _ in 0..self.far.len() {
+            if !self.spread_once(header, blocked, table) {
+                return;
+            }
+        }
+    }
+
+    /// The inputs get numbers from where one wire leads to such an input; and whether there were any.
+    fn spread_once(&self, header: u32, blocked: &[bool], table: &mut Vec<Option<usize>>) -> bool {
+        let mut more = false;
+        for place in 0..self.far.len() {
+            if let Some(hops) = self.hops_from(place, header, blocked, table.as_slice())
+                && let Some(slot) = table.get_mut(place)
+            {
+                *slot = Some(hops);
+                more = true;
+            }
+        }
+        more
+    }
+
+    /// The number that an input without one gets.
+    fn hops_from(
+        &self,
+        place: usize,
+        header: u32,
+        blocked: &[bool],
+        table: &[Option<usize>],
+    ) -> Option<usize> {
+        if number_at(table, place).is_some() || is_marked(blocked, place) {
+            return None;
+        }
+        let links = self.links(place, header);
+        let mut least = None;
+        for link in links.first..links.end {
+            let hops = match self.far_input(place / LINKS, link) {
+                Some(next) => number_at(table, next),
+                None => None,
+            };
+            least = lesser(least, hops);
+        }
+        match least {
+            Some(hops) => Some(hops.saturating_add(1)),
+            None => None,
+        }
+    }
+
+    /// A link by which a header goes on from an input to one that has this number.
+    pub(crate) fn link_to(
+        &self,
+        place: usize,
+        header: u32,
+        table: &[Option<usize>],
+        number: usize,
+    ) -> Option<Hop> {
+        let links = self.links(place, header);
+        for link in links.first..links.end {
+            if let Some(next) = self.far_input(place / LINKS, link)
+                && number_at(table, next) == Some(number)
+            {
+                return Some(Hop { place, link, next });
+            }
+        }
+        None
+    }
+
+    /// The input that a link leads to, if it is a switch's.
+    fn far_input(&self, switch: usize, link: usize) -> Option<usize> {
+        let place = place_of(SwitchPort { switch, link });
+        match self.far.get(place) {
+            Some(far) => *far,
+            None => None,
+        }
+    }
+
+    /// The links by which a header leaves an input.
+    fn links(&self, place: usize, header: u32) -> LinkRange {
+        let Some(settings) = self.settings(place) else {
+            return NO_LINKS;
+        };
+        match settings.select(header) {
+            Select::Link(link) => self.group(place / LINKS, usize::from(link)),
+            Select::Discard | Select::Sink => NO_LINKS,
+        }
+    }
+
+    /// The links of a group.
+    fn group(&self, switch: usize, link: usize) -> LinkRange {
+        if link >= LINKS {
+            return NO_LINKS;
+        }
+        let Some(continues) = self.continues.get(switch) else {
+            return NO_LINKS;
+        };
+        let group = Group::of(*continues, link);
+        LinkRange {
+            first: group.first,
+            end: group.last.saturating_add(1),
+        }
+    }
+}
+
+/// The place of an input.
+pub(crate) fn place_of(port: SwitchPort) -> usize {
+    port.switch.saturating_mul(LINKS).saturating_add(port.link)
+}
+
+/// The number at a place of a table.
+pub(crate) fn number_at(table: &[Option<usize>], place: usize) -> Option<usize> {
+    match table.get(place) {
+        Some(number) => *number,
+        None => None,
+    }
+}
+
+/// Whether a place is marked.
+pub(crate) fn is_marked(marks: &[bool], place: usize) -> bool {
+    match marks.get(place) {
+        Some(mark) => *mark,
+        None => false,
+    }
+}
+
+/// Whether there is a place, and it is marked.
+fn is_some_marked(marks: &[bool], place: Option<usize>) -> bool {
+    match place {
+        Some(place) => is_marked(marks, place),
+        None => false,
+    }
+}
+
+/// The lesser of two numbers, as far as they are there.
+pub(crate) fn lesser(one: Option<usize>, other: Option<usize>) -> Option<usize> {
+    match (one, other) {
+        (Some(one), Some(other)) => Some(one.min(other)),
+        (Some(one), None) => Some(one),
+        (None, other) => other,
+    }
+}
+
+/// The input that each link leads to, by place.
+fn far_inputs(alloc: Global, plan: &Plan) -> Result<Vec<Option<usize>>, NoMemory> {
+    let mut far = Vec::new(alloc);
+    for switch in 0..plan.switches().len() {
+        for link in 0..LINKS {
+            far.push(far_input(plan, switch, link))?;
+        }
+    }
+    Ok(far)
+}
+
+/// The input that a link leads to, if it is a switch's.
+fn far_input(plan: &Plan, switch: usize, link: usize) -> Option<usize> {
+    match plan.peer(Port::Switch(switch, link)) {
+        Some(Port::Switch(switch, link)) => Some(place_of(SwitchPort { switch, link })),
+        Some(Port::Terminal(_)) | None => None,
+    }
+}
+
+/// The links of each switch that continue a group.
+fn all_continues(alloc: Global, image: &Image) -> Result<Vec<u32>, NoMemory> {
+    let mut all = Vec::new(alloc);
+    for switch in image.switches() {
+        all.push(continues_of(switch.settings()))?;
+    }
+    Ok(all)
+}
