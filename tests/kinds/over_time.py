@@ -4,8 +4,13 @@ A picture is read by Python's reader of XML: its rows with the rectangles in the
 they are is worked out by hand, round by round, from docs/FORMATS.md.
 """
 
+import csv
+import io
+import json
 import os
 import re
+import subprocess
+import tempfile
 import xml.etree.ElementTree as xml
 
 from case_runner import CANNOT_WRITE, EXAMPLES, MIB, PLAN, SCRIPT_LIMIT, comments
@@ -123,6 +128,23 @@ def drawn(runner):
         runner.judge(name, wrong)
 
 
+def tabled(runner):
+    """A table has the rectangles of the picture, in its order; both tables for programs have the same cells."""
+    for name, (description, script, words, *_) in DRAWN.items():
+        if not runner.wanted('a table of ' + name):
+            continue
+        picture = pictured(runner, description, script, words)[2]
+        due = [(row[0], packet, fill.endswith('-idle)'), first, last)
+               for row in rows_of(picture)[2] if not isinstance(row, str) for packet, fill, first, last in row[1:]]
+        objects = json.loads(pictured(runner, description, script, [*words, '--format', 'json'])[1])
+        found = [('%s to %s' % (it['port'], it['to']), '?' if it['sender'] is None else '%s %d' % (it['sender'], it['number']),
+                  it['state'] == 'holds', it['first'], it['last']) for it in objects]
+        text = pictured(runner, description, script, [*words, '--format', 'csv'])[1].decode()
+        cells = [['' if it is None else str(it) for it in row.values()] for row in objects]
+        good = found == due and list(csv.reader(io.StringIO(text)))[1:] == cells
+        runner.judge('a table of ' + name, None if good else 'wanted %s, found %s and %s' % (due, found, text))
+
+
 def blocked(runner):
     """b's packet holds the link from B to C. a's waits for it in B, and what it holds behind is hatched once its buffers are
     full."""
@@ -153,6 +175,31 @@ def ring(runner):
     found = {name: it for name, it in held.items() if name in due}
     runner.judge(name, None if (status, found) == (0, due) and sorted(list_of(picture)) == ['a 0', 'b 0', 'c 0', 'd 0']
         else 'wanted %s, found %s' % (due, held))
+
+
+def played(runner):
+    """The page of examples/page has the rows of the table, the buffers of the network as it stands, and what is red there."""
+    name = 'a page of the ring that is locked'
+    if not runner.wanted(name) or len(runner.program) > 1:
+        return
+    paths = [os.path.join(EXAMPLES, it) for it in ('ring.txt', 'ring-packets.txt')]
+    with tempfile.TemporaryDirectory() as folder:
+        dot = os.path.join(folder, 'dot')
+        with open(dot, 'w') as file:
+            file.write('#!/bin/sh\ncat > /dev/null; echo "<svg></svg>"\n')
+        os.chmod(dot, 0o755)
+        variables = {**os.environ, 'C104': os.path.abspath(runner.program[0]), 'PATH': folder + ':' + os.environ['PATH']}
+        page = subprocess.run([os.path.join(EXAMPLES, 'page', 'page'), *paths], env=variables, capture_output=True, text=True).stdout
+    found = re.search(r'id="data">(.*?)</script>', page, re.DOTALL)
+    if not found:
+        runner.judge(name, 'found %.200r' % page)
+        return
+    data = json.loads(found[1])
+    out = runner.run(words=['draw', *paths, '--over-time', '--format', 'json'])[1]
+    # Each switch holds a header, and behind that 7 tokens in its input; its output is full.
+    due = ([list(it.values()) for it in json.loads(out)], ['A.1', 'B.1', 'C.1', 'D.1'], ['7', '8'], 8)
+    found = (data['bars'], sorted(data['locked']), [data['levels']['B.2'][0][-1], data['levels']['A.1'][1][-1]], len(data['wires']))
+    runner.judge(name, None if found == due else 'wanted %s, found %s' % (due, found))
 
 
 def large(runner):
@@ -194,7 +241,8 @@ def words(runner):
     for name, given in (('no script', ['--over-time']), ('no picture of the script', ['-']), ('a state too', ['-', '--over-time', '--state']),
                         ('a header too', ['-', '--over-time', '--header', '1']), ('a cycle too', ['-', '--over-time', '--cycles']),
                         ('rounds alone', ['--from', '1']), ('rounds of a state', ['-', '--state', '--to', '1']),
-                        ('no number', ['-', '--over-time', '--from', 'x']), ('a first round behind the last',
+                        ('no number', ['-', '--over-time', '--from', 'x']), ('no such format', ['-', '--over-time', '--format', 'xml']),
+                        ('a format alone', ['--format', 'csv']), ('a format of a state', ['-', '--state', '--format', 'csv']), ('a first round behind the last',
                         ['-', '--over-time', '--from', '2', '--to', '1'])):
         runner.case(name, b'', 2, words=['draw', '/dev/null', *given])
 
@@ -207,4 +255,4 @@ def devices(runner):
                     stdout=full)
 
 
-PARTS = [drawn, blocked, ring, large, refused, words, devices]
+PARTS = [drawn, tabled, blocked, ring, played, large, refused, words, devices]

@@ -63,12 +63,16 @@ pub fn draw_files(rt: &HostRuntime, order: Order<'_>, told: &mut Told<'_>) -> St
     status
 }
 
-/// Draws a run of two files over its rounds. A first round behind the last is a wrong word.
+/// Draws a run of two files over its rounds. A first round behind the last is a wrong word, and so is a format that there
+/// isn't.
 pub fn time_files(rt: &HostRuntime, order: Order<'_>, told: &mut Told<'_>) -> Status {
-    let Some(asked) = asked_of(order.picture) else {
-        let _ = rt.eprintln("error: --from comes after --to, so no round is shown");
-        told.note_wrong_word();
-        return Status::Refused;
+    let asked = match asked_of(order.picture, order.counts) {
+        Ok(asked) => asked,
+        Err(wrong) => {
+            let _ = rt.eprintln(wrong);
+            told.note_wrong_word();
+            return Status::Refused;
+        }
     };
     let (mut description, mut script) = match open_both(
         rt,
@@ -121,11 +125,20 @@ pub fn count_files(rt: &HostRuntime, order: Order<'_>, told: &mut Told<'_>) -> S
     status
 }
 
-/// The rounds that are asked for. None where the first is behind the last.
-fn asked_of(words: PictureWords) -> Option<Asked> {
+/// The rounds that are asked for, and their format; or what is wrong.
+fn asked_of(words: PictureWords, counts: CountWords<'_>) -> Result<Asked, &'static str> {
+    let format = match counts.format {
+        None | Some("svg") => None,
+        Some(word) => match format_of(word) {
+            Some(format) => Some(format),
+            None => return Err("error: the formats are svg, table, csv and json"),
+        },
+    };
     match (words.from, words.to) {
-        (Some(from), Some(to)) if from > to => None,
-        (from, to) => Some(Asked { from, to }),
+        (Some(from), Some(to)) if from > to => {
+            Err("error: --from comes after --to, so no round is shown")
+        }
+        (from, to) => Ok(Asked { from, to, format }),
     }
 }
 

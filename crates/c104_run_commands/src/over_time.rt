@@ -4,7 +4,7 @@ ghost use Rattle.c104_plan.specs.PlanImage.{Fits};
 ghost use Rattle.c104_run_commands.specs.OverTime.{OverTimeEnds, OverTimeRuns};
 ghost use Rattle.c104_commands.specs.declared.status.Status.TheVariants as status;
 
-use crate::states::{Drawn, write_drawn};
+use crate::states::write_drawn;
 use c104_commands::{Setup, Status, read_setup};
 use c104_mistakes::Messages;
 use c104_plan::{Image, Plan};
@@ -16,7 +16,8 @@ use std::io::{Read, Write};
 /// Reads a description, and then reads a script and does its lines on the network, started with the image of its labels; at
 /// the end writes a picture of that over these rounds, as an SVG of at most 1 MiB. Where that is too little it writes a line
 /// in its place, which says which rounds fit, and the status is Refused. So it is where a line of the script is faulty,
-/// which is left out, and where the script is too long, of which the lines are done that end within 16 MiB.
+/// which is left out, and where the script is too long, of which the lines are done that end within 16 MiB. If a format is
+/// said it writes a table in place of the picture, which has a row for each rectangle, however many those are.
 ///
 /// It tells people of each line that is faulty, refused or not ready. What is written and how it ends are the same
 /// whatever takes the messages does.
@@ -62,13 +63,7 @@ fn draw_timed<S: Read, W: Write, M: Messages>(
         return Status::NoMemory;
     };
     match time_plan(alloc, plan, image, asked, &mut ahead, script, messages) {
-        Ok(timed) => {
-            let drawn = Drawn {
-                text: timed.text,
-                refused: timed.is_refused,
-            };
-            write_drawn(&drawn, writer)
-        }
+        Ok(timed) => write_drawn(timed.text.as_slice(), timed.is_refused, writer),
         Err(halt) => Status::of_halt(halt, 1),
     }
 }

@@ -64,30 +64,30 @@ fn draw_after<S: Read, W: Write, M: Messages>(
     ensures of_script { (n : ℕ) → result ≡ status.CannotRead n → n ≡ 1 }
 {
     match drawn_after(alloc, plan, image, script, messages) {
-        Ok(drawn) => write_drawn(&drawn, writer),
+        Ok(drawn) => write_drawn(drawn.text.as_bytes(), drawn.refused, writer),
         Err(halt) => Status::of_halt(halt, 1),
     }
 }
 
 /// The picture of a network after a script.
 #[derive(Drop)]
-pub(crate) struct Drawn {
+struct Drawn {
     /// The text.
-    pub(crate) text: String,
+    text: String,
     /// Whether the script is refused.
-    pub(crate) refused: bool,
+    refused: bool,
 }
 
-/// Writes a picture.
-pub(crate) fn write_drawn<W: Write>(drawn: &Drawn, writer: &mut W) -> Status
-    ensures written { WritesDrawn (string_bytes drawn.now.text) drawn.now.refused
+/// Writes a picture, of a script that is refused or not.
+pub(crate) fn write_drawn<W: Write>(text: &[u8], refused: bool, writer: &mut W) -> Status
+    ensures written { WritesDrawn text.now refused
         (W.contents writer.old) (W.contents writer.new) result }
     ensures of_writer { (n : ℕ) → result ≢ status.CannotRead n }
 {
-    let Ok(()) = write_whole(writer, drawn.text.as_bytes()) else {
+    let Ok(()) = write_whole(writer, text) else {
         return Status::CannotWrite;
     };
-    if drawn.refused {
+    if refused {
         Status::Refused
     } else {
         Status::Done

@@ -9,7 +9,7 @@ use Rattle.c104_timeline.specs.Periods.{period_of}
 use Rattle.c104_timeline.specs.Timelines.{new_timeline, Timeline}
 use Rattle.c104_session.specs.Driven.{driven_outcome, DrivesScript}
 use Rattle.c104_session.specs.Timed.{timeline_kept}
-use Rattle.c104_session.specs.TimedRuns.{timed_script, IsRunText, IsTimedAfter, IsTimelineText}
+use Rattle.c104_session.specs.TimedRuns.{timed_script, IsAskedText, IsRunText, IsTimedAfter}
 use Rattle.c104_session.specs.declared.session.Session.{Session}
 
 -- a script that was done
@@ -21,16 +21,16 @@ module _ (asked : Asked) (session after : Session) (begun driven : Timeline) (le
   pub script_timed : (all : Option (List ℕ)) (long : Bool) (ended : Timeline) (plan : Plan) (text : List ℕ) (large refused : Bool)
       → DrivesScript timeline_kept session begun all left held holds after driven (Ok long)
       → ended ≡ closed_all after.net driven → plan ≡ after.net.network.plan
-      → IsTimelineText plan ended (period_of ended asked) text large → refused ≡ (large || (long || after.faulty))
+      → IsAskedText asked.format plan ended (period_of ended asked) text large → refused ≡ (large || (long || after.faulty))
       → IsTimedAfter asked session all text refused
   script_timed None long ended plan text large refused drove at_end of_net drawn is_refused = tt
   script_timed (Some script) long ended plan text large refused drove at_end of_net drawn is_refused =
       let ran : ◌≡◌ {A = Ran} (after, driven) (timed_script session script) =
       drove.1 ∙ ap (λ t. (script_outcome (driven_outcome timeline_kept) (session, t) script).1) fresh in
-      let there : IsTimelineText after.net.network.plan ended (period_of ended asked) text large =
-      subst (λ p. IsTimelineText p ended (period_of ended asked) text large) of_net drawn in (
+      let there : IsAskedText asked.format after.net.network.plan ended (period_of ended asked) text large =
+      subst (λ p. IsAskedText asked.format p ended (period_of ended asked) text large) of_net drawn in (
         large,
         subst (λ (r : Ran). IsRunText asked r.0.net r.1 text large) ran
-            (subst (λ t. IsTimelineText after.net.network.plan t (period_of t asked) text large) at_end there),
+            (subst (λ t. IsAskedText asked.format after.net.network.plan t (period_of t asked) text large) at_end there),
         is_refused ∙ ap (λ l. large || (l || after.faulty)) drove.0 ∙ ap (λ (r : Ran). large || (is_long script || r.0.faulty)) ran,
       )

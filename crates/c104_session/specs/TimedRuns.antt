@@ -1,10 +1,12 @@
--- The picture of the run of a script over its rounds.
+-- The picture of the run of a script over its rounds, or the table of what that shows.
 use Rattle.std.specs.Prelude.{ℕ, ◌≡◌, ◌||◌, ⊤, Bool, true, false, List, ◌++◌, codes, decimal, Option, Some, None}
 use Rattle.c104_plan.specs.Plans.{Plan}
 use Rattle.c104_plan.specs.PlanImage.{Image}
 use Rattle.c104_run.specs.NetRecords.{NetRecord}
+use Rattle.c104_stats.specs.declared.formats.Format.{Format}
 use Rattle.c104_stream.specs.ScriptLines.{is_long}
 use Rattle.c104_stream.specs.Scripts.{script_outcome}
+use Rattle.c104_timeline.specs.Bars.{bars_text}
 use Rattle.c104_timeline.specs.Closing.{closed_all}
 use Rattle.c104_timeline.specs.declared.periods.Asked.{Asked}
 use Rattle.c104_timeline.specs.declared.periods.Period.{Period}
@@ -34,10 +36,15 @@ abbrev pub IsTimelineText : Plan → Timeline → Period → List ℕ → Bool �
 IsTimelineText plan t p text false = IsTimeText (picture_text plan t p) text
 IsTimelineText plan t p text true = (fits : Option Period) × IsTooLarge plan t p fits × (text ≡ refusal_text fits)
 
+-- the same, or the table of it in this format, which has no limit
+abbrev pub IsAskedText : Option Format → Plan → Timeline → Period → List ℕ → Bool → Type 0
+IsAskedText None plan t p text refused = IsTimelineText plan t p text refused
+IsAskedText (Some format) plan t p text refused = (text ≡ bars_text format plan t p) × (refused ≡ false)
+
 -- the same of a timeline at the end of its run, on this network
 abbrev pub IsRunText : Asked → NetRecord → Timeline → List ℕ → Bool → Type 0
 IsRunText asked net t text refused =
-    IsTimelineText net.network.plan (closed_all net t) (period_of (closed_all net t) asked) text refused
+    IsAskedText asked.format net.network.plan (closed_all net t) (period_of (closed_all net t) asked) text refused
 
 -- the same of the run of a script, and whether that is refused: for the picture, for its length or for one of its lines
 abbrev pub IsScriptText : Asked → Session → List ℕ → List ℕ → Bool → Type 0

@@ -47,7 +47,7 @@ impl<'a> Cell<'a> {
 }
 
 /// The row of the columns' names joins the text. The only error is out of memory.
-pub(crate) fn add_names(
+pub fn add_names(
     alloc: Global,
     format: Format,
     columns: &[Column],
@@ -66,7 +66,7 @@ pub(crate) fn add_names(
 }
 
 /// A row joins the text, which is the first or not. The only error is out of memory.
-pub(crate) fn add_row(
+pub fn add_row(
     format: Format,
     is_first: bool,
     cells: &[Cell<'_>],

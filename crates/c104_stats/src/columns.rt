@@ -39,6 +39,10 @@ pub enum Column {
     SecondShare,
     Third,
     ThirdShare,
+    To,
+    First,
+    Last,
+    State,
 }
 
 impl Column {
@@ -81,6 +85,10 @@ impl Column {
             Column::SecondShare => b"second_share",
             Column::Third => b"third",
             Column::ThirdShare => b"third_share",
+            Column::To => b"to",
+            Column::First => b"first",
+            Column::Last => b"last",
+            Column::State => b"state",
         }
     }
 }

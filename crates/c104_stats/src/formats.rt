@@ -37,7 +37,7 @@ impl Format {
     }
 
     /// What stands before all rows, beside the names of their columns.
-    pub(crate) fn open(self) -> &'static [u8]
+    pub fn open(self) -> &'static [u8]
         ensures { result.now ≡ open_text self }
     {
         match self {
@@ -47,7 +47,7 @@ impl Format {
     }
 
     /// What stands behind all rows.
-    pub(crate) fn close(self) -> &'static [u8]
+    pub fn close(self) -> &'static [u8]
         ensures { result.now ≡ close_text self }
     {
         match self {

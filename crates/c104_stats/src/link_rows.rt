@@ -145,7 +145,7 @@ fn add_wired(
 }
 
 /// The name of a port joins the text. The only error is out of memory.
-pub(crate) fn add_port_name(plan: &Plan, port: Port, text: &mut Vec<u8>) -> Result<(), NoMemory>
+pub fn add_port_name(plan: &Plan, port: Port, text: &mut Vec<u8>) -> Result<(), NoMemory>
     ensures { OnOk result (text.new.items ≡ text.old.items ++ port_text plan.now port) }
 {
     match port {

@@ -179,7 +179,7 @@ fn latency_cell(packet: PacketRow, arrival: Option<Arrival>) -> Cell<'static>
 }
 
 /// The name of a terminal. Empty where there is no such terminal.
-pub(crate) fn name_of(plan: &Plan, terminal: usize) -> &[u8]
+pub fn name_of(plan: &Plan, terminal: usize) -> &[u8]
     ensures { result.now ≡ terminal_name plan.now terminal }
 {
     match plan.terminals().get(terminal) {

@@ -26,6 +26,7 @@ const TEXT: &[u8] =
 const ALL_ROUNDS: Asked = Asked {
     from: None,
     to: None,
+    format: None,
 };
 
 /// Whence a run reads.

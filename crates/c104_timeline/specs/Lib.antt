@@ -6,6 +6,7 @@ pub mod Closing
 pub mod Periods
 pub mod Rows
 pub mod Shapes
+pub mod Bars
 pub mod Frames
 pub mod RowTexts
 pub mod Legends

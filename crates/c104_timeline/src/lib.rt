@@ -7,9 +7,10 @@
 //! switch is reset, has none ([`Timeline::cut`]).
 //!
 //! [`time_picture`] is the text of a picture in SVG: a row for each way out of a port, a column for each round, and a list
-//! of the packets.
+//! of the packets. [`bars_text`] is what it shows as a table: a row for each rectangle.
 #![tactic(auto)]
 
+mod bars;
 mod closing;
 mod frame_texts;
 mod frames;
@@ -23,6 +24,7 @@ mod shapes;
 mod time_pictures;
 mod timelines;
 
+pub use bars::bars_text;
 pub use lanes::lane_law;
 pub use periods::{Asked, Period};
 pub use time_pictures::{TIME_TEXT_LIMIT, TimeFault, time_picture};

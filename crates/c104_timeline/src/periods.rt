@@ -4,6 +4,7 @@ ghost use Rattle.c104_timeline.specs.Periods.{asked_end, asked_start, clipped, e
 
 use crate::lanes::{Lane, Stretch};
 use crate::timelines::Timeline;
+use c104_stats::Format;
 
 /// Rounds from one to another.
 #[derive(Clone, Copy, Debug, PartialEq, Eq)]
@@ -14,13 +15,15 @@ pub struct Period {
     pub to: u32,
 }
 
-/// The rounds that are asked for.
-#[derive(Clone, Copy, Debug, PartialEq, Eq)]
+/// The rounds that are asked for, and how they are written.
+#[derive(Clone, Copy)]
 pub struct Asked {
     /// The first, if it is said.
     pub from: Option<u32>,
     /// The last, if it is said.
     pub to: Option<u32>,
+    /// How the table of them is printed; none for the picture.
+    pub format: Option<Format>,
 }
 
 impl Period {

@@ -30,7 +30,7 @@ impl<'a> CountWords<'a> {
 }
 
 /// The options of counts.
-const FORMAT: &str = "format";
+pub(crate) const FORMAT: &str = "format";
 
 const FORMAT_HELP: &str = "How they are printed: table, csv or json; by default table";
 

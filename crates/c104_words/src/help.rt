@@ -160,7 +160,10 @@ With --over-time, a script is run, and the picture shows its rounds from left to
 as SVG. Below each switch are the wires at it over which something goes, a row for each
 way; a packet has its colour and pattern there from its header to its end, and is hatched
 in rounds in which it holds the wire and nothing crosses. The text has at most 1 MiB: of
-more rounds a line says which --from and --to fit, and the exit status is 1.
+more rounds a line says which --from and --to fit, and the exit status is 1. With --format
+table, csv or json a table is printed in its place, however long: a row for each
+rectangle, with the two ends of the wire, the packet, the first and the last round, and
+whether the packet moves or holds the wire in them.
 
   c104 draw network.txt events.txt --over-time > run.svg";
 

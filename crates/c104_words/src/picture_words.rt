@@ -1,6 +1,7 @@
 //! What the command line says of a picture.
 
 use crate::command_line::{SCRIPT, flag, script_argument, valued};
+use crate::count_words::FORMAT;
 use clap::{Arg, ArgMatches, Command, value_parser};
 use std::alloc::{AllocError, Global};
 
@@ -75,10 +76,13 @@ const TO: &str = "to";
 const TO_HELP: &str =
     "The last round shown; by default the last one, or a few after the last in which anything was done";
 
+const FORMAT_HELP: &str =
+    "How the rounds are written: svg, or as a table: table, csv or json; by default svg";
+
 /// The group of what is drawn of a script.
 const DRAWN: &str = "drawn";
 
-/// `[--header N | --cycles | SCRIPT --state | SCRIPT --over-time [--from R] [--to R]]`, behind a description.
+/// `[--header N | --cycles | SCRIPT --state | SCRIPT --over-time [--from R] [--to R] [--format F]]`, behind a description.
 pub fn with_pictures<'a>(alloc: Global, named: Command<'a>) -> Result<Command<'a>, AllocError> {
     let cycles = flag(alloc, CYCLES, CYCLES_HELP).conflicts_with(HEADER)?;
     let marked = named.arg(header_option(alloc))?.arg(cycles)?;
@@ -92,11 +96,14 @@ fn with_script<'a>(alloc: Global, named: Command<'a>) -> Result<Command<'a>, All
     with_rounds(alloc, drawn.arg(over_time_option(alloc)?)?)
 }
 
-/// `[--from R] [--to R]`, with `--over-time`.
+/// `[--from R] [--to R] [--format F]`, with `--over-time`.
 fn with_rounds<'a>(alloc: Global, named: Command<'a>) -> Result<Command<'a>, AllocError> {
     let from = round_option(alloc, FROM, FROM_HELP)?;
     let to = round_option(alloc, TO, TO_HELP)?;
-    named.arg(from)?.arg(to)
+    let format = valued(alloc, FORMAT, "F", FORMAT_HELP)
+        .requires_arg(OVER_TIME)?
+        .conflicts_with(STATE)?;
+    named.arg(from)?.arg(to)?.arg(format)
 }
 
 /// `--state`, with a script, and without what else is marked.

@@ -40,7 +40,7 @@ pub enum Takes {
     All,
     /// `DESC [--rows]`.
     Rows,
-    /// `DESC [--header N | --cycles | SCRIPT --state | SCRIPT --over-time [--from R] [--to R]]`.
+    /// `DESC [--header N | --cycles | SCRIPT --state | SCRIPT --over-time [--from R] [--to R] [--format F]]`.
     Marks,
     /// `DESC --pattern P [--target T] --packets N --bytes B --seed S [--load R] [--own]`.
     Traffic,

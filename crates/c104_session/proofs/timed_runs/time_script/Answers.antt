@@ -1,5 +1,4 @@
 use Rattle.std.proofs.Common.{ap, ◌∙◌}
-use Rattle.std.specs.String.{string_bytes}
 use Rattle.c104_timeline.specs.Timelines.{new_timeline}
 use Rattle.c104_session.proofs.TimedScripts.{script_timed}
 use Rattle.c104_session.proofs.timed_runs.time_script.Goals as goal
@@ -8,6 +7,6 @@ pub returns-clause-text : goal.returns-clause-text
 returns-clause-text g c =
     script_timed c.args.asked c.args.session.now c.drive_script.new.session c.in_ok-timeline.timeline c.drive_script.new.driver _ _ _
     (c.in_ok-timeline.ensures ∙ ap new_timeline c.plan.ensures)
-    _ c.in-Ok.is_long c.close_all.new.self c.plan-2.result.now (string_bytes c.in_ok-timed.timed.text)
+    _ c.in-Ok.is_long c.close_all.new.self c.plan-2.result.now c.in_ok-timed.timed.text.items
     c.in_ok-timed.timed.is_refused c.is_refused.result
     c.in-Ok.ensures c.in_ok-close_all.ensures c.plan-2.ensures c.in_ok-timed.ensures c.is_refused.ensures

@@ -1,10 +1,9 @@
-use Rattle.std.proofs.Common.{Err, ap, subst}
-use Rattle.c104_timeline.specs.TimePictures.{IsTooLarge}
+use Rattle.std.proofs.Common.{Err, ap}
 use Rattle.c104_session.proofs.timed_runs.timeline_text.Goals as goal
 
 pub returns-in_ok-text-in-Err-TooLarge : goal.returns-in_ok-text-in-Err-TooLarge
 returns-in_ok-text-in-Err-TooLarge c = (
   c.in-Err-TooLarge.fits,
-  subst (λ p. IsTooLarge c.args.plan.now c.args.timeline.now p c.in-Err-TooLarge.fits) c.of.ensures.rounds (c.in-Err-TooLarge.ensures.large c.in-Err-TooLarge.fits (ap Err c.in-Err-TooLarge.field-0-is)),
+  c.in-Err-TooLarge.ensures.large c.in-Err-TooLarge.fits (ap Err c.in-Err-TooLarge.field-0-is),
   c.in_ok-text-in-Err-TooLarge.ensures,
 )

@@ -1,0 +1,12 @@
+use Rattle.std.proofs.Common.{IfOk, subst, sym}
+use Rattle.c104_session.specs.TimedRuns.{IsAskedText}
+use Rattle.c104_session.proofs.timed_runs.asked_text.Goals as goal
+
+pub returns-in-Some : goal.returns-in-Some
+returns-in-Some c =
+    subst (λ p. IfOk c.table_text.result (λ timed.
+    IsAskedText c.args.asked.format c.args.plan.now c.args.timeline.now p timed.text.items timed.is_refused))
+    c.of-period.ensures.rounds
+    (subst (λ f. IfOk c.table_text.result (λ timed.
+    IsAskedText f c.args.plan.now c.args.timeline.now c.of-period.result timed.text.items timed.is_refused))
+    (sym c.in-Some.is) c.table_text.ensures)
