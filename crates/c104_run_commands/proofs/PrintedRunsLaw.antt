@@ -8,11 +8,11 @@ use Rattle.c104_regs.specs.declared.settings.Settings.{Settings}
 use Rattle.std.proofs.lemmas.List.FromFn.{length-map-range_with_len}
 use Rattle.c104_plan.specs.PlanImage.{Fits, Image, hand_image, range_of, settings_of, switch_settings}
 use Rattle.c104_plan.specs.Plans.{IsPlan, Plan}
-use Rattle.c104_plan.specs.LabelledImages.{labelled_image, labelled_settings, labelled_switch, table_in}
+use Rattle.c104_plan.specs.LabelledImages.{labelled_image, labelled_settings, labelled_switch, port_labelled_image, port_labelled_switch, table_in}
 use Rattle.c104_plan.specs.TextCut.{lines, most_bytes}
 use Rattle.c104_plan.specs.declared.ports.Port.TheVariants as port
 use Rattle.c104_plan.specs.declared.plans.Shape.{Shape}
-use Rattle.c104_plan.specs.declared.plans.Shape.TheVariants.{Hand, Tree, Mesh, Cube}
+use Rattle.c104_plan.specs.declared.plans.Shape.TheVariants.{Hand, Tree, UpDown, Mesh, Cube}
 use Rattle.c104_interval.specs.declared.intervals.Table.{Table}
 use Rattle.c104_describe.specs.PlanDrafts.{finished}
 use Rattle.c104_describe.specs.PlanText.{empty_draft, plan_of_draft, read_description, read_plan_lines}
@@ -37,6 +37,8 @@ labelled_fits plan ranges tables image counted is =
 by_shape : (plan : Plan) (image : Image) (shape : Shape) → IsImageBy shape plan image → Fits image plan
 by_shape plan image Hand is = subst (λ i. Fits i plan) (sym is) (record { ranges = length-map plan.terminals range_of; settings = length-map-range_with_len _ 0 (length plan.switches) })
 by_shape plan image (Tree root) (forest, is) = labelled_fits plan _ _ image (length-map plan.terminals _) is.is
+by_shape plan image (UpDown root) (forest, is) =
+    subst (λ i. Fits i plan) (sym is.is) (record { ranges = length-map plan.terminals _; settings = length-map-range_with_len _ 0 (length plan.switches) })
 by_shape plan image (Mesh width height terminals) is = labelled_fits plan _ _ image (length-map plan.terminals range_of) is.is
 by_shape plan image (Cube dimensions terminals) is = labelled_fits plan _ _ image (length-map plan.terminals range_of) is.is
 
@@ -52,6 +54,10 @@ by_label : (plan : Plan) (table : Table) (switch : ℕ) → IsOfLinks (labelled_
 unfolding labelled_switch
 by_label plan table switch = length-map-range_with_len (λ link. labelled_settings plan table (port.Switch switch link)) 0 LINKS
 
+by_ports : (plan : Plan) (tables : ℕ → Table) (switch : ℕ) → IsOfLinks (port_labelled_switch plan tables switch)
+unfolding port_labelled_switch
+by_ports plan tables switch = length-map-range_with_len (λ link. labelled_settings plan (tables link) (port.Switch switch link)) 0 LINKS
+
 of_each : (f : ℕ → List Settings) → ((s : ℕ) → IsOfLinks (f s)) → (ns : List ℕ) → All IsOfLinks (map f ns)
 of_each f each ns = All-map IsOfLinks f ns (λ i s inside. each (get_or ns i s))
 
@@ -62,6 +68,9 @@ labelled_sized plan ranges tables image is =
 sized_by : (plan : Plan) (image : Image) (shape : Shape) → IsImageBy shape plan image → All IsOfLinks image.settings
 sized_by plan image Hand is = subst (λ (i : Image). All IsOfLinks i.settings) (sym is) (of_each (switch_settings plan) (by_own plan) (range_with_len 0 (length plan.switches)))
 sized_by plan image (Tree root) (forest, is) = labelled_sized plan _ _ image is.is
+sized_by plan image (UpDown root) (forest, is) =
+    subst (λ (i : Image). All IsOfLinks i.settings) (sym is.is)
+    (of_each (λ s. port_labelled_switch plan (is.tables s) s) (λ s. by_ports plan (is.tables s) s) (range_with_len 0 (length plan.switches)))
 sized_by plan image (Mesh width height terminals) is = labelled_sized plan _ _ image is.is
 sized_by plan image (Cube dimensions terminals) is = labelled_sized plan _ _ image is.is
 
