@@ -1,5 +1,5 @@
 -- What `cycles --script` prints of a network: a script that locks it up, or that none was found, or that it has no cycle.
---     LocksUp plan image script      run on the network from its start, a script leaves it deadlocked
+--     LocksUp plan image script      run on the network from its start, a script that changes no switch leaves it deadlocked
 --     PrintsLockup plan image text refused
 use Rattle.std.specs.Prelude.{ℕ, ◌≡◌, ◌⊎◌, Bool, true, false, List, codes}
 use Rattle.c104_token.specs.Kinds.{plain_kind}
@@ -9,17 +9,24 @@ use Rattle.c104_check.specs.ChannelDependencies.{IsAcyclic, IsCycle}
 use Rattle.c104_check.specs.declared.cycles.ChannelDependency.{ChannelDependency}
 use Rattle.c104_check.specs.Routes.{IsAccepted, routes_of}
 use Rattle.c104_run.specs.Standstill.{IsDeadlocked}
-use Rattle.c104_stream.specs.ScriptLines.{is_long}
+use Rattle.c104_stream.specs.ScriptLines.{is_long, script_lines}
+use Rattle.c104_session.specs.PrintedPackets.{LeaveUnchanged}
+use Rattle.c104_session.specs.Shown.{new_session}
 use Rattle.c104_commands.specs.Checks.{IsRefusedBy}
 use Rattle.c104_commands.specs.CycleTexts.{acyclic_text}
 use Rattle.c104_run_commands.specs.StatePictures.{after_script}
 
 -- a script is no longer than it may be, and none of its lines is faulty; and where `run` has answered them all, no event of
 -- a round can be done, though there are tokens or packets in the network
-pub record LocksUp (plan : Plan) (image : Image) (script : List ℕ) : Type 0 where
+pub record EndsLocked (plan : Plan) (image : Image) (script : List ℕ) : Type 0 where
   pub short : is_long script ≡ false
   pub read : (after_script plan image script).faulty ≡ false
   pub locked : IsDeadlocked plain_kind (after_script plan image script).net.network
+
+-- such a script leaves the network as it was set up: each switch is started with its labels to the end
+pub record LocksUp (plan : Plan) (image : Image) (script : List ℕ) : Type 0 where
+  pub ends : EndsLocked plan image script
+  pub unchanged : LeaveUnchanged (routes_of plan image) (new_session plan image) (script_lines script)
 
 -- the line where no such script was found, which says nothing of the network
 abbrev pub none_text : List ℕ

@@ -11,6 +11,7 @@
 #![tactic(auto)]
 
 mod counts;
+mod harmless;
 mod lockups;
 mod over_time;
 mod runs;

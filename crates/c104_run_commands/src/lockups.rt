@@ -12,8 +12,9 @@ ghost use Rattle.c104_label.specs.Images.{IsImageOf, is_labelled_shape};
 ghost use Rattle.c104_session.specs.Shown.{new_session};
 ghost use Rattle.c104_commands.specs.Endings.{CommandEnds, CommandRuns};
 ghost use Rattle.c104_commands.specs.Setups.{ComesTo};
-ghost use Rattle.c104_run_commands.specs.Lockups.{LocksUp, PrintsLockup, TellsLockup, none_text};
+ghost use Rattle.c104_run_commands.specs.Lockups.{EndsLocked, LocksUp, PrintsLockup, TellsLockup, none_text};
 
+use crate::harmless::is_harmless;
 use c104_check::{
     ChannelDependency, CheckFault, RanksOrCycle, channel_dependencies, check, find_cycle,
 };
@@ -164,7 +165,8 @@ fn find_script(
     image: &Image,
     search: &Search<'_>,
 ) -> Result<Option<String>, NoMemory>
-    requires { Fits image.now plan.now }
+    requires fits { Fits image.now plan.now }
+    requires accepted { IsAccepted (routes_of plan.now image.now) }
     ensures { IfOk result (λ found. IfSome found (λ script. LocksUp plan.now image.now (string_bytes script))) }
 {
     for number in 0..MOST_ATTEMPTS {
@@ -184,37 +186,41 @@ fn try_script(
     search: &Search<'_>,
     number: usize,
 ) -> Result<Option<String>, NoMemory>
-    requires { Fits image.now plan.now }
+    requires fits { Fits image.now plan.now }
+    requires accepted { IsAccepted (routes_of plan.now image.now) }
     ensures { IfOk result (λ found. IfSome found (λ script. LocksUp plan.now image.now (string_bytes script))) }
 {
     let Some(script) = search.script(alloc, number)? else {
         return Ok(None);
     };
-    if !locks_up(alloc, plan, image, script.as_bytes())? {
+    let Some(ready) = ready_lines(alloc, plan, script.as_str())? else {
         return Ok(None);
-    }
-    let ready = ready_lines(alloc, plan, script.as_str())?;
+    };
     if locks_up(alloc, plan, image, ready.as_bytes())? {
-        return Ok(Some(ready));
+        Ok(Some(ready))
+    } else {
+        Ok(None)
     }
-    Ok(Some(script))
 }
 
 /// The lines of a script but for those that ask for an event which isn't ready then, in the network of a plan's own lines.
-fn ready_lines(alloc: Global, plan: &Plan, script: &str) -> Result<String, NoMemory> {
+/// None where that network isn't locked up in the end.
+fn ready_lines(alloc: Global, plan: &Plan, script: &str) -> Result<Option<String>, NoMemory> {
     let image = hand_image(alloc, plan)?;
     let session = Session::new(alloc, plan, image)?;
     ready_in(alloc, session, script)
 }
 
 /// The same in a network that is before the script's first line.
-fn ready_in(alloc: Global, session: Session, script: &str) -> Result<String, NoMemory> {
+fn ready_in(alloc: Global, session: Session, script: &str) -> Result<Option<String>, NoMemory> {
     let mut session = session;
     let mut text = String::new(alloc);
     let added = add_ready(alloc, &mut session, script, &mut text);
+    let locks = is_locked(&session.net);
     session.finish().retire();
     match added {
-        Ok(()) => Ok(text),
+        Ok(()) if locks => Ok(Some(text)),
+        Ok(()) => Ok(None),
         Err(fault) => Err(fault),
     }
 }
@@ -244,12 +250,16 @@ fn is_unready(answer: &Option<Answer>) -> bool {
     }
 }
 
-/// Whether a script locks up the network of a plan with an image, if that is the image of the plan's own lines: the labels
-/// that a shape makes have no cycle.
+/// Whether a script leaves the network of a plan with an image as it was set up, but locked up, if that is the image of the
+/// plan's own lines: the labels that a shape makes have no cycle.
 fn locks_up(alloc: Global, plan: &Plan, image: &Image, script: &[u8]) -> Result<bool, NoMemory>
-    requires { Fits image.now plan.now }
+    requires fits { Fits image.now plan.now }
+    requires accepted { IsAccepted (routes_of plan.now image.now) }
     ensures { IfOk result (λ locks. locks ≡ true → LocksUp plan.now image.now script.now) }
 {
+    if !is_harmless(alloc, plan, image, script)? {
+        return Ok(false);
+    }
     let copy = hand_image(alloc, plan)?;
     if !copy.is_same(image) {
         return Ok(false);
@@ -260,7 +270,7 @@ fn locks_up(alloc: Global, plan: &Plan, image: &Image, script: &[u8]) -> Result<
 /// Whether a script locks up the network of a plan with an image.
 fn locks_copy(alloc: Global, plan: &Plan, image: Image, script: &[u8]) -> Result<bool, NoMemory>
     requires { Fits image plan.now }
-    ensures { IfOk result (λ locks. locks ≡ true → LocksUp plan.now image script.now) }
+    ensures { IfOk result (λ locks. locks ≡ true → EndsLocked plan.now image script.now) }
 {
     let mut ahead = Ahead::new(alloc)?;
     let session = Session::new(alloc, plan, image)?;
@@ -277,7 +287,7 @@ fn locks_session<S: Read>(
 ) -> Result<bool, NoMemory>
     ensures { (plan : ThePlan) (image : TheImage) (text : List ℕ) → session ≡ new_session plan image
         → prepend_known ahead.old (S.remaining script.old) ≡ Some text
-        → IfOk result (λ locks. locks ≡ true → LocksUp plan image text) }
+        → IfOk result (λ locks. locks ≡ true → EndsLocked plan image text) }
 {
     let mut session = session;
     let answered = answer_script(

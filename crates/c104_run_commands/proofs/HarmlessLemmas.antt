@@ -1,0 +1,152 @@
+-- A script whose lines are harmless leaves a network as it was set up.
+use Rattle.std.proofs.Common.{◌≡◌, ◌∙◌, ◌<◌, ◌≤◌, ◌+◌, ◌++◌, ◌==◌, ℕ, zero, suc, All, Bool, true, false, List, [], ◌∷◌, Option, Some, None, Result, Ok, Err, append-nil, append_assoc, if◌then◌else◌, length, map, refl, slice_get, sym, ap, subst, take}
+use Rattle.std.proofs.Common.{arith, cond}
+use Rattle.std.specs.List.{onto_first, slice_split}
+use Rattle.std.proofs.lemmas.List.Elements.{All-head, All-tail}
+use Rattle.c104_token.specs.declared.packets.Packet.{Packet}
+use Rattle.c104_switch.specs.Actions.{Reply}
+use Rattle.c104_switch.specs.Headers.{header_number}
+use Rattle.c104_regs.specs.Settings.{header_length}
+use Rattle.c104_regs.specs.declared.settings.Settings.{Settings}
+use Rattle.c104_plan.specs.Plans.{IsPlan, Plan}
+use Rattle.c104_plan.specs.PlanImage.{Fits, Image}
+use Rattle.c104_plan.specs.TextCut.{lines}
+use Rattle.c104_plan.specs.Wiring.{peer}
+use Rattle.c104_plan.specs.declared.ports.Port.{Port}
+use Rattle.c104_plan.specs.declared.ports.Port.TheVariants as port
+use Rattle.c104_check.specs.Routes.{IsAccepted, IsEntryOf, IsRandomAt, IsRandomIn, IsRandomized, Routes, has_label, link_settings, or_no_settings, routes_of}
+use Rattle.c104_check.specs.declared.ports.SwitchPort.{SwitchPort}
+use Rattle.c104_event.specs.declared.events.Event.{Event}
+use Rattle.c104_label.proofs.HeaderLengths.{none_passes}
+use Rattle.c104_net.proofs.RandomOwners.{random_unowned}
+use Rattle.c104_net.specs.Deliveries.{has_header, header_of}
+use Rattle.c104_net.specs.Unchanged.{MayBeSent, MayHappen}
+use Rattle.c104_node.specs.declared.starts.NodeStart.{NodeStart}
+use Rattle.c104_stream.specs.ScriptLines.{lines_within, most_script, script_lines}
+use Rattle.c104_script.specs.Script.{read_script_line}
+use Rattle.c104_script.specs.declared.answers.Answer.{Answer}
+use Rattle.c104_script.specs.declared.answers.Answer.TheVariants.{Replied}
+use Rattle.c104_script.specs.declared.faults.LineFault.{LineFault}
+use Rattle.c104_script.specs.declared.places.Request.{Request}
+use Rattle.c104_script.specs.declared.places.Request.TheVariants as ask
+use Rattle.c104_session.specs.PrintedPackets.{LeaveUnchanged, MayAsk, line_sends, lines_sent}
+use Rattle.c104_session.specs.Shown.{line_answer, new_session}
+use Rattle.c104_session.specs.declared.session.Session.{Session}
+use Rattle.c104_session.proofs.PlacedNets.{placed_starts, placed_unchanged}
+use Rattle.c104_session.proofs.UnchangedNets.{Grows, IsUnchangedNet, Measure}
+use Rattle.c104_session.proofs.UnchangedScripts.{lines_leave}
+use Rattle.c104_run_commands.specs.HarmlessScripts.{AreHarmless, IsHarmless, IsLabel}
+use Rattle.c104_run_commands.specs.Lockups.{EndsLocked, LocksUp}
+
+-- The lines of a script are those of its text
+
+-- what was read of the first line joins the parts of what follows
+onto : List ℕ → List (List ℕ) → List (List ℕ)
+onto front [] = front ∷ []
+onto front (part ∷ parts) = (front ++ part) ∷ parts
+
+onto_byte : (front : List ℕ) (byte : ℕ) (parts : List (List ℕ)) → onto (front ++ byte ∷ []) parts ≡ onto front (onto_first byte parts)
+onto_byte front byte [] = refl
+onto_byte front byte (part ∷ parts) = ap (λ xs. xs ∷ parts) (append_assoc front (byte ∷ []) part)
+
+abbrev parts : List ℕ → List (List ℕ)
+parts text = slice_split (λ byte. byte == 0x0a) text
+
+first_some : (byte : ℕ) (xs : List (List ℕ)) → onto [] (onto_first byte xs) ≡ onto_first byte xs
+first_some byte [] = refl
+first_some byte (part ∷ more) = refl
+
+some_part : (text : List ℕ) → onto [] (parts text) ≡ parts text
+some_part [] = refl
+some_part (byte ∷ text) = by_feed (byte == 0x0a)
+  where
+    by_feed : (b : Bool) → onto [] (cond b ([] ∷ parts text) (onto_first byte (parts text))) ≡ cond b ([] ∷ parts text) (onto_first byte (parts text))
+    by_feed true = refl
+    by_feed false = first_some byte (parts text)
+
+within : (n : ℕ) (front text : List ℕ) → length text ≤ n → lines_within n front text ≡ onto front (parts text)
+within n front [] few = ap (λ xs. xs ∷ []) (sym (append-nil front))
+within zero front (byte ∷ text) few = absurd (omega (arith, few))
+within (suc n) front (byte ∷ text) few = by_feed (byte == 0x0a)
+  where
+    fewer : length text ≤ n
+    fewer = omega (arith, few)
+
+    by_feed : (b : Bool) → (if b then front ∷ lines_within n [] text else lines_within n (front ++ byte ∷ []) text) ≡ onto front (cond b ([] ∷ parts text) (onto_first byte (parts text)))
+    by_feed true = ap (λ xs. front ∷ xs) (within n [] text fewer ∙ some_part text) ∙ ap (λ f. f ∷ parts text) (sym (append-nil front))
+    by_feed false = within n (front ++ byte ∷ []) text fewer ∙ onto_byte front byte (parts text)
+
+pub all_lines : (script : List ℕ) → length script ≤ most_script → script_lines script ≡ lines script
+unfolding script_lines
+all_lines script short = within most_script [] script short ∙ some_part script
+
+-- What lines ask
+
+pub nothing_asked : (routes : Routes) → IsHarmless routes (Ok None)
+nothing_asked routes answer = tt
+
+pub faulty : (routes : Routes) (kind : LineFault) → IsHarmless routes (Err kind)
+faulty routes kind answer = tt
+
+pub event_asked : (routes : Routes) (e : Event) → ((r : Reply) → MayHappen routes e r) → IsHarmless routes (Ok (Some (ask.Asked e)))
+event_asked routes e may (Some (Replied r)) = may r
+event_asked routes e may answer = tt
+
+-- a random header is no label, so what begins with a label may be sent
+label_not_random : (plan : Plan) (image : Image) (p : Packet) → IsAccepted (routes_of plan image) → IsLabel image (header_of (routes_of plan image) p) → IsRandomIn (routes_of plan image) (header_of (routes_of plan image) p) → ⊥
+label_not_random plan image p accepted (t, range, at, label) (u, q, entry, random) =
+    none_passes (λ r. has_label r (header_of (routes_of plan image) p)) image.ranges t range (random_unowned (routes_of plan image) u q (header_of (routes_of plan image) p) accepted entry random) at label
+
+pub may_send : (plan : Plan) (image : Image) (t s l : ℕ) (back : Port) (links : List Settings) (x : Settings) (p : Packet) → IsAccepted (routes_of plan image)
+    → peer plan (port.Terminal t) ≡ Some (port.Switch s l) → peer plan (port.Switch s l) ≡ Some back
+    → slice_get image.settings s ≡ Some links → slice_get links l ≡ Some x
+    → (x.randomize ≡ true → IsLabel image (header_number (take (header_length x) p.bytes)))
+    → MayBeSent (routes_of plan image) t p
+may_send plan image t s l back links x p accepted wired back_is switch at labelled q entry (y, there, randomized) has random =
+    let place : Some (port.Switch s l) ≡ Some (port.Switch q.switch q.link) = sym wired ∙ entry in
+    let same_switch : q.switch ≡ s = cc in
+    let same_link : q.link ≡ l = cc in
+    let here : link_settings image.settings (record { switch = s; link = l }) ≡ Some x =
+    ap (λ o. slice_get (or_no_settings o) l) switch ∙ at in
+    let moved : link_settings image.settings q ≡ link_settings image.settings (record { switch = s; link = l }) = rw (same_switch, same_link) refl in
+    let both : Some y ≡ Some x = sym there ∙ moved ∙ here in
+    let same : y ≡ x = cc in
+    let long : header_length x ≡ (routes_of plan image).header = accepted.one_length (record { switch = s; link = l }) back x back_is here in
+    let label : IsLabel image (header_of (routes_of plan image) p) =
+    subst (λ n. IsLabel image (header_number (take n p.bytes))) long (labelled (subst (λ z. z.randomize ≡ true) same randomized)) in
+    label_not_random plan image p accepted label random
+
+-- What a script leaves
+
+module _ (plan : Plan) (image : Image) (is_plan : IsPlan plan) (fits : Fits image plan) where
+  abbrev routes : Routes
+  routes = routes_of plan image
+
+  abbrev nothing : Measure
+  nothing = record { work = λ nodes. 0; first = 0; weight = 0 }
+
+  never_more : Grows routes plan (placed_starts plan image is_plan fits) nothing
+  never_more sends before e r next was due ready may bytes = omega arith
+
+  abbrev IsLeft : List (ℕ × Packet) → Session → Type 0
+  IsLeft sends session = IsUnchangedNet routes plan (placed_starts plan image is_plan fits) nothing sends session.net
+
+  abbrev IsLine : List ℕ → Type 0
+  IsLine line = IsHarmless routes (read_script_line plan line)
+
+  lines_left : (lines : List (List ℕ)) (sends : List (ℕ × Packet)) (session : Session) → All IsLine lines → IsLeft sends session → LeaveUnchanged routes session lines
+  lines_left [] sends session all was = tt
+  lines_left (line ∷ lines) sends session all was =
+      let answer : Option Answer = (line_answer session line).0 in
+      let may : MayAsk routes (read_script_line session.net.network.plan line) answer =
+      subst (λ p. MayAsk routes (read_script_line p line) answer) (sym was.same_plan) (All-head IsLine line lines all answer) in
+      let next : IsLeft (sends ++ lines_sent session (line ∷ [])) (line_answer session line).1 =
+      lines_leave routes plan is_plan (placed_starts plan image is_plan fits) nothing never_more (line ∷ []) 1 sends session (may, tt) was in
+      (may, lines_left lines (sends ++ lines_sent session (line ∷ [])) (line_answer session line).1 (All-tail IsLine line lines all) next)
+
+  pub harmless_leaves : (script : List ℕ) → AreHarmless plan image (script_lines script) → LeaveUnchanged routes (new_session plan image) (script_lines script)
+  harmless_leaves script all =
+      lines_left (script_lines script) [] (new_session plan image) all (placed_unchanged plan image is_plan fits routes nothing (omega arith))
+
+  pub harmless_locks : (script : List ℕ) → AreHarmless plan image (script_lines script) → EndsLocked plan image script → LocksUp plan image script
+  harmless_locks script all ends = record { ends = ends; unchanged = harmless_leaves script all }
