@@ -27,9 +27,9 @@ pub record IsCubeImage (plan : Plan) (dimensions terminals : ℕ) (image : Image
   pub is : image ≡ labelled_image plan (map range_of plan.terminals) (map (cube_table dimensions terminals) (range_with_len 0 (2 ^ dimensions)))
   pub tables : AreCubeTables dimensions terminals
 
--- the image of a plan whose packets go up towards a root and then down: the labels are those of the root's tree, each
--- port that has a wire has a table of its own, and all else is as the plan's own lines say. Of the tables it is said
--- that by them each label comes to its terminal, and that no inputs depend on one another in a cycle.
+-- the image of a plan that is labelled up and down from a root: the labels are those of the root's tree, each port that
+-- has a wire has a table of its own, and all else is as the plan's own lines say. Of the tables it is said that by them
+-- each label comes to its terminal, and that no inputs depend on one another in a cycle, but not which they are.
 pub record IsUpDownImage (plan : Plan) (root : ℕ) (forest : Forest) (image : Image) : Type 0 where
   pub tree : IsSpanning plan root forest
   pub tables : ℕ → ℕ → Table

@@ -77,7 +77,7 @@ pub fn label_tree(alloc: Global, plan: &Plan) -> Result<Image, LabelFault>
     }
 }
 
-/// The image of a plan that is to be labelled so that packets go up towards a root, and then down, over all wires.
+/// The image of a plan that is to be labelled so that packets go up towards a root, and then down, over any of the wires.
 ///
 /// The labels of terminals are those that `label_tree` gives them by the same root. A wire leads up to the switch that
 /// the depth-first visit met first, and each port that has a wire has a table of its own: what came down goes down, and

@@ -1,4 +1,4 @@
-//! Labels by which packets go up towards a root and then down, over all wires.
+//! Labels by which packets go up towards a root and then down, over any of the wires.
 ghost use Rattle.std.specs.Prelude.{◌≡◌, ◌<◌, ◌≤◌, IfErr, IfOk, IfSome, true};
 ghost use Rattle.c104_regs.specs.Ranges.{IsTableInRange};
 ghost use Rattle.c104_regs.specs.declared.registers.TheConstants.{LINKS as LINK_COUNT};
@@ -142,7 +142,7 @@ fn tables_by(
     Ok(Some(tables))
 }
 
-/// The table of a link of a switch: by shortest ways, or by any, where these need fewer rows.
+/// The table of a link of a switch: by shortest ways, or by any, where those need more rows than a table has.
 fn port_table(
     alloc: Global,
     plan: &Plan,

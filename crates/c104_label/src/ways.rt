@@ -1,4 +1,4 @@
-//! Ways that go up towards the root of a depth-first tree and then down, over all wires between switches.
+//! Ways that go up towards the root of a depth-first tree and then down, over any of the wires between switches.
 //!
 //! A wire goes up to the switch that the visit met first. Nothing is proved of these ways but that they are found
 //! safely: an image that is made by them is checked.
