@@ -92,8 +92,8 @@ pub record HasNoDeadlock (image : Image) (net : NetRecord) : Type 0 where
   -- where each is answered with NotReady, it is quiet
   pub never : IsDeadlocked plain_kind net.network → ⊥
   pub stands_quiet : StandsStill plain_kind net.network → IsQuiet net.network
-  -- each event of a kind that rounds have, where it is done, leaves less work: so as many as there is work can be done, in
-  -- whatever rounds or order they come
+  -- each event of a kind that rounds have, where it is done, leaves less work: so no more of them can be done than there is
+  -- work, in whatever rounds or order they come
   pub lessens : (rank : SwitchPort → ℕ) → IsRanking (routes_of net.network.plan image) rank → (e : Event) → IsOfRound e →
       is_done (record_apply net e).0 ≡ true →
       random_work net.network.plan (routes_of net.network.plan image) rank (record_apply net e).1.network.nodes

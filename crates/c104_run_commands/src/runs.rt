@@ -54,7 +54,7 @@ pub fn run<D: Read, S: Read, W: Write, M: Messages>(
     ensures lines { (script : List ℕ) → AreOnlyLines script (script_lines script) }
 
     // What is printed behind the answers, of packets: lines of packets that were sent, each whole and none twice; and,
-    // with rounds enough where no channel depends on itself, of all that were sent to a terminal.
+    // with rounds enough, where channels do not depend on one another in a cycle, of all that were sent to a terminal.
     ensures packets { (text script : List ℕ) → PrintsPacketsOf text script }
     ensures all { (text script : List ℕ) → PrintsAllOf text script }
 {
@@ -127,7 +127,7 @@ pub fn run_text<R: Read, W: Write, M: Messages>(
     ensures lines { (script : List ℕ) → AreOnlyLines script (script_lines script) }
 
     // What is printed behind the answers, of packets: lines of packets that were sent, each whole and none twice; and,
-    // with rounds enough where no channel depends on itself, of all that were sent to a terminal.
+    // with rounds enough, where channels do not depend on one another in a cycle, of all that were sent to a terminal.
     ensures packets { (text : List ℕ) → PrintsPacketsOf (parts text).description (parts text).script }
     ensures all { (text : List ℕ) → PrintsAllOf (parts text).description (parts text).script }
 {
