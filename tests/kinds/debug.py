@@ -126,7 +126,8 @@ TYPED = [
     ('draw .', UNKNOWN, b'.: Is a directory (os error 21)\n'),
     ('draw none/such  # a file', UNKNOWN, b'none/such: No such file or directory (os error 2)\n'),
     ('draw /dev/full', UNKNOWN, b'/dev/full: No space left on device (os error 28)\n'),
-    ('quit', UNKNOWN, FAREWELL),
+    # Ctrl-D within a line sends its first part
+    ('qu\x04it', UNKNOWN, FAREWELL),
     ('frob', UNKNOWN, b'c104: -:61: a line begins with `send`, `drain`, `cross`, `credit`, `input`, `claim`, `control`, '
         b'`rounds`, `peek`, `poke`, `link`, `table` or `verify`; `help` lists them, and `show` shows a part of the '
         b'network: frob\n'),
@@ -458,22 +459,43 @@ def drawn_pictures(runner, path, saved):
 
 
 def questions_as_faults(runner):
-    """What is typed gives the same bytes as a run of it. The words by which a person wants to end a script don't change
-    the exit status at a terminal."""
-    for name, script, status in [('questions alone', b'help\nshow A\nshow z\n', 1), ('quit and exit', b'quit\nexit now\n', 0),
-                                 ('quit after a fault', b'frob\nquit\nrounds 1\n', 1)]:
-        if not runner.wanted(name):
-            continue
+    """What is typed gives the same bytes and exit status as a run of it."""
+    for name, script, status in [('questions alone', b'help\nshow A\nshow z\n', 1), ('no questions', b'send a 01 68 eop\n', 0)]:
+        judge_typed(runner, name, script, END_OF_INPUT, status)
+
+
+def ended_by_a_word(runner):
+    """A line `quit` or `exit` ends what is typed: what stands before it is the script, and nothing behind it is read. In a
+    file and through a pipe these are unknown words."""
+    done, faulty = b'send a 01 68 eop\nrounds 20\n', b'frob\nrounds 1\n'
+    for name, script, line, status in [('quit at once', b'', b'quit\n', 0), ('quit', done, b'quit\n', 0),
+                                       ('exit', done, b'\texit now  # and go\n', 0), ('quit after a fault', faulty, b'quit\n', 1),
+                                       ('lines behind quit', done, b'quit\nfrob\n', 0)]:
+        judge_typed(runner, name, script, line, status)
+    for name, line in [('quit', b'quit\n'), ('exit', b'exit now\n')]:
+        answers = answers_of([(line.decode(), UNKNOWN)])
         with tempfile.TemporaryDirectory() as folder:
             path = network(folder)
-            run = runner.run(words=['run', path, '-'], data=script)
-            asked = asked_by_person(runner.program + ['debug', path], False)
-            asked.read(asked.errors, b'1> ')
-            asked.send(script)
+            runner.case('%s of a run' % name, answers, 1, words=['run', path, '-'], data=line)
+            runner.case('%s through a pipe' % name, answers, 1, words=['debug', path], data=line)
+
+
+def judge_typed(runner, name, script, end, status):
+    """Whether a script that is typed, and what ends it, give the bytes and the exit status of a run of the script, and this
+    status."""
+    if not runner.wanted(name):
+        return
+    with tempfile.TemporaryDirectory() as folder:
+        path = network(folder)
+        run = runner.run(words=['run', path, '-'], data=script)
+        asked = asked_by_person(runner.program + ['debug', path], False)
+        asked.read(asked.errors, b'1> ')
+        asked.send(script)
+        if script:
             asked.read(asked.errors, b'%d> ' % (script.count(b'\n') + 1))
-            asked.send(END_OF_INPUT)
-            found = asked.end(), asked.read(asked.output, None), b''
-            runner.judge(name, difference(found, run[1], status, None) or (None if run[0] == 1 else 'run: %d' % run[0]))
+        asked.send(end)
+        found = asked.end(), asked.read(asked.output, None), b''
+        runner.judge(name, difference(found, run[1], status, None) or (None if run[0] == status else 'run: %d' % run[0]))
 
 
 def awaited(runner):
@@ -490,4 +512,5 @@ def awaited(runner):
 
 
 PARTS = [through_a_pipe, no_questions, same_as_run, at_a_terminal, what_waits, reads_and_drops,
-         where_packets_are, a_node_of_that_name, pictures, questions_as_faults, awaited]
+         where_packets_are, a_node_of_that_name, pictures, questions_as_faults, ended_by_a_word,
+         awaited]

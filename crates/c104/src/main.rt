@@ -77,7 +77,7 @@ fn do_words<H: Threads + Wait + Sync>(rt: &HostRuntime, threads: &H, words: &[St
             if told.has_wrong_word() {
                 return ExitCode::from(WRONG_USAGE);
             }
-            let code = finish(rt, told.status_of(status), words.order);
+            let code = finish(rt, status, words.order);
             if let Status::CannotRead(number) = status
                 && let Some(fault) = told.fault()
             {

@@ -1,7 +1,6 @@
 //! What people are told on standard error, and where that is wanted; and pictures that they ask for.
 ghost use Rattle.std.specs.Prelude.{⊤};
 
-use c104_commands::Status;
 use c104_mistakes::{About, Messages};
 use c104_words::{EXPLAIN_WORD, Order, Subcommand};
 use clap::Error;
@@ -33,9 +32,6 @@ pub struct Told<'a> {
     is_watched: bool,
     // Whether a person types the script.
     is_asked: bool,
-    // Whether a line was faulty that doesn't just want to end the script, and whether one does.
-    is_faulty: bool,
-    has_farewell: bool,
     // The system's number of the fault of what can't be read.
     fault: Option<i32>,
     // Whether a word of the command line turned out to be wrong.
@@ -55,8 +51,6 @@ impl<'a> Told<'a> {
             is_wanted: explain || is_watched,
             is_watched,
             is_asked: is_typed && is_watched,
-            is_faulty: false,
-            has_farewell: false,
             fault: None,
             has_wrong_word: false,
             going: None,
@@ -88,14 +82,6 @@ impl<'a> Told<'a> {
         match self.fault {
             Some(code) if self.is_wanted => Some(io::Error::from_raw_os_error(code)),
             _ => None,
-        }
-    }
-
-    /// How a run ends: the lines by which a person wants to end a script don't make it a refused one.
-    pub fn status_of(&self, status: Status) -> Status {
-        match status {
-            Status::Refused if self.has_farewell && !self.is_faulty => Status::Done,
-            _ => status,
         }
     }
 
@@ -152,11 +138,6 @@ impl Messages for Told<'_> {
     }
 
     fn tell(&mut self, about: About, message: &str) {
-        match about {
-            About::FaultyLine(_) | About::Question => self.is_faulty = true,
-            About::Farewell => self.has_farewell = true,
-            _ => {}
-        }
         if let Ok(line) = self.line_of(about, message) {
             // The whole line at once. Where that fails, the message is lost.
             let _ = self.rt.stderr().write_all(line.as_bytes());

@@ -1,10 +1,13 @@
 //! A script that is typed at a terminal.
+ghost use Rattle.std.specs.Prelude.{None};
 
+use c104_plan::{first_word, uncommented};
 use std::io;
 use std::io::{Read, Write};
 
 /// A reader of what is typed: a prompt with the line's number comes on standard error before each line. Each read
-/// asks the reader once, which gives a line where it is a terminal.
+/// asks the reader once, which gives a line where it is a terminal. With a line whose first word is `quit` or `exit` what is
+/// typed is at its end, as if the input had ended before that line.
 #[derive(Drop)]
 pub struct Typed<'a, I: Read + Drop> {
     rt: &'a HostRuntime,
@@ -13,6 +16,8 @@ pub struct Typed<'a, I: Read + Drop> {
     line: usize,
     // Whether nothing of that line is there yet.
     begins: bool,
+    // Whether a line ended what is typed.
+    has_ended: bool,
 }
 
 impl<'a, I: Read + Drop> Typed<'a, I> {
@@ -23,19 +28,28 @@ impl<'a, I: Read + Drop> Typed<'a, I> {
             input,
             line: 1,
             begins: true,
+            has_ended: false,
         }
     }
 }
 
 impl<I: Read + Drop> Read for Typed<'_, I> {
-    ghost remaining = { λ typed. I.remaining typed.input };
+    // What the reader has left doesn't say where a person ends it: that also depends on how it is cut into reads.
+    ghost remaining = { λ _. None };
 
     fn read(&mut self, buf: &mut [u8]) -> io::Result<usize> {
+        if self.has_ended {
+            return Ok(0);
+        }
         if self.begins {
             prompt(self.rt, self.line);
         }
         let count = self.input.read(buf)?;
         let piece = &buf[..count];
+        if self.begins && is_farewell(piece) {
+            self.has_ended = true;
+            return Ok(0);
+        }
         if count == 0 {
             // What follows stands on a line of its own.
             let _ = self.rt.stderr().write_all(b"\n");
@@ -50,6 +64,14 @@ impl<I: Read + Drop> Read for Typed<'_, I> {
 fn prompt(rt: &HostRuntime, line: usize) {
     if let Ok(text) = format!(in rt.alloc(); "{line}> ") {
         let _ = rt.stderr().write_all(text.as_bytes());
+    }
+}
+
+/// Whether a piece is a line with which a person wants to end the script.
+fn is_farewell(piece: &[u8]) -> bool {
+    match piece {
+        [line @ .., b'\n'] => matches!(first_word(uncommented(line)), Some(b"quit" | b"exit")),
+        _ => false,
     }
 }
 

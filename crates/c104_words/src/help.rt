@@ -55,8 +55,7 @@ there are, `show` shows the links of a switch, one link or a terminal, and `show
 which outputs the inputs hold and want; `where` shows where a packet is, by the terminal
 that sent it and its number; `draw` writes the network as it stands to a file, as
 `c104 draw --state` does. On standard output these are unknown words, as in `run`. The
-end of input, Ctrl-D, ends the script; `quit` and `exit` say so, and don't change the
-exit status.
+script ends with the input, Ctrl-D, or with a typed line `quit` or `exit`.
 
 Lines can be edited and called back under rlwrap: `rlwrap c104 debug DESC`.";
 
