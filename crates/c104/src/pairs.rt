@@ -66,14 +66,18 @@ pub fn draw_files(rt: &HostRuntime, order: Order<'_>, told: &mut Told<'_>) -> St
 /// Draws a run of two files over its rounds. A first round behind the last is a wrong word, and so is a format that there
 /// isn't.
 pub fn time_files(rt: &HostRuntime, order: Order<'_>, told: &mut Told<'_>) -> Status {
-    let asked = match asked_of(order.picture, order.counts) {
-        Ok(asked) => asked,
+    match asked_of(order.picture, order.counts) {
+        Ok(asked) => time_asked(rt, order, asked, told),
         Err(wrong) => {
             let _ = rt.eprintln(wrong);
             told.note_wrong_word();
-            return Status::Refused;
+            Status::Refused
         }
-    };
+    }
+}
+
+/// Draws these rounds of a run of two files.
+fn time_asked(rt: &HostRuntime, order: Order<'_>, asked: Asked, told: &mut Told<'_>) -> Status {
     let (mut description, mut script) = match open_both(
         rt,
         order.description,

@@ -98,12 +98,19 @@ fn with_script<'a>(alloc: Global, named: Command<'a>) -> Result<Command<'a>, All
 
 /// `[--from R] [--to R] [--format F]`, with `--over-time`.
 fn with_rounds<'a>(alloc: Global, named: Command<'a>) -> Result<Command<'a>, AllocError> {
-    let from = round_option(alloc, FROM, FROM_HELP)?;
-    let to = round_option(alloc, TO, TO_HELP)?;
-    let format = valued(alloc, FORMAT, "F", FORMAT_HELP)
-        .requires_arg(OVER_TIME)?
-        .conflicts_with(STATE)?;
-    named.arg(from)?.arg(to)?.arg(format)
+    let begun = with_round(alloc, named, FROM, FROM_HELP)?;
+    let ended = with_round(alloc, begun, TO, TO_HELP)?;
+    ended.arg(format_option(alloc)?)
+}
+
+/// `--from R` or `--to R`.
+fn with_round<'a>(
+    alloc: Global,
+    named: Command<'a>,
+    name: &'a str,
+    help: &'a str,
+) -> Result<Command<'a>, AllocError> {
+    named.arg(round_option(alloc, name, help)?)
 }
 
 /// `--state`, with a script, and without what else is marked.
@@ -128,10 +135,17 @@ fn script_option<'a>(option: Arg<'a>) -> Result<Arg<'a>, AllocError> {
 /// `--from R` or `--to R`. What is wanted but stands against another word isn't missed, so it is said that neither goes with
 /// `--state`.
 fn round_option<'a>(alloc: Global, name: &'a str, help: &'a str) -> Result<Arg<'a>, AllocError> {
-    valued(alloc, name, "R", help)
-        .value_parser(value_parser!(u32))
-        .requires_arg(OVER_TIME)?
-        .conflicts_with(STATE)
+    rounds_option(valued(alloc, name, "R", help).value_parser(value_parser!(u32)))
+}
+
+/// `--format F`.
+fn format_option<'a>(alloc: Global) -> Result<Arg<'a>, AllocError> {
+    rounds_option(valued(alloc, FORMAT, "F", FORMAT_HELP))
+}
+
+/// An option of the rounds of a picture.
+fn rounds_option<'a>(option: Arg<'a>) -> Result<Arg<'a>, AllocError> {
+    option.requires_arg(OVER_TIME)?.conflicts_with(STATE)
 }
 
 /// `--header N`.
