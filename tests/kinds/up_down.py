@@ -9,18 +9,20 @@ FAR = 1000
 
 
 class Network:
-    """Switches by number, with wires between links, and terminals on links that are free after them."""
+    """Switches by number, with wires between links, and terminals on links that are free after them, each with some labels.
+    Other lines come first. Where a table can't have the rows of shortest ways, a way is only to come down no wire before
+    it goes up."""
 
-    def __init__(self, switches, joins, terminals, root=0):
-        self.free, self.root = [0] * switches, root
-        self.peer, self.hosts, self.lines = {}, [], ['switch n%d' % it for it in range(switches)]
+    def __init__(self, switches, joins, terminals, root=0, labels=1, lines=(), is_shortest=True):
+        self.free, self.root, self.labels, self.is_shortest = [0] * switches, root, labels, is_shortest
+        self.peer, self.hosts, self.lines = {}, [], [*lines, *('switch n%d' % it for it in range(switches))]
         for here, there in joins:
             ends = self.take(here), self.take(there)
             self.peer[ends[0]], self.peer[ends[1]] = ends[1], ends[0]
             self.lines.append('wire n%d.%d n%d.%d' % (*ends[0], *ends[1]))
         for switch in range(switches):
             for _ in range(terminals(switch)):
-                self.lines.append('terminal t%d n%d.%d' % (len(self.hosts), *self.host(switch)))
+                self.lines.append('terminal t%d n%d.%d labels %d' % (len(self.hosts), *self.host(switch), labels))
 
     def take(self, switch):
         self.free[switch] += 1
@@ -96,6 +98,10 @@ NETWORKS = {
     'a torus': Network(16, grid(4, 4, True), lambda s: 1, 5),
     'a cube': Network(16, cube(4), lambda s: 1),
     'a folded Clos network': Network(12, clos(8, 4), lambda s: 4 if s < 8 else 0, 8),
+    'a single switch': Network(1, [], lambda s: 3),
+    'two terminals with many labels': Network(9, ring(9), lambda s: 2, 0, 14),
+    'headers of two bytes': Network(9, grid(3, 3, True), lambda s: 2, 4, 300, ['header 2']),
+    'a cube with a crowded corner': Network(64, cube(6), lambda s: 26 if s == 20 else 1, is_shortest=False),
     **{'a network by chance, %d' % seed: Network(10, chance(10, 8, seed), lambda s: s % 3, seed) for seed in range(4)},
 }
 
@@ -123,22 +129,41 @@ def selected(values, port, header):
     return None
 
 
+def step(network, values, at, label):
+    """The port that a label comes to over a wire from a port, or None where it comes out elsewhere; and where it goes out."""
+    out = at[0], selected(values, at, label)
+    return network.peer.get(out), out
+
+
+def wrong_between(network, values, place, sender, target, label, lengths):
+    """What is wrong of the way of a label from a terminal to another, if anything is."""
+    at, went_down, wires = network.hosts[sender], False, 0
+    due = lengths[at[0], False]
+    while True:
+        to, out = step(network, values, at, label)
+        if out == network.hosts[target]:
+            break
+        if to is None or wires > len(place):
+            return 'label %d from t%d: %r after %d wires' % (label, sender, out, wires)
+        is_down = place[to[0]] > place[at[0]]
+        if went_down and not is_down:
+            return 'label %d from t%d: down and then up at %r' % (label, sender, out)
+        at, went_down, wires = to, is_down, wires + 1
+    if network.is_shortest and wires != due:
+        return 'label %d from t%d: %d wires, %d due' % (label, sender, wires, due)
+    return None
+
+
 def wrong_way(network, ranges, values):
     """What is wrong of a way, if any is: each goes up and then down, and is a shortest such way."""
-    for target, label in enumerate(ranges):
+    place = {switch: at for at, switch in enumerate(network.order())}
+    for target, first in enumerate(ranges):
         lengths = network.lengths(network.hosts[target][0])
-        for sender, at in enumerate(network.hosts):
-            wires, due = 0, lengths[at[0], False]
-            while True:
-                link = selected(values, at, label)
-                out = (at[0], link)
-                if out == network.hosts[target]:
-                    break
-                if out not in network.peer or wires == due:
-                    return 'from t%d to t%d: %r after %d wires' % (sender, target, out, wires)
-                wires, at = wires + 1, network.peer[out]
-            if wires != due:
-                return 'from t%d to t%d: %d wires, %d due' % (sender, target, wires, due)
+        for sender in range(len(network.hosts)):
+            for label in {first, first + network.labels - 1}:
+                wrong = wrong_between(network, values, place, sender, target, label, lengths)
+                if wrong:
+                    return wrong
     return None
 
 
