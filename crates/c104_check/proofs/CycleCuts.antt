@@ -3,6 +3,7 @@ use Rattle.std.proofs.Common.{◌≡◌, ℕ, zero, suc, ◌<◌, Bool, List, []
 use Rattle.std.proofs.lemmas.List.Quantifiers.{position-Some}
 use Rattle.c104_check.specs.Routes.{Routes, SwitchPort}
 use Rattle.c104_check.specs.ChannelDependencies.{AreChained, DependsBy, IsCycle, ChannelDependency}
+pub use Rattle.c104_check.specs.FirstCycles.{inputs_of}
 use Rattle.c104_check.specs.Walks.{is_port}
 use Rattle.c104_check.proofs.TrailLemmas.{is_port-true}
 
@@ -13,10 +14,6 @@ dependency_of at h = record { input = at; header = h }
 abbrev pub IsChain : Routes → List ChannelDependency → SwitchPort → Type 0
 IsChain routes [] at = Unit {0}
 IsChain routes (a ∷ steps) at = AreChained routes a steps at
-
-abbrev pub inputs_of : List ChannelDependency → List SwitchPort
-inputs_of [] = []
-inputs_of (a ∷ steps) = a.input ∷ inputs_of steps
 
 pub inputs-snoc : (steps : List ChannelDependency) (a : ChannelDependency) → inputs_of (steps ++ a ∷ []) ≡ inputs_of steps ++ a.input ∷ []
 inputs-snoc [] a = refl

@@ -1,18 +1,22 @@
 -- The walk from input to input along dependencies, until it meets an input again.
-use Rattle.std.proofs.Common.{◌≡◌, ℕ, suc, ◌<◌, ◌≤◌, ◌+◌, ◌*◌, Bool, true, false, ◌||◌, List, [], ◌∷◌, ◌++◌, Option, None, Some, length, nat_lt, not, position, refl, sym, ap, subst, ◌∙◌, arith}
+use Rattle.std.proofs.Common.{◌≡◌, ℕ, suc, ◌<◌, ◌≤◌, ◌+◌, ◌*◌, Bool, true, false, ◌||◌, List, [], ◌∷◌, ◌++◌, Option, None, Some, drop, length, nat_lt, not, position, refl, sym, ap, subst, ◌∙◌, arith}
 use mathlib.Core.Bool.{cond}
 use Rattle.std.proofs.lemmas.Bool.Decides.{nat_tests}
 use Rattle.std.proofs.lemmas.List.{length-append}
 use Rattle.std.specs.List.{AllByRecursion, IsDistinct, position_or_len}
-use Rattle.c104_check.specs.Cycles.{IsDependencyOf, LeadsToUnranked}
+use Rattle.c104_plan.specs.declared.ports.Port.TheVariants as port
+use Rattle.c104_check.specs.ChannelDependencies.{ChannelDependency, Depends}
+use Rattle.c104_check.specs.Checks.{IsFirstLink}
+use Rattle.c104_check.specs.Cycles.{AreAllRanked, LeadsFirst}
 use Rattle.c104_check.specs.Dependencies.{AreDependencies, Dependency}
+use Rattle.c104_check.specs.FirstCycles.{GoesOn, IsFirstCycle, IsOver, IsWay, LeadsToCycle}
 use Rattle.c104_check.specs.Ranks.{rank_in}
-use Rattle.c104_check.specs.Routes.{Routes, SwitchPort, place, port_at, to_port}
+use Rattle.c104_check.specs.Routes.{Routes, SwitchPort, place}
 use Rattle.c104_check.specs.Trails.{IsInput, IsNetwork}
-use Rattle.c104_check.specs.ChannelDependencies.{DependsBy, ChannelDependency}
-use Rattle.c104_check.specs.Walks.{is_met, is_port, port_of}
-use Rattle.c104_check.proofs.CycleCuts.{IsChain, chain_more, dependency_of, inputs-snoc, inputs_of, is_of_input, length-inputs}
-use Rattle.c104_check.proofs.LinkLemmas.{at_place}
+use Rattle.c104_check.specs.Walks.{is_met, is_port}
+use Rattle.c104_check.proofs.CycleCuts.{IsChain, chain_more, dependency_of, inputs-snoc, inputs_of, is_cycle_cut, is_of_input, length-inputs}
+use Rattle.c104_check.proofs.FirstCycleLemmas.{distinct_rest, way_more}
+use Rattle.c104_check.proofs.TableRanks.{entry_is}
 use Rattle.c104_check.proofs.TrailLemmas.{All-snoc, IsDistinct-snoc, inputs_room}
 
 not_met : (at : SwitchPort) (steps : List ChannelDependency) → length steps ≤ position_or_len (is_of_input at) steps → is_met at (inputs_of steps) ≡ false
@@ -31,22 +35,10 @@ none_far n m false less is = grind (arith, nat_tests)
 pub met_none : (at : SwitchPort) (steps : List ChannelDependency) → position (is_of_input at) steps ≡ None → is_met at (inputs_of steps) ≡ false
 met_none at steps is = not_met at steps (none_far (position_or_len (is_of_input at) steps) (length steps) (nat_lt (position_or_len (is_of_input at) steps) (length steps)) refl is)
 
--- a dependency of an input in the table
-pub step_is : (routes : Routes) (table : List (Option Dependency)) (at : SwitchPort) (d : Dependency) → IsNetwork routes → AreDependencies routes table → IsInput (length routes.settings) at → IsDependencyOf table (place at) d → DependsBy routes d.header at d.next × IsInput (length routes.settings) d.next
-step_is routes table at d net dependencies here (o, low, there) =
-    let entry = dependencies (place at * 32 + o) d there in
-    let p : SwitchPort = entry.0 in
-    let q : ℕ = entry.1 in
-    let input = entry.2 in
-    let below : q < 32 = entry.3 in
-    let index : place at * 32 + o ≡ place p * 32 + q = entry.4 in
-    let same : place p ≡ place at = omega (arith, index, low, below) in
-    let one : p ≡ at = sym (at_place (length routes.settings) p input) ∙ ap port_at same ∙ at_place (length routes.settings) at here in
-    (subst (λ x. DependsBy routes d.header x d.next) one entry.6, net.inputs (to_port (port_of p.switch q)) d.next entry.5)
-
 -- one dependency more
-pub record IsFollowed (routes : Routes) (ranks : List ℕ) (steps new : List ChannelDependency) (at : SwitchPort) : Type 0 where
+pub record IsFollowed (routes : Routes) (ranks : List ℕ) (steps new : List ChannelDependency) (start at : SwitchPort) : Type 0 where
   pub chain : IsChain routes new at
+  pub way : IsWay routes start new at
   pub inside : AllByRecursion (IsInput (length routes.settings)) (inputs_of new)
   pub once : IsDistinct is_port (inputs_of new)
   pub here : IsInput (length routes.settings) at
@@ -54,25 +46,64 @@ pub record IsFollowed (routes : Routes) (ranks : List ℕ) (steps new : List Cha
   pub longer : length new ≡ length steps + 1
   pub room : length new ≤ 32 * length routes.settings
 
-pub follow_next : (routes : Routes) (table : List (Option Dependency)) (ranks : List ℕ) (steps seen new : List ChannelDependency) (at : SwitchPort) (k : ℕ) (d : Dependency) → IsNetwork routes → AreDependencies routes table → IsChain routes steps at → AllByRecursion (IsInput (length routes.settings)) (inputs_of steps) → IsDistinct is_port (inputs_of steps) → IsInput (length routes.settings) at → seen ≡ steps → position (is_of_input at) seen ≡ None → k ≡ place at → LeadsToUnranked table ranks k d → new ≡ steps ++ dependency_of at d.header ∷ [] → IsFollowed routes ranks steps new d.next
-follow_next routes table ranks steps seen new at k d net dependencies chain inside once here read absent placed unranked is =
+-- the first dependency that leads to an input without a rank is the one by which the way goes on
+goes_on : (routes : Routes) (table : List (Option Dependency)) (ranks : List ℕ) (at : SwitchPort) (d : Dependency) → IsNetwork routes → AreDependencies routes table → AreAllRanked routes table ranks → IsInput (length routes.settings) at → LeadsFirst table ranks (place at) d → GoesOn routes (dependency_of at d.header) d.next
+goes_on routes table ranks at d net dependencies ranked here (o, low, there, rankless, before) =
+    let is = entry_is routes table at o d dependencies here low there in
+    record {
+      link = o;
+      over = is.1;
+      most = (is.0, λ g by. ranked.most at o g d here low there by);
+      leads = (ranked.told d.next (net.inputs (port.Switch at.switch o) d.next is.1)).0 rankless;
+      lowest = lower;
+    }
+  where
+    lower : (u : ℕ) (r : SwitchPort) → u < o → IsOver routes at u r → Depends routes at r → LeadsToCycle routes r → ⊥
+    lower u r below over depends leads =
+        let entry = ranked.listed at r u depends over in
+        let e : Dependency = entry.0 in
+        let some : 0 < rank_in ranks r = subst (λ x. 0 < rank_in ranks x) entry.2 (before u e below entry.1) in
+        let none : rank_in ranks r ≡ 0 = (ranked.told r (net.inputs (port.Switch at.switch u) r over)).1 leads in
+        omega (arith, some, none)
+
+pub follow_next : (routes : Routes) (table : List (Option Dependency)) (ranks : List ℕ) (steps seen new : List ChannelDependency) (start at : SwitchPort) (k : ℕ) (d : Dependency) → IsNetwork routes → AreDependencies routes table → AreAllRanked routes table ranks → IsChain routes steps at → IsWay routes start steps at → AllByRecursion (IsInput (length routes.settings)) (inputs_of steps) → IsDistinct is_port (inputs_of steps) → IsInput (length routes.settings) at → seen ≡ steps → position (is_of_input at) seen ≡ None → k ≡ place at → LeadsFirst table ranks k d → new ≡ steps ++ dependency_of at d.header ∷ [] → IsFollowed routes ranks steps new start d.next
+follow_next routes table ranks steps seen new start at k d net dependencies ranked chain way inside once here read absent placed unranked is =
     let fresh : is_met at (inputs_of steps) ≡ false = met_none at steps (ap (position (is_of_input at)) (sym read) ∙ absent) in
-    let of : IsDependencyOf table (place at) d = subst (λ j. IsDependencyOf table j d) placed unranked.0 in
-    let step = step_is routes table at d net dependencies here of in
+    let of : LeadsFirst table ranks (place at) d = subst (λ j. LeadsFirst table ranks j d) placed unranked in
+    let step = entry_is routes table at of.0 d dependencies here of.1 of.2 in
     let more : AllByRecursion (IsInput (length routes.settings)) (inputs_of steps ++ at ∷ []) = All-snoc (IsInput (length routes.settings)) (inputs_of steps) at inside here in
     let apart : IsDistinct is_port (inputs_of steps ++ at ∷ []) = IsDistinct-snoc (inputs_of steps) at once fresh in
     let size = length-append steps (dependency_of at d.header ∷ []) in
     let fits = inputs_room (length routes.settings) (inputs_of steps ++ at ∷ []) more apart in
     let long : length (inputs_of steps ++ at ∷ []) ≡ length steps + 1 = length-append (inputs_of steps) (at ∷ []) ∙ ap (λ n. n + 1) (length-inputs steps) in
-    subst (λ xs. IsFollowed routes ranks steps xs d.next) (sym is) (record {
+    subst (λ xs. IsFollowed routes ranks steps xs start d.next) (sym is) (record {
       chain = chain_more routes d.header at d.next steps chain step.0;
+      way = way_more routes start at d.next d.header steps way (goes_on routes table ranks at d net dependencies ranked here of);
       inside = subst (AllByRecursion (IsInput (length routes.settings))) (sym (inputs-snoc steps (dependency_of at d.header))) more;
       once = subst (IsDistinct is_port) (sym (inputs-snoc steps (dependency_of at d.header))) apart;
-      here = step.1;
-      rankless = unranked.1;
+      here = net.inputs (port.Switch at.switch of.0) d.next step.1;
+      rankless = of.3;
       longer = size;
       room = omega (arith, size, fits, long);
     })
+
+-- cut where it meets an input again it is the cycle
+pub first_cut : (routes : Routes) (start at : SwitchPort) (steps seen all back cycle : List ChannelDependency) (k : ℕ) → IsFirstLink (LeadsToCycle routes) start → IsChain routes steps at → IsWay routes start steps at → IsDistinct is_port (inputs_of steps) → seen ≡ steps → all ≡ steps → position (is_of_input at) seen ≡ Some k → back ≡ drop k all → cycle ≡ back → IsFirstCycle routes cycle
+first_cut routes start at steps seen all back cycle k first chain way once read again found cut copied =
+    let rest : cycle ≡ drop k steps = copied ∙ cut ∙ ap (drop k) again in
+    record {
+      is_cycle = is_cycle_cut routes at steps seen all back cycle k chain read again found cut copied;
+      differ = subst (λ xs. IsDistinct is_port (inputs_of xs)) (sym rest) (distinct_rest k steps once);
+      start = start;
+      first = first;
+      steps = steps;
+      again = at;
+      way = way;
+      once = once;
+      before = k;
+      met = ap (position (is_of_input at)) (sym read) ∙ found;
+      rest = rest;
+    }
 
 pub none_chained : IsDistinct is_port (inputs_of [])
 unfolding IsDistinct

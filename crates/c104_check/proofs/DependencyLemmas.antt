@@ -7,7 +7,7 @@ use Rattle.std.proofs.Math.Seq.{take-append_seam}
 use Rattle.std.specs.List.{AllByRecursion}
 use Rattle.c104_regs.proofs.RegisterLemmas.{get_or-same}
 use Rattle.c104_crossbar.specs.declared.group.Group.{Group}
-use Rattle.c104_check.specs.Dependencies.{AreDependencies, AreListedBelow, Dependency, IsDependencyAt, IsExtended, AreListedAsOwn, AreListedAsRandom, AreListedAt, AreListedFor, AreListedFrom, IsListedOver, dependency_at, dependency_place}
+use Rattle.c104_check.specs.Dependencies.{AreByBelow, AreDependencies, AreListedBelow, Dependency, IsDependencyAt, IsExtended, AreListedAsOwn, AreListedAsRandom, AreListedAt, AreListedFor, AreListedFrom, IsListedOver, dependency_at, dependency_place, is_by_from}
 use Rattle.c104_check.specs.Parts.{AreJust, IsReachedAsOwn, IsReachedAsRandom}
 use Rattle.c104_check.specs.Reach.{IsSelected}
 use Rattle.c104_check.specs.Routes.{Routes, SwitchPort, is_in_group, owner, to_port}
@@ -22,15 +22,31 @@ use Rattle.c104_check.proofs.StartLemmas.{random_is_randomized}
 use Rattle.c104_check.proofs.TrailLemmas.{All-found, All-map}
 
 -- one after another
-pub extended_more : (routes : Routes) (old now new : List (Option Dependency)) → IsExtended routes old now → IsExtended routes now new → IsExtended routes old new
-extended_more routes old now new before here = record {
+pub extended_more : (routes : Routes) (first limit : ℕ) (old now new : List (Option Dependency)) → IsExtended routes first old now → IsExtended routes limit now new → IsExtended routes limit old new
+extended_more routes first limit old now new before here = record {
   room = here.room ∙ before.room;
   dependencies = λ is. here.dependencies (before.dependencies is);
-  kept = λ k is. here.kept k (before.kept k is);
+  kept = λ h k is. here.kept h k (before.kept h k is);
+  below = here.below;
 }
 
+-- with a higher limit
+pub below_more : (limit : ℕ) (table : List (Option Dependency)) → AreByBelow limit table → AreByBelow (limit + 1) table
+below_more limit table low k d there = (let less = low k d there in omega (arith, less))
+
+-- no header is higher than the one of the dependency that takes the place
+by_higher : (h : ℕ) (d : Dependency) (o : Option Dependency) → ((e : Dependency) → o ≡ Some e → e.header < d.header + 1) → is_by_from h o ≡ true → nat_le h d.header ≡ true
+by_higher h d None low is = absurd cc
+by_higher h d (Some e) low is =
+    let less = low e refl in
+    let high : nat_le h e.header ≡ true = is in
+    grind (arith, nat_tests)
+
+pub by_itself : (h : ℕ) → nat_le h h ≡ true
+by_itself h = grind (arith, nat_tests)
+
 -- one dependency
-module _ (routes : Routes) (old : List (Option Dependency)) (at : SwitchPort) (o : ℕ) (d : Dependency) (input : IsInput (length routes.settings) at) (link : o < 32) (room : length old ≡ length routes.settings * 32 * 32) (leads : routes.peer (to_port (port_of at.switch o)) ≡ Some (to_port d.next)) (depends : DependsBy routes d.header at d.next) where
+module _ (routes : Routes) (old : List (Option Dependency)) (at : SwitchPort) (o : ℕ) (d : Dependency) (input : IsInput (length routes.settings) at) (link : o < 32) (room : length old ≡ length routes.settings * 32 * 32) (leads : routes.peer (to_port (port_of at.switch o)) ≡ Some (to_port d.next)) (depends : DependsBy routes d.header at d.next) (low : AreByBelow (d.header + 1) old) where
   abbrev filled : List (Option Dependency)
   filled = slice_set old (dependency_place at o) (Some d)
 
@@ -46,7 +62,7 @@ module _ (routes : Routes) (old : List (Option Dependency)) (at : SwitchPort) (o
   same_entry : (x y : Dependency) → Some x ≡ Some y → x ≡ y
   same_entry x y is = cc
 
-  pub extended_one : IsExtended routes old filled
+  pub extended_one : IsExtended routes (d.header + 1) old filled
   extended_one = record {
     room = length-set old (dependency_place at o) (Some d);
     dependencies = λ is k e there. elim (eqb_tells k (dependency_place at o)) [
@@ -55,21 +71,31 @@ module _ (routes : Routes) (old : List (Option Dependency)) (at : SwitchPort) (o
           subst (IsDependencyAt routes k) (same_entry d e one) (at, o, input, link, same.1, leads, depends)
       | inr other ↦ is k e (sym (same_elsewhere k other.1) ∙ there)
     ];
-    kept = λ k is. elim (eqb_tells k (dependency_place at o)) [
-      | inl same ↦ ap is_some (ap (dependency_at filled) same.1 ∙ here)
-      | inr other ↦ ap is_some (same_elsewhere k other.1) ∙ is
+    kept = λ h k is. elim (eqb_tells k (dependency_place at o)) [
+      | inl same ↦ ap (is_by_from h) (ap (dependency_at filled) same.1 ∙ here) ∙ by_higher h d (dependency_at old k) (low k) is
+      | inr other ↦ ap (is_by_from h) (same_elsewhere k other.1) ∙ is
+    ];
+    below = λ k e there. elim (eqb_tells k (dependency_place at o)) [
+      | inl same ↦
+          let one : Some d ≡ Some e = sym here ∙ ap (dependency_at filled) (sym same.1) ∙ there in
+          subst (λ (x : Dependency). x.header < d.header + 1) (same_entry d e one) (omega arith)
+      | inr other ↦ low k e (sym (same_elsewhere k other.1) ∙ there)
     ];
   }
 
+  -- it stands there by its header
+  pub listed_one : is_by_from d.header (dependency_at filled (dependency_place at o)) ≡ true
+  listed_one = ap (is_by_from d.header) here ∙ by_itself d.header
+
 -- what is listed stays so
-pub over_kept : (routes : Routes) (now new : List (Option Dependency)) (at link : SwitchPort) → IsExtended routes now new → IsListedOver routes now at link → IsListedOver routes new at link
-over_kept routes now new at link kept is q leads = let one = is q leads in (one.0, kept.kept (dependency_place at link.link) one.1)
+pub over_kept : (routes : Routes) (limit : ℕ) (now new : List (Option Dependency)) (h : ℕ) (at link : SwitchPort) → IsExtended routes limit now new → IsListedOver routes now h at link → IsListedOver routes new h at link
+over_kept routes limit now new h at link kept is q leads = let one = is q leads in (one.0, kept.kept h (dependency_place at link.link) one.1)
 
-pub at_kept : (routes : Routes) (now new : List (Option Dependency)) (h : ℕ) → IsExtended routes now new → (p : SwitchPort) → AreListedAt routes now h p → AreListedAt routes new h p
-at_kept routes now new h kept p is q follows = let one = is q follows in (one.0, kept.kept (dependency_place p follows.1) one.1)
+pub at_kept : (routes : Routes) (limit : ℕ) (now new : List (Option Dependency)) (h : ℕ) → IsExtended routes limit now new → (p : SwitchPort) → AreListedAt routes now h p → AreListedAt routes new h p
+at_kept routes limit now new h kept p is q follows = let one = is q follows in (one.0, kept.kept h (dependency_place p follows.1) one.1)
 
-pub for_kept : (routes : Routes) (now new : List (Option Dependency)) (h : ℕ) → IsExtended routes now new → AreListedFor routes now h → AreListedFor routes new h
-for_kept routes now new h kept is p arrives = at_kept routes now new h kept p (is p arrives)
+pub for_kept : (routes : Routes) (limit : ℕ) (now new : List (Option Dependency)) (h : ℕ) → IsExtended routes limit now new → AreListedFor routes now h → AreListedFor routes new h
+for_kept routes limit now new h kept is p arrives = at_kept routes limit now new h kept p (is p arrives)
 
 within_run : (first last o : ℕ) → first ≤ o → o ≤ last → (nat_le first o && nat_le o last) ≡ true
 within_run first last o low high = grind (arith, nat_tests)
@@ -80,20 +106,20 @@ link_depends routes h link group p q arrives selected low high wired =
     (arrives, (selected.link, link, selected.selects, selected.members link ∙ within_run group.first group.last link low high, wired))
 
 -- over one link more
-pub from_next : (routes : Routes) (at : SwitchPort) (first link : ℕ) (now new : List (Option Dependency)) → IsExtended routes now new → AreListedFrom routes now at first link → IsListedOver routes new at (port_of at.switch link) → AreListedFrom routes new at first (link + 1)
-from_next routes at first link now new kept before here o from below =
+pub from_next : (routes : Routes) (limit h : ℕ) (at : SwitchPort) (first link : ℕ) (now new : List (Option Dependency)) → IsExtended routes limit now new → AreListedFrom routes now h at first link → IsListedOver routes new h at (port_of at.switch link) → AreListedFrom routes new h at first (link + 1)
+from_next routes limit h at first link now new kept before here o from below =
     elim (cases_lt o link) [
-      | inl lower ↦ over_kept routes now new at (port_of at.switch o) kept (before o from lower)
+      | inl lower ↦ over_kept routes limit now new h at (port_of at.switch o) kept (before o from lower)
       | inr not ↦
           let same : link ≡ o = omega (arith, below, not) in
-          subst (λ k. IsListedOver routes new at (port_of at.switch k)) same here
+          subst (λ k. IsListedOver routes new h at (port_of at.switch k)) same here
     ]
 
 run_within : (first last o : ℕ) → (nat_le first o && nat_le o last) ≡ true → (first ≤ o) × (o ≤ last)
 run_within first last o is = (grind (arith, nat_tests), grind (arith, nat_tests))
 
 -- over all links of the group
-pub from_all : (routes : Routes) (table : List (Option Dependency)) (h : ℕ) (group : Group) (p : SwitchPort) (end : ℕ) → group.last + 1 ≤ end → IsSelected routes h p group → AreListedFrom routes table p group.first end → AreListedAt routes table h p
+pub from_all : (routes : Routes) (table : List (Option Dependency)) (h : ℕ) (group : Group) (p : SwitchPort) (end : ℕ) → group.last + 1 ≤ end → IsSelected routes h p group → AreListedFrom routes table h p group.first end → AreListedAt routes table h p
 from_all routes table h group p end last selected all q (g, o, selects, inside, wired) =
     let link : g ≡ selected.link = Some-Link-same g selected.link (sym selects ∙ selected.selects) in
     let within = run_within group.first group.last o (sym (selected.members o) ∙ ap (λ k. is_in_group routes p.switch k o) (sym link) ∙ inside) in
@@ -101,9 +127,9 @@ from_all routes table h group p end last selected all q (g, o, selects, inside, 
     all o within.0 (omega (arith, last, high)) q wired
 
 -- at one input more
-pub at_next : (routes : Routes) (h : ℕ) (xs : List SwitchPort) (k : ℕ) (d : SwitchPort) (now new : List (Option Dependency)) → k < length xs → IsExtended routes now new → AllByRecursion (AreListedAt routes now h) (take k xs) → AreListedAt routes new h (slice_index_or xs k d) → AllByRecursion (AreListedAt routes new h) (take (k + 1) xs)
-at_next routes h xs k d now new below kept before here =
-    all_taken_next (AreListedAt routes new h) xs k d below here (All-map (AreListedAt routes now h) (AreListedAt routes new h) (at_kept routes now new h kept) (take k xs) before)
+pub at_next : (routes : Routes) (limit h : ℕ) (xs : List SwitchPort) (k : ℕ) (d : SwitchPort) (now new : List (Option Dependency)) → k < length xs → IsExtended routes limit now new → AllByRecursion (AreListedAt routes now h) (take k xs) → AreListedAt routes new h (slice_index_or xs k d) → AllByRecursion (AreListedAt routes new h) (take (k + 1) xs)
+at_next routes limit h xs k d now new below kept before here =
+    all_taken_next (AreListedAt routes new h) xs k d below here (All-map (AreListedAt routes now h) (AreListedAt routes new h) (at_kept routes limit now new h kept) (take k xs) before)
 
 -- Where a header may come as the own one of packets, and where as a random one, packets may that go by it
 
@@ -144,15 +170,15 @@ by_part : (routes : Routes) (h m : ℕ) (x p : SwitchPort) (table : List (Option
 by_part routes h m x p table own random (inl (t, owned, begins)) reaches = own t p owned (x, m, begins, reaches)
 by_part routes h m x p table own random (inr begins) reaches = random p (x, m, begins, reaches)
 
-pub both_listed : (routes : Routes) (h : ℕ) (now new : List (Option Dependency)) → IsExtended routes now new → AreListedAsOwn routes now h → AreListedAsRandom routes new h → AreListedFor routes new h
-both_listed routes h now new kept own random p (x, m, begins, reaches) =
-    by_part routes h m x p new (λ t y owned reached. at_kept routes now new h kept y (own t y owned reached)) random begins reaches
+pub both_listed : (routes : Routes) (limit h : ℕ) (now new : List (Option Dependency)) → IsExtended routes limit now new → AreListedAsOwn routes now h → AreListedAsRandom routes new h → AreListedFor routes new h
+both_listed routes limit h now new kept own random p (x, m, begins, reaches) =
+    by_part routes h m x p new (λ t y owned reached. at_kept routes limit now new h kept y (own t y owned reached)) random begins reaches
 
 -- by one header more
-pub below_next : (routes : Routes) (h : ℕ) (now new : List (Option Dependency)) → IsExtended routes now new → AreListedBelow routes now h → AreListedFor routes new h → AreListedBelow routes new (h + 1)
-below_next routes h now new kept before here k below =
+pub below_next : (routes : Routes) (limit h : ℕ) (now new : List (Option Dependency)) → IsExtended routes limit now new → AreListedBelow routes now h → AreListedFor routes new h → AreListedBelow routes new (h + 1)
+below_next routes limit h now new kept before here k below =
     elim (cases_lt k h) [
-      | inl lower ↦ for_kept routes now new k kept (before k lower)
+      | inl lower ↦ for_kept routes limit now new k kept (before k lower)
       | inr not ↦ let same : h ≡ k = omega (arith, below, not) in subst (AreListedFor routes new) same here
     ]
 
@@ -162,6 +188,11 @@ below_all routes n end table over all h below = all h (omega (arith, below, over
 -- a table of none
 pub dependencies_none : (routes : Routes) (n : ℕ) → AreDependencies routes (replicate n None)
 dependencies_none routes n k d there =
+    let none : dependency_at (replicate n None) k ≡ None = get_or-same n k None in
+    absurd (let clash : None ≡ Some d = sym none ∙ there in cc)
+
+pub by_none : (n : ℕ) → AreByBelow 0 (replicate n None)
+by_none n k d there =
     let none : dependency_at (replicate n None) k ≡ None = get_or-same n k None in
     absurd (let clash : None ≡ Some d = sym none ∙ there in cc)
 

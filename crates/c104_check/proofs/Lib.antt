@@ -33,6 +33,7 @@ pub mod AcyclicLemmas
 pub mod DependencyLemmas
 pub mod RankSteps
 pub mod CycleCuts
-pub mod CycleWalks
 pub mod TableRanks
+pub mod FirstCycleLemmas
+pub mod CycleWalks
 pub mod EdgeLemmas

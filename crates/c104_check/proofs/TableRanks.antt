@@ -1,21 +1,60 @@
 -- What the table of dependencies, and ranks that fall along those in it, tell of a network.
-use Rattle.std.proofs.Common.{◌≡◌, ℕ, ◌<◌, ◌+◌, ◌*◌, inl, inr, true, List, Option, None, Some, is_some, length, refl, sym, ap, subst, ◌∙◌, arith}
-use Rattle.c104_check.specs.Cycles.{ArePartialRanks}
-use Rattle.c104_check.specs.Dependencies.{AreDependencies, AreListedBelow, Dependency, dependency_at, dependency_place}
+use Rattle.std.proofs.Common.{◌≡◌, ℕ, zero, suc, ◌<◌, ◌≤◌, ◌+◌, ◌*◌, inl, inr, true, List, Option, None, Some, length, nat_le, refl, sym, ap, subst, ◌∙◌, arith}
+use Rattle.std.proofs.lemmas.Bool.{cases_lt}
+use Rattle.std.proofs.lemmas.Bool.Decides.{nat_tests}
+use Rattle.c104_plan.specs.declared.ports.Port.TheVariants as port
+use Rattle.c104_check.specs.Checks.{IsFirstLink}
+use Rattle.c104_check.specs.Cycles.{AreAllRanked, ArePartialRanks, LeadsToUnranked}
+use Rattle.c104_check.specs.Dependencies.{AreDependencies, AreListedBelow, Dependency, dependency_at, dependency_place, is_by_from}
+use Rattle.c104_check.specs.FirstCycles.{IsOver, LeadsOver, LeadsToCycle}
 use Rattle.c104_check.specs.Ranks.{rank_at, rank_in}
 use Rattle.c104_check.specs.Routes.{IsAccepted, Routes, SwitchPort, header_count, place, port_at, to_port}
 use Rattle.c104_check.specs.Trails.{IsInput, IsNetwork}
-use Rattle.c104_check.specs.ChannelDependencies.{AreRanksWithin, Depends, IsBeginningBy, IsRanking, input_count}
+use Rattle.c104_check.specs.ChannelDependencies.{AreRanksWithin, Depends, DependsBy, IsBeginningBy, IsRanking, input_count}
 use Rattle.c104_check.specs.Walks.{port_of}
 use Rattle.c104_check.proofs.AcyclicLemmas.{arrived_input}
-use Rattle.c104_check.proofs.LinkLemmas.{at_place, place_below}
+use Rattle.c104_check.proofs.LinkLemmas.{at_place, first_link, input_at, place_below}
 use Rattle.c104_check.proofs.OwnerLemmas.{owner_owns}
 use Rattle.c104_check.proofs.RandomLemmas.{random_header}
 use Rattle.c104_check.proofs.ReachLemmas.{input_same}
 
-some_dependency : (o : Option Dependency) → is_some o ≡ true → (d : Dependency) × (o ≡ Some d)
-some_dependency None is = absurd cc
-some_dependency (Some d) is = (d, refl)
+by_some : (h : ℕ) (o : Option Dependency) → is_by_from h o ≡ true → (d : Dependency) × (o ≡ Some d) × (h ≤ d.header)
+by_some h None is = absurd cc
+by_some h (Some d) is =
+    let high : nat_le h d.header ≡ true = is in
+    (d, refl, grind (arith, nat_tests))
+
+same_dependency : (d e : Dependency) → Some d ≡ Some e → d ≡ e
+same_dependency d e is = cc
+
+-- packets begin to go by headers of the network alone
+begun_header : (routes : Routes) (h : ℕ) (x : SwitchPort) → IsAccepted routes → IsBeginningBy routes h x → h < header_count routes
+begun_header routes h x accepted (inl (t, owned, begins)) = accepted.small t h (owner_owns routes h t owned)
+begun_header routes h x accepted (inr (t, wired, random)) = random_header routes x h random
+
+-- wires join two ports
+same_link : (s o u : ℕ) → Some (port.Switch s o) ≡ Some (port.Switch s u) → o ≡ u
+same_link s o u is = cc
+
+pub one_link : (routes : Routes) (p q : SwitchPort) (o u : ℕ) → IsNetwork routes → IsOver routes p o q → IsOver routes p u q → o ≡ u
+one_link routes p q o u net first second =
+    same_link p.switch o u (sym (net.back (port.Switch p.switch o) (to_port q) first) ∙ net.back (port.Switch p.switch u) (to_port q) second)
+
+-- what stands for an input and a link is a dependency of it, over that link
+pub entry_is : (routes : Routes) (table : List (Option Dependency)) (at : SwitchPort) (o : ℕ) (d : Dependency) → AreDependencies routes table → IsInput (length routes.settings) at → o < 32 → dependency_at table (dependency_place at o) ≡ Some d → DependsBy routes d.header at d.next × IsOver routes at o d.next
+entry_is routes table at o d dependencies here low there =
+    let entry = dependencies (dependency_place at o) d there in
+    let p : SwitchPort = entry.0 in
+    let e : ℕ = entry.1 in
+    let input = entry.2 in
+    let below : e < 32 = entry.3 in
+    let index : place at * 32 + o ≡ place p * 32 + e = entry.4 in
+    let leads : routes.peer (to_port (port_of p.switch e)) ≡ Some (to_port d.next) = entry.5 in
+    let same : place p ≡ place at = omega (arith, index, low, below) in
+    let links : e ≡ o = omega (arith, index, low, below) in
+    let one : p ≡ at = sym (at_place (length routes.settings) p input) ∙ ap port_at same ∙ at_place (length routes.settings) at here in
+    let over : routes.peer (port.Switch at.switch o) ≡ Some (to_port d.next) = ap (λ x. routes.peer (to_port x)) (ap (λ (x : SwitchPort). port_of x.switch o) (sym one) ∙ ap (port_of p.switch) (sym links)) ∙ leads in
+    (subst (λ x. DependsBy routes d.header x d.next) one entry.6, over)
 
 -- what the table has for a dependency
 pub record IsFound (routes : Routes) (table : List (Option Dependency)) (p q : SwitchPort) : Type 0 where
@@ -25,39 +64,104 @@ pub record IsFound (routes : Routes) (table : List (Option Dependency)) (p q : S
   pub there : dependency_at table (dependency_place p link) ≡ Some dependency
   pub next : dependency.next ≡ q
   pub input : IsInput (length routes.settings) p
+  pub over : IsOver routes p link q
 
--- packets begin to go by headers of the network alone
-begun_header : (routes : Routes) (h : ℕ) (x : SwitchPort) → IsAccepted routes → IsBeginningBy routes h x → h < header_count routes
-begun_header routes h x accepted (inl (t, owned, begins)) = accepted.small t h (owner_owns routes h t owned)
-begun_header routes h x accepted (inr (t, wired, random)) = random_header routes x h random
+module _ (routes : Routes) (table : List (Option Dependency)) (net : IsNetwork routes) (accepted : IsAccepted routes) (dependencies : AreDependencies routes table) (listed : AreListedBelow routes table (header_count routes)) where
+  -- one by a header stands over a link
+  listed_over : (p q : SwitchPort) (h : ℕ) → DependsBy routes h p q → (o : ℕ) × (d : Dependency) × (o < 32) × IsOver routes p o q × (dependency_at table (dependency_place p o) ≡ Some d) × (h ≤ d.header)
+  listed_over p q h (arrives, follows) =
+      let o : ℕ = follows.1 in
+      let note = listed h (begun_header routes h arrives.0 accepted arrives.2) p arrives q follows in
+      let found = by_some h (dependency_at table (dependency_place p o)) note.1 in
+      (o, found.0, note.0, follows.4, found.1, found.2)
 
-pub find_listed : (routes : Routes) (table : List (Option Dependency)) → IsNetwork routes → IsAccepted routes → AreDependencies routes table → AreListedBelow routes table (header_count routes) → (p q : SwitchPort) → Depends routes p q → IsFound routes table p q
-find_listed routes table net accepted dependencies listed p q (h, (arrives, follows)) =
-    let o : ℕ = follows.1 in
-    let note = listed h (begun_header routes h arrives.0 accepted arrives.2) p arrives q follows in
-    let low : o < 32 = note.0 in
-    let found = some_dependency (dependency_at table (dependency_place p o)) note.1 in
-    let d : Dependency = found.0 in
-    let is = dependencies (dependency_place p o) d found.1 in
-    let r : SwitchPort = is.0 in
-    let e : ℕ = is.1 in
-    let input = is.2 in
-    let below : e < 32 = is.3 in
-    let index : place p * 32 + o ≡ place r * 32 + e = is.4 in
-    let leads : routes.peer (to_port (port_of r.switch e)) ≡ Some (to_port d.next) = is.5 in
-    let here = arrived_input routes h p net arrives in
-    let places : place r ≡ place p = omega (arith, index, low, below) in
-    let links : e ≡ o = omega (arith, index, low, below) in
-    let one : r ≡ p = sym (at_place (length routes.settings) r input) ∙ ap port_at places ∙ at_place (length routes.settings) p here in
-    let over : routes.peer (to_port (port_of p.switch o)) ≡ Some (to_port d.next) = ap (λ x. routes.peer (to_port x)) (ap (λ (x : SwitchPort). port_of x.switch o) (sym one) ∙ ap (port_of r.switch) (sym links)) ∙ leads in
-    record {
-      link = o;
-      dependency = d;
-      low = low;
-      there = found.1;
-      next = input_same d.next q (routes.peer (to_port (port_of p.switch o))) (routes.peer (to_port (port_of p.switch o))) over follows.4 refl;
-      input = here;
+  pub find_listed : (p q : SwitchPort) → Depends routes p q → IsFound routes table p q
+  find_listed p q (h, by) =
+      let found = listed_over p q h by in
+      let o : ℕ = found.0 in
+      let d : Dependency = found.1 in
+      let here = arrived_input routes h p net by.0 in
+      let leads = (entry_is routes table p o d dependencies here found.2 found.4).1 in
+      record {
+        link = o;
+        dependency = d;
+        low = found.2;
+        there = found.4;
+        next = input_same d.next q (routes.peer (port.Switch p.switch o)) (routes.peer (port.Switch p.switch o)) leads found.3 refl;
+        input = here;
+        over = found.3;
+      }
+
+  -- none depends so by a higher header than the one that stands there
+  pub most_listed : (p : SwitchPort) (o h : ℕ) (d : Dependency) → IsInput (length routes.settings) p → o < 32 → dependency_at table (dependency_place p o) ≡ Some d → DependsBy routes h p d.next → h ≤ d.header
+  most_listed p o h d here low there by =
+      let found = listed_over p d.next h by in
+      let u : ℕ = found.0 in
+      let e : Dependency = found.1 in
+      let links : u ≡ o = one_link routes p d.next u o net found.3 (entry_is routes table p o d dependencies here low there).1 in
+      let same : e ≡ d = same_dependency e d (sym found.4 ∙ ap (λ k. dependency_at table (dependency_place p k)) links ∙ there) in
+      subst (λ (x : Dependency). h ≤ x.header) same found.5
+
+  all_listed : (p q : SwitchPort) (o : ℕ) → Depends routes p q → IsOver routes p o q → (d : Dependency) × (dependency_at table (dependency_place p o) ≡ Some d) × (d.next ≡ q)
+  all_listed p q o depends over =
+      let found = find_listed p q depends in
+      let links : o ≡ found.link = one_link routes p q o found.link net over found.over in
+      (found.dependency, ap (λ k. dependency_at table (dependency_place p k)) links ∙ found.there, found.next)
+
+  -- ranks of the inputs from which no dependencies lead into a cycle
+  module _ (ranks : List ℕ) (part : ArePartialRanks table ranks) (size : length ranks ≡ length routes.settings * 32) (stuck : (k : ℕ) → k < length ranks → rank_at ranks k ≡ 0 → (d : Dependency) × LeadsToUnranked table ranks k d) where
+    -- ranks fall along dependencies, so there are no longer ways
+    none_over : (k : ℕ) (p : SwitchPort) → rank_in ranks p ≤ k → 0 < rank_in ranks p → LeadsOver routes k p → ⊥
+    none_over zero p within some leads = omega (arith, within, some)
+    none_over (suc k) p within some (q, depends, more) =
+        let found = find_listed p q depends in
+        let down = part.falls (place p) found.dependency some (found.link, found.low, found.there) in
+        let low : rank_in ranks q < rank_in ranks p = subst (λ x. rank_in ranks x < rank_in ranks p) found.next down.1 in
+        none_over k q (omega (arith, low, within)) (subst (λ x. 0 < rank_in ranks x) found.next down.0) more
+
+    unranked : (p : SwitchPort) → LeadsToCycle routes p → rank_in ranks p ≡ 0
+    unranked p leads = elim (cases_lt 0 (rank_in ranks p)) [
+      | inl some ↦ absurd (none_over (rank_in ranks p) p (omega arith) some (leads (rank_in ranks p)))
+      | inr none ↦ omega (arith, none)
+    ]
+
+    -- and from an input without a rank one goes on for ever
+    pub leads_over : (k : ℕ) (p : SwitchPort) → IsInput (length routes.settings) p → rank_in ranks p ≡ 0 → LeadsOver routes k p
+    leads_over zero p here none = tt
+    leads_over (suc k) p here none =
+        let below = place_below (length routes.settings) p here in
+        let step = stuck (place p) (omega (arith, below, size)) none in
+        let d : Dependency = step.0 in
+        let o : ℕ = step.1.0.0 in
+        let is = entry_is routes table p o d dependencies here step.1.0.1 step.1.0.2 in
+        (d.next, (d.header, is.0), leads_over k d.next (net.inputs (port.Switch p.switch o) d.next is.1) step.1.1)
+
+    pub all_ranked : AreAllRanked routes table ranks
+    all_ranked = record {
+      most = most_listed;
+      listed = all_listed;
+      told = λ p here. ((λ none k. leads_over k p here none), unranked p);
     }
+
+    leading_input : (p : SwitchPort) → LeadsToCycle routes p → IsInput (length routes.settings) p
+    leading_input p leads = let one = leads 1 in arrived_input routes one.1.0 p net one.1.1.0
+
+    -- the first input without a rank is the first from which dependencies lead into a cycle
+    pub first_leading : (k : ℕ) → k < length ranks → rank_at ranks k ≡ 0 → ((j : ℕ) → j < k → 0 < rank_at ranks j) → IsFirstLink (LeadsToCycle routes) (port_at k)
+    first_leading k below none before =
+        let here = input_at (length routes.settings) k (omega (arith, below, size)) in
+        let same : place (port_at k) ≡ k = omega arith in
+        first_link (LeadsToCycle routes) (length routes.settings) k leading_input
+        (λ q lower leads. (let some = before (place q) lower in let zero_rank = unranked q leads in omega (arith, some, zero_rank)))
+        (λ n. leads_over n (port_at k) here (ap (rank_at ranks) same ∙ none))
+
+-- the same of what was read of lists
+pub stuck_in : (table : List (Option Dependency)) (ranks : List ℕ) (places : ℕ) (seen : List (Option Dependency)) → seen ≡ table → length ranks ≡ places → ((k : ℕ) → k < places → rank_at ranks k ≡ 0 → (d : Dependency) × LeadsToUnranked seen ranks k d) → (k : ℕ) → k < length ranks → rank_at ranks k ≡ 0 → (d : Dependency) × LeadsToUnranked table ranks k d
+stuck_in table ranks places seen read size stuck k below none =
+    subst (λ (xs : List (Option Dependency)). (d : Dependency) × LeadsToUnranked xs ranks k d) read (stuck k (omega (arith, below, size)) none)
+
+pub first_in : (ranks seen : List ℕ) (k : ℕ) → seen ≡ ranks → (k < length seen) × (rank_at seen k ≡ 0) × ((j : ℕ) → j < k → 0 < rank_at seen j) → (k < length ranks) × (rank_at ranks k ≡ 0) × ((j : ℕ) → j < k → 0 < rank_at ranks j)
+first_in ranks seen k read is = subst (λ (xs : List ℕ). (k < length xs) × (rank_at xs k ≡ 0) × ((j : ℕ) → j < k → 0 < rank_at xs j)) read is
 
 pub table_ranking : (routes : Routes) (table : List (Option Dependency)) (ranks : List ℕ) → IsNetwork routes → IsAccepted routes → AreDependencies routes table → AreListedBelow routes table (header_count routes) → ArePartialRanks table ranks → length ranks ≡ length routes.settings * 32 → ((k : ℕ) → k < length ranks → 0 < rank_at ranks k) → IsRanking routes (rank_in ranks)
 table_ranking routes table ranks net accepted dependencies listed part size all p q depends =

@@ -1,9 +1,11 @@
 -- The search for a cycle of dependencies: ranks that are given to more and more inputs.
-use Rattle.std.specs.Prelude.{ℕ, zero, suc, ◌≡◌, ◌<◌, ◌≤◌, ◌+◌, ◌*◌, Bool, true, false, List, [], ◌∷◌, Some, Option, length}
-use Rattle.c104_check.specs.ChannelDependencies.{AreRanksWithin, IsCycle, IsRanking, input_count}
-use Rattle.c104_check.specs.Dependencies.{Dependency, dependency_at}
+use Rattle.std.specs.Prelude.{ℕ, zero, suc, ◌≡◌, ◌↔◌, ◌<◌, ◌≤◌, ◌+◌, ◌*◌, Bool, true, false, List, [], ◌∷◌, Some, Option, length}
+use Rattle.c104_check.specs.ChannelDependencies.{AreRanksWithin, Depends, DependsBy, IsCycle, IsRanking, input_count}
+use Rattle.c104_check.specs.Dependencies.{Dependency, dependency_at, dependency_place}
+use Rattle.c104_check.specs.FirstCycles.{IsOver, LeadsToCycle}
 use Rattle.c104_check.specs.Ranks.{rank_at, rank_in}
-use Rattle.c104_check.specs.Routes.{Routes, place}
+use Rattle.c104_check.specs.Routes.{Routes, SwitchPort, place}
+use Rattle.c104_check.specs.Trails.{IsInput}
 use Rattle.c104_check.specs.declared.cycles.RanksOrCycle.{RanksOrCycle}
 use Rattle.c104_check.specs.declared.cycles.RanksOrCycle.TheVariants.{Ranks, Cycle}
 
@@ -25,9 +27,20 @@ IsDependencyOf table p d = (o : ℕ) × (o < 32) × (dependency_at table (p * 32
 abbrev pub LeadsToUnranked : List (Option Dependency) → List ℕ → ℕ → Dependency → Type 0
 LeadsToUnranked table ranks p d = IsDependencyOf table p d × (rank_in ranks d.next ≡ 0)
 
+-- it is the first that does, by link
+abbrev pub LeadsFirst : List (Option Dependency) → List ℕ → ℕ → Dependency → Type 0
+LeadsFirst table ranks p d = (o : ℕ) × (o < 32) × (dependency_at table (p * 32 + o) ≡ Some d) × (rank_in ranks d.next ≡ 0)
+    × ((u : ℕ) (e : Dependency) → u < o → dependency_at table (p * 32 + u) ≡ Some e → 0 < rank_in ranks e.next)
+
 -- the input at a place depends on ranked inputs alone
 abbrev pub AllLeadToRanked : List (Option Dependency) → List ℕ → ℕ → Type 0
 AllLeadToRanked table ranks p = (d : Dependency) → IsDependencyOf table p d → 0 < rank_in ranks d.next
+
+-- a table of all dependencies, each by the highest header, and ranks of the inputs from which none lead into a cycle
+pub record AreAllRanked (routes : Routes) (table : List (Option Dependency)) (ranks : List ℕ) : Type 0 where
+  pub most : (p : SwitchPort) (o h : ℕ) (d : Dependency) → IsInput (length routes.settings) p → o < 32 → dependency_at table (dependency_place p o) ≡ Some d → DependsBy routes h p d.next → h ≤ d.header
+  pub listed : (p q : SwitchPort) (o : ℕ) → Depends routes p q → IsOver routes p o q → (d : Dependency) × (dependency_at table (dependency_place p o) ≡ Some d) × (d.next ≡ q)
+  pub told : (p : SwitchPort) → IsInput (length routes.settings) p → (rank_in ranks p ≡ 0) ↔ LeadsToCycle routes p
 
 -- how many inputs have no rank yet
 abbrev pub unranked_count : List ℕ → ℕ

@@ -16,6 +16,7 @@ pub mod Reach
 pub mod Parts
 pub mod Ranks
 pub mod ChannelDependencies
+pub mod FirstCycles
 pub mod Dependencies
 pub mod Edges
 pub mod Cycles

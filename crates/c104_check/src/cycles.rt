@@ -2,8 +2,9 @@
 ghost use Rattle.std.specs.Prelude.{◌≡◌, ◌<◌, ◌≤◌, ◌+◌, ◌*◌, ℕ, true, false, length, position, IfOk, MatchOption};
 ghost use Rattle.c104_plan.specs.PlanImage.{Fits};
 ghost use Rattle.c104_check.specs.ChannelDependencies.{AreByLabels, AreNeverBoth};
-ghost use Rattle.c104_check.specs.Cycles.{AllLeadToRanked, AreRanksOrCycle, IsDependencyOf, ArePartialRanks, IsRankingPass, LeadsToUnranked, LeadInside};
+ghost use Rattle.c104_check.specs.Cycles.{AllLeadToRanked, AreRanksOrCycle, IsDependencyOf, ArePartialRanks, IsRankingPass, LeadsFirst, LeadsToUnranked, LeadInside};
 ghost use Rattle.c104_check.specs.Dependencies.{Dependency as TheDependency};
+ghost use Rattle.c104_check.specs.FirstCycles.{HasOneCycle, IsFirstFound};
 ghost use Rattle.c104_check.specs.Ranks.{rank_at, rank_in};
 ghost use Rattle.c104_check.specs.Routes.{IsAccepted, routes_of};
 ghost use Rattle.c104_check.specs.Walks.{is_port};
@@ -22,7 +23,7 @@ use std::alloc::Global;
 pub struct ChannelDependency {
     /// The input.
     pub input: SwitchPort,
-    /// The header: a label of some terminal, or a random header that is put before packets.
+    /// The highest such header: a label of some terminal, or a random header that is put before packets.
     pub header: u32,
 }
 
@@ -55,7 +56,7 @@ impl Ranks {
 /// Inputs that depend on one another in a cycle.
 #[derive(Debug, Drop)]
 pub struct Cycle {
-    /// One or more. Each depends on the next, and the last on the first.
+    /// One or more, which differ. Each depends on the next, and the last on the first.
     pub dependencies: Items<ChannelDependency>,
 }
 
@@ -71,6 +72,9 @@ pub enum RanksOrCycle {
 /// A cycle of dependencies in the accepted network of an image for a plan, or else ranks that fall along each
 /// dependency. There are never both. It fails only when out of memory.
 ///
+/// The cycle is always the same: from the first input from which dependencies lead into one it is come to, and gone
+/// round, over the lowest link at each input over which one can be come to.
+///
 /// Packets go by labels, from the inputs of terminals on. Where random headers are put before packets at such an input,
 /// they go in two phases: from there by a random header, and by labels from the inputs on that discard it. The
 /// dependencies are those of both phases; and those by labels alone where no random headers are put before packets.
@@ -78,6 +82,8 @@ pub fn find_cycle(alloc: Global, plan: &Plan, image: &Image) -> Result<RanksOrCy
     requires fits { Fits image.now plan.now }
     requires accepted { IsAccepted (routes_of plan.now image.now) }
     ensures found { IfOk result (AreRanksOrCycle (routes_of plan.now image.now)) }
+    ensures first { IfOk result (IsFirstFound (routes_of plan.now image.now)) }
+    ensures one { IfOk result (λ _. HasOneCycle (routes_of plan.now image.now)) }
     ensures never_both { IfOk result (λ _. AreNeverBoth (routes_of plan.now image.now)) }
     ensures plain { IfOk result (λ _. AreByLabels (routes_of plan.now image.now)) }
 {
@@ -101,11 +107,12 @@ pub fn find_cycle(alloc: Global, plan: &Plan, image: &Image) -> Result<RanksOrCy
 
 impl<'a> Routes<'a> {
     ghost use Rattle.std.specs.Prelude.{◌≡◌, ◌<◌, ◌*◌, ℕ, length, IfOk};
-    ghost use Rattle.c104_check.specs.Cycles.{LeadsToUnranked};
+    ghost use Rattle.c104_check.specs.Checks.{IsFirstLink};
+    ghost use Rattle.c104_check.specs.Cycles.{AreAllRanked, LeadsToUnranked};
     ghost use Rattle.c104_check.specs.Dependencies.{AreDependencies, Dependency as TheDependency};
+    ghost use Rattle.c104_check.specs.FirstCycles.{IsFirstCycle, LeadsToCycle};
     ghost use Rattle.c104_check.specs.Ranks.{rank_at, rank_in};
     ghost use Rattle.c104_check.specs.Trails.{IsInput, IsNetwork, routes_in};
-    ghost use Rattle.c104_check.specs.ChannelDependencies.{IsCycle};
 
     /// The cycle to which dependencies between inputs without ranks lead from this one.
     fn follow(
@@ -121,9 +128,11 @@ impl<'a> Routes<'a> {
         requires places { length ranks.now ≡ length (routes_in self.now).settings * 32 }
         requires stuck { (k : ℕ) → k < length ranks.now → rank_at ranks.now k ≡ 0
             → (d : TheDependency) × LeadsToUnranked table.now ranks.now k d }
+        requires ranked { AreAllRanked (routes_in self.now) table.now ranks.now }
         requires input { IsInput (length (routes_in self.now).settings) start }
         requires unranked { rank_in ranks.now start ≡ 0 }
-        ensures { IfOk result (λ cycle. IsCycle (routes_in self.now) cycle.items) }
+        requires first { IsFirstLink (LeadsToCycle (routes_in self.now)) start }
+        ensures { IfOk result (λ cycle. IsFirstCycle (routes_in self.now) cycle.items) }
     {
         let mut chain: Vec<ChannelDependency> = Vec::new(alloc);
         let mut at = start;
@@ -153,7 +162,8 @@ fn find_input(chain: &[ChannelDependency], at: SwitchPort) -> Option<usize>
 /// The first place without a rank.
 fn first_unranked(ranks: &[u32]) -> Option<usize>
     ensures { MatchOption result ((k : ℕ) → k < length ranks.now → 0 < rank_at ranks.now k)
-        (λ k. (k < length ranks.now) × (rank_at ranks.now k ≡ 0)) }
+        (λ k. (k < length ranks.now) × (rank_at ranks.now k ≡ 0)
+        × ((j : ℕ) → j < k → 0 < rank_at ranks.now j)) }
 {
     for place in 0..ranks.len() {
         if ranks[place] == 0 {
@@ -227,7 +237,7 @@ fn unranked_next(table: &[Option<Dependency>], ranks: &[u32], place: usize) -> O
     requires room { length table.now ≡ length ranks.now * 32 }
     requires small { length ranks.now ≤ 2048 }
     requires inside { LeadInside table.now (length ranks.now) }
-    ensures { MatchOption result (AllLeadToRanked table.now ranks.now place) (LeadsToUnranked table.now ranks.now place) }
+    ensures { MatchOption result (AllLeadToRanked table.now ranks.now place) (LeadsFirst table.now ranks.now place) }
 {
     for link in 0..LINKS {
         if let Some(dependency) = table[place * LINKS + link] {

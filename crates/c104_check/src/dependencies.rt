@@ -14,15 +14,15 @@ use std::alloc::Global;
 pub(crate) struct Dependency {
     /// The other input.
     pub(crate) next: SwitchPort,
-    /// A header that may go on to there.
+    /// The highest header that may go on to there.
     pub(crate) header: u32,
 }
 
 impl<'a> Routes<'a> {
-    ghost use Rattle.std.specs.Prelude.{◌≡◌, ◌*◌, false, OnOk, length, IfOk, Some};
+    ghost use Rattle.std.specs.Prelude.{◌≡◌, ◌+◌, ◌*◌, false, OnOk, length, IfOk, Some};
     ghost use Rattle.std.specs.List.{AllByRecursion};
     ghost use Rattle.c104_check.specs.ChannelDependencies.{DependsBy, IsNeverRandomized, MayComeBy};
-    ghost use Rattle.c104_check.specs.Dependencies.{AreDependencies, AreListedBelow, IsExtended, AreListedAt, AreListedAsOwn, AreListedAsRandom, AreListedFor, IsListedOver};
+    ghost use Rattle.c104_check.specs.Dependencies.{AreByBelow, AreDependencies, AreListedBelow, IsExtended, AreListedAt, AreListedAsOwn, AreListedAsRandom, AreListedFor, IsListedOver};
     ghost use Rattle.c104_check.specs.Routes.{SwitchPort, header_count, to_port};
     ghost use Rattle.c104_check.specs.Starts.{AreOwnStarts};
     ghost use Rattle.c104_check.specs.Trails.{IsInput, IsNetwork, routes_in};
@@ -55,7 +55,8 @@ impl<'a> Routes<'a> {
         requires starts { AreOwnStarts (routes_in self.now) starts.now (length (routes_in self.now).ranges) }
         requires random { randomized ≡ false → IsNeverRandomized (routes_in self.now) }
         requires room { length table.old ≡ length (routes_in self.now).settings * 32 * 32 }
-        ensures kept { OnOk result (IsExtended (routes_in self.now) table.old table.new) }
+        requires empty { AreByBelow 0 table.old }
+        ensures kept { OnOk result (IsExtended (routes_in self.now) (header_count (routes_in self.now)) table.old table.new) }
         ensures listed { OnOk result (AreListedBelow (routes_in self.now) table.new (header_count (routes_in self.now))) }
     {
         for header in 0..self.header_count() {
@@ -77,7 +78,8 @@ impl<'a> Routes<'a> {
         requires starts { AreOwnStarts (routes_in self.now) starts.now (length (routes_in self.now).ranges) }
         requires random { randomized ≡ false → IsNeverRandomized (routes_in self.now) }
         requires room { length table.old ≡ length (routes_in self.now).settings * 32 * 32 }
-        ensures kept { OnOk result (IsExtended (routes_in self.now) table.old table.new) }
+        requires low { AreByBelow (header + 1) table.old }
+        ensures kept { OnOk result (IsExtended (routes_in self.now) (header + 1) table.old table.new) }
         ensures listed { OnOk result (AreListedFor (routes_in self.now) table.new header) }
     {
         self.add_as_own(alloc, header, starts, table)?;
@@ -96,7 +98,8 @@ impl<'a> Routes<'a> {
         requires network { IsNetwork (routes_in self.now) }
         requires starts { AreOwnStarts (routes_in self.now) starts.now (length (routes_in self.now).ranges) }
         requires room { length table.old ≡ length (routes_in self.now).settings * 32 * 32 }
-        ensures kept { OnOk result (IsExtended (routes_in self.now) table.old table.new) }
+        requires low { AreByBelow (header + 1) table.old }
+        ensures kept { OnOk result (IsExtended (routes_in self.now) (header + 1) table.old table.new) }
         ensures listed { OnOk result (AreListedAsOwn (routes_in self.now) table.new header) }
     {
         if self.owner(header).is_none() {
@@ -118,7 +121,8 @@ impl<'a> Routes<'a> {
         requires network { IsNetwork (routes_in self.now) }
         requires random { randomized ≡ false → IsNeverRandomized (routes_in self.now) }
         requires room { length table.old ≡ length (routes_in self.now).settings * 32 * 32 }
-        ensures kept { OnOk result (IsExtended (routes_in self.now) table.old table.new) }
+        requires low { AreByBelow (header + 1) table.old }
+        ensures kept { OnOk result (IsExtended (routes_in self.now) (header + 1) table.old table.new) }
         ensures listed { OnOk result (AreListedAsRandom (routes_in self.now) table.new header) }
     {
         if !randomized {
@@ -135,7 +139,8 @@ impl<'a> Routes<'a> {
         requires inside { AllByRecursion (IsInput (length (routes_in self.now).settings)) inputs.now }
         requires network { IsNetwork (routes_in self.now) }
         requires room { length table.old ≡ length (routes_in self.now).settings * 32 * 32 }
-        ensures kept { IsExtended (routes_in self.now) table.old table.new }
+        requires low { AreByBelow (header + 1) table.old }
+        ensures kept { IsExtended (routes_in self.now) (header + 1) table.old table.new }
         ensures listed { AllByRecursion (AreListedAt (routes_in self.now) table.new header) inputs.now }
     {
         for at in inputs {
@@ -149,7 +154,8 @@ impl<'a> Routes<'a> {
         requires network { IsNetwork (routes_in self.now) }
         requires input { IsInput (length (routes_in self.now).settings) at }
         requires room { length table.old ≡ length (routes_in self.now).settings * 32 * 32 }
-        ensures kept { IsExtended (routes_in self.now) table.old table.new }
+        requires low { AreByBelow (header + 1) table.old }
+        ensures kept { IsExtended (routes_in self.now) (header + 1) table.old table.new }
         ensures listed { AreListedAt (routes_in self.now) table.new header at }
     {
         let Some(group) = self.selected(header, at) else {
@@ -175,8 +181,9 @@ impl<'a> Routes<'a> {
         requires link { IsInput (length (routes_in self.now).settings) link }
         requires here { link.switch ≡ at.switch }
         requires room { length table.old ≡ length (routes_in self.now).settings * 32 * 32 }
-        ensures kept { IsExtended (routes_in self.now) table.old table.new }
-        ensures listed { IsListedOver (routes_in self.now) table.new at link }
+        requires low { AreByBelow (header + 1) table.old }
+        ensures kept { IsExtended (routes_in self.now) (header + 1) table.old table.new }
+        ensures listed { IsListedOver (routes_in self.now) table.new header at link }
     {
         match self.peer(link) {
             Some(Port::Switch(next, input)) => {

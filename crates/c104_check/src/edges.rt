@@ -21,13 +21,13 @@ pub struct DependencyEdge {
     pub input: SwitchPort,
     /// The other, at the far end of a link that the header may take.
     pub next: SwitchPort,
-    /// Such a header: a label of some terminal, or a random header that is put before packets.
+    /// The highest such header: a label of some terminal, or a random header that is put before packets.
     pub header: u32,
 }
 
-/// The dependencies of all inputs on one another in the accepted network of an image for a plan. Those by random headers
-/// are among them, and those by labels behind these; where no random headers are put before packets, they are those by
-/// labels alone. It fails only when out of memory.
+/// The dependencies of all inputs on one another in the accepted network of an image for a plan, each once: by input, and
+/// then by the link over which packets go on. Those by random headers are among them, and those by labels behind these;
+/// where no random headers are put before packets, they are those by labels alone. It fails only when out of memory.
 pub fn channel_dependencies(
     alloc: Global,
     plan: &Plan,

@@ -1,4 +1,4 @@
-use Rattle.std.proofs.Common.{refl, slice_index_or}
+use Rattle.std.proofs.Common.{◌+◌, refl, slice_index_or}
 use Rattle.c104_check.specs.ChannelDependencies.{MayComeBy}
 use Rattle.c104_check.specs.Dependencies.{AreListedAt}
 use Rattle.c104_check.specs.Routes.{SwitchPort}
@@ -19,8 +19,8 @@ pub loop-at-preserved : goal.loop-at-preserved
 loop-at-preserved c =
     let port : SwitchPort = record { switch = 0; link = 0 } in
     record {
-      kept = extended_more (routes_in c.args.self.now) c.args.table.now c.loop-at.table c.add_at_input.new.table c.loop-at.invariant.kept c.add_at_input.ensures.kept;
-      listed = at_next (routes_in c.args.self.now) c.args.header c.args.inputs.now c.loop-at.at-index port c.loop-at.table c.add_at_input.new.table c.loop-at-test.true c.add_at_input.ensures.kept c.loop-at.invariant.listed c.add_at_input.ensures.listed;
+      kept = extended_more (routes_in c.args.self.now) (c.args.header + 1) (c.args.header + 1) c.args.table.now c.loop-at.table c.add_at_input.new.table c.loop-at.invariant.kept c.add_at_input.ensures.kept;
+      listed = at_next (routes_in c.args.self.now) (c.args.header + 1) c.args.header c.args.inputs.now c.loop-at.at-index port c.loop-at.table c.add_at_input.new.table c.loop-at-test.true c.add_at_input.ensures.kept c.loop-at.invariant.listed c.add_at_input.ensures.listed;
     }
 
 pub returns-clause-listed : goal.returns-clause-listed

@@ -13,5 +13,5 @@ returns-in-Some-Switch-clause-kept c =
     let d : Dependency = record { next = record { switch = c.in-Some-Switch.next; link = c.in-Some-Switch.input }; header = c.args.header } in
     let leads : routes.peer (to_port c.args.link) ≡ Some (to_port d.next) = sym c.peer.ensures ∙ c.in-Some-Switch.is ∙ ap Some c.in-Some-Switch.field-0-is in
     let here : routes.peer (to_port (port_of c.args.at.switch o)) ≡ Some (to_port d.next) = ap (λ s. routes.peer (to_port (port_of s o))) (sym c.requires.here) ∙ leads in
-    subst (λ (k : ℕ). IsExtended routes c.args.table.now (slice_set c.args.table.now (k * 32 + o) (Some d))) (sym c.place.ensures)
-    (extended_one routes c.args.table.now c.args.at o d c.requires.input c.requires.link.1 c.requires.room here (c.requires.depends d.next leads))
+    subst (λ (k : ℕ). IsExtended routes (c.args.header + 1) c.args.table.now (slice_set c.args.table.now (k * 32 + o) (Some d))) (sym c.place.ensures)
+    (extended_one routes c.args.table.now c.args.at o d c.requires.input c.requires.link.1 c.requires.room here (c.requires.depends d.next leads) c.requires.low)

@@ -1,16 +1,21 @@
 use Rattle.std.proofs.Common.{◌∙◌, ◌*◌, Option, List, length, sym, subst}
-use Rattle.c104_check.specs.Dependencies.{AreDependencies, AreListedBelow, Dependency}
+use Rattle.c104_check.specs.Dependencies.{AreByBelow, AreDependencies, AreListedBelow, Dependency}
 use Rattle.c104_check.specs.Refusals.{Start}
 use Rattle.c104_check.specs.Routes.{header_count}
 use Rattle.c104_check.specs.Starts.{AreOwnStarts}
 use Rattle.c104_check.specs.Trails.{routes_in}
-use Rattle.c104_check.proofs.DependencyLemmas.{dependencies_none, none_only, written}
+use Rattle.c104_check.proofs.DependencyLemmas.{by_none, dependencies_none, none_only, written}
 use Rattle.c104_check.proofs.routes.Routes.dependencies.Goals as goal
 
 pub add_dependencies-requires-clause-starts : goal.add_dependencies-requires-clause-starts
 add_dependencies-requires-clause-starts c =
     let routes = routes_in c.args.self.now in
     subst (λ (xs : List Start). AreOwnStarts routes xs (length routes.ranges)) (sym c.as_slice.ensures.value) c.in_ok-starts.ensures
+
+pub add_dependencies-requires-clause-empty : goal.add_dependencies-requires-clause-empty
+add_dependencies-requires-clause-empty c =
+    let none = c.in_ok-table.ensures.items_if_clones_equal (none_only _ (λ x is. is)) in
+    subst (λ (xs : List (Option Dependency)). AreByBelow 0 xs) (sym (c.deref_mut.ensures.value ∙ none)) (by_none (c.switch_count.result * 32 * 32))
 
 pub returns-clause-listed : goal.returns-clause-listed
 returns-clause-listed c =

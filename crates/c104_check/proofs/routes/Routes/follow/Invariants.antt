@@ -1,5 +1,6 @@
 use Rattle.std.proofs.Common.{◌≡◌, ◌+◌, ◌-◌, ◌*◌, length}
 use Rattle.std.specs.List.{AllByRecursion, IsDistinct}
+use Rattle.c104_check.specs.FirstCycles.{IsWay}
 use Rattle.c104_check.specs.Ranks.{rank_in}
 use Rattle.c104_check.specs.Trails.{IsInput, routes_in}
 use Rattle.c104_check.specs.Walks.{is_port}
@@ -14,6 +15,7 @@ decreases-loop-first l = 32 * length (routes_in l.self).settings + 1 - length l.
 abbrev pub invariant-loop-first : goal.invariant-loop-first
 invariant-loop-first l = record {
   chain : IsChain (routes_in l.self) l.chain.items l.at;
+  way : IsWay (routes_in l.self) l.fn.start l.chain.items l.at;
   inside : AllByRecursion (IsInput (length (routes_in l.self).settings)) (inputs_of l.chain.items);
   once : IsDistinct is_port (inputs_of l.chain.items);
   here : IsInput (length (routes_in l.self).settings) l.at;
