@@ -2,9 +2,10 @@
 --     TellsOfCycles plan routes text      a text tells that there is no cycle, or begins with one
 use Rattle.std.specs.Prelude.{◌≡◌, ◌⊎◌, ℕ, Bool, true, false, List, ◌++◌, codes}
 use Rattle.c104_plan.specs.Plans.{Plan}
-use Rattle.c104_check.specs.ChannelDependencies.{IsAcyclic, IsCycle, IsNeverRandomized}
+use Rattle.c104_check.specs.ChannelDependencies.{IsAcyclic, IsNeverRandomized}
 use Rattle.c104_check.specs.declared.cycles.ChannelDependency.{ChannelDependency}
 use Rattle.c104_check.specs.declared.ports.SwitchPort.{SwitchPort}
+use Rattle.c104_check.specs.FirstCycles.{IsFirstCycle}
 use Rattle.c104_check.specs.Routes.{IsRandomized, Routes}
 use Rattle.c104_commands.specs.CycleTexts.{cycle_text}
 
@@ -21,10 +22,10 @@ abbrev pub cycle_sentence : Plan → List ChannelDependency → List ℕ → Lis
 cycle_sentence plan cycle more =
     codes "packets can wait for one another forever, though with groups of links they need not: " ++ (cycle_text plan cycle ++ more)
 
--- a text begins with the sentence on a cycle, which the network has
+-- a text begins with the sentence on the cycle that is told of a network
 abbrev pub TellsOfCycle : Plan → Routes → List ℕ → Type 0
 TellsOfCycle plan routes text =
-    (cycle : List ChannelDependency) × IsCycle routes cycle × ((more : List ℕ) × (text ≡ cycle_sentence plan cycle more))
+    (cycle : List ChannelDependency) × IsFirstCycle routes cycle × ((more : List ℕ) × (text ≡ cycle_sentence plan cycle more))
 
 -- the sentence on a network without a cycle, by whether random headers are put before packets
 abbrev pub no_cycle_sentence : Bool → List ℕ

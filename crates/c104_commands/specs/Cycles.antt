@@ -2,19 +2,20 @@
 use Rattle.std.specs.Prelude.{ℕ, ◌≡◌, ◌⊎◌, Bool, true, false, List, ◌++◌}
 use Rattle.c104_plan.specs.Plans.{Plan}
 use Rattle.c104_plan.specs.PlanImage.{Image}
-use Rattle.c104_check.specs.ChannelDependencies.{IsAcyclic, IsCycle}
+use Rattle.c104_check.specs.ChannelDependencies.{IsAcyclic}
 use Rattle.c104_check.specs.declared.cycles.ChannelDependency.{ChannelDependency}
 use Rattle.c104_check.specs.Edges.{AreAllEdges}
 use Rattle.c104_check.specs.declared.edges.DependencyEdge.{DependencyEdge}
+use Rattle.c104_check.specs.FirstCycles.{IsFirstCycle}
 use Rattle.c104_check.specs.Routes.{IsAccepted, routes_of}
 use Rattle.c104_commands.specs.Checks.{IsRefusedBy}
 use Rattle.c104_commands.specs.CycleTexts.{acyclic_text, cycle_text, edges_text}
 
--- the line on a network, by whether it has a cycle: that it has none, or one that it has
+-- the line on a network, by whether it has a cycle: that it has none, or the one that is told
 abbrev pub TellsCycle : Plan → Image → List ℕ → Bool → Type 0
 TellsCycle plan image text false = (text ≡ acyclic_text) × IsAcyclic (routes_of plan image)
 TellsCycle plan image text true =
-    (cycle : List ChannelDependency) × IsCycle (routes_of plan image) cycle × (text ≡ cycle_text plan cycle)
+    (cycle : List ChannelDependency) × IsFirstCycle (routes_of plan image) cycle × (text ≡ cycle_text plan cycle)
 
 -- that line, and where all dependencies are asked for, before it a line for each of them
 abbrev pub TellsCycles : Bool → Plan → Image → List ℕ → Bool → Type 0

@@ -6,8 +6,9 @@ use Rattle.std.specs.Fmt.{decimal}
 use Rattle.std.specs.Str.{trim_end}
 use Rattle.c104_plan.specs.Plans.{Plan}
 use Rattle.c104_plan.specs.PlanImage.{Image}
-use Rattle.c104_check.specs.ChannelDependencies.{IsAcyclic, IsCycle}
+use Rattle.c104_check.specs.ChannelDependencies.{IsAcyclic}
 use Rattle.c104_check.specs.Checks.{IsCause}
+use Rattle.c104_check.specs.FirstCycles.{IsFirstCycle}
 use Rattle.c104_check.specs.Parts.{IsNeverRefused, TellsFirst}
 use Rattle.c104_check.specs.Routes.{IsAccepted, routes_of}
 use Rattle.c104_check.specs.declared.cycles.ChannelDependency.{ChannelDependency}
@@ -54,10 +55,11 @@ abbrev pub IsMarkedPicture : Plan → Image → List ChannelDependency → List 
 IsMarkedPicture plan image cycle text = (drawing : Drawing) × IsCycleDrawing plan image (cycle_inputs cycle) drawing
     × IsDotText plan image drawing (trim_end (cycle_text plan cycle)) text
 
--- the text of a picture of a network whose labels are accepted: without a cycle nothing is marked, and else one is
+-- the text of a picture of a network whose labels are accepted: without a cycle nothing is marked, and else the one that
+-- `cycles` tells
 abbrev pub IsAcceptedPicture : Plan → Image → List ℕ → Type 0
 IsAcceptedPicture plan image text = (IsAcyclic (routes_of plan image) × IsPlainPicture plan image [] text)
-    ⊎ ((cycle : List ChannelDependency) × IsCycle (routes_of plan image) cycle × IsMarkedPicture plan image cycle text)
+    ⊎ ((cycle : List ChannelDependency) × IsFirstCycle (routes_of plan image) cycle × IsMarkedPicture plan image cycle text)
 
 -- that of a network whose labels are refused: nothing is marked, and the title tells the first fault
 abbrev pub IsRefusedPicture : Plan → Image → List ℕ → Type 0

@@ -1,7 +1,7 @@
 //! What people are told of labels that are accepted: whether packets can wait for one another forever.
 ghost use Rattle.std.specs.Prelude.{◌≡◌, IfOk};
 ghost use Rattle.std.specs.String.{string_bytes};
-ghost use Rattle.c104_check.specs.ChannelDependencies.{IsCycle};
+ghost use Rattle.c104_check.specs.FirstCycles.{IsFirstCycle};
 ghost use Rattle.c104_check.specs.Routes.{IsAccepted, routes_of};
 ghost use Rattle.c104_plan.specs.PlanImage.{Fits};
 ghost use Rattle.c104_commands.specs.CycleAdvice.{SaysNoCycle, TellsOfCycle, TellsOfCycles, cycle_sentence, no_cycle_sentence};
@@ -72,7 +72,7 @@ fn advice_on(
 ) -> Result<String, NoMemory>
     requires fits { Fits image.now plan.now }
     requires accepted { IsAccepted (routes_of plan.now image.now) }
-    requires cycle { IsCycle (routes_of plan.now image.now) cycle.now }
+    requires cycle { IsFirstCycle (routes_of plan.now image.now) cycle.now }
     ensures { IfOk result (λ text.
         TellsOfCycle plan.now (routes_of plan.now image.now) (string_bytes text)) }
 {
