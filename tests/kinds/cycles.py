@@ -44,6 +44,14 @@ PAIR_ROWS = (b'row A.0 1 0\nrow A.0 2 1\nrow A.1 1 0\nrow B.0 1 1\nrow B.0 2 0\n
 # Two wires, and each terminal's packets come in over both, which are a group at both switches.
 GROUP = (PAIR + b'wire A.2 B.2\ncontinue A.2\ncontinue B.2\n' + PAIR_ROWS + b'row A.2 1 0\nbase B.2 1\nrow B.2 2 0\n')
 
+# Packets for the first and the third terminal go round one way, by links 9, and those for the others round the other, by
+# links 10; and the switches aren't in the order of their names.
+TWO_ROUNDS = (b'switch D\nswitch B\nswitch C\nswitch A\nterminal d D.0\nterminal b B.0\nterminal c C.0\nterminal a A.0\n'
+              b'wire D.9 B.10\nwire B.9 C.10\nwire C.9 A.10\nwire A.9 D.10\n'
+              + b''.join(b'row %c.%d %d %d\n' % (switch, link, limit, select)
+                         for switch, selects in zip(b'DBCA', ((0, 10, 9, 10), (9, 0, 9, 10), (9, 10, 0, 10), (9, 10, 9, 0)))
+                         for link in (0, 9, 10) for limit, select in zip((1, 2, 3, 4), selects)))
+
 # Packets of a go by 3 or 4 to B or to C, over wires that nothing takes behind these portals but to go back.
 DETOUR = (b'switch A\nswitch B\nswitch C\nwire A.1 B.1\nwire A.2 C.1\nwire B.2 C.2\nterminal a A.0\nterminal b B.0\n'
           b'terminal c C.0\nrandom A.0 3 2\nbase A.0 3\nrow A.0 4 1\nrow A.0 5 2\nrow A.1 1 0\nrow A.2 1 0\n'
@@ -83,16 +91,21 @@ ALL_BY_HAND = {
     'random headers': (DETOUR, ['A.0(3) B.1', 'A.0(4) C.1', 'B.0(0) A.1', 'B.0(2) C.2', 'B.1(0) A.1', 'B.1(2) C.2',
                                 'C.0(0) A.2', 'C.0(1) B.2', 'C.1(0) A.2', 'C.1(1) B.2', 'acyclic']),
 }
-# All of one input's cycle, in the order that it goes round; where it begins isn't looked at. The highest header of
-# each goes furthest: from the switch before, all that isn't for this switch's terminal.
-ROUND_CYCLE = [('A.2', 2), ('B.2', 3), ('C.2', 3), ('D.2', 1)]
-ROUND_DEPENDENCIES = sorted(['A.0(3) B.2', 'B.0(3) C.2', 'C.0(3) D.2', 'D.0(2) A.2',
-                             'A.2(2) B.2', 'B.2(3) C.2', 'C.2(3) D.2', 'D.2(1) A.2'])
-ONE_WAY_CYCLE = [('A.2', 1), ('B.2', 3), ('C.2', 1)]
-ONE_WAY_DEPENDENCIES = sorted(['A.0(3) B.2', 'B.2(3) C.2', 'C.2(1) A.2', 'A.2(1) B.2', 'B.0(2) C.2', 'C.0(1) A.2'])
-
-CYCLES_BY_HAND = (('a ring in which all packets go round one way', ROUND, ROUND_CYCLE, ROUND_DEPENDENCIES),
-                  ('a ring that random headers close', ONE_WAY_ROUND, ONE_WAY_CYCLE, ONE_WAY_DEPENDENCIES))
+# Networks with a cycle: all dependencies, by input and then by link, each with its highest header; and the cycle to which
+# they lead from the first input from which they lead to one, over the lowest links. The highest header of each goes
+# furthest: from the switch before, all that isn't for this switch's terminal.
+CYCLES_BY_HAND = {
+    'a ring in which all packets go round one way': (ROUND, [
+        'A.0(3) B.2', 'A.2(2) B.2', 'B.0(3) C.2', 'B.2(3) C.2', 'C.0(3) D.2', 'C.2(3) D.2', 'D.0(2) A.2', 'D.2(1) A.2',
+        'cycle B.2(3) C.2(3) D.2(1) A.2(2)']),
+    'a ring that random headers close': (ONE_WAY_ROUND, [
+        'A.0(3) B.2', 'A.2(1) B.2', 'B.0(2) C.2', 'B.2(3) C.2', 'C.0(1) A.2', 'C.2(1) A.2',
+        'cycle B.2(3) C.2(1) A.2(1)']),
+    'a ring with a cycle either way round': (TWO_ROUNDS, [
+        'D.0(2) B.10', 'D.0(3) A.9', 'D.9(3) A.9', 'D.10(2) B.10', 'B.0(2) C.10', 'B.0(3) D.9', 'B.9(3) D.9', 'B.10(2) C.10',
+        'C.0(0) A.10', 'C.0(3) B.9', 'C.9(1) B.9', 'C.10(0) A.10', 'A.0(2) D.10', 'A.0(1) C.9', 'A.9(1) C.9', 'A.10(0) D.10',
+        'cycle B.10(2) C.10(0) A.10(0) D.10(2)']),
+}
 
 # What `check` refuses, `cycles` refuses in the same words.
 REFUSED = {
@@ -111,10 +124,13 @@ class Network:
 
     def __init__(self, text):
         self.terminals, self.far, self.continues, self.bases, self.rows, self.randoms = [], {}, set(), {}, {}, {}
+        self.switches = []
         end = 0
         for line in text.decode().splitlines():
             words = line.split('#')[0].split()
-            if words[:1] == ['terminal']:
+            if words[:1] == ['switch']:
+                self.switches.append(words[1])
+            elif words[:1] == ['terminal']:
                 given = dict(zip(words[3::2], map(int, words[4::2])))
                 first = given.get('from', end)
                 end = first + given.get('labels', 1)
@@ -181,6 +197,13 @@ class Network:
             found.update(port for port in reached if self.selected(port, header) == 'discard')
         return found
 
+    def in_order(self, pairs):
+        """Pairs of an input and another, by the first's switch and link, and then by the link that leads to the other."""
+        def key(pair):
+            switch, link = pair[0].split('.')
+            return self.switches.index(switch), int(link), int(self.far[pair[1]].split('.')[1])
+        return sorted(pairs, key=key)
+
     def dependencies(self):
         """Each pair of an input and one that it depends on, with the highest header by which it does."""
         found, begun = {}, self.begun()
@@ -226,9 +249,12 @@ def wrong_answer(runner, text):
     if plain[0] != listed[0] or plain[0] != int(cyclic) or plain[2] or listed[2]:
         return 'exit status %d, wanted %d; %.200r' % (plain[0], cyclic, plain[1])
     *lines, last = listed[1].decode().splitlines()
-    wanted = ['%s(%d) %s' % (port, header, other) for (port, other), header in found.items()]
-    if plain[1].decode() != last + '\n' or sorted(lines) != sorted(wanted):
-        return 'wanted %.200r, found %.200r' % (sorted(wanted), sorted(lines))
+    wanted = ['%s(%d) %s' % (port, found[port, other], other) for port, other in Network(text).in_order(found)]
+    if plain[1].decode() != last + '\n' or lines != wanted:
+        return 'wanted %.200r, found %.200r' % (wanted, lines)
+    drawn = runner.run(words=['draw', '--cycles', '-'], data=text)
+    if drawn is None or (b'label="%s"' % last.encode() in drawn[1]) != cyclic:
+        return 'drawn %.200r' % (drawn,)
     return wrong_cycle(last, found) if cyclic else None if last == 'acyclic' else 'found %.200r' % last
 
 
@@ -237,22 +263,18 @@ def by_hand(runner):
         runner.case(name, line.encode() + b'\n', 0, b'', words=['cycles', '-'], data=text)
     for name, (text, lines) in ALL_BY_HAND.items():
         runner.case('all of ' + name, '\n'.join(lines).encode() + b'\n', 0, b'', words=['cycles', '-', '--all'], data=text)
-    for name, text, cycle, dependencies in CYCLES_BY_HAND:
-        if runner.wanted(name):
-            cycle_by_hand(runner, name, text, cycle, dependencies)
+    for name, (text, lines) in CYCLES_BY_HAND.items():
+        cycle_by_hand(runner, name, text, lines)
 
 
-def cycle_by_hand(runner, name, text, cycle, dependencies):
-    """A description whose dependencies have one cycle."""
-    plain = runner.run(words=['cycles', '-'], data=text)
-    steps = [(port, int(header)) for port, header in INPUT.findall(plain[1].decode())]
-    turns = [cycle[it:] + cycle[:it] for it in range(len(cycle))]
-    is_right = plain[0] == 1 and steps in turns and plain[1].startswith(b'cycle ')
-    runner.judge(name, None if is_right else 'found %r' % (plain,))
-    listed = runner.run(words=['cycles', '--all', '-'], data=text)
-    *lines, last = listed[1].decode().splitlines()
-    is_right = listed[0] == 1 and sorted(lines) == dependencies and last + '\n' == plain[1].decode()
-    runner.judge('all of ' + name, None if is_right else 'found %r' % (listed,))
+def cycle_by_hand(runner, name, text, lines):
+    """A description with a cycle, which is the same with all dependencies and in the title of a picture."""
+    line = lines[-1].encode()
+    runner.case(name, line + b'\n', 1, b'', words=['cycles', '-'], data=text)
+    runner.case('all of ' + name, '\n'.join(lines).encode() + b'\n', 1, b'', words=['cycles', '--all', '-'], data=text)
+    if runner.wanted(name + ', drawn'):
+        picture = runner.run(words=['draw', '--cycles', '-'], data=text)
+        runner.judge(name + ', drawn', None if picture and b'label="%s"' % line in picture[1] else '%.300r' % (picture,))
 
 
 def refused(runner):
@@ -305,7 +327,7 @@ def by_definition(runner):
     texts.update({'a ring one way': ROUND, 'a ring that is cut': CUT, 'a group': GROUP,
                   'a mesh by rows': mesh(4, 3, 2), 'a chain of groups': chain(8, 4, [0, 3, 7]),
                   'a mesh by rows, two bytes': hand_mesh(3, 2, 2, 40), 'random headers': DETOUR,
-                  'a ring that random headers close': ONE_WAY_ROUND})
+                  'a ring that random headers close': ONE_WAY_ROUND, 'a ring both ways': TWO_ROUNDS})
     with open(os.path.join(EXAMPLES, 'universal-routing.txt'), 'rb') as file:
         texts['the universal routing of the examples'] = file.read().partition(b'\nscript\n')[0] + b'\n'
     kinds = set()
