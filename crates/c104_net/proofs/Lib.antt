@@ -35,6 +35,7 @@ pub mod ReplayedRuns
 pub mod MergedEvents
 pub mod ToldEvents
 pub mod RunOrigins
+pub mod ToldRuns
 pub mod RoundMembers
 pub mod StandingRuns
 pub mod WorkSteps

@@ -15,7 +15,7 @@ use Rattle.c104_net.proofs.ToldEvents.{events_told}
 use Rattle.c104_net.proofs.TracedRuns.{run_after, token_of, traced_from}
 use Rattle.c104_run.specs.Balance.{AreInPlace, IsSteady, credit_at, credit_of, granted_at, granted_of}
 use Rattle.c104_node.specs.Nodes.{is_switch, Node, arrived_tokens, node_arrived, terminals_of}
-use Rattle.c104_net.specs.Deliveries.{Promise, arrived_at, sent_at}
+use Rattle.c104_net.specs.Deliveries.{Promise, arrived_at}
 use Rattle.c104_run.specs.Ends.{end_of}
 use Rattle.c104_run.specs.EventRuns.{run_events, unless_fault}
 use Rattle.c104_run.specs.Finished.{FinishedRun, network_finish, run_arrived}
@@ -24,7 +24,6 @@ use Rattle.c104_run.specs.NetRecords.{NetRecord}
 use Rattle.c104_run.specs.Network.{Network, network_apply, network_arrived, network_of, terminal_place}
 use Rattle.c104_node.specs.Origins.{AreSure, origins_in}
 use Rattle.c104_node.specs.declared.origins.Origin.{Origin}
-use Rattle.c104_run.specs.QuietNets.{IsQuiet}
 use Rattle.c104_net.specs.Replays.{LeadTo}
 use Rattle.c104_net.specs.ToldEvents.{told_events}
 use Rattle.c104_node.specs.declared.stamps.Stamp.{Stamp}
@@ -196,26 +195,15 @@ module _ (run : FinishedRecord) (is_plan : IsPlan run.finished.plan) (kept : IsK
       (events_told run.finished.plan is_plan kept.stamps (map start_node run.starts) kept.nodes run.traces run.count kept.events kept.told kept.started.in_place)
       ∙ run_after traced_kind (network_of run.finished.plan (map start_node run.starts)) (network_of run.finished.plan (traced run is_plan kept).0) kept.events (traced run is_plan kept).1.run
 
-  -- whichever events left this record lead to the same nodes, since the traces tell them
-  pub ends_same : (stamps : ℕ → Stamp) (ends : List (Node Token)) (done : List (Event × Reply)) → IsRunRecord plain_kind run.finished.plan stamps (map start_node run.starts) ends run.traces run.count done → network_of run.finished.plan ends ≡ network_of run.finished.plan kept.nodes
-  ends_same stamps ends done told =
-      let same : map (λ (e : Event × Reply). e.0) done ≡ map (λ (e : Event × Reply). e.0) kept.events =
-      sym (events_told run.finished.plan is_plan stamps (map start_node run.starts) ends run.traces run.count done told kept.started.in_place)
-      ∙ events_told run.finished.plan is_plan kept.stamps (map start_node run.starts) kept.nodes run.traces run.count kept.events kept.told kept.started.in_place in
-      sym (run_after plain_kind (network_of run.finished.plan (map start_node run.starts)) (network_of run.finished.plan ends) done told.run)
-      ∙ ap (λ (events : List Event). (run_events (network_apply plain_kind) (network_of run.finished.plan (map start_node run.starts)) events).1) same
-      ∙ run_after plain_kind (network_of run.finished.plan (map start_node run.starts)) (network_of run.finished.plan kept.nodes) kept.events kept.told.run
-
   pub origins_are : AreOrigins run (map terminal_origins (terminals_of (traced run is_plan kept).0))
   origins_are =
       let found = traced run is_plan kept in
       let promised : (image : Image) → IsAccepted (routes_of run.finished.plan image) → AreStartsOf run.finished.plan image run.starts → IsUnchanged (routes_of run.finished.plan image) kept.events → Promise (routes_of run.finished.plan image) (network_of run.finished.plan found.0) = λ image accepted are unchanged. headline image (network_of run.finished.plan (map start_node run.starts)) (network_of run.finished.plan found.0) kept.events is_plan accepted (starts_are run.finished.plan image run.starts are) found.1.run unchanged kept.sent in
       let is : network_of run.finished.plan found.0 ≡ traced_end run = sym ends_traced in
       record {
-        stamps = kept.stamps;
         events = kept.events;
         nodes = kept.nodes;
-        told = kept.told;
+        done = kept.told.run;
         ended = kept.ended;
         events_told = events_told run.finished.plan is_plan kept.stamps (map start_node run.starts) kept.nodes run.traces run.count kept.events kept.told kept.started.in_place;
         once_more = subst (λ (net : Network Traced). IsTracedRun run.finished.plan run.starts kept.events kept.nodes net.nodes) is found.1;
@@ -226,11 +214,10 @@ module _ (run : FinishedRecord) (is_plan : IsPlan run.finished.plan) (kept : IsK
         each = subst (λ (net : Network Traced). (t : ℕ) → t < length run.finished.plan.terminals → slice_get (map terminal_origins (terminals_of found.0)) t ≡ Some (origins_in (arrived_at net t))) is (list_there run.finished.plan found.0 traced_placed);
         promise = λ image accepted are unchanged. subst (Promise (routes_of run.finished.plan image)) is (promised image accepted are unchanged);
         named = λ image accepted are unchanged. named_origins (routes_of run.finished.plan image) (traced_end run) (subst (Promise (routes_of run.finished.plan image)) is (promised image accepted are unchanged));
-        found = λ image accepted are unchanged stamps done ends told quiet a n t p sent whole owned.
-            let end : network_of run.finished.plan ends ≡ network_of run.finished.plan kept.nodes = ends_same stamps ends done told in
+        found = λ image accepted are unchanged quiet a n t p sent whole owned.
             subst (λ (net : Network Traced). (k : ℕ) × (slice_get (origins_in (arrived_at net t)) k ≡ Some (packet_origin a n))) is
-            (found_origins (routes_of run.finished.plan image) (network_of run.finished.plan found.0) (promised image accepted are unchanged) (quiet_traced run.finished.plan found.0 kept.nodes found.1.plain (subst (λ (net : Network Token). IsQuiet net) end quiet)) a n t p
-            (ap (λ ps. slice_get ps n) (sym (sent_plain run.finished.plan found.0 kept.nodes found.1.plain a)) ∙ subst (λ (net : Network Token). slice_get (sent_at net a) n ≡ Some p) end sent) whole owned);
+            (found_origins (routes_of run.finished.plan image) (network_of run.finished.plan found.0) (promised image accepted are unchanged) (quiet_traced run.finished.plan found.0 kept.nodes found.1.plain quiet) a n t p
+            (ap (λ ps. slice_get ps n) (sym (sent_plain run.finished.plan found.0 kept.nodes found.1.plain a)) ∙ sent) whole owned);
       }
 
 -- events that lead somewhere, each applied in turn, end where they lead

@@ -7,6 +7,7 @@ pub mod TracedEnds
 pub mod MeteredRecords
 pub mod Replays
 pub mod RunOrigins
+pub mod ToldRuns
 pub mod Work
 pub mod HeaderWork
 pub mod RoundEvents

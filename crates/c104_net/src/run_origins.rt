@@ -5,6 +5,7 @@ ghost use Rattle.c104_node.specs.Origins.{origins_in};
 ghost use Rattle.c104_node.specs.declared.origins.Origin.{Origin as TheOrigin};
 ghost use Rattle.c104_run.specs.FinishedRecords.{FinishedRecord};
 ghost use Rattle.c104_net.specs.RunOrigins.{AreOrigins};
+ghost use Rattle.c104_net.specs.ToldRuns.{TellsEachRun};
 ghost use Rattle.c104_node.specs.Terminals.{Terminal};
 ghost use Rattle.c104_node.specs.declared.traced.Traced.{Traced as TheTraced};
 
@@ -25,6 +26,11 @@ pub trait Origins {
     /// order of their arrival. The only error is out of memory.
     fn origins(&self, alloc: Global) -> Result<Vec<Vec<Origin>>, NoMemory>
         ensures { IfOk result (λ lists. AreOrigins (ended self.now) (map (λ (list : Kept TheOrigin). list.items) lists.items)) };
+
+    /// Whichever events left the traces of the nodes are those that the traces tell; and over tokens that tell where they
+    /// came from the same events end, without that, where these did. This is a law: nothing is done.
+    fn tells_its_run(&self)
+        ensures { TellsEachRun (ended self.now) };
 }
 
 impl Origins for Run {
@@ -45,6 +51,16 @@ impl Origins for Run {
         let replayed = replay_all(alloc, &mut net, plan, traces);
         let run = net.finish();
         origins_after(alloc, replayed, &run)
+    }
+
+    /// Whichever events left the traces of the nodes are those that the traces tell. This is a law: nothing is done.
+    fn tells_its_run(&self)
+        ensures { TellsEachRun self.now }
+    {
+        // The proof reads here what every plan and every such run keeps.
+        let plan = self.plan();
+        let _switches = plan.switches();
+        let _starts = self.starts();
     }
 }
 

@@ -5,6 +5,7 @@ ghost use Rattle.c104_run.specs.NetRecords.{NetRecord};
 ghost use Rattle.c104_node.specs.declared.origins.Origin.{Origin as TheOrigin};
 ghost use Rattle.c104_run.specs.FinishedRecords.{record_finish};
 ghost use Rattle.c104_net.specs.RunOrigins.{AreOrigins};
+ghost use Rattle.c104_net.specs.ToldRuns.{TellsEachRun};
 ghost use Rattle.std.specs.Prelude.{option_map};
 ghost use Rattle.c104_node.specs.Tagged.{tag, tagged_origins};
 ghost use Rattle.c104_net.specs.TracedEnds.{traced_end};
@@ -78,6 +79,16 @@ impl Origins for TracedNet {
             }
         }
         Ok(lists)
+    }
+
+    /// The same of the run that the network would leave. This is a law: nothing is done.
+    fn tells_its_run(&self)
+        ensures { TellsEachRun (record_finish self.now) }
+    {
+        // The proof reads by these names what every plan, and every such network, keeps.
+        let plan = self.plan();
+        let _switches = plan.switches();
+        let _places = self.places();
     }
 }
 

@@ -3,16 +3,27 @@ use Rattle.c104_check.specs.Routes.{IsAccepted, owner, routes_of}
 use Rattle.c104_plan.specs.PlanImage.{Image}
 use Rattle.c104_plan.specs.Plans.{Plan}
 use Rattle.c104_net.proofs.OriginPieces.{delivered_origin, received_origins}
+use Rattle.c104_net.proofs.ToldRuns.{same_events}
 use Rattle.c104_net.specs.Deliveries.{IsDelivered, Promise, arrived_at, has_header, header_of, received, sent_at}
 use Rattle.c104_run.specs.FinishedRecords.{FinishedRecord, record_finish}
 use Rattle.c104_run.specs.NetRecords.{IsNetRecord, NetRecord}
+use Rattle.c104_run.specs.Network.{Network, network_of}
 use Rattle.c104_node.specs.Origins.{origins_in}
 use Rattle.c104_run.specs.QuietNets.{IsQuiet}
+use Rattle.c104_run.specs.Runs.{IsRunRecord}
+use Rattle.c104_switch.specs.Actions.{Reply}
+use Rattle.c104_event.specs.declared.events.Event.{Event}
+use Rattle.c104_token.specs.Kinds.{plain_kind}
+use Rattle.c104_token.specs.declared.tokens.Token.{Token}
 use Rattle.c104_net.specs.RunOrigins.{AreOrigins}
+use Rattle.c104_net.specs.ToldRuns.{TellsEachRun}
 use Rattle.c104_net.specs.TracedEnds.{traced_end}
 use Rattle.c104_node.specs.Traces.{seatless}
 use Rattle.c104_net.specs.Unchanged.{AreStartsOf, IsUnchanged}
+use Rattle.c104_node.specs.Nodes.{Node}
+use Rattle.c104_node.specs.Starts.{start_node}
 use Rattle.c104_node.specs.declared.origins.Origin.{Origin}
+use Rattle.c104_node.specs.declared.stamps.Stamp.{Stamp}
 use Rattle.c104_node.specs.declared.traced.Traced.{Traced}
 use Rattle.c104_tests_net.proofs.CalmRuns.{unchanged}
 use Rattle.c104_tests_net.proofs.NamedPackets.{list_there, same_origin}
@@ -33,9 +44,13 @@ listed_there (l ∷ lists) (suc t) list is = listed_there lists t list is
 same_list : (xs ys : List Origin) → Some xs ≡ Some ys → xs ≡ ys
 same_list xs ys is = cc
 
-module _ (image : Image) (run : FinishedRecord) (lists : List (List Origin)) (accepted : IsAccepted (routes_of run.finished.plan image)) (starts : AreStartsOf run.finished.plan image run.starts) (calm : All (IsCalmTrace (routes_of run.finished.plan image)) run.traces) (are : AreOrigins run lists) where
+module _ (image : Image) (run : FinishedRecord) (lists : List (List Origin)) (accepted : IsAccepted (routes_of run.finished.plan image)) (starts : AreStartsOf run.finished.plan image run.starts) (calm : All (IsCalmTrace (routes_of run.finished.plan image)) run.traces) (law : TellsEachRun run) (stamps : ℕ → Stamp) (events : List (Event × Reply)) (nodes : List (Node Token)) (told : IsRunRecord plain_kind run.finished.plan stamps (map start_node run.starts) nodes run.traces run.count events) (are : AreOrigins run lists) where
+  -- the events that left this record are those of the theorem
+  same_run : (events ≡ are.events) × (network_of run.finished.plan nodes ≡ network_of run.finished.plan are.nodes)
+  same_run = same_events run lists stamps events nodes law told are
+
   still : IsUnchanged (routes_of run.finished.plan image) are.events
-  still = unchanged (routes_of run.finished.plan image) run.finished.plan are.stamps run.starts are.nodes run.traces run.count are.events starts.in_place calm are.told
+  still = subst (IsUnchanged (routes_of run.finished.plan image)) same_run.0 (unchanged (routes_of run.finished.plan image) run.finished.plan stamps run.starts nodes run.traces run.count events starts.in_place calm told)
 
   promised : Promise (routes_of run.finished.plan image) (traced_end run)
   promised = are.promise image accepted starts still
@@ -63,29 +78,32 @@ module _ (image : Image) (run : FinishedRecord) (lists : List (List Origin)) (ac
       promised.once t u i j x.0 y.0 x.1 y.1 d e (ap (λ (z : Origin). z.terminal) same) (ap (λ (z : Origin). z.number) same)
 
 -- the same of a network that is finished, as the lists are given back
-module _ (image : Image) (net : NetRecord) (lists : List (Kept Origin)) (accepted : IsAccepted (routes_of net.network.plan image)) (starts : AreStartsOf net.network.plan image net.starts) (calm : All (IsCalmTrace (routes_of net.network.plan image)) net.traces) (quiet : IsQuiet net.network) (kept : IsNetRecord net) (are : AreOrigins (record_finish net) (map (λ (l : Kept Origin). l.items) lists)) where
+module _ (image : Image) (net : NetRecord) (lists : List (Kept Origin)) (accepted : IsAccepted (routes_of net.network.plan image)) (starts : AreStartsOf net.network.plan image net.starts) (calm : All (IsCalmTrace (routes_of net.network.plan image)) net.traces) (quiet : IsQuiet net.network) (kept : IsNetRecord net) (law : TellsEachRun (record_finish net)) (are : AreOrigins (record_finish net) (map (λ (l : Kept Origin). l.items) lists)) where
+  same_end : net.network ≡ network_of net.network.plan are.nodes
+  same_end = (same_run image (record_finish net) (map (λ (l : Kept Origin). l.items) lists) accepted starts calm law seatless kept.told.0 net.network.nodes kept.told.1 are).1
+
   found_there : (a n t : ℕ) (p : Packet) → t < length net.network.plan.terminals → slice_get (sent_at net.network a) n ≡ Some p → has_header (routes_of net.network.plan image) p ≡ true → owner (routes_of net.network.plan image) (header_of (routes_of net.network.plan image) p) ≡ Some t → (k : ℕ) × IsListed lists t k (record { terminal = a; number = n })
   found_there a n t p inside sent whole owned =
-      let met = are.found image accepted starts (still image (record_finish net) (map (λ (l : Kept Origin). l.items) lists) accepted starts calm are) seatless kept.told.0 net.network.nodes kept.told.1 quiet a n t p sent whole owned in
+      let met = are.found image accepted starts (still image (record_finish net) (map (λ (l : Kept Origin). l.items) lists) accepted starts calm law seatless kept.told.0 net.network.nodes kept.told.1 are) (subst (λ (n : Network Token). IsQuiet n) same_end quiet) a n t p (subst (λ (m : Network Token). slice_get (sent_at m a) n ≡ Some p) same_end sent) whole owned in
       let there = listed_there lists t (origins_in (arrived_at (traced_end (record_finish net)) t)) (are.each t inside) in
       (met.0, (there.0, there.1, ap (λ os. slice_get os met.0) there.2 ∙ met.1))
 
   once_there : (t u i j : ℕ) (o : Origin) → IsListed lists t i o → IsListed lists u j o → (t ≡ u) × (i ≡ j)
   once_there t u i j o one two =
-      once_here image (record_finish net) (map (λ (l : Kept Origin). l.items) lists) accepted starts calm are t u i j one.0.items two.0.items o
+      once_here image (record_finish net) (map (λ (l : Kept Origin). l.items) lists) accepted starts calm law seatless kept.told.0 net.network.nodes kept.told.1 are t u i j one.0.items two.0.items o
       (slice_get-map (λ (l : Kept Origin). l.items) lists t ∙ ap (option_map (λ (l : Kept Origin). l.items)) one.1) one.2
       (slice_get-map (λ (l : Kept Origin). l.items) lists u ∙ ap (option_map (λ (l : Kept Origin). l.items)) two.1) two.2
 
   found_once : AreFoundOnce (routes_of net.network.plan image) net.network lists
   found_once = record { found = found_there; once = once_there }
 
-found_lists : (plan : Plan) (image : Image) (net : NetRecord) (run : FinishedRecord) (lists : List (Kept Origin)) → IsAccepted (routes_of plan image) → IsCalm plan image net → IsQuiet net.network → IsNetRecord net → run ≡ record_finish net → AreOrigins run (map (λ (list : Kept Origin). list.items) lists) → AreFoundOnce (routes_of plan image) net.network lists
-found_lists plan image net run lists accepted calm quiet kept is are =
+found_lists : (plan : Plan) (image : Image) (net : NetRecord) (run : FinishedRecord) (lists : List (Kept Origin)) → IsAccepted (routes_of plan image) → IsCalm plan image net → IsQuiet net.network → IsNetRecord net → run ≡ record_finish net → TellsEachRun run → AreOrigins run (map (λ (list : Kept Origin). list.items) lists) → AreFoundOnce (routes_of plan image) net.network lists
+found_lists plan image net run lists accepted calm quiet kept is law are =
     subst (λ p. AreFoundOnce (routes_of p image) net.network lists) calm.same_plan
     (found_once image net lists (subst (λ p. IsAccepted (routes_of p image)) (sym calm.same_plan) accepted) (subst (λ p. AreStartsOf p image net.starts) (sym calm.same_plan) calm.starts) (subst (λ p. All (IsCalmTrace (routes_of p image)) net.traces) (sym calm.same_plan) calm.traces) quiet kept
-    (subst (λ (r : FinishedRecord). AreOrigins r (map (λ (l : Kept Origin). l.items) lists)) is are))
+    (subst TellsEachRun is law) (subst (λ (r : FinishedRecord). AreOrigins r (map (λ (l : Kept Origin). l.items) lists)) is are))
 
 -- the same of the lists as they are given back, or of none
-pub found_result : {E : Type 0} (plan : Plan) (image : Image) (net : NetRecord) (run : FinishedRecord) (result : Result (Kept (Kept Origin)) E) → IsAccepted (routes_of plan image) → IsCalm plan image net → IsQuiet net.network → IsNetRecord net → run ≡ record_finish net → IfOk result (λ (lists : Kept (Kept Origin)). AreOrigins run (map (λ (list : Kept Origin). list.items) lists.items)) → IfOk result (λ (lists : Kept (Kept Origin)). AreFoundOnce (routes_of plan image) net.network lists.items)
-found_result plan image net run (Ok lists) accepted calm quiet kept is are = found_lists plan image net run lists.items accepted calm quiet kept is are
-found_result plan image net run (Err e) accepted calm quiet kept is are = tt
+pub found_result : {E : Type 0} (plan : Plan) (image : Image) (net : NetRecord) (run : FinishedRecord) (result : Result (Kept (Kept Origin)) E) → IsAccepted (routes_of plan image) → IsCalm plan image net → IsQuiet net.network → IsNetRecord net → run ≡ record_finish net → TellsEachRun run → IfOk result (λ (lists : Kept (Kept Origin)). AreOrigins run (map (λ (list : Kept Origin). list.items) lists.items)) → IfOk result (λ (lists : Kept (Kept Origin)). AreFoundOnce (routes_of plan image) net.network lists.items)
+found_result plan image net run (Ok lists) accepted calm quiet kept is law are = found_lists plan image net run lists.items accepted calm quiet kept is law are
+found_result plan image net run (Err e) accepted calm quiet kept is law are = tt

@@ -5,19 +5,21 @@ use Rattle.c104_plan.specs.Plans.{Plan}
 use Rattle.c104_label.specs.Images.{IsImageOf}
 use Rattle.c104_net.proofs.NamedOrigins.{sent_plain}
 use Rattle.c104_net.proofs.OriginPieces.{delivered_origin, received_origins}
+use Rattle.c104_net.proofs.ToldRuns.{same_events}
 use Rattle.c104_net.specs.Deliveries.{IsDelivered, arrived_at, cut_at, received}
-use Rattle.c104_run.specs.FinishedRecords.{FinishedRecord, record_finish}
+use Rattle.c104_run.specs.FinishedRecords.{FinishedRecord, IsFinishedRecord, record_finish}
 use Rattle.c104_run.specs.NetRecords.{NetRecord}
 use Rattle.c104_run.specs.Network.{Network, network_of, terminal_place}
 use Rattle.c104_node.specs.Nodes.{Node, arrived_tokens}
 use Rattle.c104_node.specs.Origins.{origins_in}
 use Rattle.c104_net.specs.RunOrigins.{AreOrigins}
+use Rattle.c104_net.specs.ToldRuns.{TellsEachRun}
 use Rattle.c104_node.specs.Terminals.{sent_from, sent_tokens}
 use Rattle.c104_node.specs.Traced.{traced_kind}
 use Rattle.c104_net.specs.TracedEnds.{traced_end}
 use Rattle.c104_node.specs.MappedNodes.{map_node}
 use Rattle.c104_node.specs.Traces.{part}
-use Rattle.c104_net.specs.Unchanged.{AreStartsOf}
+use Rattle.c104_net.specs.Unchanged.{AreStartsOf, IsUnchanged}
 use Rattle.c104_node.specs.declared.origins.Origin.{Origin}
 use Rattle.c104_node.specs.declared.traced.Traced.{Traced}
 use Rattle.c104_tests_net.proofs.CalmRuns.{unchanged}
@@ -102,14 +104,15 @@ placed_end : (n : Network Traced) (plan : Plan) → n.plan ≡ plan → n ≡ ne
 placed_end n plan same = ap (λ p. network_of p n.nodes) same
 
 -- of a run that started as an image says, and was not changed, a terminal's list names the packets that it received
-named_here : (image : Image) (run : FinishedRecord) (lists : List (List Origin)) (t k : ℕ) → IsAccepted (routes_of run.finished.plan image) → AreStartsOf run.finished.plan image run.starts → All (IsCalmTrace (routes_of run.finished.plan image)) run.traces → AreOrigins run lists → (list : List Origin) → slice_get lists t ≡ Some list → (o : Origin) → slice_get list k ≡ Some o → IsNamed (routes_of run.finished.plan image) run t k o
-named_here image run lists t k accepted starts calm are list listed o there =
+named_here : (image : Image) (run : FinishedRecord) (lists : List (List Origin)) (t k : ℕ) → IsAccepted (routes_of run.finished.plan image) → AreStartsOf run.finished.plan image run.starts → All (IsCalmTrace (routes_of run.finished.plan image)) run.traces → IsFinishedRecord run → TellsEachRun run → AreOrigins run lists → (list : List Origin) → slice_get lists t ≡ Some list → (o : Origin) → slice_get list k ≡ Some o → IsNamed (routes_of run.finished.plan image) run t k o
+named_here image run lists t k accepted starts calm fin law are list listed o there =
     let plan : Plan = run.finished.plan in
     let routes : Routes = routes_of plan image in
     let traced : List (Node Traced) = (traced_end run).nodes in
     let ended : Network Traced = network_of plan traced in
     let end_is : traced_end run ≡ ended = placed_end (traced_end run) plan are.same_plan in
-    let quiet = unchanged routes plan are.stamps run.starts are.nodes run.traces run.count are.events starts.in_place calm are.told in
+    let quiet : IsUnchanged routes are.events = subst (IsUnchanged routes) (same_events run lists fin.stamps fin.events fin.nodes law fin.told are).0 (unchanged routes plan fin.stamps run.starts fin.nodes run.traces run.count fin.events starts.in_place calm fin.told) in
+    let plain : map (map_node (λ (x : Traced). x.token)) traced ≡ fin.nodes = (law fin.stamps fin.events fin.nodes fin.told).once_more.plain in
     let within : t < length lists = slice_get_within lists t list listed in
     let inside : t < length plan.terminals = (let counted = are.counted in omega (arith, within, counted)) in
     let each : slice_get lists t ≡ Some (origins_in (arrived_at ended t)) = subst (λ (n : Network Traced). slice_get lists t ≡ Some (origins_in (arrived_at n t))) end_is (are.each t inside) in
@@ -120,27 +123,27 @@ named_here image run lists t k accepted starts calm are list listed o there =
     let found = list_there origins_in (received ended t) (λ j q at. (let known = named j q at in (record { terminal = known.0.terminal; number = known.0.number }, delivered_origin routes ended t q known.0))) k o joined in
     let known = named k found.0 found.1 in
     let is : ◌≡◌ {A = Origin} (record { terminal = known.0.terminal; number = known.0.number }) o = same_origin _ o (sym known.1 ∙ met) in (
-      network_of plan are.nodes,
-      are.ended,
+      network_of plan fin.nodes,
+      fin.ended,
       map token_of found.0,
-      ap (λ ps. slice_get ps k) (received_same plan are.nodes traced are.once_more.plain t) ∙ slice_get-map (map token_of) (received ended t) k ∙ ap (option_map (map token_of)) found.1,
-      subst (IsWhole routes (network_of plan are.nodes) t (map token_of found.0)) is (whole_of plan are.nodes traced are.once_more.plain routes t (map token_of found.0) found.0 refl known.0),
+      ap (λ ps. slice_get ps k) (received_same plan fin.nodes traced plain t) ∙ slice_get-map (map token_of) (received ended t) k ∙ ap (option_map (map token_of)) found.1,
+      subst (IsWhole routes (network_of plan fin.nodes) t (map token_of found.0)) is (whole_of plan fin.nodes traced plain routes t (map token_of found.0) found.0 refl known.0),
     )
   where
     some_same : (xs ys : List Origin) → Some xs ≡ Some ys → xs ≡ ys
     some_same xs ys is = cc
 
 -- the same of a network that is finished, as the lists are given back
-pub named_lists : (plan : Plan) (image : Image) (net : NetRecord) (run : FinishedRecord) (lists : List (Kept Origin)) → IsAccepted (routes_of plan image) → IsCalm plan image net → run ≡ record_finish net → AreOrigins run (map (λ (list : Kept Origin). list.items) lists) → (t k : ℕ) (list : Kept Origin) (o : Origin) → slice_get lists t ≡ Some list → slice_get list.items k ≡ Some o → IsNamed (routes_of plan image) (record_finish net) t k o
-named_lists plan image net run lists accepted calm is are t k list o listed there =
+pub named_lists : (plan : Plan) (image : Image) (net : NetRecord) (run : FinishedRecord) (lists : List (Kept Origin)) → IsAccepted (routes_of plan image) → IsCalm plan image net → run ≡ record_finish net → IsFinishedRecord run → TellsEachRun run → AreOrigins run (map (λ (list : Kept Origin). list.items) lists) → (t k : ℕ) (list : Kept Origin) (o : Origin) → slice_get lists t ≡ Some list → slice_get list.items k ≡ Some o → IsNamed (routes_of plan image) (record_finish net) t k o
+named_lists plan image net run lists accepted calm is fin law are t k list o listed there =
     subst (λ p. IsNamed (routes_of p image) (record_finish net) t k o) calm.same_plan
     (named_here image (record_finish net) (map (λ (l : Kept Origin). l.items) lists) t k (subst (λ p. IsAccepted (routes_of p image)) (sym calm.same_plan) accepted) (subst (λ p. AreStartsOf p image net.starts) (sym calm.same_plan) calm.starts) (subst (λ p. All (IsCalmTrace (routes_of p image)) net.traces) (sym calm.same_plan) calm.traces)
-    (subst (λ (r : FinishedRecord). AreOrigins r (map (λ (l : Kept Origin). l.items) lists)) is are) list.items (slice_get-map (λ (l : Kept Origin). l.items) lists t ∙ ap (option_map (λ (l : Kept Origin). l.items)) listed) o there)
+    (subst IsFinishedRecord is fin) (subst TellsEachRun is law) (subst (λ (r : FinishedRecord). AreOrigins r (map (λ (l : Kept Origin). l.items) lists)) is are) list.items (slice_get-map (λ (l : Kept Origin). l.items) lists t ∙ ap (option_map (λ (l : Kept Origin). l.items)) listed) o there)
 
 -- the same of the lists as they are given back, or of none
-pub named_result : {E : Type 0} (plan : Plan) (image : Image) (net : NetRecord) (run : FinishedRecord) (result : Result (Kept (Kept Origin)) E) → IsAccepted (routes_of plan image) → IsCalm plan image net → run ≡ record_finish net → IfOk result (λ (lists : Kept (Kept Origin)). AreOrigins run (map (λ (list : Kept Origin). list.items) lists.items)) → IfOk result (λ (lists : Kept (Kept Origin)). (t k : ℕ) → (list : Kept Origin) → (o : Origin) → slice_get lists.items t ≡ Some list → slice_get list.items k ≡ Some o → IsNamed (routes_of plan image) (record_finish net) t k o)
-named_result plan image net run (Ok lists) accepted calm is are = λ t k list o listed there. named_lists plan image net run lists.items accepted calm is are t k list o listed there
-named_result plan image net run (Err e) accepted calm is are = tt
+pub named_result : {E : Type 0} (plan : Plan) (image : Image) (net : NetRecord) (run : FinishedRecord) (result : Result (Kept (Kept Origin)) E) → IsAccepted (routes_of plan image) → IsCalm plan image net → run ≡ record_finish net → IsFinishedRecord run → TellsEachRun run → IfOk result (λ (lists : Kept (Kept Origin)). AreOrigins run (map (λ (list : Kept Origin). list.items) lists.items)) → IfOk result (λ (lists : Kept (Kept Origin)). (t k : ℕ) → (list : Kept Origin) → (o : Origin) → slice_get lists.items t ≡ Some list → slice_get list.items k ≡ Some o → IsNamed (routes_of plan image) (record_finish net) t k o)
+named_result plan image net run (Ok lists) accepted calm is fin law are = λ t k list o listed there. named_lists plan image net run lists.items accepted calm is fin law are t k list o listed there
+named_result plan image net run (Err e) accepted calm is fin law are = tt
 
 pub by_labels : (plan : Plan) (image : Image) (run : FinishedRecord) (t k : ℕ) (o : Origin) → IsImageOf plan image → IsNamed (routes_of plan image) run t k o → IsNamedByLabels plan t k o
 by_labels plan image run t k o is named = (image, run, is, named)

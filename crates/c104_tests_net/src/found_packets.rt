@@ -82,6 +82,8 @@ fn quiet_origins(
         AreFoundOnce (routes_of plan.now image.now) net.network lists.items) }
 {
     let run = net.finish();
+    // The proof reads here that the run is the one that the network's record tells.
+    run.tells_its_run();
     let lists = run.origins(alloc);
     drop_run(run);
     lists

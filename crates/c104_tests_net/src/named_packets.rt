@@ -282,6 +282,9 @@ fn origins(
         IsNamed (routes_of plan.now image.now) (record_finish net) t k origin) }
 {
     let run = net.finish();
+    // The proof reads here what every run keeps, and that its record tells it.
+    let _starts = run.starts();
+    run.tells_its_run();
     let lists = run.origins(alloc);
     drop_run(run);
     lists

@@ -1,0 +1,18 @@
+use Rattle.std.proofs.Common.{subst, List}
+use Rattle.c104_plan.specs.Plans.{IsPlan}
+use Rattle.c104_node.specs.TracedRecords.{TracedRecord}
+use Rattle.c104_run.specs.FinishedRecords.{record_finish}
+use Rattle.c104_run.specs.NetRecords.{IsNetRecord, NetRecord}
+use Rattle.c104_run.specs.RecordedNets.{places_record}
+use Rattle.c104_run.specs.RecordedPlaces.{counted_reading}
+use Rattle.c104_net.specs.ToldRuns.{TellsEachRun}
+use Rattle.c104_net.proofs.ToldRuns.{tells_each}
+use Rattle.c104_net.proofs.traced_origins.TracedNetOrigins.tells_its_run.Goals as goal
+
+pub returns : goal.returns
+returns c =
+    let is_plan : IsPlan c.args.self.now.network.plan = subst IsPlan c.plan-plan.ensures c.switches-switches.ensures.kept in
+    let nodes : List TracedRecord = c.places-places.result.now in
+    let net : NetRecord = places_record counted_reading c.args.self.now.network.plan nodes c.args.self.now.count in
+    let kept : IsNetRecord net = c.places-places.ensures.kept.kept in
+    subst (λ (r : NetRecord). TellsEachRun (record_finish r)) c.places-places.ensures.shown (tells_each (record_finish net) is_plan kept.started.in_place)
