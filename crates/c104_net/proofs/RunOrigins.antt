@@ -29,7 +29,7 @@ use Rattle.c104_net.specs.ToldEvents.{told_events}
 use Rattle.c104_node.specs.declared.stamps.Stamp.{Stamp}
 use Rattle.c104_event.specs.declared.faults.EventFault.{EventFault}
 use Rattle.c104_net.specs.RunOrigins.{AreOrigins}
-use Rattle.c104_run.specs.Runs.{IsRunRecord}
+use Rattle.c104_run.specs.Runs.{IsDoneRun, IsRunRecord}
 use Rattle.c104_node.specs.Starts.{start_node}
 use Rattle.c104_node.specs.Terminals.{Terminal}
 use Rattle.c104_node.specs.Traced.{traced_kind}
@@ -206,7 +206,7 @@ module _ (run : FinishedRecord) (is_plan : IsPlan run.finished.plan) (kept : IsK
         done = kept.told.run;
         ended = kept.ended;
         events_told = events_told run.finished.plan is_plan kept.stamps (map start_node run.starts) kept.nodes run.traces run.count kept.events kept.told kept.started.in_place;
-        once_more = subst (λ (net : Network Traced). IsTracedRun run.finished.plan run.starts kept.events kept.nodes net.nodes) is found.1;
+        once_more = subst (λ (net : Network Traced). IsDoneRun traced_kind (network_of run.finished.plan (map start_node run.starts)) kept.events net) is found.1.run;
         same_plan = ap (λ (net : Network Traced). net.plan) ends_traced;
         plain = subst (λ (net : Network Traced). (t : ℕ) → t < length run.finished.plan.terminals → run_arrived run.finished t ≡ Some (map (λ (x : Traced). x.token) (arrived_at net t))) is (plain_there run.finished.plan found.0 traced_placed run.finished kept.nodes kept.ended kept.placed found.1.plain);
         sure = subst (λ (net : Network Traced). (t : ℕ) → AreSure (arrived_at net t)) is (arrived_sure run.finished.plan run.starts kept.events (network_of run.finished.plan found.0) found.1.run);
