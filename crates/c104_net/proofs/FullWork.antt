@@ -10,14 +10,14 @@ use Rattle.c104_plan.specs.declared.ports.Port.{Port}
 use Rattle.c104_link.specs.Buffers.{Outgoing}
 use Rattle.c104_net.proofs.WorkBounds.{level_more, sum_more, weigh_more}
 use Rattle.c104_net.specs.HeaderWork.{ahead_at, ahead_by, first_ahead, full_input, full_link, full_node, full_output, full_work}
-use Rattle.c104_net.specs.HeaderWork.{random_ahead, random_bound, random_work}
+use Rattle.c104_net.specs.HeaderWork.{none_ahead, random_ahead, random_bound, random_work, work}
 use Rattle.c104_node.specs.Nodes.{Node}
-use Rattle.c104_net.specs.Work.{header_held, highest_rank, input_work, level, link_work, node_work, output_work, sum_at, weigh, work}
+use Rattle.c104_net.specs.Work.{header_held, highest_rank, level}
 use Rattle.c104_regs.specs.declared.settings.Settings.{Settings}
 use Rattle.c104_switch.specs.Switch.{Input}
 use Rattle.c104_switch.specs.declared.phase.Phase.{Phase}
 use Rattle.c104_switch.specs.declared.phase.Phase.TheVariants.{Fresh}
-use Rattle.std.proofs.Common.{List, None, Option, Some, [], ap, arith, false, length, refl, suc, true, zero, ℕ, ⊎_elim, ◌*◌, ◌+◌, ◌-◌, ◌∷◌}
+use Rattle.std.proofs.Common.{List, None, Option, Some, arith, false, length, refl, suc, true, zero, ℕ, ⊎_elim, ◌*◌, ◌+◌, ◌-◌}
 use Rattle.std.proofs.Common.{◌≡◌, ◌≤◌}
 use Rattle.std.proofs.Math.Nat.{suc-mul, zero-mul}
 use Rattle.std.proofs.lemmas.Bool.{cases_Bool}
@@ -80,54 +80,16 @@ random_within plan routes rank low nodes = full_more plan rank (highest_rank pla
         (λ (k : x.randomize ≡ false). rw k (omega arith))
         (cases_Bool x.randomize)
 
--- Where nothing is counted in advance
-
-module _ {X : Type 0} where
-  sum_same : (f g : ℕ → X → ℕ) → ((j : ℕ) (x : X) → f j x ≡ g j x) → (j : ℕ) (xs : List X) → sum_at f j xs ≡ sum_at g j xs
-  sum_same f g same j [] = refl
-  sum_same f g same j (x ∷ xs) = let rest = sum_same f g same (suc j) xs in let here = same j x in omega (arith, here, rest)
-
-module _ (plan : Plan) (rank ahead : SwitchPort → ℕ) (none : (p : SwitchPort) → ahead p ≡ 0) where
-  none_at : (q : Option Port) → ahead_at plan rank ahead q ≡ 0
-  none_at (Some (port.Switch s l)) = none (port_of s l)
-  none_at q = refl
-
-  module _ {A : Type 0} where
-    none_first : (s l : ℕ) (ph : Phase (List A)) → first_ahead plan rank ahead (ahead (port_of s l)) ph ≡ 0
-    none_first s l Fresh = none (port_of s l)
-    none_first s l ph = refl
-
-    input_same : (s l : ℕ) (p : Input A) → full_input plan rank ahead s l p ≡ input_work plan rank s l p
-    input_same s l p =
-        let zero_is = none (port_of s l) in
-        let weight : 8 * level plan rank (Some (port.Switch s l)) + 2 + ahead (port_of s l) ≡ 8 * level plan rank (Some (port.Switch s l)) + 2 = omega (arith, zero_is) in
-        let items = ap (λ n. weigh n p.buffer.items) weight in
-        let first = none_first s l p.phase in
-        omega (arith, items, first)
-
-    output_same : (q : Option Port) (out : Outgoing A) → full_output plan rank ahead (level plan rank q) (ahead_at plan rank ahead q) out ≡ output_work plan rank (level plan rank q) out
-    output_same q out =
-        let zero_is = none_at q in
-        let weight : 8 * level plan rank q + 4 + ahead_at plan rank ahead q ≡ 8 * level plan rank q + 4 = omega (arith, zero_is) in
-        ap (λ n. weigh n out.items) weight
-
-    node_same : (k : ℕ) (n : Node A) → full_node plan rank ahead k n ≡ node_work plan rank k n
-    node_same k (node.Switch S) =
-        let inputs = sum_same (full_input plan rank ahead k) (input_work plan rank k) (input_same k) 0 S.inputs in
-        let outputs = sum_same (full_link plan rank ahead k) (link_work plan rank k) (λ l q. output_same (peer plan (port.Switch k l)) q) 0 S.outputs in
-        omega (arith, inputs, outputs)
-    node_same k (node.Terminal T) =
-        let out = output_same (peer plan (port.Terminal (k - length plan.switches))) T.output in
-        let weight : 8 * 0 + 2 + 0 ≡ 8 * 0 + 2 = omega arith in
-        let items = ap (λ n. weigh n T.input.items) weight in
-        omega (arith, out, items)
-
-    pub full_same : (nodes : List (Node A)) → full_work plan rank ahead nodes ≡ work plan rank nodes
-    full_same nodes = sum_same (full_node plan rank ahead) (node_work plan rank) node_same 0 nodes
+-- the same where as much is counted in advance
+full_same : {A : Type 0} (plan : Plan) (rank ahead other : SwitchPort → ℕ) → ((p : SwitchPort) → ahead p ≡ other p) → (nodes : List (Node A)) → full_work plan rank ahead nodes ≡ full_work plan rank other nodes
+full_same plan rank ahead other same nodes =
+    let one = full_more plan rank rank ahead other (λ p. omega arith) (λ p. let is = same p in omega (arith, is)) nodes in
+    let more = full_more plan rank rank other ahead (λ p. omega arith) (λ p. let is = same p in omega (arith, is)) nodes in
+    omega (arith, one, more)
 
 -- where no link puts random headers before packets, the work is that of the tokens that there are
 pub plain_work : {A : Type 0} (plan : Plan) (routes : Routes) (rank : SwitchPort → ℕ) → IsNeverRandomized routes → (nodes : List (Node A)) → random_work plan routes rank nodes ≡ work plan rank nodes
-plain_work plan routes rank never nodes = full_same plan rank (random_ahead routes rank) (λ p. none p (link_settings routes.settings p) refl) nodes
+plain_work plan routes rank never nodes = full_same plan rank (random_ahead routes rank) none_ahead (λ p. none p (link_settings routes.settings p) refl) nodes
   where
     none : (p : SwitchPort) (x : Option Settings) → link_settings routes.settings p ≡ x → ahead_by routes.header (rank p) x ≡ 0
     none p None is = refl

@@ -7,8 +7,9 @@ use Rattle.c104_plan.specs.declared.ports.Port.{Port}
 use Rattle.c104_link.specs.Buffers.{Outgoing}
 use Rattle.c104_node.specs.Nodes.{Node}
 use Rattle.c104_node.specs.Traces.{part}
-use Rattle.c104_net.specs.Work.{header_held, highest_rank, input_work, level, link_work, most_weight, node_room, node_tokens, node_work}
-use Rattle.c104_net.specs.Work.{output_work, room_held, sum_at, told_work, tokens_held, weigh, work_bound}
+use Rattle.c104_net.specs.HeaderWork.{ahead_at, first_ahead, full_input, full_link, full_node, full_output, none_ahead, work_bound}
+use Rattle.c104_net.specs.Work.{header_held, highest_rank, level, most_weight, node_room, node_tokens, room_held, sum_at, told_work}
+use Rattle.c104_net.specs.Work.{tokens_held, weigh}
 use Rattle.c104_link.proofs.MadeSteps.{given}
 use Rattle.c104_switch.specs.Phases.{with_header}
 use Rattle.c104_switch.specs.Views.{link_view, sides_view}
@@ -17,7 +18,7 @@ use Rattle.c104_token.specs.Kinds.{Kind}
 use Rattle.c104_switch.specs.Rooms.{room_left}
 use Rattle.c104_switch.specs.Switch.{Input, Switch}
 use Rattle.c104_switch.specs.declared.phase.Phase.{Phase}
-use Rattle.c104_switch.specs.declared.phase.Phase.TheVariants.{Head, Want}
+use Rattle.c104_switch.specs.declared.phase.Phase.TheVariants.{Fresh, Head, Want}
 use Rattle.std.proofs.Common.{List, Option, Some, [], ap, arith, inl, inr, length, map, min, refl, slice_get, subst, suc, sym, take}
 use Rattle.std.proofs.Common.{zero, ℕ, ⊎_elim, ◌*◌, ◌+◌, ◌-◌, ◌<◌, ◌∙◌, ◌∷◌, ◌≡◌, ◌≤◌, ◌⊎◌}
 use Rattle.std.proofs.Math.Nat.{add-mul, min-eq_left, min-eq_right, suc-mul, zero-mul}
@@ -58,23 +59,30 @@ module _ (plan : Plan) (rank high : SwitchPort → ℕ) (less : (p : SwitchPort)
   level_more (Some (port.Switch s l)) = let here = less (port_of s l) in omega (arith, here)
   level_more q = omega arith
 
+-- where nothing is counted in advance
+
+module _ (plan : Plan) (rank : SwitchPort → ℕ) where
+  none_at : (q : Option Port) → ahead_at plan rank none_ahead q ≡ 0
+  none_at (Some (port.Switch s l)) = refl
+  none_at q = refl
+
   module _ {A : Type 0} where
-    input_more : (s l : ℕ) (p : Input A) → input_work plan rank s l p ≤ input_work plan high s l p
-    input_more s l p =
-        let far = less (port_of s l) in
-        let items = weigh_more (8 * level plan rank (Some (port.Switch s l)) + 2) (8 * level plan high (Some (port.Switch s l)) + 2) (omega (arith, far)) p.buffer.items in
-        let header = weigh_more (8 * level plan rank (Some (port.Switch s l))) (8 * level plan high (Some (port.Switch s l))) (omega (arith, far)) (header_held p.phase) in
-        omega (arith, items, header)
+    none_first : (ph : Phase (List A)) → first_ahead plan rank none_ahead 0 ph ≡ 0
+    none_first Fresh = refl
+    none_first ph = refl
 
-    output_more : (q : Option Port) (out : Outgoing A) → output_work plan rank (level plan rank q) out ≤ output_work plan high (level plan high q) out
-    output_more q out = let far = level_more q in weigh_more (8 * level plan rank q + 4) (8 * level plan high q + 4) (omega (arith, far)) out.items
+    pub plain_input : (s l : ℕ) (p : Input A) → (weigh (8 * (rank (port_of s l) + 1) + 2) p.buffer.items + room_left p.buffer) + weigh (8 * (rank (port_of s l) + 1)) (header_held p.phase) ≡ full_input plan rank none_ahead s l p
+    plain_input s l p =
+        let weight : 8 * (rank (port_of s l) + 1) + 2 ≡ 8 * (rank (port_of s l) + 1) + 2 + 0 = omega arith in
+        let items = ap (λ n. weigh n p.buffer.items) weight in
+        let first = none_first p.phase in
+        omega (arith, items, first)
 
-    node_more : (k : ℕ) (n : Node A) → node_work plan rank k n ≤ node_work plan high k n
-    node_more k (node.Switch S) =
-        let inputs = sum_more (input_work plan rank k) (input_work plan high k) (input_more k) 0 S.inputs in
-        let outputs = sum_more (link_work plan rank k) (link_work plan high k) (λ l q. output_more (peer plan (port.Switch k l)) q) 0 S.outputs in
-        omega (arith, inputs, outputs)
-    node_more k (node.Terminal T) = let out = output_more (peer plan (port.Terminal (k - length plan.switches))) T.output in omega (arith, out)
+    pub plain_output : (q : Option Port) (out : Outgoing A) → weigh (8 * level plan rank q + 4) out.items ≡ full_output plan rank none_ahead (level plan rank q) (ahead_at plan rank none_ahead q) out
+    plain_output q out =
+        let none = none_at q in
+        let weight : 8 * level plan rank q + 4 ≡ 8 * level plan rank q + 4 + ahead_at plan rank none_ahead q = omega (arith, none) in
+        ap (λ n. weigh n out.items) weight
 
 -- the bound by tokens and room alone
 module _ (most : ℕ) where
@@ -107,21 +115,25 @@ module _ (plan : Plan) where
   top = most_weight plan
 
   module _ {A : Type 0} where
-    input_most : (s l : ℕ) (p : Input A) → input_work plan (highest_rank plan) s l p ≤ (length p.buffer.items + length (header_held p.phase)) * most_weight plan + room_left p.buffer
+    input_most : (s l : ℕ) (p : Input A) → full_input plan (highest_rank plan) none_ahead s l p ≤ (length p.buffer.items + length (header_held p.phase)) * most_weight plan + room_left p.buffer
     input_most s l p =
         let far = level_most (Some (port.Switch s l)) in
         let items = weigh_most top (8 * level plan (highest_rank plan) (Some (port.Switch s l)) + 2) (omega (arith, far)) p.buffer.items in
         let header = weigh_most top (8 * level plan (highest_rank plan) (Some (port.Switch s l))) (omega (arith, far)) (header_held p.phase) in
         let both = add-mul (length p.buffer.items) (length (header_held p.phase)) top in
-        omega (arith, items, header, both)
+        let plain = plain_input plan (highest_rank plan) s l p in
+        omega (arith, items, header, both, plain)
 
-    output_most : (q : Option Port) (out : Outgoing A) → output_work plan (highest_rank plan) (level plan (highest_rank plan) q) out ≤ length out.items * most_weight plan
-    output_most q out = let far = level_most q in weigh_most top (8 * level plan (highest_rank plan) q + 4) (omega (arith, far)) out.items
+    output_most : (q : Option Port) (out : Outgoing A) → full_output plan (highest_rank plan) none_ahead (level plan (highest_rank plan) q) (ahead_at plan (highest_rank plan) none_ahead q) out ≤ length out.items * most_weight plan
+    output_most q out =
+        let far = level_most q in
+        let none = none_at plan (highest_rank plan) q in
+        weigh_most top (8 * level plan (highest_rank plan) q + 4 + ahead_at plan (highest_rank plan) none_ahead q) (omega (arith, far, none)) out.items
 
-    node_most : (k : ℕ) (n : Node A) → node_work plan (highest_rank plan) k n ≤ node_tokens n * most_weight plan + node_room n
+    node_most : (k : ℕ) (n : Node A) → full_node plan (highest_rank plan) none_ahead k n ≤ node_tokens n * most_weight plan + node_room n
     node_most k (node.Switch S) =
-        let inputs = sum_most top (input_work plan (highest_rank plan) k) (λ l p. length p.buffer.items + length (header_held p.phase)) (λ l p. room_left p.buffer) (input_most k) 0 S.inputs in
-        let outputs = sum_only top (link_work plan (highest_rank plan) k) (λ l q. length q.items) (λ l q. output_most (peer plan (port.Switch k l)) q) 0 S.outputs in
+        let inputs = sum_most top (full_input plan (highest_rank plan) none_ahead k) (λ l p. length p.buffer.items + length (header_held p.phase)) (λ l p. room_left p.buffer) (input_most k) 0 S.inputs in
+        let outputs = sum_only top (full_link plan (highest_rank plan) none_ahead k) (λ l q. length q.items) (λ l q. output_most (peer plan (port.Switch k l)) q) 0 S.outputs in
         let both = add-mul (sum_at (λ l p. length p.buffer.items + length (header_held p.phase)) 0 S.inputs) (sum_at (λ l q. length q.items) 0 S.outputs) top in
         omega (arith, inputs, outputs, both)
     node_most k (node.Terminal T) =
@@ -131,7 +143,7 @@ module _ (plan : Plan) where
         omega (arith, items, out, both)
 
     pub bound_by_tokens : (nodes : List (Node A)) → work_bound plan nodes ≤ tokens_held nodes * most_weight plan + room_held nodes
-    bound_by_tokens nodes = sum_most top (node_work plan (highest_rank plan)) (λ k n. node_tokens n) (λ k n. node_room n) node_most 0 nodes
+    bound_by_tokens nodes = sum_most top (full_node plan (highest_rank plan) none_ahead) (λ k n. node_tokens n) (λ k n. node_room n) node_most 0 nodes
 
 -- the length of a header is seen
 pub held_length : {A B : Type 0} (f : A → B) (phase : Phase (List A)) → length (header_held (with_header (map f) phase)) ≡ length (header_held phase)

@@ -31,9 +31,9 @@ use Rattle.c104_node.specs.Traces.{seatless, is_trace_full}
 use Rattle.c104_node.specs.declared.stamps.Stamp.{Stamp}
 use Rattle.c104_node.specs.MappedNodes.{map_node}
 use Rattle.c104_net.specs.Unchanged.{AreStartsOf, IsUnchanged}
-use Rattle.c104_net.specs.HeaderWork.{random_bound, random_work}
+use Rattle.c104_net.specs.HeaderWork.{random_bound, random_work, work, work_bound}
 use Rattle.c104_net.specs.RoundEvents.{IsOfRound}
-use Rattle.c104_net.specs.Work.{most_weight, room_held, tokens_held, work, work_bound}
+use Rattle.c104_net.specs.Work.{most_weight, room_held, tokens_held}
 use Rattle.c104_switch.specs.Actions.{Reply}
 use Rattle.c104_token.specs.Kinds.{plain_kind}
 use Rattle.c104_token.specs.declared.tokens.Token.{Token}

@@ -1,8 +1,10 @@
--- The work that is left in a network where random headers may be put before packets. Such a header is made within the
--- network, so it is counted in advance: with each token that waits to come in where one may be put, since a packet has
--- one token at least, and with an input that waits for a packet.
+-- The work that is left in a network: a number that each event of a round makes smaller, where it is done. A random header
+-- is made within the network, so it is counted in advance: with each token that waits to come in where one may be put, since
+-- a packet has one token at least, and with an input that waits for a packet.
 --     full_work plan rank ahead nodes      where ahead says what is counted in advance at an input
 --     random_ahead routes rank      what a random header weighs there, and one for the turn that puts it
+--     work plan rank nodes      where no link puts random headers before packets
+--     work_bound plan nodes      by tokens and buffers alone: no work is more, by ranks up to the count of inputs
 use Rattle.std.specs.Prelude.{ℕ, ◌+◌, ◌-◌, ◌*◌, List, length, Option, Some, None, if◌then◌else◌}
 use Rattle.c104_check.specs.Routes.{Routes, link_settings}
 use Rattle.c104_check.specs.Walks.{port_of}
@@ -91,3 +93,15 @@ random_work plan routes rank nodes = full_work plan rank (random_ahead routes ra
 -- the same as if each input had the highest rank that is needed
 abbrev pub random_bound : {A : Type 0} → Plan → Routes → List (Node A) → ℕ
 random_bound plan routes nodes = random_work plan routes (highest_rank plan) nodes
+
+-- where no link puts random headers before packets, nothing is counted in advance
+abbrev pub none_ahead : SwitchPort → ℕ
+none_ahead p = 0
+
+abbrev pub work : {A : Type 0} → Plan → (SwitchPort → ℕ) → List (Node A) → ℕ
+work plan rank nodes = full_work plan rank none_ahead nodes
+
+-- the work of all nodes, as if each input had the highest rank: each token weighs at most
+-- 8 * (32 * switches + 1) + 4
+abbrev pub work_bound : {A : Type 0} → Plan → List (Node A) → ℕ
+work_bound plan nodes = work plan (highest_rank plan) nodes

@@ -11,8 +11,9 @@ ghost use Rattle.c104_node.specs.Places.{states};
 ghost use Rattle.c104_node.specs.Traces.{part};
 ghost use Rattle.c104_token.specs.declared.tokens.Token.{Token as TheToken};
 ghost use Rattle.c104_run.specs.Network.{Network};
-ghost use Rattle.c104_net.specs.Work.{header_held, input_work, inputs_work, level, link_work, node_work, outputs_work};
-ghost use Rattle.c104_net.specs.Work.{terminal_work, told_work, work, work_bound};
+ghost use Rattle.c104_net.specs.HeaderWork.{full_input, full_inputs, full_link, full_node, full_outputs, full_terminal};
+ghost use Rattle.c104_net.specs.HeaderWork.{none_ahead, work, work_bound};
+ghost use Rattle.c104_net.specs.Work.{header_held, level, told_work};
 ghost use Rattle.c104_regs.specs.declared.registers.TheConstants.{LINKS};
 
 use c104_check::{Ranks, SwitchPort};
@@ -136,7 +137,7 @@ fn work_of_node<T: TokenKind, R: Ranking>(
     place: usize,
     node: &NodeOf<T>,
 ) -> u64
-    ensures { result ≡ told_work (node_work plan.now (R.rank ranks.now) place node.now) }
+    ensures { result ≡ told_work (full_node plan.now (R.rank ranks.now) none_ahead place node.now) }
 {
     match node {
         NodeOf::Switch(switch) => work_of_switch(plan, ranks, place, switch),
@@ -151,8 +152,9 @@ fn work_of_switch<T: TokenKind, R: Ranking>(
     place: usize,
     switch: &SwitchOf<T>,
 ) -> u64
-    ensures { result ≡ told_work (inputs_work plan.now (R.rank ranks.now) place switch.now.inputs
-        + outputs_work plan.now (R.rank ranks.now) place switch.now.outputs) }
+    ensures { result ≡ told_work
+        (full_inputs plan.now (R.rank ranks.now) none_ahead place switch.now.inputs
+        + full_outputs plan.now (R.rank ranks.now) none_ahead place switch.now.outputs) }
 {
     // The proof reads by this name what every switch keeps.
     let _started = switch.started();
@@ -174,8 +176,8 @@ fn work_of_link<T: TokenKind, R: Ranking>(
 ) -> u64
     requires { link < LINKS }
     ensures { result ≡ told_work
-        (part 0 (input_work plan.now (R.rank ranks.now) place link) (slice_get switch.now.inputs link)
-        + part 0 (link_work plan.now (R.rank ranks.now) place link) (slice_get switch.now.outputs link)) }
+        (part 0 (full_input plan.now (R.rank ranks.now) none_ahead place link) (slice_get switch.now.inputs link)
+        + part 0 (full_link plan.now (R.rank ranks.now) none_ahead place link) (slice_get switch.now.outputs link)) }
 {
     // The proof reads by this name what every switch keeps.
     let _started = switch.started();
@@ -198,7 +200,7 @@ fn work_of_terminal<T: TokenKind, R: Ranking>(
     place: usize,
     terminal: &TerminalOf<T>,
 ) -> u64
-    ensures { result ≡ told_work (terminal_work plan.now (R.rank ranks.now) place terminal.now) }
+    ensures { result ≡ told_work (full_terminal plan.now (R.rank ranks.now) none_ahead place terminal.now) }
 {
     let number = place.saturating_sub(plan.switches().len());
     let far = 8 * level(plan, ranks, Port::Terminal(number));

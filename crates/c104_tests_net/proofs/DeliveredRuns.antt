@@ -13,7 +13,8 @@ use Rattle.c104_run.specs.QuietNets.{IsQuiet}
 use Rattle.c104_run.specs.Standstill.{StandsStill}
 use Rattle.c104_node.specs.Starts.{IsStartedStart}
 use Rattle.c104_net.specs.Unchanged.{AreStartsOf}
-use Rattle.c104_net.specs.Work.{told_work, work, work_bound}
+use Rattle.c104_net.specs.HeaderWork.{work, work_bound}
+use Rattle.c104_net.specs.Work.{told_work}
 use Rattle.c104_tests_net.proofs.CalmRuns.{unchanged}
 use Rattle.c104_tests_net.specs.CalmNets.{IsCalm, IsCalmTrace}
 use Rattle.c104_tests_net.specs.DeliveredNets.{DeliversByRanks, DeliversWithin}

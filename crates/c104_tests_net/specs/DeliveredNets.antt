@@ -7,7 +7,7 @@ use Rattle.c104_plan.specs.PlanImage.{Image}
 use Rattle.c104_event.specs.declared.faults.EventFault.{EventFault}
 use Rattle.c104_net.specs.DeadlockFreedom.{IsAcyclicNet, IsAllDelivered}
 use Rattle.c104_run.specs.NetRecords.{NetRecord}
-use Rattle.c104_net.specs.Work.{work, work_bound}
+use Rattle.c104_net.specs.HeaderWork.{work, work_bound}
 
 -- by the bound of work
 abbrev pub DeliversWithin : NetRecord → ℕ → Result (Unit {0}) EventFault → NetRecord → Type 0

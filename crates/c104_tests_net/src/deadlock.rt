@@ -11,7 +11,8 @@ ghost use Rattle.c104_check.specs.Routes.{IsAccepted, routes_of};
 ghost use Rattle.c104_plan.specs.PlanImage.{Fits, Image as TheImage};
 ghost use Rattle.c104_plan.specs.Plans.{Plan as ThePlan};
 ghost use Rattle.c104_net.specs.DeadlockFreedom.{IsAllDelivered};
-ghost use Rattle.c104_net.specs.Work.{told_work, work, work_bound};
+ghost use Rattle.c104_net.specs.HeaderWork.{work, work_bound};
+ghost use Rattle.c104_net.specs.Work.{told_work};
 ghost use Rattle.c104_tests_net.specs.CalmNets.{IsCalm};
 ghost use Rattle.c104_tests_net.specs.DeliveredNets.{DeliversByRanks, DeliversWithin};
 

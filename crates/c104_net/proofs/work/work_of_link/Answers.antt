@@ -5,8 +5,9 @@ use Rattle.c104_plan.specs.Plans.{Plan}
 use Rattle.c104_plan.specs.Wiring.{peer}
 use Rattle.c104_link.specs.Buffers.{Outgoing}
 use Rattle.c104_node.specs.Traces.{part}
-use Rattle.c104_net.specs.Work.{header_held, input_work, level, link_work, told_work, weigh}
-use Rattle.c104_net.proofs.WorkBounds.{added_told, held_length, incoming_told, view_parts, weigh_is}
+use Rattle.c104_net.specs.HeaderWork.{full_input, full_link, none_ahead}
+use Rattle.c104_net.specs.Work.{header_held, level, told_work, weigh}
+use Rattle.c104_net.proofs.WorkBounds.{added_told, held_length, incoming_told, plain_input, plain_output, view_parts, weigh_is}
 use Rattle.c104_switch.specs.Rooms.{room_left}
 use Rattle.c104_switch.specs.Switch.{Input, Switch}
 use Rattle.c104_switch.specs.Views.{link_view}
@@ -38,9 +39,9 @@ returns g c =
     let came : c.added-came_in.result ≡ told_work (weigh (8 * own + 2) p.buffer.items + room_left p.buffer) = incoming_told (weigh (8 * own + 2) p.buffer.items) (room_left p.buffer) c.weight.result c.added-came_in.result first (c.added-came_in.ensures ∙ ap (λ n. told_work (c.weight.result + n)) room) in
     let header : c.header_length-header.result ≡ length (header_held p.phase) = c.header_length-header.ensures ∙ ap (λ (w : LinkView). length (header_held w.phase)) (sym parts.4) ∙ held_length (λ (x : g.row.T.Denot). byte_of (g.T.TokenKind.kind.plain x)) p.phase in
     let second : c.weight-2.result ≡ told_work (weigh (8 * own) (header_held p.phase)) = c.weight-2.ensures ∙ ap (λ n. told_work (n * (8 * c.level_at-own.result))) header ∙ ap (λ k. told_work (length (header_held p.phase) * (8 * k))) c.level_at-own.ensures.level ∙ ap told_work (weigh_is (8 * own) (header_held p.phase)) in
-    let input : c.added-input.result ≡ told_work (input_work plan rank s l p) = added_told (weigh (8 * own + 2) p.buffer.items + room_left p.buffer) (weigh (8 * own) (header_held p.phase)) c.added-came_in.result c.weight-2.result c.added-input.result came second c.added-input.ensures in
+    let input : c.added-input.result ≡ told_work (full_input plan rank none_ahead s l p) = added_told (weigh (8 * own + 2) p.buffer.items + room_left p.buffer) (weigh (8 * own) (header_held p.phase)) c.added-came_in.result c.weight-2.result c.added-input.result came second c.added-input.ensures ∙ ap told_work (plain_input plan rank s l p) in
     let waiting : length q.items ≡ v.output_level = ap (λ (w : LinkView). w.output_level) parts.4 in
-    let output : c.weight-output.result ≡ told_work (link_work plan rank s l q) = c.weight-output.ensures ∙ ap (λ n. told_work (n * (8 * c.level-far.result + 4))) (sym waiting) ∙ ap (λ k. told_work (length q.items * (8 * k + 4))) c.level-far.ensures.level ∙ ap told_work (weigh_is (8 * far + 4) q.items) in
-    added_told (input_work plan rank s l p) (link_work plan rank s l q) c.added-input.result c.weight-output.result c.added.result input output c.added.ensures
-    ∙ ap (λ o. told_work (part 0 (input_work plan rank s l) o + link_work plan rank s l q)) (sym parts.2)
-    ∙ ap (λ o. told_work (part 0 (input_work plan rank s l) (slice_get S.inputs l) + part 0 (link_work plan rank s l) o)) (sym parts.3)
+    let output : c.weight-output.result ≡ told_work (full_link plan rank none_ahead s l q) = c.weight-output.ensures ∙ ap (λ n. told_work (n * (8 * c.level-far.result + 4))) (sym waiting) ∙ ap (λ k. told_work (length q.items * (8 * k + 4))) c.level-far.ensures.level ∙ ap told_work (weigh_is (8 * far + 4) q.items ∙ plain_output plan rank (peer plan (port.Switch s l)) q) in
+    added_told (full_input plan rank none_ahead s l p) (full_link plan rank none_ahead s l q) c.added-input.result c.weight-output.result c.added.result input output c.added.ensures
+    ∙ ap (λ o. told_work (part 0 (full_input plan rank none_ahead s l) o + full_link plan rank none_ahead s l q)) (sym parts.2)
+    ∙ ap (λ o. told_work (part 0 (full_input plan rank none_ahead s l) (slice_get S.inputs l) + part 0 (full_link plan rank none_ahead s l) o)) (sym parts.3)

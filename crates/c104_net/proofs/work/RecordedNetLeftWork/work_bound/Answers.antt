@@ -6,7 +6,8 @@ use Rattle.c104_node.specs.Places.{states}
 use Rattle.c104_run.specs.NetRecords.{NetRecord}
 use Rattle.c104_run.specs.RecordedNets.{Reading, reading}
 use Rattle.c104_net.proofs.PlainWork.{places_work}
-use Rattle.c104_net.specs.Work.{told_work, work, work_bound}
+use Rattle.c104_net.specs.HeaderWork.{work, work_bound}
+use Rattle.c104_net.specs.Work.{told_work}
 use Rattle.c104_net.proofs.work.RecordedNetLeftWork.work_bound.Goals as goal
 
 pub returns : goal.returns
