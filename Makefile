@@ -4,6 +4,9 @@
 # make install                copies the program and its manual page below PREFIX, which is /usr/local unless
 #                             said, and below DESTDIR before it; what is built already isn't built again
 # make try SCRIPT=FILE        runs a script without proving anything, and the first example where none is named
+# make page DESC=FILE SCRIPT=FILE
+#                             writes a page that plays a run, build/run.html, for any browser: of the ring that locks up where
+#                             none is named; it needs Graphviz
 # make check                  proves what has changed, over kept work, and runs the cases over the program, or those of
 #                             some kinds, as kinds=runs
 # make slow                   lists the functions that took long in the last checks
@@ -23,7 +26,7 @@ sources := $(shell find crates crates.txt -path '*/out' -prune -o -type f -print
 PREFIX ?= /usr/local
 installed := $(DESTDIR)$(PREFIX)
 
-.PHONY: all run install try check slow edits test storms fuzz bench
+.PHONY: all run install try page check slow edits test storms fuzz bench
 
 all: $(program)
 
@@ -44,6 +47,16 @@ install:
 try: SCRIPT = $(example)
 try:
 	@tests/try_script '$(SCRIPT)'
+
+page: DESC = examples/ring.txt
+page: SCRIPT = $(if $(filter examples/ring.txt,$(DESC)),examples/ring-packets.txt)
+page: PAGE = build/run.html
+page: $(program)
+	@mkdir -p '$(dir $(PAGE))'
+	@C104=$(abspath $(program)) examples/page/page '$(DESC)' $(if $(SCRIPT),'$(SCRIPT)') > '$(PAGE).part' \
+	    || { rm -f '$(PAGE).part'; exit 1; }
+	@mv '$(PAGE).part' '$(PAGE)'
+	@echo 'open $(PAGE) in a browser'
 
 check:
 	@mkdir -p build

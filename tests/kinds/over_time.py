@@ -9,8 +9,6 @@ import io
 import json
 import os
 import re
-import subprocess
-import tempfile
 import xml.etree.ElementTree as xml
 
 from case_runner import CANNOT_WRITE, EXAMPLES, MIB, PLAN, SCRIPT_LIMIT, comments
@@ -177,31 +175,6 @@ def ring(runner):
         else 'wanted %s, found %s' % (due, held))
 
 
-def played(runner):
-    """The page of examples/page has the rows of the table, the buffers of the network as it stands, and what is red there."""
-    name = 'a page of the ring that is locked'
-    if not runner.wanted(name) or len(runner.program) > 1:
-        return
-    paths = [os.path.join(EXAMPLES, it) for it in ('ring.txt', 'ring-packets.txt')]
-    with tempfile.TemporaryDirectory() as folder:
-        dot = os.path.join(folder, 'dot')
-        with open(dot, 'w') as file:
-            file.write('#!/bin/sh\ncat > /dev/null; echo "<svg></svg>"\n')
-        os.chmod(dot, 0o755)
-        variables = {**os.environ, 'C104': os.path.abspath(runner.program[0]), 'PATH': folder + ':' + os.environ['PATH']}
-        page = subprocess.run([os.path.join(EXAMPLES, 'page', 'page'), *paths], env=variables, capture_output=True, text=True).stdout
-    found = re.search(r'id="data">(.*?)</script>', page, re.DOTALL)
-    if not found:
-        runner.judge(name, 'found %.200r' % page)
-        return
-    data = json.loads(found[1])
-    out = runner.run(words=['draw', *paths, '--over-time', '--format', 'json'])[1]
-    # Each switch holds a header, and behind that 7 tokens in its input; its output is full.
-    due = ([list(it.values()) for it in json.loads(out)], ['A.1', 'B.1', 'C.1', 'D.1'], ['7', '8'], 8)
-    found = (data['bars'], sorted(data['locked']), [data['levels']['B.2'][0][-1], data['levels']['A.1'][1][-1]], len(data['wires']))
-    runner.judge(name, None if found == due else 'wanted %s, found %s' % (due, found))
-
-
 def large(runner):
     """A picture that would be too large is refused by the most rounds that fit."""
     name = 'a picture that is too large'
@@ -255,4 +228,4 @@ def devices(runner):
                     stdout=full)
 
 
-PARTS = [drawn, tabled, blocked, ring, played, large, refused, words, devices]
+PARTS = [drawn, tabled, blocked, ring, large, refused, words, devices]
