@@ -112,25 +112,6 @@ def wrong_data(played):
     return None
 
 
-def given(runner):
-    """What the pages are given, without Graphviz and without a browser."""
-    with tempfile.TemporaryDirectory() as folder:
-        dot = os.path.join(folder, 'dot')
-        with open(dot, 'w') as file:
-            file.write(STUB)
-        os.chmod(dot, 0o755)
-        for name, run in runs().items():
-            if runner.wanted('what is given of the ' + name):
-                played = Played(runner, folder, name, *run)
-                runner.judge('what is given of the ' + name, played.write(folder) or wrong_data(played))
-        if runner.wanted('the lock of the ring'):
-            played = Played(runner, folder, 'ring', *runs()['ring'])
-            runner.judge('the lock of the ring', played.write(folder) or wrong_lock(played))
-        if runner.wanted('what is wanted for a time'):
-            played = Played(runner, folder, 'line', *runs()['line'])
-            runner.judge('what is wanted for a time', played.write(folder) or wrong_wants(played))
-
-
 def wrong_lock(played):
     """Each switch of the ring holds a header, and behind that 7 tokens in its input; its output is full, and what waits for
     itself is so from the round on behind which nothing moves."""
@@ -152,6 +133,25 @@ def wrong_wants(played):
     in round 33: the 33 tokens of b cross to B in rounds 1 to 33."""
     rows = played.data()['wants'].get('a 0/B.1/B.2')
     return None if rows == [[4, 1], [33, 0]] else 'wanted in %s' % rows
+
+
+# What is asked of what a page is given, without Graphviz and without a browser.
+GIVEN = {'what is given of the ring': ('ring', wrong_data), 'what is given of the mesh': ('mesh', wrong_data),
+         'what is given of the line': ('line', wrong_data), 'the lock of the ring': ('ring', wrong_lock),
+         'what is wanted for a time': ('line', wrong_wants)}
+
+
+def given(runner):
+    asked = {name: it for name, it in GIVEN.items() if runner.wanted(name)}
+    with tempfile.TemporaryDirectory() as folder:
+        dot = os.path.join(folder, 'dot')
+        with open(dot, 'w') as file:
+            file.write(STUB)
+        os.chmod(dot, 0o755)
+        pages = {run: Played(runner, folder, run, *runs()[run]) for run in {run for run, _ in asked.values()}}
+        wrong = {run: played.write(folder) for run, played in pages.items()}
+        for name, (run, ask) in asked.items():
+            runner.judge(name, wrong[run] or ask(pages[run]))
 
 
 def skips(runner, what, *commands):
