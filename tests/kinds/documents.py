@@ -42,7 +42,8 @@ RUN = {
 NOT_RUN = {'make test': 'it is what runs this', 'make install': 'it would be outside the copy: with PREFIX it is run',
            'make bench': 'it takes minutes, and times what it runs', 'make storms': 'it takes minutes',
            'make fuzz MINUTES=60': 'it takes an hour',
-           'make page DESC=examples/ring.txt SCRIPT=examples/ring-packets.txt': 'it wants Graphviz, and `played` runs it'}
+           **dict.fromkeys(('make page', 'make page DESC=examples/ring.txt SCRIPT=examples/ring-packets.txt'),
+                           'it wants Graphviz, and `played` runs it')}
 NAMED = re.compile(r'`((?:make|build/c104)(?: [^`]*)?)`|^    ((?:make|build/c104)(?: \S+)*)(?:  |$)', re.MULTILINE)
 # A path of the repository in a page's text.
 PATH = re.compile(r'`((?:docs|examples|tests|crates)/[\w./]*\w|Makefile|README\.md)`')
