@@ -1,101 +1,35 @@
 -- A script that ends with rounds enough leaves an acyclic network quiet, so that all that was sent is printed.
-use Rattle.std.proofs.Common.{◌≡◌, ◌∙◌, ◌+◌, ◌*◌, ◌++◌, ◌<◌, ◌≤◌, ℕ, suc, true, All, List, [], ◌∷◌, Option, Some, None, Result, Ok, Err, arith, get_or, inl, length, map, refl, sym, ap, subst}
-use Rattle.std.proofs.lemmas.List.Elements.{All-map}
+use Rattle.std.proofs.Common.{◌≡◌, ◌∙◌, ◌+◌, ◌*◌, ◌++◌, ◌≤◌, ℕ, suc, All, List, [], ◌∷◌, arith, inr, length, refl, sym, ap, subst}
+use Rattle.c104_token.specs.declared.packets.Packet.{Packet}
 use Rattle.c104_token.specs.declared.tokens.Token.{Token}
 use Rattle.c104_token.specs.Kinds.{plain_kind}
-use Rattle.c104_switch.specs.Actions.{Reply}
-use Rattle.c104_check.specs.ChannelDependencies.{IsAcyclic, IsRanking}
-use Rattle.c104_check.specs.Routes.{IsAccepted, Routes, routes_of}
+use Rattle.c104_check.specs.ChannelDependencies.{IsAcyclic}
+use Rattle.c104_check.specs.Routes.{Routes, routes_of}
 use Rattle.c104_check.specs.declared.ports.SwitchPort.{SwitchPort}
 use Rattle.c104_plan.specs.PlanImage.{Fits, Image}
 use Rattle.c104_plan.specs.Plans.{IsPlan, Plan}
-use Rattle.c104_event.specs.declared.events.Event.{Event}
-use Rattle.c104_event.specs.declared.faults.EventFault.{EventFault}
 use Rattle.c104_node.specs.Nodes.{Node}
-use Rattle.c104_node.specs.Quiet.{IsQuietNode}
-use Rattle.c104_node.specs.Starts.{start_node}
-use Rattle.c104_node.specs.Traced.{traced_kind}
-use Rattle.c104_node.specs.MappedNodes.{map_node}
-use Rattle.c104_node.specs.declared.traced.Traced.{Traced}
 use Rattle.c104_node.specs.declared.starts.NodeStart.{NodeStart}
-use Rattle.c104_run.specs.Balance.{IsSteady}
-use Rattle.c104_run.specs.EventRuns.{Outcome, run_events}
 use Rattle.c104_run.specs.NetRecords.{NetRecord}
-use Rattle.c104_run.specs.Network.{Network, network_apply, network_of}
+use Rattle.c104_run.specs.Network.{network_of, placed_network}
 use Rattle.c104_run.specs.QuietNets.{IsQuiet}
-use Rattle.c104_run.specs.RecordedRuns.{record_apply}
-use Rattle.c104_run.specs.Rounds.{rounds}
-use Rattle.c104_run.specs.Runs.{IsDoneRun}
-use Rattle.c104_run.specs.Standstill.{IsStarted}
-use Rattle.c104_run.specs.TracedRuns.{map_network}
-use Rattle.c104_run.proofs.NodeMaps.{quiet_map}
-use Rattle.c104_run.proofs.RoundRuns.{run_from}
-use Rattle.c104_run.proofs.RoundsTaken.{rounds_parts}
-use Rattle.c104_net.specs.HeaderWork.{random_work}
-use Rattle.c104_net.specs.Unchanged.{AreStartsOf, IsUnchanged}
-use Rattle.c104_net.proofs.SentBytes.{AreBytesSent}
+use Rattle.c104_run.specs.Standstill.{StandsStill}
+use Rattle.c104_net.specs.DeadlockFreedom.{IsAcyclicRun}
+use Rattle.c104_net.specs.HeaderWork.{random_bound, random_work}
+use Rattle.c104_net.specs.Unchanged.{AreStartsOf}
 use Rattle.c104_net.proofs.FullWork.{random_within}
-use Rattle.c104_net.proofs.RecordedRounds.{plain_run, starts_stay}
-use Rattle.c104_net.proofs.RoundsEnd.{rounds_deliver, run_plain, work_map}
-use Rattle.c104_net.proofs.RunOrigins.{still_steady}
-use Rattle.c104_net.proofs.StandingRuns.{run_steady, started_traced}
-use Rattle.c104_net.proofs.StartMaps.{starts_are}
-use Rattle.c104_net.proofs.StartedRuns.{run_started}
-use Rattle.c104_net.proofs.TracedRuns.{token_of, traced_from}
+use Rattle.c104_net.proofs.StandingRuns.{stands_quiet}
 use Rattle.c104_stream.specs.Scripts.{lines_outcome}
-use Rattle.c104_script.specs.Script.{read_script_line}
-use Rattle.c104_script.specs.declared.faults.LineFault.{LineFault}
-use Rattle.c104_script.specs.declared.places.Request.{Request}
-use Rattle.c104_script.specs.declared.places.Request.TheVariants as ask
-use Rattle.c104_run.specs.Network.{placed_network}
-use Rattle.c104_session.specs.DeliveredRuns.{sends_weight, AreRoundsLines, EndsWithRounds, IsRoundsLine, PrintsAllPackets, rounds_asked, rounds_in, session_after}
-use Rattle.c104_session.specs.PrintedPackets.{IsUnchangedRun, LeaveUnchanged, PrintsPackets, line_sends, lines_sent, script_end, script_sent, was_done}
-use Rattle.c104_session.specs.Shown.{answer_of_read, event_answer, line_answer, line_outcome, new_session, rounds_answer}
+use Rattle.c104_session.specs.DeliveredRuns.{EndsWithRounds, PrintsAllPackets, sends_weight, session_after, token_weight}
+use Rattle.c104_session.specs.PrintedPackets.{IsUnchangedRun, LeaveUnchanged, PrintsPackets, line_sends, lines_sent, script_end, script_sent}
+use Rattle.c104_session.specs.Shown.{line_answer, line_outcome, new_session}
 use Rattle.c104_session.specs.declared.session.Session.{Session}
+use Rattle.c104_session.proofs.FallingWork.{IsFalling, lines_left}
 use Rattle.c104_session.proofs.PlacedNets.{IsOfLinks, placed_set, placed_started, placed_starts, placed_steady, placed_unchanged}
 use Rattle.c104_session.proofs.PrintedLaw.{printed_law}
-use Rattle.c104_session.proofs.UnchangedNets.{Grows, IsUnchangedNet, Measure, weight_parts}
-use Rattle.c104_session.proofs.WorkGrowth.{work_grows, work_measure}
+use Rattle.c104_session.proofs.UnchangedNets.{IsUnchangedNet, nothing, of_fact, run_so_far}
 use Rattle.c104_session.proofs.UnchangedScripts.{lines_leave}
-
-abbrev Came : NetRecord → ℕ → NetRecord → Type 0
-Came net count after = ◌≡◌ {A = Outcome NetRecord} (run_events record_apply net (rounds net.network.plan count)) (Ok tt, after)
-
--- rounds that were done
-rounds_told : (r : Result (Unit {0}) EventFault) → was_done (Some (event_answer (rounds_answer r))) ≡ true → r ≡ Ok tt
-rounds_told (Ok u) done = refl
-rounds_told (Err f) done = absurd (cc done)
-
-read_rounds : (session : Session) (asked : Result (Option Request) LineFault) → IsRoundsLine asked (answer_of_read session asked).0 → Came session.net (rounds_asked asked) (answer_of_read session asked).1.net
-read_rounds session (Ok None) is = refl
-read_rounds session (Ok (Some (ask.Rounds count))) is =
-    let r : Outcome NetRecord = run_events record_apply session.net (rounds session.net.network.plan count) in
-    ap (λ told. (told, r.1)) (rounds_told r.0 is)
-read_rounds session (Ok (Some (ask.Asked e))) is = absurd is
-read_rounds session (Ok (Some (ask.Probed it))) is = absurd is
-read_rounds session (Ok (Some (ask.Refused kind))) is = absurd is
-read_rounds session (Err kind) is = absurd is
-
-line_rounds : (session : Session) (line : List ℕ) → IsRoundsLine (read_script_line session.net.network.plan line) (line_answer session line).0 → Came session.net (rounds_asked (read_script_line session.net.network.plan line)) (line_answer session line).1.net
-unfolding line_answer
-line_rounds session line is = read_rounds session (read_script_line session.net.network.plan line) is
-
--- the lines of a script's end are one run of rounds
-all_rounds : (plan : Plan) (lines : List (List ℕ)) (number : ℕ) (session : Session) → session.net.network.plan ≡ plan → AreRoundsLines session lines → Came session.net (rounds_in plan lines) (lines_outcome line_outcome number session lines).1.net
-unfolding line_outcome
-all_rounds plan [] number session same are = refl
-all_rounds plan (line ∷ lines) number session same are =
-    let next : Session = (line_answer session line).1 in
-    let n : ℕ = rounds_asked (read_script_line session.net.network.plan line) in
-    let count : rounds_asked (read_script_line plan line) ≡ n = ap (λ p. rounds_asked (read_script_line p line)) (sym same) in
-    let first : Came session.net n next.net = line_rounds session line are.0 in
-    let stays : next.net.network.plan ≡ session.net.network.plan = (starts_stay session.net next.net (rounds session.net.network.plan n) (Ok tt) (inl (sym first))).0 in
-    let rest = all_rounds plan lines (suc number) next (stays ∙ same) are.1 in
-    ap (λ m. run_events record_apply session.net (rounds session.net.network.plan (m + rounds_in plan lines))) count
-    ∙ ap (run_events record_apply session.net) (rounds_parts session.net.network.plan n (rounds_in plan lines))
-    ∙ run_from record_apply session.net next.net (rounds session.net.network.plan n) (rounds session.net.network.plan (rounds_in plan lines)) first
-    ∙ ap (λ p. run_events record_apply next.net (rounds p (rounds_in plan lines))) (sym stays)
-    ∙ rest
+use Rattle.c104_session.proofs.WorkGrowth.{IsWorkWithin, keeps_within, weight_parts, work_falls, work_grows}
 
 -- lines in two parts
 lines_parts : (front back : List (List ℕ)) (number : ℕ) (session : Session) → (later : ℕ) × ((lines_outcome line_outcome number session (front ++ back)).1 ≡ (lines_outcome line_outcome later (lines_outcome line_outcome number session front).1 back).1)
@@ -105,6 +39,11 @@ lines_parts (line ∷ front) back number session = lines_parts front back (suc n
 first_lines : (routes : Routes) (front back : List (List ℕ)) (session : Session) → LeaveUnchanged routes session (front ++ back) → LeaveUnchanged routes session front
 first_lines routes [] back session all = tt
 first_lines routes (line ∷ front) back session all = (all.0, first_lines routes front back (line_answer session line).1 all.1)
+
+last_lines : (routes : Routes) (front back : List (List ℕ)) (number : ℕ) (session : Session) → LeaveUnchanged routes session (front ++ back) → LeaveUnchanged routes (lines_outcome line_outcome number session front).1 back
+unfolding line_outcome
+last_lines routes [] back number session all = all
+last_lines routes (line ∷ front) back number session all = last_lines routes front back (suc number) (line_answer session line).1 all.1
 
 -- what the first lines send weighs no more than what all do
 front_less : (w : ℕ) (front back : List (List ℕ)) (session : Session) → sends_weight w (lines_sent session front) ≤ sends_weight w (lines_sent session (front ++ back))
@@ -116,26 +55,6 @@ front_less w (line ∷ front) back session =
     let b = weight_parts w (line_sends session line) (lines_sent next (front ++ back)) in
     omega (arith, rest, a, b)
 
--- more rounds than there is work leave the network quiet
-module _ (plan : Plan) (image : Image) (starts : List NodeStart) (nodes : List (Node Token)) (events : List (Event × Reply)) (is_plan : IsPlan plan) (accepted : IsAccepted (routes_of plan image)) (set : AreStartsOf plan image starts)
-    (started : IsStarted {A = Token} (network_of plan (map start_node starts))) (steady : IsSteady {A = Token} (network_of plan (map start_node starts)))
-    (run : IsDoneRun plain_kind (network_of plan (map start_node starts)) events (network_of plan nodes)) (unchanged : IsUnchanged (routes_of plan image) events) (bytes : AreBytesSent events) where
-  rounds_quiet : (rank : SwitchPort → ℕ) → IsRanking (routes_of plan image) rank → (n : ℕ) → random_work plan (routes_of plan image) rank nodes < n → (after : Network Token) → ◌≡◌ {A = Outcome (Network Token)} (run_events (network_apply plain_kind) (network_of plan nodes) (rounds plan n)) (Ok tt, after) → IsQuiet after
-  rounds_quiet rank falls n few after end =
-      let found = traced_from plan starts nodes events run in
-      let mid : Network Traced = network_of plan found.0 in
-      let balance = run_steady traced_kind (network_of plan (map start_node starts)) mid events is_plan found.1.run (still_steady Token Traced plan starts steady) in
-      let on = run_started plain_kind (routes_of plan image) (network_of plan (map start_node starts)) (network_of plan nodes) events run unchanged started in
-      let same : random_work plan (routes_of plan image) rank found.0 ≡ random_work plan (routes_of plan image) rank nodes = sym (work_map token_of plan (routes_of plan image) rank found.0) ∙ ap (random_work plan (routes_of plan image) rank) found.1.plain in
-      let traced = run_events (network_apply traced_kind) mid (rounds plan n) in
-      let both : ◌≡◌ {A = Outcome (Network Token)} (traced.0, map_network token_of traced.1) (Ok tt, after) = sym (run_plain mid (rounds plan n)) ∙ ap (λ ns. run_events (network_apply plain_kind) (network_of plan ns) (rounds plan n)) found.1.plain ∙ end in
-      let told : traced.0 ≡ Ok tt = ap (λ (z : Outcome (Network Token)). z.0) both in
-      let whole : ◌≡◌ {A = Outcome (Network Traced)} traced (Ok tt, traced.1) = ap (λ o. (o, traced.1)) told in
-      let delivered = rounds_deliver image (network_of plan (map start_node starts)) mid traced.1 events rank n is_plan accepted falls (starts_are plan image starts set) found.1.run unchanged bytes balance
-      (started_traced plan starts nodes events is_plan run found.0 found.1.plain on) (subst (λ k. k < n) (sym same) few) whole in
-      let quiet : IsQuiet (map_network token_of traced.1) = All-map IsQuietNode (map_node token_of) traced.1.nodes (λ k d inside. quiet_map token_of (get_or traced.1.nodes k d) (delivered.0 k d inside)) in
-      subst IsQuiet (ap (λ (z : Outcome (Network Token)). z.1) both) quiet
-
 module _ (plan : Plan) (image : Image) (script : List ℕ) (is_plan : IsPlan plan) (fits : Fits image plan) (sized : All IsOfLinks image.settings) (is : IsUnchangedRun plan image script) (acyclic : IsAcyclic (routes_of plan image)) (ends : EndsWithRounds plan image script) where
   abbrev routes : Routes
   routes = routes_of plan image
@@ -143,50 +62,66 @@ module _ (plan : Plan) (image : Image) (script : List ℕ) (is_plan : IsPlan pla
   abbrev starts : List NodeStart
   starts = placed_starts plan image is_plan fits
 
+  set : AreStartsOf plan image starts
+  set = placed_set plan image is_plan fits
+
+  all_unchanged : LeaveUnchanged routes (new_session plan image) (ends.front ++ ends.back)
+  all_unchanged = subst (LeaveUnchanged routes (new_session plan image)) ends.lines is.unchanged
+
   within : (p : SwitchPort) → acyclic.0 p ≤ 32 * length plan.switches
   within p = subst (λ m. acyclic.0 p ≤ 32 * m) fits.settings (acyclic.2 p)
 
-  abbrev mid : NetRecord
-  mid = (session_after plan image ends.front).net
+  abbrev first : Session
+  first = new_session plan image
 
-  abbrev work : Measure
-  work = work_measure plan image acyclic.0
+  abbrev mid : Session
+  mid = session_after plan image ends.front
 
-  weighs : Grows routes plan starts work
-  weighs = work_grows plan image is_plan is.accepted starts (placed_set plan image is_plan fits) acyclic.0 acyclic.1 within
+  abbrev work : List (Node Token) → ℕ
+  work nodes = random_work plan routes acyclic.0 nodes
 
-  there : IsUnchangedNet routes plan starts work (lines_sent (new_session plan image) ends.front) mid
-  there = lines_leave routes plan is_plan starts work weighs ends.front 1 [] (new_session plan image)
-      (first_lines routes ends.front ends.back (new_session plan image) (subst (LeaveUnchanged routes (new_session plan image)) ends.lines is.unchanged))
-      (placed_unchanged plan image is_plan fits routes work (random_within plan routes acyclic.0 within (placed_network plan image).nodes))
+  acyclic_run : (sends : List (ℕ × Packet)) (net : NetRecord) (was : IsUnchangedNet routes plan starts nothing sends net) → IsAcyclicRun plan image starts was.events net.network.nodes
+  acyclic_run sends net was = record {
+    accepted = is.accepted;
+    acyclic = acyclic;
+    set = set;
+    started = placed_started plan image is_plan fits sized;
+    steady = placed_steady plan image is_plan fits;
+    run = run_so_far routes plan starts nothing sends net was;
+    unchanged = was.unchanged;
+  }
 
-  abbrev last : NetRecord
-  last = (script_end plan image script).net
+  -- the work falls, and where it can't the network is quiet
+  falling : IsFalling routes plan is_plan starts work
+  falling = record {
+    falls = λ sends net e r next was due of. work_falls plan image is_plan is.accepted starts set acyclic.0 acyclic.1 within nothing sends net was r next due.1 e of due.0;
+    grows_none = λ sends net e r next was due may bytes none.
+        (let more = work_grows plan image is_plan is.accepted starts set acyclic.0 acyclic.1 within nothing sends net was r next due.1 e due.0 may bytes in
+        let same : work next.nodes ≤ work net.network.nodes + 0 = subst (λ s. work next.nodes ≤ work net.network.nodes + sends_weight (token_weight plan routes) s) none more in
+        omega (arith, same));
+    rests = λ sends net was still. stands_quiet plan image starts was.events net.network.nodes is_plan (acyclic_run sends net was) was.bytes (subst (λ p. StandsStill plain_kind (network_of p net.network.nodes)) was.same_plan still);
+  }
 
-  came : Came mid (rounds_in plan ends.back) last
-  came =
-      let parts = lines_parts ends.front ends.back 1 (new_session plan image) in
-      let end : (lines_outcome line_outcome parts.0 (session_after plan image ends.front) ends.back).1 ≡ script_end plan image script = sym parts.1 ∙ ap (λ ls. (lines_outcome line_outcome 1 (new_session plan image) ls).1) (sym ends.lines) in
-      all_rounds plan ends.back parts.0 (session_after plan image ends.front) there.same_plan ends.rounds ∙ ap (λ (s : Session). (Ok tt, s.net)) end
+  there : IsUnchangedNet routes plan starts (IsWorkWithin plan image acyclic.0) (lines_sent first ends.front) mid.net
+  there = lines_leave routes plan is_plan starts (IsWorkWithin plan image acyclic.0) (keeps_within plan image is_plan is.accepted starts set acyclic.0 acyclic.1 within) ends.front 1 [] first
+      (first_lines routes ends.front ends.back first all_unchanged)
+      (placed_unchanged plan image is_plan fits routes (IsWorkWithin plan image acyclic.0) (omega (arith, at_first)))
+    where
+      at_first : work (placed_network plan image).nodes ≤ random_bound {A = Token} plan routes (placed_network plan image).nodes
+      at_first = random_within plan routes acyclic.0 within (placed_network plan image).nodes
 
-  abbrev whole : mid.network ≡ network_of plan mid.network.nodes
-  whole = ap (λ p. network_of p mid.network.nodes) there.same_plan
-
-  ran : ◌≡◌ {A = Outcome (Network Token)} (run_events (network_apply plain_kind) (network_of plan mid.network.nodes) (rounds plan (rounds_in plan ends.back))) (Ok tt, last.network)
-  ran = ap (λ p. run_events (network_apply plain_kind) (network_of p mid.network.nodes) (rounds p (rounds_in plan ends.back))) (sym there.same_plan) ∙ plain_run (rounds mid.network.plan (rounds_in plan ends.back)) mid last came
-
-  run : IsDoneRun plain_kind (network_of plan (map start_node starts)) there.events (network_of plan mid.network.nodes)
-  run =
-      subst (λ ss. IsDoneRun plain_kind (network_of plan (map start_node ss)) there.events (network_of plan mid.network.nodes)) there.same_starts
-      (subst (λ p. IsDoneRun plain_kind (network_of p (map start_node mid.starts)) there.events (network_of p mid.network.nodes)) there.same_plan there.told.run)
-
-  quiet : IsQuiet last.network
+  quiet : IsQuiet (script_end plan image script).net.network
   quiet =
-      let less : random_work plan routes acyclic.0 mid.network.nodes ≤ work.first + sends_weight work.weight (lines_sent (new_session plan image) ends.front) = there.worked in
-      let part : sends_weight work.weight (lines_sent (new_session plan image) ends.front) ≤ sends_weight work.weight (script_sent plan image script) =
-      subst (λ ls. sends_weight work.weight (lines_sent (new_session plan image) ends.front) ≤ sends_weight work.weight (lines_sent (new_session plan image) ls)) (sym ends.lines) (front_less work.weight ends.front ends.back (new_session plan image)) in
-      rounds_quiet plan image starts mid.network.nodes there.events is_plan is.accepted (placed_set plan image is_plan fits) (placed_started plan image is_plan fits sized) (placed_steady plan image is_plan fits)
-      run there.unchanged there.bytes acyclic.0 acyclic.1 (rounds_in plan ends.back) (omega (arith, less, part, ends.enough)) last.network ran
+      let parts = lines_parts ends.front ends.back 1 first in
+      let end : (lines_outcome line_outcome parts.0 mid ends.back).1 ≡ script_end plan image script = sym parts.1 ∙ ap (λ ls. (lines_outcome line_outcome 1 first ls).1) (sym ends.lines) in
+      let weight : ℕ = token_weight plan routes in
+      let less : work mid.net.network.nodes ≤ random_bound {A = Token} plan routes (placed_network plan image).nodes + sends_weight weight (lines_sent first ends.front) = there.holds in
+      let part : sends_weight weight (lines_sent first ends.front) ≤ sends_weight weight (script_sent plan image script) =
+      subst (λ ls. sends_weight weight (lines_sent first ends.front) ≤ sends_weight weight (lines_sent first ls)) (sym ends.lines) (front_less weight ends.front ends.back first) in
+      subst (λ (s : Session). IsQuiet s.net.network) end
+      (lines_left routes plan is_plan starts work falling ends.back parts.0 (lines_sent first ends.front) mid
+      (of_fact routes plan starts (IsWorkWithin plan image acyclic.0) nothing (lines_sent first ends.front) mid.net there tt)
+      (last_lines routes ends.front ends.back 1 first all_unchanged) ends.silent (inr (omega (arith, less, part, ends.enough))))
 
   pub delivered_law : PrintsAllPackets plan image script
   delivered_law =

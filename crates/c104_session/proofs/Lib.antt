@@ -23,5 +23,7 @@ pub mod PeekedNets
 pub mod PlacedNets
 pub mod UnchangedScripts
 pub mod PrintedLaw
-pub mod DeliveredLaw
 pub mod WorkGrowth
+pub mod QuietEvents
+pub mod FallingWork
+pub mod DeliveredLaw

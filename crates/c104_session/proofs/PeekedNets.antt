@@ -53,7 +53,7 @@ use Rattle.c104_script.specs.declared.probes.Probe.TheVariants as probe
 use Rattle.c104_script.specs.declared.answers.Answer.{Answer}
 use Rattle.c104_script.specs.declared.answers.Answer.TheVariants.{Refused}
 use Rattle.c104_session.specs.Probing.{link_answer, probe_answer, table_answer, tool_outcome}
-use Rattle.c104_session.proofs.UnchangedNets.{Grows, IsUnchangedNet, Measure, event_leaves, sends_if}
+use Rattle.c104_session.proofs.UnchangedNets.{Fact, IsUnchangedNet, Keeps, event_leaves, sends_if}
 
 -- a peek is no reset
 no_reset : (a : ℕ) → read_command (command_bytes (command.CPeek a)) ≡ Ok command.Reset → ⊥
@@ -114,9 +114,9 @@ all_verified : (n : ℕ) (image : List (List Settings)) → AllByRecursion IsPee
 all_verified n [] = tt
 all_verified n (settings ∷ image) = each_append IsPeek (switch_peeks n settings) (steps_from switch_peeks (n + 1) image) (all_peeks n (due_values settings address_end)) (all_verified (n + 1) image)
 
-module _ (routes : Routes) (plan : Plan) (is_plan : IsPlan plan) (starts : List NodeStart) (m : Measure) (grows : Grows routes plan starts m) (sends : List (ℕ × Packet)) where
+module _ (routes : Routes) (plan : Plan) (is_plan : IsPlan plan) (starts : List NodeStart) (fact : Fact) (keeps : Keeps routes plan starts fact) (sends : List (ℕ × Packet)) where
   abbrev Is : NetRecord → Type 0
-  Is net = IsUnchangedNet routes plan starts m sends net
+  Is net = IsUnchangedNet routes plan starts fact sends net
 
   nothing_sent : (b : Bool) (s : ℕ) (c : List ℕ) → sends ++ sends_if b (event.Control s c) ≡ sends
   nothing_sent true s c = append-nil sends
@@ -125,8 +125,8 @@ module _ (routes : Routes) (plan : Plan) (is_plan : IsPlan plan) (starts : List 
   peek_leaves : (net : NetRecord) (s a : ℕ) → Is net → Is (net_command net s (command_bytes (command.CPeek a))).1
   peek_leaves net s a was =
       let e = event.Control s (command_bytes (command.CPeek a)) in
-      subst (λ (l : List (ℕ × Packet)). IsUnchangedNet routes plan starts m l (record_apply net e).1) (nothing_sent (is_done (record_apply net e).0) s (command_bytes (command.CPeek a)))
-      (event_leaves routes plan is_plan starts m grows sends net e tt was (peek_harmless net s a))
+      subst (λ (l : List (ℕ × Packet)). IsUnchangedNet routes plan starts fact l (record_apply net e).1) (nothing_sent (is_done (record_apply net e).0) s (command_bytes (command.CPeek a)))
+      (event_leaves routes plan is_plan starts fact keeps sends net e tt was (peek_harmless net s a))
 
   steps_leave : (judge : Judge) (steps : List Step) (net : NetRecord) → AllByRecursion IsPeek steps → Is net → Is (run_steps net_command judge net steps).1
   steps_leave judge [] net all was = was

@@ -32,7 +32,7 @@ use Rattle.c104_run.proofs.BalancePlaced.{steady_made}
 use Rattle.c104_run.proofs.FreshRecords.{fresh_kept}
 use Rattle.c104_net.specs.Deliveries.{sent_packets}
 use Rattle.c104_net.specs.Unchanged.{AreStartsOf}
-use Rattle.c104_session.proofs.UnchangedNets.{IsUnchangedNet, Measure}
+use Rattle.c104_session.proofs.UnchangedNets.{Fact, IsUnchangedNet}
 
 -- a new switch stands at its start
 inputs_back : (n : ℕ) (p : Input Token) (q : Outgoing Token) → start_input (link_start p q) ≡ p → map start_input (link_starts (replicate n p) (replicate n q)) ≡ replicate n p
@@ -140,8 +140,8 @@ module _ (plan : Plan) (image : Image) (is_plan : IsPlan plan) (fits : Fits imag
   abbrev no_entries : Node Token → List Entry
   no_entries n = []
 
-  pub placed_unchanged : (routes : Routes) (m : Measure) → m.work net.nodes ≤ m.first → IsUnchangedNet routes plan placed_starts m [] (fresh_record net)
-  placed_unchanged routes m few = record {
+  pub placed_unchanged : (routes : Routes) (fact : Fact) → fact [] net.nodes → IsUnchangedNet routes plan placed_starts fact [] (fresh_record net)
+  placed_unchanged routes fact holds = record {
     same_plan = refl;
     same_starts = refl;
     kept = kept;
@@ -155,5 +155,5 @@ module _ (plan : Plan) (image : Image) (is_plan : IsPlan plan) (fits : Fits imag
     bytes = tt;
     unchanged = tt;
     sent = λ t. none_at net.nodes (all_none plan.cap image.settings plan.terminals) (terminal_place plan t);
-    worked = omega (arith, few);
+    holds = holds;
   }

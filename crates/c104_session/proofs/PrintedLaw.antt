@@ -1,5 +1,5 @@
 -- What a run prints of packets: the theorem about packets, joined with the text of the summary.
-use Rattle.std.proofs.Common.{◌≡◌, ◌∙◌, ◌++◌, ℕ, suc, zero, List, [], ◌∷◌, Option, Some, None, drop, flat_map, map, option_map, refl, slice_get, sym, ap, subst, arith}
+use Rattle.std.proofs.Common.{◌≡◌, ◌∙◌, ◌++◌, ℕ, suc, zero, List, [], ◌∷◌, Option, Some, None, drop, flat_map, map, option_map, refl, slice_get, sym, ap, subst}
 use Rattle.std.proofs.lemmas.Option.{slice_get-map}
 use Rattle.c104_token.specs.Packets.{packet_tokens}
 use Rattle.c104_token.specs.declared.packets.Packet.{Packet}
@@ -35,7 +35,7 @@ use Rattle.c104_stream.specs.Scripts.{script_outcome}
 use Rattle.c104_session.specs.PrintedPackets.{IsSentTo, IsUnchangedRun, PrintsPackets, origin_line, origins_text, packets_of, script_end, script_sent, sent_line}
 use Rattle.c104_session.specs.Shown.{line_outcome, new_session, output_with_summary, packet_line, received_text, summary, terminals_text}
 use Rattle.c104_session.proofs.PlacedNets.{placed_set, placed_starts, placed_unchanged}
-use Rattle.c104_session.proofs.UnchangedNets.{Grows, IsUnchangedNet, Measure}
+use Rattle.c104_session.proofs.UnchangedNets.{IsUnchangedNet, keeps_nothing, nothing}
 use Rattle.c104_session.proofs.UnchangedScripts.{lines_leave}
 
 abbrev token_of : Traced → Token
@@ -133,15 +133,8 @@ module _ (plan : Plan) (image : Image) (script : List ℕ) (is_plan : IsPlan pla
   abbrev sends : List (ℕ × Packet)
   sends = script_sent plan image script
 
-  -- nothing is measured
-  abbrev nothing : Measure
-  nothing = record { work = λ nodes. 0; first = 0; weight = 0 }
-
-  never_more : Grows routes plan (placed_starts plan image is_plan fits) nothing
-  never_more sends' before e r next was due ready may bytes = omega arith
-
   ended : IsUnchangedNet routes plan (placed_starts plan image is_plan fits) nothing sends net
-  ended = lines_leave routes plan is_plan (placed_starts plan image is_plan fits) nothing never_more (script_lines script) 1 [] (new_session plan image) is.unchanged (placed_unchanged plan image is_plan fits routes nothing (omega arith))
+  ended = lines_leave routes plan is_plan (placed_starts plan image is_plan fits) nothing (keeps_nothing routes plan (placed_starts plan image is_plan fits)) (script_lines script) 1 [] (new_session plan image) is.unchanged (placed_unchanged plan image is_plan fits routes nothing tt)
 
   here_plan : IsPlan net.network.plan
   here_plan = subst IsPlan (sym ended.same_plan) is_plan

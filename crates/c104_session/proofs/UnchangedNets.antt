@@ -1,5 +1,5 @@
 -- A network that nobody changed, with what its terminals have sent: by an event, by rounds, and by the debugger's peeks.
-use Rattle.std.proofs.Common.{◌≡◌, ◌∙◌, ◌+◌, ◌++◌, ◌&&◌, ℕ, suc, zero, Bool, true, false, List, [], ◌∷◌, Result, Ok, Err, append-nil, if◌then◌else◌, map, refl, sym, ap, subst, inl, arith, ◌≤◌}
+use Rattle.std.proofs.Common.{◌≡◌, ◌∙◌, ◌+◌, ◌++◌, ◌&&◌, ℕ, suc, zero, Bool, true, false, List, [], ◌∷◌, Result, Ok, Err, append-nil, if◌then◌else◌, map, refl, sym, ap, subst, inl}
 use Rattle.std.specs.List.{AllByRecursion}
 use Rattle.c104_token.specs.declared.packets.Packet.{Packet}
 use Rattle.c104_token.specs.declared.tokens.Token.{Token}
@@ -21,7 +21,7 @@ use Rattle.c104_run.specs.NetRecords.{IsNetRecord, NetRecord, is_done, ticket_af
 use Rattle.c104_run.specs.Network.{Network, network_apply, network_of}
 use Rattle.c104_run.specs.RecordedRuns.{record_apply, record_at, record_stage}
 use Rattle.c104_run.specs.Rounds.{round, rounds}
-use Rattle.c104_run.specs.Runs.{IsRunRecord}
+use Rattle.c104_run.specs.Runs.{IsDoneRun, IsRunRecord}
 use Rattle.c104_run.specs.Stages.{stage_after, stage_full}
 use Rattle.c104_run.proofs.RecordSteps.{done_made, same_record, ticket_left}
 use Rattle.c104_run.proofs.RecordedRuns.{record_kept}
@@ -35,18 +35,16 @@ use Rattle.c104_net.proofs.JointKeeps.{IsOfRound}
 use Rattle.c104_net.proofs.RoundMembers.{each_of_round}
 use Rattle.c104_net.proofs.SentBytes.{AreBytesSent, SendsBytes}
 use Rattle.c104_node.specs.Nodes.{Node}
-use Rattle.c104_session.specs.DeliveredRuns.{sends_weight}
 use Rattle.c104_session.specs.PrintedPackets.{event_sends, packets_of}
 use Rattle.c104_session.proofs.SentLists.{packets_append, sent_after}
 
--- a number of nodes that an event makes larger by no more than what it sends weighs
-pub record Measure : Type 0 where
-  pub work : List (Node Token) → ℕ
-  pub first : ℕ
-  pub weight : ℕ
+-- what is said of the nodes of a network whose terminals sent these packets
+abbrev pub Fact : Type 1
+Fact = List (ℕ × Packet) → List (Node Token) → Type 0
 
--- a network with its record that nobody changed in a run from these starts, and whose terminals sent these packets
-pub record IsUnchangedNet (routes : Routes) (plan : Plan) (starts : List NodeStart) (m : Measure) (sends : List (ℕ × Packet)) (net : NetRecord) : Type 0 where
+-- a network with its record that nobody changed in a run from these starts, whose terminals sent these packets, and of whose
+-- nodes this is so
+pub record IsUnchangedNet (routes : Routes) (plan : Plan) (starts : List NodeStart) (fact : Fact) (sends : List (ℕ × Packet)) (net : NetRecord) : Type 0 where
   pub same_plan : net.network.plan ≡ plan
   pub same_starts : net.starts ≡ starts
   pub kept : IsNetRecord net
@@ -55,18 +53,40 @@ pub record IsUnchangedNet (routes : Routes) (plan : Plan) (starts : List NodeSta
   pub bytes : AreBytesSent events
   pub unchanged : IsUnchanged routes events
   pub sent : (t : ℕ) → sent_at net.network t ≡ packets_of t sends
-  pub worked : m.work net.network.nodes ≤ m.first + sends_weight m.weight sends
+  pub holds : fact sends net.network.nodes
 
--- each event that may happen does so to a measure
-abbrev pub Grows : Routes → Plan → List NodeStart → Measure → Type 0
-Grows routes plan starts m = (sends : List (ℕ × Packet)) (net : NetRecord) (e : Event) (r : Reply) (next : Network Token) →
-    IsUnchangedNet routes plan starts m sends net → ◌≡◌ {A = Applied (Network Token)} (Ok r, next) (network_apply plain_kind net.network e) →
-    is_ready r ≡ true → MayHappen routes e r → SendsBytes e →
-    m.work next.nodes ≤ m.work net.network.nodes + sends_weight m.weight (event_sends e)
+-- the same with another fact
+pub of_fact : (routes : Routes) (plan : Plan) (starts : List NodeStart) (fact other : Fact) (sends : List (ℕ × Packet)) (net : NetRecord) → IsUnchangedNet routes plan starts fact sends net → other sends net.network.nodes → IsUnchangedNet routes plan starts other sends net
+of_fact routes plan starts fact other sends net was holds = record {
+  same_plan = was.same_plan;
+  same_starts = was.same_starts;
+  kept = was.kept;
+  events = was.events;
+  told = was.told;
+  bytes = was.bytes;
+  unchanged = was.unchanged;
+  sent = was.sent;
+  holds = holds;
+}
 
-pub weight_parts : (w : ℕ) (xs ys : List (ℕ × Packet)) → sends_weight w (xs ++ ys) ≡ sends_weight w xs + sends_weight w ys
-weight_parts w [] ys = omega arith
-weight_parts w (x ∷ xs) ys = let rest = weight_parts w xs ys in omega (arith, rest)
+-- the run that it came from, in this plan and from these starts
+pub run_so_far : (routes : Routes) (plan : Plan) (starts : List NodeStart) (fact : Fact) (sends : List (ℕ × Packet)) (net : NetRecord) (was : IsUnchangedNet routes plan starts fact sends net) → IsDoneRun plain_kind (network_of plan (map start_node starts)) was.events (network_of plan net.network.nodes)
+run_so_far routes plan starts fact sends net was =
+    subst (λ ss. IsDoneRun plain_kind (network_of plan (map start_node ss)) was.events (network_of plan net.network.nodes)) was.same_starts
+    (subst (λ p. IsDoneRun plain_kind (network_of p (map start_node net.starts)) was.events (network_of p net.network.nodes)) was.same_plan was.told.run)
+
+-- each event that may happen keeps a fact
+abbrev pub Keeps : Routes → Plan → List NodeStart → Fact → Type 0
+Keeps routes plan starts fact = (sends : List (ℕ × Packet)) (net : NetRecord) (e : Event) (r : Reply) (next : Network Token) →
+    IsUnchangedNet routes plan starts fact sends net → ◌≡◌ {A = Applied (Network Token)} (Ok r, next) (network_apply plain_kind net.network e) →
+    is_ready r ≡ true → MayHappen routes e r → SendsBytes e → fact (sends ++ event_sends e) next.nodes
+
+-- nothing more is said
+abbrev pub nothing : Fact
+nothing sends nodes = Unit {0}
+
+pub keeps_nothing : (routes : Routes) (plan : Plan) (starts : List NodeStart) → Keeps routes plan starts nothing
+keeps_nothing routes plan starts sends net e r next was due ready may bytes = tt
 
 unchanged_on : (routes : Routes) (events : List (Event × Reply)) (e : Event) (r : Reply) → IsUnchanged routes events → MayHappen routes e r → IsUnchanged routes (events ++ (e, r) ∷ [])
 unchanged_on routes [] e r all may = (may, tt)
@@ -76,12 +96,12 @@ unchanged_on routes (d ∷ events) e r all may = (all.0, unchanged_on routes eve
 abbrev pub sends_if : Bool → Event → List (ℕ × Packet)
 sends_if done e = if done then event_sends e else []
 
-module _ (routes : Routes) (plan : Plan) (is_plan : IsPlan plan) (starts : List NodeStart) (m : Measure) (grows : Grows routes plan starts m) where
+module _ (routes : Routes) (plan : Plan) (is_plan : IsPlan plan) (starts : List NodeStart) (fact : Fact) (keeps : Keeps routes plan starts fact) where
   abbrev Is : List (ℕ × Packet) → NetRecord → Type 0
-  Is sends net = IsUnchangedNet routes plan starts m sends net
+  Is sends net = IsUnchangedNet routes plan starts fact sends net
 
   -- one event
-  module _ (sends : List (ℕ × Packet)) (net : NetRecord) (e : Event) (bytes : SendsBytes e) (was : IsUnchangedNet routes plan starts m sends net) where
+  module _ (sends : List (ℕ × Packet)) (net : NetRecord) (e : Event) (bytes : SendsBytes e) (was : IsUnchangedNet routes plan starts fact sends net) where
     here_plan : IsPlan net.network.plan
     here_plan = subst IsPlan (sym was.same_plan) is_plan
 
@@ -121,10 +141,7 @@ module _ (routes : Routes) (plan : Plan) (is_plan : IsPlan plan) (starts : List 
               ∙ sent_after plain_kind net.network.plan net.network.nodes next.nodes e r step t
               ∙ ap (λ ps. ps ++ packets_of t (event_sends e)) (was.sent t)
               ∙ sym (packets_append t sends (event_sends e));
-          worked =
-              let more = grows sends net e r next was due ready may bytes in
-              let all = weight_parts m.weight sends (event_sends e) in
-              omega (arith, more, all, was.worked);
+          holds = keeps sends net e r next was due ready may bytes;
         }
 
     -- it wasn't
@@ -170,7 +187,7 @@ module _ (routes : Routes) (plan : Plan) (is_plan : IsPlan plan) (starts : List 
   may_happen (event.Control s bytes) of r = absurd of
   may_happen e of r = tt
 
-  round_event : (sends : List (ℕ × Packet)) (net : NetRecord) (e : Event) → IsOfRound e → Is sends net → Is sends (record_apply net e).1
+  pub round_event : (sends : List (ℕ × Packet)) (net : NetRecord) (e : Event) → IsOfRound e → Is sends net → Is sends (record_apply net e).1
   round_event sends net e of was =
       subst (λ (s : List (ℕ × Packet)). Is s (record_apply net e).1) (ap (λ (s : List (ℕ × Packet)). sends ++ s) (none_sent e of (is_done (record_apply net e).0)) ∙ append-nil sends)
       (event_leaves sends net e (no_bytes e of) was (λ r is. may_happen e of r))
@@ -185,6 +202,9 @@ module _ (routes : Routes) (plan : Plan) (is_plan : IsPlan plan) (starts : List 
       by_fault more (Err f) next left = left
 
 -- all events of rounds are events of a round
+pub of_round : (plan : Plan) → AllByRecursion IsOfRound (round plan)
+of_round plan = each_of_round plan IsOfRound (λ p q wire. tt) (λ p q wire. tt) (λ s l q wire. tt) (λ s i o inside input output. tt) (λ t inside. tt)
+
 pub of_rounds : (plan : Plan) (n : ℕ) → AllByRecursion IsOfRound (rounds plan n)
 of_rounds plan zero = tt
-of_rounds plan (suc n) = each_append IsOfRound (round plan) (rounds plan n) (each_of_round plan IsOfRound (λ p q wire. tt) (λ p q wire. tt) (λ s l q wire. tt) (λ s i o inside input output. tt) (λ t inside. tt)) (of_rounds plan n)
+of_rounds plan (suc n) = each_append IsOfRound (round plan) (rounds plan n) (of_round plan) (of_rounds plan n)

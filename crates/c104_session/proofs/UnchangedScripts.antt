@@ -24,7 +24,7 @@ use Rattle.c104_session.specs.Shown.{answer_of_read, event_answer, line_answer, 
 use Rattle.c104_session.specs.declared.session.Session.{Session}
 use Rattle.c104_session.proofs.PeekedNets.{IsNoPoke, probe_leaves}
 use Rattle.c104_script.proofs.ScriptBytes.{AskedBytes, line_bytes}
-use Rattle.c104_session.proofs.UnchangedNets.{Grows, IsUnchangedNet, Measure, event_leaves, events_leave, of_rounds, sends_if}
+use Rattle.c104_session.proofs.UnchangedNets.{Fact, IsUnchangedNet, Keeps, event_leaves, events_leave, of_rounds, sends_if}
 
 done_same : (a : Result Reply EventFault) → is_done a ≡ was_done (Some (event_answer a))
 done_same (Ok r) = refl
@@ -38,15 +38,15 @@ none_if : {X : Type 0} (b : Bool) → ◌≡◌ {A = List X} (if b then [] else 
 none_if true = refl
 none_if false = refl
 
-module _ (routes : Routes) (plan : Plan) (is_plan : IsPlan plan) (starts : List NodeStart) (m : Measure) (grows : Grows routes plan starts m) where
+module _ (routes : Routes) (plan : Plan) (is_plan : IsPlan plan) (starts : List NodeStart) (fact : Fact) (keeps : Keeps routes plan starts fact) where
   abbrev Is : List (ℕ × Packet) → NetRecord → Type 0
-  Is sends net = IsUnchangedNet routes plan starts m sends net
+  Is sends net = IsUnchangedNet routes plan starts fact sends net
 
   -- what is read of a line sends this, where it is answered so
   abbrev read_sends : Session → Result (Option Request) LineFault → List (ℕ × Packet)
   read_sends session asked = if was_done (answer_of_read session asked).0 then asked_sends asked else []
 
-  module _ (sends : List (ℕ × Packet)) (session : Session) (was : IsUnchangedNet routes plan starts m sends session.net) where
+  module _ (sends : List (ℕ × Packet)) (session : Session) (was : IsUnchangedNet routes plan starts fact sends session.net) where
     abbrev IsAfter : Result (Option Request) LineFault → Type 0
     IsAfter asked = Is (sends ++ read_sends session asked) (answer_of_read session asked).1.net
 
@@ -56,22 +56,22 @@ module _ (routes : Routes) (plan : Plan) (is_plan : IsPlan plan) (starts : List 
     event_done : (e : Event) → SendsBytes e → MayAsk routes (Ok (Some (ask.Asked e))) (answer_of_read session (Ok (Some (ask.Asked e)))).0 → IsAfter (Ok (Some (ask.Asked e)))
     event_done e bytes may =
         subst (λ b. Is (sends ++ sends_if b e) (record_apply session.net e).1) (done_same (record_apply session.net e).0)
-        (event_leaves routes plan is_plan starts m grows sends session.net e bytes was (may_of routes e (record_apply session.net e).0 may))
+        (event_leaves routes plan is_plan starts fact keeps sends session.net e bytes was (may_of routes e (record_apply session.net e).0 may))
 
-    poked : (it : Probe) → MayAsk routes (Ok (Some (ask.Probed it))) (answer_of_read session (Ok (Some (ask.Probed it)))).0 → IsNoPoke routes plan is_plan starts m grows sends it
+    poked : (it : Probe) → MayAsk routes (Ok (Some (ask.Probed it))) (answer_of_read session (Ok (Some (ask.Probed it)))).0 → IsNoPoke routes plan is_plan starts fact keeps sends it
     poked (probe.Poke switch addr value) may = may
     poked it may = tt
 
     read_leaves : (asked : Result (Option Request) LineFault) → IfOk asked (AskedBytes plan) → MayAsk routes asked (answer_of_read session asked).0 → IsAfter asked
     read_leaves (Ok None) bytes may = nothing false session.net was
     read_leaves (Ok (Some (ask.Asked e))) bytes may = event_done e bytes may
-    read_leaves (Ok (Some (ask.Rounds count))) bytes may = nothing (was_done (answer_of_read session (Ok (Some (ask.Rounds count)))).0) _ (events_leave routes plan is_plan starts m grows sends (rounds session.net.network.plan count) session.net (of_rounds session.net.network.plan count) was)
-    read_leaves (Ok (Some (ask.Probed it))) bytes may = nothing (was_done (answer_of_read session (Ok (Some (ask.Probed it)))).0) _ (probe_leaves routes plan is_plan starts m grows sends session.net session.image it (poked it may) was)
+    read_leaves (Ok (Some (ask.Rounds count))) bytes may = nothing (was_done (answer_of_read session (Ok (Some (ask.Rounds count)))).0) _ (events_leave routes plan is_plan starts fact keeps sends (rounds session.net.network.plan count) session.net (of_rounds session.net.network.plan count) was)
+    read_leaves (Ok (Some (ask.Probed it))) bytes may = nothing (was_done (answer_of_read session (Ok (Some (ask.Probed it)))).0) _ (probe_leaves routes plan is_plan starts fact keeps sends session.net session.image it (poked it may) was)
     read_leaves (Ok (Some (ask.Refused kind))) bytes may = nothing false session.net was
     read_leaves (Err kind) bytes may = nothing false session.net was
 
     -- a line that changes nothing
-    line_leaves : (line : List ℕ) → MayAsk routes (read_script_line session.net.network.plan line) (line_answer session line).0 → Is (sends ++ line_sends session line) (line_answer session line).1.net
+    pub line_leaves : (line : List ℕ) → MayAsk routes (read_script_line session.net.network.plan line) (line_answer session line).0 → Is (sends ++ line_sends session line) (line_answer session line).1.net
     unfolding line_answer
     line_leaves line may = read_leaves (read_script_line session.net.network.plan line) (bytes (line_bytes session.net.network.plan line)) may
       where

@@ -1,5 +1,6 @@
--- An event that may happen makes the work that is left larger by no more than the weight of the tokens that it sends.
-use Rattle.std.proofs.Common.{◌≡◌, ◌∙◌, ◌+◌, ◌*◌, ◌-◌, ◌≤◌, ◌<◌, ℕ, suc, zero, true, false, List, [], ◌∷◌, Option, Some, None, Result, Ok, arith, length, length-append, map, refl, slice_get, slice_set, sym, ap, subst, ⊎_elim}
+-- An event that may happen makes the work that is left larger by no more than the weight of the tokens that it sends; and one
+-- of a round leaves less.
+use Rattle.std.proofs.Common.{◌≡◌, ◌∙◌, ◌+◌, ◌*◌, ◌-◌, ◌++◌, ◌≤◌, ◌<◌, ℕ, suc, zero, true, false, List, [], ◌∷◌, Option, Some, None, Result, Ok, arith, length, length-append, map, refl, slice_get, slice_set, sym, ap, subst, ⊎_elim}
 use Rattle.std.proofs.Math.Nat.{suc-mul, zero-mul}
 use Rattle.std.proofs.lemmas.Bool.{cases_Bool}
 use Rattle.std.proofs.lemmas.List.{length-map}
@@ -36,6 +37,7 @@ use Rattle.c104_node.specs.Traced.{traced_kind}
 use Rattle.c104_node.specs.declared.node.NodeOf.TheVariants as node
 use Rattle.c104_node.specs.declared.starts.NodeStart.{NodeStart}
 use Rattle.c104_node.specs.declared.traced.Traced.{Traced}
+use Rattle.c104_run.specs.NetRecords.{NetRecord}
 use Rattle.c104_run.specs.Network.{Network, network_apply, network_of, network_step, placed_network, terminal_place}
 use Rattle.c104_run.specs.Runs.{IsDoneRun}
 use Rattle.c104_run.specs.TracedRuns.{map_network}
@@ -61,7 +63,7 @@ use Rattle.c104_net.proofs.WorkRounds.{falling}
 use Rattle.c104_net.proofs.WorkSteps.{sum_set, weigh-append}
 use Rattle.c104_session.specs.DeliveredRuns.{sends_weight, token_weight}
 use Rattle.c104_session.specs.PrintedPackets.{event_sends}
-use Rattle.c104_session.proofs.UnchangedNets.{Grows, Measure}
+use Rattle.c104_session.proofs.UnchangedNets.{Fact, IsUnchangedNet, Keeps, run_so_far}
 
 times_more : (n a b : ℕ) → a ≤ b → n * a ≤ n * b
 times_more zero a b less = let one = zero-mul a in let other = zero-mul b in omega (arith, one, other)
@@ -79,13 +81,15 @@ length_tokens : (t n : ℕ) (p : Packet) → length (sent_tokens plain_kind t n 
 length_tokens t n p =
     length_sent plain_kind t n 0 (packet_tokens p) ∙ length-append (map Byte p.bytes) (end_token p.mark ∷ []) ∙ ap (λ k. k + 1) (length-map p.bytes Byte)
 
--- the work by ranks, from its bound at the start on
-abbrev pub work_measure : Plan → Image → (SwitchPort → ℕ) → Measure
-work_measure plan image rank = record {
-  work = random_work plan (routes_of plan image) rank;
-  first = random_bound {A = Token} plan (routes_of plan image) (placed_network plan image).nodes;
-  weight = token_weight plan (routes_of plan image);
-}
+pub weight_parts : (w : ℕ) (xs ys : List (ℕ × Packet)) → sends_weight w (xs ++ ys) ≡ sends_weight w xs + sends_weight w ys
+weight_parts w [] ys = omega arith
+weight_parts w (x ∷ xs) ys = let rest = weight_parts w xs ys in omega (arith, rest)
+
+-- the work by ranks is within its bound at the start and the weight of what was sent
+abbrev pub IsWorkWithin : Plan → Image → (SwitchPort → ℕ) → Fact
+IsWorkWithin plan image rank sends nodes =
+    random_work plan (routes_of plan image) rank nodes
+    ≤ random_bound {A = Token} plan (routes_of plan image) (placed_network plan image).nodes + sends_weight (token_weight plan (routes_of plan image)) sends
 
 module _ (plan : Plan) (image : Image) (is_plan : IsPlan plan) (accepted : IsAccepted (routes_of plan image)) (first : List NodeStart) (set : AreStartsOf plan image first) (rank : SwitchPort → ℕ) (falls : IsRanking (routes_of plan image) rank)
     (within : (p : SwitchPort) → rank p ≤ 32 * length plan.switches) where
@@ -187,24 +191,28 @@ module _ (plan : Plan) (image : Image) (is_plan : IsPlan plan) (accepted : IsAcc
         sym (work_map token_of plan routes rank next.nodes) ∙ ap (λ (z : Applied (Network Token)). random_work plan routes rank z.1.nodes) both in
         omega (arith, less, before, later)
 
-  pub work_grows : Grows routes plan first (work_measure plan image rank)
-  work_grows sends net e r next was due ready may bytes = by_event e due may bytes
-    where
-      nodes : List (Node Token)
-      nodes = net.network.nodes
+  -- an event in a network that nobody changed
+  module _ (fact : Fact) (sends : List (ℕ × Packet)) (net : NetRecord) (was : IsUnchangedNet routes plan first fact sends net) (r : Reply) (next : Network Token) (ready : is_ready r ≡ true) where
+    abbrev IsDue : Event → Type 0
+    IsDue e = ◌≡◌ {A = Applied (Network Token)} (Ok r, next) (network_apply plain_kind net.network e)
 
-      there : (e : Event) → ◌≡◌ {A = Applied (Network Token)} (Ok r, next) (network_apply plain_kind net.network e) → ◌≡◌ {A = Applied (Network Token)} (Ok r, next) (network_apply plain_kind (network_of plan net.network.nodes) e)
-      there e due = due ∙ ap (λ p. network_apply plain_kind (network_of p net.network.nodes) e) was.same_plan
+    there : (e : Event) → IsDue e → ◌≡◌ {A = Applied (Network Token)} (Ok r, next) (network_apply plain_kind (network_of plan net.network.nodes) e)
+    there e due = due ∙ ap (λ p. network_apply plain_kind (network_of p net.network.nodes) e) was.same_plan
 
-      step : (e : Event) → ◌≡◌ {A = Applied (Network Token)} (Ok r, next) (network_apply plain_kind net.network e) → network_step plain_kind (network_of plan net.network.nodes) e ≡ Some (r, next)
-      step e due = done_made plain_kind (network_of plan net.network.nodes) next r e (there e due) ready
+    step : (e : Event) → IsDue e → network_step plain_kind (network_of plan net.network.nodes) e ≡ Some (r, next)
+    step e due = done_made plain_kind (network_of plan net.network.nodes) next r e (there e due) ready
 
-      run : IsDoneRun plain_kind (network_of plan (map start_node first)) was.events (network_of plan net.network.nodes)
-      run =
-          subst (λ ss. IsDoneRun plain_kind (network_of plan (map start_node ss)) was.events (network_of plan net.network.nodes)) was.same_starts
-          (subst (λ p. IsDoneRun plain_kind (network_of p (map start_node net.starts)) was.events (network_of p net.network.nodes)) was.same_plan was.told.run)
+    pub work_falls : (e : Event) → IsOfRound e → IsDue e → random_work plan routes rank next.nodes < random_work plan routes rank net.network.nodes
+    work_falls e of due = round_less net.network.nodes was.events (run_so_far routes plan first fact sends net was) was.unchanged was.bytes e r next of (there e due) ready
 
-      by_event : (e : Event) → ◌≡◌ {A = Applied (Network Token)} (Ok r, next) (network_apply plain_kind net.network e) → MayHappen routes e r → SendsBytes e → random_work plan routes rank next.nodes ≤ random_work plan routes rank net.network.nodes + sends_weight weight (event_sends e)
-      by_event (event.Send t p) due may bytes = send_grows net.network.nodes next r t p (step (event.Send t p) due)
-      by_event (event.Control s command) due may bytes = control_grows net.network.nodes next r s command may (step (event.Control s command) due)
-      by_event e due may bytes = let less = round_less net.network.nodes was.events run was.unchanged was.bytes e r next tt (there e due) ready in omega (arith, less)
+    pub work_grows : (e : Event) → IsDue e → MayHappen routes e r → SendsBytes e → random_work plan routes rank next.nodes ≤ random_work plan routes rank net.network.nodes + sends_weight weight (event_sends e)
+    work_grows (event.Send t p) due may bytes = send_grows net.network.nodes next r t p (step (event.Send t p) due)
+    work_grows (event.Control s command) due may bytes = control_grows net.network.nodes next r s command may (step (event.Control s command) due)
+    work_grows e due may bytes = let less = work_falls e tt due in omega (arith, less)
+
+  pub keeps_within : Keeps routes plan first (IsWorkWithin plan image rank)
+  keeps_within sends net e r next was due ready may bytes =
+      let more = work_grows (IsWorkWithin plan image rank) sends net was r next ready e due may bytes in
+      let all = weight_parts weight sends (event_sends e) in
+      let before : random_work plan routes rank net.network.nodes ≤ random_bound {A = Token} plan routes (placed_network plan image).nodes + sends_weight weight sends = was.holds in
+      omega (arith, more, all, before)

@@ -2,7 +2,7 @@
 -- with rounds enough: each packet that was sent with a whole header that a terminal owns.
 --     EndsWithRounds plan image script      there are rounds enough
 --     PrintsAllSent plan image script      what follows
-use Rattle.std.specs.Prelude.{ℕ, ◌+◌, ◌*◌, ◌≡◌, ◌<◌, true, length, List, [], ◌∷◌, ◌++◌, slice_get, Option, Some, None, Result, Ok}
+use Rattle.std.specs.Prelude.{ℕ, ◌+◌, ◌*◌, ◌≡◌, ◌<◌, length, List, [], ◌∷◌, ◌++◌, if◌then◌else◌, slice_get, Option, Some, Result, Ok}
 use Rattle.c104_plan.specs.Plans.{Plan}
 use Rattle.c104_plan.specs.PlanImage.{Image}
 use Rattle.c104_check.specs.ChannelDependencies.{IsAcyclic}
@@ -16,36 +16,27 @@ use Rattle.c104_node.specs.declared.origins.Origin.{Origin}
 use Rattle.c104_stream.specs.ScriptLines.{script_lines}
 use Rattle.c104_stream.specs.Scripts.{lines_outcome}
 use Rattle.c104_script.specs.Script.{read_script_line}
-use Rattle.c104_script.specs.declared.answers.Answer.{Answer}
 use Rattle.c104_script.specs.declared.faults.LineFault.{LineFault}
 use Rattle.c104_script.specs.declared.places.Request.{Request}
 use Rattle.c104_script.specs.declared.places.Request.TheVariants as ask
-use Rattle.c104_session.specs.PrintedPackets.{IsSentTo, IsUnchangedRun, PrintsPackets, script_sent, was_done}
+use Rattle.c104_session.specs.PrintedPackets.{IsSentTo, IsUnchangedRun, PrintsPackets, lines_sent, script_sent, was_done}
 use Rattle.c104_session.specs.Shown.{line_answer, line_outcome, new_session}
 use Rattle.c104_session.specs.declared.session.Session.{Session}
 
--- a line that has no words, or asks for rounds, all of which were done
-abbrev pub IsRoundsLine : Result (Option Request) LineFault → Option Answer → Type 0
-IsRoundsLine (Ok None) answer = Unit {0}
-IsRoundsLine (Ok (Some (ask.Rounds count))) answer = was_done answer ≡ true
-IsRoundsLine asked answer = ⊥
-
--- how many rounds it asks for
+-- how many rounds a line asks for
 abbrev pub rounds_asked : Result (Option Request) LineFault → ℕ
 rounds_asked (Ok (Some (ask.Rounds count))) = count
 rounds_asked asked = 0
 
--- each of these lines is one
-abbrev pub AreRoundsLines : Session → List (List ℕ) → Type 0
-AreRoundsLines session [] = Unit {0}
-AreRoundsLines session (line ∷ more) =
-    IsRoundsLine (read_script_line session.net.network.plan line) (line_answer session line).0
-    × AreRoundsLines (line_answer session line).1 more
+-- how many a line did: all that it asks for, where it is answered that they were done
+abbrev pub line_rounds : Session → List ℕ → ℕ
+line_rounds session line =
+    if was_done (line_answer session line).0 then rounds_asked (read_script_line session.net.network.plan line) else 0
 
--- how many rounds they ask for in all
-abbrev pub rounds_in : Plan → List (List ℕ) → ℕ
-rounds_in plan [] = 0
-rounds_in plan (line ∷ more) = rounds_asked (read_script_line plan line) + rounds_in plan more
+-- how many lines did in all
+abbrev pub lines_rounds : Session → List (List ℕ) → ℕ
+lines_rounds session [] = 0
+lines_rounds session (line ∷ more) = line_rounds session line + lines_rounds (line_answer session line).1 more
 
 -- the session after the first lines of a script
 abbrev pub session_after : Plan → Image → List (List ℕ) → Session
@@ -68,13 +59,14 @@ rounds_enough plan image script =
     random_bound {A = Token} plan (routes_of plan image) (placed_network plan image).nodes
     + sends_weight (token_weight plan (routes_of plan image)) (script_sent plan image script)
 
--- a script ends with rounds, on however many lines, and they are enough in all
+-- a script ends with rounds: behind the last packet that it sends its lines do enough of them in all, whatever else they ask
+-- before, between and behind them, and however that is answered
 pub record EndsWithRounds (plan : Plan) (image : Image) (script : List ℕ) : Type 0 where
   pub front : List (List ℕ)
   pub back : List (List ℕ)
   pub lines : script_lines script ≡ front ++ back
-  pub rounds : AreRoundsLines (session_after plan image front) back
-  pub enough : rounds_enough plan image script < rounds_in plan back
+  pub silent : lines_sent (session_after plan image front) back ≡ []
+  pub enough : rounds_enough plan image script < lines_rounds (session_after plan image front) back
 
 -- what is printed behind the answers are the lines of the packets that were sent, each with a whole header that a terminal
 -- owns, and of these each once

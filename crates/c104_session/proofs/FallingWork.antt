@@ -1,0 +1,237 @@
+-- Lines that send nothing leave no more work, and each of their rounds leaves less, till the network is quiet: whatever else
+-- they ask between the rounds.
+use Rattle.std.proofs.Common.{◌≡◌, ◌∙◌, ◌+◌, ◌++◌, ◌<◌, ◌≤◌, ◌⊎◌, ℕ, suc, zero, All, Bool, true, false, List, [], ◌∷◌, Option, Some, None, Result, Ok, Err, append-nil, arith, if◌then◌else◌, inl, inr, length, length-append, refl, sym, ap, subst}
+use Rattle.std.specs.List.{AllByRecursion}
+use Rattle.c104_token.specs.declared.packets.Packet.{Packet}
+use Rattle.c104_token.specs.declared.tokens.Token.{Token}
+use Rattle.c104_token.specs.Kinds.{plain_kind}
+use Rattle.c104_switch.specs.Actions.{Reply, is_ready}
+use Rattle.c104_switch.specs.declared.actions.ReplyOf.TheVariants as reply
+use Rattle.c104_plan.specs.Plans.{IsPlan, Plan}
+use Rattle.c104_plan.proofs.RangeLists.{all_of_each}
+use Rattle.c104_check.specs.Routes.{Routes}
+use Rattle.c104_event.specs.declared.events.Event.{Event}
+use Rattle.c104_event.specs.declared.faults.EventFault.{EventFault}
+use Rattle.c104_node.specs.Nodes.{Node}
+use Rattle.c104_node.specs.Quiet.{IsQuietNode}
+use Rattle.c104_node.specs.declared.starts.NodeStart.{NodeStart}
+use Rattle.c104_run.specs.EventRuns.{Outcome, run_events, unless_fault}
+use Rattle.c104_run.specs.NetRecords.{NetRecord}
+use Rattle.c104_run.specs.Network.{Network, network_apply}
+use Rattle.c104_run.specs.QuietNets.{IsQuiet}
+use Rattle.c104_run.specs.RecordedRuns.{record_apply}
+use Rattle.c104_run.specs.Rounds.{round, rounds}
+use Rattle.c104_run.specs.Standstill.{IsUnready, StandsStill}
+use Rattle.c104_run.proofs.RecordSteps.{done_made}
+use Rattle.c104_run.proofs.RoundRuns.{Applied, run_append, undone_leaves}
+use Rattle.c104_net.specs.RoundEvents.{IsOfRound}
+use Rattle.c104_net.specs.Unchanged.{MayHappen}
+use Rattle.c104_net.proofs.RecordedRounds.{applied_plain, starts_stay}
+use Rattle.c104_net.proofs.SentBytes.{SendsBytes}
+use Rattle.c104_stream.specs.Scripts.{lines_outcome}
+use Rattle.c104_script.specs.Script.{read_script_line}
+use Rattle.c104_script.specs.declared.faults.LineFault.{LineFault}
+use Rattle.c104_script.specs.declared.places.Request.{Request}
+use Rattle.c104_script.specs.declared.places.Request.TheVariants as ask
+use Rattle.c104_session.specs.DeliveredRuns.{line_rounds, lines_rounds, rounds_asked}
+use Rattle.c104_session.specs.PrintedPackets.{LeaveUnchanged, MayAsk, event_sends, line_sends, lines_sent, was_done}
+use Rattle.c104_session.specs.Shown.{answer_of_read, event_answer, line_answer, line_outcome, rounds_answer}
+use Rattle.c104_session.specs.declared.session.Session.{Session}
+use Rattle.c104_session.proofs.QuietEvents.{stays_quiet}
+use Rattle.c104_session.proofs.UnchangedNets.{Fact, IsUnchangedNet, Keeps, events_leave, keeps_nothing, nothing, of_fact, of_round, round_event}
+use Rattle.c104_session.proofs.UnchangedScripts.{line_leaves}
+
+not_ready : (r : Reply) → is_ready r ≡ false → r ≡ reply.NotReady
+not_ready reply.NotReady is = refl
+not_ready r is = absurd (cc is)
+
+both_empty : {X : Type 0} (xs ys : List X) → xs ++ ys ≡ [] → (xs ≡ []) × (ys ≡ [])
+both_empty [] ys is = (refl, is)
+both_empty (x ∷ xs) ys is = absurd (cc is)
+
+none_either : (b : Bool) → ◌≡◌ {A = ℕ} (if b then 0 else 0) 0
+none_either true = refl
+none_either false = refl
+
+-- as many rounds were done
+abbrev pub Came : NetRecord → ℕ → NetRecord → Type 0
+Came net count after = ◌≡◌ {A = Outcome NetRecord} (run_events record_apply net (rounds net.network.plan count)) (Ok tt, after)
+
+-- a line does no rounds, or all that count
+abbrev CountsRounds : Session → ℕ → Session → Type 0
+CountsRounds session count after = (count ≡ 0) ⊎ Came session.net count after.net
+
+abbrev read_rounds : Session → Result (Option Request) LineFault → ℕ
+read_rounds session asked = if was_done (answer_of_read session asked).0 then rounds_asked asked else 0
+
+-- what is answered of rounds, and how many count then
+abbrev rounds_counted : ℕ → Result (Unit {0}) EventFault → ℕ
+rounds_counted count answer = if was_done (Some (event_answer (rounds_answer answer))) then count else 0
+
+answer_counts : (net : NetRecord) (count : ℕ) (answer : Result (Unit {0}) EventFault) → (run_events record_apply net (rounds net.network.plan count)).0 ≡ answer →
+    (rounds_counted count answer ≡ 0) ⊎ Came net (rounds_counted count answer) (run_events record_apply net (rounds net.network.plan count)).1
+answer_counts net count (Ok u) told = inr (ap (λ (o : Result (Unit {0}) EventFault). (o, (run_events record_apply net (rounds net.network.plan count)).1)) told)
+answer_counts net count (Err f) told = inl refl
+
+read_counts : (session : Session) (asked : Result (Option Request) LineFault) → CountsRounds session (read_rounds session asked) (answer_of_read session asked).1
+read_counts session (Ok (Some (ask.Rounds count))) = answer_counts session.net count (run_events record_apply session.net (rounds session.net.network.plan count)).0 refl
+read_counts session (Ok None) = inl refl
+read_counts session (Ok (Some (ask.Asked e))) = inl (none_either (was_done (answer_of_read session (Ok (Some (ask.Asked e)))).0))
+read_counts session (Ok (Some (ask.Probed it))) = inl (none_either (was_done (answer_of_read session (Ok (Some (ask.Probed it)))).0))
+read_counts session (Ok (Some (ask.Refused kind))) = inl refl
+read_counts session (Err kind) = inl refl
+
+line_counts : (session : Session) (line : List ℕ) → CountsRounds session (line_rounds session line) (line_answer session line).1
+unfolding line_answer
+line_counts session line = read_counts session (read_script_line session.net.network.plan line)
+
+module _ (routes : Routes) (plan : Plan) (is_plan : IsPlan plan) (starts : List NodeStart) (work : List (Node Token) → ℕ) where
+  abbrev Is : List (ℕ × Packet) → NetRecord → Type 0
+  Is sends net = IsUnchangedNet routes plan starts nothing sends net
+
+  -- what an event comes to that is done
+  abbrev IsDue : NetRecord → Event → Reply → Network Token → Type 0
+  IsDue net e r next = ◌≡◌ {A = Applied (Network Token)} (Ok r, next) (network_apply plain_kind net.network e) × (is_ready r ≡ true)
+
+  -- an event of a round leaves less work, and no other leaves more but one that sends; and a network that stands still is quiet
+  pub record IsFalling : Type 0 where
+    pub falls : (sends : List (ℕ × Packet)) (net : NetRecord) (e : Event) (r : Reply) (next : Network Token) → Is sends net → IsDue net e r next → IsOfRound e → work next.nodes < work net.network.nodes
+    pub grows_none : (sends : List (ℕ × Packet)) (net : NetRecord) (e : Event) (r : Reply) (next : Network Token) → Is sends net → IsDue net e r next → MayHappen routes e r → SendsBytes e → event_sends e ≡ [] → work next.nodes ≤ work net.network.nodes
+    pub rests : (sends : List (ℕ × Packet)) (net : NetRecord) → Is sends net → StandsStill plain_kind net.network → IsQuiet net.network
+
+  module _ (falling : IsFalling) where
+    -- there is less work than this, or none that matters
+    abbrev pub IsLeft : ℕ → List (Node Token) → Type 0
+    IsLeft most nodes = All IsQuietNode nodes ⊎ (work nodes < most)
+
+    left_within : (few most : ℕ) (nodes : List (Node Token)) → few ≤ most → IsLeft few nodes → IsLeft most nodes
+    left_within few most nodes within (inl quiet) = inl quiet
+    left_within few most nodes within (inr less) = inr (omega (arith, within, less))
+
+    none_left : (nodes : List (Node Token)) → IsLeft 0 nodes → All IsQuietNode nodes
+    none_left nodes (inl quiet) = quiet
+    none_left nodes (inr less) = absurd (let no : ⊥ = omega (arith, less) in no)
+
+    -- so it stays as long as no more than so many packets were sent
+    abbrev left_since : ℕ → ℕ → Fact
+    left_since count most sends nodes = (length sends ≡ count → IsLeft most nodes) × (count ≤ length sends)
+
+    keeps_left : (count most : ℕ) → Keeps routes plan starts (left_since count most)
+    keeps_left count most sends net e r next was due ready may bytes = by_sends (event_sends e) refl
+      where
+        before : count ≤ length sends
+        before = was.holds.1
+
+        kept : event_sends e ≡ [] → IsLeft most net.network.nodes → IsLeft most next.nodes
+        kept none (inl quiet) = inl (stays_quiet plain_kind net.network.plan (subst IsPlan (sym was.same_plan) is_plan) net.network.nodes was.kept.steady.in_place quiet r next routes e none may (done_made plain_kind net.network next r e due ready))
+        kept none (inr less) = inr (let more = falling.grows_none sends net e r next (of_fact routes plan starts (left_since count most) nothing sends net was tt) (due, ready) may bytes none in omega (arith, less, more))
+
+        by_sends : (new : List (ℕ × Packet)) → event_sends e ≡ new → left_since count most (sends ++ new) next.nodes
+        by_sends [] none =
+            let long : length (sends ++ []) ≡ length sends = ap (λ (s : List (ℕ × Packet)). length s) (append-nil sends) in
+            (λ same. kept none (was.holds.0 (sym long ∙ same)), omega (arith, long, before))
+        by_sends (x ∷ new) some =
+            let long : length (sends ++ x ∷ new) ≡ length sends + suc (length new) = length-append sends (x ∷ new) in
+            (λ same. absurd (let no : ⊥ = omega (arith, long, before, same) in no), omega (arith, long, before))
+
+    -- what is left of a network
+    left_of : (sends : List (ℕ × Packet)) (net : NetRecord) (most : ℕ) → Is sends net → IsLeft most net.network.nodes → IsUnchangedNet routes plan starts (left_since (length sends) most) sends net
+    left_of sends net most was left = of_fact routes plan starts nothing (left_since (length sends) most) sends net was (λ same. left, omega arith)
+
+    -- events of a round leave less work, or were all unready
+    abbrev Goes : NetRecord → List Event → NetRecord → Type 0
+    Goes net es after = (work after.network.nodes < work net.network.nodes) ⊎ ((after.network ≡ net.network) × AllByRecursion (IsUnready plain_kind net.network) es)
+
+    goes_on : (sends : List (ℕ × Packet)) (net after : NetRecord) (e : Event) (es : List Event) → IsOfRound e → Is sends net →
+        (◌≡◌ {A = Outcome NetRecord} (run_events record_apply (record_apply net e).1 es) (Ok tt, after) → Goes (record_apply net e).1 es after) →
+        (answer : Result Reply EventFault) → (record_apply net e).0 ≡ answer → ◌≡◌ {A = Outcome NetRecord} (unless_fault answer (record_apply net e).1 (λ n. run_events record_apply n es)) (Ok tt, after) → Goes net (e ∷ es) after
+    goes_on sends net after e es of was later (Err f) told is = let no : ◌≡◌ {A = Result (Unit {0}) EventFault} (Err f) (Ok tt) = ap (λ (z : Outcome NetRecord). z.0) is in absurd (cc)
+    goes_on sends net after e es of was later (Ok r) told is = by_ready (is_ready r) refl (later is)
+      where
+        next : Network Token
+        next = (record_apply net e).1.network
+
+        due : ◌≡◌ {A = Applied (Network Token)} (Ok r, next) (network_apply plain_kind net.network e)
+        due = applied_plain net e r told
+
+        by_ready : (b : Bool) → is_ready r ≡ b → Goes (record_apply net e).1 es after → Goes net (e ∷ es) after
+        by_ready true ready (inl less) = let one = falling.falls sends net e r next was (due, ready) of in inl (omega (arith, less, one))
+        by_ready true ready (inr all) =
+            let one = falling.falls sends net e r next was (due, ready) of in
+            let same : work after.network.nodes ≡ work next.nodes = ap (λ (n : Network Token). work n.nodes) all.0 in
+            inl (omega (arith, same, one))
+        by_ready false not (inl less) =
+            let same : work next.nodes ≡ work net.network.nodes = ap (λ (n : Network Token). work n.nodes) (undone_leaves plain_kind net.network next e r not (inl due)) in
+            inl (omega (arith, same, less))
+        by_ready false not (inr all) =
+            let stays : next ≡ net.network = undone_leaves plain_kind net.network next e r not (inl due) in
+            let unready : IsUnready plain_kind net.network e = sym (ap (λ (z : Applied (Network Token)). z.0) due) ∙ ap Ok (not_ready r not) in
+            inr (all.0 ∙ stays, (unready, subst (λ n. AllByRecursion (IsUnready plain_kind n) es) stays all.1))
+
+    goes : (sends : List (ℕ × Packet)) (es : List Event) (net after : NetRecord) → AllByRecursion IsOfRound es → Is sends net → ◌≡◌ {A = Outcome NetRecord} (run_events record_apply net es) (Ok tt, after) → Goes net es after
+    goes sends [] net after of was is = inr (sym (ap (λ (z : Outcome NetRecord). z.1.network) is), tt)
+    goes sends (e ∷ es) net after of was is =
+        goes_on sends net after e es of.0 was
+        (λ rest. goes sends es (record_apply net e).1 after of.1 (round_event routes plan is_plan starts nothing (keeps_nothing routes plan starts) sends net e of.0 was) rest)
+        (record_apply net e).0 refl is
+
+    -- so a round leaves less, or finds the network quiet
+    one_round : (sends : List (ℕ × Packet)) (net after : NetRecord) → Is sends net → ◌≡◌ {A = Outcome NetRecord} (run_events record_apply net (round net.network.plan)) (Ok tt, after) →
+        (work after.network.nodes < work net.network.nodes) ⊎ All IsQuietNode after.network.nodes
+    one_round sends net after was is = by_run (goes sends (round net.network.plan) net after (of_round net.network.plan) was is)
+      where
+        by_run : Goes net (round net.network.plan) after → (work after.network.nodes < work net.network.nodes) ⊎ All IsQuietNode after.network.nodes
+        by_run (inl less) = inl less
+        by_run (inr all) = inr (subst IsQuiet (sym all.0) (falling.rests sends net was (all_of_each (IsUnready plain_kind net.network) (round net.network.plan) all.1)))
+
+    -- as much is left after a round as before, less one
+    left_after : (sends : List (ℕ × Packet)) (net mid : NetRecord) (most : ℕ) → Is sends net → ◌≡◌ {A = Outcome NetRecord} (run_events record_apply net (round net.network.plan)) (Ok tt, mid) → IsLeft (most + 1) net.network.nodes → IsLeft most mid.network.nodes
+    left_after sends net mid most was is (inl quiet) =
+        let run = events_leave routes plan is_plan starts (left_since (length sends) 0) (keeps_left (length sends) 0) sends (round net.network.plan) net (of_round net.network.plan) (left_of sends net 0 was (inl quiet)) in
+        let came : (run_events record_apply net (round net.network.plan)).1 ≡ mid = ap (λ (z : Outcome NetRecord). z.1) is in
+        inl (subst (λ (n : NetRecord). All IsQuietNode n.network.nodes) came (none_left (run_events record_apply net (round net.network.plan)).1.network.nodes (run.holds.0 refl)))
+    left_after sends net mid most was is (inr few) = by_round (one_round sends net mid was is)
+      where
+        by_round : (work mid.network.nodes < work net.network.nodes) ⊎ All IsQuietNode mid.network.nodes → IsLeft most mid.network.nodes
+        by_round (inl less) = inr (omega (arith, less, few))
+        by_round (inr quiet) = inl quiet
+
+    -- and after several: the first, and then the others
+    first_left : (n : ℕ) (sends : List (ℕ × Packet)) (most : ℕ) (net after : NetRecord) → Is sends net → IsLeft (suc n + most) net.network.nodes →
+        ((mid : NetRecord) → Is sends mid → Came mid n after → IsLeft (n + most) mid.network.nodes → IsLeft most after.network.nodes) →
+        (answer : Result (Unit {0}) EventFault) → (run_events record_apply net (round net.network.plan)).0 ≡ answer →
+        ◌≡◌ {A = Outcome NetRecord} (unless_fault answer (run_events record_apply net (round net.network.plan)).1 (λ next. run_events record_apply next (rounds net.network.plan n))) (Ok tt, after) → IsLeft most after.network.nodes
+    first_left n sends most net after was left later (Err f) told rest = let no : ◌≡◌ {A = Result (Unit {0}) EventFault} (Err f) (Ok tt) = ap (λ (z : Outcome NetRecord). z.0) rest in absurd (cc)
+    first_left n sends most net after was left later (Ok u) told rest =
+        let mid : NetRecord = (run_events record_apply net (round net.network.plan)).1 in
+        let first : ◌≡◌ {A = Outcome NetRecord} (run_events record_apply net (round net.network.plan)) (Ok tt, mid) = ap (λ (o : Result (Unit {0}) EventFault). (o, mid)) told in
+        let there : Is sends mid = events_leave routes plan is_plan starts nothing (keeps_nothing routes plan starts) sends (round net.network.plan) net (of_round net.network.plan) was in
+        let stays : mid.network.plan ≡ net.network.plan = (starts_stay net mid (round net.network.plan) (Ok tt) (inl (sym first))).0 in
+        later mid there (ap (λ p. run_events record_apply mid (rounds p n)) stays ∙ rest)
+        (left_after sends net mid (n + most) was first (left_within (suc n + most) (n + most + 1) net.network.nodes (omega arith) left))
+
+    rounds_left : (n : ℕ) (sends : List (ℕ × Packet)) (most : ℕ) (net after : NetRecord) → Is sends net → Came net n after → IsLeft (n + most) net.network.nodes → IsLeft most after.network.nodes
+    rounds_left zero sends most net after was is left = subst (λ (m : NetRecord). IsLeft most m.network.nodes) (ap (λ (z : Outcome NetRecord). z.1) is) (left_within (zero + most) most net.network.nodes (omega arith) left)
+    rounds_left (suc n) sends most net after was is left =
+        first_left n sends most net after was left (λ mid there came fewer. rounds_left n sends most mid after there came fewer)
+        (run_events record_apply net (round net.network.plan)).0 refl (sym (run_append record_apply (round net.network.plan) (rounds net.network.plan n) net) ∙ is)
+
+    -- the same of a line that sends nothing, and of lines
+    line_left : (sends : List (ℕ × Packet)) (session : Session) (line : List ℕ) (most : ℕ) → Is sends session.net → MayAsk routes (read_script_line session.net.network.plan line) (line_answer session line).0 → line_sends session line ≡ [] → IsLeft (line_rounds session line + most) session.net.network.nodes → IsLeft most (line_answer session line).1.net.network.nodes
+    line_left sends session line most was may silent left = by_count (line_counts session line)
+      where
+        by_count : CountsRounds session (line_rounds session line) (line_answer session line).1 → IsLeft most (line_answer session line).1.net.network.nodes
+        by_count (inl none) =
+            let fewer : IsLeft most session.net.network.nodes = left_within (line_rounds session line + most) most session.net.network.nodes (omega (arith, none)) left in
+            let held = line_leaves routes plan is_plan starts (left_since (length sends) most) (keeps_left (length sends) most) sends session (left_of sends session.net most was fewer) line may in
+            held.holds.0 (ap (λ (s : List (ℕ × Packet)). length (sends ++ s)) silent ∙ ap (λ (s : List (ℕ × Packet)). length s) (append-nil sends))
+        by_count (inr came) = rounds_left (line_rounds session line) sends most session.net (line_answer session line).1.net was came left
+
+    pub lines_left : (lines : List (List ℕ)) (number : ℕ) (sends : List (ℕ × Packet)) (session : Session) → Is sends session.net → LeaveUnchanged routes session lines → lines_sent session lines ≡ [] → IsLeft (lines_rounds session lines) session.net.network.nodes → IsQuiet (lines_outcome line_outcome number session lines).1.net.network
+    unfolding line_outcome
+    lines_left [] number sends session was all silent left = none_left session.net.network.nodes left
+    lines_left (line ∷ lines) number sends session was all silent left =
+        let next : Session = (line_answer session line).1 in
+        let parts = both_empty (line_sends session line) (lines_sent next lines) silent in
+        let there : Is sends next.net = subst (λ (s : List (ℕ × Packet)). Is s next.net) (ap (λ (s : List (ℕ × Packet)). sends ++ s) parts.0 ∙ append-nil sends) (line_leaves routes plan is_plan starts nothing (keeps_nothing routes plan starts) sends session was line all.0) in
+        lines_left lines (suc number) sends next there all.1 parts.1 (line_left sends session line (lines_rounds next lines) was all.0 parts.0 left)
