@@ -5,4 +5,4 @@ mod OverTimeLemmas
 mod CountStatuses
 pub mod PrintedRunsLaw
 mod LockupLemmas
-mod HarmlessLemmas
+pub mod HarmlessLemmas
