@@ -263,6 +263,16 @@ pub fn valued<'a>(alloc: Global, name: &'a str, value: &'a str, help: &'a str) -
         .help(help)
 }
 
+/// An argument joins others, if there was memory for it.
+// Lists are made of what a command takes, since a function is dear to prove that holds a command over what can fail.
+pub fn add_argument<'a>(
+    arguments: &mut Vec<Arg<'a>>,
+    argument: Result<Arg<'a>, AllocError>,
+) -> Result<(), AllocError> {
+    arguments.push(argument?)?;
+    Ok(())
+}
+
 /// A command, and what help says of it before and after its arguments.
 fn command<'a>(alloc: Global, name: &'a str, about: &'a str, teaching: &'a str) -> Command<'a> {
     Command::new(alloc, name).about(about).after_help(teaching)

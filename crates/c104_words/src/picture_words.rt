@@ -1,6 +1,6 @@
 //! What the command line says of a picture.
 
-use crate::command_line::{SCRIPT, flag, script_argument, valued};
+use crate::command_line::{SCRIPT, add_argument, flag, script_argument, valued};
 use crate::count_words::FORMAT;
 use clap::{Arg, ArgMatches, Command, value_parser};
 use std::alloc::{AllocError, Global};
@@ -84,33 +84,41 @@ const DRAWN: &str = "drawn";
 
 /// `[--header N | --cycles | SCRIPT --state | SCRIPT --over-time [--from R] [--to R] [--format F]]`, behind a description.
 pub fn with_pictures<'a>(alloc: Global, named: Command<'a>) -> Result<Command<'a>, AllocError> {
-    let cycles = flag(alloc, CYCLES, CYCLES_HELP).conflicts_with(HEADER)?;
-    let marked = named.arg(header_option(alloc))?.arg(cycles)?;
-    with_script(alloc, marked)
+    named.args(picture_arguments(alloc)?)
 }
 
-/// `[SCRIPT --state | SCRIPT --over-time ..]`: no script stands without either of the two.
-fn with_script<'a>(alloc: Global, named: Command<'a>) -> Result<Command<'a>, AllocError> {
-    let script = script_argument(alloc).requires_arg(DRAWN)?;
-    let drawn = named.arg(script)?.arg(state_option(alloc)?)?;
-    with_rounds(alloc, drawn.arg(over_time_option(alloc)?)?)
+/// What pictures take, as help lists it.
+fn picture_arguments<'a>(alloc: Global) -> Result<Vec<Arg<'a>>, AllocError> {
+    let mut arguments = Vec::new(alloc);
+    add_marks(alloc, &mut arguments)?;
+    add_script(alloc, &mut arguments)?;
+    add_rounds(alloc, &mut arguments)?;
+    Ok(arguments)
+}
+
+/// `[--header N | --cycles]`.
+fn add_marks<'a>(alloc: Global, arguments: &mut Vec<Arg<'a>>) -> Result<(), AllocError> {
+    add_argument(arguments, Ok(header_option(alloc)))?;
+    add_argument(arguments, cycles_option(alloc))
+}
+
+/// `[SCRIPT --state | SCRIPT --over-time]`: no script stands without either of the two.
+fn add_script<'a>(alloc: Global, arguments: &mut Vec<Arg<'a>>) -> Result<(), AllocError> {
+    add_argument(arguments, script_argument(alloc).requires_arg(DRAWN))?;
+    add_argument(arguments, state_option(alloc))?;
+    add_argument(arguments, over_time_option(alloc))
 }
 
 /// `[--from R] [--to R] [--format F]`, with `--over-time`.
-fn with_rounds<'a>(alloc: Global, named: Command<'a>) -> Result<Command<'a>, AllocError> {
-    let begun = with_round(alloc, named, FROM, FROM_HELP)?;
-    let ended = with_round(alloc, begun, TO, TO_HELP)?;
-    ended.arg(format_option(alloc)?)
+fn add_rounds<'a>(alloc: Global, arguments: &mut Vec<Arg<'a>>) -> Result<(), AllocError> {
+    add_argument(arguments, round_option(alloc, FROM, FROM_HELP))?;
+    add_argument(arguments, round_option(alloc, TO, TO_HELP))?;
+    add_argument(arguments, format_option(alloc))
 }
 
-/// `--from R` or `--to R`.
-fn with_round<'a>(
-    alloc: Global,
-    named: Command<'a>,
-    name: &'a str,
-    help: &'a str,
-) -> Result<Command<'a>, AllocError> {
-    named.arg(round_option(alloc, name, help)?)
+/// `--cycles`, without a header.
+fn cycles_option<'a>(alloc: Global) -> Result<Arg<'a>, AllocError> {
+    flag(alloc, CYCLES, CYCLES_HELP).conflicts_with(HEADER)
 }
 
 /// `--state`, with a script, and without what else is marked.

@@ -2,9 +2,9 @@
 ghost use Rattle.std.specs.Prelude.{◌≤◌, ◌<◌, IfSome};
 ghost use Rattle.c104_traffic.specs.Packets.{IsTraffic};
 
-use crate::command_line::{flag, valued};
+use crate::command_line::{add_argument, flag, valued};
 use c104_traffic::{MAX_DATA, MAX_PACKETS, PatternName, Traffic};
-use clap::{ArgMatches, Command, value_parser};
+use clap::{Arg, ArgMatches, Command, value_parser};
 use std::alloc::{AllocError, Global};
 
 /// What the command line says of traffic.
@@ -157,25 +157,55 @@ const OWN_HELP: &str = "Let terminals send to themselves, too";
 
 /// `--pattern P [--target T] --packets N --bytes B --seed S [--load R] [--own]`.
 pub fn with_traffic<'a>(alloc: Global, named: Command<'a>) -> Result<Command<'a>, AllocError> {
-    let asked = named
-        .arg(valued(alloc, PATTERN, "P", PATTERN_HELP).required(true))?
-        .arg(valued(alloc, TARGET, "T", TARGET_HELP))?;
-    with_numbers(alloc, asked)?.arg(flag(alloc, OWN, OWN_HELP))
+    named.args(traffic_arguments(alloc)?)
+}
+
+/// What traffic takes, as help lists it.
+fn traffic_arguments<'a>(alloc: Global) -> Result<Vec<Arg<'a>>, AllocError> {
+    let mut arguments = Vec::new(alloc);
+    add_pattern(alloc, &mut arguments)?;
+    add_numbers(alloc, &mut arguments)?;
+    add_argument(&mut arguments, Ok(flag(alloc, OWN, OWN_HELP)))?;
+    Ok(arguments)
+}
+
+/// `--pattern P [--target T]`.
+fn add_pattern<'a>(alloc: Global, arguments: &mut Vec<Arg<'a>>) -> Result<(), AllocError> {
+    let pattern = valued(alloc, PATTERN, "P", PATTERN_HELP).required(true);
+    add_argument(arguments, Ok(pattern))?;
+    add_argument(arguments, Ok(valued(alloc, TARGET, "T", TARGET_HELP)))
 }
 
 /// `--packets N --bytes B --seed S [--load R]`.
-fn with_numbers<'a>(alloc: Global, asked: Command<'a>) -> Result<Command<'a>, AllocError> {
-    let packets = valued(alloc, PACKETS, "N", PACKETS_HELP)
+fn add_numbers<'a>(alloc: Global, arguments: &mut Vec<Arg<'a>>) -> Result<(), AllocError> {
+    add_argument(arguments, Ok(packets_option(alloc)))?;
+    add_argument(arguments, Ok(bytes_option(alloc)))?;
+    add_argument(arguments, Ok(seed_option(alloc)))?;
+    add_argument(arguments, Ok(load_option(alloc)))
+}
+
+/// `--packets N`.
+fn packets_option<'a>(alloc: Global) -> Arg<'a> {
+    valued(alloc, PACKETS, "N", PACKETS_HELP)
         .value_parser(value_parser!(usize).range(1..=1_048_576))
-        .required(true);
-    let bytes = valued(alloc, BYTES, "B", BYTES_HELP)
+        .required(true)
+}
+
+/// `--bytes B`.
+fn bytes_option<'a>(alloc: Global) -> Arg<'a> {
+    valued(alloc, BYTES, "B", BYTES_HELP)
         .value_parser(value_parser!(usize).range(0..=4_094))
-        .required(true);
-    let seed = valued(alloc, SEED, "S", SEED_HELP)
+        .required(true)
+}
+
+/// `--seed S`.
+fn seed_option<'a>(alloc: Global) -> Arg<'a> {
+    valued(alloc, SEED, "S", SEED_HELP)
         .value_parser(value_parser!(u64))
-        .required(true);
-    let load = valued(alloc, LOAD, "R", LOAD_HELP).value_parser(value_parser!(usize).range(
-        1..=1_000,
-    ));
-    asked.arg(packets)?.arg(bytes)?.arg(seed)?.arg(load)
+        .required(true)
+}
+
+/// `--load R`.
+fn load_option<'a>(alloc: Global) -> Arg<'a> {
+    valued(alloc, LOAD, "R", LOAD_HELP).value_parser(value_parser!(usize).range(1..=1_000))
 }
