@@ -30,10 +30,10 @@ use Rattle.c104_script.specs.declared.faults.LineFault.{LineFault}
 use Rattle.c104_script.specs.declared.places.Request.{Request}
 use Rattle.c104_script.specs.declared.places.Request.TheVariants as ask
 use Rattle.c104_session.specs.PrintedPackets.{LeaveUnchanged, MayAsk, line_sends, lines_sent}
-use Rattle.c104_session.specs.Shown.{line_answer, new_session}
+use Rattle.c104_session.specs.Shown.{line_answer, line_outcome, new_session}
 use Rattle.c104_session.specs.declared.session.Session.{Session}
 use Rattle.c104_session.proofs.PlacedNets.{placed_starts, placed_unchanged}
-use Rattle.c104_session.proofs.UnchangedNets.{Grows, IsUnchangedNet, Measure}
+use Rattle.c104_session.proofs.UnchangedNets.{IsUnchangedNet, keeps_nothing, nothing}
 use Rattle.c104_session.proofs.UnchangedScripts.{lines_leave}
 use Rattle.c104_run_commands.specs.HarmlessScripts.{AreHarmless, IsHarmless, IsLabel}
 use Rattle.c104_run_commands.specs.Lockups.{EndsLocked, LocksUp}
@@ -41,7 +41,7 @@ use Rattle.c104_run_commands.specs.Lockups.{EndsLocked, LocksUp}
 -- The lines of a script are those of its text
 
 -- what was read of the first line joins the parts of what follows
-onto : List ℕ → List (List ℕ) → List (List ℕ)
+abbrev onto : List ℕ → List (List ℕ) → List (List ℕ)
 onto front [] = front ∷ []
 onto front (part ∷ parts) = (front ++ part) ∷ parts
 
@@ -64,17 +64,16 @@ some_part (byte ∷ text) = by_feed (byte == 0x0a)
     by_feed true = refl
     by_feed false = first_some byte (parts text)
 
+-- the first line ends at a byte, or goes on
+one_more : (byte n : ℕ) (front text : List ℕ) (b : Bool) → ((part : List ℕ) → lines_within n part text ≡ onto part (parts text)) → (if b then front ∷ lines_within n [] text else lines_within n (front ++ byte ∷ []) text) ≡ onto front (cond b ([] ∷ parts text) (onto_first byte (parts text)))
+one_more byte n front text true rest = ap (λ xs. front ∷ xs) (rest [] ∙ some_part text) ∙ ap (λ f. f ∷ parts text) (sym (append-nil front))
+one_more byte n front text false rest = rest (front ++ byte ∷ []) ∙ onto_byte front byte (parts text)
+
 within : (n : ℕ) (front text : List ℕ) → length text ≤ n → lines_within n front text ≡ onto front (parts text)
 within n front [] few = ap (λ xs. xs ∷ []) (sym (append-nil front))
 within zero front (byte ∷ text) few = absurd (omega (arith, few))
-within (suc n) front (byte ∷ text) few = by_feed (byte == 0x0a)
-  where
-    fewer : length text ≤ n
-    fewer = omega (arith, few)
-
-    by_feed : (b : Bool) → (if b then front ∷ lines_within n [] text else lines_within n (front ++ byte ∷ []) text) ≡ onto front (cond b ([] ∷ parts text) (onto_first byte (parts text)))
-    by_feed true = ap (λ xs. front ∷ xs) (within n [] text fewer ∙ some_part text) ∙ ap (λ f. f ∷ parts text) (sym (append-nil front))
-    by_feed false = within n (front ++ byte ∷ []) text fewer ∙ onto_byte front byte (parts text)
+within (suc n) front (byte ∷ text) few =
+    one_more byte n front text (byte == 0x0a) (λ part. within n part text (omega (arith, few)))
 
 pub all_lines : (script : List ℕ) → length script ≤ most_script → script_lines script ≡ lines script
 unfolding script_lines
@@ -122,31 +121,29 @@ module _ (plan : Plan) (image : Image) (is_plan : IsPlan plan) (fits : Fits imag
   abbrev routes : Routes
   routes = routes_of plan image
 
-  abbrev nothing : Measure
-  nothing = record { work = λ nodes. 0; first = 0; weight = 0 }
-
-  never_more : Grows routes plan (placed_starts plan image is_plan fits) nothing
-  never_more sends before e r next was due ready may bytes = omega arith
+  abbrev starts : List NodeStart
+  starts = placed_starts plan image is_plan fits
 
   abbrev IsLeft : List (ℕ × Packet) → Session → Type 0
-  IsLeft sends session = IsUnchangedNet routes plan (placed_starts plan image is_plan fits) nothing sends session.net
+  IsLeft sends session = IsUnchangedNet routes plan starts nothing sends session.net
 
   abbrev IsLine : List ℕ → Type 0
   IsLine line = IsHarmless routes (read_script_line plan line)
 
-  lines_left : (lines : List (List ℕ)) (sends : List (ℕ × Packet)) (session : Session) → All IsLine lines → IsLeft sends session → LeaveUnchanged routes session lines
+  lines_left : (script : List (List ℕ)) (sends : List (ℕ × Packet)) (session : Session) → All IsLine script → IsLeft sends session → LeaveUnchanged routes session script
+  unfolding line_answer line_outcome
   lines_left [] sends session all was = tt
-  lines_left (line ∷ lines) sends session all was =
+  lines_left (line ∷ script) sends session all was =
       let answer : Option Answer = (line_answer session line).0 in
       let may : MayAsk routes (read_script_line session.net.network.plan line) answer =
-      subst (λ p. MayAsk routes (read_script_line p line) answer) (sym was.same_plan) (All-head IsLine line lines all answer) in
+      subst (λ p. MayAsk routes (read_script_line p line) answer) (sym was.same_plan) (All-head IsLine line script all answer) in
       let next : IsLeft (sends ++ lines_sent session (line ∷ [])) (line_answer session line).1 =
-      lines_leave routes plan is_plan (placed_starts plan image is_plan fits) nothing never_more (line ∷ []) 1 sends session (may, tt) was in
-      (may, lines_left lines (sends ++ lines_sent session (line ∷ [])) (line_answer session line).1 (All-tail IsLine line lines all) next)
+      lines_leave routes plan is_plan starts nothing (keeps_nothing routes plan starts) (line ∷ []) 1 sends session (may, tt) was in
+      (may, lines_left script (sends ++ lines_sent session (line ∷ [])) (line_answer session line).1 (All-tail IsLine line script all) next)
 
   pub harmless_leaves : (script : List ℕ) → AreHarmless plan image (script_lines script) → LeaveUnchanged routes (new_session plan image) (script_lines script)
   harmless_leaves script all =
-      lines_left (script_lines script) [] (new_session plan image) all (placed_unchanged plan image is_plan fits routes nothing (omega arith))
+      lines_left (script_lines script) [] (new_session plan image) all (placed_unchanged plan image is_plan fits routes nothing tt)
 
   pub harmless_locks : (script : List ℕ) → AreHarmless plan image (script_lines script) → EndsLocked plan image script → LocksUp plan image script
   harmless_locks script all ends = record { ends = ends; unchanged = harmless_leaves script all }
