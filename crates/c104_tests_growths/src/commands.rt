@@ -10,7 +10,8 @@ use c104_commands::{
 };
 use c104_mistakes::Silent;
 use c104_run_commands::{
-    Asked, debug_command, draw_over_time_command, draw_state_command, run, run_text,
+    Asked, Format, debug_command, draw_over_time_command, draw_state_command, lockup_command, run,
+    run_text,
 };
 use c104_storm_command::storm_command;
 use std::alloc::Global;
@@ -28,6 +29,24 @@ const ALL_ROUNDS: Asked = Asked {
     to: None,
     format: None,
 };
+
+/// The same as a table.
+const ALL_AS_ROWS: Asked = Asked {
+    from: None,
+    to: None,
+    format: Some(Format::Json),
+};
+
+/// Two switches that lock up: before each packet of a terminal its input puts the random header of the other switch, from
+/// where the packet goes by its own label, and both may have to come back over the one wire.
+const CYCLIC: &[u8] =
+    b"switch A\nswitch B\nterminal a A.0\nterminal b B.0\nwire A.1 B.1\nbuffer 8\n\
+    random A.0 3 1\nrandom B.0 2 1\nrow A.0 1 0\nrow A.0 2 1\nrow A.0 3 discard\nrow A.0 4 1\n\
+    row A.1 1 0\nrow A.1 2 1\nrow A.1 3 discard\nrow B.0 1 1\nrow B.0 2 0\nrow B.0 3 1\nrow B.0 4 discard\n\
+    row B.1 1 1\nrow B.1 2 0\nrow B.1 3 sink\nrow B.1 4 discard\n";
+
+/// How a script that locks it up begins.
+const SEND: &[u8] = b"send ";
 
 /// Whence a run reads.
 #[derive(Clone, Copy)]
@@ -118,6 +137,27 @@ impl Growing for Commanding {
     }
 }
 
+/// A script is looked for that locks up a network, and found. Out of memory nothing was written.
+#[derive(Drop)]
+struct Locking;
+
+impl Growing for Locking {
+    fn call(&self, alloc: Global, refusal: Refusal) -> Outcome {
+        let Some(mut page) = Page::new(alloc) else {
+            return Outcome::Wrong;
+        };
+        let mut text = CYCLIC;
+        refusal.begin(alloc);
+        let status = lockup_command(alloc, &mut text, &mut page, &mut Silent);
+        refusal.end(alloc);
+        match status {
+            Status::Refused => Outcome::done_if(page.written().starts_with(SEND)),
+            Status::NoMemory => Outcome::NoMemory.if_kept(page.written().is_empty()),
+            _ => Outcome::Wrong,
+        }
+    }
+}
+
 /// A storm by two workers. Out of memory answers to lines were written, and nothing of the storm.
 #[derive(Drop)]
 struct Storming;
@@ -173,9 +213,15 @@ fn commands(rt: HostRuntime) {
         ("draw_command", Command::Draw(Marks::Cycle)),
         ("draw_state_command", Command::State),
         ("draw_over_time_command", Command::OverTime(ALL_ROUNDS)),
+        ("draw_over_time_command", Command::OverTime(ALL_AS_ROWS)),
     ] {
         assert!(rt; is_right(&rt, name, &Commanding(command)));
     }
+}
+
+#[test]
+fn lockups(rt: HostRuntime) {
+    assert!(rt; is_right(&rt, "lockup_command", &Locking));
 }
 
 #[test]

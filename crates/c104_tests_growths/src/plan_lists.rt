@@ -11,7 +11,7 @@ use c104_interval::{ROWS, Select, Table};
 use c104_plan::{
     Image, Name, Parts, Plan, PlanRow, Port, SwitchList, Terminal, TerminalList, is_name,
 };
-use c104_regs::Registers;
+use c104_regs::{LINKS, Registers};
 use c104_token::NoMemory;
 use std::alloc::Global;
 
@@ -150,6 +150,24 @@ fn tabled(alloc: Global, refusal: Refusal, plan: &Plan, tables: &[Table]) -> Res
     made
 }
 
+/// The image of a plan with a table for each link.
+#[derive(Drop)]
+struct PortTabling<'a>(Ground<'a>);
+
+impl Growing for PortTabling<'_> {
+    fn call(&self, alloc: Global, refusal: Refusal) -> Outcome {
+        let (plan, image) = (self.0.plan, self.0.image);
+        let tables = [Registers::new().table(0); LINKS];
+        if plan.switches().len() != 1 || !image.fits(plan) {
+            return Outcome::Wrong;
+        }
+        refusal.begin(alloc);
+        let result = image.with_port_tables(alloc, plan, &tables);
+        refusal.end(alloc);
+        Outcome::of(result)
+    }
+}
+
 /// What is copied of a terminal.
 #[derive(Clone, Copy)]
 enum Copied {
@@ -183,6 +201,7 @@ impl Suite for PartCalls {
             return false;
         };
         is_right(rt, "Image::with_tables", &Tabling(ground.plan))
+            && is_right(rt, "Image::with_port_tables", &PortTabling(ground))
             && is_right(rt, "Terminal::clone", &Copying(terminal, Copied::All))
             && is_right(rt, "Name::clone", &Copying(terminal, Copied::Name))
     }

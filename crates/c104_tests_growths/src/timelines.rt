@@ -6,7 +6,8 @@ use crate::outcomes::Outcome;
 use crate::traced::net_after;
 use c104_net::{Origin, TracedNet};
 use c104_plan::Port;
-use c104_timeline::{Period, Timeline, time_picture};
+use c104_run_commands::Format;
+use c104_timeline::{Period, Timeline, bars_text, time_picture};
 use std::alloc::Global;
 
 /// What is asked of a timeline.
@@ -18,6 +19,7 @@ enum Call {
     Begin,
     Close,
     Draw,
+    Tell,
 }
 
 impl Call {
@@ -31,6 +33,10 @@ impl Call {
             Call::Draw => {
                 let period = Period { from: 0, to: 9 };
                 Outcome::of(time_picture(alloc, net.plan(), timeline, period))
+            }
+            Call::Tell => {
+                let period = Period { from: 0, to: 9 };
+                Outcome::of(bars_text(alloc, Format::Json, net.plan(), timeline, period))
             }
         }
     }
@@ -55,7 +61,7 @@ impl Timing<'_> {
             }),
         );
         timeline.cross(Port::Switch(0, 1), None);
-        if let Call::Draw = self.call {
+        if matches!(self.call, Call::Draw | Call::Tell) {
             timeline.close_all(self.net).ok()?;
         }
         Some(timeline)
@@ -91,6 +97,7 @@ impl Suite for TimelineCalls {
             ("Timeline::begin_round", Call::Begin),
             ("Timeline::close_all", Call::Close),
             ("time_picture", Call::Draw),
+            ("bars_text", Call::Tell),
         ] {
             let timing = Timing { net: &net, call };
             is_right_so_far = is_right_so_far && is_right(rt, name, &timing);
