@@ -60,7 +60,7 @@ fn nearest_sender(
     step: Step,
     list: &[Sending],
 ) -> Result<Option<Sender>, NoMemory> {
-    let all = senders(alloc, ways, step, 0)?;
+    let all = senders(alloc, ways, step)?;
     let mut free = None;
     let mut nearest = None;
     for sender in all.as_slice() {

@@ -13,6 +13,7 @@ mod attempts;
 mod orders;
 mod paths;
 mod placing;
+mod portals;
 mod rings;
 mod searches;
 mod senders;

@@ -17,27 +17,37 @@ pub(crate) fn backward_paths(
 ) -> Result<Option<Vec<Path>>, NoMemory> {
     let mut paths = Vec::new(alloc);
     for _ in 0..count_of(set) {
-        match last_path(alloc, ways, set)? {
-            Some(path) => paths.push(path)?,
-            None => return Ok(None),
+        let before = paths.len();
+        add_last(alloc, ways, set, &mut paths)?;
+        if count_of(set) == 0 {
+            return Ok(Some(paths));
+        }
+        if paths.len() == before {
+            return Ok(None);
         }
     }
-    Ok(Some(paths))
+    Ok(None)
 }
 
-/// The way of a packet past all others of a set, which it leaves.
-fn last_path(alloc: Global, ways: &Ways<'_>, set: &mut WaitSet) -> Result<Option<Path>, NoMemory> {
+/// Of each input of a set in turn, if there is a way to it past all others that are left, the way joins a list, and the input
+/// leaves the set.
+fn add_last(
+    alloc: Global,
+    ways: &Ways<'_>,
+    set: &mut WaitSet,
+    paths: &mut Vec<Path>,
+) -> Result<(), NoMemory> {
     for place in 0..ways.place_count() {
         if let Some(header) = header_at(set, place) {
             let blocked = others(alloc, set, place)?;
             let path = find_path(alloc, ways, place, header, blocked.as_slice())?;
-            if path.is_some() {
+            if let Some(path) = path {
                 leave(set, place);
-                return Ok(path);
+                paths.push(path)?;
             }
         }
     }
-    Ok(None)
+    Ok(())
 }
 
 /// An input leaves a set.

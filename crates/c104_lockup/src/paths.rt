@@ -1,8 +1,8 @@
 //! Ways of single packets past inputs that are taken.
 
+use crate::portals::{PortalTable, hops_by, portal_tables, word_count};
 use crate::senders::random_header;
-use crate::waits::{entry_of, word_count};
-use crate::ways::{Hop, Ways, number_at};
+use crate::ways::{Hop, Ways, entry_of, number_at};
 use c104_regs::PackedSettings;
 use c104_token::NoMemory;
 use std::alloc::Global;
@@ -34,23 +34,35 @@ struct Beginning {
     hops: usize,
 }
 
+/// Where packets are to come by a header, which inputs they may not pass, and how far it is from each input.
+#[derive(Clone, Copy)]
+struct Goal<'a> {
+    header: u32,
+    // Whether it is a terminal's label: packets begin with no other header.
+    is_label: bool,
+    blocked: &'a [bool],
+    to: &'a [Option<usize>],
+}
+
 /// The shortest way by which a packet comes to an input by a header, past none that is blocked; None where there is no such
 /// way.
 pub(crate) fn find_path(
     alloc: Global,
     ways: &Ways<'_>,
-    goal: usize,
+    place: usize,
     header: u32,
     blocked: &[bool],
 ) -> Result<Option<Path>, NoMemory> {
-    let mut to = ways.nowhere(alloc)?;
-    if let Some(slot) = to.get_mut(goal) {
-        *slot = Some(0);
-    }
-    ways.spread(header, blocked, &mut to);
-    match find_beginning(alloc, ways, header, blocked, to.as_slice())? {
+    let to = ways.hops_to(alloc, place, header, blocked)?;
+    let goal = Goal {
+        header,
+        is_label: ways.is_label(header),
+        blocked,
+        to: to.as_slice(),
+    };
+    match find_beginning(alloc, ways, goal)? {
         Some(beginning) => {
-            let path = path_from(alloc, ways, header, blocked, to.as_slice(), beginning)?;
+            let path = path_from(alloc, ways, goal, beginning)?;
             Ok(Some(path))
         }
         None => Ok(None),
@@ -61,10 +73,9 @@ pub(crate) fn find_path(
 fn find_beginning(
     alloc: Global,
     ways: &Ways<'_>,
-    header: u32,
-    blocked: &[bool],
-    to: &[Option<usize>],
+    goal: Goal<'_>,
 ) -> Result<Option<Beginning>, NoMemory> {
+    let tables = portal_tables(alloc, ways, u32::MAX, goal.blocked, goal.to)?;
     let mut best = None;
     for (terminal, one) in ways.plan.terminals().iter().enumerate() {
         let entry = entry_of(one);
@@ -79,9 +90,11 @@ fn find_beginning(
             hops: 0,
         };
         let found = if settings.randomize() {
-            by_words(alloc, ways, settings, header, blocked, to, plain)?
+            by_words(ways, settings, goal, tables.as_slice(), plain)
+        } else if goal.is_label {
+            with_hops(plain, number_at(goal.to, entry))
         } else {
-            with_hops(plain, number_at(to, entry))
+            None
         };
         best = nearer(best, found);
     }
@@ -107,22 +120,21 @@ fn with_hops(beginning: Beginning, hops: Option<usize>) -> Option<Beginning> {
 
 /// The same where a word picks a random header.
 fn by_words(
-    alloc: Global,
     ways: &Ways<'_>,
     settings: &PackedSettings,
-    header: u32,
-    blocked: &[bool],
-    to: &[Option<usize>],
+    goal: Goal<'_>,
+    tables: &[PortalTable],
     plain: Beginning,
-) -> Result<Option<Beginning>, NoMemory> {
+) -> Option<Beginning> {
     let mut best = None;
     for word in 0..word_count(settings) {
         let random = random_header(settings, word, ways.header_count());
-        let hops = if random == header {
-            number_at(to, plain.entry)
+        let hops = if random == goal.header {
+            number_at(goal.to, plain.entry)
+        } else if goal.is_label {
+            hops_by(tables, random, plain.entry)
         } else {
-            let table = by_portals(alloc, ways, random, blocked, to)?;
-            number_at(table.as_slice(), plain.entry)
+            None
         };
         let beginning = Beginning {
             word: Some(word),
@@ -131,52 +143,30 @@ fn by_words(
         };
         best = nearer(best, with_hops(beginning, hops));
     }
-    Ok(best)
-}
-
-/// How far it is from each input by a random header to a portal, and from there on, by a table.
-fn by_portals(
-    alloc: Global,
-    ways: &Ways<'_>,
-    random: u32,
-    blocked: &[bool],
-    to: &[Option<usize>],
-) -> Result<Vec<Option<usize>>, NoMemory> {
-    let mut table = ways.nowhere(alloc)?;
-    for (place, hops) in to.iter().enumerate() {
-        if ways.is_discarded(place, random)
-            && let Some(slot) = table.get_mut(place)
-        {
-            *slot = *hops;
-        }
-    }
-    ways.spread(random, blocked, &mut table);
-    Ok(table)
+    best
 }
 
 /// The way from a beginning on.
 fn path_from(
     alloc: Global,
     ways: &Ways<'_>,
-    header: u32,
-    blocked: &[bool],
-    to: &[Option<usize>],
+    goal: Goal<'_>,
     beginning: Beginning,
 ) -> Result<Path, NoMemory> {
     let mut hops = Vec::new(alloc);
     let mut portal = None;
     let mut at = beginning.entry;
-    let mut label = header;
+    let mut label = goal.header;
     match beginning.random {
-        Some(random) if random != header => {
-            let table = by_portals(alloc, ways, random, blocked, to)?;
+        Some(random) if random != goal.header => {
+            let table = ways.hops_by_portal(alloc, random, goal.blocked, goal.to)?;
             at = add_hops(ways, random, table.as_slice(), at, &mut hops)?;
             portal = Some(hops.len());
         }
         Some(_) => label = first_label(ways),
         None => {}
     }
-    add_hops(ways, header, to, at, &mut hops)?;
+    add_hops(ways, goal.header, goal.to, at, &mut hops)?;
     Ok(Path {
         terminal: beginning.terminal,
         entry: beginning.entry,

@@ -1,13 +1,15 @@
 //! Who sends packets that come to an input by a header.
 ghost use Rattle.std.specs.Prelude.{◌<◌};
 
+use crate::portals::{PortalTable, hops_by, portal_tables};
 use crate::rings::Step;
-use crate::ways::{Ways, number_at, place_of};
-use c104_check::SwitchPort;
-use c104_plan::Terminal;
+use crate::ways::{Ways, entry_of, number_at};
 use c104_regs::PackedSettings;
 use c104_token::NoMemory;
 use std::alloc::Global;
+
+/// The word by which `rounds` picks random headers.
+const WORD: u32 = 0;
 
 /// A terminal, and how its packet has to be for it to come to an input.
 #[derive(Clone, Copy)]
@@ -23,54 +25,54 @@ pub(crate) struct Sender {
 }
 
 /// The terminals whose packets come to the input of a step by its header. Where random headers are put before packets, they
-/// are those by this word.
-pub(crate) fn senders(
+/// are those that `rounds` picks. No packet begins with a header that is no terminal's label.
+pub(crate) fn senders(alloc: Global, ways: &Ways<'_>, step: Step) -> Result<Vec<Sender>, NoMemory> {
+    let to = ways.hops_to(alloc, step.input, step.header, &[])?;
+    senders_by(alloc, ways, step, to.as_slice())
+}
+
+/// The same by how far it is from each input by the step's header.
+fn senders_by(
     alloc: Global,
     ways: &Ways<'_>,
     step: Step,
-    word: u32,
+    to: &[Option<usize>],
 ) -> Result<Vec<Sender>, NoMemory> {
-    let mut to = ways.nowhere(alloc)?;
-    if let Some(slot) = to.get_mut(step.input) {
-        *slot = Some(0);
-    }
-    ways.spread(step.header, &[], &mut to);
+    let tables = portal_tables(alloc, ways, 1, &[], to)?;
+    let is_label = ways.is_label(step.header);
     let mut list = Vec::new(alloc);
     for (number, terminal) in ways.plan.terminals().iter().enumerate() {
-        if let Some(sender) = sender_at(alloc, ways, step, word, to.as_slice(), number, terminal)? {
+        let entry = entry_of(terminal);
+        let hops = number_at(to, entry);
+        if let Some(sender) = sender_at(ways, step, tables.as_slice(), number, entry, hops)
+            && (is_label || sender.label != step.header)
+        {
             list.push(sender)?;
         }
     }
     Ok(list)
 }
 
-/// A terminal as a sender, if its packets come there. The table has how far it is from each input by the step's header.
+/// A terminal as a sender, if its packets come there: from its input it is so far by the step's header.
 fn sender_at(
-    alloc: Global,
     ways: &Ways<'_>,
     step: Step,
-    word: u32,
-    to: &[Option<usize>],
-    number: usize,
-    terminal: &Terminal,
-) -> Result<Option<Sender>, NoMemory> {
-    let entry = place_of(SwitchPort {
-        switch: terminal.switch,
-        link: terminal.link,
-    });
-    let Some(settings) = ways.settings(entry) else {
-        return Ok(None);
-    };
+    tables: &[PortalTable],
+    terminal: usize,
+    entry: usize,
+    hops: Option<usize>,
+) -> Option<Sender> {
+    let settings = ways.settings(entry)?;
     if !settings.randomize() {
-        return Ok(direct(step, number, number_at(to, entry)));
+        return direct(step, terminal, hops);
     }
-    let random = random_header(settings, word, ways.header_count());
+    let random = random_header(settings, WORD, ways.header_count());
     let hops = if random == step.header {
-        number_at(to, entry)
+        hops
     } else {
-        hops_by_portal(alloc, ways, random, to, entry)?
+        hops_by(tables, random, entry)
     };
-    Ok(behind(ways, step, random, word, number, hops))
+    behind(ways, step, random, terminal, hops)
 }
 
 /// A terminal before whose packets no random headers are put.
@@ -88,7 +90,6 @@ fn behind(
     ways: &Ways<'_>,
     step: Step,
     random: u32,
-    word: u32,
     terminal: usize,
     hops: Option<usize>,
 ) -> Option<Sender> {
@@ -100,7 +101,7 @@ fn behind(
     Some(Sender {
         terminal,
         label,
-        word: Some(word),
+        word: Some(WORD),
         hops: hops?,
     })
 }
@@ -112,24 +113,4 @@ pub(crate) fn random_header(settings: &PackedSettings, word: u32, headers: u32) 
     let range = settings.random_range();
     let offset = if range == 0 { 0 } else { word % range };
     settings.random_base().saturating_add(offset) % headers
-}
-
-/// How far it is from an entry by a random header to a portal, and from there on, by a table.
-fn hops_by_portal(
-    alloc: Global,
-    ways: &Ways<'_>,
-    random: u32,
-    to: &[Option<usize>],
-    entry: usize,
-) -> Result<Option<usize>, NoMemory> {
-    let mut table = ways.nowhere(alloc)?;
-    for (place, hops) in to.iter().enumerate() {
-        if ways.is_discarded(place, random)
-            && let Some(slot) = table.get_mut(place)
-        {
-            *slot = *hops;
-        }
-    }
-    ways.spread(random, &[], &mut table);
-    Ok(number_at(table.as_slice(), entry))
 }

@@ -6,7 +6,7 @@ use c104_token::NoMemory;
 use std::alloc::Global;
 
 /// The most inputs of a set.
-const MOST_INPUTS: usize = 64;
+const MOST_INPUTS: usize = 256;
 
 /// The header that is to wait at each input of a set, by place.
 #[derive(Drop)]

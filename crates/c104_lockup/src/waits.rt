@@ -4,9 +4,9 @@
 //! wait so is the greatest such set. Where none may wait, no packets whose ends have left the switches behind them lock a
 //! network up.
 
+use crate::portals::word_count;
 use crate::senders::random_header;
-use crate::ways::{Ways, is_marked, place_of};
-use c104_check::SwitchPort;
+use crate::ways::{Ways, entry_of, is_marked};
 use c104_plan::Terminal;
 use c104_regs::PackedSettings;
 use c104_token::NoMemory;
@@ -20,9 +20,6 @@ pub(crate) struct HeaderMarks {
     /// The inputs, by place.
     pub(crate) marks: Vec<bool>,
 }
-
-/// By how many words random headers are put before packets.
-pub(crate) const WORDS: u32 = 8;
 
 /// The inputs at which the first label of each terminal, and random headers, may wait for ever.
 pub(crate) fn waits(alloc: Global, ways: &Ways<'_>) -> Result<Vec<HeaderMarks>, NoMemory> {
@@ -103,14 +100,6 @@ fn add_label(
     Ok(())
 }
 
-/// The place of a terminal's input.
-pub(crate) fn entry_of(terminal: &Terminal) -> usize {
-    place_of(SwitchPort {
-        switch: terminal.switch,
-        link: terminal.link,
-    })
-}
-
 /// The input at which a terminal's packets begin to go by their own headers is marked: its own, or the portals of the random
 /// headers that are put before them, and then where these come joins the list.
 fn add_starts(
@@ -133,11 +122,6 @@ fn add_starts(
         add_random(alloc, ways, entry, random, starts, all)?;
     }
     Ok(())
-}
-
-/// How many words there are that pick different random headers, up to a few.
-pub(crate) fn word_count(settings: &PackedSettings) -> u32 {
-    settings.random_range().min(WORDS).max(1)
 }
 
 /// A place is marked, if there is one.

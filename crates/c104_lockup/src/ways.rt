@@ -5,7 +5,7 @@ ghost use Rattle.std.specs.Prelude.{◌<◌};
 use c104_check::SwitchPort;
 use c104_crossbar::Group;
 use c104_interval::Select;
-use c104_plan::{Image, Plan, Port};
+use c104_plan::{Image, Plan, Port, Terminal};
 use c104_regs::{LINKS, PackedSettings, continues_of};
 use c104_token::NoMemory;
 use std::alloc::Global;
@@ -73,7 +73,7 @@ impl<'a> Ways<'a> {
     }
 
     /// A table with nothing at any input.
-    pub(crate) fn nowhere(&self, alloc: Global) -> Result<Vec<Option<usize>>, NoMemory> {
+    fn nowhere(&self, alloc: Global) -> Result<Vec<Option<usize>>, NoMemory> {
         let table = vec![in alloc; None; self.far.len()]?;
         Ok(table)
     }
@@ -152,9 +152,59 @@ impl<'a> Ways<'a> {
         self.far.len()
     }
 
+    /// Whether a header is a label of some terminal.
+    pub(crate) fn is_label(&self, header: u32) -> bool {
+        for terminal in 0..self.plan.terminals().len() {
+            if let Some((first, count)) = self.image.range(terminal)
+                && first <= header
+                && header < first.saturating_add(count)
+            {
+                return true;
+            }
+        }
+        false
+    }
+
+    /// How far it is from each input to one by a header, past none that is blocked.
+    pub(crate) fn hops_to(
+        &self,
+        alloc: Global,
+        place: usize,
+        header: u32,
+        blocked: &[bool],
+    ) -> Result<Vec<Option<usize>>, NoMemory> {
+        let mut to = self.nowhere(alloc)?;
+        if let Some(slot) = to.get_mut(place) {
+            *slot = Some(0);
+        }
+        self.spread(header, blocked, &mut to);
+        Ok(to)
+    }
+
+    /// How far it is from each input by a random header to a portal, past none that is blocked, and from there on, by a
+    /// table.
+    pub(crate) fn hops_by_portal(
+        &self,
+        alloc: Global,
+        random: u32,
+        blocked: &[bool],
+        to: &[Option<usize>],
+    ) -> Result<Vec<Option<usize>>, NoMemory> {
+        let mut table = self.nowhere(alloc)?;
+        for (place, hops) in to.iter().enumerate() {
+            if self.is_discarded(place, random)
+                && let Some(slot) = table.get_mut(place)
+            {
+                *slot = *hops;
+            }
+        }
+        self.spread(random, blocked, &mut table);
+        Ok(table)
+    }
+
     /// Each input from where a header comes to one that has a number gets a number too, one more for each wire. Inputs that
     /// are blocked get none.
-    pub(crate) fn spread(&self, header: u32, blocked: &[bool], table: &mut Vec<Option<usize>>) {
+    fn spread(&self, header: u32, blocked: &[bool], table: &mut Vec<Option<usize>>) {
         for _ in 0..self.far.len() {
             if !self.spread_once(header, blocked, table) {
                 return;
@@ -260,6 +310,14 @@ impl<'a> Ways<'a> {
 /// The place of an input.
 pub(crate) fn place_of(port: SwitchPort) -> usize {
     port.switch.saturating_mul(LINKS).saturating_add(port.link)
+}
+
+/// The place of a terminal's input.
+pub(crate) fn entry_of(terminal: &Terminal) -> usize {
+    place_of(SwitchPort {
+        switch: terminal.switch,
+        link: terminal.link,
+    })
 }
 
 /// The number at a place of a table.
