@@ -1,5 +1,5 @@
 -- A script whose lines are harmless leaves a network as it was set up.
-use Rattle.std.proofs.Common.{◌≡◌, ◌∙◌, ◌<◌, ◌≤◌, ◌+◌, ◌++◌, ◌==◌, ℕ, zero, suc, All, Bool, true, false, List, [], ◌∷◌, Option, Some, None, Result, Ok, Err, append-nil, append_assoc, if◌then◌else◌, length, map, refl, slice_get, sym, ap, subst, take}
+use Rattle.std.proofs.Common.{◌≡◌, ◌∙◌, ◌<◌, ◌≤◌, ◌+◌, ◌++◌, ◌==◌, ℕ, zero, suc, All, Bool, true, false, List, [], ◌∷◌, Option, Some, None, Result, Ok, Err, inl, inr, append-nil, append_assoc, if◌then◌else◌, length, map, refl, slice_get, sym, ap, subst, take}
 use Rattle.std.proofs.Common.{arith, cond}
 use Rattle.std.specs.List.{onto_first, slice_split}
 use Rattle.std.proofs.lemmas.List.Elements.{All-head, All-tail}
@@ -23,7 +23,7 @@ use Rattle.c104_net.specs.Deliveries.{has_header, header_of}
 use Rattle.c104_net.specs.Unchanged.{MayBeSent, MayHappen}
 use Rattle.c104_node.specs.declared.starts.NodeStart.{NodeStart}
 use Rattle.c104_stream.specs.ScriptLines.{lines_within, most_script, script_lines}
-use Rattle.c104_script.specs.Script.{read_script_line}
+use Rattle.c104_script.specs.Script.{GivesLineOrNoMemory, read_script_line}
 use Rattle.c104_script.specs.declared.answers.Answer.{Answer}
 use Rattle.c104_script.specs.declared.answers.Answer.TheVariants.{Replied}
 use Rattle.c104_script.specs.declared.faults.LineFault.{LineFault}
@@ -90,6 +90,11 @@ faulty routes kind answer = tt
 pub event_asked : (routes : Routes) (e : Event) → ((r : Reply) → MayHappen routes e r) → IsHarmless routes (Ok (Some (ask.Asked e)))
 event_asked routes e may (Some (Replied r)) = may r
 event_asked routes e may answer = tt
+
+-- what is read of a line is harmless where its request is
+pub read_so : (routes : Routes) (due : Result (Option Request) LineFault) (o : Option Request) (request : Request) → GivesLineOrNoMemory (Ok o) due → o ≡ Some request → IsHarmless routes (Ok (Some request)) → IsHarmless routes due
+read_so routes due o request (inl same) is harmless answer = subst (λ asked. MayAsk routes asked answer) (ap Ok (sym is) ∙ same) (harmless answer)
+read_so routes due o request (inr none) is harmless answer = absurd (cc none)
 
 -- a random header is no label, so what begins with a label may be sent
 label_not_random : (plan : Plan) (image : Image) (p : Packet) → IsAccepted (routes_of plan image) → IsLabel image (header_of (routes_of plan image) p) → IsRandomIn (routes_of plan image) (header_of (routes_of plan image) p) → ⊥
