@@ -15,4 +15,6 @@ mod failures;
 #[cfg(test)]
 mod output;
 #[cfg(test)]
+mod printed;
+#[cfg(test)]
 mod script;

@@ -1,0 +1,8 @@
+use Rattle.std.proofs.Common.{ℕ, All, Bor, List, take}
+use Rattle.c104_script.specs.Script.{read_script_line}
+use Rattle.c104_tests_top.specs.PrintedTexts.{IsCalm}
+use Rattle.c104_tests_top.proofs.printed.are_calm.Given as goal
+
+-- the lines so far are calm
+abbrev pub invariant-loop-line : goal.invariant-loop-line
+invariant-loop-line l = All (λ (line : Bor (List ℕ)). IsCalm (read_script_line l.plan line.now)) (take l.line-index l.lines)
