@@ -1,8 +1,9 @@
 -- A script whose lines are harmless leaves a network as it was set up.
-use Rattle.std.proofs.Common.{◌≡◌, ◌∙◌, ◌<◌, ◌≤◌, ◌+◌, ◌++◌, ◌==◌, ℕ, zero, suc, All, Bool, true, false, List, [], ◌∷◌, Option, Some, None, Result, Ok, Err, inl, inr, append-nil, append_assoc, if◌then◌else◌, length, map, refl, slice_get, sym, ap, subst, take}
+use Rattle.std.proofs.Common.{◌≡◌, ◌∙◌, ◌<◌, ◌≤◌, ◌+◌, ◌++◌, ◌==◌, ℕ, zero, suc, All, Bool, IfOk, true, false, List, [], ◌∷◌, Option, Some, None, Result, Ok, Err, inl, inr, append-nil, append_assoc, if◌then◌else◌, length, map, refl, slice_get, sym, ap, subst, take}
 use Rattle.std.proofs.Common.{arith, cond}
 use Rattle.std.specs.List.{onto_first, slice_split}
 use Rattle.std.proofs.lemmas.List.Elements.{All-head, All-tail}
+use Rattle.c104_token.specs.declared.faults.NoMemory.{NoMemory}
 use Rattle.c104_token.specs.declared.packets.Packet.{Packet}
 use Rattle.c104_switch.specs.Actions.{Reply}
 use Rattle.c104_switch.specs.Headers.{header_number}
@@ -152,3 +153,9 @@ module _ (plan : Plan) (image : Image) (is_plan : IsPlan plan) (fits : Fits imag
 
   pub harmless_locks : (script : List ℕ) → AreHarmless plan image (script_lines script) → EndsLocked plan image script → LocksUp plan image script
   harmless_locks script all ends = record { ends = ends; unchanged = harmless_leaves script all }
+
+-- what is told of an image's copy holds of the image
+pub copy_locks : (plan : Plan) (image copy : Image) (script : List ℕ) (told : Result Bool NoMemory) → IsPlan plan → Fits image plan → copy ≡ image → AreHarmless plan image (script_lines script) → IfOk told (λ locks. locks ≡ true → EndsLocked plan copy script) → IfOk told (λ locks. locks ≡ true → LocksUp plan image script)
+copy_locks plan image copy script (Ok locks) kept fits same harmless ends =
+    λ yes. harmless_locks plan image kept fits script harmless (subst (λ i. EndsLocked plan i script) same (ends yes))
+copy_locks plan image copy script (Err fault) kept fits same harmless ends = tt
