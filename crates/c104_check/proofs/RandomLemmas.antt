@@ -11,7 +11,7 @@ use Rattle.c104_check.proofs.RefusalLemmas.{entry_same}
 abbrev pub IsCount : ℕ → Type 0
 IsCount count = (count ≡ 256) ⊎ (count ≡ 65536)
 
-count_of : (b : Bool) → IsCount (256 * (cond b 256 1))
+count_of : (b : Bool) → IsCount (cond b 65536 256)
 count_of true = inr refl
 count_of false = inl refl
 

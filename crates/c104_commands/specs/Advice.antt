@@ -5,7 +5,7 @@ use Rattle.std.specs.Fmt.{decimal}
 use Rattle.std.specs.Option.{option_map_or}
 use Rattle.c104_plan.specs.declared.ports.Port.{Port}
 use Rattle.c104_plan.specs.declared.ports.Port.TheVariants as port
-use Rattle.c104_plan.specs.Plans.{Plan}
+use Rattle.c104_plan.specs.Plans.{Plan, header_values}
 use Rattle.c104_plan.specs.declared.plans.Terminal.{Terminal}
 use Rattle.c104_plan.specs.PortTexts.{port_text, terminal_name}
 use Rattle.c104_check.specs.Mends.{IsMisstepOf, NoMisstepOf, TellsNoRefusal}
@@ -18,7 +18,7 @@ use Rattle.c104_check.specs.declared.faults.CheckFault.TheVariants as fault
 use Rattle.c104_check.specs.declared.faults.Shown.{Shown}
 use Rattle.c104_check.specs.declared.missteps.Misstep.{Misstep}
 use Rattle.c104_check.specs.declared.ports.SwitchPort.{SwitchPort}
-use Rattle.c104_commands.specs.RangeChanges.{TellsRange, header_values}
+use Rattle.c104_commands.specs.RangeChanges.{TellsRange}
 use Rattle.c104_commands.specs.RowChanges.{TellsFix}
 
 -- the owner of a header
@@ -83,7 +83,7 @@ overlap_text plan t u more =
 -- the sentence on a terminal that has a label that is no header, and what follows it
 abbrev pub large_text : Plan → ℕ → List ℕ → List ℕ
 large_text plan t more =
-    codes "label " ++ (decimal (max (first_label plan t) (header_values plan)) ++ (codes " of " ++ (terminal_name plan t ++ (codes " is no header: headers are 0 to " ++ (decimal (header_values plan - 1) ++ (codes "\n" ++ more))))))
+    codes "label " ++ (decimal (max (first_label plan t) (header_values plan.header)) ++ (codes " of " ++ (terminal_name plan t ++ (codes " is no header: headers are 0 to " ++ (decimal (header_values plan.header - 1) ++ (codes "\n" ++ more))))))
 
 -- a text is one of these, and ends with another range, if one is free
 abbrev pub TellsOverlap : Plan → ℕ → ℕ → List ℕ → Type 0

@@ -1,16 +1,12 @@
 -- What is told of a terminal that is to have another range of labels.
 --     IsFreeRange plan t first count      these labels are headers, and no other terminal has one of them
 --     TellsRange plan t text      lines by which terminal t has such a range, or none
-use Rattle.std.specs.Prelude.{◌≡◌, ◌≢◌, ◌⊎◌, ℕ, ◌+◌, ◌<◌, ◌≤◌, nat_lt, if◌then◌else◌, List, [], ◌++◌, length, slice_get, slice_index_or}
+use Rattle.std.specs.Prelude.{◌≡◌, ◌≢◌, ◌⊎◌, ℕ, ◌+◌, ◌<◌, ◌≤◌, List, [], ◌++◌, length, slice_get, slice_index_or}
 use Rattle.std.specs.Prelude.{Some, codes}
 use Rattle.std.specs.Fmt.{decimal}
-use Rattle.c104_plan.specs.Plans.{Plan, host_port}
+use Rattle.c104_plan.specs.Plans.{Plan, header_values, host_port}
 use Rattle.c104_plan.specs.declared.plans.Terminal.{Terminal}
 use Rattle.c104_plan.specs.PortTexts.{port_text}
-
--- how many headers there are
-abbrev pub header_values : Plan → ℕ
-header_values plan = if nat_lt 1 plan.header then 65536 else 256
 
 -- a terminal has none of the labels from first up to end
 abbrev pub IsApart : ℕ → ℕ → Terminal → Type 0
@@ -23,7 +19,7 @@ AreApart plan t first end =
 
 -- the given number of labels from first on are headers, and no terminal but this one has any of them
 abbrev pub IsFreeRange : Plan → ℕ → ℕ → ℕ → Type 0
-IsFreeRange plan t first count = (first + count ≤ header_values plan) × AreApart plan t first (first + count)
+IsFreeRange plan t first count = (first + count ≤ header_values plan.header) × AreApart plan t first (first + count)
 
 -- the line of a terminal whose labels begin so, after a word that says what is to be done with it
 abbrev pub range_text : List ℕ → Plan → Terminal → ℕ → List ℕ

@@ -6,20 +6,19 @@ ghost use Rattle.c104_check.specs.Walks.{is_met};
 ghost use Rattle.c104_commands.specs.Advice.{IsAdvice, TellsLarge, TellsOverlap, TellsStep, delete_text, due_text, end_text, first_label};
 ghost use Rattle.c104_commands.specs.Advice.{large_text, misstep_text, mixed_text, owner_text, random_text, stop_text, terminal_text};
 ghost use Rattle.c104_commands.specs.Advice.{way_text};
-ghost use Rattle.c104_commands.specs.RangeChanges.{header_values};
 ghost use Rattle.c104_commands.specs.RowChanges.{SelectsByRows, TellsFix, TellsMend};
 ghost use Rattle.c104_plan.specs.PlanImage.{Fits};
-ghost use Rattle.c104_plan.specs.Plans.{label_count};
+ghost use Rattle.c104_plan.specs.Plans.{header_values, label_count};
 ghost use Rattle.c104_plan.specs.declared.plans.Shape.TheVariants.{Hand};
 ghost use Rattle.c104_label.specs.Images.{IsImageOf};
 
 use crate::discarding::discarding_rows;
-use crate::mending::{header_count, mended, row_change};
+use crate::mending::{mended, row_change};
 use crate::range_changes::range_change;
 use crate::texts::{port_text, terminal_name};
 use c104_check::{CheckFault, Mend, Misstep, Shown, SwitchPort, WalkKind, find_mend, find_misstep};
 use c104_interval::Select;
-use c104_plan::{Image, Plan, Port};
+use c104_plan::{Image, Plan, Port, header_values};
 use c104_token::NoMemory;
 use std::alloc::{AllocError, Global};
 
@@ -120,9 +119,9 @@ fn large_text(
 
 /// The first label that is no header of a terminal that has one.
 fn large_label(plan: &Plan, terminal: usize) -> u32
-    ensures { result ≡ max (first_label plan.now terminal) (header_values plan.now) }
+    ensures { result ≡ max (first_label plan.now terminal) (header_values plan.now.header) }
 {
-    first_label(plan, terminal).max(header_count(plan))
+    first_label(plan, terminal).max(header_values(plan.header()))
 }
 
 /// Headers aren't equally long at all links that are wired.
@@ -366,7 +365,7 @@ fn first_label(plan: &Plan, terminal: usize) -> u32
 
 /// The last header that there is.
 fn last_header(plan: &Plan) -> u32
-    ensures { result ≡ header_values plan.now - 1 }
+    ensures { result ≡ header_values plan.now.header - 1 }
 {
-    header_count(plan) - 1
+    header_values(plan.header()) - 1
 }

@@ -6,12 +6,12 @@ ghost use Rattle.c104_commands.specs.RowChanges.{NoneBegins, TellsDiscard};
 ghost use Rattle.c104_plan.specs.Plans.{label_count};
 ghost use Rattle.c104_interval.specs.declared.intervals.Select.TheVariants.{Discard};
 
-use crate::mending::{header_count, next_label, row_change};
+use crate::mending::{next_label, row_change};
 use crate::row_changes::Change;
 use crate::trials::{are_accepted, changed_image, most_trials};
 use c104_check::{Shown, SwitchPort};
 use c104_interval::Select;
-use c104_plan::{Plan, PlanRandom};
+use c104_plan::{Plan, PlanRandom, header_values};
 use c104_token::NoMemory;
 use std::alloc::Global;
 
@@ -85,7 +85,7 @@ fn end_of_randoms(plan: &Plan, terminal: usize, header: u32) -> u32
     let mut end = next;
     for random in plan.randoms() {
         if random.port.is_same(port) {
-            end = end.max(end_of_random(*random, header_count(plan), header));
+            end = end.max(end_of_random(*random, header_values(plan.header()), header));
         }
     }
     end.min(next_label(plan, header))

@@ -1,7 +1,6 @@
 //! The lines of a description that mend its labels.
 ghost use Rattle.std.specs.Prelude.{◌≡◌, ◌⊎◌, ◌<◌, ◌≤◌, IfOk};
 ghost use Rattle.std.specs.String.{string_bytes};
-ghost use Rattle.c104_commands.specs.RangeChanges.{header_values};
 ghost use Rattle.c104_commands.specs.RowChanges.{NoneBegins, TellsSelect, row_lines, row_text};
 ghost use Rattle.c104_commands.specs.RowSteps.{EndsAt, change_text, new_rows, rows_if};
 ghost use Rattle.c104_plan.specs.PortTexts.{select_text};
@@ -11,7 +10,7 @@ use crate::row_changes::{Change, NewRows, RowChange, find_row_change};
 use crate::texts::port_text;
 use c104_check::{Mend, SwitchPort, WalkKind};
 use c104_interval::{Row, Select};
-use c104_plan::Plan;
+use c104_plan::{Plan, header_values};
 use std::alloc::{AllocError, Global};
 
 /// The change by which a header selects at an input what mends its walk of this kind. Where it is sunk, those above
@@ -124,7 +123,7 @@ pub(crate) fn next_label(plan: &Plan, header: u32) -> u32
 fn next_random(plan: &Plan, header: u32) -> u32
     ensures { header < label_count → header < result }
 {
-    let headers = header_count(plan);
+    let headers = header_values(plan.header());
     let mut next = 0x10000;
     for random in plan.randoms() {
         next = nearest_above(header, next, random.base % headers);
@@ -143,14 +142,6 @@ fn nearest_above(header: u32, next: u32, other: u32) -> u32
     } else {
         next
     }
-}
-
-/// How many headers there are.
-pub(crate) fn header_count(plan: &Plan) -> u32
-    ensures some { 0 < result }
-    ensures count { result ≡ header_values plan.now }
-{
-    if plan.header() > 1 { 0x10000 } else { 0x100 }
 }
 
 /// The line of a row, after a word that says what is to be done with it.

@@ -3,10 +3,9 @@ ghost use Rattle.std.specs.Prelude.{◌≡◌, ⊤, ◌+◌, ◌<◌, true, fals
 ghost use Rattle.std.specs.String.{string_bytes};
 ghost use Rattle.c104_commands.specs.RangeChanges.{AreApart, IsApart, IsFreeRange, TellsRange, range_text};
 
-use crate::mending::header_count;
 use crate::texts::port_text;
 use c104_check::SwitchPort;
-use c104_plan::{Plan, PlanRandom, Terminal};
+use c104_plan::{Plan, PlanRandom, Terminal, header_values};
 use std::alloc::{AllocError, Global};
 
 /// The lines by which a terminal has another range, of as many labels, all of which are headers, no other
@@ -78,7 +77,7 @@ fn is_free(plan: &Plan, number: usize, first: u32, count: u32) -> bool
     ensures { result ≡ true → IsFreeRange plan.now number first count }
 {
     let end = u64::from(first) + u64::from(count);
-    end <= u64::from(header_count(plan))
+    end <= u64::from(header_values(plan.header()))
         && are_apart(plan, number, first, end)
         && !are_random(plan, first, end)
 }
@@ -98,7 +97,7 @@ fn are_apart(plan: &Plan, number: usize, first: u32, end: u64) -> bool
 
 /// Whether one of the labels from one to another is a random header.
 fn are_random(plan: &Plan, first: u32, end: u64) -> bool {
-    let headers = header_count(plan);
+    let headers = header_values(plan.header());
     for random in plan.randoms() {
         if meets_random(*random, headers, first, end) {
             return true;

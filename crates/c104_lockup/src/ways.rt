@@ -5,7 +5,7 @@ ghost use Rattle.std.specs.Prelude.{◌<◌};
 use c104_check::SwitchPort;
 use c104_crossbar::Group;
 use c104_interval::Select;
-use c104_plan::{Image, Plan, Port, Terminal};
+use c104_plan::{Image, Plan, Port, Terminal, header_values};
 use c104_regs::{LINKS, PackedSettings, continues_of};
 use c104_token::NoMemory;
 use std::alloc::Global;
@@ -65,11 +65,7 @@ impl<'a> Ways<'a> {
     pub(crate) fn header_count(&self) -> u32
         ensures { 0 < result }
     {
-        if self.plan.header() > 1 {
-            0x10000
-        } else {
-            0x100
-        }
+        header_values(self.plan.header())
     }
 
     /// A table with nothing at any input.

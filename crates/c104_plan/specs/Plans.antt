@@ -1,5 +1,5 @@
 -- Plans: a network as it is planned. What the type of a plan keeps is said list by list.
-use Rattle.std.specs.Prelude.{◌≡◌, ℕ, ◌+◌, ◌-◌, ◌%◌, ◌<◌, ◌≤◌, ◌==◌, ◌&&◌, Bool, false, List, [], ◌∷◌, ◌++◌, length, map, filter, position, slice_get, bytes_eq, nat_le, All, IsTrue, Option, Some, None}
+use Rattle.std.specs.Prelude.{◌≡◌, ℕ, ◌+◌, ◌-◌, ◌%◌, ◌<◌, ◌≤◌, ◌==◌, ◌&&◌, Bool, false, List, [], ◌∷◌, ◌++◌, length, map, filter, position, slice_get, bytes_eq, nat_le, nat_lt, if◌then◌else◌, All, IsTrue, Option, Some, None}
 use Rattle.std.specs.List.{list_any}
 use Rattle.c104_plan.specs.Distinctness.{AreDistinct}
 use Rattle.c104_interval.specs.declared.intervals.TheConstants.{ROWS}
@@ -113,6 +113,10 @@ most_header_bytes = MAX_HEADER_BYTES
 -- how many labels there are: a header has at most two bytes
 abbrev pub label_count : ℕ
 label_count = LABELS
+
+-- how many values a header of this many bytes has
+abbrev pub header_values : ℕ → ℕ
+header_values header = if nat_lt 1 header then LABELS else 256
 
 -- the last link of a switch
 abbrev pub last_link : ℕ

@@ -39,7 +39,7 @@ pub use hand::hand_image;
 pub use image::Image;
 pub use image_faults::ImageFault;
 pub use limits::{
-    LABELS, MAX_DESCRIPTION, MAX_HEADER_BYTES, MAX_SWITCHES, MAX_TERMINALS, is_buffer_size,
+    LABELS, MAX_DESCRIPTION, MAX_HEADER_BYTES, MAX_SWITCHES, MAX_TERMINALS, header_values, is_buffer_size,
 };
 pub use names::Name;
 pub use parts::{Network, Parts};

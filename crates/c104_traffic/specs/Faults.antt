@@ -2,14 +2,14 @@
 --     IsTrafficFault plan image name target own why      this is why a schedule isn't found
 use Rattle.std.specs.Prelude.{◌≡◌, ⊤, ℕ, ◌<◌, ◌≤◌, Bool, List, [], ◌++◌, length, codes}
 use Rattle.std.specs.Fmt.{decimal}
-use Rattle.c104_plan.specs.Plans.{Plan}
+use Rattle.c104_plan.specs.Plans.{Plan, header_values}
 use Rattle.c104_plan.specs.PlanImage.{Image}
 use Rattle.c104_plan.specs.PortTexts.{terminal_name}
 pub use Rattle.c104_traffic.specs.declared.faults.TrafficFault.{TrafficFault}
 use Rattle.c104_traffic.specs.declared.faults.TrafficFault.TheVariants as fault
 use Rattle.c104_traffic.specs.declared.patterns.Pattern.{Pattern}
 use Rattle.c104_traffic.specs.declared.patterns.PatternName.{PatternName}
-use Rattle.c104_traffic.specs.Packets.{first_label, header_values}
+use Rattle.c104_traffic.specs.Packets.{first_label}
 use Rattle.c104_traffic.specs.Patterns.{IsNoPattern, IsPatternOf}
 use Rattle.c104_traffic.specs.Targets.{senders_of}
 
@@ -48,8 +48,8 @@ traffic_fault_text plan why =
 -- a terminal is the first whose first label is no header
 pub record IsFirstUnlabelled (plan : Plan) (image : Image) (t : ℕ) : Type 0 where
   pub inside : t < length plan.terminals
-  pub large : header_values plan ≤ first_label image t
-  pub before : (u : ℕ) → u < t → first_label image u < header_values plan
+  pub large : header_values plan.header ≤ first_label image t
+  pub before : (u : ℕ) → u < t → first_label image u < header_values plan.header
 
 -- the network can have the pattern, but no terminal sends by it
 pub record HasNoSender (plan : Plan) (name : PatternName) (target : List ℕ) (own : Bool) : Type 0 where

@@ -42,10 +42,6 @@ target_at pattern traffic count senders number =
 abbrev pub first_label : Image → ℕ → ℕ
 first_label image t = option_map_or (λ (range : ℕ × ℕ). range.0) (slice_get image.ranges t) 0
 
--- how many values a header has
-abbrev pub header_values : Plan → ℕ
-header_values plan = if nat_lt 1 plan.header then 65536 else 256
-
 -- the byte at a place of a packet: those of a header of this length are the label, low byte first, and each behind them
 -- is its place and the packet's number together, of which the last eight bits count
 abbrev pub byte_at : ℕ → ℕ → ℕ → ℕ → ℕ

@@ -1,15 +1,15 @@
 -- Who sends by a pattern in a network.
 use Rattle.std.specs.Prelude.{◌≡◌, ℕ, ◌<◌, Bool, length, slice_get, IfSome}
-use Rattle.c104_plan.specs.Plans.{IsPlan, IsRange, Plan}
+use Rattle.c104_plan.specs.Plans.{IsPlan, IsRange, Plan, header_values}
 use Rattle.c104_plan.specs.PlanImage.{Image}
 pub use Rattle.c104_traffic.specs.declared.schedules.Schedule.{Schedule}
-use Rattle.c104_traffic.specs.Packets.{first_label, header_values}
+use Rattle.c104_traffic.specs.Packets.{first_label}
 use Rattle.c104_traffic.specs.Patterns.{IsPatternFor}
 use Rattle.c104_traffic.specs.Targets.{senders_of}
 
 -- the first label of each terminal is a header
 abbrev pub AreLabelled : Plan → Image → Type 0
-AreLabelled plan image = (t : ℕ) → t < length plan.terminals → first_label image t < header_values plan
+AreLabelled plan image = (t : ℕ) → t < length plan.terminals → first_label image t < header_values plan.header
 
 -- what the image has for a terminal, if anything, is a range of labels
 abbrev pub HaveRanges : Plan → Image → Type 0

@@ -2,7 +2,7 @@
 ghost use Rattle.std.specs.Prelude.{ℕ, ◌≡◌, ◌<◌, ◌≤◌, IfSome, length, slice_get};
 ghost use Rattle.c104_plan.specs.Plans.{IsRange};
 ghost use Rattle.c104_plan.specs.PortTexts.{terminal_name};
-ghost use Rattle.c104_traffic.specs.Packets.{IsTraffic, byte_at, first_label, header_values, packet_word, rounds_before, rounds_by, sender_at, sent_at};
+ghost use Rattle.c104_traffic.specs.Packets.{IsTraffic, byte_at, first_label, packet_word, rounds_before, rounds_by, sender_at, sent_at};
 ghost use Rattle.c104_traffic.specs.Schedules.{IsSchedule};
 
 use crate::amounts::Traffic;
@@ -94,13 +94,6 @@ pub(crate) fn first_label(image: &Image, terminal: usize) -> u32
         Some((first, _)) => first,
         None => 0,
     }
-}
-
-/// How many values a header has.
-pub(crate) fn header_values(plan: &Plan) -> u32
-    ensures { result ≡ header_values plan.now }
-{
-    if plan.header() > 1 { 65_536 } else { 256 }
 }
 
 /// The byte at a place of the packet of this number, to a label by a header of this length.

@@ -8,10 +8,10 @@ ghost use Rattle.c104_traffic.specs.Targets.{senders_of};
 
 use crate::faults::TrafficFault;
 use crate::finding::find_pattern;
-use crate::packets::{first_label, header_values};
+use crate::packets::first_label;
 use crate::patterns::{Pattern, PatternName};
 use crate::targets::is_sender;
-use c104_plan::{Image, Plan};
+use c104_plan::{Image, Plan, header_values};
 use c104_token::NoMemory;
 use std::alloc::Global;
 
@@ -83,7 +83,7 @@ fn find_unlabelled(plan: &Plan, image: &Image) -> Option<usize>
     ensures kept { IsPlan plan.now }
 {
     for terminal in 0..plan.terminals().len() {
-        if first_label(image, terminal) >= header_values(plan) {
+        if first_label(image, terminal) >= header_values(plan.header()) {
             return Some(terminal);
         }
     }
