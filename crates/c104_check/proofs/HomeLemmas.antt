@@ -5,6 +5,7 @@ use Rattle.c104_token.specs.declared.faults.NoMemory.{NoMemory}
 use Rattle.std.specs.List.{AllByRecursion}
 use Rattle.c104_plan.specs.declared.ports.Port.TheVariants as port
 use Rattle.c104_check.specs.declared.walks.Goal.TheVariants.{Portal}
+use Rattle.c104_check.specs.FirstWalks.{IsFirstWalk}
 use Rattle.c104_check.specs.Breaks.{AreBreaks, IsBreak, IsWired, is_marked}
 use Rattle.c104_check.specs.Portals.{is_random_at, met_below, met_from, met_here, met_if}
 use Rattle.c104_check.specs.Refusals.{Refusal}
@@ -14,6 +15,7 @@ use Rattle.c104_check.specs.Starts.{AreKnown, HomeBelow, IsFirstRandomAt, IsRefu
 use Rattle.c104_check.specs.Trails.{IsInput, IsNetwork}
 use Rattle.c104_check.specs.Walking.{fault_on}
 use Rattle.c104_check.specs.Walks.{first_fault, is_met, random_fault}
+use Rattle.c104_check.proofs.FirstWalkLemmas.{random_first}
 use Rattle.c104_check.proofs.BreakLemmas.{homes_alike, random_before}
 use Rattle.c104_check.proofs.PortalLemmas.{add_append, add_in, add_known, met_alike}
 use Rattle.c104_check.proofs.RandomLemmas.{random_at_tells, random_at_told}
@@ -27,7 +29,7 @@ random_is routes r p =
 pub refused_random : (routes : Routes) (t : ℕ) (p : SwitchPort) (r : ℕ) (refusal : Refusal) → IsNetwork routes → IsInput (length routes.settings) p → refusal.shown.entry ≡ t → refusal.shown.header ≡ r → random_fault routes r p ≡ Some (refusal.why, refusal.shown.walk) → IsRefusedRandom routes t p r refusal
 refused_random routes t p r refusal net here terminal header is =
     let shows = random_shown routes r p refusal.why refusal.shown.walk net here is in
-    record { terminal = terminal; header = header; shows = shows; first = is; fails = λ k homes. shown_homes routes r k p refusal.why refusal.shown.walk shows homes }
+    record { terminal = terminal; header = header; shows = shows; first = random_first routes r p refusal.why refusal.shown.walk net here is; fails = λ k homes. shown_homes routes r k p refusal.why refusal.shown.walk shows homes }
 
 pub wired_entry : (routes : Routes) (t : ℕ) (p : SwitchPort) → IsNetwork routes → IsEntryOf routes t p → IsWired routes p
 wired_entry routes t p net entry = (port.Terminal t, net.back (port.Terminal t) (to_port p) entry)
@@ -79,7 +81,7 @@ walked_next routes t p h (Some refusal) below random before is = record {
     random = subst (IsRandomAt routes p) (sym is.header) (random_at_tells routes p h below random);
     before = λ r low. before r (subst (λ n. r < n) is.header low);
     shows = subst (λ n. IsShownRandom routes n p refusal.why refusal.shown.walk) (sym is.header) is.shows;
-    first = subst (λ n. random_fault routes n p ≡ Some (refusal.why, refusal.shown.walk)) (sym is.header) is.first;
+    first = subst (λ n. IsFirstWalk routes n (Some Portal) p refusal.why refusal.shown.walk) (sym is.header) is.first;
     fails = subst (λ n. (k : ℕ) → Homes routes n k p.switch p.link → ⊥) (sym is.header) is.fails;
   };
 }

@@ -27,7 +27,6 @@ pub mod ReachLemmas
 pub mod OwnStarts
 pub mod Homeless
 pub mod PartLemmas
-pub mod ToldWalks
 pub mod OwnerLemmas
 pub mod AcyclicLemmas
 pub mod DependencyLemmas

@@ -10,6 +10,7 @@ use Rattle.c104_check.specs.Trails.{IsInput, IsNetwork}
 use Rattle.c104_check.specs.Walking.{fault_on}
 use Rattle.c104_check.specs.declared.walks.Goal.TheVariants.{Owner}
 use Rattle.c104_check.specs.Walks.{WalkFault, fault_at, first_fault, port_of}
+use Rattle.c104_check.proofs.FirstWalkLemmas.{fault_first}
 use Rattle.c104_check.proofs.ShownLemmas.{fault_lands, fault_shown, shown_fails, shown_never}
 
 -- a walk that goes on to an entry is the whole walk
@@ -56,11 +57,11 @@ pub refused_at : (routes : Routes) (h : ℕ) (q : SwitchPort) (o : Option ℕ) (
 refused_at routes h q o why shown net here own is found =
     let x = shown.header in
     let owned : owner routes x ≡ o = ap (owner routes) is ∙ own in
-    let first : fault_at routes x q (owner routes x) ≡ Some (why, shown.walk) = ap (fault_at routes x q) owned ∙ ap (λ n. fault_at routes n q o) is ∙ found in
-    let shows = fault_shown routes x q why shown.walk (owner routes x) net here first in
+    let found : fault_at routes x q (owner routes x) ≡ Some (why, shown.walk) = ap (fault_at routes x q) owned ∙ ap (λ n. fault_at routes n q o) is ∙ found in
+    let shows = fault_shown routes x q why shown.walk (owner routes x) net here found in
     record {
       shows = shows;
-      first = first;
+      first = fault_first routes x q why shown.walk (owner routes x) net here found;
       fails = shown_fails routes x q why shown.walk (owner routes x) here shows;
       never_leads = shown_never routes x q why shown.walk (owner routes x) here shows;
     }

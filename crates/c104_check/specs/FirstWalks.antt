@@ -7,12 +7,8 @@ use Rattle.std.specs.Prelude.{◌≡◌, ◌≢◌, ◌↔◌, ℕ, ◌<◌, ◌
 use Rattle.c104_interval.specs.declared.intervals.Select.TheVariants.{Link, Sink}
 use Rattle.c104_plan.specs.declared.ports.Port.{Port}
 use Rattle.c104_plan.specs.declared.ports.Port.TheVariants as port
-use Rattle.c104_check.specs.declared.faults.CheckFault.{CheckFault}
-use Rattle.c104_check.specs.declared.faults.Shown.{Shown}
 use Rattle.c104_check.specs.declared.faults.WalkFault.TheVariants.{WrongEnd, DeadEnd, Loop, Stray}
 use Rattle.c104_check.specs.declared.walks.Goal.TheVariants.{Owner, Portal}
-use Rattle.c104_check.specs.Checks.{fault_of}
-use Rattle.c104_check.specs.Mends.{WalkKind, IsWalkKind, WalkBeginsAt, goal_of}
 use Rattle.c104_check.specs.Routes.{Homes, Lands, Routes, SwitchPort, is_in_group, most_hops, owner, select}
 use Rattle.c104_check.specs.Shown.{IsForeign, IsPortalFor}
 use Rattle.c104_check.specs.Trails.{IsInput}
@@ -86,17 +82,3 @@ pub record IsToldByWalks (routes : Routes) : Type 0 where
   -- and one alone of its walks from there is the first
   pub one_first : (h : ℕ) (goal : Option Goal) (p : SwitchPort) (why fault : WalkFault) (walk other : List SwitchPort) →
       IsFirstWalk routes h goal p why walk → IsFirstWalk routes h goal p fault other → (fault ≡ why) × (other ≡ walk)
-
--- a walk that is told is the first that goes wrong from the input where it begins, of a header with the goal that this
--- kind of walk has
-pub record IsToldFirst (routes : Routes) (why : WalkFault) (shown : Shown) : Type 0 where
-  pub kind : WalkKind
-  pub of_kind : IsWalkKind routes shown kind
-  pub start : SwitchPort
-  pub begins : WalkBeginsAt shown start
-  pub first : IsFirstWalk routes shown.header (goal_of kind (owner routes shown.header)) start why shown.walk
-
--- so is the walk of a fault, if it tells one
-abbrev pub TellsFirstWalk : Routes → CheckFault → Type 0
-TellsFirstWalk routes fault =
-    (why : WalkFault) (shown : Shown) → fault ≡ fault_of why shown → IsToldFirst routes why shown

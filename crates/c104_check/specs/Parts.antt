@@ -6,11 +6,13 @@
 use Rattle.std.specs.Prelude.{◌≡◌, ◌↔◌, ℕ, ◌<◌, ◌+◌, ◌⊎◌, Bool, true, false, List, length, Some, None}
 use Rattle.c104_interval.specs.declared.intervals.Select.TheVariants.{Discard}
 use Rattle.c104_check.specs.declared.faults.CheckFault.{CheckFault}
+use Rattle.c104_check.specs.declared.walks.Goal.TheVariants.{Portal}
 use Rattle.c104_check.specs.Checks.{IsRefusedAt, Shown, fault_of}
+use Rattle.c104_check.specs.FirstWalks.{IsFirstWalk}
 use Rattle.c104_check.specs.Reach.{MayTake}
 use Rattle.c104_check.specs.Routes.{Homes, IsEntryOf, IsPortal, IsRandomAt, IsRandomIn, IsRandomized, Lands, LandsBehind, Reaches, Routes, SwitchPort, header_count, most_hops, owner, select}
 use Rattle.c104_check.specs.Shown.{IsShownRandom}
-use Rattle.c104_check.specs.Walks.{WalkFault, is_met, random_fault}
+use Rattle.c104_check.specs.Walks.{WalkFault, is_met}
 
 -- own headers that come in at an entry begin at input p: there, where no random headers are put before them, and else
 -- behind it, at each portal
@@ -91,7 +93,7 @@ pub record IsRandomRefusal (routes : Routes) (h : ℕ) (why : WalkFault) (shown 
   pub wired : IsEntryOf routes shown.entry entry
   pub random : IsRandomAt routes entry h
   pub shows : IsShownRandom routes h entry why shown.walk
-  pub first : random_fault routes h entry ≡ Some (why, shown.walk)
+  pub first : IsFirstWalk routes h (Some Portal) entry why shown.walk
   pub fails : (k : ℕ) → Homes routes h k entry.switch entry.link → ⊥
 
 -- a header of the network is refused at none of the terminals before, and at this one it is: as a random header first

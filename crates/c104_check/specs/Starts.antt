@@ -6,6 +6,8 @@ use Rattle.std.specs.List.{AllByRecursion, list_any}
 use Rattle.c104_interval.specs.declared.intervals.Select.TheVariants.{Discard}
 use Rattle.c104_check.specs.Breaks.{IsWired}
 use Rattle.c104_check.specs.Checks.{IsRandomRefused}
+use Rattle.c104_check.specs.FirstWalks.{IsFirstWalk}
+use Rattle.c104_check.specs.declared.walks.Goal.TheVariants.{Portal}
 use Rattle.c104_check.specs.Portals.{met_from, portals_met}
 use Rattle.c104_check.specs.Parts.{AreJust, BeginsAt, HomesFirst, IsReachedAsOwn, IsReachedAsRandom}
 use Rattle.c104_check.specs.Reach.{with_input}
@@ -13,7 +15,7 @@ use Rattle.c104_check.specs.Refusals.{AllLand, Refusal, Start}
 use Rattle.c104_check.specs.Routes.{Homes, IsEntryOf, IsPortal, IsRandomAt, IsRandomized, PortalLands, Reaches, Routes, SwitchPort, TerminalLands, header_count, most_hops, place, select}
 use Rattle.c104_check.specs.Trails.{IsInput, IsNetwork}
 use Rattle.c104_check.specs.Shown.{IsShownRandom}
-use Rattle.c104_check.specs.Walks.{is_met, is_port, random_fault}
+use Rattle.c104_check.specs.Walks.{is_met, is_port}
 
 -- all random headers of an entry come to portals
 abbrev pub AllHome : Routes → SwitchPort → Type 0
@@ -144,7 +146,7 @@ pub record IsRefusedRandom (routes : Routes) (t : ℕ) (p : SwitchPort) (r : ℕ
   pub terminal : refusal.shown.entry ≡ t
   pub header : refusal.shown.header ≡ r
   pub shows : IsShownRandom routes r p refusal.why refusal.shown.walk
-  pub first : random_fault routes r p ≡ Some (refusal.why, refusal.shown.walk)
+  pub first : IsFirstWalk routes r (Some Portal) p refusal.why refusal.shown.walk
   pub fails : (k : ℕ) → Homes routes r k p.switch p.link → ⊥
 
 -- at a terminal's input it does, where it is one

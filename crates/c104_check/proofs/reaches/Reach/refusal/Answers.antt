@@ -1,11 +1,9 @@
-use Rattle.std.proofs.Common.{IfOk, IfSome, List, MatchOption, length, sym, subst}
-use Rattle.c104_check.specs.FirstWalks.{TellsFirstWalk}
+use Rattle.std.proofs.Common.{IfOk, List, MatchOption, length, sym, subst}
 use Rattle.c104_check.specs.Parts.{IsNeverRefused, TellsFirst}
 use Rattle.c104_check.specs.Reach.{NetworkHeader, routes_for}
 use Rattle.c104_check.specs.Refusals.{Start}
 use Rattle.c104_check.specs.Starts.{AreOwnStarts}
 use Rattle.c104_check.specs.Trails.{routes_in}
-use Rattle.c104_check.proofs.ToldWalks.{told_firsts}
 use Rattle.c104_check.proofs.reaches.Reach.refusal.Goals as goal
 
 pub first_refusal-requires-clause-starts : goal.first_refusal-requires-clause-starts
@@ -13,8 +11,5 @@ first_refusal-requires-clause-starts c =
     let routes = routes_in c.self.inside.routes in
     subst (λ (xs : List Start). AreOwnStarts routes xs (length routes.ranges)) (sym c.as_slice.ensures.value) c.self.invariant.begin
 
-pub returns-clause-refused : goal.returns-clause-refused
-returns-clause-refused c = subst (λ (x : NetworkHeader). IfOk c.first_refusal.result (λ found. MatchOption found (IsNeverRefused (routes_for x) x.header) (TellsFirst (routes_for x) x.header))) c.self.view_is c.first_refusal.ensures
-
-pub returns-clause-first : goal.returns-clause-first
-returns-clause-first c = subst (λ (x : NetworkHeader). IfOk c.first_refusal.result (λ found. IfSome found (TellsFirstWalk (routes_for x)))) c.self.view_is (told_firsts (routes_in c.self.inside.routes) c.self.inside.header c.self.invariant.network c.first_refusal.result c.first_refusal.ensures)
+pub returns : goal.returns
+returns c = subst (λ (x : NetworkHeader). IfOk c.first_refusal.result (λ found. MatchOption found (IsNeverRefused (routes_for x) x.header) (TellsFirst (routes_for x) x.header))) c.self.view_is c.first_refusal.ensures
