@@ -11,7 +11,7 @@ use Rattle.c104_check.specs.Portals.{is_random_at, met_below, met_from, met_here
 use Rattle.c104_check.specs.Refusals.{Refusal}
 use Rattle.c104_check.specs.Routes.{Homes, IsEntryOf, IsRandomAt, Routes, SwitchPort, header_count, most_hops, to_port}
 use Rattle.c104_check.specs.Shown.{IsShownRandom}
-use Rattle.c104_check.specs.Starts.{AreKnown, HomeBelow, IsFirstRandomAt, IsRefusedRandom, add_all}
+use Rattle.c104_check.specs.Starts.{AllHome, AreKnown, HomeBelow, IsFirstRandomAt, IsRefusedRandom, add_all}
 use Rattle.c104_check.specs.Trails.{IsInput, IsNetwork}
 use Rattle.c104_check.specs.Walking.{fault_on}
 use Rattle.c104_check.specs.Walks.{first_fault, is_met, random_fault}
@@ -107,6 +107,10 @@ home_none routes t p h (Some refusal) none is = absurd cc
 pub is_none_of : (found : Option Refusal) → is_some found ≡ false → found ≡ None
 is_none_of None is = refl
 is_none_of (Some refusal) is = absurd cc
+
+pub all_home : (routes : Routes) (t : ℕ) (p : SwitchPort) (found : Option Refusal) → is_some found ≡ false → MatchOption found (AllHome routes p) (IsFirstRandomAt routes t p) → AllHome routes p
+all_home routes t p None none is = is
+all_home routes t p (Some refusal) none is = absurd cc
 
 pub homes_of : (routes : Routes) (t r : ℕ) (p : SwitchPort) (found : Option Refusal) → is_some found ≡ false → MatchOption found (Homes routes r (most_hops routes) p.switch p.link) (IsRefusedRandom routes t p r) → Homes routes r (most_hops routes) p.switch p.link
 homes_of routes t r p None none is = is

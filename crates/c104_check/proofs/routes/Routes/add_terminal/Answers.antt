@@ -1,8 +1,9 @@
-use Rattle.std.proofs.Common.{◌+◌, false, List, sym, subst, ◌∙◌}
+use Rattle.std.proofs.Common.{◌+◌, arith, false, List, sym, subst, ◌∙◌}
 use Rattle.c104_check.specs.Refusals.{Start}
 use Rattle.c104_check.specs.Routes.{SwitchPort}
 use Rattle.c104_check.specs.Starts.{AreStarts, CoverPortals, CoverTerminals}
 use Rattle.c104_check.specs.Trails.{routes_in}
+use Rattle.c104_check.proofs.HomeLemmas.{all_home, is_none_of}
 use Rattle.c104_check.proofs.StartLemmas.{first_random_of, plain_covers, plain_of, plain_starts, portals_front}
 use Rattle.c104_check.proofs.routes.Routes.add_terminal.Goals as goal
 
@@ -25,6 +26,17 @@ returns-then-not-randomize-clause-portals c = λ none.
 
 pub returns-then-is_some-clause-covers : goal.returns-then-is_some-clause-covers
 returns-then-is_some-clause-covers c = first_random_of (routes_in c.args.self.now) c.args.starts.now.items c.args.terminal c.entry-entry.result c.in_ok-refusal.refusal (sym c.is_some.ensures ∙ c.if-is_some.true) c.entry-entry.ensures.entry c.requires.covers c.in_ok-refusal.ensures.refused (CoverTerminals (routes_in c.args.self.now) c.args.starts.now.items (c.args.terminal + 1))
+
+pub add_behind-requires-clause-homes : goal.add_behind-requires-clause-homes
+add_behind-requires-clause-homes c = all_home (routes_in c.args.self.now) c.args.terminal c.entry-entry.result c.in_ok-refusal.refusal (sym c.is_some.ensures ∙ c.if-is_some.false) c.in_ok-refusal.ensures.refused
+
+pub add_behind-requires-clause-portals : goal.add_behind-requires-clause-portals
+add_behind-requires-clause-portals c = record {
+  old = c.args.portals.now.items;
+  count = omega (arith, c.len-known.ensures);
+  joined = c.as_slice.ensures.value ∙ c.in_ok-refusal.ensures.met (is_none_of c.in_ok-refusal.refusal (sym c.is_some.ensures ∙ c.if-is_some.false));
+  covers = c.requires.portals;
+}
 
 pub returns : goal.returns
 returns c = record {
